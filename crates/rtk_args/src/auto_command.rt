@@ -4,7 +4,7 @@
 
 use crate::command_line::{flag_arg, option_arg};
 use crate::help_texts;
-use crate::limits::{LEAST_WINDOW, MOST_STATION, MOST_WINDOW};
+use crate::limits::{GREATEST_STATION, LEAST_WINDOW, MOST_WINDOW};
 use clap::{Arg, ArgAction, Command, value_parser};
 use std::alloc::{AllocError, Global};
 
@@ -37,7 +37,7 @@ fn force_arg<'a>(alloc: Global) -> Arg<'a> {
 fn station_arg<'a>(alloc: Global) -> Arg<'a> {
     let help = "The reference station, if there are several";
     option_arg(alloc, "station", "N", help).value_parser(value_parser!(u32).range(
-        0..=i64::from(MOST_STATION),
+        0..=i64::from(GREATEST_STATION),
     ))
 }
 

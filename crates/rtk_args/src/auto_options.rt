@@ -3,7 +3,7 @@
 ghost use Rattle.std.specs.Prelude.{◌≤◌};
 ghost use Rattle.std.specs.Int.{IsInRange};
 ghost use Rattle.std.specs.Option.{ForSome};
-ghost use Rattle.rtk_args.specs.declared.limits.TheConstants.{MOST_STATION, LEAST_WINDOW, MOST_WINDOW};
+ghost use Rattle.rtk_args.specs.declared.limits.TheConstants.{GREATEST_STATION, LEAST_WINDOW, MOST_WINDOW};
 
 use crate::options::MsmOption;
 
@@ -37,6 +37,6 @@ pub struct AutoOptions<'a> {
     pub report: bool,
 
     // Their parsers refuse other numbers.
-    ghost station_fits: { ForSome station (λ n. n ≤ MOST_STATION) },
+    ghost station_fits: { ForSome station (λ n. n ≤ GREATEST_STATION) },
     ghost window_fits: { ForSome window (IsInRange LEAST_WINDOW MOST_WINDOW) },
 }

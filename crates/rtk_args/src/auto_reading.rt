@@ -5,10 +5,10 @@ ghost use Rattle.std.specs.Option.{ForSome};
 ghost use Rattle.std.specs.Int.{IsInRange};
 ghost use Rattle.std.specs.Prelude.{◌≤◌};
 ghost use Rattle.rtk_args.specs.Requests.{IsRequest};
-ghost use Rattle.rtk_args.specs.declared.limits.TheConstants.{MOST_STATION, LEAST_WINDOW, MOST_WINDOW};
+ghost use Rattle.rtk_args.specs.declared.limits.TheConstants.{GREATEST_STATION, LEAST_WINDOW, MOST_WINDOW};
 
 use crate::auto_options::AutoOptions;
-use crate::limits::{LEAST_WINDOW, MOST_STATION, MOST_WINDOW};
+use crate::limits::{GREATEST_STATION, LEAST_WINDOW, MOST_WINDOW};
 use crate::options::MsmOption;
 use crate::request::Request;
 use crate::word_reading::msm_of;
@@ -17,12 +17,12 @@ use std::alloc::{AllocError, Global};
 
 // The station, if it is one. clap refuses a station that is out of range.
 fn station_of(station: Option<u32>) -> Option<Option<u16>>
-    ensures { IfSome result (λ station. ForSome station (λ n. n ≤ MOST_STATION)) }
+    ensures { IfSome result (λ station. ForSome station (λ n. n ≤ GREATEST_STATION)) }
 {
     let Some(station) = station else {
         return Some(None);
     };
-    if station > MOST_STATION {
+    if station > GREATEST_STATION {
         return None;
     }
     Some(Some(station as u16))

@@ -4,7 +4,9 @@
 
 use crate::auto_command::auto_command;
 use crate::help_texts;
-use crate::limits::{LEAST_WIDTH, LEAST_WINDOW, MOST_STATION, MOST_STEP, MOST_WIDTH, MOST_WINDOW};
+use crate::limits::{
+    GREATEST_STATION, LEAST_WIDTH, LEAST_WINDOW, MOST_STEP, MOST_WIDTH, MOST_WINDOW,
+};
 use clap::{Arg, ArgAction, ArgGroup, Command, value_parser};
 use std::alloc::{AllocError, Global};
 
@@ -93,7 +95,7 @@ fn required_arg<'a>(alloc: Global, name: &'a str, value: &'a str, help: &'a str)
 fn station_arg<'a>(alloc: Global) -> Arg<'a> {
     let help = "The reference station, 0 to 4095, as 2003";
     required_arg(alloc, "station", "N", help).value_parser(value_parser!(u32).range(
-        0..=i64::from(MOST_STATION),
+        0..=i64::from(GREATEST_STATION),
     ))
 }
 

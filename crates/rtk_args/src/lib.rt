@@ -30,6 +30,7 @@ mod word_reading;
 
 pub use answer::ClapAnswer;
 pub use auto_options::AutoOptions;
+pub use limits::{GREATEST_STATION, LEAST_WINDOW, MOST_WINDOW};
 pub use options::{ConvertOptions, CutOptions, MsmOption};
 pub use request::{Request, Task};
 pub use word_reading::read_words;

@@ -3,7 +3,7 @@
 ghost use Rattle.std.specs.Prelude.{◌≤◌};
 ghost use Rattle.std.specs.Int.{IsInRange};
 ghost use Rattle.std.specs.Option.{ForSome};
-ghost use Rattle.rtk_args.specs.declared.limits.TheConstants.{MOST_STATION, LEAST_WINDOW, MOST_WINDOW, MOST_STEP};
+ghost use Rattle.rtk_args.specs.declared.limits.TheConstants.{GREATEST_STATION, LEAST_WINDOW, MOST_WINDOW, MOST_STEP};
 
 /// An MSM that can be converted beside 1004.
 #[derive(Clone, Copy, Debug, PartialEq, Eq)]
@@ -32,12 +32,12 @@ pub struct ConvertOptions<'a> {
     /// The names of the observation codes, with commas between.
     pub codes: &'a str,
     /// How many epochs are kept open, 2 to 4096.
-    pub window: u16,
+    pub window: usize,
     /// Which MSM is converted beside 1004.
     pub msm: MsmOption,
 
     // Their parsers refuse other numbers.
-    ghost station_fits: { station ≤ MOST_STATION },
+    ghost station_fits: { station ≤ GREATEST_STATION },
     ghost window_fits: { IsInRange LEAST_WINDOW MOST_WINDOW window },
 }
 

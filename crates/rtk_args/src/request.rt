@@ -6,7 +6,7 @@ use crate::options::{ConvertOptions, CutOptions};
 /// Which command the words ask for, with what its options and names say: as clap gives it, in a
 /// [`Request`], or once it is read.
 #[derive(Drop)]
-pub enum Task<'a, S: Drop, L: Drop, P: Drop, A: Drop> {
+pub enum Task<'a, S: Drop, P: Drop, A: Drop> {
     /// `auto OPTIONS CAPTURE..`: captures of one station to a file; what `convert` wants to be told is
     /// found in them.
     Auto {
@@ -19,8 +19,8 @@ pub enum Task<'a, S: Drop, L: Drop, P: Drop, A: Drop> {
     Convert {
         /// What the options say.
         setup: S,
-        /// The names of the captures; `stdin` is standard input.
-        links: L,
+        /// The names of the captures, however many; `stdin` is standard input.
+        links: Vec<&'a str>,
     },
     /// `show [--hex] FILE`: one line for each frame of a capture.
     Show {
@@ -55,6 +55,5 @@ pub enum Task<'a, S: Drop, L: Drop, P: Drop, A: Drop> {
     },
 }
 
-/// The task with the values of its options, and with the names of the captures, however many. What
-/// these say is not yet read.
-pub type Request<'a> = Task<'a, ConvertOptions<'a>, Vec<&'a str>, CutOptions<'a>, AutoOptions<'a>>;
+/// The task with the values of its options. What their texts say is not yet read.
+pub type Request<'a> = Task<'a, ConvertOptions<'a>, CutOptions<'a>, AutoOptions<'a>>;

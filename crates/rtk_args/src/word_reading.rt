@@ -12,7 +12,9 @@ ghost use Rattle.rtk_args.specs.declared.answer.ClapAnswer.TheVariants.{Text};
 use crate::answer::ClapAnswer;
 use crate::auto_reading::auto_request;
 use crate::command_line::program_command;
-use crate::limits::{LEAST_WIDTH, LEAST_WINDOW, MOST_STATION, MOST_STEP, MOST_WIDTH, MOST_WINDOW};
+use crate::limits::{
+    GREATEST_STATION, LEAST_WIDTH, LEAST_WINDOW, MOST_STEP, MOST_WIDTH, MOST_WINDOW,
+};
 use crate::options::{ConvertOptions, CutOptions, MsmOption};
 use crate::request::Request;
 use clap::error::ErrorKind;
@@ -72,7 +74,7 @@ fn convert_option_values<'a>(matches: &ArgMatches<'a>) -> Option<ConvertOptions<
     let station = matches.get_one::<u32>("station")?;
     let window = matches.get_one::<u32>("window")?;
     let msm = msm_of(matches.get_one::<u32>("msm")?)?;
-    if station > MOST_STATION || window < LEAST_WINDOW || window > MOST_WINDOW {
+    if station > GREATEST_STATION || window < LEAST_WINDOW || window > MOST_WINDOW {
         return None;
     }
     Some(ConvertOptions {
@@ -81,7 +83,7 @@ fn convert_option_values<'a>(matches: &ArgMatches<'a>) -> Option<ConvertOptions<
         made: matches.get_str("made")?,
         marker: matches.get_str("marker")?,
         codes: matches.get_str("codes")?,
-        window: window as u16,
+        window: window as usize,
         msm,
     })
 }

@@ -3,6 +3,7 @@ use Rattle.std.specs.Prelude.{ℕ, ◌==◌, nat_lt, List, [], ◌∷◌, ◌++�
 use Rattle.rtk_message.specs.ShellText.{sh_quoted}
 use Rattle.rtk_summary.specs.Look.{look_name}
 use Rattle.rtk_summary.specs.declared.look.Look.{Look}
+use Rattle.rtk_summary.specs.declared.look.Look.TheVariants.{Unknown, Empty}
 
 abbrev pub line_end : List ℕ
 line_end = 10 ∷ []
@@ -19,6 +20,8 @@ name_line words name = words_and_name words name ++ line_end
 -- what a capture without a frame looks like
 abbrev pub look_text : Option Look → List ℕ
 look_text None = []
+look_text (Some Unknown) = []
+look_text (Some Empty) = codes " is empty"
 look_text (Some look) = codes " looks like " ++ look_name look
 
 abbrev pub capture_line : List ℕ → List ℕ → Option Look → List ℕ

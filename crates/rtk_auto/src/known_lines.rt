@@ -5,7 +5,7 @@ use crate::lists::{put_capture_line, put_msms, put_name_line, put_unread};
 use crate::planning::Plan;
 use rtk_convert::{Counts, Setup};
 use rtk_message::put_named;
-use std::alloc::AllocError;
+use std::alloc::{AllocError, Global};
 
 // Appends the codes that have few phases.
 fn put_few_phases(
@@ -78,21 +78,45 @@ fn put_epochs_of(
     }
 }
 
-/// Appends what a person should know, a line each, only where it is so: codes with few phases, late
-/// messages, captures that are left out, that have no epoch or whose time falls, and observations that
-/// are not taken.
-pub fn put_known(
-    lines: &mut Vec<u8>,
+/// What a person should know of a conversion, but for late messages, which are known only once it is
+/// done.
+#[derive(Drop)]
+pub struct Known {
+    /// The lines before that of late messages.
+    first: Vec<u8>,
+    /// The lines after it.
+    last: Vec<u8>,
+    /// How many epochs are kept open.
+    window: usize,
+}
+
+/// What a person should know of a conversion, a line each, only where it is so: codes with few phases;
+/// captures that are left out, that have no epoch or whose time falls; and observations that are not
+/// taken.
+pub fn what_is_known(
+    alloc: Global,
     captured: &Captured<'_>,
     plan: &Plan,
-    counts: &Counts,
-) -> Result<(), AllocError> {
+) -> Result<Known, AllocError> {
     let setup = &plan.setup;
     let summary = &captured.findings.summary;
-    put_few_phases(lines, captured, setup)?;
-    put_late(lines, counts.late, setup.window())?;
-    put_skipped(lines, captured, plan.skipped.as_slice())?;
-    put_epochs(lines, captured, plan.links.as_slice())?;
-    put_msms(lines, summary, setup.station(), setup.msm())?;
-    put_unread(lines, summary)
+    let mut first = Vec::new(alloc);
+    put_few_phases(&mut first, captured, setup)?;
+    let mut last = Vec::new(alloc);
+    put_skipped(&mut last, captured, plan.skipped.as_slice())?;
+    put_epochs(&mut last, captured, plan.links.as_slice())?;
+    put_msms(&mut last, summary, setup.station(), setup.msm())?;
+    put_unread(&mut last, summary)?;
+    Ok(Known {
+        first,
+        last,
+        window: setup.window(),
+    })
+}
+
+/// Appends what a person should know of a conversion that is done, with its late messages.
+pub fn put_known(lines: &mut Vec<u8>, known: &Known, counts: &Counts) -> Result<(), AllocError> {
+    lines.extend_from_slice(known.first.as_slice())?;
+    put_late(lines, counts.late, known.window)?;
+    lines.extend_from_slice(known.last.as_slice())
 }

@@ -18,9 +18,9 @@ mod wanted;
 
 pub use captured::Captured;
 pub use count_lines::put_counts;
-pub use known_lines::put_known;
+pub use known_lines::{Known, put_known, what_is_known};
 pub use lists::DifferingDate;
-pub use planning::{Plan, plan};
+pub use planning::{Plan, plan_of};
 pub use refusal::{PlanFault, Refusal};
 pub use said_command::put_command;
 pub use span_line::{DateSource, DatedSpan, put_span};

@@ -125,15 +125,21 @@ pub(crate) fn links_found(
     }
 }
 
+// A link for each capture.
+fn links_of_one(alloc: Global, places: &[usize]) -> Result<Vec<Vec<usize>>, AllocError> {
+    let mut links = Vec::new(alloc);
+    for place in places {
+        links.push(Vec::from_slice(alloc, &[*place])?)?;
+    }
+    Ok(links)
+}
+
 /// Each capture is a link.
 pub(crate) fn links_as_given(
     alloc: Global,
     captured: &Captured<'_>,
     places: &[usize],
 ) -> Result<Vec<Vec<usize>>, PlanFault> {
-    let mut links = Vec::new(alloc);
-    for place in places {
-        links.push(Vec::from_slice(alloc, &[*place])?)?;
-    }
+    let links = links_of_one(alloc, places)?;
     few_links(alloc, captured, links)
 }

@@ -53,11 +53,14 @@ pub(crate) fn put_name_line(lines: &mut Vec<u8>, words: &[u8], name: &str) -> Re
 fn put_look(lines: &mut Vec<u8>, look: Option<Look>) -> Result<(), AllocError>
     ensures { OnOk result (lines.new.items ≡ lines.old.items ++ spec.look_text look) }
 {
-    if let Some(look) = look {
-        lines.extend_from_slice(b" looks like ")?;
-        lines.extend_from_slice(look.name())?;
+    match look {
+        None | Some(Look::Unknown) => Ok(()),
+        Some(Look::Empty) => lines.extend_from_slice(b" is empty"),
+        Some(look) => {
+            lines.extend_from_slice(b" looks like ")?;
+            lines.extend_from_slice(look.name())
+        }
     }
-    Ok(())
 }
 
 /// Appends the line of a capture, after these words, with what it looks like if it has no frame.

@@ -167,7 +167,7 @@ fn links_to_convert(
 
 /// What a conversion of the captures that were read is told, or why they have no plan: the first cause
 /// that holds. Its file is made at this moment.
-pub fn plan(
+pub fn plan_of(
     alloc: Global,
     captured: &Captured<'_>,
     wanted: &Wanted<'_>,

@@ -31,7 +31,8 @@ impl Model for BitWriter {
     ghost view = { λ w. bits w.bytes.items ++ bits_of w.tail_width w.tail };
 
     // If there is a tail, there is room for the byte that `finish` makes of it.
-    ghost invariant = { λ w. (w.tail_width < 8) × (w.tail < 2 ^ w.tail_width) × (0 < w.tail_width → vec_len w.bytes < vec_capacity w.bytes) };
+    ghost invariant = { λ w. (w.tail_width < 8) × (w.tail < 2 ^ w.tail_width)
+        × (0 < w.tail_width → vec_len w.bytes < vec_capacity w.bytes) };
 }
 
 impl BitWriter {

@@ -11,9 +11,12 @@ use crate::text_picture::{text_of_none, text_picture};
 use rtk_rinex::Table;
 use std::alloc::{AllocError, Global};
 
+// How many characters of a row are no bins: three of the label, and two bars, as in G05|5555|.
+const FRAME: u16 = 5;
+
 /// The picture of a table in characters: a heading, and a row for each satellite, with a character for
 /// each bin of time. Rows are at most so many characters wide.
-pub fn chart_text(alloc: Global, table: &Table<'_>, width: usize) -> Result<Vec<u8>, AllocError>
+pub fn chart_text(alloc: Global, table: &Table<'_>, width: u16) -> Result<Vec<u8>, AllocError>
     requires { IsInRange 40 400 width }
     // It gives up only if memory is refused: row chart_text of tests/system/calls.
     ensures { IfOk result (λ text. ShowsTable table.now.text width text.items) }
@@ -26,7 +29,7 @@ pub fn chart_text(alloc: Global, table: &Table<'_>, width: usize) -> Result<Vec<
         return Ok(text);
     };
     let interval = survey.steps.interval();
-    let scale = Scale::new(heading.first, last, interval, width as u64 - 5);
+    let scale = Scale::new(heading.first, last, interval, u64::from(width - FRAME));
     let grid = fill_grid(alloc, table, &scale, heading.first)?;
     let text = text_picture(alloc, marker, &scale, &survey, &grid)?;
     Ok(text)

@@ -3,16 +3,15 @@
 ghost use Rattle.std.specs.Prelude.{◌≡◌, ◌&&◌, nat_le, Some, List, [], ◌∷◌, length, IfOk};
 ghost use Rattle.rtk_rinex.specs.Reading.{IsMoment};
 ghost use Rattle.rtk_rinex.specs.Record.{EpochTableView};
-ghost use Rattle.rtk_chart.specs.Epochs.{newest_moment};
 ghost use Rattle.rtk_chart.specs.Interval.{missing_before};
 ghost use Rattle.rtk_chart.specs.Scale.{IsScale};
 ghost use Rattle.rtk_chart.specs.Grid.{bins_of, has_missing_before};
-ghost use Rattle.rtk_chart.specs.Steps.Standing.{AddsMarks, StandsForMissing, StandsForGrid};
+ghost use Rattle.rtk_chart.specs.Steps.Standing.{AddsMarks, CountsMissing, StandsForGrid};
 
 use crate::scale::Scale;
 use crate::time_bin::TimeBin;
 use rtk_obs::GpsMs;
-use rtk_rinex::{EpochTable, SatelliteRow};
+use rtk_rinex::EpochTable;
 use std::alloc::{AllocError, Global};
 
 /// The bins with what was read, and the epochs that are missing.
@@ -60,16 +59,16 @@ fn mark_missing(gaps: &mut Vec<bool>, scale: &Scale, before: u64, moment: u64, m
     }
 }
 
-// Notes the rows of an epoch in its bin.
-fn note_in_bin(bins: &mut Vec<TimeBin>, scale: &Scale, moment: u64, rows: &[SatelliteRow])
+// Notes an epoch in its bin.
+fn note_in_bin(bins: &mut Vec<TimeBin>, scale: &Scale, epoch: &EpochTable)
     requires { IsScale scale.now }
     ensures size { length bins.new.items ≡ length bins.old.items }
-    ensures noted { (e : EpochTableView) (es : List EpochTableView) → rows.now ≡ e.rows → moment ≡ e.time
-        → bins.old.items ≡ bins_of scale.now es → bins.new.items ≡ bins_of scale.now (e ∷ es) }
+    ensures noted { (es : List EpochTableView) → bins.old.items ≡ bins_of scale.now es
+        → bins.new.items ≡ bins_of scale.now (epoch.now ∷ es) }
 {
-    let place = scale.bin_at(moment) as usize;
+    let place = scale.bin_at(epoch.time().ms()) as usize;
     if place < bins.len() {
-        bins[place].note_rows(rows);
+        bins[place].note_epoch(epoch);
     }
 }
 
@@ -88,14 +87,14 @@ impl Grid {
         })
     }
 
-    // Counts the epochs that are missing before a moment, and marks their bins.
-    fn count_missing(&mut self, scale: &Scale, moment: GpsMs)
+    // Counts the epochs that are missing before an epoch, and marks their bins.
+    fn count_missing(&mut self, scale: &Scale, epoch: &EpochTable)
         requires { IsScale scale.now }
         ensures bins { self.new.bins ≡ self.old.bins }
         ensures size { length self.new.gaps.items ≡ length self.old.gaps.items }
-        ensures missing { (e : EpochTableView) (es : List EpochTableView) → moment ≡ e.time → self.old.last ≡ newest_moment es
-            → StandsForMissing self.old scale.now es → StandsForMissing self.new scale.now (e ∷ es) }
+        ensures missing { CountsMissing self.old self.new scale.now epoch.now }
     {
+        let moment = epoch.time();
         if let Some(last) = self.last {
             let missing = missing_between(scale, last.ms(), moment.ms());
             self.missing = self.missing.saturating_add(missing);
@@ -111,9 +110,8 @@ impl Grid {
         ensures grid { (es : List EpochTableView) → StandsForGrid self.old scale.now es
             → StandsForGrid self.new scale.now (epoch.now ∷ es) }
     {
-        let time = epoch.time();
-        self.count_missing(scale, time);
-        note_in_bin(&mut self.bins, scale, time.ms(), epoch.rows());
-        self.last = Some(time);
+        self.count_missing(scale, epoch);
+        note_in_bin(&mut self.bins, scale, epoch);
+        self.last = Some(epoch.time());
     }
 }

@@ -9,7 +9,7 @@ use rtk_rinex::one_reading;
 
 /// A bin, which is drawn as a column, is as few intervals long as leave room for the file: so long,
 /// there are as many bins as allowed at most, and if it were shorter there would be more.
-pub fn columns_are_least()
+pub fn bins_are_least()
     ensures few { BinsAreFew }
     ensures least { ShorterBinsAreTooMany }
 {}
@@ -17,7 +17,7 @@ pub fn columns_are_least()
 /// The bins of a picture fill its room. They are as short as leaves room, and each record has its
 /// bin. In characters, a row has one character for each bin. In SVG, a bin is as wide as leaves room
 /// for all.
-pub fn columns_fill_room()
+pub fn bins_fill_room()
     ensures scale { ScalesFillRoom }
     ensures rows { RowsHaveAllBins }
     ensures bands { BinsFillBands }

@@ -54,7 +54,6 @@ mod tracking;
 
 pub use chart::{chart_svg, chart_text};
 pub use laws::{
-    columns_are_least, columns_fill_room, counts_are_of_epochs, files_have_numbers,
-    marks_are_of_epochs, missing_marks_are_epochs, svg_headings_tell_numbers,
-    text_headings_tell_numbers,
+    bins_are_least, bins_fill_room, counts_are_of_epochs, files_have_numbers, marks_are_of_epochs,
+    missing_marks_are_epochs, svg_headings_tell_numbers, text_headings_tell_numbers,
 };

@@ -4,10 +4,9 @@
 //! record in its bin.
 
 ghost use Rattle.std.specs.Prelude.{◌≡◌, length, IfOk};
-ghost use Rattle.rtk_rinex.specs.Table.{WellFormedTable, IsWellFormedTable, table_text};
-ghost use Rattle.rtk_chart.specs.Epochs.{newest_first};
 ghost use Rattle.rtk_chart.specs.Scale.{IsScale};
 ghost use Rattle.rtk_chart.specs.Steps.Standing.{StandsForSurvey, StandsForGrid};
+ghost use Rattle.rtk_chart.specs.Steps.Pictures.{HoldsOfEpochs};
 
 use crate::grid::Grid;
 use crate::scale::Scale;
@@ -22,13 +21,12 @@ pub(crate) fn survey_records(
     table: &Table<'_>,
     first: GpsMs,
 ) -> Result<Survey, AllocError>
-    ensures { IfOk result (λ survey. (t : WellFormedTable) → IsWellFormedTable t → table.now.text ≡ table_text t
-        → StandsForSurvey survey (newest_first t.epochs)) }
+    ensures { IfOk result (λ survey. HoldsOfEpochs table.now.text (StandsForSurvey survey)) }
 {
     let mut survey = Survey::new(alloc);
     let mut epoch = EpochTable::new(first);
     let mut records = table.records();
-    'records: while let Some(_record) = records.next(&mut epoch) {
+    while let Some(_record) = records.next(&mut epoch) {
         survey.count_record(&epoch)?;
     }
     Ok(survey)
@@ -44,13 +42,12 @@ pub(crate) fn fill_grid(
     requires { IsScale scale.now }
     ensures bins { IfOk result (λ grid. length grid.bins.items ≡ scale.now.bins) }
     ensures gaps { IfOk result (λ grid. length grid.gaps.items ≡ scale.now.bins) }
-    ensures grid { IfOk result (λ grid. (t : WellFormedTable) → IsWellFormedTable t → table.now.text ≡ table_text t
-        → StandsForGrid grid scale.now (newest_first t.epochs)) }
+    ensures grid { IfOk result (λ grid. HoldsOfEpochs table.now.text (StandsForGrid grid scale.now)) }
 {
     let mut grid = Grid::new(alloc, scale)?;
     let mut epoch = EpochTable::new(first);
     let mut records = table.records();
-    'records: while let Some(_record) = records.next(&mut epoch) {
+    while let Some(_record) = records.next(&mut epoch) {
         grid.place_record(scale, &epoch);
     }
     Ok(grid)

@@ -3,7 +3,7 @@
 //! The most frequent step is kept beside the counts, since only a step that comes again can
 //! overtake it.
 
-ghost use Rattle.std.specs.Prelude.{◌≡◌, ◌<◌, ◌≤◌, ◌⊎◌, MatchBool, List, ℕ, [], ◌∷◌, IfOk, OnOk};
+ghost use Rattle.std.specs.Prelude.{◌≡◌, ◌<◌, ◌≤◌, ◌⊎◌, true, false, List, ℕ, [], ◌∷◌, IfOk, OnOk};
 ghost use Rattle.rtk_chart.specs.Interval.{times_of_step, IsInterval};
 ghost use Rattle.rtk_chart.specs.Steps.Standing.{CountsSteps, IsFrequent, StandsForSteps};
 
@@ -26,8 +26,9 @@ pub(crate) struct Steps {
 
 // Counts a step, and answers how often it came.
 fn count_step(counts: &mut BTreeMap<u64, u64>, step: u64) -> Result<u64, AllocError>
-    ensures { IfOk result (λ count. (steps : List ℕ) → CountsSteps counts.old steps
-        → CountsSteps counts.new (step ∷ steps) × (count ≡ times_of_step step (step ∷ steps))) }
+    ensures counts { OnOk result ((steps : List ℕ) → CountsSteps counts.old steps → CountsSteps counts.new (step ∷ steps)) }
+    ensures count { IfOk result (λ count. (steps : List ℕ) → CountsSteps counts.old steps
+        → count ≡ times_of_step step (step ∷ steps)) }
 {
     let count = counts.get(&step).copied().unwrap_or(0).saturating_add(1);
     counts.insert(step, count)?;
@@ -37,8 +38,8 @@ fn count_step(counts: &mut BTreeMap<u64, u64>, step: u64) -> Result<u64, AllocEr
 // A step that came so often is more frequent than the most frequent one so far, or as frequent and
 // less.
 fn overtakes(best: Frequent, step: u64, count: u64) -> bool
-    ensures { MatchBool result ((best.count < count) ⊎ ((count ≡ best.count) × (step < best.step)))
-        ((count ≤ best.count) × (count ≡ best.count → best.step ≤ step)) }
+    ensures yes { result ≡ true → (best.count < count) ⊎ ((count ≡ best.count) × (step < best.step)) }
+    ensures no { result ≡ false → (count ≤ best.count) × (count ≡ best.count → best.step ≤ step) }
 {
     if count == best.count {
         return step < best.step;

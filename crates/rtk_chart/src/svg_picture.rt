@@ -1,10 +1,9 @@
 //! A picture in SVG.
 
 ghost use Rattle.std.specs.Prelude.{◌≡◌, ◌≤◌, ◌<◌, ◌++◌, length, IfOk, OnOk};
-ghost use Rattle.rtk_rinex.specs.Reading.{reading_of};
-ghost use Rattle.rtk_obs.specs.CivilText.{civil_text};
 ghost use Rattle.rtk_chart.specs.Scale.{IsScale};
-ghost use Rattle.rtk_chart.specs.SvgPicture.{interval_text, svg_span, svg_numbers, svg_start, svg_legend, bands_end, svg_body, svg_picture, svg_of_none};
+ghost use Rattle.rtk_chart.specs.SvgPicture.{interval_text, svg_span, svg_numbers, svg_start, svg_legend, bands_end, svg_body, svg_of_none};
+ghost use Rattle.rtk_chart.specs.Steps.Pictures.{svg_of_grid};
 
 use crate::grid::Grid;
 use crate::scale::Scale;
@@ -12,8 +11,8 @@ use crate::survey::Survey;
 use crate::svg_bands::{put_bands, put_gaps, put_ticks};
 use crate::svg_text::{put_between, put_xml};
 use crate::text_picture::drawn_before;
-use crate::time_text::{put_moment, put_seconds};
-use rtk_obs::Code;
+use crate::time_text::put_seconds;
+use rtk_obs::{Code, civil, put_civil};
 use std::alloc::{AllocError, Global};
 
 // constant
@@ -63,9 +62,9 @@ fn put_span(text: &mut Vec<u8>, scale: &Scale) -> Result<(), AllocError>
     ensures { OnOk result (text.new.items ≡ text.old.items ++ svg_span scale.now) }
 {
     text.extend_from_slice(b"<text x='90' y='52'>")?;
-    put_moment(text, scale.first)?;
+    put_civil(text, civil(scale.first))?;
     text.extend_from_slice(b" to ")?;
-    put_moment(text, scale.last)?;
+    put_civil(text, civil(scale.last))?;
     text.extend_from_slice(b", ")?;
     put_interval_words(text, scale.interval)?;
     text.extend_from_slice(b", column ")?;
@@ -176,8 +175,7 @@ pub(crate) fn svg_picture(
     requires few { length codes.now ≤ 16 }
     requires bins { length grid.now.bins.items ≡ scale.now.bins }
     requires gaps { length grid.now.gaps.items ≡ scale.now.bins }
-    ensures { IfOk result (λ text. text.items ≡ svg_picture marker.now codes.now scale.now survey.now.records
-        survey.now.slips grid.now.missing grid.now.bins.items grid.now.gaps.items) }
+    ensures { IfOk result (λ text. text.items ≡ svg_of_grid marker.now codes.now scale.now survey.now grid.now) }
 {
     let satellites = drawn_before(grid.bins.as_slice(), 32);
     let end = bands_end(codes, satellites);

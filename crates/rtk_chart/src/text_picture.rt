@@ -5,17 +5,18 @@ ghost use Rattle.std.specs.List.{range_with_len, list_any};
 ghost use Rattle.rtk_chart.specs.Grid.{tracking_in};
 ghost use Rattle.rtk_chart.specs.Scale.{IsScale};
 ghost use Rattle.rtk_chart.specs.Ticks.{tick_at};
-ghost use Rattle.rtk_chart.specs.TextPicture.{tracking_at, is_partial, is_tracked, strength_mark, phase_mark, character_of, is_drawn, row_head, satellite_row, row_if_drawn, satellite_rows, gap_mark, gap_row, axis_mark, axis_row, text_tick_step, has_label, is_covered, label_text, label_part, label_row, named_count_line, moment_line, time_rows, number_lines, text_heading, drawn_before, satellites_in, text_picture, text_of_none};
+ghost use Rattle.rtk_chart.specs.TextPicture.{tracking_at, is_partial, is_tracked, strength_mark, phase_mark, character_of, is_drawn, row_head, satellite_row, row_if_drawn, satellite_rows, gap_mark, gap_row, axis_mark, axis_row, text_tick_step, has_label, is_covered, label_text, label_part, label_row, named_count_line, moment_line, time_rows, text_heading, drawn_before, text_of_none};
+ghost use Rattle.rtk_chart.specs.Steps.Pictures.{numbers_of_grid, text_of_grid};
 
 use crate::grid::Grid;
 use crate::scale::Scale;
 use crate::survey::Survey;
 use crate::ticks::{put_tick_label, tick_at, tick_step};
 use crate::time_bin::TimeBin;
-use crate::time_text::{put_interval, put_moment, put_seconds};
+use crate::time_text::{put_interval, put_seconds};
 use crate::tracking::Tracking;
 use rtk_message::put_named;
-use rtk_obs::GpsMs;
+use rtk_obs::{GpsMs, civil, put_civil};
 use std::alloc::{AllocError, Global};
 
 // Some phase stands in some epochs of a bin and not in all.
@@ -237,7 +238,7 @@ fn put_moment_line(text: &mut Vec<u8>, words: &[u8], moment: GpsMs) -> Result<()
     ensures { OnOk result (text.new.items ≡ text.old.items ++ moment_line words.now moment) }
 {
     text.extend_from_slice(words)?;
-    put_moment(text, moment)?;
+    put_civil(text, civil(moment))?;
     text.push(b'\n')?;
     Ok(())
 }
@@ -260,8 +261,7 @@ fn put_numbers(
     survey: &Survey,
     grid: &Grid,
 ) -> Result<(), AllocError>
-    ensures { OnOk result (text.new.items ≡ text.old.items
-        ++ number_lines scale.now survey.now.records (satellites_in grid.now.bins.items) survey.now.slips grid.now.missing) }
+    ensures { OnOk result (text.new.items ≡ text.old.items ++ numbers_of_grid scale.now survey.now grid.now) }
 {
     put_interval(text, scale.interval)?;
     text.extend_from_slice(b"column ")?;
@@ -293,8 +293,7 @@ pub(crate) fn text_picture(
     grid: &Grid,
 ) -> Result<Vec<u8>, AllocError>
     requires good { IsScale scale.now }
-    ensures { IfOk result (λ text. text.items ≡ text_picture marker.now scale.now survey.now.records
-        survey.now.slips grid.now.missing grid.now.bins.items grid.now.gaps.items) }
+    ensures { IfOk result (λ text. text.items ≡ text_of_grid marker.now scale.now survey.now grid.now) }
 {
     let mut text = Vec::new(alloc);
     put_heading(&mut text, marker, scale)?;

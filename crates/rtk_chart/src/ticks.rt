@@ -6,8 +6,7 @@ ghost use Rattle.rtk_chart.specs.Scale.{IsScale, longest_bin};
 ghost use Rattle.rtk_chart.specs.Ticks.{tick_steps, tick_step, tick_at, tick_label};
 
 use crate::scale::Scale;
-use crate::time_text::reading;
-use rtk_obs::{GpsMs, put_clock, put_date};
+use rtk_obs::{GpsMs, civil, put_clock, put_date};
 use std::alloc::AllocError;
 
 const DAY_MS: u64 = 86_400_000;
@@ -71,15 +70,15 @@ pub(crate) fn tick_at(scale: &Scale, step: u64, bin: u64) -> Option<GpsMs>
 }
 
 /// Appends what stands at a tick.
-#[tactic(auto, unfolding(crate::specs::Ticks::tick_label))]
+#[tactic(auto, using(rtk_rinex::proofs::PublicLaws::reading_is), unfolding(crate::specs::Ticks::tick_label))]
 pub(crate) fn put_tick_label(text: &mut Vec<u8>, step: u64, moment: GpsMs) -> Result<(), AllocError>
     ensures { OnOk result (text.new.items ≡ text.old.items ++ tick_label step moment) }
 {
     if step < DAY_MS {
-        put_clock(text, reading(moment))?;
+        put_clock(text, civil(moment))?;
         text.extend_from_slice(b"  ")?;
     } else {
-        put_date(text, reading(moment))?;
+        put_date(text, civil(moment))?;
     }
     Ok(())
 }

@@ -6,7 +6,7 @@ ghost use Rattle.rtk_chart.specs.Grid.{trackings_of, bin_of};
 
 use crate::observations::observed_in;
 use crate::tracking::Tracking;
-use rtk_rinex::SatelliteRow;
+use rtk_rinex::EpochTable;
 
 /// The tracking of the satellites 1 to 32.
 #[derive(Clone, Copy)]
@@ -15,10 +15,10 @@ pub(crate) struct TimeBin {
 }
 
 // Notes what each satellite has in one more epoch.
-fn note_satellites(satellites: &mut [Tracking; 32], rows: &[SatelliteRow])
-    ensures { (e : EpochTableView) (es : List EpochTableView) → rows.now ≡ e.rows
-        → satellites.old ≡ trackings_of es → satellites.new ≡ trackings_of (e ∷ es) }
+fn note_satellites(satellites: &mut [Tracking; 32], epoch: &EpochTable)
+    ensures { (es : List EpochTableView) → satellites.old ≡ trackings_of es → satellites.new ≡ trackings_of (epoch.now ∷ es) }
 {
+    let rows = epoch.rows();
     for place in 0u8..32 {
         let mut tracking = satellites[usize::from(place)];
         tracking.note_observed(observed_in(rows, place + 1));
@@ -36,10 +36,10 @@ impl TimeBin {
         }
     }
 
-    /// Notes one more epoch, by its rows.
-    pub(crate) fn note_rows(&mut self, rows: &[SatelliteRow])
-        ensures { (e : EpochTableView) (es : List EpochTableView) → rows.now ≡ e.rows → self.old ≡ bin_of es → self.new ≡ bin_of (e ∷ es) }
+    /// Notes one more epoch.
+    pub(crate) fn note_epoch(&mut self, epoch: &EpochTable)
+        ensures { (es : List EpochTableView) → self.old ≡ bin_of es → self.new ≡ bin_of (epoch.now ∷ es) }
     {
-        note_satellites(&mut self.satellites, rows);
+        note_satellites(&mut self.satellites, epoch);
     }
 }

@@ -1,27 +1,11 @@
-//! Times and lengths of time as text.
+//! Lengths of time as text.
 
 ghost use Rattle.std.specs.Prelude.{◌≡◌, ◌++◌, OnOk};
-ghost use Rattle.rtk_obs.specs.CivilText.{civil_text};
-ghost use Rattle.rtk_rinex.specs.Reading.{reading_of};
 ghost use Rattle.rtk_chart.specs.Heading.{seconds_text, interval_line};
 
 use rtk_message::put_number;
-use rtk_obs::{Civil, GpsMs, civil, put_civil, three_digits};
+use rtk_obs::three_digits;
 use std::alloc::AllocError;
-
-/// The reading of a moment.
-pub(crate) fn reading(moment: GpsMs) -> Civil
-    ensures { result ≡ reading_of moment }
-{
-    civil(moment)
-}
-
-/// Appends a moment, as in 2024-05-17 13:00:00.000.
-pub(crate) fn put_moment(text: &mut Vec<u8>, moment: GpsMs) -> Result<(), AllocError>
-    ensures { OnOk result (text.new.items ≡ text.old.items ++ civil_text (reading_of moment)) }
-{
-    put_civil(text, reading(moment))
-}
 
 /// Appends a number of ms in seconds, as in 30.000.
 #[tactic(auto, unfolding(crate::specs::Heading::seconds_text))]

@@ -24,7 +24,7 @@ use Rattle.rtk_convert.specs.Report.{lines}
 use Rattle.rtk_convert.specs.Run.{FailsReading, StaysOpen}
 use Rattle.rtk_convert.specs.Setup.{SetupView}
 use Rattle.rtk_convert.specs.Writing.{Written, written}
-use Rattle.rtk_cli.specs.ConvertsBytes.{ConvertsBytes, KeepsBytes, EndsAtRead, ConvertsFirstBytes}
+use Rattle.rtk_cli.specs.ConvertsBytes.{KeepsBytes, EndsAtRead, ConvertsFirstBytes}
 use Rattle.rtk_cli.specs.Steps.Links.{bytes_had, AreLinksOf}
 
 -- ---- links that are made one after another

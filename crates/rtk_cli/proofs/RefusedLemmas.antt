@@ -1,16 +1,16 @@
 -- Why the words of `convert` are refused.
-use Rattle.std.proofs.Common.{◌≡◌, ◌≢◌, ℕ, ◌≤◌, List, inl, refl, sym, ◌∙◌, subst}
+use Rattle.std.proofs.Common.{◌≡◌, ◌≢◌, ℕ, ◌≤◌, ◌%◌, List, inl, refl, sym, ◌∙◌, subst}
 use Rattle.rtk_obs.specs.declared.code.Code.{Code}
 use Rattle.rtk_obs.specs.declared.time.TheConstants.{LAST_MS}
 use Rattle.rtk_obs.specs.Dating.{IsReference}
 use Rattle.rtk_rinex.specs.Header.{HeadView, IsMarker, IsCodeList, IsHeadView}
 use Rattle.rtk_rinex.specs.HeadFault.{IsHeadFault}
 use Rattle.rtk_rinex.specs.declared.head.HeadFault.{HeadFault}
-use Rattle.rtk_rinex.specs.declared.head.HeadFault.TheVariants.{Marker as BadMarker, Codes as BadCodes}
-use Rattle.rtk_convert.specs.Setup.{SetupView}
+use Rattle.rtk_rinex.specs.declared.head.HeadFault.TheVariants.{Marker as BadMarker, Codes as BadCodes, Made as BadMade}
+use Rattle.rtk_convert.specs.Setup.{SetupView, IsStation, IsWindow}
 use Rattle.rtk_convert.specs.SetupFault.{IsSetupFault}
 use Rattle.rtk_convert.specs.declared.setup.SetupFault.{SetupFault}
-use Rattle.rtk_convert.specs.declared.setup.SetupFault.TheVariants.{Near as BadNear}
+use Rattle.rtk_convert.specs.declared.setup.SetupFault.TheVariants.{Station as BadStation, Near as BadNear, Window as BadWindow}
 use Rattle.rtk_args.specs.declared.options.ConvertOptions.{ConvertOptions}
 use Rattle.rtk_cli.specs.declared.words.BadWords.{BadWords}
 use Rattle.rtk_cli.specs.declared.words.BadWords.TheVariants.{Near, Made, Codes, Marker, Links, From, Until}
@@ -66,5 +66,12 @@ bad-marker h fault e says = subst (IsHeadFault h) e says
 pub bad-codes : (h : HeadView) (fault : HeadFault) → fault ≡ BadCodes → IsHeadFault h fault → IsMarker h.marker × ¬ (IsCodeList h.listed)
 bad-codes h fault e says = subst (IsHeadFault h) e says
 
-pub bad-reference : (s : SetupView) (fault : SetupFault) → fault ≡ BadNear → IsSetupFault s fault → ¬ (IsReference s.near)
-bad-reference s fault e says = (subst (IsSetupFault s) e says).1
+-- a text of a moment has a whole second
+pub no-made : {A : Type 0} (h : HeadView) (fault : HeadFault) → fault ≡ BadMade → IsHeadFault h fault → h.made % 1000 ≡ 0 → A
+no-made h fault e says whole = absurd ((subst (IsHeadFault h) e says).2 whole)
+
+-- the options have a good station and a good window
+pub bad-reference : (s : SetupView) (fault : SetupFault) → IsStation s.station → IsWindow s.window → IsSetupFault s fault → ¬ (IsReference s.near)
+bad-reference s BadStation station window says = absurd (says station)
+bad-reference s BadNear station window says = says.1
+bad-reference s BadWindow station window says = absurd (says.2 window)

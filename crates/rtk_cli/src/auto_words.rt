@@ -1,6 +1,7 @@
 //! The words of `auto`: what its options say.
 
-ghost use Rattle.std.specs.Prelude.{IfOk, IfErr};
+ghost use Rattle.std.specs.Prelude.{◌≡◌, IfErr};
+ghost use Rattle.rtk_message.specs.Fields.{week_ms};
 ghost use Rattle.rtk_cli.specs.Words.{HasStatus};
 
 use crate::code_list::codes_of;
@@ -11,7 +12,7 @@ use rtk_args::{AutoOptions, MsmOption};
 use rtk_auto::{Wanted, Ways};
 use rtk_convert::Setup;
 use rtk_message::MsmKind;
-use rtk_obs::{Code, GpsMs};
+use rtk_obs::{Code, GpsMs, WEEK_MS};
 use rtk_rinex::{Head, HeadFault};
 use std::alloc::Global;
 
@@ -58,22 +59,47 @@ fn msm_if_any(msm: Option<MsmOption>) -> Option<MsmKind> {
     }
 }
 
-// Is there a file with this marker and these codes?
-fn check_head(marker: Option<&str>, codes: &Option<Vec<Code>>) -> Result<(), WordsFault>
+// A moment near which a conversion dates: the first one.
+fn first_reference() -> GpsMs
+    ensures { result ≡ week_ms }
+{
+    let Some(moment) = GpsMs::new(WEEK_MS) else {
+        unreachable!();
+    };
+    moment
+}
+
+// The head of a file with this marker and these codes; others stand for what is not given.
+fn head_of(marker: Option<&str>, codes: &Option<Vec<Code>>) -> Result<Head, WordsFault>
     ensures { IfErr result HasStatus }
 {
     let marker = marker.unwrap_or("0000");
     let any = [Code::C1C];
     let listed = match codes {
         Some(codes) => codes.as_slice(),
-        None => &any,
+        None => any.as_slice(),
     };
-    match Head::new(marker.as_bytes(), listed, GpsMs::default()) {
-        Ok(_) => Ok(()),
+    match Head::new(marker.as_bytes(), listed, first_reference()) {
+        Ok(head) => Ok(head),
         Err(HeadFault::Marker) => Err(words_fault(BadWords::Marker)),
         Err(HeadFault::Codes) => Err(words_fault(BadWords::Codes)),
-        // The first moment is a whole second.
+        // The moment is a whole second.
         Err(HeadFault::Made) => unreachable!(),
+    }
+}
+
+// Is there a conversion with this marker and these codes, near this moment?
+fn check_values(
+    marker: Option<&str>,
+    codes: &Option<Vec<Code>>,
+    near: Option<GpsMs>,
+) -> Result<(), WordsFault>
+    ensures { IfErr result HasStatus }
+{
+    let head = head_of(marker, codes)?;
+    match Setup::new(0, near.unwrap_or(first_reference()), head, 2) {
+        Ok(_) => Ok(()),
+        Err(_) => Err(words_fault(BadWords::Near)),
     }
 }
 
@@ -97,12 +123,7 @@ pub(crate) fn auto_words<'a>(
     let near = moment_if_any(options.near, BadWords::Near)?;
     let made = moment_if_any(options.made, BadWords::Made)?;
     let codes = codes_if_any(alloc, options.codes)?;
-    check_head(options.marker, &codes)?;
-    if let Some(near) = near {
-        if !Setup::has_reference(near) {
-            return Err(words_fault(BadWords::Near));
-        }
-    }
+    check_values(options.marker, &codes, near)?;
     Ok(AutoWords {
         wanted: Wanted {
             station: options.station,
@@ -110,7 +131,7 @@ pub(crate) fn auto_words<'a>(
             codes,
             near,
             marker: options.marker,
-            window: options.window.unwrap_or(MOST_WINDOW),
+            window: options.window.unwrap_or(4096),
         },
         made,
         ways: ways_of(options),

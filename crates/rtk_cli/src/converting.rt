@@ -15,7 +15,7 @@ ghost use Rattle.rtk_cli.specs.Steps.Links.{bytes_had, bytes_held, AreLinksOf};
 
 use crate::refusing::refuse;
 use crate::words::BadWords;
-use rtk_convert::{ConvertFault, Counts, Setup, run};
+use rtk_convert::{ConvertFault, Counts, MOST_LINKS, Setup, run};
 use rtk_streams::{
     Before, DONE, GATHERED, MOST_READS, Reads, Resumed, ToolFault, Writes, fail, fail_to_end,
     fail_to_open_links, has_standard_input, open_links, sink,
@@ -84,9 +84,9 @@ fn finished<O: Write + Drop, L: Write + Drop, K: Before>(
     }
 }
 
-// Converts readers that have the bytes of `K` into writers that hold those of `K`: the file's writer
-// has number 0, the report's number 1.
-fn convert_between<R: Read + Drop, O: Write + Drop, L: Write + Drop, K: Before>(
+// `convert_through` over readers and writers by what `K` knows of their bytes: the file's writer has
+// number 0, the report's number 1.
+fn convert_by<R: Read + Drop, O: Write + Drop, L: Write + Drop, K: Before>(
     alloc: Global,
     setup: Setup,
     readers: Vec<R>,
@@ -155,8 +155,7 @@ pub fn convert_through<R: Read + Drop, O: Write + Drop, L: Write + Drop>(
     ensures faults { IfOk result (λ c. IfErr c.done IsRunFault) }
     ensures fault { IfErr result (λ fault. fault ≡ ToolFault.OutOfMemory) }
 {
-    // More links than a conversion takes.
-    if readers.len() > 16 {
+    if readers.len() > MOST_LINKS {
         return Ok(Converted {
             out,
             report,
@@ -164,7 +163,7 @@ pub fn convert_through<R: Read + Drop, O: Write + Drop, L: Write + Drop>(
             is_out: true,
         });
     }
-    convert_between::<R, O, L, Brand>(alloc, setup, readers, room, out, report)
+    convert_by::<R, O, L, Brand>(alloc, setup, readers, room, out, report)
 }
 
 /// The exit status of a conversion, by its answer and by whether all that it wrote is out; the fault
@@ -181,6 +180,7 @@ pub fn conversion_status<R: Eprint>(rt: &R, done: Result<Counts, ConvertFault>, 
         Err(ConvertFault::Endless) => fail_to_end(rt),
         // Not 1 to 16 links.
         Err(ConvertFault::Setup) => refuse(rt, BadWords::Links),
+        // Faults of calls on one link: `IsRunFault` says that a whole conversion has none of them.
         Err(ConvertFault::NoLink | ConvertFault::LinkClosed | ConvertFault::Stopped) =>
             unreachable!(),
     }

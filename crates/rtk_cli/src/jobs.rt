@@ -3,10 +3,11 @@
 ghost use Rattle.std.specs.Prelude.{IfOk, IfErr};
 ghost use Rattle.rtk_cli.specs.Words.{HasStatus, IsWithinLimits};
 
-use crate::convert_words::conversion;
+use crate::auto_words::auto_words;
+use crate::convert_words::convert_job;
 use crate::cut_words::part_of;
 use crate::words::{Job, WordsFault};
-use rtk_args::{ClapAnswer, CutOptions, Request, read_words};
+use rtk_args::{AutoOptions, ClapAnswer, CutOptions, Request, read_words};
 use std::alloc::Global;
 
 // The part that the options say, of this file.
@@ -21,6 +22,21 @@ fn cut_job<'a>(options: &CutOptions<'a>, file: &'a str) -> Result<Job<'a>, Words
     }
 }
 
+// What the options of `auto` say, of these captures.
+fn auto_job<'a>(
+    alloc: Global,
+    options: &AutoOptions<'a>,
+    captures: Vec<&'a str>,
+) -> Result<Job<'a>, WordsFault>
+    ensures limits { IfOk result IsWithinLimits }
+    ensures status { IfErr result HasStatus }
+{
+    match auto_words(alloc, options) {
+        Ok(options) => Ok(Job::Auto { options, captures }),
+        Err(fault) => Err(fault),
+    }
+}
+
 /// What the words of a command line ask for. They begin after the name of the program.
 pub fn job<'a>(alloc: Global, words: &'a [&'a str]) -> Result<Job<'a>, WordsFault>
     // That it gives up only without memory show the rows `job ..` of tests/system/calls.
@@ -28,7 +44,8 @@ pub fn job<'a>(alloc: Global, words: &'a [&'a str]) -> Result<Job<'a>, WordsFaul
     ensures status { IfErr result HasStatus }
 {
     match read_words(alloc, words) {
-        Ok(Request::Convert { setup, links }) => conversion(alloc, &setup, links.as_slice()),
+        Ok(Request::Auto { options, captures }) => auto_job(alloc, &options, captures),
+        Ok(Request::Convert { setup, links }) => convert_job(alloc, &setup, links),
         Ok(Request::Show { hex, file }) => Ok(Job::Show { hex, file }),
         Ok(Request::Check { file }) => Ok(Job::Check { file }),
         Ok(Request::Summary { file }) => Ok(Job::Summary { file }),

@@ -16,6 +16,11 @@
 //! Its tests: tests/values/src/cli.rt.in and cli/, and tests/program
 #![tactic(auto)]
 
+mod auto_converting;
+mod auto_looking;
+mod auto_reading;
+mod auto_running;
+mod auto_words;
 mod code_list;
 mod convert_words;
 mod converting;
@@ -26,6 +31,9 @@ mod refusing;
 mod running;
 mod words;
 
+pub use auto_converting::convert_joined;
+pub use auto_reading::find_through;
+pub use auto_words::AutoWords;
 pub use converting::{Converted, conversion_status, convert_through};
 pub use jobs::job;
 pub use rtk_commands::{CHECK_LIMIT, SHOW_LIMIT, check_file, show, show_line};

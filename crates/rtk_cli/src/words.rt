@@ -1,14 +1,15 @@
 //! What the words of a command line ask for, and why a command is not done.
 
-use arrayvec::ArrayVec;
+use crate::auto_words::AutoWords;
 use rtk_args::Task;
 use rtk_convert::Setup;
 use rtk_cut::Part;
 use thiserror::Error;
 
-/// What the words ask for: the station, the reference, the file's head and the window of a conversion,
-/// and its links, standard input once at most; the span and the step of a part.
-pub type Job<'a> = Task<'a, Setup, ArrayVec<&'a str, 16>, Part>;
+/// What the words ask for: what `auto` is to find; the station, the reference, the file's head and the
+/// window of a conversion, and its 1 to 16 links, standard input once at most; the span and the step
+/// of a part.
+pub type Job<'a> = Task<'a, Setup, Part, AutoWords<'a>>;
 
 /// Why words that clap takes give no conversion, or no part: the first cause that holds, in this
 /// order; but that no time is dated near the reference is found last. Displayed, it is the fault

@@ -7,8 +7,9 @@ use Rattle.std.specs.List.{insert}
 use Rattle.rtk_obs.specs.declared.cell.CellEntry.{CellEntry}
 use Rattle.std.specs.Prelude.{◌&&◌}
 use Rattle.rtk_message.specs.declared.any_message.AnyMessage.{AnyMessage as Message}
+use Rattle.rtk_obs.specs.MessageCells.{cells_of}
 use Rattle.rtk_collect.specs.EpochSet.{EpochSetView, joined, FirstIsBelow, EpochsFall}
-use Rattle.rtk_collect.specs.Arrival.{Arrival, At, cells_of}
+use Rattle.rtk_collect.specs.Arrival.{Arrival, At}
 use Rattle.rtk_collect.specs.Late.{with_epoch, epochs, greater, late}
 use Rattle.rtk_collect.specs.Accepted.{no_cells, with_arrival, kept, cells_at}
 use Rattle.rtk_collect.specs.Laws.{GreaterOpens, LesserJoinsOthers, SameJoins, KeptFall}

@@ -4,8 +4,9 @@ use Rattle.std.specs.Prelude.{◌&&◌, not, option_and_then, if◌then◌else�
 use Rattle.std.proofs.lemmas.Bool.{cases_order, cases_eq, eq-eqb, ne_eqb, cases_Bool}
 use Rattle.rtk_message.specs.declared.any_message.AnyMessage.{AnyMessage as Message}
 use Rattle.rtk_obs.specs.declared.cell.CellEntry.{CellEntry}
+use Rattle.rtk_obs.specs.MessageCells.{cells_of}
 use Rattle.rtk_collect.specs.EpochSet.{EpochSetView, EpochsFall, cell_under}
-use Rattle.rtk_collect.specs.Arrival.{Arrival, At, cells_of}
+use Rattle.rtk_collect.specs.Arrival.{Arrival, At}
 use Rattle.rtk_collect.specs.Late.{late}
 use Rattle.rtk_collect.specs.Accepted.{kept, with_arrival, cells_at}
 use Rattle.rtk_collect.specs.Laws.{CellsRise, earlier, first_taken, FirstIsKept}

@@ -6,8 +6,9 @@ use Rattle.std.proofs.lemmas.Grind.{common_steps}
 use Rattle.std.proofs.Math.Seq.{drop-nil, take-append_seam, drop-append_seam}
 use Rattle.rtk_obs.specs.declared.cell.CellEntry.{CellEntry}
 use Rattle.rtk_message.specs.declared.any_message.AnyMessage.{AnyMessage as Message}
+use Rattle.rtk_obs.specs.MessageCells.{cells_of}
 use Rattle.rtk_collect.specs.EpochSet.{EpochSetView, EpochsFall}
-use Rattle.rtk_collect.specs.Arrival.{Arrival, At, cells_of}
+use Rattle.rtk_collect.specs.Arrival.{Arrival, At}
 use Rattle.rtk_collect.specs.Late.{epochs, greater, late}
 use Rattle.rtk_collect.specs.Accepted.{no_cells, with_arrival, kept, cells_at, closed}
 use Rattle.rtk_collect.specs.Laws.{ClosedAreRest}

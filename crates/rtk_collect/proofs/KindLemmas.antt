@@ -1,23 +1,17 @@
 -- The cells of two kinds of message: each kind in a list of its own, and all in one list.
 use Rattle.std.proofs.Common.{◌≡◌, ℕ, ◌<◌, Result, Ok, Err, IfOk, OnErr, Bool, true, false, cond, List, [], ◌∷◌, ◌++◌, length, Option, None, Some, refl, ap, sym, ◌∙◌, arith, inl, inr, subst, All, filter}
 use Rattle.std.specs.Option.{unwrap_or}
-use Rattle.std.specs.List.{flat_map, AllByRecursion}
+use Rattle.std.specs.List.{AllByRecursion}
 use Rattle.std.proofs.lemmas.Bool.{cases_order, cases_eq, eq-eqb, ne_eqb}
-use Rattle.std.proofs.lemmas.List.Elements.{All-from_recursion, recursion_from_All}
-use Rattle.rtk_message.specs.declared.obs1004.Satellite.{Satellite}
-use Rattle.rtk_message.specs.declared.msm.Msm.{Msm as WideMsm}
-use Rattle.rtk_message.specs.declared.msm1074.Msm1074.{Msm1074}
-use Rattle.rtk_obs.specs.Cell.{IsInRange, is_satellite}
+use Rattle.std.proofs.lemmas.List.Elements.{recursion_from_All}
+use Rattle.rtk_obs.specs.Cell.{IsInRange}
 use Rattle.rtk_obs.specs.Slip.{is_same_source}
-use Rattle.rtk_obs.specs.LegacyCells.{first_entries, satellite_entries, cells_of_1004}
-use Rattle.rtk_obs.specs.MsmCells.{cell_of_1074, cells_of_1074, cell_of_msm, cells_of_msm}
-use Rattle.rtk_obs.proofs.PublicLaws.{all-msm_entries}
 use Rattle.std.specs.Prelude.{◌==◌}
 use Rattle.rtk_obs.specs.declared.cell.CellEntry.{CellEntry}
 use Rattle.rtk_obs.specs.declared.cell.CellSource.{CellSource}
 use Rattle.rtk_obs.specs.declared.cell.CellSource.TheVariants.{Legacy, Msm}
 use Rattle.rtk_collect.specs.Key.{key, Above, KeysRise}
-use Rattle.rtk_collect.specs.EpochSet.{with_cell, with_cells, cell_under, one_more, fresh, conflict, conflicts, is_from, AreOfOneKind, AreKeptOf}
+use Rattle.rtk_collect.specs.EpochSet.{with_cell, with_cells, cell_under, one_more, fresh, conflict, conflicts, is_from, AreKeptOf}
 use Rattle.rtk_collect.specs.Laws.{earlier}
 use Rattle.rtk_collect.proofs.CellsLemmas.{above-none, with_cell-new, with_cell-past, with_cell-same, with_cell-rises, with_cells-rises, with_cells-each, with_cells-all}
 use Rattle.rtk_collect.proofs.EqualityLemmas.{keys-are-distinct}
@@ -259,18 +253,3 @@ kept-none s = record {
 pub some-cells : (xs : List CellEntry) (b : Bool) → b ≡ (length xs == 0) → b ≡ false → 0 < length xs
 some-cells [] b h k = let q : true ≡ false = sym h ∙ k in cc
 some-cells (x ∷ xs) b h k = omega arith
-
--- ---- the cells of a message
-
-all-legacy : (ss : List Satellite) → AllByRecursion (IsOf Legacy) (flat_map satellite_entries ss)
-all-legacy [] = tt
-all-legacy (s ∷ ss) = (refl, (refl, all-legacy ss))
-
-pub of-1004 : (ss : List Satellite) → AreOfOneKind (cells_of_1004 ss)
-of-1004 ss = (Legacy, All-from_recursion (IsOf Legacy) (cells_of_1004 ss) (all-legacy (filter (λ (t : Satellite). is_satellite t.satellite) (first_entries ss))))
-
-pub of-1074 : (m : Msm1074) → AreOfOneKind (cells_of_1074 m)
-of-1074 m = (Msm, All-from_recursion (IsOf Msm) (cells_of_1074 m) (all-msm_entries m.header (cell_of_1074 m) (IsOf Msm) (λ k row satellite code is. refl) m.cell_mask))
-
-pub of-msm : (m : WideMsm) → AreOfOneKind (cells_of_msm m)
-of-msm m = (Msm, All-from_recursion (IsOf Msm) (cells_of_msm m) (all-msm_entries m.header (cell_of_msm m) (IsOf Msm) (λ k row satellite code is. refl) m.cell_mask))

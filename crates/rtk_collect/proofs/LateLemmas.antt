@@ -6,9 +6,10 @@ use Rattle.std.proofs.lemmas.Bool.{le-leb, leb-true, cases_lt, cases_eq, ne_eqb,
 use Rattle.std.proofs.lemmas.List.{length-take}
 use Rattle.rtk_message.specs.declared.any_message.AnyMessage.{AnyMessage as Message}
 use Rattle.rtk_message.specs.AnyDecoded.{number_of}
+use Rattle.rtk_obs.specs.MessageCells.{cells_of}
 use Rattle.rtk_collect.specs.Equal.{equal_stations, is_first}
 use Rattle.rtk_collect.specs.EpochSet.{EpochSetView, EpochsFall}
-use Rattle.rtk_collect.specs.Arrival.{Arrival, At, cells_of}
+use Rattle.rtk_collect.specs.Arrival.{Arrival, At}
 use Rattle.rtk_collect.specs.Late.{epochs, with_epoch, late}
 use Rattle.rtk_collect.specs.Accepted.{no_cells, station, first, kept, closed, with_arrival, IsTaken}
 use Rattle.rtk_collect.specs.Laws.{without_late, AreInTime, LateArrivalsChangeNothing, ClosedOnlyGrow, ClosedFall, ClosedAfter, ExcusedIsKept, StationsAreFinal, LateLeavesKept, InTimeJoinsKept}

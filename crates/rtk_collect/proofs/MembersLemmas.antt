@@ -6,9 +6,10 @@ use Rattle.std.proofs.lemmas.Bool.{cases_order, cases_eq, eq-eqb, cases_Bool, bo
 use Rattle.rtk_message.specs.declared.any_message.AnyMessage.{AnyMessage as Message}
 use Rattle.rtk_message.specs.AnyDecoded.{number_of}
 use Rattle.rtk_obs.specs.declared.cell.CellEntry.{CellEntry}
+use Rattle.rtk_obs.specs.MessageCells.{cells_of}
 use Rattle.rtk_collect.specs.Key.{key}
 use Rattle.rtk_collect.specs.EpochSet.{EpochSetView, with_cell, with_cells}
-use Rattle.rtk_collect.specs.Arrival.{Arrival, At, cells_of}
+use Rattle.rtk_collect.specs.Arrival.{Arrival, At}
 use Rattle.rtk_collect.specs.Late.{late}
 use Rattle.rtk_collect.specs.Accepted.{station, first, kept, with_arrival, IsTaken, AmongCells, IsTakenCell, IsConsistent}
 use Rattle.rtk_collect.specs.Laws.{HasEpoch, IsKept, KeptAreTaken}

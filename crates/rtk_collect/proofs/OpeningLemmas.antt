@@ -5,15 +5,14 @@ use Rattle.std.proofs.lemmas.Bool.{cases_order, cases_lt, ne_eqb}
 use Rattle.std.proofs.lemmas.List.{length-drop}
 use Rattle.std.proofs.lemmas.List.Elements.{recursion_from_All}
 use Rattle.rtk_message.specs.declared.any_message.AnyMessage.{AnyMessage as Message}
-use Rattle.rtk_message.specs.declared.any_message.AnyMessage.TheVariants as any
-use Rattle.rtk_message.specs.declared.message.Message.TheVariants.{Obs1004, Arp1005, Arp1006, Msm1074}
 use Rattle.rtk_message.specs.AnyDecoded.{IsValid}
 use Rattle.rtk_obs.specs.declared.cell.CellEntry.{CellEntry}
 use Rattle.rtk_obs.specs.Cell.{AreDifferentSignals, AreDistinct}
-use Rattle.rtk_obs.proofs.PublicLaws.{cells_of_1004-distinct, cells_of_1074-distinct, cells_of_msm-distinct}
+use Rattle.rtk_obs.proofs.PublicLaws.{cells_of-distinct}
+use Rattle.rtk_obs.specs.MessageCells.{cells_of}
 use Rattle.rtk_collect.specs.Key.{key}
 use Rattle.rtk_collect.specs.EpochSet.{EpochSetView, with_cell, cell_under, conflict, conflicts, EpochsFall}
-use Rattle.rtk_collect.specs.Arrival.{Arrival, At, cells_of}
+use Rattle.rtk_collect.specs.Arrival.{Arrival, At}
 use Rattle.rtk_collect.specs.Late.{epochs}
 use Rattle.rtk_collect.specs.Accepted.{no_cells, with_arrival, kept, cells_at, closed}
 use Rattle.rtk_collect.specs.Answer.{conflicts_with}
@@ -65,11 +64,7 @@ distinct-none : (cs : List CellEntry) → AreDistinct cs → conflicts cs [] ≡
 distinct-none cs h = none-conflict cs [] (pairs-differ cs h) (beside-none cs)
 
 pub opening-conflicts-not : OpeningConflictsNot
-opening-conflicts-not (any.Message (Obs1004 m)) valid = distinct-none (cells_of (any.Message (Obs1004 m))) (cells_of_1004-distinct m.satellites)
-opening-conflicts-not (any.Message (Arp1005 m)) valid = refl
-opening-conflicts-not (any.Message (Arp1006 m)) valid = refl
-opening-conflicts-not (any.Message (Msm1074 m)) valid = distinct-none (cells_of (any.Message (Msm1074 m))) (cells_of_1074-distinct m valid)
-opening-conflicts-not (any.Msm m) valid = distinct-none (cells_of (any.Msm m)) (cells_of_msm-distinct m valid)
+opening-conflicts-not m valid = distinct-none (cells_of m) (cells_of-distinct m valid)
 
 -- a message that closes an epoch opens one
 

@@ -3,9 +3,10 @@ use Rattle.std.proofs.Common.{◌≡◌, ℕ, ◌<◌, List, [], ◌∷◌, Opti
 use Rattle.std.proofs.lemmas.Bool.{cases_order, cases_Bool}
 use Rattle.rtk_message.specs.declared.any_message.AnyMessage.{AnyMessage as Message}
 use Rattle.rtk_obs.specs.declared.cell.CellEntry.{CellEntry}
+use Rattle.rtk_obs.specs.MessageCells.{cells_of}
 use Rattle.rtk_collect.specs.Key.{key, KeysRise}
 use Rattle.rtk_collect.specs.EpochSet.{EpochSetView, EpochsFall}
-use Rattle.rtk_collect.specs.Arrival.{Arrival, At, cells_of}
+use Rattle.rtk_collect.specs.Arrival.{Arrival, At}
 use Rattle.rtk_collect.specs.Late.{late}
 use Rattle.rtk_collect.specs.Accepted.{kept, station, with_arrival, IsTaken, AmongCells, IsTakenCell, IsConsistent}
 use Rattle.rtk_collect.specs.Laws.{HasEpoch, IsKept, CellsRise, KeptRise, OrderedAreSame, SetDecides}

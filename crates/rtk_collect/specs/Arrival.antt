@@ -1,14 +1,11 @@
 -- Arrivals: the dated messages of one station, in a list whose first is the newest. A message here
 -- is one of the wider set: one of the four types, or a 1075, 1076 or 1077.
-use Rattle.std.specs.Prelude.{ℕ, List, [], Option}
+use Rattle.std.specs.Prelude.{ℕ, Option}
 use Rattle.rtk_message.specs.declared.any_message.AnyMessage.{AnyMessage as Message}
 use Rattle.rtk_message.specs.declared.any_message.AnyMessage.TheVariants as any
 use Rattle.rtk_message.specs.declared.arp1005.Arp1005.{Arp1005 as Message1005}
 use Rattle.rtk_message.specs.declared.arp1006.Arp1006.{Arp1006 as Message1006}
-use Rattle.rtk_message.specs.declared.message.Message.TheVariants.{Obs1004, Arp1005, Arp1006, Msm1074}
-use Rattle.rtk_obs.specs.LegacyCells.{cells_of_1004}
-use Rattle.rtk_obs.specs.MsmCells.{cells_of_1074, cells_of_msm}
-use Rattle.rtk_obs.specs.declared.cell.CellEntry.{CellEntry}
+use Rattle.rtk_message.specs.declared.message.Message.TheVariants.{Arp1005, Arp1006}
 
 -- a message with its epoch in ms of GPS time. A 1005 or 1006 has no epoch: it counts as before all
 -- epochs
@@ -32,11 +29,3 @@ message_of_1005 m = any.Message (Arp1005 m)
 
 abbrev pub message_of_1006 : Message1006 → Message
 message_of_1006 m = any.Message (Arp1006 m)
-
--- the cells of a message, in its order
-abbrev pub cells_of : Message → List CellEntry
-cells_of (any.Message (Obs1004 m)) = cells_of_1004 m.satellites
-cells_of (any.Message (Arp1005 m)) = []
-cells_of (any.Message (Arp1006 m)) = []
-cells_of (any.Message (Msm1074 m)) = cells_of_1074 m
-cells_of (any.Msm m) = cells_of_msm m

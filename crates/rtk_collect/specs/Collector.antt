@@ -11,25 +11,25 @@ use Rattle.rtk_collect.specs.Accepted.{station, kept}
 
 -- a window: its number of places, the greatest epochs, falling, and the first 1005 and 1006
 pub record CollectorView : Type 0 where
-  pub size : ℕ
+  pub places : ℕ
   pub sets : List EpochSetView
   pub arp1005 : Option Message1005
   pub arp1006 : Option Message1006
 
 -- two to 4,096 places, and no more epochs than places; station messages whose fields fit
 pub record IsCollectorView (w : CollectorView) : Type 0 where
-  pub low : 2 ≤ w.size
-  pub high : w.size ≤ 4096
-  pub few : length w.sets ≤ w.size
+  pub low : 2 ≤ w.places
+  pub high : w.places ≤ 4096
+  pub few : length w.sets ≤ w.places
   pub falls : EpochsFall w.sets
   pub fits_1005 : ForSome w.arp1005 arp1005_spec.IsValid
   pub fits_1006 : ForSome w.arp1006 arp1006_spec.IsValid
 
 -- a window holds what is kept of these arrivals
 pub record RepresentsArrivals (w : CollectorView) (arrivals : List Arrival) : Type 0 where
-  pub sets : w.sets ≡ take w.size (kept w.size arrivals)
-  pub arp1005 : option_map message_of_1005 w.arp1005 ≡ station w.size 1005 arrivals
-  pub arp1006 : option_map message_of_1006 w.arp1006 ≡ station w.size 1006 arrivals
+  pub sets : w.sets ≡ take w.places (kept w.places arrivals)
+  pub arp1005 : option_map message_of_1005 w.arp1005 ≡ station w.places 1005 arrivals
+  pub arp1006 : option_map message_of_1006 w.arp1006 ≡ station w.places 1006 arrivals
 
 -- what is left of a window at its end
 pub record LeftView : Type 0 where

@@ -19,10 +19,6 @@ pub record EpochSetView : Type 0 where
 abbrev pub is_from : CellSource → CellEntry → Bool
 is_from source e = is_same_source e.cell.source source
 
--- all cells came in one kind of message
-abbrev pub AreOfOneKind : List CellEntry → Type 0
-AreOfOneKind cells = (source : CellSource) × All (λ c. c.cell.source ≡ source) cells
-
 -- cells of an epoch that all came in this kind of message: they rise, and each is in range
 pub record AreKeptOf (source : CellSource) (cells : List CellEntry) : Type 0 where
   pub rises : KeysRise cells

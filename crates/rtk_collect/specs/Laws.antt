@@ -8,12 +8,13 @@ use Rattle.rtk_message.specs.AnyDecoded.{number_of, IsValid}
 use Rattle.rtk_obs.specs.declared.cell.Cell.{Cell}
 use Rattle.rtk_obs.specs.declared.cell.CellEntry.{CellEntry}
 use Rattle.rtk_obs.specs.declared.code.Code.{Code}
+use Rattle.rtk_obs.specs.MessageCells.{cells_of}
 use Rattle.rtk_collect.specs.declared.conflicts.SatelliteCode.{SatelliteCode}
 use Rattle.rtk_collect.specs.declared.offer.Offer.TheVariants.{Taken}
 use Rattle.rtk_collect.specs.Key.{key, KeysRise}
 use Rattle.rtk_collect.specs.EpochSet.{EpochsFall, EpochSetView, joined, cell_under, cell_of, first_entry, conflicts}
 use Rattle.rtk_collect.specs.Equal.{equal_cells, equal_1005, equal_1006, equal_stations, is_first}
-use Rattle.rtk_collect.specs.Arrival.{Arrival, At, message_of, cells_of}
+use Rattle.rtk_collect.specs.Arrival.{Arrival, At, message_of}
 use Rattle.rtk_collect.specs.Late.{epochs, is_excused, late}
 use Rattle.rtk_collect.specs.Answer.{IsRightAnswer}
 use Rattle.rtk_collect.specs.Accepted.{station, no_cells, with_arrival, kept, cells_at, closed, IsTaken, AmongCells, IsTakenCell, IsConsistent}

@@ -9,7 +9,7 @@ use Rattle.rtk_collect.specs.Collector.{CollectorView, RepresentsArrivals}
 
 -- the right answer to an arrival, after which the window represents it too, whatever came before
 abbrev pub AnswersArrival : CollectorView → Arrival → Offer → CollectorView → Type 0
-AnswersArrival old a offer new = (before : List Arrival) → RepresentsArrivals old before → IsRightAnswer old.size a before offer × RepresentsArrivals new (a ∷ before)
+AnswersArrival old a offer new = (before : List Arrival) → RepresentsArrivals old before → IsRightAnswer old.places a before offer × RepresentsArrivals new (a ∷ before)
 
 -- a closed epoch is less than all of the window
 abbrev pub ClosesBelow : Offer → List EpochSetView → Type 0
@@ -33,8 +33,8 @@ ClosesLeast n sets Late = Unit {0}
 
 -- the arrival would be taken, whatever came before
 abbrev pub WouldBeTaken : CollectorView → Arrival → Type 0
-WouldBeTaken old a = (before : List Arrival) → RepresentsArrivals old before → class_of old.size a before ≡ TakenClass
+WouldBeTaken old a = (before : List Arrival) → RepresentsArrivals old before → class_of old.places a before ≡ TakenClass
 
 -- once a window is full it stays so, and its least epoch never falls
 abbrev pub LeastNeverFalls : CollectorView → CollectorView → Type 0
-LeastNeverFalls old new = length old.sets ≡ old.size → (length new.sets ≡ new.size) × ((e : ℕ) → All (λ x. e ≤ x.epoch) old.sets → All (λ x. e ≤ x.epoch) new.sets)
+LeastNeverFalls old new = length old.sets ≡ old.places → (length new.sets ≡ new.places) × ((e : ℕ) → All (λ x. e ≤ x.epoch) old.sets → All (λ x. e ≤ x.epoch) new.sets)

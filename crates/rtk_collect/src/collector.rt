@@ -21,7 +21,7 @@ use crate::stations::{Stations, offer_station, position};
 use crate::window::offer_cells;
 use arrayvec::ArrayVec;
 use rtk_message::Message;
-use rtk_obs::{CellEntry, Position, put_cells_1004, put_cells_1074, put_cells_msm};
+use rtk_obs::{CellEntry, Position};
 use std::alloc::{AllocError, Global};
 use std::collections::VecDeque;
 use std::marker::Model;
@@ -59,10 +59,17 @@ impl Model for Collector {
 
     ghost Value = { CollectorView };
 
-    ghost view = { λ c. record { size = c.places; sets = c.sets.items; arp1005 = c.stations.arp1005; arp1006 = c.stations.arp1006 } };
+    ghost view = { λ c. record { places = c.places; sets = c.sets.items; arp1005 = c.stations.arp1005; arp1006 = c.stations.arp1006 } };
 
-    ghost invariant = { λ c. (c ≡ record { alloc = c.alloc; places = c.places; sets = c.sets; stations = c.stations; room = c.room; spare = c.spare })
-        × IsCollectorView (record { size = c.places; sets = c.sets.items; arp1005 = c.stations.arp1005; arp1006 = c.stations.arp1006 })
+    ghost invariant = { λ c. (c ≡ record {
+      alloc = c.alloc;
+      places = c.places;
+      sets = c.sets;
+      stations = c.stations;
+      room = c.room;
+      spare = c.spare;
+    })
+        × IsCollectorView (record { places = c.places; sets = c.sets.items; arp1005 = c.stations.arp1005; arp1006 = c.stations.arp1006 })
         × (c.stations ≡ record { arp1005 = c.stations.arp1005; arp1006 = c.stations.arp1006 })
         × (c.spare ≡ record { msm = c.spare.msm; legacy = c.spare.legacy })
         × AreSpare c.spare };
@@ -73,7 +80,7 @@ impl Collector {
     pub fn new(alloc: Global, places: usize) -> Collector
         requires low { 2 ≤ places }
         requires high { places ≤ 4096 }
-        ensures empty { result ≡ record { size = places; sets = []; arp1005 = None; arp1006 = None } }
+        ensures empty { result ≡ record { places = places; sets = []; arp1005 = None; arp1006 = None } }
         ensures history { RepresentsArrivals result [] }
     {
         Collector {
@@ -97,12 +104,12 @@ impl Collector {
     /// Only a message that would be taken takes memory, all of it before anything changes. If
     /// memory is refused, the collector is unchanged.
     pub fn offer(&mut self, dated: Dated<'_>) -> Result<Offer, AllocError>
-        ensures size { self.new.size ≡ self.old.size }
-        ensures bound { length self.new.sets ≤ self.new.size }
+        ensures places { self.new.places ≡ self.old.places }
+        ensures bound { length self.new.sets ≤ self.new.places }
         // That it does not give up: rows offer of tests/system/calls.
         ensures answer { IfOk result (λ offer. AnswersArrival self.old dated.entry offer self.new) }
         ensures closed { IfOk result (λ offer. ClosesBelow offer self.new.sets) }
-        ensures least_closes { IfOk result (λ offer. ClosesLeast self.old.size self.old.sets offer) }
+        ensures least_closes { IfOk result (λ offer. ClosesLeast self.old.places self.old.sets offer) }
         ensures least { LeastNeverFalls self.old self.new }
         ensures err { OnErr result (self.new ≡ self.old) }
         ensures refused { OnErr result (WouldBeTaken self.old dated.entry) }
@@ -113,27 +120,10 @@ impl Collector {
             };
             return Ok(self.offer_station_message(message));
         };
-        match dated.message {
-            Borrowed::Message(Message::Obs1004(message)) => {
-                put_cells_1004(message, &mut self.room);
-                let cells = self.room.as_slice();
-                let (sets, spare) = (&mut self.sets, &mut self.spare);
-                offer_cells(sets, self.places, self.alloc, epoch, cells, spare)
-            }
-            Borrowed::Message(Message::Arp1005(_) | Message::Arp1006(_)) => unreachable!(),
-            Borrowed::Message(Message::Msm1074(message)) => {
-                put_cells_1074(message, &mut self.room);
-                let cells = self.room.as_slice();
-                let (sets, spare) = (&mut self.sets, &mut self.spare);
-                offer_cells(sets, self.places, self.alloc, epoch, cells, spare)
-            }
-            Borrowed::Msm(message) => {
-                put_cells_msm(message, &mut self.room);
-                let cells = self.room.as_slice();
-                let (sets, spare) = (&mut self.sets, &mut self.spare);
-                offer_cells(sets, self.places, self.alloc, epoch, cells, spare)
-            }
-        }
+        dated.message.put_cells(&mut self.room);
+        let cells = self.room.as_slice();
+        let (sets, spare) = (&mut self.sets, &mut self.spare);
+        offer_cells(sets, self.places, self.alloc, epoch, cells, spare)
     }
 
     // Takes a 1005 or 1006, if it is the first of its number and the window isn't full. It takes no
@@ -142,18 +132,18 @@ impl Collector {
     fn offer_station_message(&mut self, message: &Message) -> Offer
         requires valid { IsValid message.now }
         requires station { tow_of message.now ≡ None }
-        ensures size { self.new.size ≡ self.old.size }
-        ensures bound { length self.new.sets ≤ self.new.size }
+        ensures places { self.new.places ≡ self.old.places }
+        ensures bound { length self.new.sets ≤ self.new.places }
         ensures sets { self.new.sets ≡ self.old.sets }
         ensures answer { AnswersArrival self.old (At None (AnyMessage.Message message.now)) result self.new }
         ensures closed { ClosesBelow result self.new.sets }
-        ensures least_closes { ClosesLeast self.old.size self.old.sets result }
+        ensures least_closes { ClosesLeast self.old.places self.old.sets result }
     {
         let full = self.sets.len() == self.places;
         match message {
             Message::Arp1005(message) => offer_station(&mut self.stations.arp1005, *message, full),
             Message::Arp1006(message) => offer_station(&mut self.stations.arp1006, *message, full),
-            Message::Obs1004(_) | Message::Msm1074(_) => unreachable!(),
+            _ => unreachable!(),
         }
     }
 
@@ -172,7 +162,7 @@ impl Collector {
     /// 1006, else zero.
     pub fn station(&self) -> Position
         ensures position { IsPosition self.now.arp1005 self.now.arp1006 result }
-        ensures kept { (before : List Arrival) → RepresentsArrivals self.now before → IsPositionOf self.now.size before result }
+        ensures kept { (before : List Arrival) → RepresentsArrivals self.now before → IsPositionOf self.now.places before result }
     {
         position(self.stations)
     }
@@ -182,8 +172,9 @@ impl Collector {
         ensures sets { result.sets ≡ self.sets }
         ensures arp1005 { result.arp1005 ≡ self.arp1005 }
         ensures arp1006 { result.arp1006 ≡ self.arp1006 }
-        ensures epochs { (before : List Arrival) → RepresentsArrivals self before → result.sets ≡ take self.size (kept self.size before) }
-        ensures stations { (before : List Arrival) → RepresentsArrivals self before → KeepsStations result self.size before }
+        ensures epochs { (before : List Arrival) → RepresentsArrivals self before
+            → result.sets ≡ take self.places (kept self.places before) }
+        ensures stations { (before : List Arrival) → RepresentsArrivals self before → KeepsStations result self.places before }
     {
         Left::new(self.sets, self.stations)
     }

@@ -1,13 +1,17 @@
 //! A message with its epoch.
 
-ghost use Rattle.std.specs.Prelude.{◌≡◌, IfSome, IfNone};
+ghost use Rattle.std.specs.Prelude.{◌≡◌, ◌≤◌, length, All, IfSome, IfNone};
 ghost use Rattle.std.specs.Option.{is_some};
 ghost use Rattle.rtk_message.specs.AnyDecoded as any;
 ghost use Rattle.rtk_message.specs.Decoded.{IsValid, tow_of};
+ghost use Rattle.rtk_obs.specs.Cell.{IsInRange};
+ghost use Rattle.rtk_obs.specs.MessageCells.{cells_of};
 ghost use Rattle.rtk_collect.specs.Arrival.{At, epoch_of, message_of, IsWideMsm};
+ghost use Rattle.rtk_collect.specs.Steps.Borrowed.{borrowed};
 
+use arrayvec::ArrayVec;
 use rtk_message::{AnyMessage, Message, Msm};
-use rtk_obs::GpsMs;
+use rtk_obs::{CellEntry, GpsMs, put_cells_msm, put_cells_of};
 use std::marker::Model;
 
 /// A message whose fields fit, which it borrows, with its epoch: the moment of its time of week
@@ -20,11 +24,27 @@ pub struct Dated<'a> {
     pub(crate) epoch: Option<GpsMs>,
 }
 
-/// A borrowed message: one of the four types, or a 1075, 1076 or 1077.
+/// A borrowed message: one of the four types, or a 1075, 1076 or 1077. An `AnyMessage` owns its
+/// message, so a `&Message` can't be lent as one.
 #[derive(Clone, Copy, Drop)]
 pub(crate) enum Borrowed<'a> {
     Message(&'a Message),
     Msm(&'a Msm),
+}
+
+impl<'a> Borrowed<'a> {
+    /// Puts the cells of the message into a list, in place of what it has.
+    pub(crate) fn put_cells(self, found: &mut ArrayVec<CellEntry, 64>)
+        requires { any.IsValid (borrowed self) }
+        ensures cells { found.new.items ≡ cells_of (borrowed self.entry) }
+        ensures ranges { All IsInRange found.new.items }
+        ensures few { length found.new.items ≤ 64 }
+    {
+        match self {
+            Borrowed::Message(message) => put_cells_of(message, found),
+            Borrowed::Msm(message) => put_cells_msm(message, found),
+        }
+    }
 }
 
 // Clauses see an arrival: the epoch in ms and the message.

@@ -6,8 +6,9 @@
 
 ghost use Rattle.std.specs.Prelude.{◌≡◌, ◌≢◌, ◌≤◌, ◌<◌, ◌+◌, ◌-◌, ◌*◌, [], ◌∷◌, ◌++◌, not, length, take, drop, slice_index_or, vec_len, vec_capacity, IsTrue, IfOk, OnErr, All, if◌then◌else◌};
 ghost use Rattle.rtk_obs.specs.Code.{place_of};
+ghost use Rattle.rtk_obs.specs.MessageCells.{AreOfOneKind};
 ghost use Rattle.rtk_collect.specs.Key.{key, KeysRise};
-ghost use Rattle.rtk_collect.specs.EpochSet.{with_cell, with_cells, cell_under, fresh, conflict, conflicts, AreOfOneKind};
+ghost use Rattle.rtk_collect.specs.EpochSet.{with_cell, with_cells, cell_under, fresh, conflict, conflicts};
 ghost use Rattle.rtk_collect.specs.Steps.OrderedPlaces.{lower};
 
 use crate::conflicts::{Conflicts, SatelliteCode};
@@ -263,7 +264,8 @@ fn add_new(kept: &mut Vec<CellEntry>, at: usize, entry: CellEntry) -> bool
     requires room { vec_len kept.old + fresh (entry ∷ []) kept.old.items ≤ vec_capacity kept.old }
     ensures items { kept.new.items ≡ with_cell entry kept.old.items }
     ensures capacity { vec_capacity kept.old ≤ vec_capacity kept.new }
-    ensures conflict { conflict entry (cell_under (key entry) kept.old.items) ≡ (if result then record { satellite = entry.satellite; code = entry.code } ∷ [] else []) }
+    ensures conflict { conflict entry (cell_under (key entry) kept.old.items)
+        ≡ (if result then record { satellite = entry.satellite; code = entry.code } ∷ [] else []) }
 {
     if let Some(first) = kept_cell(kept, at, key_of(&entry)) {
         return first.cell != entry.cell;

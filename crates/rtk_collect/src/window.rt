@@ -5,10 +5,11 @@
 //! full window is below a bound, then the epoch that closes is not below it; so the epochs that go
 //! out rise, and callers need no history for that.
 
-ghost use Rattle.std.specs.Prelude.{◌≡◌, ◌≢◌, ◌<◌, ◌≤◌, ◌+◌, ◌++◌, [], not, min, IsTrue, length, IsOk, IfOk, OnErr, OnOk, All, slice_index_or, slice_set, option_to_list};
+ghost use Rattle.std.specs.Prelude.{◌≡◌, ◌≢◌, ◌<◌, ◌≤◌, ◌+◌, ◌++◌, [], not, min, IsTrue, length, IfOk, OnErr, OnOk, All, slice_index_or, slice_set, option_to_list};
 ghost use Rattle.std.specs.List.{insert};
 ghost use Rattle.rtk_obs.specs.Cell.{IsInRange};
-ghost use Rattle.rtk_collect.specs.EpochSet.{EpochSetView, joined, fresh, conflicts, AreOfOneKind, EpochsFall};
+ghost use Rattle.rtk_obs.specs.MessageCells.{AreOfOneKind};
+ghost use Rattle.rtk_collect.specs.EpochSet.{EpochSetView, joined, fresh, conflicts, EpochsFall};
 ghost use Rattle.rtk_collect.specs.Accepted.{no_cells};
 ghost use Rattle.rtk_collect.specs.Steps.OrderedPlaces.{leading};
 ghost use Rattle.rtk_collect.specs.Steps.Room.{room_for, AreSpare};
@@ -47,8 +48,10 @@ pub(crate) fn place_of_epoch(sets: &VecDeque<EpochSet>, epoch: GpsMs) -> usize
 /// Whether the window has this epoch, whose place is `at`.
 pub(crate) fn has_epoch(sets: &VecDeque<EpochSet>, at: usize, epoch: GpsMs) -> bool
     requires place { at ≡ leading epoch sets.now.items }
-    ensures found { IsTrue result → (at < length sets.now.items) × ((d : EpochSetView) → (slice_index_or sets.now.items at d).epoch ≡ epoch) }
-    ensures absent { IsTrue (not result) → (at < length sets.now.items) → ((d : EpochSetView) → (slice_index_or sets.now.items at d).epoch ≢ epoch) }
+    ensures found { IsTrue result → (at < length sets.now.items)
+        × ((d : EpochSetView) → (slice_index_or sets.now.items at d).epoch ≡ epoch) }
+    ensures absent { IsTrue (not result) → (at < length sets.now.items)
+        → ((d : EpochSetView) → (slice_index_or sets.now.items at d).epoch ≢ epoch) }
 {
     at < sets.len() && sets[at].epoch() == epoch
 }
@@ -66,7 +69,8 @@ pub(crate) fn join_at(
     requires range { All IsInRange cells.now }
     requires kind { AreOfOneKind cells.now }
     requires empty { found.old ≡ [] }
-    ensures items { (d : EpochSetView) → IfOk result (λ n. sets.new.items ≡ slice_set sets.old.items at (joined cells.now (slice_index_or sets.old.items at d))) }
+    ensures items { (d : EpochSetView) → IfOk result (λ n. sets.new.items
+        ≡ slice_set sets.old.items at (joined cells.now (slice_index_or sets.old.items at d))) }
     ensures fresh { (d : EpochSetView) → IfOk result (λ n. n ≡ fresh cells.now (slice_index_or sets.old.items at d).cells) }
     ensures conflicts { (d : EpochSetView) → IfOk result (λ n. found.new ≡ conflicts cells.now (slice_index_or sets.old.items at d).cells) }
     ensures err { OnErr result (sets.new.items ≡ sets.old.items) }
@@ -197,7 +201,7 @@ pub(crate) fn offer_cells(
                 conflicts,
             });
         }
-        return answer_of_known(conflicts);
+        return Ok(answer_of_known(conflicts));
     }
     if at == places {
         return Ok(Offer::Late);
@@ -212,12 +216,11 @@ pub(crate) fn offer_cells(
 // What became of cells of an epoch of the window of which none is new, by those that conflict. It
 // stands apart, since `offer_cells` would clear the room of its answer at each message.
 #[inline(never)]
-fn answer_of_known(conflicts: Conflicts) -> Result<Offer, AllocError>
-    ensures ok { IsOk result }
-    ensures answer { IfOk result (λ offer. IsAnswerOf 0 conflicts offer) }
+fn answer_of_known(conflicts: Conflicts) -> Offer
+    ensures { IsAnswerOf 0 conflicts result }
 {
     if conflicts.is_empty() {
-        return Ok(Offer::Repeat);
+        return Offer::Repeat;
     }
-    Ok(Offer::Conflict { conflicts })
+    Offer::Conflict { conflicts }
 }

@@ -111,8 +111,8 @@ stepped capture from place count payload pending lines before now so_far (le, fr
     (step capture from place count payload pending line before now so_far le frame e none one)
 
 -- all pending lines were taken
-pub flushed : (capture : List ℕ) (from count : ℕ) (pending : List ℕ) (before now after : Option (List ℕ)) → Progress capture from before now pending count → after ≡ with_more now pending → Progress capture from before after [] count
-flushed capture from count pending before now after so_far e = record {
+pub lines-out : (capture : List ℕ) (from count : ℕ) (pending : List ℕ) (before now after : Option (List ℕ)) → Progress capture from before now pending count → after ≡ with_more now pending → Progress capture from before after [] count
+lines-out capture from count pending before now after so_far e = record {
   found = so_far.found;
   ahead = so_far.ahead;
   taken = so_far.taken ++ pending;

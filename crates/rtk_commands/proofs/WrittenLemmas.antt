@@ -1,5 +1,5 @@
 -- What is written stands right after what was held.
-use Rattle.std.proofs.Common.{◌≡◌, ℕ, List, ◌++◌, Option, Some}
+use Rattle.std.proofs.Common.{◌≡◌, ℕ, List, ◌++◌, Some}
 use Rattle.rtk_commands.specs.WrittenLaws.{LineFollows, PictureFollows, PartFollows}
 
 same-bytes : (first more last : List ℕ) → Some last ≡ Some (first ++ more) → last ≡ first ++ more

@@ -15,8 +15,8 @@ use rtk_chart::{chart_svg, chart_text};
 use rtk_frame::{Sink, Source, write_all};
 use rtk_rinex::{CheckFault, Table, check};
 use rtk_streams::{
-    Before, DONE, NOT_VALID, Reads, ToolFault, Writes, fail, fail_to_open, open_capture,
-    read_whole, standard_output,
+    Before, DONE, NOT_VALID, Reads, ToolFault, Writes, fail, fail_to_open, open_input, read_whole,
+    standard_output,
 };
 use std::alloc::{AllocError, Global};
 use std::fs::Files;
@@ -29,7 +29,7 @@ fn picture_of(alloc: Global, table: &Table<'_>, width: Option<u16>) -> Result<Ve
     ensures { IfOk result (λ picture. IsPicture width table.now.text picture.items) }
 {
     match width {
-        Some(width) => chart_text(alloc, table, usize::from(width)),
+        Some(width) => chart_text(alloc, table, width),
         None => chart_svg(alloc, table),
     }
 }
@@ -141,7 +141,7 @@ pub fn chart_named<R: Files + Input + Print + Eprint + AllocGlobal>(
     requires { ForSome width IsWidth }
     ensures { result ≤ NOT_VALID }
 {
-    let Some(text) = open_capture(rt, name) else {
+    let Some(text) = open_input(rt, name) else {
         return fail_to_open(rt, name);
     };
     let (_out, told) = chart_through(rt.alloc(), text, width, standard_output(rt));

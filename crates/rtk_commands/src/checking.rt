@@ -15,8 +15,8 @@ use rtk_frame::{Sink, Source, write_all};
 use rtk_message::put_named;
 use rtk_rinex::{Cause, CheckFault, Table, check};
 use rtk_streams::{
-    Before, DONE, NOT_VALID, Reads, ToolFault, Writes, fail, fail_to_open, open_capture,
-    read_whole, standard_output,
+    Before, DONE, NOT_VALID, Reads, ToolFault, Writes, fail, fail_to_open, open_input, read_whole,
+    standard_output,
 };
 use std::alloc::{AllocError, Global};
 use std::fs::Files;
@@ -147,7 +147,7 @@ pub fn check_through<R: Read + Drop, W: Write + Drop>(
 pub fn check_named<R: Files + Input + Print + Eprint + AllocGlobal>(rt: &R, name: &str) -> u8
     ensures { result ≤ NOT_VALID }
 {
-    let Some(text) = open_capture(rt, name) else {
+    let Some(text) = open_input(rt, name) else {
         return fail_to_open(rt, name);
     };
     let (_out, told) = check_through(rt.alloc(), text, standard_output(rt));

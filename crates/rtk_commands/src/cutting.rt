@@ -18,7 +18,7 @@ use rtk_frame::{Sink, Source, StreamFault};
 use rtk_rinex::{CheckFault, Table, check};
 use rtk_streams::{
     Before, DONE, GATHERED, NOT_VALID, Reads, Resumed, ToolFault, Writes, fail, fail_to_open,
-    open_capture, read_whole, sink,
+    open_input, read_whole, sink,
 };
 use std::alloc::Global;
 use std::fs::Files;
@@ -173,7 +173,7 @@ pub fn cut_named<R: Files + Input + Print + Eprint + AllocGlobal>(
     requires step { IsStepOrNone part.every }
     ensures { result ≤ NOT_VALID }
 {
-    let Some(text) = open_capture(rt, name) else {
+    let Some(text) = open_input(rt, name) else {
         return fail_to_open(rt, name);
     };
     let cut = match cut_through(rt.alloc(), text, part, GATHERED, io::writer(rt)) {

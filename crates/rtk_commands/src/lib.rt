@@ -1,5 +1,12 @@
 //! The commands that convert nothing: `show`, `summary`, `check`, `chart` and `cut`.
 //!
+//! Each command is one file of four layers, each of which calls the one before it. In that of `show`:
+//!
+//! - `show` reads a source and writes to a sink;
+//! - `show_by` reads a reader and writes to a writer of std, by what a type says of their bytes;
+//! - `show_through` does so without that type, for any reader and writer;
+//! - `show_named` opens the file of a name, writes to standard output and answers the exit status.
+//!
 //! ```rust
 //! use rtk_commands::check_file;
 //! use rtk_frame::{After, MemSink, MemSource};

@@ -112,6 +112,8 @@ fn put_refusal(line: &mut Vec<u8>, fault: DecodeFault) -> Result<(), AllocError>
     put_fault(line, fault)
 }
 
+// `show` reads the four messages that `decode` reads, whatever a conversion is told to take: a 1077 is
+// `other`, although `--msm 7` converts it.
 fn put_unread(line: &mut Vec<u8>, fault: DecodeFault) -> Result<(), AllocError>
     ensures { OnOk result (line.new.items ≡ line.old.items ++ unread_text fault) }
 {

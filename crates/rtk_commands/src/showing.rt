@@ -1,4 +1,6 @@
 //! The command `show`: a line for each frame of a capture.
+//!
+//! Its layers, from below: `show_frames`, `show`, `show_by`, `show_through`, `show_named`.
 
 ghost use Rattle.std.specs.Prelude.{◌≡◌, ◌≢◌, ◌⊎◌, ℕ, ◌≤◌, Some, Err, [], length, IfOk, OnOk, IfErr, IsErrOf, IsNone, IsSome};
 ghost use Rattle.std.specs.Io.KnownBytes.{Keeps};
@@ -16,7 +18,7 @@ use crate::payload_line::put_payload_line;
 use rtk_frame::laws::frames_of_a_text;
 use rtk_frame::{Frames, Sink, Source, write_all};
 use rtk_streams::{
-    Before, DONE, FAILED, Reads, ToolFault, Writes, fail, fail_to_open, open_capture, read_whole,
+    Before, DONE, FAILED, Reads, ToolFault, Writes, fail, fail_to_open, open_input, read_whole,
     standard_output,
 };
 use std::alloc::Global;
@@ -45,8 +47,8 @@ fn capture_from(alloc: Global, text: Vec<u8>, hex: bool) -> Result<Vec<u8>, Tool
     }
 }
 
-// Writes the lines, and keeps none of them.
-fn flush<W: Sink>(out: &mut W, lines: &mut Vec<u8>) -> Result<(), ToolFault>
+// Writes the lines that were gathered, and clears them.
+fn write_lines<W: Sink>(out: &mut W, lines: &mut Vec<u8>) -> Result<(), ToolFault>
     ensures taken { OnOk result (W.taken out.new ≡ with_more (W.taken out.old) lines.old.items) }
     ensures none { OnOk result (lines.new.items ≡ []) }
     ensures no_fault { OnOk result (W.failures out.new ≡ W.failures out.old) }
@@ -61,8 +63,8 @@ fn flush<W: Sink>(out: &mut W, lines: &mut Vec<u8>) -> Result<(), ToolFault>
     Ok(())
 }
 
-// Writes the line of each frame and answers how many there are.
-fn show_capture<W: Sink>(alloc: Global, capture: &[u8], out: &mut W) -> Result<u64, ToolFault>
+// Writes the line of each frame of a capture, and answers how many there are.
+fn show_frames<W: Sink>(alloc: Global, capture: &[u8], out: &mut W) -> Result<u64, ToolFault>
     ensures shown { OnOk result (Shows capture.now (W.taken out.old) (W.taken out.new)) }
     ensures count { IfOk result (λ count. count ≡ length (frames capture.now)) }
     ensures no_fault { result ≢ Err Output → W.failures out.new ≡ W.failures out.old }
@@ -71,6 +73,7 @@ fn show_capture<W: Sink>(alloc: Global, capture: &[u8], out: &mut W) -> Result<u
     // That it gives up only without memory show the rows `show ..` of tests/system/calls.
     ensures else_memory { IfErr result (λ fault. fault ≢ Output → fault ≡ OutOfMemory) }
 {
+    // A law: the frames that `Frames` gives are those of the text. The loop's proof begins with it.
     frames_of_a_text();
     let mut lines = Vec::new(alloc);
     let mut rest = Frames::new(capture);
@@ -81,10 +84,10 @@ fn show_capture<W: Sink>(alloc: Global, capture: &[u8], out: &mut W) -> Result<u
         };
         count += 1;
         if lines.len() >= FULL {
-            flush(out, &mut lines)?;
+            write_lines(out, &mut lines)?;
         }
     }
-    flush(out, &mut lines)?;
+    write_lines(out, &mut lines)?;
     Ok(count)
 }
 
@@ -120,7 +123,7 @@ pub fn show<R: Source, W: Sink>(
 {
     let text = read_whole(alloc, reader, SHOW_LIMIT)?;
     let capture = capture_from(alloc, text, hex)?;
-    show_capture(alloc, capture.as_slice(), out)
+    show_frames(alloc, capture.as_slice(), out)
 }
 
 // `show` over the reader and the writer of number 0, by what `K` knows of them.
@@ -159,17 +162,6 @@ pub fn show_through<R: Read + Drop, W: Write + Drop>(
     show_by::<R, W, Brand>(alloc, reader, out, hex)
 }
 
-/// The lines of a capture in memory, by the call that shows files.
-pub fn show_bytes(alloc: Global, capture: &[u8]) -> Result<Vec<u8>, ToolFault>
-    ensures { IfOk result (λ lines. AreLinesOf (frames capture.now) lines.items) }
-{
-    let (lines, shown) = show_through(alloc, capture, Vec::new(alloc), false);
-    match shown {
-        Ok(_) => Ok(lines),
-        Err(fault) => Err(fault),
-    }
-}
-
 /// Writes the lines of the capture of this name to standard output.
 #[inline(never)]
 pub fn show_named<R: Files + Input + Print + Eprint + AllocGlobal>(
@@ -179,12 +171,24 @@ pub fn show_named<R: Files + Input + Print + Eprint + AllocGlobal>(
 ) -> u8
     ensures { result ≤ FAILED }
 {
-    let Some(capture) = open_capture(rt, name) else {
+    let Some(capture) = open_input(rt, name) else {
         return fail_to_open(rt, name);
     };
     let (_out, shown) = show_through(rt.alloc(), capture, standard_output(rt), hex);
     match shown {
         Ok(_) => DONE,
         Err(fault) => fail(rt, fault),
+    }
+}
+
+/// The lines of a capture in memory. No command calls this: it shows that the clauses of `show_through`
+/// give a caller who knows the bytes the lines themselves.
+pub fn show_bytes(alloc: Global, capture: &[u8]) -> Result<Vec<u8>, ToolFault>
+    ensures { IfOk result (λ lines. AreLinesOf (frames capture.now) lines.items) }
+{
+    let (lines, shown) = show_through(alloc, capture, Vec::new(alloc), false);
+    match shown {
+        Ok(_) => Ok(lines),
+        Err(fault) => Err(fault),
     }
 }

@@ -10,7 +10,7 @@ ghost use Rattle.rtk_streams.specs.Steps.ReadLimits.{most_reads};
 use rtk_frame::{Sink, Source};
 use rtk_streams::{
     Before, DONE, FAILED, MOST_READS, Reads, ToolFault, Writes, fail, fail_to_end, fail_to_open,
-    open_capture, standard_output,
+    open_input, standard_output,
 };
 use rtk_summary::SummaryFault;
 use std::alloc::Global;
@@ -102,7 +102,7 @@ pub fn summary_status<R: Eprint>(rt: &R, done: Result<(), SummaryFault>) -> u8
 pub fn summarize_named<R: Files + Input + Print + Eprint + AllocGlobal>(rt: &R, name: &str) -> u8
     ensures { result ≤ FAILED }
 {
-    let Some(capture) = open_capture(rt, name) else {
+    let Some(capture) = open_input(rt, name) else {
         return fail_to_open(rt, name);
     };
     let (_out, done) =

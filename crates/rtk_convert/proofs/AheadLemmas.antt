@@ -60,20 +60,20 @@ under-closes None w e least h = tt
 under-closes (Some t) w e least h = let l = least (suc t.epoch) (bound t.epoch w.sets h.1) in omega (arith, l)
 
 -- the epoch that closes is above all last phases
-pub ahead-closes : (old : CollectorView) (c : ClosedEpochsView) (offer : Offer) (e : EpochSetView) → closed_by offer ≡ Some e → ClosesLeast old.size old.sets offer → IsAhead old c → AllBelow c.tracks e.epoch
+pub ahead-closes : (old : CollectorView) (c : ClosedEpochsView) (offer : Offer) (e : EpochSetView) → closed_by offer ≡ Some e → ClosesLeast old.places old.sets offer → IsAhead old c → AllBelow c.tracks e.epoch
 ahead-closes old c offer e some least h sat code hs =
-    under-closes (track_at c.tracks sat code) old e (closes-least old.size old.sets offer e some least).1 (h sat code hs)
+    under-closes (track_at c.tracks sat code) old e (closes-least old.places old.sets offer e some least).1 (h sat code hs)
 
-under-after : (o : Option Track) (e : EpochSetView) (w : CollectorView) → length w.sets ≡ w.size → All (λ x. e.epoch < x.epoch) w.sets → IsLater o (suc e.epoch) → IsUnder o w
+under-after : (o : Option Track) (e : EpochSetView) (w : CollectorView) → length w.sets ≡ w.places → All (λ x. e.epoch < x.epoch) w.sets → IsLater o (suc e.epoch) → IsUnder o w
 under-after None e w full below h = tt
 under-after (Some t) e w full below h =
     (full, All-weaker (λ (x : EpochSetView). e.epoch < x.epoch) (λ (x : EpochSetView). t.epoch < x.epoch) (λ x l. omega (arith, l, h)) w.sets below)
 
 -- and the window stays ahead of its phases too
-pub ahead-after : (old new : CollectorView) (c : ClosedEpochsView) (offer : Offer) (e : EpochSetView) → closed_by offer ≡ Some e → ClosesLeast old.size old.sets offer → ClosesBelow offer new.sets
+pub ahead-after : (old new : CollectorView) (c : ClosedEpochsView) (offer : Offer) (e : EpochSetView) → closed_by offer ≡ Some e → ClosesLeast old.places old.sets offer → ClosesBelow offer new.sets
     → LeastNeverFalls old new → AllBelow c.tracks (suc e.epoch) → IsAhead new c
 ahead-after old new c offer e some least below never h sat code hs =
-    under-after (track_at c.tracks sat code) e new (never (closes-least old.size old.sets offer e some least).0).0 (closes-below new.sets offer e some below) (h sat code hs)
+    under-after (track_at c.tracks sat code) e new (never (closes-least old.places old.sets offer e some least).0).0 (closes-below new.sets offer e some below) (h sat code hs)
 
 -- ---- the end
 

@@ -37,7 +37,7 @@ use Rattle.rtk_convert.proofs.SoFarLemmas.{so_far-stays, so_far-closes, so_far-g
 use Rattle.rtk_convert.proofs.WritingLemmas.{writes-none, writes-text, part-text, part-none, part-all, takes-none}
 
 abbrev pub state : SetupView → CollectorView → ClosedEpochsView → Counts → Bool → ConversionView
-state s w c k b = record { setup = s; collector = w; records = c; counts = k; stopped = b }
+state s w c k b = record { setup = s; collector = w; closed_epochs = c; counts = k; stopped = b }
 
 -- ---- the site
 
@@ -53,7 +53,7 @@ site-same short (Some m) p h = fields-same p.x p.y p.z p.height m.arp.x m.arp.y 
 site-same (Some m) None p h = fields-same p.x p.y p.z p.height m.x m.y m.z 0 h.0 h.1 h.2 h.3
 site-same None None p h = fields-same p.x p.y p.z p.height (pos 0) (pos 0) (pos 0) 0 h.0 h.1 h.2 h.3
 
-pub site-kept : (n : ℕ) (w : CollectorView) (arrivals : List Arrival) (p : Position) → w.size ≡ n → RepresentsArrivals w arrivals → IsPositionOf w.size arrivals p
+pub site-kept : (n : ℕ) (w : CollectorView) (arrivals : List Arrival) (p : Position) → w.places ≡ n → RepresentsArrivals w arrivals → IsPositionOf w.places arrivals p
     → position_view p ≡ site_of_kept n arrivals
 site-kept n w arrivals p size holds is =
     site-same w.arp1005 w.arp1006 p (is w.arp1005 w.arp1006 holds.arp1005 holds.arp1006)
@@ -64,7 +64,7 @@ site-kept n w arrivals p size holds is =
 
 -- it closes no epoch
 pub takes-none-closed : {s : SetupView} {w w' : CollectorView} {c : ClosedEpochsView} {k k' : Counts} {b : Bool} {link : ℕ} {a : Arrival} (offer : Offer) {o : Written} {report : Option (List ℕ)}
-    → w.size ≡ s.window → closed_by offer ≡ None → AnswersArrival w a offer w' → k' ≡ counted_as (class_of_offer offer) k
+    → w.places ≡ s.window → closed_by offer ≡ None → AnswersArrival w a offer w' → k' ≡ counted_as (class_of_offer offer) k
     → report ≡ with_more o.report (offer_lines link (number_of (message_of a)) (epoch_of a) offer) → AddsMessage (state s w c k b) link a (state s w' c k' b) o (written o.file report)
 takes-none-closed {s} {w} {w'} {c} {k} {k'} {b} {link} {a} offer {o} {report} size none meets counts wrote = λ before after.
     let m = meets before after.window in
@@ -77,8 +77,8 @@ takes-none-closed {s} {w} {w'} {c} {k} {k'} {b} {link} {a} offer {o} {report} si
       log = wrote ∙ ap (with_more o.report) (sym (answer-lines s.window link a before offer answer));
     }
 
-closing-text : (s : SetupView) (w w' : CollectorView) (a : Arrival) (offer : Offer) (e : EpochSetView) (p : Position) (before : List Arrival) → w.size ≡ s.window → w'.size ≡ s.window
-    → closed_by offer ≡ Some e → IsRightAnswer s.window a before offer → RepresentsArrivals w' (a ∷ before) → ((before : List Arrival) → RepresentsArrivals w' before → IsPositionOf w'.size before p)
+closing-text : (s : SetupView) (w w' : CollectorView) (a : Arrival) (offer : Offer) (e : EpochSetView) (p : Position) (before : List Arrival) → w.places ≡ s.window → w'.places ≡ s.window
+    → closed_by offer ≡ Some e → IsRightAnswer s.window a before offer → RepresentsArrivals w' (a ∷ before) → ((before : List Arrival) → RepresentsArrivals w' before → IsPositionOf w'.places before p)
     → file_so_far s (a ∷ before) ≡ file_so_far s before ++ closing s (position_view p) e (closed s.window before)
 closing-text s w w' a offer e p before size size' some answer holds position =
     so_far-closes s a e before (answer-closed s.window a before offer answer ∙ ap (λ (d : Option EpochSetView). option_to_list d ++ closed s.window before) some)
@@ -86,7 +86,7 @@ closing-text s w w' a offer e p before size size' some answer holds position =
 
 -- it closes an epoch
 pub takes-some-closed : {s : SetupView} {w w' : CollectorView} {c c' : ClosedEpochsView} {k k' : Counts} {b : Bool} {link : ℕ} {a : Arrival} (offer : Offer) {e : EpochSetView} {p : Position} {o o' : Written}
-    → w.size ≡ s.window → w'.size ≡ s.window → closed_by offer ≡ Some e → AnswersArrival w a offer w' → ((before : List Arrival) → RepresentsArrivals w' before → IsPositionOf w'.size before p) → k' ≡ counted_as (class_of_offer offer) k
+    → w.places ≡ s.window → w'.places ≡ s.window → closed_by offer ≡ Some e → AnswersArrival w a offer w' → ((before : List Arrival) → RepresentsArrivals w' before → IsPositionOf w'.places before p) → k' ≡ counted_as (class_of_offer offer) k
     → ((below : List EpochSetView) → HasClosed c s.head.listed below → HasClosed c' s.head.listed (e ∷ below))
     → ((below : List EpochSetView) → HasClosed c s.head.listed below → o'.file ≡ with_more o.file (closing s (position_view p) e below))
     → o'.report ≡ with_more o.report (offer_lines link (number_of (message_of a)) (epoch_of a) offer) → AddsMessage (state s w c k b) link a (state s w' c' k' b) o o'
@@ -112,7 +112,7 @@ part-nothing {s} {w} {c} {k} {b} {link} {a} {o} = λ before after.
 
 -- in its record
 pub part-record : {s : SetupView} {w w' : CollectorView} {c : ClosedEpochsView} {k : Counts} {b : Bool} {link : ℕ} {a : Arrival} (offer : Offer) {e : EpochSetView} {p : Position} {o : Written} {file : Option (List ℕ)}
-    → w.size ≡ s.window → w'.size ≡ s.window → closed_by offer ≡ Some e → AnswersArrival w a offer w' → ((before : List Arrival) → RepresentsArrivals w' before → IsPositionOf w'.size before p)
+    → w.places ≡ s.window → w'.places ≡ s.window → closed_by offer ≡ Some e → AnswersArrival w a offer w' → ((before : List Arrival) → RepresentsArrivals w' before → IsPositionOf w'.places before p)
     → ((below : List EpochSetView) → HasClosed c s.head.listed below → TakesPart o.file file (closing s (position_view p) e below))
     → AddsMessageInPart (state s w c k b) link a o (written file o.report)
 part-record {s} {w} {w'} {c} {k} {b} {link} {a} offer {e} {p} {o} {file} size size' some meets position out = λ before after.
@@ -125,7 +125,7 @@ part-record {s} {w} {w'} {c} {k} {b} {link} {a} offer {e} {p} {o} {file} size si
     }
 
 -- in its lines
-pub part-lines : {s : SetupView} {w w' : CollectorView} {c c' : ClosedEpochsView} {k k' : Counts} {b : Bool} {link : ℕ} {a : Arrival} (offer : Offer) {o o' : Written} → w.size ≡ s.window → AnswersArrival w a offer w'
+pub part-lines : {s : SetupView} {w w' : CollectorView} {c c' : ClosedEpochsView} {k k' : Counts} {b : Bool} {link : ℕ} {a : Arrival} (offer : Offer) {o o' : Written} → w.places ≡ s.window → AnswersArrival w a offer w'
     → AddsMessage (state s w c k b) link a (state s w' c' k' b) o (written o'.file (with_more o.report (offer_lines link (number_of (message_of a)) (epoch_of a) offer)))
     → TakesPart o.report o'.report (offer_lines link (number_of (message_of a)) (epoch_of a) offer) → AddsMessageInPart (state s w c k b) link a o o'
 part-lines {s} {w} {w'} {c} {c'} {k} {k'} {b} {link} {a} offer {o} {o'} size meets takes part = λ before after.

@@ -19,7 +19,7 @@ use Rattle.rtk_convert.specs.Steps.LinkFrames.{TakesFrames}
 use Rattle.rtk_convert.specs.Writing.{Written}
 use Rattle.rtk_convert.specs.declared.fault.ConvertFault.{ConvertFault}
 use Rattle.rtk_convert.specs.declared.fault.ConvertFault.TheVariants.{NoLink, LinkClosed, Stopped}
-use Rattle.rtk_convert.specs.declared.link.Link.{Link}
+use Rattle.rtk_convert.specs.declared.link_state.LinkState.{LinkState}
 use Rattle.rtk_convert.proofs.ConverterLemmas.{converter, feeds, feeds-part, closes, closes-part}
 use Rattle.rtk_convert.proofs.WritingLemmas.{if_err-map}
 
@@ -31,9 +31,9 @@ held-offered w w' a offer answers p = (a ∷ p.0, (answers p.0 p.1).1)
 cells-few : (w : CollectorView) → HoldsArrivals w → All (λ (e : EpochSetView). length e.cells ≤ 1024) w.sets
 cells-few w p =
     subst (All (λ (e : EpochSetView). length e.cells ≤ 1024)) (sym p.1.sets)
-    (All-take (λ (e : EpochSetView). length e.cells ≤ 1024) w.size (kept w.size p.0) (kept-are-few w.size p.0))
+    (All-take (λ (e : EpochSetView). length e.cells ≤ 1024) w.places (kept w.places p.0) (kept-are-few w.places p.0))
 
-pub bounded : (c : ConverterView) → All (λ (l : Link). length l.scanner.pending ≤ 1029) c.links → length c.conversion.collector.sets ≤ c.conversion.setup.window
+pub bounded : (c : ConverterView) → All (λ (l : LinkState). length l.scanner.pending ≤ 1029) c.links → length c.conversion.collector.sets ≤ c.conversion.setup.window
     → HoldsArrivals c.conversion.collector → HoldsAtMost c
 bounded c short epochs held = record { bytes = short; epochs = epochs; cells = cells-few c.conversion.collector held }
 
@@ -41,16 +41,16 @@ pub bounded-before : (c : ConverterView) → IsConverterView c → HoldsAtMost c
 bounded-before c p = bounded c p.short p.epochs p.held
 
 -- after a call on one link
-pub bounded-after : (conversion : ConversionView) (links : List Link) (k : ℕ) (l : Link) → All (λ (l : Link). length l.scanner.pending ≤ 1029) links → length l.scanner.pending ≤ 1029
+pub bounded-after : (conversion : ConversionView) (links : List LinkState) (k : ℕ) (l : LinkState) → All (λ (l : LinkState). length l.scanner.pending ≤ 1029) links → length l.scanner.pending ≤ 1029
     → length conversion.collector.sets ≤ conversion.setup.window → HoldsArrivals conversion.collector → HoldsAtMost (converter conversion (set links k l))
 bounded-after conversion links k l all short epochs held =
-    bounded (converter conversion (set links k l)) (All-set (λ (l : Link). length l.scanner.pending ≤ 1029) links k l short all) epochs held
+    bounded (converter conversion (set links k l)) (All-set (λ (l : LinkState). length l.scanner.pending ≤ 1029) links k l short all) epochs held
 
 -- of new links
-pub bounded-new : (conversion : ConversionView) (links : List Link) (n : ℕ) → links ≡ replicate n (record { scanner = scanner_view [] false; newest = None })
+pub bounded-new : (conversion : ConversionView) (links : List LinkState) (n : ℕ) → links ≡ replicate n (record { scanner = scanner_view [] false; newest = None })
     → length conversion.collector.sets ≤ conversion.setup.window → HoldsArrivals conversion.collector → HoldsAtMost (converter conversion links)
 bounded-new conversion links n new epochs held =
-    bounded (converter conversion links) (subst (All (λ (l : Link). length l.scanner.pending ≤ 1029)) (sym new) (All-replicate (λ (l : Link). length l.scanner.pending ≤ 1029) n (record { scanner = scanner_view [] false; newest = None }) (omega arith))) epochs held
+    bounded (converter conversion links) (subst (All (λ (l : LinkState). length l.scanner.pending ≤ 1029)) (sym new) (All-replicate (λ (l : LinkState). length l.scanner.pending ≤ 1029) n (record { scanner = scanner_view [] false; newest = None }) (omega arith))) epochs held
 
 -- ---- a call that is refused
 
@@ -58,7 +58,7 @@ not-frame-link : (ended : Bool) (fault : ConvertFault) → (if ended then Some L
 not-frame-link true fault e is = let same : LinkClosed ≡ fault = cc in subst IsFrameFault (sym same) is
 not-frame-link false fault e is = absurd cc
 
-not-frame : (stopped : Bool) (o : Option Link) (fault : ConvertFault) → (if stopped then Some Stopped else link_refusal o) ≡ Some fault → IsFrameFault fault → ⊥
+not-frame : (stopped : Bool) (o : Option LinkState) (fault : ConvertFault) → (if stopped then Some Stopped else link_refusal o) ≡ Some fault → IsFrameFault fault → ⊥
 not-frame true o fault e is = let same : Stopped ≡ fault = cc in subst IsFrameFault (sym same) is
 not-frame false None fault e is = let same : NoLink ≡ fault = cc in subst IsFrameFault (sym same) is
 not-frame false (Some l) fault e is = not-frame-link l.scanner.ended fault e is
@@ -90,7 +90,7 @@ pub takes-as : {T : Type 0} {old new : ConversionView} {number link : ℕ} {foun
     → number ≡ link → TakesFrames old number found r new newest newest' o o' → TakesFrames old link found r new newest newest' o o'
 takes-as {T} {old} {new} {number} {link} {found} {r} {newest} {newest'} {o} {o'} is t = subst (λ (n : ℕ). TakesFrames old n found r new newest newest' o o') is t
 
-pub feeds-link : {T : Type 0} {opened old : ConverterView} {conversion : ConversionView} {link : ℕ} {piece : List ℕ} {l : Link} {o o' : Written} (new : Link) (r : Result T ConvertFault)
+pub feeds-link : {T : Type 0} {opened old : ConverterView} {conversion : ConversionView} {link : ℕ} {piece : List ℕ} {l : LinkState} {o o' : Written} (new : LinkState) (r : Result T ConvertFault)
     → opened ≡ old → slice_get opened.links link ≡ Some l → l.scanner.ended ≡ false → new.scanner.ended ≡ false
     → OnOk r (new.scanner.pending ≡ pending (l.scanner.pending ++ piece))
     → TakesFrames opened.conversion link (payloads (final_frames (l.scanner.pending ++ piece))) r conversion l.newest new.newest o o'
@@ -102,7 +102,7 @@ feeds-link {T} {opened} {old} {conversion} {link} {piece} {l} {o} {o'} new (Err 
     subst (λ (s : ConverterView). FeedsLink {T = T} s link piece (Err f) (converter conversion (set opened.links link new)) o o') seen
     (record { ok = tt; err = λ is. feeds-part piece there unended t.err })
 
-pub closes-link : {T : Type 0} {opened old : ConverterView} {conversion : ConversionView} {link : ℕ} {l : Link} {o o' : Written} (new : Link) (r : Result T ConvertFault)
+pub closes-link : {T : Type 0} {opened old : ConverterView} {conversion : ConversionView} {link : ℕ} {l : LinkState} {o o' : Written} (new : LinkState) (r : Result T ConvertFault)
     → opened ≡ old → slice_get opened.links link ≡ Some l → l.scanner.ended ≡ false → new.scanner.ended ≡ true
     → TakesFrames opened.conversion link (payloads (frames l.scanner.pending)) r conversion l.newest new.newest o o'
     → EndsLink old link r (converter conversion (set opened.links link new)) o o'
@@ -113,8 +113,8 @@ closes-link {T} {opened} {old} {conversion} {link} {l} {o} {o'} new (Err f) seen
     subst (λ (s : ConverterView). EndsLink {T = T} s link (Err f) (converter conversion (set opened.links link new)) o o') seen
     (record { ok = tt; err = λ is. closes-part there unended t.err })
 
-pub leaves-link : {T : Type 0} {opened old : ConverterView} {conversion : ConversionView} {link : ℕ} {found : List (List ℕ)} {newest newest' : Option ℕ} {o o' : Written} (new : Link) (r : Result T ConvertFault)
-    → opened ≡ old → All (λ (l : Link). length l.scanner.pending ≤ 1029) opened.links → HoldsArrivals opened.conversion.collector → length new.scanner.pending ≤ 1029
+pub leaves-link : {T : Type 0} {opened old : ConverterView} {conversion : ConversionView} {link : ℕ} {found : List (List ℕ)} {newest newest' : Option ℕ} {o o' : Written} (new : LinkState) (r : Result T ConvertFault)
+    → opened ≡ old → All (λ (l : LinkState). length l.scanner.pending ≤ 1029) opened.links → HoldsArrivals opened.conversion.collector → length new.scanner.pending ≤ 1029
     → TakesFrames opened.conversion link found r conversion newest newest' o o' → LeavesConverter old link r (converter conversion (set opened.links link new))
 leaves-link {T} {opened} {old} {conversion} {link} new r seen all held short t =
     let k = t.keeps in

@@ -7,7 +7,7 @@ use Rattle.rtk_frame.specs.Stream.{with_more}
 use Rattle.rtk_frame.proofs.PublicLaws.{with_more-nil}
 use Rattle.rtk_convert.specs.declared.fault.ConvertFault.{ConvertFault}
 use Rattle.rtk_convert.specs.declared.fault.ConvertFault.TheVariants.{NoLink, LinkClosed}
-use Rattle.rtk_convert.specs.declared.link.Link.{Link}
+use Rattle.rtk_convert.specs.declared.link_state.LinkState.{LinkState}
 use Rattle.rtk_convert.specs.CallLaws.{Call, Feed, Close, IsAfterCall, CallsComeTo, IsRefused, IsAnswered, AreAnswered, CallsKeepPromise, CallsWriteKept}
 use Rattle.rtk_convert.specs.Converter.{ConverterView, RepresentLinks, link_refusal, refusal, RepresentsHistory, WritesOn, FinishesConverterAs, IsAfterClosingAll}
 use Rattle.rtk_convert.specs.FileOfArrivals.{kept_file, file_so_far}
@@ -26,7 +26,7 @@ use Rattle.rtk_convert.proofs.RunLemmas.{length-with_piece, length-with_closed, 
 if_ended : Bool → Option ConvertFault
 if_ended b = if b then Some LinkClosed else None
 
-goes-link : (ls : List Link) (ps : List LinkPast) (n : ℕ) (found : List Found) (link : ℕ) → RepresentLinks ls ps n found
+goes-link : (ls : List LinkState) (ps : List LinkPast) (n : ℕ) (found : List Found) (link : ℕ) → RepresentLinks ls ps n found
     → link_refusal (slice_get ls link) ≡ None → (fed : List ℕ) × (slice_get ps link ≡ Some (record { fed = fed; is_closed = false }))
 unfolding if_ended
 goes-link [] [] n found link are is = absurd (cc)

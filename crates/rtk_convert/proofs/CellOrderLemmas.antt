@@ -15,7 +15,7 @@ use Rattle.rtk_obs.specs.declared.code.Code.TheVariants.{C1C}
 use Rattle.rtk_obs.specs.Cell.{IsInRange}
 use Rattle.rtk_obs.specs.Code.{place_of}
 use Rattle.rtk_obs.proofs.PublicLaws.{place_bound, same_signal}
-use Rattle.rtk_collect.specs.EpochSet.{AreOfOneKind}
+use Rattle.rtk_obs.specs.MessageCells.{AreOfOneKind}
 use Rattle.rtk_collect.specs.Key.{key, key_at, rank_of, Above, KeysRise}
 use Rattle.rtk_convert.specs.Rows.{is_signal, first_cell}
 use Rattle.rtk_convert.specs.Steps.ShownCells.{IsPlaceOf}

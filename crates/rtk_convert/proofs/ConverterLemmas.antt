@@ -15,41 +15,41 @@ use Rattle.rtk_convert.specs.Conversion.{ConversionView, found_on}
 use Rattle.rtk_convert.specs.declared.frame_class.FrameClass.{FrameClass}
 use Rattle.rtk_convert.specs.declared.fault.ConvertFault.{ConvertFault}
 use Rattle.rtk_convert.specs.declared.fault.ConvertFault.TheVariants.{LinkClosed, Stopped}
-use Rattle.rtk_convert.specs.declared.link.Link.{Link}
+use Rattle.rtk_convert.specs.declared.link_state.LinkState.{LinkState}
 use Rattle.rtk_convert.specs.Writing.{Written}
 
-abbrev pub converter : ConversionView → List Link → ConverterView
+abbrev pub converter : ConversionView → List LinkState → ConverterView
 converter conversion links = record { conversion = conversion; links = links }
 
 -- ---- a link and its past
 
-pub are-many : (ls : List Link) (ps : List LinkPast) (n : ℕ) (found : List Found) → RepresentLinks ls ps n found → length ls ≡ length ps
+pub are-many : (ls : List LinkState) (ps : List LinkPast) (n : ℕ) (found : List Found) → RepresentLinks ls ps n found → length ls ≡ length ps
 are-many [] [] n found a = refl
 are-many [] (p ∷ ps) n found a = absurd a
 are-many (l ∷ ls) [] n found a = absurd a
 are-many (l ∷ ls) (p ∷ ps) n found a = ap suc (are-many ls ps (suc n) found a.1)
 
 -- the link of a number, and its past
-pub record AtLink (l : Link) (i k : ℕ) (ps : List LinkPast) (found : List Found) : Type 0 where
+pub record AtLink (l : LinkState) (i k : ℕ) (ps : List LinkPast) (found : List Found) : Type 0 where
   pub past : LinkPast
   pub there : slice_get ps i ≡ Some past
   pub fed : fed_on i ps ≡ past.fed
   pub is : RepresentsLink l past k found
 
-pub link-at : (i k n : ℕ) (l : Link) (ls : List Link) (ps : List LinkPast) (found : List Found) → RepresentLinks ls ps n found → slice_get ls i ≡ Some l → k ≡ n + i → AtLink l i k ps found
+pub link-at : (i k n : ℕ) (l : LinkState) (ls : List LinkState) (ps : List LinkPast) (found : List Found) → RepresentLinks ls ps n found → slice_get ls i ≡ Some l → k ≡ n + i → AtLink l i k ps found
 link-at i k n l [] ps found a e number = absurd cc
 link-at i k n l (x ∷ xs) [] found a e number = absurd a
 link-at zero k n l (x ∷ xs) (p ∷ ps) found a e number =
     let first : k ≡ n = omega arith in
     let same : x ≡ l = cc in
-    record { past = p; there = refl; fed = refl; is = subst (λ (m : ℕ). RepresentsLink l p m found) (sym first) (subst (λ (y : Link). RepresentsLink y p n found) same a.0) }
+    record { past = p; there = refl; fed = refl; is = subst (λ (m : ℕ). RepresentsLink l p m found) (sym first) (subst (λ (y : LinkState). RepresentsLink y p n found) same a.0) }
 link-at (suc i) k n l (x ∷ xs) (p ∷ ps) found a e number =
     let other = link-at i k (suc n) l xs ps found a.1 e (omega arith) in
     record { past = other.past; there = other.there; fed = other.fed; is = other.is }
 
 -- the past of a number, and its link
-pub past-at : (i n : ℕ) (p : LinkPast) (ls : List Link) (ps : List LinkPast) (found : List Found) → RepresentLinks ls ps n found → slice_get ps i ≡ Some p
-    → (l : Link) × (slice_get ls i ≡ Some l) × (l.scanner.ended ≡ p.is_closed)
+pub past-at : (i n : ℕ) (p : LinkPast) (ls : List LinkState) (ps : List LinkPast) (found : List Found) → RepresentLinks ls ps n found → slice_get ps i ≡ Some p
+    → (l : LinkState) × (slice_get ls i ≡ Some l) × (l.scanner.ended ≡ p.is_closed)
 past-at i n p ls [] found a e = absurd cc
 past-at i n p [] (q ∷ ps) found a e = absurd a
 past-at zero n p (l ∷ ls) (q ∷ ps) found a e =
@@ -59,18 +59,18 @@ past-at (suc i) n p (l ∷ ls) (q ∷ ps) found a e = past-at i (suc n) p ls ps 
 
 -- ---- is a link open?
 
-some-same : (x y : Link) → Some x ≡ Some y → x ≡ y
+some-same : (x y : LinkState) → Some x ≡ Some y → x ≡ y
 some-same x y e = cc
 
-none-some : (x : Link) → None ≡ Some x → ⊥
+none-some : (x : LinkState) → None ≡ Some x → ⊥
 none-some x e = cc
 
-pub is-open : (i : ℕ) (l : Link) (ls : List Link) (h : History) → RepresentLinks ls h.links 0 h.found → slice_get ls i ≡ Some l → l.scanner.ended ≡ false → IsOpen h i
+pub is-open : (i : ℕ) (l : LinkState) (ls : List LinkState) (h : History) → RepresentLinks ls h.links 0 h.found → slice_get ls i ≡ Some l → l.scanner.ended ≡ false → IsOpen h i
 is-open i l ls h a e unended =
     let at = link-at i i 0 l ls h.links h.found a e (omega arith) in
     (at.past.fed, at.there ∙ ap (λ (b : Bool). Some (record at.past { is_closed = b })) (sym at.is.closed ∙ unended))
 
-pub not-ended : (i : ℕ) (ls : List Link) (h : History) → RepresentLinks ls h.links 0 h.found → IsOpen h i → (l : Link) × (slice_get ls i ≡ Some l) × (l.scanner.ended ≡ false)
+pub not-ended : (i : ℕ) (ls : List LinkState) (h : History) → RepresentLinks ls h.links 0 h.found → IsOpen h i → (l : LinkState) × (slice_get ls i ≡ Some l) × (l.scanner.ended ≡ false)
 not-ended i ls h a (fed, there) = past-at i 0 (record { fed = fed; is_closed = false }) ls h.links h.found a there
 
 ended-not : (b : Bool) → b ≡ false → not b ≡ true
@@ -80,21 +80,21 @@ not-ended-is : (b : Bool) → not b ≡ true → b ≡ false
 not-ended-is true e = absurd cc
 not-ended-is false e = refl
 
-pub decides-open : (i : ℕ) (l : Link) (ls : List Link) (h : History) → RepresentLinks ls h.links 0 h.found → slice_get ls i ≡ Some l → Decides (not l.scanner.ended) (IsOpen h i)
+pub decides-open : (i : ℕ) (l : LinkState) (ls : List LinkState) (h : History) → RepresentLinks ls h.links 0 h.found → slice_get ls i ≡ Some l → Decides (not l.scanner.ended) (IsOpen h i)
 decides-open i l ls h a e = (
   λ b. is-open i l ls h a e (not-ended-is l.scanner.ended b),
   λ unended.
       let (x, there, ended) = not-ended i ls h a unended in
       let same : x ≡ l = some-same x l (sym there ∙ e) in
-      ended-not l.scanner.ended (ap (λ (y : Link). y.scanner.ended) (sym same) ∙ ended),
+      ended-not l.scanner.ended (ap (λ (y : LinkState). y.scanner.ended) (sym same) ∙ ended),
 )
 
-past-end : (ls : List Link) (i : ℕ) → length ls ≤ i → slice_get ls i ≡ None
+past-end : (ls : List LinkState) (i : ℕ) → length ls ≤ i → slice_get ls i ≡ None
 past-end [] i le = refl
 past-end (l ∷ ls) zero le = absurd (omega arith)
 past-end (l ∷ ls) (suc i) le = past-end ls i (omega arith)
 
-pub decides-none : (i : ℕ) (ls : List Link) (h : History) → RepresentLinks ls h.links 0 h.found → length ls ≤ i → Decides false (IsOpen h i)
+pub decides-none : (i : ℕ) (ls : List LinkState) (h : History) → RepresentLinks ls h.links 0 h.found → length ls ≤ i → Decides false (IsOpen h i)
 decides-none i ls h a le = (
   λ b. absurd cc,
   λ unended.
@@ -104,7 +104,7 @@ decides-none i ls h a le = (
 
 pub record IsAccepted (c : ConverterView) (link : ℕ) : Type 0 where
   pub going : c.conversion.stopped ≡ false
-  pub is_open : (l : Link) → slice_get c.links link ≡ Some l → l.scanner.ended ≡ false
+  pub is_open : (l : LinkState) → slice_get c.links link ≡ Some l → l.scanner.ended ≡ false
 
 none-refused : (stopped : Bool) (o : Option ConvertFault) → (if stopped then Some Stopped else o) ≡ None → (stopped ≡ false) × (o ≡ None)
 none-refused true o e = absurd cc
@@ -119,16 +119,16 @@ accepted c link e =
     let r = none-refused c.conversion.stopped (link_refusal (slice_get c.links link)) e in
     record {
       going = r.0;
-      is_open = λ l there. none-closed l.scanner.ended (subst (λ (o : Option Link). link_refusal o ≡ None) there r.1);
+      is_open = λ l there. none-closed l.scanner.ended (subst (λ (o : Option LinkState). link_refusal o ≡ None) there r.1);
     }
 
-some-there : (ls : List Link) (i : ℕ) → i < length ls → (l : Link) × (slice_get ls i ≡ Some l)
+some-there : (ls : List LinkState) (i : ℕ) → i < length ls → (l : LinkState) × (slice_get ls i ≡ Some l)
 some-there [] i le = absurd (omega arith)
 some-there (l ∷ ls) zero le = (l, refl)
 some-there (l ∷ ls) (suc i) le = some-there ls i (omega arith)
 
 -- so there is such a link
-within-list : (ls : List Link) (link : ℕ) → link_refusal (slice_get ls link) ≡ None → link < length ls
+within-list : (ls : List LinkState) (link : ℕ) → link_refusal (slice_get ls link) ≡ None → link < length ls
 within-list [] link e = absurd cc
 within-list (l ∷ ls) zero e = omega arith
 within-list (l ∷ ls) (suc link) e = let rest = within-list ls link e in omega arith
@@ -138,10 +138,10 @@ not-ended-unrefused true = (λ b. absurd cc, λ e. absurd cc)
 not-ended-unrefused false = (λ b. refl, λ e. refl)
 
 -- a link is open exactly if no call is refused for it
-pub unrefused-some : (ls : List Link) (i : ℕ) (l : Link) → slice_get ls i ≡ Some l → Decides (not l.scanner.ended) (link_refusal (slice_get ls i) ≡ None)
-unrefused-some ls i l there = subst (λ (o : Option Link). Decides (not l.scanner.ended) (link_refusal o ≡ None)) (sym there) (not-ended-unrefused l.scanner.ended)
+pub unrefused-some : (ls : List LinkState) (i : ℕ) (l : LinkState) → slice_get ls i ≡ Some l → Decides (not l.scanner.ended) (link_refusal (slice_get ls i) ≡ None)
+unrefused-some ls i l there = subst (λ (o : Option LinkState). Decides (not l.scanner.ended) (link_refusal o ≡ None)) (sym there) (not-ended-unrefused l.scanner.ended)
 
-pub unrefused-none : (ls : List Link) (i : ℕ) → length ls ≤ i → Decides false (link_refusal (slice_get ls i) ≡ None)
+pub unrefused-none : (ls : List LinkState) (i : ℕ) → length ls ≤ i → Decides false (link_refusal (slice_get ls i) ≡ None)
 unrefused-none ls i le = (λ b. absurd cc, λ e. let within : i < length ls = within-list ls i e in absurd (omega arith))
 
 pub accepted-within : (c : ConverterView) (link : ℕ) → refusal c link ≡ None → link < length c.links
@@ -179,7 +179,7 @@ pub others-newest : (s : SetupView) (link k : ℕ) (ps : List (List ℕ)) (befor
 others-newest s link k [] before after other found = ap (newest_on k) found
 others-newest s link k (p ∷ ps) before after other (f, comes, more) = others-newest s link k ps (found_on link f ∷ before) after other more ∙ passes link k f before other
 
-links-later : (ls : List Link) (ps : List LinkPast) (n : ℕ) (before after : List Found) → ((k : ℕ) → n ≤ k → newest_on k after ≡ newest_on k before) → RepresentLinks ls ps n before → RepresentLinks ls ps n after
+links-later : (ls : List LinkState) (ps : List LinkPast) (n : ℕ) (before after : List Found) → ((k : ℕ) → n ≤ k → newest_on k after ≡ newest_on k before) → RepresentLinks ls ps n before → RepresentLinks ls ps n after
 links-later [] [] n before after same a = a
 links-later [] (p ∷ ps) n before after same a = a
 links-later (l ∷ ls) [] n before after same a = a
@@ -188,7 +188,7 @@ links-later (l ∷ ls) (p ∷ ps) n before after same a = (
   links-later ls ps (suc n) before after (λ k le. same k (omega arith)) a.1,
 )
 
-pub links-fed : (i k n : ℕ) (piece : List ℕ) (l new : Link) (ls : List Link) (ps : List LinkPast) (before after : List Found) → RepresentLinks ls ps n before → slice_get ls i ≡ Some l → k ≡ n + i
+pub links-fed : (i k n : ℕ) (piece : List ℕ) (l new : LinkState) (ls : List LinkState) (ps : List LinkPast) (before after : List Found) → RepresentLinks ls ps n before → slice_get ls i ≡ Some l → k ≡ n + i
     → ((p : LinkPast) → RepresentsLink l p k before → RepresentsLink new (record { fed = p.fed ++ piece; is_closed = p.is_closed }) k after) → ((j : ℕ) → j ≢ k → newest_on j after ≡ newest_on j before)
     → RepresentLinks (set ls i new) (with_piece i piece ps) n after
 links-fed i k n piece l new [] ps before after a e number changed same = absurd cc
@@ -197,7 +197,7 @@ links-fed zero k n piece l new (x ∷ xs) (p ∷ ps) before after a e number cha
     let first : k ≡ n = omega arith in
     let here : x ≡ l = cc in (
       subst (λ (m : ℕ). RepresentsLink new (record { fed = p.fed ++ piece; is_closed = p.is_closed }) m after) first
-          (changed p (subst (λ (m : ℕ). RepresentsLink l p m before) (sym first) (subst (λ (y : Link). RepresentsLink y p n before) here a.0))),
+          (changed p (subst (λ (m : ℕ). RepresentsLink l p m before) (sym first) (subst (λ (y : LinkState). RepresentsLink y p n before) here a.0))),
       links-later xs ps (suc n) before after (λ j le. same j (λ q. omega arith)) a.1,
     )
 links-fed (suc i) k n piece l new (x ∷ xs) (p ∷ ps) before after a e number changed same = (
@@ -205,7 +205,7 @@ links-fed (suc i) k n piece l new (x ∷ xs) (p ∷ ps) before after a e number 
   links-fed i k (suc n) piece l new xs ps before after a.1 e (omega arith) changed same,
 )
 
-pub links-closed : (i k n : ℕ) (l new : Link) (ls : List Link) (ps : List LinkPast) (before after : List Found) → RepresentLinks ls ps n before → slice_get ls i ≡ Some l → k ≡ n + i
+pub links-closed : (i k n : ℕ) (l new : LinkState) (ls : List LinkState) (ps : List LinkPast) (before after : List Found) → RepresentLinks ls ps n before → slice_get ls i ≡ Some l → k ≡ n + i
     → ((p : LinkPast) → RepresentsLink l p k before → RepresentsLink new (record { fed = p.fed; is_closed = true }) k after) → ((j : ℕ) → j ≢ k → newest_on j after ≡ newest_on j before)
     → RepresentLinks (set ls i new) (with_closed i ps) n after
 links-closed i k n l new [] ps before after a e number changed same = absurd cc
@@ -214,7 +214,7 @@ links-closed zero k n l new (x ∷ xs) (p ∷ ps) before after a e number change
     let first : k ≡ n = omega arith in
     let here : x ≡ l = cc in (
       subst (λ (m : ℕ). RepresentsLink new (record { fed = p.fed; is_closed = true }) m after) first
-          (changed p (subst (λ (m : ℕ). RepresentsLink l p m before) (sym first) (subst (λ (y : Link). RepresentsLink y p n before) here a.0))),
+          (changed p (subst (λ (m : ℕ). RepresentsLink l p m before) (sym first) (subst (λ (y : LinkState). RepresentsLink y p n before) here a.0))),
       links-later xs ps (suc n) before after (λ j le. same j (λ q. omega arith)) a.1,
     )
 links-closed (suc i) k n l new (x ∷ xs) (p ∷ ps) before after a e number changed same = (
@@ -234,7 +234,7 @@ links-new (suc count) n = (record { closed = refl; waiting = λ q. sym nothing-w
 
 -- ---- a piece
 
-pub feeds : {old : ConverterView} {conversion : ConversionView} {i : ℕ} {piece : List ℕ} {l new : Link} {o o' : Written}
+pub feeds : {old : ConverterView} {conversion : ConversionView} {i : ℕ} {piece : List ℕ} {l new : LinkState} {o o' : Written}
     → slice_get old.links i ≡ Some l → l.scanner.ended ≡ false → conversion.stopped ≡ false → new.scanner.ended ≡ false → new.scanner.pending ≡ pending (l.scanner.pending ++ piece)
     → AddsFrames old.conversion i (payloads (final_frames (l.scanner.pending ++ piece))) conversion l.newest new.newest o o'
     → FeedsPiece old i piece (record { conversion = conversion; links = set old.links i new }) o o'
@@ -260,7 +260,7 @@ feeds {old} {conversion} {i} {piece} {l} {new} {o} {o'} there unended going stil
       g.writes,
     )
 
-pub feeds-part : {old : ConverterView} {i : ℕ} (piece : List ℕ) {l : Link} {o o' : Written}
+pub feeds-part : {old : ConverterView} {i : ℕ} (piece : List ℕ) {l : LinkState} {o o' : Written}
     → slice_get old.links i ≡ Some l → l.scanner.ended ≡ false
     → AddsFramesInPart old.conversion i (payloads (final_frames (l.scanner.pending ++ piece))) o o' → FeedsPieceInPart old i piece o o'
 feeds-part {old} {i} piece {l} {o} {o'} there unended gathers = λ h r.
@@ -272,7 +272,7 @@ feeds-part {old} {i} piece {l} {o} {o'} there unended gathers = λ h r.
 
 -- ---- a close
 
-pub closes : {old : ConverterView} {conversion : ConversionView} {i : ℕ} {l : Link} (new : Link) {o o' : Written}
+pub closes : {old : ConverterView} {conversion : ConversionView} {i : ℕ} {l : LinkState} (new : LinkState) {o o' : Written}
     → slice_get old.links i ≡ Some l → l.scanner.ended ≡ false → conversion.stopped ≡ false → new.scanner.ended ≡ true
     → AddsFrames old.conversion i (payloads (frames l.scanner.pending)) conversion l.newest new.newest o o'
     → ClosesLink old i (record { conversion = conversion; links = set old.links i new }) o o'
@@ -294,7 +294,7 @@ closes {old} {conversion} {i} {l} new {o} {o'} there unended going ended gathers
       g.writes,
     )
 
-pub closes-part : {old : ConverterView} {i : ℕ} {l : Link} {o o' : Written}
+pub closes-part : {old : ConverterView} {i : ℕ} {l : LinkState} {o o' : Written}
     → slice_get old.links i ≡ Some l → l.scanner.ended ≡ false
     → AddsFramesInPart old.conversion i (payloads (frames l.scanner.pending)) o o' → ClosesLinkInPart old i o o'
 closes-part {old} {i} {l} {o} {o'} there unended gathers = λ h r.

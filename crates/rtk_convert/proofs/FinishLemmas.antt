@@ -81,25 +81,25 @@ some-part {s} {site} {held} {now} next e {first} {last} {o} {o'} {o''} l cut par
 
 -- ---- the whole file
 
-kept-all : (s : SetupView) (w : CollectorView) (A : List Arrival) → w.size ≡ s.window → RepresentsArrivals w A → w.sets ++ closed s.window A ≡ kept s.window A
+kept-all : (s : SetupView) (w : CollectorView) (A : List Arrival) → w.places ≡ s.window → RepresentsArrivals w A → w.sets ++ closed s.window A ≡ kept s.window A
 kept-all s w A size holds =
     ap (λ t. t ++ closed s.window A) (holds.sets ∙ ap (λ (n : ℕ). take n (kept n A)) size)
     ∙ ap (λ t. take s.window (kept s.window A) ++ t) (closed-drop s.window any_epoch A)
     ∙ take-append-drop s.window (kept s.window A)
 
-so_far-text : (s : SetupView) (w : CollectorView) (A : List Arrival) (p : Position) → w.size ≡ s.window → RepresentsArrivals w A → IsPositionOf w.size A p
+so_far-text : (s : SetupView) (w : CollectorView) (A : List Arrival) (p : Position) → w.places ≡ s.window → RepresentsArrivals w A → IsPositionOf w.places A p
     → file_so_far s A ≡ closed_text s (position_view p) (closed s.window A)
 so_far-text s w A p size holds is = so_far-is s A ∙ ap (λ (x : PositionView). closed_text s x (closed s.window A)) (sym (site-kept s.window w A p size holds is))
 
-file-text : (s : SetupView) (w : CollectorView) (A : List Arrival) (p : Position) → w.size ≡ s.window → RepresentsArrivals w A → IsPositionOf w.size A p
+file-text : (s : SetupView) (w : CollectorView) (A : List Arrival) (p : Position) → w.places ≡ s.window → RepresentsArrivals w A → IsPositionOf w.places A p
     → kept_file s A ≡ closed_text s (position_view p) (w.sets ++ closed s.window A) ++ header_before s (position_view p) s.near (is_some (first_time s.head.listed (w.sets ++ closed s.window A)))
 file-text s w A p size holds is =
     ap (λ (x : PositionView). file_of s x (kept s.window A)) (sym (site-kept s.window w A p size holds is))
     ∙ ap (file_of s (position_view p)) (sym (kept-all s w A size holds))
     ∙ file-closed s (position_view p) (w.sets ++ closed s.window A)
 
-pub finishes : {s : SetupView} {w : CollectorView} {c c' : ClosedEpochsView} {k k' : Counts} {b : Bool} {p : Position} {o : Written} {file : Option (List ℕ)} {o' : Written} → w.size ≡ s.window
-    → ((before : List Arrival) → RepresentsArrivals w before → IsPositionOf w.size before p) → ClosesEpochs s (position_view p) c w.sets c' o.file file
+pub finishes : {s : SetupView} {w : CollectorView} {c c' : ClosedEpochsView} {k k' : Counts} {b : Bool} {p : Position} {o : Written} {file : Option (List ℕ)} {o' : Written} → w.places ≡ s.window
+    → ((before : List Arrival) → RepresentsArrivals w before → IsPositionOf w.places before p) → ClosesEpochs s (position_view p) c w.sets c' o.file file
     → o'.file ≡ with_more file (header_before s (position_view p) s.near c'.header_out) → k' ≡ record k { epochs = c'.count } → o'.report ≡ with_more o.report (count_lines k')
     → FinishesConversion (state s w c k b) k' o o'
 finishes {s} {w} {c} {c'} {k} {k'} {b} {p} {o} {file} {o'} size position closes header counts wrote = λ found rep.
@@ -124,8 +124,8 @@ log-none : (s : SetupView) (found : List Found) (l : Option (List ℕ)) → Writ
 log-none s found l = part-none l (lines s.window found) (report_of s found) (count_lines (all_counts s found)) refl
 
 -- in a record
-pub finish-part-records : {s : SetupView} {w : CollectorView} {c : ClosedEpochsView} {k : Counts} {b : Bool} {p : Position} {o : Written} {file : Option (List ℕ)} → w.size ≡ s.window
-    → ((before : List Arrival) → RepresentsArrivals w before → IsPositionOf w.size before p) → ClosesEpochsInPart s (position_view p) c w.sets o.file file → FinishesConversionInPart (state s w c k b) o (written file o.report)
+pub finish-part-records : {s : SetupView} {w : CollectorView} {c : ClosedEpochsView} {k : Counts} {b : Bool} {p : Position} {o : Written} {file : Option (List ℕ)} → w.places ≡ s.window
+    → ((before : List Arrival) → RepresentsArrivals w before → IsPositionOf w.places before p) → ClosesEpochsInPart s (position_view p) c w.sets o.file file → FinishesConversionInPart (state s w c k b) o (written file o.report)
 finish-part-records {s} {w} {c} {k} {b} {p} {o} {file} size position closes = λ found rep.
     let A : List Arrival = arrivals found in
     let is = position A rep.window in
@@ -137,8 +137,8 @@ finish-part-records {s} {w} {c} {k} {b} {p} {o} {file} size position closes = λ
     }
 
 -- in the last header
-pub finish-part-header : {s : SetupView} {w : CollectorView} {c c' : ClosedEpochsView} {k : Counts} {b : Bool} {p : Position} {o : Written} {mid file : Option (List ℕ)} → w.size ≡ s.window
-    → ((before : List Arrival) → RepresentsArrivals w before → IsPositionOf w.size before p) → ClosesEpochs s (position_view p) c w.sets c' o.file mid
+pub finish-part-header : {s : SetupView} {w : CollectorView} {c c' : ClosedEpochsView} {k : Counts} {b : Bool} {p : Position} {o : Written} {mid file : Option (List ℕ)} → w.places ≡ s.window
+    → ((before : List Arrival) → RepresentsArrivals w before → IsPositionOf w.places before p) → ClosesEpochs s (position_view p) c w.sets c' o.file mid
     → TakesPart mid file (header_before s (position_view p) s.near c'.header_out) → FinishesConversionInPart (state s w c k b) o (written file o.report)
 finish-part-header {s} {w} {c} {c'} {k} {b} {p} {o} {mid} {file} size position closes part = λ found rep.
     let A : List Arrival = arrivals found in

@@ -17,9 +17,10 @@ use Rattle.rtk_obs.specs.declared.cell.CellEntry.{CellEntry}
 use Rattle.rtk_obs.specs.Cell.{IsInRange}
 use Rattle.rtk_obs.specs.Dating.{IsReference}
 use Rattle.rtk_obs.specs.Coordinates.{IsCoordinate}
-use Rattle.rtk_obs.proofs.PublicLaws.{fields_of_valid, cells_in_range-1004, cells_in_range-1074, cells_in_range-msm}
+use Rattle.rtk_obs.proofs.PublicLaws.{cells_of-in_range}
+use Rattle.rtk_obs.specs.MessageCells.{cells_of}
 use Rattle.rtk_collect.specs.EpochSet.{EpochSetView, joined}
-use Rattle.rtk_collect.specs.Arrival.{Arrival, At, cells_of}
+use Rattle.rtk_collect.specs.Arrival.{Arrival, At}
 use Rattle.rtk_collect.specs.Late.{late}
 use Rattle.rtk_collect.specs.Accepted.{first, station, no_cells, with_arrival, kept}
 use Rattle.rtk_collect.proofs.PublicLaws.{with_cells-all, with_arrival-new, with_arrival-below, with_arrival-same, kept-falls, kept-late, kept-new}
@@ -72,13 +73,6 @@ arrivals-good s (f ∷ before) near h = and-good s f.class (arrivals before) nea
 
 -- ---- so are the kept epochs
 
-cells-good : (m : Message) → IsValid m → All IsInRange (cells_of m)
-cells-good (any.Message (Obs1004 m)) v = cells_in_range-1004 m.satellites (fields_of_valid m v)
-cells-good (any.Message (Arp1005 m)) v = All-nil IsInRange
-cells-good (any.Message (Arp1006 m)) v = All-nil IsInRange
-cells-good (any.Message (Msm1074 m)) v = cells_in_range-1074 m v
-cells-good (any.Msm m) v = cells_in_range-msm m v
-
 joined-good : (cs : List CellEntry) (x : EpochSetView) → All IsInRange cs → IsGoodEpoch x → IsGoodEpoch (joined cs x)
 joined-good cs x h g = record { time = g.time; cells = with_cells-all IsInRange cs x.cells h g.cells }
 
@@ -100,7 +94,7 @@ kept-good n [] h = tt
 kept-good n (At None m ∷ before) h = kept-good n before h.1
 kept-good n (At (Some e) m ∷ before) h = elim (cases_Bool (late n (At (Some e) m) before)) [
   | inl over ↦ subst (AllByRecursion IsGoodEpoch) (sym (kept-late n e m before over)) (kept-good n before h.1)
-  | inr fresh ↦ subst (AllByRecursion IsGoodEpoch) (sym (kept-new n e m before fresh)) (with_arrival-good e (cells_of m) (kept n before) h.0.1 (cells-good m h.0.0) (kept-good n before h.1))
+  | inr fresh ↦ subst (AllByRecursion IsGoodEpoch) (sym (kept-new n e m before fresh)) (with_arrival-good e (cells_of m) (kept n before) h.0.1 (cells_of-in_range m h.0.0) (kept-good n before h.1))
 ]
 
 -- ---- and so is the position

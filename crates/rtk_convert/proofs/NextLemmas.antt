@@ -2,7 +2,7 @@
 use Rattle.std.proofs.Common.{◌≡◌, ℕ, suc, ◌<◌, ◌+◌, List, length, Option, None, Some, refl, ap, arith, below_more, [], ◌∷◌}
 use Rattle.std.proofs.lemmas.Option.{slice_get_within}
 use Rattle.std.specs.Prelude.{MatchOption}
-use Rattle.rtk_convert.specs.declared.link.Link.{Link}
+use Rattle.rtk_convert.specs.declared.link_state.LinkState.{LinkState}
 use Rattle.rtk_convert.specs.Converter.{RepresentLinks}
 use Rattle.rtk_convert.specs.FrameClass.{Found}
 use Rattle.rtk_convert.specs.History.{History, LinkPast, IsOpen, IsUpTo, IsNextLink, newest_on}
@@ -23,7 +23,7 @@ up_to-either None b p = absurd (p tt)
 up_to-either (Some a) None p = tt
 up_to-either (Some a) (Some b) p = omega (arith, p)
 
-pub are_links-length : (ls : List Link) (ps : List LinkPast) (n : ℕ) (found : List Found) → RepresentLinks ls ps n found → length ls ≡ length ps
+pub are_links-length : (ls : List LinkState) (ps : List LinkPast) (n : ℕ) (found : List Found) → RepresentLinks ls ps n found → length ls ≡ length ps
 are_links-length [] [] n found p = refl
 are_links-length (l ∷ ls) (q ∷ ps) n found p = ap suc (are_links-length ls ps (suc n) found p.1)
 are_links-length [] (q ∷ ps) n found p = absurd p

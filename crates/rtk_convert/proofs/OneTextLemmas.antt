@@ -10,8 +10,9 @@ use Rattle.rtk_message.specs.declared.any_fault.AnyFault.TheVariants.{NoNumber, 
 use Rattle.rtk_message.specs.Accepted.{only}
 use Rattle.rtk_message.specs.AnyDecoded.{DecodesBy, IsValid, number_of}
 use Rattle.rtk_obs.specs.declared.cell.CellEntry.{CellEntry}
+use Rattle.rtk_obs.specs.MessageCells.{cells_of}
 use Rattle.rtk_collect.specs.EpochSet.{EpochSetView}
-use Rattle.rtk_collect.specs.Arrival.{Arrival, At, cells_of, message_of}
+use Rattle.rtk_collect.specs.Arrival.{Arrival, At, message_of}
 use Rattle.rtk_collect.specs.Late.{late}
 use Rattle.rtk_collect.specs.Accepted.{kept, cells_at, closed}
 use Rattle.rtk_collect.specs.Answer.{Class, LateClass, TakenClass, class_of, class_of_cells, class_in_time, conflicts_of, conflicts_with}

@@ -32,12 +32,12 @@ keeps-on {old} {mid} {new} p q = record { same_setup = q.same_setup ∙ p.same_s
 
 -- what a step of a call leaves of the opened conversion it leaves of the conversion
 pub stays-seen : {T : Type 0} {opened old new : ConversionView} {r : Result T ConvertFault} → opened ≡ old → IsUnderWay old → KeepsWindow opened new
-    → new.stopped ≡ opened.stopped → OnOk r (IsAhead new.collector new.records) → StaysUnderWay old r new
+    → new.stopped ≡ opened.stopped → OnOk r (IsAhead new.collector new.closed_epochs) → StaysUnderWay old r new
 stays-seen {T} {opened} {old} {new} {r} seen under keeps same ahead =
     record { keeps = keeps-seen seen keeps; stopped = same ∙ ap (λ (x : ConversionView). x.stopped) seen ∙ under.stopped; ahead = ahead }
 
-pub ahead-seen : {opened old : ConversionView} → opened ≡ old → IsUnderWay old → IsAhead opened.collector opened.records
-ahead-seen {opened} {old} seen under = subst (λ (x : ConversionView). IsAhead x.collector x.records) (sym seen) under.ahead
+pub ahead-seen : {opened old : ConversionView} → opened ≡ old → IsUnderWay old → IsAhead opened.collector opened.closed_epochs
+ahead-seen {opened} {old} seen under = subst (λ (x : ConversionView). IsAhead x.collector x.closed_epochs) (sym seen) under.ahead
 
 -- the failed streams are those of the fault, whatever else the call could answer
 pub failed-err : {T U : Type 0} {fault : ConvertFault} {out_old out_new log_old log_new : ℕ}

@@ -7,7 +7,7 @@ use Rattle.rtk_frame.specs.Stream.{greatest_count, with_more, ReadsOne}
 use Rattle.rtk_frame.proofs.PublicLaws.{with_more-nil, with_more-with_more, sum_calls-at_most, sum_calls-one}
 use Rattle.rtk_convert.specs.declared.fault.ConvertFault.{ConvertFault}
 use Rattle.rtk_convert.specs.declared.fault.ConvertFault.TheVariants.{Setup, NoLink, LinkClosed, OutOfMemory, Write, Read as ReadFault, Endless, Stopped}
-use Rattle.rtk_convert.specs.declared.link.Link.{Link}
+use Rattle.rtk_convert.specs.declared.link_state.LinkState.{LinkState}
 use Rattle.rtk_convert.specs.Failure.{IsFrameFault}
 use Rattle.rtk_convert.specs.Steps.Faults.{IsReadFault}
 use Rattle.rtk_convert.specs.FrameClass.{Found}
@@ -204,7 +204,7 @@ frame-read (ReadFault link) p = absurd p
 frame-read Endless p = p
 frame-read Stopped p = p
 
-link-goes : (ls : List Link) (ps : List LinkPast) (n : ℕ) (found : List Found) (link : ℕ) (fed : List ℕ) → RepresentLinks ls ps n found
+link-goes : (ls : List LinkState) (ps : List LinkPast) (n : ℕ) (found : List Found) (link : ℕ) (fed : List ℕ) → RepresentLinks ls ps n found
     → slice_get ps link ≡ Some (record { fed = fed; is_closed = false }) → link_refusal (slice_get ls link) ≡ None
 link-goes [] [] n found link fed are is = absurd (cc)
 link-goes [] (p ∷ ps) n found link fed are is = absurd are

@@ -13,7 +13,7 @@ use Rattle.rtk_obs.specs.Code.{band_of}
 use Rattle.rtk_obs.specs.Rollover.{last_after, digits_since}
 use Rattle.rtk_obs.specs.Slip.{epoch_cell}
 use Rattle.rtk_obs.specs.Tracks.{IsLater, track_at, place_of_signal}
-use Rattle.rtk_collect.specs.EpochSet.{AreOfOneKind}
+use Rattle.rtk_obs.specs.MessageCells.{AreOfOneKind}
 use Rattle.rtk_collect.specs.Key.{KeysRise}
 use Rattle.rtk_rinex.specs.declared.epoch_table.Observed.{Observed}
 use Rattle.rtk_rinex.specs.declared.epoch_table.SatelliteRow.{SatelliteRow}

@@ -20,7 +20,7 @@ pub record ConversionView : Type 0 where
   -- the open epochs and the station messages
   pub collector : CollectorView
   -- what is known of the closed epochs
-  pub records : ClosedEpochsView
+  pub closed_epochs : ClosedEpochsView
   -- the counts of frames
   pub counts : Counts
   -- a call broke off
@@ -31,7 +31,7 @@ pub record ConversionView : Type 0 where
 -- are; and it has the counts of the frames
 pub record RepresentsFound (s : ConversionView) (found : List Found) : Type 0 where
   pub window : RepresentsArrivals s.collector (arrivals found)
-  pub closed : HasClosed s.records s.setup.head.listed (closed s.setup.window (arrivals found))
+  pub closed : HasClosed s.closed_epochs s.setup.head.listed (closed s.setup.window (arrivals found))
   pub counts : s.counts ≡ frame_counts s.setup.window found
 
 -- a new conversion with this setup: it has found no frame
@@ -49,7 +49,7 @@ HoldsArrivals w = (before : List Arrival) × RepresentsArrivals w before
 -- all open ones
 abbrev pub IsUnder : Option Track → CollectorView → Type 0
 IsUnder None w = Unit {0}
-IsUnder (Some t) w = (length w.sets ≡ w.size) × All (λ x. t.epoch < x.epoch) w.sets
+IsUnder (Some t) w = (length w.sets ≡ w.places) × All (λ x. t.epoch < x.epoch) w.sets
 
 -- all last phases are of epochs below the window
 abbrev pub IsAhead : CollectorView → ClosedEpochsView → Type 0
@@ -58,9 +58,9 @@ IsAhead w c = (satellite : ℕ) (code : Code) → IsSatellite satellite → IsUn
 -- the window has as many places as the setup says, and no more epochs than places; and unless a
 -- call broke off all last phases are of epochs below it
 pub record IsConversionView (s : ConversionView) : Type 0 where
-  pub places : s.collector.size ≡ s.setup.window
-  pub few : length s.collector.sets ≤ s.collector.size
-  pub ahead : s.stopped ≡ false → IsAhead s.collector s.records
+  pub places : s.collector.places ≡ s.setup.window
+  pub few : length s.collector.sets ≤ s.collector.places
+  pub ahead : s.stopped ≡ false → IsAhead s.collector s.closed_epochs
 
 abbrev pub found_on : ℕ → FrameClass → Found
 found_on link f = record { link = link; class = f }

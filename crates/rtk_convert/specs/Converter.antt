@@ -6,7 +6,7 @@ use Rattle.rtk_frame.specs.Stream.{with_more}
 use Rattle.rtk_convert.specs.declared.counts.Counts.{Counts}
 use Rattle.rtk_convert.specs.declared.fault.ConvertFault.{ConvertFault}
 use Rattle.rtk_convert.specs.declared.fault.ConvertFault.TheVariants.{NoLink, LinkClosed, Stopped}
-use Rattle.rtk_convert.specs.declared.link.Link.{Link}
+use Rattle.rtk_convert.specs.declared.link_state.LinkState.{LinkState}
 use Rattle.rtk_convert.specs.Failure.{IsFrameFault}
 use Rattle.rtk_convert.specs.FileOfArrivals.{kept_file, file_so_far}
 use Rattle.rtk_convert.specs.FrameClass.{Found, IsClassOfPayload, arrivals}
@@ -21,7 +21,7 @@ use Rattle.rtk_convert.specs.Writing.{Written, WritesRest}
 pub record ConverterView : Type 0 where
   -- what all links together have come to
   pub conversion : ConversionView
-  pub links : List Link
+  pub links : List LinkState
 
 -- constant
 -- 1 to 16 links (this project's rule)
@@ -38,7 +38,7 @@ pub record IsConverterView (c : ConverterView) : Type 0 where
   pub held : HoldsArrivals c.conversion.collector
 
 -- why a call on a link is refused at once: the first cause that holds
-abbrev pub link_refusal : Option Link → Option ConvertFault
+abbrev pub link_refusal : Option LinkState → Option ConvertFault
 link_refusal None = Some NoLink
 link_refusal (Some l) = if l.scanner.ended then Some LinkClosed else None
 
@@ -47,13 +47,13 @@ refusal c link = if c.conversion.stopped then Some Stopped else link_refusal (sl
 
 -- a link represents its past: it is closed exactly if that is closed; while it is open it holds the
 -- bytes that wait for more; and it has the newest epoch that came on it
-pub record RepresentsLink (l : Link) (p : LinkPast) (number : ℕ) (found : List Found) : Type 0 where
+pub record RepresentsLink (l : LinkState) (p : LinkPast) (number : ℕ) (found : List Found) : Type 0 where
   pub closed : l.scanner.ended ≡ p.is_closed
   pub waiting : p.is_closed ≡ false → l.scanner.pending ≡ pending p.fed
   pub newest : l.newest ≡ newest_on number found
 
 -- each link represents its past; the first of these links has this number
-abbrev pub RepresentLinks : List Link → List LinkPast → ℕ → List Found → Type 0
+abbrev pub RepresentLinks : List LinkState → List LinkPast → ℕ → List Found → Type 0
 RepresentLinks [] [] number found = Unit {0}
 RepresentLinks (l ∷ ls) (p ∷ ps) number found = RepresentsLink l p number found × RepresentLinks ls ps (suc number) found
 RepresentLinks [] (p ∷ ps) number found = ⊥

@@ -11,7 +11,8 @@ use Rattle.rtk_message.specs.declared.any_message.AnyMessage.{AnyMessage as Mess
 use Rattle.rtk_message.specs.Accepted.{only, accepts}
 use Rattle.rtk_message.specs.AnyDecoded.{Encodes, number_of, station_of, tow_of}
 use Rattle.rtk_obs.specs.declared.cell.CellEntry.{CellEntry}
-use Rattle.rtk_collect.specs.Arrival.{Arrival, At, epoch_of, message_of, cells_of}
+use Rattle.rtk_obs.specs.MessageCells.{cells_of}
+use Rattle.rtk_collect.specs.Arrival.{Arrival, At, epoch_of, message_of}
 use Rattle.rtk_collect.specs.EpochSet.{EpochSetView}
 use Rattle.rtk_collect.specs.Key.{key}
 use Rattle.rtk_collect.specs.Late.{late}

@@ -120,17 +120,17 @@ pub(crate) fn close_remaining<O: Sink>(
     alloc: Global,
     setup: &Setup,
     position: &Position,
-    records: &mut ClosedEpochs,
+    closed_epochs: &mut ClosedEpochs,
     left: &mut Left,
     out: &mut O,
 ) -> Result<(), ConvertFault>
-    requires above { AllAbove records.old left.old.sets }
-    ensures closes { ClosesRemaining setup.now (position_view position.now) records.old left.old.sets result records.new
+    requires above { AllAbove closed_epochs.old left.old.sets }
+    ensures closes { ClosesRemaining setup.now (position_view position.now) closed_epochs.old left.old.sets result closed_epochs.new
         (O.taken out.old) (O.taken out.new) }
     ensures failed { NamesFailedFile result (O.failures out.old) (O.failures out.new) }
 {
     'left: while let Some(set) = left.next_left() {
-        records.close(alloc, setup, position, &set, out)?;
+        closed_epochs.close(alloc, setup, position, &set, out)?;
     }
     Ok(())
 }

@@ -39,7 +39,7 @@ pub(crate) struct Conversion {
     alloc: Global,
     setup: Setup,
     collector: Collector,
-    records: ClosedEpochs,
+    closed_epochs: ClosedEpochs,
     counts: Counts,
     stopped: bool,
 }
@@ -51,20 +51,26 @@ impl Model for Conversion {
 
     ghost Value = { ConversionView };
 
-    ghost view = { λ c. record { setup = c.setup; collector = c.collector; records = c.records; counts = c.counts; stopped = c.stopped } };
+    ghost view = { λ c. record {
+      setup = c.setup;
+      collector = c.collector;
+      closed_epochs = c.closed_epochs;
+      counts = c.counts;
+      stopped = c.stopped;
+    } };
 
     ghost invariant = { λ c. (c ≡ record {
       alloc = c.alloc;
       setup = c.setup;
       collector = c.collector;
-      records = c.records;
+      closed_epochs = c.closed_epochs;
       counts = c.counts;
       stopped = c.stopped;
     })
         × IsConversionView (record {
           setup = c.setup;
           collector = c.collector;
-          records = c.records;
+          closed_epochs = c.closed_epochs;
           counts = c.counts;
           stopped = c.stopped;
         }) };
@@ -75,13 +81,13 @@ impl Conversion {
     pub(crate) fn new(alloc: Global, setup: Setup) -> Result<Conversion, AllocError>
         ensures { IfOk result (IsNewConversion setup) }
     {
-        let records = ClosedEpochs::new(alloc)?;
+        let closed_epochs = ClosedEpochs::new(alloc)?;
         let collector = Collector::new(alloc, setup.window());
         Ok(Conversion {
             alloc,
             setup,
             collector,
-            records,
+            closed_epochs,
             counts: Counts {
                 frames: 0,
                 other: 0,
@@ -193,7 +199,7 @@ impl Conversion {
             return put_lines(log, &lines);
         };
         let position = self.collector.station();
-        self.records
+        self.closed_epochs
             .close(self.alloc, &self.setup, &position, &set, out)?;
         self.collector.hand_back(set);
         put_lines(log, &lines)
@@ -218,12 +224,12 @@ impl Conversion {
         }
         let (alloc, setup) = (self.alloc, self.setup);
         let position = self.collector.station();
-        let mut records = self.records;
+        let mut closed_epochs = self.closed_epochs;
         let mut left = self.collector.close();
-        close_remaining(alloc, &setup, &position, &mut records, &mut left, out)?;
-        put_last_header(alloc, &setup, &position, records.header_out(), out)?;
+        close_remaining(alloc, &setup, &position, &mut closed_epochs, &mut left, out)?;
+        put_last_header(alloc, &setup, &position, closed_epochs.header_out(), out)?;
         let mut counts = self.counts;
-        counts.epochs = records.count();
+        counts.epochs = closed_epochs.count();
         let lines = report::count_lines(alloc, &counts)?;
         put_lines(log, &lines)?;
         Ok(counts)

@@ -13,8 +13,8 @@ ghost use Rattle.rtk_convert.specs.Writing.{written};
 use crate::conversion::Conversion;
 use crate::counts::Counts;
 use crate::fault::ConvertFault;
-use crate::link::Link;
-use crate::link_number::LinkNumber;
+use crate::link_number::{LinkNumber, MOST_LINKS};
+use crate::link_state::LinkState;
 use crate::setup::Setup;
 use rtk_frame::{Scanner, Sink};
 use rtk_message::AnyDecoder;
@@ -31,7 +31,7 @@ use std::marker::Model;
 pub struct Converter {
     conversion: Conversion,
     decoder: AnyDecoder,
-    links: Vec<Link>,
+    links: Vec<LinkState>,
 }
 
 // The first part of the invariant names every field: a field that holds more bytes can't be added
@@ -49,7 +49,7 @@ impl Model for Converter {
 }
 
 // New links: each is open, and nothing was fed on it.
-fn new_links(alloc: Global, count: usize) -> Result<Vec<Link>, ConvertFault>
+fn new_links(alloc: Global, count: usize) -> Result<Vec<LinkState>, ConvertFault>
     ensures new { IfOk result (λ links. links.items ≡ replicate count (record { scanner = scanner_view [] false; newest = None })) }
     ensures fault { IfErr result (λ fault. fault ≡ ConvertFault.OutOfMemory) }
 {
@@ -58,7 +58,7 @@ fn new_links(alloc: Global, count: usize) -> Result<Vec<Link>, ConvertFault>
         let Ok(scanner) = Scanner::new(alloc) else {
             return Err(ConvertFault::OutOfMemory);
         };
-        let link = Link {
+        let link = LinkState {
             scanner,
             newest: None,
         };
@@ -80,7 +80,7 @@ impl Converter {
         // V4 comes only if memory is refused: tests/system/calls, rows `Converter::new of ..`.
         ensures fault { IfErr result (λ fault. IsLinkCount links → fault ≡ ConvertFault.OutOfMemory) }
     {
-        if links < 1 || links > 16 {
+        if links < 1 || links > MOST_LINKS {
             return Err(ConvertFault::Setup);
         }
         let conversion = Conversion::new(alloc, setup)?;

@@ -1,5 +1,8 @@
 //! The rows of a closed epoch, made from its cells.
 //!
+//! A `Cell` is what a message says of a satellite and code. An `Observed` is what the file shows of it:
+//! the phase with its rolls, and the slip. A row has the `Observed` of each listed code of a satellite.
+//!
 //! The satellites 1 to 32 are gone over with a place in each list of cells, which rises by
 //! satellite and code. The cells of the MSM come first, then the cells of the 1004 whose code no
 //! cell of the MSM has. Each of them takes a step of the tracks, also if its code is not listed,
@@ -65,6 +68,21 @@ fn places_of(listed: &[Code]) -> [u8; 16]
     places
 }
 
+// What the rows of an epoch have in common.
+#[derive(Clone, Copy)]
+struct RowForm {
+    epoch: GpsMs,
+    // The place of each code among the listed ones, or 16.
+    places: [u8; 16],
+}
+
+// A place in each list of the cells of an epoch.
+#[derive(Clone, Copy)]
+struct CellPlaces {
+    msm: usize,
+    legacy: usize,
+}
+
 // Writes what a code shows at its place among the listed codes, and says whether it is listed.
 fn put_listed(
     listed: &[Code],
@@ -89,21 +107,20 @@ fn put_listed(
 // Takes the first cell of a satellite and code, and says whether its code is listed.
 fn show_entry(
     tracks: &mut Tracks,
-    epoch: GpsMs,
+    form: &RowForm,
     entry: &CellEntry,
     listed: &[Code],
-    places: &[u8; 16],
     row: &mut [Observed],
 ) -> bool
     requires range { IsInRange entry.now }
-    requires later { IsLater (track_at tracks.old entry.now.satellite entry.now.code) epoch }
+    requires later { IsLater (track_at tracks.old entry.now.satellite entry.now.code) form.now.epoch }
     requires width { length row.old ≡ length listed.now }
-    requires places { ArePlaces listed.now places.now }
-    ensures { StepsOver epoch entry.now listed.now tracks.old tracks.new row.old row.new result }
+    requires places { ArePlaces listed.now form.now.places }
+    ensures { StepsOver form.now.epoch entry.now listed.now tracks.old tracks.new row.old row.new result }
 {
-    let digits = tracks.step(entry.satellite, entry.code, epoch, &entry.cell);
+    let digits = tracks.step(entry.satellite, entry.code, form.epoch, &entry.cell);
     let shown = observed(&entry.cell, digits);
-    put_listed(listed, places, entry.code, shown, row)
+    put_listed(listed, &form.places, entry.code, shown, row)
 }
 
 // Has one of these cells, all of one satellite, this code?
@@ -181,22 +198,21 @@ struct Reach {
 #[inline(always)]
 fn show_cells(
     tracks: &mut Tracks,
-    epoch: GpsMs,
+    form: &RowForm,
     satellite: u8,
     earlier: &[CellEntry],
     entries: &[CellEntry],
     begin: usize,
     listed: &[Code],
-    places: &[u8; 16],
     row: &mut [Observed],
 ) -> Reach
     requires satellite { IsSatellite satellite }
     requires earlier { All (λ e. e.satellite ≡ satellite) earlier.now }
     requires cells { HasCellsFrom satellite entries.now begin }
-    requires later { MayStep tracks.old earlier.now satellite epoch }
+    requires later { MayStep tracks.old earlier.now satellite form.now.epoch }
     requires width { length row.old ≡ length listed.now }
-    requires places { ArePlaces listed.now places.now }
-    ensures takes { TakesCells epoch earlier.now entries.now begin result.end satellite listed.now
+    requires places { ArePlaces listed.now form.now.places }
+    ensures takes { TakesCells form.now.epoch earlier.now entries.now begin result.end satellite listed.now
         tracks.old row.old tracks.new row.new result.has_listed }
     ensures next { IsPlaceOf (satellite + 1) entries.now result.end }
 {
@@ -207,7 +223,7 @@ fn show_cells(
             end += 1;
             continue;
         }
-        has_listed |= show_entry(tracks, epoch, &entries[end], listed, places, row);
+        has_listed |= show_entry(tracks, form, &entries[end], listed, row);
         end += 1;
     }
     Reach { end, has_listed }
@@ -225,43 +241,30 @@ struct FilledRow {
 // then those of a 1004 whose code none of an MSM has. Writes its row.
 fn fill_row(
     tracks: &mut Tracks,
-    epoch: GpsMs,
+    form: &RowForm,
     satellite: u8,
     msm: &[CellEntry],
-    msm_at: usize,
     legacy: &[CellEntry],
-    legacy_at: usize,
+    at: CellPlaces,
     listed: &[Code],
-    places: &[u8; 16],
     row: &mut [Observed],
 ) -> FilledRow
     requires satellite { IsSatellite satellite }
-    requires msm { HasCellsFrom satellite msm.now msm_at }
-    requires legacy { HasCellsFrom satellite legacy.now legacy_at }
-    requires later { MayStep tracks.old [] satellite epoch }
+    requires msm { HasCellsFrom satellite msm.now at.msm }
+    requires legacy { HasCellsFrom satellite legacy.now at.legacy }
+    requires later { MayStep tracks.old [] satellite form.now.epoch }
     requires width { length row.old ≡ length listed.now }
-    requires places { ArePlaces listed.now places.now }
-    ensures shows { ShowsRow tracks.old epoch (slice_range msm.now msm_at result.msm_end ++ slice_range legacy.now legacy_at result.legacy_end)
+    requires places { ArePlaces listed.now form.now.places }
+    ensures shows { ShowsRow tracks.old form.now.epoch
+        (slice_range msm.now at.msm result.msm_end ++ slice_range legacy.now at.legacy result.legacy_end)
         satellite listed.now tracks.new row.new result.has_listed }
-    ensures msm { AreCellsTo satellite msm.now msm_at result.msm_end }
-    ensures legacy { AreCellsTo satellite legacy.now legacy_at result.legacy_end }
+    ensures msm { AreCellsTo satellite msm.now at.msm result.msm_end }
+    ensures legacy { AreCellsTo satellite legacy.now at.legacy result.legacy_end }
 {
     blank(row);
-    let first = show_cells(
-        tracks,
-        epoch,
-        satellite,
-        &msm[..0],
-        msm,
-        msm_at,
-        listed,
-        places,
-        row,
-    );
-    let own = &msm[msm_at..first.end];
-    let second = show_cells(
-        tracks, epoch, satellite, own, legacy, legacy_at, listed, places, row,
-    );
+    let first = show_cells(tracks, form, satellite, &msm[..0], msm, at.msm, listed, row);
+    let own = &msm[at.msm..first.end];
+    let second = show_cells(tracks, form, satellite, own, legacy, at.legacy, listed, row);
     FilledRow {
         msm_end: first.end,
         legacy_end: second.end,
@@ -293,7 +296,10 @@ pub(crate) fn push_rows(
     let epoch = set.epoch();
     let msm = set.msm_cells();
     let legacy = set.legacy_cells();
-    let places = places_of(listed);
+    let form = RowForm {
+        epoch,
+        places: places_of(listed),
+    };
     let mut room = [NOTHING; 16];
     let row = &mut room[..listed.len()];
     let mut msm_at = 0;
@@ -302,9 +308,11 @@ pub(crate) fn push_rows(
         if is_absent(satellite, msm, msm_at, legacy, legacy_at) {
             continue;
         }
-        let filled = fill_row(
-            tracks, epoch, satellite, msm, msm_at, legacy, legacy_at, listed, &places, row,
-        );
+        let at = CellPlaces {
+            msm: msm_at,
+            legacy: legacy_at,
+        };
+        let filled = fill_row(tracks, &form, satellite, msm, legacy, at, listed, row);
         if filled.has_listed {
             if let Err(_) = lines.push_row(satellite, row) {
                 return Err(AllocError);

@@ -44,8 +44,8 @@ mod epoch_rows;
 mod fault;
 mod frame_class;
 mod laws;
-mod link;
 mod link_number;
+mod link_state;
 mod report;
 mod runs;
 mod setup;
@@ -59,5 +59,6 @@ pub use laws::{
     epochs_are_records, file_laws, file_only_grows, frames_add_to_one, one_history_of_calls,
     report_tells_counts, set_decides_file, set_has_one_file,
 };
+pub use link_number::MOST_LINKS;
 pub use runs::run;
-pub use setup::{Setup, SetupFault};
+pub use setup::{GREATEST_STATION, LEAST_WINDOW, MOST_WINDOW, Setup, SetupFault};

@@ -1,8 +1,11 @@
-//! The number of a link.
+//! The number of a link, and how many links there can be.
 
 ghost use Rattle.std.specs.Prelude.{◌≡◌, ℕ, ◌+◌, ◌<◌};
 
 use std::marker::Model;
+
+/// The most links that a conversion reads.
+pub const MOST_LINKS: usize = 16;
 
 /// The number of a link, counted from 0.
 #[derive(Clone, Copy)]
@@ -29,6 +32,13 @@ impl LinkNumber {
         LinkNumber {
             from_zero: link as u8,
         }
+    }
+
+    /// The number as a fault tells it, counted from 0.
+    pub(crate) fn from_zero(self) -> u8
+        ensures { result ≡ self }
+    {
+        self.from_zero
     }
 
     /// The number as a report shows it, counted from 1.

@@ -17,6 +17,7 @@ ghost use Rattle.rtk_convert.specs.Writing.{written};
 use crate::converter::Converter;
 use crate::counts::Counts;
 use crate::fault::ConvertFault;
+use crate::link_number::LinkNumber;
 use crate::setup::Setup;
 use rtk_frame::{Sink, Source, read_one};
 use rtk_obs::GpsMs;
@@ -78,7 +79,8 @@ fn read_link<R: Source, O: Sink, L: Sink>(
     ensures no_failed_read { ((k : ℕ) → ¬ (IsErrOf result (ConvertFault.Read k))) → SameFailures R.failures readers.old readers.new }
 {
     let Ok(count) = read_one(readers, link, buf) else {
-        return Err(ConvertFault::Read { link: link as u8 });
+        let link = LinkNumber::new(link).from_zero();
+        return Err(ConvertFault::Read { link });
     };
     if count == 0 {
         return converter.close(link, out, log);

@@ -11,6 +11,15 @@ use rtk_rinex::Head;
 use std::marker::Model;
 use thiserror::Error;
 
+/// The greatest reference station (DF003 has 12 bits).
+pub const GREATEST_STATION: u16 = 4095;
+
+/// The fewest epochs that are kept open.
+pub const LEAST_WINDOW: usize = 2;
+
+/// The most epochs that are kept open.
+pub const MOST_WINDOW: usize = 4096;
+
 /// Why there is no setup of these parts: the first cause that holds, in this order.
 #[derive(Clone, Copy, Debug, PartialEq, Eq, Error)]
 pub enum SetupFault {
@@ -60,13 +69,13 @@ impl Setup {
         ensures good { IfOk result IsSetupView }
         ensures fault { IfErr result (IsSetupFault (setup_of station near head window)) }
     {
-        if station > 4095 {
+        if station > GREATEST_STATION {
             return Err(SetupFault::Station);
         }
         if !is_reference(near) {
             return Err(SetupFault::Near);
         }
-        if window < 2 || window > 4096 {
+        if window < LEAST_WINDOW || window > MOST_WINDOW {
             return Err(SetupFault::Window);
         }
         Ok(Setup {

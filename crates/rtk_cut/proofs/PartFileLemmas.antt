@@ -9,7 +9,7 @@ use Rattle.rtk_frame.proofs.PublicLaws.{with_more-nil, with_more-with_more}
 use Rattle.rtk_rinex.specs.Header.{HeadView, PositionView, position_view, header_text}
 use Rattle.rtk_rinex.specs.Record.{EpochTableView, record_text}
 use Rattle.rtk_rinex.specs.Table.{WellFormedTable, table_text}
-use Rattle.rtk_cut.specs.declared.cutter.Cutter.{Cutter}
+use Rattle.rtk_cut.specs.declared.part_writer.PartWriter.{PartWriter}
 use Rattle.rtk_cut.specs.declared.part.Part.{Part}
 use Rattle.rtk_cut.specs.Cut.{step_ms, is_on_step, is_in_span, cut_epoch, kept_after, table_with}
 use Rattle.rtk_cut.specs.Steps.PartRecords.{header_unless, text_or_new}
@@ -92,7 +92,7 @@ text-shown true text e shown same is = refl
 text-shown false text e shown same is = is ∙ ap record_text (sym (same refl))
 
 -- what is written of an epoch that is on the step and in the span, by the parts of the header
-pub record-written : (c : Cutter) (t : WellFormedTable) (earlier left : List EpochTableView) (e shown : EpochTableView) (changed : Bool) (text : List ℕ) → ComesNext c t earlier e text
+pub record-written : (c : PartWriter) (t : WellFormedTable) (earlier left : List EpochTableView) (e shown : EpochTableView) (changed : Bool) (text : List ℕ) → ComesNext c t earlier e text
     → is_on_step (step_ms c.part.every) e ≡ true → is_in_span c.part.from c.part.until e ≡ true → shown ≡ cut_epoch (step_ms c.part.every) earlier e → (changed ≡ false → shown ≡ e)
     → still_to_write c.part t c.is_begun earlier (e ∷ left)
     ≡ (header_unless c.is_begun c.heading.head (position_view c.heading.position) shown.time ++ text_or_new changed text shown) ++ still_to_write c.part t true (e ∷ earlier) left

@@ -7,7 +7,7 @@ use Rattle.rtk_rinex.specs.declared.table_check.Heading.{Heading}
 use Rattle.rtk_rinex.specs.Record.{EpochTableView, record_text}
 use Rattle.rtk_rinex.specs.Records.{RecordsView, AreLeft, IsNextOf}
 use Rattle.rtk_rinex.specs.Table.{WellFormedTable, IsTableEpoch, table_text}
-use Rattle.rtk_cut.specs.declared.cutter.Cutter.{Cutter}
+use Rattle.rtk_cut.specs.declared.part_writer.PartWriter.{PartWriter}
 use Rattle.rtk_cut.specs.declared.part.Part.{Part}
 use Rattle.rtk_cut.specs.Cut.{step_ms, cut_of}
 use Rattle.rtk_cut.specs.Steps.Pending.{StandsForSlips}
@@ -16,7 +16,7 @@ use Rattle.rtk_cut.proofs.PartFileLemmas.{part-after}
 
 -- some epochs of a table were taken: the others are left, and a first part of what is to be written
 -- is out
-pub record HasCut (p : Part) (t : WellFormedTable) (r : RecordsView) (c : Cutter) (before after : Option (List ℕ)) : Type 0 where
+pub record HasCut (p : Part) (t : WellFormedTable) (r : RecordsView) (c : PartWriter) (before after : Option (List ℕ)) : Type 0 where
   pub heading : IsHeadingOf c.heading t
   pub part : c.part ≡ p
   pub width : r.width ≡ length t.head.listed
@@ -29,7 +29,7 @@ pub record HasCut (p : Part) (t : WellFormedTable) (r : RecordsView) (c : Cutter
   pub out : after ≡ with_more before done
 
 -- no epoch was taken
-pub cut-none : (p : Part) (t : WellFormedTable) (r : RecordsView) (h : Heading) (c : Cutter) (o : Option (List ℕ)) → IsFresh c h p → IsHeadingOf h t → (r.width ≡ length t.head.listed) × AreLeft r t.epochs
+pub cut-none : (p : Part) (t : WellFormedTable) (r : RecordsView) (h : Heading) (c : PartWriter) (o : Option (List ℕ)) → IsFresh c h p → IsHeadingOf h t → (r.width ≡ length t.head.listed) × AreLeft r t.epochs
     → HasCut p t r c o o
 cut-none p t r h c o fresh heading records = record {
   heading = subst (λ (x : Heading). IsHeadingOf x t) (sym fresh.heading) heading;
@@ -49,7 +49,7 @@ pub next-is : (epochs : List EpochTableView) (text : List ℕ) (e : EpochTableVi
 next-is [] text e r next = absurd next
 next-is (x ∷ xs) text e r next = (xs, ap (λ y. y ∷ xs) (sym next.1), next.2)
 
-pub comes-next : (p : Part) (t : WellFormedTable) (r : RecordsView) (c : Cutter) (e : EpochTableView) (text : List ℕ) (before after : Option (List ℕ)) (so_far : HasCut p t r c before after) → IsTableEpoch r.width e
+pub comes-next : (p : Part) (t : WellFormedTable) (r : RecordsView) (c : PartWriter) (e : EpochTableView) (text : List ℕ) (before after : Option (List ℕ)) (so_far : HasCut p t r c before after) → IsTableEpoch r.width e
     → text ≡ record_text e → ComesNext c t so_far.earlier e text
 comes-next p t r c e text before after so_far epoch is = record {
   heading = so_far.heading;
@@ -59,7 +59,7 @@ comes-next p t r c e text before after so_far epoch is = record {
 }
 
 -- an epoch more
-pub cut-more : (p : Part) (t : WellFormedTable) (r r' : RecordsView) (c c' : Cutter) (e : EpochTableView) (text : List ℕ) (before mid after : Option (List ℕ)) → HasCut p t r c before mid
+pub cut-more : (p : Part) (t : WellFormedTable) (r r' : RecordsView) (c c' : PartWriter) (e : EpochTableView) (text : List ℕ) (before mid after : Option (List ℕ)) → HasCut p t r c before mid
     → ((epochs : List EpochTableView) → AreLeft r epochs → IsNextOf epochs text e r') → IsTableEpoch r.width e → text ≡ record_text e → r'.width ≡ r.width → c'.heading ≡ c.heading → c'.part ≡ c.part
     → TakesEpoch c c' e text mid after → HasCut p t r' c' before after
 cut-more p t r r' c c' e text before mid after so_far next epoch is wide heading part takes =
@@ -82,7 +82,7 @@ cut-more p t r r' c c' e text before mid after so_far next epoch is wide heading
     }
 
 -- it broke off in an epoch
-pub cut-broken : (p : Part) (t : WellFormedTable) (r r' : RecordsView) (c : Cutter) (e : EpochTableView) (text : List ℕ) (before mid after : Option (List ℕ)) → HasCut p t r c before mid
+pub cut-broken : (p : Part) (t : WellFormedTable) (r r' : RecordsView) (c : PartWriter) (e : EpochTableView) (text : List ℕ) (before mid after : Option (List ℕ)) → HasCut p t r c before mid
     → ((epochs : List EpochTableView) → AreLeft r epochs → IsNextOf epochs text e r') → IsTableEpoch r.width e → text ≡ record_text e → TakesEpochInPart c e text mid after
     → TakesPart before after (table_text (cut_of p t))
 cut-broken p t r r' c e text before mid after so_far next epoch is takes =
@@ -92,7 +92,7 @@ cut-broken p t r r' c e text before mid after so_far next epoch is takes =
     (takes t so_far.earlier n.0 (comes-next p t r c e text before mid so_far epoch is))
 
 -- all epochs, and the end
-pub cut-all : (p : Part) (t : WellFormedTable) (r : RecordsView) (c : Cutter) (before mid after : Option (List ℕ)) → HasCut p t r c before mid → ((epochs : List EpochTableView) → AreLeft r epochs → epochs ≡ [])
+pub cut-all : (p : Part) (t : WellFormedTable) (r : RecordsView) (c : PartWriter) (before mid after : Option (List ℕ)) → HasCut p t r c before mid → ((epochs : List EpochTableView) → AreLeft r epochs → epochs ≡ [])
     → TakesEnd c mid after → after ≡ with_more before (table_text (cut_of p t))
 cut-all p t r c before mid after so_far none takes =
     let rest : List ℕ = still_to_write c.part t c.is_begun so_far.earlier [] in
@@ -100,7 +100,7 @@ cut-all p t r c before mid after so_far none takes =
     ∙ ap (λ xs. with_more before xs) (sym (so_far.whole ∙ ap (λ es. so_far.done ++ still_to_write c.part t c.is_begun so_far.earlier es) (none so_far.left so_far.are_left)))
 
 -- it broke off at the end
-pub cut-broken_end : (p : Part) (t : WellFormedTable) (r : RecordsView) (c : Cutter) (before mid after : Option (List ℕ)) → HasCut p t r c before mid → ((epochs : List EpochTableView) → AreLeft r epochs → epochs ≡ [])
+pub cut-broken_end : (p : Part) (t : WellFormedTable) (r : RecordsView) (c : PartWriter) (before mid after : Option (List ℕ)) → HasCut p t r c before mid → ((epochs : List EpochTableView) → AreLeft r epochs → epochs ≡ [])
     → TakesEndInPart c mid after → TakesPart before after (table_text (cut_of p t))
 cut-broken_end p t r c before mid after so_far none takes =
     part-after before mid after so_far.done (still_to_write c.part t c.is_begun so_far.earlier []) (table_text (cut_of p t))

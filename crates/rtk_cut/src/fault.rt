@@ -1,5 +1,6 @@
 //! Why a part of a file is not written.
 
+use rtk_frame::StreamFault;
 use std::alloc::AllocError;
 use thiserror::Error;
 
@@ -22,5 +23,16 @@ impl From<AllocError> for CutFault {
 
     fn from(_refused: AllocError) -> Self {
         CutFault::OutOfMemory
+    }
+}
+
+impl From<StreamFault> for CutFault {
+    ghost use Rattle.std.specs.Prelude.{◌≡◌};
+    ghost use Rattle.rtk_cut.specs.declared.fault.CutFault.TheVariants.{Write};
+
+    ghost from_gives = { λ _ e. e ≡ Write };
+
+    fn from(_failed: StreamFault) -> Self {
+        CutFault::Write
     }
 }

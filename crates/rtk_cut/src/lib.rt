@@ -38,12 +38,12 @@
 
 #![tactic(auto)]
 
-mod cutter;
 mod fault;
 mod laws;
 mod part;
 mod part_file;
 mod part_records;
+mod part_writer;
 mod slips;
 
 pub use fault::CutFault;

@@ -6,9 +6,9 @@ ghost use Rattle.rtk_cut.specs.Cut.{IsStepOrNone};
 ghost use Rattle.rtk_cut.specs.CutWriting.{WritesPart, WritesFirstOfPart};
 ghost use Rattle.rtk_cut.specs.declared.fault.CutFault.TheVariants.{Write};
 
-use crate::cutter::{Cutter, new_table};
 use crate::fault::CutFault;
 use crate::part::Part;
+use crate::part_writer::{PartWriter, new_table};
 use rtk_frame::Sink;
 use rtk_rinex::Table;
 use std::alloc::Global;
@@ -25,7 +25,7 @@ pub fn cut<W: Sink>(
 ) -> Result<(), CutFault>
     requires step { IsStepOrNone part.every }
     ensures all { OnOk result (WritesPart table.now.text part (W.taken out.old) (W.taken out.new)) }
-    ensures first { OnErr result (WritesFirstOfPart table.now.text part (W.taken out.old) (W.taken out.new)) }
+    ensures part { OnErr result (WritesFirstOfPart table.now.text part (W.taken out.old) (W.taken out.new)) }
 
     // A failed write is told, and nothing else is told as one. That memory is all that it gives up
     // for besides show the rows `cut ..` of tests/system/calls.
@@ -34,10 +34,10 @@ pub fn cut<W: Sink>(
 {
     let heading = table.heading();
     let mut epoch = new_table(alloc, heading.first)?;
-    let mut cutter = Cutter::new(alloc, heading, part)?;
+    let mut writer = PartWriter::new(alloc, heading, part)?;
     let mut records = table.records();
-    'epochs: while let Some(text) = records.next(&mut epoch) {
-        cutter.cut_record(alloc, &epoch, text, out)?;
+    while let Some(text) = records.next(&mut epoch) {
+        writer.write_next(alloc, &epoch, text, out)?;
     }
-    cutter.end(alloc, out)
+    writer.write_end(alloc, out)
 }

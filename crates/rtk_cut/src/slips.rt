@@ -9,18 +9,9 @@ ghost use Rattle.std.specs.List.{list_any};
 ghost use Rattle.rtk_rinex.specs.Record.{EpochTableView, IsSatelliteRow, HasWidth};
 ghost use Rattle.rtk_rinex.specs.Table.{IsTableEpoch};
 ghost use Rattle.rtk_cut.specs.Cut.{is_on_step, code_at, no_observation, with_slip, cut_epoch};
-ghost use Rattle.rtk_cut.specs.Steps.Pending.{mark_of, MarksBecome, StandsForSlips, row_has_slip, row_has_phase, codes_with_marks, row_with_marks};
+ghost use Rattle.rtk_cut.specs.Steps.Pending.{mark_of, MarksAt, MarksBecome, StandsForSlips, NotesSlips, ShowsSlipsIn, ClearsSlips, row_has_slip, row_has_phase, codes_with_marks, row_with_marks};
 
 use rtk_rinex::{EpochTable, Observed, SatelliteRow};
-
-/// What a code without observation shows.
-const NO_OBSERVATION: Observed = Observed {
-    range_mm: None,
-    phase_millicycles: None,
-    strength_millidbhz: None,
-    slip: false,
-    half: false,
-};
 
 /// Of each satellite and code, whether a slip is still to be shown.
 #[derive(Clone, Copy)]
@@ -37,13 +28,12 @@ fn code_at(row: &SatelliteRow, code: usize) -> Observed
         .as_slice()
         .get(code)
         .copied()
-        .unwrap_or(NO_OBSERVATION)
+        .unwrap_or_default()
 }
 
 fn mark(marks: &mut [bool], place: usize, has_slipped: bool)
     ensures size { length marks.new ≡ length marks.old }
-    ensures marked { (n : ℕ) → n < length marks.old
-        → get_or marks.new n false ≡ ((has_slipped && (place == n)) || get_or marks.old n false) }
+    ensures marked { MarksAt marks.old marks.new (λ n. (has_slipped && (place == n)) || get_or marks.old n false) }
 {
     if has_slipped && place < marks.len() {
         marks[place] = true;
@@ -74,25 +64,28 @@ fn note_rows(marks: &mut [bool], rows: &[SatelliteRow])
     }
 }
 
-// What an observation shows with the mark at this place, which a phase clears.
-fn cut_code(marks: &mut [bool], place: usize, observed: Observed) -> Observed
+// Shows the slip that is marked at this place, if there is a phase, which clears the mark. Is it a
+// slip that the observation itself does not have?
+fn show_slip(marks: &mut [bool], place: usize, shown: &mut Observed) -> bool
     requires place { place < length marks.old }
-    ensures shown { result ≡ with_slip (observed.slip || get_or marks.old place false) observed }
+    ensures shown { shown.new ≡ with_slip (shown.old.slip || get_or marks.old place false) shown.old }
     ensures size { length marks.new ≡ length marks.old }
-    ensures marked { (n : ℕ) → n < length marks.old
-        → get_or marks.new n false ≡ (not (is_some observed.phase_millicycles && (place == n)) && get_or marks.old n false) }
+    ensures marked { MarksAt marks.old marks.new
+        (λ n. not (is_some shown.old.phase_millicycles && (place == n)) && get_or marks.old n false) }
+    ensures same { result ≡ false → shown.new ≡ shown.old }
 {
-    if observed.phase_millicycles.is_none() {
-        return observed;
+    if shown.phase_millicycles.is_none() {
+        return false;
     }
-    let slip = observed.slip || marks[place];
+    let had_slip = shown.slip;
+    shown.slip = had_slip || marks[place];
     marks[place] = false;
-    Observed { slip, ..observed }
+    shown.slip != had_slip
 }
 
-// Writes what the codes of a satellite show with their marks, which phases clear. Does a slip show
-// that the satellite's own record does not have?
-fn cut_row(marks: &mut [bool], row: &SatelliteRow, shown: &mut [Observed]) -> bool
+// Writes what the codes of a satellite show, with the slips that are marked. Is one a slip that the
+// satellite's own record does not have?
+fn show_in_row(marks: &mut [bool], row: &SatelliteRow, shown: &mut [Observed]) -> bool
     requires satellite { row.now.satellite ≤ 32 }
     requires size { length marks.old ≡ 528 }
     requires few { length shown.old ≤ 16 }
@@ -104,33 +97,39 @@ fn cut_row(marks: &mut [bool], row: &SatelliteRow, shown: &mut [Observed]) -> bo
     let first = 16 * usize::from(row.satellite);
     let mut is_changed = false;
     for code in 0..shown.len() {
-        let observed = code_at(row, code);
-        let cut = cut_code(marks, first + code, observed);
-        is_changed = is_changed || cut.slip != observed.slip;
-        shown[code] = cut;
+        shown[code] = code_at(row, code);
+        let is_new = show_slip(marks, first + code, &mut shown[code]);
+        is_changed = is_changed || is_new;
     }
     is_changed
 }
 
-fn cut_rows(marks: &mut [bool], rows: &[SatelliteRow], width: usize, cut: &mut EpochTable) -> bool
+// Makes the rows of an epoch, with the slips that are marked. Is one a slip that the epoch itself
+// does not have?
+fn show_in_rows(
+    marks: &mut [bool],
+    rows: &[SatelliteRow],
+    width: usize,
+    shown: &mut EpochTable,
+) -> bool
     requires good { All IsSatelliteRow rows.now }
     requires rise { AllPairs (λ a b. a.satellite < b.satellite) rows.now }
     requires few { length rows.now ≤ 32 }
     requires size { length marks.old ≡ 528 }
     requires few_codes { width ≤ 16 }
-    requires empty { cut.old.rows ≡ [] }
-    ensures time { cut.new.time ≡ cut.old.time }
-    ensures rows { cut.new.rows ≡ map (row_with_marks marks.old width) rows.now }
+    requires empty { shown.old.rows ≡ [] }
+    ensures time { shown.new.time ≡ shown.old.time }
+    ensures rows { shown.new.rows ≡ map (row_with_marks marks.old width) rows.now }
     ensures size { length marks.new ≡ 528 }
     ensures marks { MarksBecome marks.new (λ s c. not (list_any (row_has_phase s c) rows.now && nat_lt c width) && mark_of marks.old s c) }
-    ensures same { result ≡ false → HasWidth width rows.now → cut.new.rows ≡ rows.now }
+    ensures same { result ≡ false → HasWidth width rows.now → shown.new.rows ≡ rows.now }
 {
-    let mut room = [NO_OBSERVATION; 16];
-    let shown = &mut room[..width];
+    let mut codes = [Observed::default(); 16];
+    let observed = &mut codes[..width];
     let mut is_changed = false;
     for row in rows {
-        let is_row_changed = cut_row(marks, row, shown);
-        cut.push_row(row.satellite, shown);
+        let is_row_changed = show_in_row(marks, row, observed);
+        shown.push_row(row.satellite, observed);
         is_changed = is_changed || is_row_changed;
     }
     is_changed
@@ -148,24 +147,21 @@ impl Slips {
 
     /// Marks the slips of an epoch that is not on the step.
     pub(crate) fn note(&mut self, epoch: &EpochTable)
-        ensures slips { (step : ℕ) (earlier : List EpochTableView) → is_on_step step epoch.now ≡ false
-            → StandsForSlips self.old.marks step earlier → StandsForSlips self.new.marks step (epoch.now ∷ earlier) }
+        ensures slips { NotesSlips self.old.marks self.new.marks epoch.now }
     {
         note_rows(&mut self.marks, epoch.rows());
     }
 
     /// Makes the table of an epoch that is on the step, in a file of so many codes, with each slip
     /// that is still to be shown. Does it show a slip that the epoch itself does not have?
-    pub(crate) fn cut(&mut self, epoch: &EpochTable, width: usize, cut: &mut EpochTable) -> bool
+    pub(crate) fn show(&mut self, epoch: &EpochTable, width: usize, shown: &mut EpochTable) -> bool
         requires few { width ≤ 16 }
-        ensures width { HasWidth width cut.new.rows }
-        ensures shown { (step : ℕ) (earlier : List EpochTableView) → IsTableEpoch width epoch.now
-            → StandsForSlips self.old.marks step earlier → cut.new ≡ cut_epoch step earlier epoch.now }
-        ensures slips { (step : ℕ) (earlier : List EpochTableView) → IsTableEpoch width epoch.now → is_on_step step epoch.now ≡ true
-            → StandsForSlips self.old.marks step earlier → StandsForSlips self.new.marks step (epoch.now ∷ earlier) }
-        ensures same { result ≡ false → IsTableEpoch width epoch.now → cut.new ≡ epoch.now }
+        ensures width { HasWidth width shown.new.rows }
+        ensures shown { IsTableEpoch width epoch.now → ShowsSlipsIn self.old.marks epoch.now shown.new }
+        ensures slips { IsTableEpoch width epoch.now → ClearsSlips self.old.marks self.new.marks epoch.now }
+        ensures same { result ≡ false → IsTableEpoch width epoch.now → shown.new ≡ epoch.now }
     {
-        cut.restart(epoch.time());
-        cut_rows(&mut self.marks, epoch.rows(), width, cut)
+        shown.restart(epoch.time());
+        show_in_rows(&mut self.marks, epoch.rows(), width, shown)
     }
 }

@@ -73,7 +73,7 @@ phases_of kind ms code other satellite =
 
 -- formula
 -- how many phases the satellites that have a value in one code have in another
-abbrev pub phases_shared : MsmKind → List AnyMessage → Code → Code → ℕ
+unfoldable pub phases_shared : MsmKind → List AnyMessage → Code → Code → ℕ
 phases_shared kind ms code other = sum_by (phases_of kind ms code other) (range_with_len 1 32)
 
 -- formula

@@ -1,2 +1,34 @@
 -- The reference points of links (this project's rule).
-use Rattle.std.specs.Prelude.{ℕ, ℤ, ◌+◌, ◌*◌, ◌==◌, Bool, true, false, nat_lt, List, [], ◌∷◌, Option, None, Some, get_or, if◌then◌else◌}
+use Rattle.std.specs.Prelude.{ℕ, zero, suc, ℤ, ◌+◌, ◌*◌, ◌-ℤ◌, unsigned_abs, Bool, true, false, ◌==◌, nat_lt, List, [], ◌∷◌, Option, None}
+use Rattle.rtk_find.specs.Heard.{first_point_or}
+use Rattle.rtk_find.specs.declared.capture_found.CaptureFound.{CaptureFound}
+use Rattle.rtk_find.specs.declared.heard.ReferencePoint.{ReferencePoint}
+use Rattle.rtk_find.specs.declared.joining.Ordered.{Ordered}
+
+-- formula
+abbrev pub squared_apart : ℤ → ℤ → ℕ
+squared_apart a b = unsigned_abs (a -ℤ b) * unsigned_abs (a -ℤ b)
+
+-- formula
+-- two reference points are more than 100 m apart; coordinates are in 0.0001 m
+abbrev pub are_far : ReferencePoint → ReferencePoint → Bool
+are_far a b = nat_lt 1_000_000_000_000 (squared_apart a.x b.x + squared_apart a.y b.y + squared_apart a.z b.z)
+
+-- ---- the point of a link: that of its first capture that has one, in the order in which they are taken
+
+-- the point of a capture, by its place among all as they are given
+abbrev pub point_given : List CaptureFound → ℕ → Option ReferencePoint
+point_given [] place = None
+point_given (c ∷ cs) zero = c.heard.point
+point_given (c ∷ cs) (suc place) = point_given cs place
+
+abbrev pub point_if : Bool → Option ReferencePoint → Option ReferencePoint
+point_if true point = point
+point_if false point = None
+
+-- captures in the order in which they are taken, and the link of each
+abbrev pub point_of_link : ℕ → List CaptureFound → List Ordered → List ℕ → Option ReferencePoint
+point_of_link link captures [] links = None
+point_of_link link captures (o ∷ os) [] = None
+point_of_link link captures (o ∷ os) (l ∷ ls) =
+    first_point_or (point_if (l == link) (point_given captures o.given)) (point_of_link link captures os ls)

@@ -1,6 +1,6 @@
 //! Reading captures, one after another, each to its end.
 
-ghost use Rattle.std.specs.Prelude.{◌≡◌, ◌≢◌, ◌≤◌, ◌+◌, ◌++◌, ℕ, List, [], ◌∷◌, Err, IfOk, IsErrOf, OnOk, take};
+ghost use Rattle.std.specs.Prelude.{◌≡◌, ◌≢◌, ◌≤◌, ◌+◌, ◌++◌, ℕ, List, [], ◌∷◌, Err, IfOk, IfSome, IsErrOf, OnOk, take};
 ghost use Rattle.rtk_dates.specs.CaptureDates.{counting};
 ghost use Rattle.rtk_frame.specs.Stream.{CountRises};
 ghost use Rattle.rtk_summary.specs.Counting.{shown_count};
@@ -17,7 +17,7 @@ use crate::heard::Contents;
 use rtk_dates::Told;
 use rtk_frame::Source;
 use rtk_summary::{Look, SummaryFault, look_of, read_capture};
-use std::alloc::{AllocError, Global};
+use std::alloc::Global;
 
 // What a capture looks like, if it has no frame.
 fn look_if_empty(frames: u64, head: &[u8]) -> Option<Look>
@@ -64,11 +64,12 @@ fn capture_of(contents: &Contents, dates: &Dates, head: &[u8]) -> CaptureFound
     }
 }
 
-fn keep(captures: &mut Vec<CaptureFound>, found: CaptureFound) -> Result<(), AllocError>
-    ensures { OnOk result (captures.new.items ≡ captures.old.items ++ found ∷ []) }
+// Keeps a capture, and gives it back; `None` if memory is refused.
+fn keep(captures: &mut Vec<CaptureFound>, found: &CaptureFound) -> Option<CaptureFound>
+    ensures { IfSome result (λ kept. (kept ≡ found.now) × (captures.new.items ≡ captures.old.items ++ found.now ∷ [])) }
 {
-    captures.push(found)?;
-    Ok(())
+    captures.push(*found).ok()?;
+    Some(*found)
 }
 
 impl Findings {
@@ -94,8 +95,7 @@ impl Findings {
         self.dates = Dates::new(self.dates.station);
         let read = read_capture(alloc, reader, self, max_reads)?;
         let found = capture_of(&self.contents, &self.dates, read.head.as_slice());
-        keep(&mut self.captures, found)?;
-        Ok(found)
+        keep(&mut self.captures, &found).ok_or(SummaryFault::OutOfMemory)
     }
 
     /// The first epochs that the messages of the last capture told and that count, each that differs.

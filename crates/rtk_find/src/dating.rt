@@ -36,18 +36,18 @@ pub fn least_told(captures: &[CaptureFound]) -> Option<GpsMs>
 }
 
 impl Base {
-    fn moment(self) -> GpsMs
-        ensures { result ≡ spec.base_moment self }
+    fn moment(&self) -> GpsMs
+        ensures { result ≡ spec.base_moment self.now }
     {
         match self {
-            Base::Given(near) => near,
-            Base::Told(least) => least,
+            Base::Given(near) => *near,
+            Base::Told(least) => *least,
         }
     }
 
     // The first epoch of a capture that told this, if that counts.
-    fn told(self, told: Option<Told>) -> Option<GpsMs>
-        ensures { result ≡ spec.told_by self told }
+    fn told(&self, told: Option<Told>) -> Option<GpsMs>
+        ensures { result ≡ spec.told_by self.now told }
     {
         match self {
             Base::Given(_) => None,
@@ -56,8 +56,8 @@ impl Base {
     }
 }
 
-fn placed_with(base: Base, told: Option<Told>, span: Option<Span>) -> Option<Placed>
-    ensures { result ≡ spec.placed_with base told span }
+fn placed_with(base: &Base, told: Option<Told>, span: Option<Span>) -> Option<Placed>
+    ensures { result ≡ spec.placed_with base.now told span }
 {
     let epochs = CaptureEpochs {
         told: base.told(told),
@@ -69,10 +69,10 @@ fn placed_with(base: Base, told: Option<Told>, span: Option<Span>) -> Option<Pla
 /// The epochs of captures with their dates; `None` of a capture without an epoch of the station.
 pub fn place_captures(
     alloc: Global,
-    base: Base,
+    base: &Base,
     captures: &[CaptureFound],
 ) -> Result<Vec<Option<Placed>>, AllocError>
-    ensures { IfOk result (λ all. all.items ≡ map (spec.placed_if_any base) captures.now) }
+    ensures { IfOk result (λ all. all.items ≡ map (spec.placed_if_any base.now) captures.now) }
 {
     let mut all = Vec::new(alloc);
     for capture in captures {

@@ -26,14 +26,18 @@
 mod capture_found;
 mod captures;
 mod chosen_station;
+mod dating;
 mod finding;
 mod heard;
 mod joining;
 mod phases;
+mod points;
 
 pub use capture_found::CaptureFound;
 pub use chosen_station::{StationFound, only_station};
+pub use dating::{Base, is_out_of_reach, least_told, near_of, place_captures, reach_of};
 pub use finding::{Dates, Findings};
 pub use heard::{Heard, ReferencePoint, STATIONS};
 pub use joining::{Ordered, in_order, links_of};
 pub use phases::Phases;
+pub use points::{are_far, point_of_link};

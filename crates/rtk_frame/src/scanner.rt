@@ -108,10 +108,10 @@ impl Scanner {
             (now.ended ≡ false) × (length now.pending ≤ LONGEST_FRAME)
             × FedAnswer self.old.pending piece.now result.used result.answer now)) }
     {
-        let (used, found) = advance(&mut self.ring, &mut self.passed, &mut self.prefixes, piece);
-        match found {
+        let scan = advance(&mut self.ring, &mut self.passed, &mut self.prefixes, piece);
+        match scan.payload {
             None => Fed {
-                used,
+                used: scan.used,
                 answer: Answer::Hungry,
             },
             Some(payload) => {
@@ -119,7 +119,7 @@ impl Scanner {
                 self.passed += payload + 6;
                 let bytes = all_bytes(&mut self.ring);
                 Fed {
-                    used,
+                    used: scan.used,
                     answer: Answer::Found(&bytes[start..start + payload]),
                 }
             }
@@ -156,21 +156,29 @@ impl Scanner {
     }
 }
 
+// How far a scan came.
+#[derive(Clone, Copy)]
+struct Reached {
+    // How many bytes of the piece were used.
+    used: usize,
+    // The length of the payload, if a frame stands behind the passed bytes.
+    payload: Option<usize>,
+}
+
 // Scans the ring from its passed bytes on, and bytes of the piece, up to the next frame or to the end.
-// If bytes are wanted, as many enter the ring as there is room for. Gives how many bytes were used,
-// and the length of the payload if a frame is behind the passed bytes.
+// If bytes are wanted, as many enter the ring as there is room for.
 fn advance(
     ring: &mut HeapCircularBuffer<u8>,
     passed: &mut usize,
     prefixes: &mut ArrayVec<u32, MOST_PREFIXES>,
     piece: &[u8],
-) -> (usize, Option<usize>)
+) -> Reached
     requires { RingHolds ring.old passed.old prefixes.old.items }
     ensures held { RingHolds ring.new passed.new prefixes.new.items }
-    ensures used { result.0 ≤ length piece.now }
-    ensures scanned { Scanned (drop passed.old ring.old.items ++ take result.0 piece.now) (drop passed.new ring.new.items) }
-    ensures found { MatchOption result.1
-        ((result.0 ≡ length piece.now)
+    ensures used { result.used ≤ length piece.now }
+    ensures scanned { Scanned (drop passed.old ring.old.items ++ take result.used piece.now) (drop passed.new ring.new.items) }
+    ensures found { MatchOption result.payload
+        ((result.used ≡ length piece.now)
         × ((begins_partial (drop passed.new ring.new.items) ≡ true) ⊎ (drop passed.new ring.new.items ≡ [])))
         (λ n. (begins_frame (drop passed.new ring.new.items) ≡ true)
         × (n ≡ payload_length (drop passed.new ring.new.items)) × (n ≤ 1023)) }
@@ -179,12 +187,20 @@ fn advance(
     'scan: loop {
         drop_passed(ring, passed, prefixes);
         match front_at(ring.make_contiguous(), *passed, prefixes) {
-            Front::Whole(payload) => return (used, Some(payload)),
+            Front::Whole(payload) => {
+                return Reached {
+                    used,
+                    payload: Some(payload),
+                };
+            }
             Front::Other => pass_to_preamble(ring, passed),
             Front::Partial => {
                 used += bytes_to_pass(ring, *passed, &piece[used..]);
                 if used == piece.len() {
-                    return (used, None);
+                    return Reached {
+                        used,
+                        payload: None,
+                    };
                 }
                 let room = LONGEST_FRAME - (ring.len() - *passed);
                 let more = room.min(piece.len() - used);

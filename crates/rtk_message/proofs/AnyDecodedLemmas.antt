@@ -3,7 +3,6 @@
 use Rattle.std.proofs.Common.{◌≡◌, ◌≢◌, ℕ, ◌^◌, ◌<◌, ◌≤◌, Bool, true, false, List, ◌++◌, length, take, drop, Option, Some, None, Result, Ok, Err, refl, sym, ap, ◌∙◌, append_assoc, arith, length-append, ltb, inl, inr}
 use Rattle.std.specs.Prelude.{IfOk, IfErr, IsTrue, ◌==◌, if◌then◌else◌}
 use Rattle.std.proofs.lemmas.Bool.{le-ltb}
-use Rattle.std.proofs.lemmas.Bool.Decides.{eqb_tells}
 use Rattle.std.proofs.lemmas.List.{take_at, drop_at}
 use Rattle.std.proofs.Math.Nat.{mod-eq_of_lt}
 use Rattle.rtk_bits.specs.Bits.{unsigned, bits_of}
@@ -16,7 +15,6 @@ use Rattle.rtk_message.specs.declared.any_message.AnyMessage.TheVariants.{Messag
 use Rattle.rtk_message.specs.declared.fault.DecodeFault.{DecodeFault}
 use Rattle.rtk_message.specs.declared.fault.DecodeFault.TheVariants as fault
 use Rattle.rtk_message.specs.declared.message.Message as declared_message
-use Rattle.rtk_message.specs.declared.message.Message.TheVariants.{Obs1004, Arp1005, Arp1006, Msm1074}
 use Rattle.rtk_message.specs.declared.msm_kind.MsmKind.{MsmKind}
 use Rattle.rtk_message.specs.declared.msm_kind.MsmKind.TheVariants.{Msm4, Msm5, Msm6, Msm7}
 use Rattle.rtk_message.specs.Accepted.{accepts, four}
@@ -27,10 +25,6 @@ use Rattle.rtk_message.specs.MsmForm as form
 use Rattle.rtk_message.specs.AnyDecoded.{number_of, fields_after_number, IsValid, Encodes, DecodesBy, any_of, if_any_fault_of, fault_after_number, fault_by, first_fault}
 use Rattle.rtk_message.specs.Steps.AfterNumber.{BeginsAfterNumber}
 use Rattle.rtk_message.specs.Steps.AfterAnyNumber.{BeginsAfterAnyNumber}
-use Rattle.rtk_message.specs.Obs1004Laws as obs1004
-use Rattle.rtk_message.specs.Arp1005Laws as arp1005
-use Rattle.rtk_message.specs.Arp1006Laws as arp1006
-use Rattle.rtk_message.specs.Msm1074Laws as msm1074
 use Rattle.rtk_message.proofs.DecodedLemmas as four_lemmas
 use Rattle.rtk_message.proofs.MsmLemmas as msm
 
@@ -45,13 +39,6 @@ kind_number Msm7 = omega arith
 number_fits : (m : AnyMessage) → number_of m < 2 ^ 12
 number_fits (Message m) = four_lemmas.number_fits m
 number_fits (Msm m) = kind_number m.kind
-
--- none of the four is a 1075, 1076 or 1077
-four_number : (m : declared_message.Message) → decoded.number_of m ≤ 1074
-four_number (Obs1004 m) = omega arith
-four_number (Arp1005 m) = omega arith
-four_number (Arp1006 m) = omega arith
-four_number (Msm1074 m) = omega arith
 
 -- a number has one kind
 kind_of : ℕ → MsmKind
@@ -93,10 +80,10 @@ starts : {bs : List Bool} (m : AnyMessage) (s : Encodes bs m) → four_lemmas.Be
 starts {bs = bs} m s = four_lemmas.begins_with bs (number_of m) (fields_after_number m) s.begins.0 (number_fits m) s.begins.1
 
 no_fault_after : (m : AnyMessage) (rest : List Bool) → IsValid m → fault_after_number (number_of m) (bits_of_fields (fields_after_number m) ++ rest) ≡ None
-no_fault_after (Message (Obs1004 m)) rest v = rw (obs1004.is_accepted m rest v) refl
-no_fault_after (Message (Arp1005 m)) rest v = rw (arp1005.is_accepted m rest v) refl
-no_fault_after (Message (Arp1006 m)) rest v = rw (arp1006.is_accepted m rest v) refl
-no_fault_after (Message (Msm1074 m)) rest v = rw (msm1074.is_accepted m rest v) refl
+no_fault_after (Message m) rest v =
+    let few = four_lemmas.four_number m in
+    four_lemmas.same_fault_of_other (decoded.number_of m) (bits_of_fields (decoded.fields_after_number m) ++ rest) (λ e. omega (arith, few, e)) (λ e. omega (arith, few, e)) (λ e. omega (arith, few, e))
+    ∙ ap if_any_fault_of (four_lemmas.no_fault_after_number m rest v)
 no_fault_after (Msm m) rest v = wide_fault m.kind (bits_of_fields (form.table m) ++ rest) v.wide ∙ msm.is_accepted m rest v.form
 
 no_fault : (a : Accepted) (bs : List Bool) (m : AnyMessage) → IsTrue (accepts a (number_of m)) → Encodes bs m → first_fault a bs ≡ None
@@ -113,8 +100,8 @@ same_bits bs m n s t = sym (starts m s).after ∙ (starts n t).after
 
 one : (bs : List Bool) (m n : AnyMessage) → Encodes bs m → Encodes bs n → m ≡ n
 one bs (Message m) (Message n) s t = ap Message (four_lemmas.one bs m n (record { valid = s.valid; begins = s.begins }) (record { valid = t.valid; begins = t.begins }))
-one bs (Message m) (Msm n) s t = absurd (omega (arith, same_number bs (Message m) (Msm n) s t, four_number m, t.valid.wide))
-one bs (Msm m) (Message n) s t = absurd (omega (arith, same_number bs (Msm m) (Message n) s t, four_number n, s.valid.wide))
+one bs (Message m) (Msm n) s t = absurd (omega (arith, same_number bs (Message m) (Msm n) s t, four_lemmas.four_number m, t.valid.wide))
+one bs (Msm m) (Message n) s t = absurd (omega (arith, same_number bs (Msm m) (Message n) s t, four_lemmas.four_number n, s.valid.wide))
 one bs (Msm m) (Msm n) s t =
     let kinds : m.kind ≡ n.kind = same_kind m.kind n.kind (same_number bs (Msm m) (Msm n) s t) in
     ap Msm (msm.is_unique m n s.begins.0 t.begins.0 kinds s.valid.form t.valid.form (same_bits bs (Msm m) (Msm n) s t))
@@ -167,50 +154,12 @@ pub fault_after_four : (k : ℕ) (bs : List Bool) (r : Result declared_message.M
 fault_after_four k bs (Ok m) same f = tt
 fault_after_four k bs (Err e) same f = same ∙ ap if_any_fault_of f
 
-pub same_fault_of_other : (n : ℕ) (bs : List Bool) → n ≢ 1075 → n ≢ 1076 → n ≢ 1077 → fault_after_number n bs ≡ if_any_fault_of (decoded.fault_after_number n bs)
-same_fault_of_other n bs p q r =
-    let five : (n == 1075) ≡ false = differs n 1075 p in
-    let six : (n == 1076) ≡ false = differs n 1076 q in
-    let seven : (n == 1077) ≡ false = differs n 1077 r in
-    rw (five, six, seven) refl where
-      differs : (n k : ℕ) → n ≢ k → (n == k) ≡ false
-      differs n k other = elim (eqb_tells n k) [ inl e ↦ absurd (other e.1) | inr e ↦ e.0 ]
-
--- the faults of the set of the four are those of `decode`
-same_tests : {X : Type 0} (b c d : Bool) (x y z t : X) → (if (if b then false else if c then false else if d then false else false) then (if b then x else if c then y else if d then z else t) else t) ≡ t
-same_tests true c d x y z t = refl
-same_tests false true d x y z t = refl
-same_tests false false true x y z t = refl
-same_tests false false false x y z t = refl
-
-fault_by_four : (n : ℕ) (bs : List Bool) → fault_by four n bs ≡ if_any_fault_of (decoded.fault_after_number n bs)
-fault_by_four n bs = elim (eqb_tells n 1004) [
-  | inl e ↦ rw e.1 refl
-  | inr e4 ↦ elim (eqb_tells n 1005) [
-    | inl e ↦ rw e.1 refl
-    | inr e5 ↦ elim (eqb_tells n 1006) [
-      | inl e ↦ rw e.1 refl
-      | inr e6 ↦ elim (eqb_tells n 1074) [
-        | inl e ↦ rw e.1 refl
-        | inr e74 ↦ rw (e4.0, e5.0, e6.0, e74.0) (same_tests (n == 1075) (n == 1076) (n == 1077) (form.first_fault Msm5 bs) (form.first_fault Msm6 bs) (form.first_fault Msm7 bs) (Some (Other n)))
-      ]
-    ]
-  ]
-]
-
 if_short : (b : Bool) (x : Option DecodeFault) → (if b then Some NoNumber else if_any_fault_of x) ≡ if_any_fault_of (if b then Some fault.NoNumber else x)
 if_short true x = refl
 if_short false x = refl
 
 first_by_four : (bs : List Bool) → first_fault four bs ≡ if_any_fault_of (decoded.first_fault bs)
-first_by_four bs = rw (fault_by_four (unsigned (take 12 bs)) (drop 12 bs)) (if_short (ltb (length bs) 12) (decoded.fault_after_number (unsigned (take 12 bs)) (drop 12 bs)))
-
--- the set has each of the four, and no other message
-four_member : (m : declared_message.Message) → IsTrue (accepts four (decoded.number_of m))
-four_member (Obs1004 m) = refl
-four_member (Arp1005 m) = refl
-four_member (Arp1006 m) = refl
-four_member (Msm1074 m) = refl
+first_by_four bs = rw (four_lemmas.fault_by_four (unsigned (take 12 bs)) (drop 12 bs)) (if_short (ltb (length bs) 12) (decoded.fault_after_number (unsigned (take 12 bs)) (drop 12 bs)))
 
 not_wide : (k : MsmKind) → form.IsWide k → IsTrue (accepts four (form.number_of_kind k)) → ⊥
 not_wide Msm4 wide member = omega (arith, wide)
@@ -221,7 +170,7 @@ not_wide Msm7 wide member = cc
 pub by_four : (bs : List Bool) (r : Result declared_message.Message DecodeFault) → decoded.Decodes bs r → DecodesBy four bs (any_of r)
 by_four bs (Ok m) d =
     let message : Encodes bs (Message m) = record { valid = d.message.valid; begins = d.message.begins } in
-    record { message = message; accepted = four_member m; fault = tt; only = only four bs (Ok (Message m)) message tt }
+    record { message = message; accepted = four_lemmas.four_member m; fault = tt; only = only four bs (Ok (Message m)) message tt }
 by_four bs (Err f) d = decodes_fault four bs _ (first_by_four bs ∙ ap if_any_fault_of d.fault)
 
 -- `decode` finds one answer, which is the only one

@@ -1,7 +1,9 @@
--- Bits begin with at most one message, and have no fault if they begin with one.
-use Rattle.std.proofs.Common.{◌≡◌, ℕ, ◌^◌, ◌<◌, Bool, false, List, ◌∷◌, ◌++◌, length, take, drop, Some, None, Result, Ok, Err, refl, sym, ap, ◌∙◌, append_assoc, arith, length-append, ltb}
-use Rattle.std.specs.Prelude.{IfOk, IfErr}
+-- Bits begin with at most one message, and have no fault if they begin with one. Here alone, of these
+-- lemmas on readings, the types are told apart.
+use Rattle.std.proofs.Common.{◌≡◌, ◌≢◌, ℕ, ◌^◌, ◌<◌, ◌≤◌, Bool, true, false, inl, inr, List, ◌∷◌, ◌++◌, length, take, drop, Some, None, Result, Ok, Err, refl, sym, ap, ◌∙◌, append_assoc, arith, length-append, ltb}
+use Rattle.std.specs.Prelude.{IfOk, IfErr, IsTrue, ◌==◌, if◌then◌else◌}
 use Rattle.std.proofs.lemmas.Bool.{le-ltb}
+use Rattle.std.proofs.lemmas.Bool.Decides.{eqb_tells}
 use Rattle.std.proofs.lemmas.List.{take_at, drop_at}
 use Rattle.std.proofs.Math.Nat.{mod-eq_of_lt}
 use Rattle.rtk_bits.specs.Bits.{unsigned, bits_of}
@@ -9,8 +11,14 @@ use Rattle.rtk_bits.proofs.PublicLaws.{length-bits_of, unsigned-bits_of}
 use Rattle.rtk_message.specs.declared.message.Message.{Message}
 use Rattle.rtk_message.specs.declared.message.Message.TheVariants.{Obs1004, Arp1005, Arp1006, Msm1074}
 use Rattle.rtk_message.specs.declared.fault.DecodeFault.{DecodeFault}
+use Rattle.rtk_message.specs.declared.any_fault.AnyFault.TheVariants as any_fault
+use Rattle.rtk_message.specs.declared.msm_kind.MsmKind.TheVariants.{Msm5, Msm6, Msm7}
+use Rattle.rtk_message.specs.Accepted.{accepts, four}
+use Rattle.rtk_message.specs.AnyDecoded as any
+use Rattle.rtk_message.specs.AnyDecoded.{if_any_fault_of, fault_by}
 use Rattle.rtk_message.specs.Fields.{Field, u, bits_of_fields}
-use Rattle.rtk_message.specs.Decoded.{number_of, fields_after_number, Encodes, Decodes, first_fault, fault_after_number}
+use Rattle.rtk_message.specs.MsmForm as form
+use Rattle.rtk_message.specs.Decoded.{number_of, fields_after_number, IsValid, Encodes, Decodes, first_fault, fault_after_number}
 use Rattle.rtk_message.specs.Steps.AfterNumber.{BeginsAfterNumber}
 use Rattle.rtk_message.specs.Obs1004Laws as obs1004
 use Rattle.rtk_message.specs.Arp1005Laws as arp1005
@@ -44,11 +52,14 @@ starts {bs = bs} m s = begins_with bs (number_of m) (fields_after_number m) s.be
 
 -- ---- by the law `accepted` of each type
 
+pub no_fault_after_number : (m : Message) (rest : List Bool) → IsValid m → fault_after_number (number_of m) (bits_of_fields (fields_after_number m) ++ rest) ≡ None
+no_fault_after_number (Obs1004 m) rest v = obs1004.is_accepted m rest v
+no_fault_after_number (Arp1005 m) rest v = arp1005.is_accepted m rest v
+no_fault_after_number (Arp1006 m) rest v = arp1006.is_accepted m rest v
+no_fault_after_number (Msm1074 m) rest v = msm1074.is_accepted m rest v
+
 no_fault : (bs : List Bool) (m : Message) → Encodes bs m → first_fault bs ≡ None
-no_fault bs (Obs1004 m) s = let b = starts (Obs1004 m) s in rw (b.long, b.number, b.after, obs1004.is_accepted m s.begins.0 s.valid) refl
-no_fault bs (Arp1005 m) s = let b = starts (Arp1005 m) s in rw (b.long, b.number, b.after, arp1005.is_accepted m s.begins.0 s.valid) refl
-no_fault bs (Arp1006 m) s = let b = starts (Arp1006 m) s in rw (b.long, b.number, b.after, arp1006.is_accepted m s.begins.0 s.valid) refl
-no_fault bs (Msm1074 m) s = let b = starts (Msm1074 m) s in rw (b.long, b.number, b.after, msm1074.is_accepted m s.begins.0 s.valid) refl
+no_fault bs m s = let b = starts m s in rw (b.long, b.number, b.after) (no_fault_after_number m s.begins.0 s.valid)
 
 -- ---- by the law `unique` of each type
 
@@ -112,3 +123,51 @@ decodes_after bs left n k r small is number ok err =
 
 pub decodes_fault : (bs : List Bool) (f : DecodeFault) → first_fault bs ≡ Some f → Decodes bs (Err f)
 decodes_fault bs f first = record { message = tt; fault = first; only = only bs (Err f) tt first }
+
+-- ---- the four messages in the wider set
+
+-- none of the four is a 1075, 1076 or 1077
+pub four_number : (m : Message) → number_of m ≤ 1074
+four_number (Obs1004 m) = omega arith
+four_number (Arp1005 m) = omega arith
+four_number (Arp1006 m) = omega arith
+four_number (Msm1074 m) = omega arith
+
+-- the set of the four has each of them
+pub four_member : (m : Message) → IsTrue (accepts four (number_of m))
+four_member (Obs1004 m) = refl
+four_member (Arp1005 m) = refl
+four_member (Arp1006 m) = refl
+four_member (Msm1074 m) = refl
+
+-- the fault after a number that is no 1075, 1076 or 1077
+pub same_fault_of_other : (n : ℕ) (bs : List Bool) → n ≢ 1075 → n ≢ 1076 → n ≢ 1077 → any.fault_after_number n bs ≡ if_any_fault_of (fault_after_number n bs)
+same_fault_of_other n bs p q r =
+    let five : (n == 1075) ≡ false = differs n 1075 p in
+    let six : (n == 1076) ≡ false = differs n 1076 q in
+    let seven : (n == 1077) ≡ false = differs n 1077 r in
+    rw (five, six, seven) refl where
+      differs : (n k : ℕ) → n ≢ k → (n == k) ≡ false
+      differs n k other = elim (eqb_tells n k) [ inl e ↦ absurd (other e.1) | inr e ↦ e.0 ]
+
+-- the faults of the set of the four are those of `decode`
+same_tests : {X : Type 0} (b c d : Bool) (x y z t : X) → (if (if b then false else if c then false else if d then false else false) then (if b then x else if c then y else if d then z else t) else t) ≡ t
+same_tests true c d x y z t = refl
+same_tests false true d x y z t = refl
+same_tests false false true x y z t = refl
+same_tests false false false x y z t = refl
+
+pub fault_by_four : (n : ℕ) (bs : List Bool) → fault_by four n bs ≡ if_any_fault_of (fault_after_number n bs)
+fault_by_four n bs = elim (eqb_tells n 1004) [
+  | inl e ↦ rw e.1 refl
+  | inr e4 ↦ elim (eqb_tells n 1005) [
+    | inl e ↦ rw e.1 refl
+    | inr e5 ↦ elim (eqb_tells n 1006) [
+      | inl e ↦ rw e.1 refl
+      | inr e6 ↦ elim (eqb_tells n 1074) [
+        | inl e ↦ rw e.1 refl
+        | inr e74 ↦ rw (e4.0, e5.0, e6.0, e74.0) (same_tests (n == 1075) (n == 1076) (n == 1077) (form.first_fault Msm5 bs) (form.first_fault Msm6 bs) (form.first_fault Msm7 bs) (Some (any_fault.Other n)))
+      ]
+    ]
+  ]
+]

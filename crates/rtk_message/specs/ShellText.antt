@@ -44,5 +44,5 @@ folder_before name = if nat_lt 0 (length name) && (get_or name 0 0 == 45) then c
 
 -- formula
 -- the name of a file as sh takes it
-abbrev pub sh_quoted : List ℕ → List ℕ
+unfoldable pub sh_quoted : List ℕ → List ℕ
 sh_quoted name = folder_before name ++ quoted_if_needed name

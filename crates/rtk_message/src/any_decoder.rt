@@ -9,10 +9,9 @@ ghost use Rattle.rtk_message.specs.Steps.AfterAnyNumber.{BeginsAfterAnyNumber};
 use crate::accepted::Accepted;
 use crate::any_fault::AnyFault;
 use crate::any_message::AnyMessage;
-use crate::decoding::read_after;
 use crate::fault::DecodeFault;
 use crate::layout::Layout;
-use crate::message::Message;
+use crate::message::{Message, read_by_number};
 use crate::msm::Msm;
 use crate::msm_kind::MsmKind;
 use crate::msm1074::Msm1074;
@@ -36,7 +35,7 @@ pub fn decode_any(accepted: Accepted, payload: &[u8]) -> Result<AnyMessage, AnyF
     if !accepted.accepts(number) {
         return Err(AnyFault::Other { number });
     }
-    read_any(number, reader)
+    read_any_by_number(number, reader)
 }
 
 /// Decodes payloads one after another by a set of messages, and keeps the last reading of each kind.
@@ -75,25 +74,25 @@ impl AnyDecoder {
     {
         let mut reader = BitReader::new(payload);
         let Some(number) = reader.take_u(12) else {
-            put_fault(&mut self.other, AnyFault::NoNumber);
+            keep_fault(&mut self.other, AnyFault::NoNumber);
             return &self.other;
         };
         let number = number as u16;
         match number {
             Obs1004::NUMBER => {
-                put_1004(&mut self.obs1004, reader);
+                keep_1004(&mut self.obs1004, reader);
                 &self.obs1004
             }
             Msm1074::NUMBER if accepted.msm4 => {
-                put_1074(&mut self.msm1074, reader);
+                keep_1074(&mut self.msm1074, reader);
                 &self.msm1074
             }
-            _ => self.read_other(accepted, number, reader),
+            _ => self.read_other_number(accepted, number, reader),
         }
     }
 
     // Reads a message with another number than 1004, and than 1074 if that is in the set.
-    fn read_other(
+    fn read_other_number(
         &mut self,
         accepted: Accepted,
         number: u16,
@@ -103,93 +102,93 @@ impl AnyDecoder {
         ensures { (bs : List Bool) → bs ≡ bits_of 12 number ++ reader.entry → DecodesBy accepted bs result.now }
     {
         if !accepted.accepts(number) {
-            put_fault(&mut self.other, AnyFault::Other { number });
+            keep_fault(&mut self.other, AnyFault::Other { number });
             return &self.other;
         }
         let Some(kind) = MsmKind::wide(number) else {
-            put_new(&mut self.other, number, reader);
+            keep_new(&mut self.other, number, reader);
             return &self.other;
         };
-        put_msm(&mut self.msm, kind, reader);
+        keep_wide_msm(&mut self.msm, kind, reader);
         &self.msm
     }
 }
 
 // Reads a 1004, over the one that is kept.
 #[inline(never)]
-fn put_1004(kept: &mut Result<AnyMessage, AnyFault>, mut reader: BitReader<'_>)
+fn keep_1004(kept: &mut Result<AnyMessage, AnyFault>, mut reader: BitReader<'_>)
     ensures message { IfOk kept.new (λ m. BeginsAfterAnyNumber 1004 reader.entry m) }
     ensures fault { IfErr kept.new (λ f. fault_after_number 1004 reader.entry ≡ Some f) }
 {
     if let Ok(AnyMessage::Message(Message::Obs1004(message))) = kept {
-        let Err(fault) = message.read_over(&mut reader) else {
+        let Err(fault) = message.replace_fields(&mut reader) else {
             return;
         };
-        put_fault(kept, AnyFault::from(fault));
+        keep_fault(kept, AnyFault::from(fault));
         return;
     }
-    put_new(kept, Obs1004::NUMBER, reader);
+    keep_new(kept, Obs1004::NUMBER, reader);
 }
 
 // Reads a 1074, over the one that is kept.
 #[inline(never)]
-fn put_1074(kept: &mut Result<AnyMessage, AnyFault>, mut reader: BitReader<'_>)
+fn keep_1074(kept: &mut Result<AnyMessage, AnyFault>, mut reader: BitReader<'_>)
     ensures message { IfOk kept.new (λ m. BeginsAfterAnyNumber 1074 reader.entry m) }
     ensures fault { IfErr kept.new (λ f. fault_after_number 1074 reader.entry ≡ Some f) }
 {
     if let Ok(AnyMessage::Message(Message::Msm1074(message))) = kept {
-        let Err(fault) = message.read_over(&mut reader) else {
+        let Err(fault) = message.replace_fields(&mut reader) else {
             return;
         };
-        put_fault(kept, AnyFault::from(fault));
+        keep_fault(kept, AnyFault::from(fault));
         return;
     }
-    put_new(kept, Msm1074::NUMBER, reader);
+    keep_new(kept, Msm1074::NUMBER, reader);
 }
 
 // Reads a 1075, 1076 or 1077, over the one of these that is kept.
 #[inline(never)]
-fn put_msm(kept: &mut Result<AnyMessage, AnyFault>, kind: MsmKind, mut reader: BitReader<'_>)
+fn keep_wide_msm(kept: &mut Result<AnyMessage, AnyFault>, kind: MsmKind, mut reader: BitReader<'_>)
     requires { IsWide kind }
     ensures message { IfOk kept.new (λ m. BeginsAfterAnyNumber (number_of_kind kind) reader.entry m) }
     ensures fault { IfErr kept.new (λ f. fault_after_number (number_of_kind kind) reader.entry ≡ Some f) }
 {
     if let Ok(AnyMessage::Msm(message)) = kept {
-        let Err(fault) = message.read_over(kind, &mut reader) else {
+        let Err(fault) = message.replace_fields(kind, &mut reader) else {
             return;
         };
-        put_fault(kept, fault);
+        keep_fault(kept, fault);
         return;
     }
-    put_new(kept, kind.number(), reader);
+    keep_new(kept, kind.number(), reader);
 }
 
 // These have a reading among their locals, which a function clears when it is called. They are not
 // inlined, so that this is done only if one of them is called.
 
 #[inline(never)]
-fn put_new(kept: &mut Result<AnyMessage, AnyFault>, number: u16, reader: BitReader<'_>)
+fn keep_new(kept: &mut Result<AnyMessage, AnyFault>, number: u16, reader: BitReader<'_>)
     ensures message { IfOk kept.new (λ m. BeginsAfterAnyNumber number reader.entry m) }
     ensures fault { IfErr kept.new (λ f. fault_after_number number reader.entry ≡ Some f) }
 {
-    *kept = read_any(number, reader);
+    *kept = read_any_by_number(number, reader);
 }
 
 #[inline(never)]
-fn put_fault(kept: &mut Result<AnyMessage, AnyFault>, fault: AnyFault)
+fn keep_fault(kept: &mut Result<AnyMessage, AnyFault>, fault: AnyFault)
     ensures { kept.new ≡ Err fault }
 {
     *kept = Err(fault);
 }
 
 // Reads the message after its number.
-fn read_any(number: u16, reader: BitReader<'_>) -> Result<AnyMessage, AnyFault>
+fn read_any_by_number(number: u16, reader: BitReader<'_>) -> Result<AnyMessage, AnyFault>
     ensures message { IfOk result (λ m. BeginsAfterAnyNumber number reader.entry m) }
     ensures fault { IfErr result (λ f. fault_after_number number reader.entry ≡ Some f) }
 {
     match MsmKind::wide(number) {
-        Some(kind) => read_msm(kind, reader),
-        None => any(read_after(number, reader)),
+        Some(kind) => read_wide_msm(kind, reader),
+        None => any(read_by_number(number, reader)),
     }
 }
 
@@ -204,12 +203,12 @@ fn any(reading: Result<Message, DecodeFault>) -> Result<AnyMessage, AnyFault>
 }
 
 #[inline(never)]
-fn read_msm(kind: MsmKind, mut reader: BitReader<'_>) -> Result<AnyMessage, AnyFault>
+fn read_wide_msm(kind: MsmKind, mut reader: BitReader<'_>) -> Result<AnyMessage, AnyFault>
     requires { IsWide kind }
     ensures message { IfOk result (λ m. BeginsAfterAnyNumber (number_of_kind kind) reader.entry m) }
     ensures fault { IfErr result (λ f. fault_after_number (number_of_kind kind) reader.entry ≡ Some f) }
 {
     let mut message = Msm::empty(kind);
-    message.read_over(kind, &mut reader)?;
+    message.replace_fields(kind, &mut reader)?;
     Ok(AnyMessage::Msm(message))
 }

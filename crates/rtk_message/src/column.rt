@@ -2,7 +2,7 @@
 
 ghost use Rattle.rtk_message.specs.FieldColumns.{numbers};
 ghost use Rattle.rtk_message.specs.Fields.{TakesAll, FieldsFit};
-ghost use Rattle.rtk_message.specs.Steps.FieldSteps.{PutsAll};
+ghost use Rattle.rtk_message.specs.Steps.FieldSteps.{PutsAll, TakesMore};
 ghost use Rattle.std.specs.Prelude.{◌≡◌, ◌≤◌, ◌<◌, ◌*◌, ◌+◌, length, take, OnOk, sum_by, count_ones, ◌++◌, map, List, Bool, IsTrue, ◌↔◌};
 
 use crate::field::{FieldValue, Word, next_word};
@@ -213,7 +213,7 @@ fn read_fields<T: FieldValue>(
     requires width { T.IsWidth width }
     requires some { (1 ≤ width) × (1 ≤ fields) × (width * fields ≤ 64) }
     requires enough { width * fields ≤ length reader.old }
-    ensures fields { (from : List Bool) → TakesAll (map (T.field width) (take at column.old)) from reader.old → TakesAll (map (T.field width) (take (at + fields) column.new)) from reader.new }
+    ensures fields { TakesMore (T.field width) (take at column.old) (take (at + fields) column.new) reader.old reader.new }
     ensures count { length column.new ≡ length column.old }
     ensures left { length reader.old ≡ width * fields + length reader.new }
 {
@@ -236,7 +236,8 @@ fn set_fields<T: FieldValue>(
     requires width { T.IsWidth width }
     requires some { 1 ≤ width }
     requires enough { width * fields ≤ length word.old }
-    ensures fields { (from rest : List Bool) → TakesAll (map (T.field width) (take at column.old)) from (word.old ++ rest) → TakesAll (map (T.field width) (take (at + fields) column.new)) from (word.new ++ rest) }
+    ensures fields { (rest : List Bool) → TakesMore (T.field width) (take at column.old) (take (at + fields) column.new)
+        (word.old ++ rest) (word.new ++ rest) }
     ensures count { length column.new ≡ length column.old }
     ensures left { length word.old ≡ width * fields + length word.new }
 {

@@ -1,15 +1,15 @@
 //! From a message to the bytes of its payload, and back again.
 
-ghost use Rattle.std.specs.Prelude.{◌≡◌, ◌<◌, ◌∷◌, ◌++◌, OnOk, IfOk, IsTrue, Ok, List, ℕ, Result};
+ghost use Rattle.std.specs.Prelude.{◌≡◌, ◌++◌, OnOk, IfOk, IsTrue, Ok, List, ℕ, Result};
 ghost use Rattle.rtk_bits.specs.Bits.{bits};
-ghost use Rattle.rtk_message.specs.Fields.{u, bits_of_fields};
+ghost use Rattle.rtk_message.specs.Fields.{bits_of_fields};
 ghost use Rattle.rtk_message.specs.declared.message.Message.{Message};
 ghost use Rattle.rtk_message.specs.declared.fault.DecodeFault.{DecodeFault};
 ghost use Rattle.rtk_message.specs.declared.accepted.Accepted.{Accepted};
 ghost use Rattle.rtk_message.specs.declared.any_fault.AnyFault.{AnyFault};
 ghost use Rattle.rtk_message.specs.declared.any_message.AnyMessage.{AnyMessage};
 ghost use Rattle.rtk_message.specs.Accepted.{accepts};
-ghost use Rattle.rtk_message.specs.Decoded.{IsValid, IsPayloadOf, Decodes, table};
+ghost use Rattle.rtk_message.specs.Decoded.{IsValid, IsPayloadOf, Decodes};
 ghost use Rattle.rtk_message.specs.AnyDecoded as any;
 ghost use Rattle.rtk_message.specs.MsmForm as form;
 
@@ -17,7 +17,6 @@ use crate::accepted::Accepted;
 use crate::any_fault::AnyFault;
 use crate::any_message::AnyMessage;
 use crate::fault::DecodeFault;
-use crate::layout::Layout;
 use crate::message::Message;
 use crate::msm::Msm;
 use rtk_bits::BitWriter;
@@ -31,7 +30,7 @@ pub fn encode(alloc: Global, message: &Message) -> Result<Vec<u8>, AllocError>
     ensures { IfOk result (λ payload. IsPayloadOf message.now payload.items) }
 {
     let mut writer = BitWriter::new(alloc);
-    write_message(&mut writer, message)?;
+    message.write(&mut writer)?;
     Ok(writer.finish())
 }
 
@@ -42,53 +41,31 @@ pub fn encode_any(alloc: Global, message: &AnyMessage) -> Result<Vec<u8>, AllocE
 {
     let mut writer = BitWriter::new(alloc);
     match message {
-        AnyMessage::Message(message) => write_message(&mut writer, message)?,
+        AnyMessage::Message(message) => message.write(&mut writer)?,
         AnyMessage::Msm(message) => write_msm(&mut writer, message)?,
     }
     Ok(writer.finish())
 }
 
-// Puts the number and the fields after it.
-fn write_message(writer: &mut BitWriter, message: &Message) -> Result<(), AllocError>
-    requires { IsValid message.now }
-    ensures { OnOk result (writer.new ≡ writer.old ++ bits_of_fields (table message.now)) }
-{
-    match message {
-        Message::Obs1004(message) => write_as(writer, message),
-        Message::Arp1005(message) => write_as(writer, message),
-        Message::Arp1006(message) => write_as(writer, message),
-        Message::Msm1074(message) => write_as(writer, message),
-    }
-}
-
 // Puts the number of a 1075, 1076 or 1077, and the fields after it.
 fn write_msm(writer: &mut BitWriter, message: &Msm) -> Result<(), AllocError>
     requires { form.IsValid message.now }
-    ensures { OnOk result (writer.new ≡ writer.old ++ bits_of_fields (u 12 (form.number_of_kind message.now.kind) ∷ form.table message.now)) }
+    ensures { OnOk result (writer.new ≡ writer.old ++ bits_of_fields (any.table (AnyMessage.Msm message.now))) }
 {
     writer.put_u(12, message.kind.number() as u64)?;
     message.write(writer)?;
     Ok(())
 }
 
-// Puts the number and the fields after it. The proof uses only the clauses of `Layout`.
-fn write_as<T: Layout>(writer: &mut BitWriter, message: &T) -> Result<(), AllocError>
-    requires number { T.NUMBER < 4096 }
-    requires valid { T.IsValid message.now }
-    ensures { OnOk result (writer.new ≡ writer.old ++ bits_of_fields (u 12 T.NUMBER ∷ T.table message.now)) }
-{
-    writer.put_u(12, T::NUMBER as u64)?;
-    message.write(writer)?;
-    Ok(())
-}
-
 /// A law: if `encode` writes a message, `decode` reads the same message from these bytes.
 pub fn decode_of_encode()
-    ensures { (m : Message) (payload : List ℕ) (r : Result Message DecodeFault) → IsValid m → IsPayloadOf m payload → Decodes (bits payload) r → r ≡ Ok m }
+    ensures { (m : Message) (payload : List ℕ) (r : Result Message DecodeFault) → IsValid m
+        → IsPayloadOf m payload → Decodes (bits payload) r → r ≡ Ok m }
 {}
 
 /// A law: if `encode_any` writes a message of a set, `decode_any` reads the same message from these
 /// bytes by this set, and so does `AnyDecoder::read`.
 pub fn decode_any_of_encode_any()
-    ensures { (a : Accepted) (m : AnyMessage) (payload : List ℕ) (r : Result AnyMessage AnyFault) → any.IsValid m → IsTrue (accepts a (any.number_of m)) → any.IsPayloadOf m payload → any.DecodesBy a (bits payload) r → r ≡ Ok m }
+    ensures { (a : Accepted) (m : AnyMessage) (payload : List ℕ) (r : Result AnyMessage AnyFault) → any.IsValid m
+        → IsTrue (accepts a (any.number_of m)) → any.IsPayloadOf m payload → any.DecodesBy a (bits payload) r → r ≡ Ok m }
 {}

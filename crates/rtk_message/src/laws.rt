@@ -93,7 +93,8 @@ pub fn named_sets()
 /// `decode_any` answers nothing else by this set.
 pub fn decodes_by_four()
     ensures same { (bs : List Bool) (r : Result Message DecodeFault) → Decodes bs r ↔ DecodesBy four bs (any_of r) }
-    ensures each { (bs : List Bool) (r : Result AnyMessage AnyFault) → DecodesBy four bs r → (q : Result Message DecodeFault) × (r ≡ any_of q) × Decodes bs q }
+    ensures each { (bs : List Bool) (r : Result AnyMessage AnyFault) → DecodesBy four bs r
+        → (q : Result Message DecodeFault) × (r ≡ any_of q) × Decodes bs q }
 {}
 
 /// A law: if fields and others after them fit their widths, then the fields fit by themselves, and

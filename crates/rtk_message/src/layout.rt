@@ -58,5 +58,6 @@ pub trait Layout: Sized {
     ghost accepted: { (m : Self) (rest : List Bool) → IsValid m → first_fault (bits_of_fields (table m) ++ rest) ≡ None };
 
     /// No bits begin with two different messages.
-    ghost unique: { (m n : Self) (a b : List Bool) → IsValid m → IsValid n → bits_of_fields (table m) ++ a ≡ bits_of_fields (table n) ++ b → m ≡ n };
+    ghost unique: { (m n : Self) (a b : List Bool) → IsValid m → IsValid n
+        → bits_of_fields (table m) ++ a ≡ bits_of_fields (table n) ++ b → m ≡ n };
 }

@@ -1,14 +1,19 @@
-//! A message of any of the four types.
+//! A message of any of the four types, and what differs by its type.
 
-ghost use Rattle.std.specs.Prelude.{◌≡◌, IsTrue, ◌↔◌};
+ghost use Rattle.std.specs.Prelude.{◌≡◌, ◌<◌, ◌∷◌, ◌++◌, Some, IfOk, IfErr, OnOk, IsTrue, ◌↔◌};
 ghost use Rattle.rtk_message.specs.declared.message.Message.{Message};
-ghost use Rattle.rtk_message.specs.Decoded.{IsValid, station_of, number_of, tow_of};
+ghost use Rattle.rtk_message.specs.Decoded.{IsValid, station_of, number_of, tow_of, table, fault_after_number};
+ghost use Rattle.rtk_message.specs.Fields.{u, bits_of_fields};
+ghost use Rattle.rtk_message.specs.Steps.AfterNumber.{BeginsAfterNumber};
 
 use crate::arp1005::Arp1005;
 use crate::arp1006::Arp1006;
+use crate::fault::DecodeFault;
 use crate::layout::Layout;
 use crate::msm1074::Msm1074;
 use crate::obs1004::Obs1004;
+use rtk_bits::{BitReader, BitWriter};
+use std::alloc::AllocError;
 
 /// A message of a base station with all fields of its table, reserved ones included. Source: RTCM
 /// 10403.3, messages 1004, 1005, 1006 and 1074.
@@ -74,4 +79,86 @@ impl Message {
             Message::Msm1074(message) => Some(message.header.tow),
         }
     }
+
+    /// Puts the number and the fields after it.
+    pub(crate) fn write(&self, writer: &mut BitWriter) -> Result<(), AllocError>
+        requires { IsValid self.now }
+        ensures { OnOk result (writer.new ≡ writer.old ++ bits_of_fields (table self.now)) }
+    {
+        match self {
+            Message::Obs1004(message) => write_as(writer, message),
+            Message::Arp1005(message) => write_as(writer, message),
+            Message::Arp1006(message) => write_as(writer, message),
+            Message::Msm1074(message) => write_as(writer, message),
+        }
+    }
+}
+
+// Puts the number and the fields after it. The proof uses only the clauses of `Layout`.
+fn write_as<T: Layout>(writer: &mut BitWriter, message: &T) -> Result<(), AllocError>
+    requires number { T.NUMBER < 4096 }
+    requires valid { T.IsValid message.now }
+    ensures { OnOk result (writer.new ≡ writer.old ++ bits_of_fields (u 12 T.NUMBER ∷ T.table message.now)) }
+{
+    writer.put_u(12, T::NUMBER as u64)?;
+    message.write(writer)?;
+    Ok(())
+}
+
+/// The message after this number, which was read already.
+pub(crate) fn read_by_number(number: u16, reader: BitReader<'_>) -> Result<Message, DecodeFault>
+    ensures message { IfOk result (λ m. BeginsAfterNumber number reader.entry m) }
+    ensures fault { IfErr result (λ f. fault_after_number number reader.entry ≡ Some f) }
+{
+    match number {
+        Obs1004::NUMBER => read_1004(reader),
+        Arp1005::NUMBER => read_1005(reader),
+        Arp1006::NUMBER => read_1006(reader),
+        Msm1074::NUMBER => read_1074(reader),
+        _ => Err(DecodeFault::Other { number }),
+    }
+}
+
+// Each message type has a function of its own that is not inlined, for two reasons. A function
+// clears the memory of its locals when it is called: here this is the memory of one message, and in
+// `read_by_number` it would be that of all four. And a function that is not inlined writes its result where
+// its caller wants it, so a message of a thousand bytes is moved once less.
+#[inline(never)]
+fn read_1004(mut reader: BitReader<'_>) -> Result<Message, DecodeFault>
+    ensures message { IfOk result (λ m. BeginsAfterNumber 1004 reader.entry m) }
+    ensures fault { IfErr result (λ f. fault_after_number 1004 reader.entry ≡ Some f) }
+{
+    let mut message = Obs1004::empty();
+    message.read(&mut reader)?;
+    Ok(Message::Obs1004(message))
+}
+
+#[inline(never)]
+fn read_1005(mut reader: BitReader<'_>) -> Result<Message, DecodeFault>
+    ensures message { IfOk result (λ m. BeginsAfterNumber 1005 reader.entry m) }
+    ensures fault { IfErr result (λ f. fault_after_number 1005 reader.entry ≡ Some f) }
+{
+    let mut message = Arp1005::empty();
+    message.read(&mut reader)?;
+    Ok(Message::Arp1005(message))
+}
+
+#[inline(never)]
+fn read_1006(mut reader: BitReader<'_>) -> Result<Message, DecodeFault>
+    ensures message { IfOk result (λ m. BeginsAfterNumber 1006 reader.entry m) }
+    ensures fault { IfErr result (λ f. fault_after_number 1006 reader.entry ≡ Some f) }
+{
+    let mut message = Arp1006::empty();
+    message.read(&mut reader)?;
+    Ok(Message::Arp1006(message))
+}
+
+#[inline(never)]
+fn read_1074(mut reader: BitReader<'_>) -> Result<Message, DecodeFault>
+    ensures message { IfOk result (λ m. BeginsAfterNumber 1074 reader.entry m) }
+    ensures fault { IfErr result (λ f. fault_after_number 1074 reader.entry ≡ Some f) }
+{
+    let mut message = Msm1074::empty();
+    message.read(&mut reader)?;
+    Ok(Message::Msm1074(message))
 }

@@ -4,7 +4,7 @@ ghost use Rattle.std.specs.Prelude.{◌≡◌, ◌+◌, ◌*◌, ◌≤◌, ◌+
 ghost use Rattle.rtk_message.specs.Fields.{TakesAll, FieldsAreZero, bits_of_fields};
 ghost use Rattle.rtk_message.specs.Msm1074.{satellite_count};
 ghost use Rattle.rtk_message.specs.MsmForm.{form_of, if_rates, satellite_bits, cell_bits, satellite_table, cell_table, table, cell_count, first_fault, HasForm, HasNoCells, IsValid, IsWide};
-ghost use Rattle.rtk_message.specs.Steps.MsmColumns.{HasWidths, bits_of_cells, HasSatellites, HasCells, ChangesSatellites, ChangesCells, SatellitesFit, CellsFit};
+ghost use Rattle.rtk_message.specs.Steps.MsmColumns.{HasWidths, bits_of_cells, HaveSatelliteLengths, HasSatellites, HasCells, ChangesSatellites, ChangesCells, SatellitesFit, CellsFit};
 ghost use Rattle.rtk_message.specs.Steps.FieldSteps.{PutsAll};
 
 use crate::any_fault::AnyFault;
@@ -88,7 +88,7 @@ impl Msm {
     /// Reads the fields after the number in place of those that the message has. After a fault the
     /// message has fields of both, and is to be dropped.
     #[inline(always)]
-    pub(crate) fn read_over(
+    pub(crate) fn replace_fields(
         &mut self,
         kind: MsmKind,
         reader: &mut BitReader<'_>,
@@ -238,7 +238,7 @@ impl Msm {
 
     // Whether each column of the satellites has its length.
     fn satellites_have_lengths(&self) -> bool
-        ensures { IsTrue result ↔ ((length self.now.cell_mask ≡ satellite_count self.now.header) × HasSatellites (satellite_count self.now.header) (if_rates self.now.kind (satellite_count self.now.header)) self.now) }
+        ensures { IsTrue result ↔ HaveSatelliteLengths self.now }
     {
         let satellites = self.header.satellite_count();
         let rates = self.kind.if_rates(satellites);

@@ -188,7 +188,7 @@ impl Layout for Msm1074 {
     }
 
     fn read(&mut self, reader: &mut BitReader<'_>) -> Result<(), DecodeFault> {
-        self.read_over(reader)
+        self.replace_fields(reader)
     }
 
     fn write(&self, writer: &mut BitWriter) -> Result<(), AllocError> {
@@ -225,7 +225,7 @@ impl Msm1074 {
     ///
     /// It is inlined, so that the reader of its caller stays in registers.
     #[inline(always)]
-    pub(crate) fn read_over(&mut self, reader: &mut BitReader<'_>) -> Result<(), DecodeFault>
+    pub(crate) fn replace_fields(&mut self, reader: &mut BitReader<'_>) -> Result<(), DecodeFault>
         ensures fields { OnOk result (IsValid self.new × TakesAll (table self.new) reader.old reader.new) }
         ensures fault { IfErr result (λ f. first_fault reader.old ≡ Some f) }
     {

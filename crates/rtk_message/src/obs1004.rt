@@ -62,7 +62,7 @@ impl Layout for Obs1004 {
     }
 
     fn read(&mut self, reader: &mut BitReader<'_>) -> Result<(), DecodeFault> {
-        self.read_over(reader)
+        self.replace_fields(reader)
     }
 
     fn write(&self, writer: &mut BitWriter) -> Result<(), AllocError> {
@@ -94,7 +94,7 @@ impl Obs1004 {
     ///
     /// It is inlined, so that the reader of its caller stays in registers.
     #[inline(always)]
-    pub(crate) fn read_over(&mut self, reader: &mut BitReader<'_>) -> Result<(), DecodeFault>
+    pub(crate) fn replace_fields(&mut self, reader: &mut BitReader<'_>) -> Result<(), DecodeFault>
         ensures fields { OnOk result (IsValid self.new × TakesAll (table self.new) reader.old reader.new) }
         ensures fault { IfErr result (λ f. first_fault reader.old ≡ Some f) }
     {

@@ -141,5 +141,6 @@ pub fn put_sh_quoted(line: &mut Vec<u8>, name: &[u8]) -> Result<(), AllocError>
     ensures { OnOk result (line.new.items ≡ line.old.items ++ shell.sh_quoted name.now) }
 {
     put_folder_before(line, name)?;
-    put_quoted_if_needed(line, name)
+    put_quoted_if_needed(line, name)?;
+    Ok(())
 }

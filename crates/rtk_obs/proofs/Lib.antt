@@ -15,3 +15,4 @@ mod LegacyLemmas
 mod MsmLemmas
 mod MsmFieldLemmas
 mod DistinctLemmas
+mod MessageLemmas

@@ -12,6 +12,7 @@ pub mod Cell
 pub mod LegacyCells
 pub mod Steps
 pub mod MsmCells
+pub mod MessageCells
 pub mod Slip
 pub mod Rollover
 pub mod CellSteps

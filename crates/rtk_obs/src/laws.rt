@@ -7,10 +7,12 @@
 ghost use Rattle.std.specs.Prelude.{◌≡◌, ◌≢◌, ◌↔◌, ℕ, ℤ, ◌<◌, ◌≤◌, List, Option, Some, MatchOption, IsTrue};
 ghost use Rattle.std.specs.Ordering.{nat_cmp, partial_lt, partial_le};
 ghost use Rattle.std.specs.List.{All};
+ghost use Rattle.rtk_message.specs.declared.any_message.AnyMessage.{AnyMessage};
 ghost use Rattle.rtk_message.specs.declared.obs1004.Satellite.{Satellite};
 ghost use Rattle.rtk_message.specs.declared.obs1004.Obs1004.{Obs1004};
 ghost use Rattle.rtk_message.specs.declared.msm1074.Msm1074.{Msm1074};
 ghost use Rattle.rtk_message.specs.declared.msm.Msm.{Msm};
+ghost use Rattle.rtk_message.specs.AnyDecoded.{IsValid};
 ghost use Rattle.rtk_message.specs.Obs1004.{IsValid as IsValid1004};
 ghost use Rattle.rtk_message.specs.Msm1074.{IsValid as IsValid1074};
 ghost use Rattle.rtk_message.specs.MsmForm.{IsValid as IsValidMsm};
@@ -32,6 +34,7 @@ ghost use Rattle.rtk_obs.specs.PositionFields.{HasFields};
 ghost use Rattle.rtk_obs.specs.Cell.{IsSatellite, IsInRange, AreDistinct};
 ghost use Rattle.rtk_obs.specs.LegacyCells.{cells_of_1004};
 ghost use Rattle.rtk_obs.specs.MsmCells.{cells_of_1074, cells_of_msm};
+ghost use Rattle.rtk_obs.specs.MessageCells.{cells_of, AreOfOneKind};
 ghost use Rattle.rtk_obs.specs.Tracks.{place_of_signal};
 ghost use Rattle.rtk_obs.specs.TracksLaws.{LastIsGreatest, LaterThanSteps, LaterAfterStep, AllLaterAfterStep};
 
@@ -55,7 +58,8 @@ pub fn moment_laws()
 pub fn civil_laws()
     ensures one_moment { (s t : ℕ) (c : Civil) → ReadsAs s c → ReadsAs t c → s ≡ t }
     ensures all_moments { (t : ℕ) (c : Civil) → ReadsAs t c → c.year ≤ 2100 → t ≤ LAST_MS }
-    ensures reads_back { (t : ℕ) (c : Civil) (answer : Option ℕ) → t ≤ LAST_MS → ReadsAs t c → MatchOption answer ((s : ℕ) → s ≤ LAST_MS → ¬ (ReadsAs s c)) (λ s. ReadsAs s c) → answer ≡ Some t }
+    ensures reads_back { (t : ℕ) (c : Civil) (answer : Option ℕ) → t ≤ LAST_MS → ReadsAs t c
+        → MatchOption answer ((s : ℕ) → s ≤ LAST_MS → ¬ (ReadsAs s c)) (λ s. ReadsAs s c) → answer ≡ Some t }
     ensures equality { (a b : Civil) → IsTrue (⟦<Civil as PartialEq>⟧.eq a b) ↔ (a ≡ b) }
 {}
 
@@ -73,7 +77,8 @@ pub fn rounded_is_unique()
 /// `==` says whether two codes are the same, and whether two bands are.
 pub fn code_laws()
     ensures names { (c d : Code) → name_of c ≡ name_of d → c ≡ d }
-    ensures reads_back { (c : Code) (answer : Option Code) → MatchOption answer ((d : Code) → name_of c ≢ name_of d) (λ d. name_of c ≡ name_of d) → answer ≡ Some c }
+    ensures reads_back { (c : Code) (answer : Option Code)
+        → MatchOption answer ((d : Code) → name_of c ≢ name_of d) (λ d. name_of c ≡ name_of d) → answer ≡ Some c }
     ensures equality { (c d : Code) → IsTrue (⟦<Code as PartialEq>⟧.eq c d) ↔ (c ≡ d) }
     ensures bands { (a b : Band) → IsTrue (⟦<Band as PartialEq>⟧.eq a b) ↔ (a ≡ b) }
 {}
@@ -97,17 +102,21 @@ pub fn track_laws()
     ensures digits { (a b : Digits) → IsTrue (⟦<Digits as PartialEq>⟧.eq a b) ↔ (a ≡ b) }
 {}
 
-/// No two cells of a message are of one satellite and code: of any 1004, of a valid 1074, and of a
-/// valid 1075, 1076 or 1077.
+/// No two cells of a message are of one satellite and code: of any valid message, and also of a 1004
+/// that is not valid.
 pub fn cells_are_distinct()
+    ensures each { (m : AnyMessage) → IsValid m → AreDistinct (cells_of m) }
     ensures legacy { (satellites : List Satellite) → AreDistinct (cells_of_1004 satellites) }
     ensures msm { (m : Msm1074) → IsValid1074 m → AreDistinct (cells_of_1074 m) }
     ensures wide { (m : Msm) → IsValidMsm m → AreDistinct (cells_of_msm m) }
 {}
 
 /// The cells of a valid message are of satellites from 1 to 32, and a cell with a strength has one
-/// that a message can give.
+/// that a message can give. The cells of any message are of such satellites, and of one kind.
 pub fn cells_are_in_range()
+    ensures each { (m : AnyMessage) → IsValid m → All IsInRange (cells_of m) }
+    ensures satellites { (m : AnyMessage) → All (λ e. IsSatellite e.satellite) (cells_of m) }
+    ensures kind { (m : AnyMessage) → AreOfOneKind (cells_of m) }
     ensures legacy { (m : Obs1004) → IsValid1004 m → All IsInRange (cells_of_1004 m.satellites) }
     ensures msm { (m : Msm1074) → IsValid1074 m → All IsInRange (cells_of_1074 m) }
     ensures wide { (m : Msm) → IsValidMsm m → All IsInRange (cells_of_msm m) }
@@ -118,7 +127,8 @@ pub fn cells_are_in_range()
 pub fn places_are_distinct()
     ensures code_bound { (c : Code) → place_of c < 16 }
     ensures signal_bound { (satellite : ℕ) (c : Code) → IsSatellite satellite → place_of_signal satellite c < 512 }
-    ensures distinct { (a b : ℕ) (c d : Code) → IsSatellite a → IsSatellite b → place_of_signal a c ≡ place_of_signal b d → (a ≡ b) × (c ≡ d) }
+    ensures distinct { (a b : ℕ) (c d : Code) → IsSatellite a → IsSatellite b → place_of_signal a c ≡ place_of_signal b d
+        → (a ≡ b) × (c ≡ d) }
 {}
 
 /// Laws on the last phase and on what a `Tracks` represents.

@@ -136,8 +136,10 @@ fn set_l2_entry(entry: &mut CellEntry, satellite: &Satellite, length: i64)
 fn is_first(seen: &mut [bool], number: u8) -> bool
     requires places { length seen.old ≡ 33 }
     ensures places { length seen.new ≡ 33 }
-    ensures value { (before : List Satellite) → HasSeen seen.old before → result ≡ (is_satellite number && not (list_any (has_number number) before)) }
-    ensures seen { (before : List Satellite) (s : Satellite) → HasSeen seen.old before → s.satellite ≡ number → HasSeen seen.new (before ++ s ∷ []) }
+    ensures value { (before : List Satellite) → HasSeen seen.old before
+        → result ≡ (is_satellite number && not (list_any (has_number number) before)) }
+    ensures seen { (before : List Satellite) (s : Satellite) → HasSeen seen.old before → s.satellite ≡ number
+        → HasSeen seen.new (before ++ s ∷ []) }
 {
     if !is_satellite(number) {
         return false;

@@ -26,6 +26,7 @@ mod laws;
 mod legacy_cells;
 mod lock_time;
 mod mask;
+mod message_cells;
 mod msm1074_cells;
 mod msm_cells;
 mod msm_rows;
@@ -50,6 +51,7 @@ pub use laws::{
 };
 pub use legacy_cells::{cells_1004, put_cells_1004};
 pub use lock_time::{least_lock_extended, least_lock_legacy, least_lock_msm};
+pub use message_cells::put_cells_of;
 pub use msm_cells::{cells_msm, put_cells_msm};
 pub use msm1074_cells::{cells_1074, put_cells_1074};
 pub use position::Position;

@@ -169,7 +169,8 @@ fn put_cell<M: SetCell>(
     requires signal { slot.signal ≤ 32 }
     requires count { count ≤ length found.old.items }
     requires room { count < 64 }
-    ensures entries { take result found.new.items ≡ take count found.old.items ++ slot_entry (M.header message.now) (M.cell_of message.now) cell slot }
+    ensures entries { take result found.new.items
+        ≡ take count found.old.items ++ slot_entry (M.header message.now) (M.cell_of message.now) cell slot }
     ensures count { result ≤ length found.new.items }
     ensures one { result ≤ count + 1 }
 {
@@ -203,7 +204,8 @@ fn put_row<M: SetCell>(
     requires cells { start.cell + length (row_slots signals.now place bits) ≤ cells_in (M.cell_mask message.now) }
     requires count { start.count ≤ length found.old.items }
     requires few { start.count ≤ start.cell }
-    ensures entries { take result.count found.new.items ≡ take start.count found.old.items ++ join_from (slot_entry (M.header message.now) (M.cell_of message.now)) start.cell (row_slots signals.now place bits) }
+    ensures entries { take result.count found.new.items ≡ take start.count found.old.items
+        ++ join_from (slot_entry (M.header message.now) (M.cell_of message.now)) start.cell (row_slots signals.now place bits) }
     ensures cells { result.cell ≡ start.cell + length (row_slots signals.now place bits) }
     ensures count { result.count ≤ length found.new.items }
     ensures few { result.count ≤ result.cell }

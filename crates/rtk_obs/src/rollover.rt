@@ -52,7 +52,8 @@ fn are_legacy(last: CellSource, source: CellSource) -> bool
 /// The roll count of a phase that comes after the last one, with or without a slip between them.
 pub(crate) fn rolls_after(code: Code, last: &Track, slip: bool, cell: &Cell) -> i64
     requires bounded { unsigned_abs last.now.rolls ≤ LAST_MS }
-    ensures value { (epoch : ℕ) → slip ≡ has_slipped last.now (epoch_cell epoch cell.now) → result ≡ rolls_after (band_of code) last.now (epoch_cell epoch cell.now) }
+    ensures value { (epoch : ℕ) → slip ≡ has_slipped last.now (epoch_cell epoch cell.now)
+        → result ≡ rolls_after (band_of code) last.now (epoch_cell epoch cell.now) }
     ensures bound { unsigned_abs result ≤ unsigned_abs last.now.rolls + 1 }
 {
     if slip || !are_legacy(last.source, cell.source) {

@@ -84,7 +84,8 @@ fn digits_after(code: Code, last: &Option<Track>, epoch: u64, cell: &Cell) -> Di
 
 // What is remembered of a cell with a phase.
 fn track_of(cell: &Cell, epoch: u64, rolls: i64) -> Track
-    ensures value { (band : Band) (last : Option Track) → rolls ≡ rolls_since band last (epoch_cell epoch cell.now) → result ≡ track_of band last (epoch_cell epoch cell.now) }
+    ensures value { (band : Band) (last : Option Track) → rolls ≡ rolls_since band last (epoch_cell epoch cell.now)
+        → result ≡ track_of band last (epoch_cell epoch cell.now) }
     ensures bound { unsigned_abs rolls ≤ epoch → IsBounded (Some result) }
 {
     Track {
@@ -115,10 +116,14 @@ impl Tracks {
         requires later { IsLater (track_at self.old satellite code) epoch }
         ensures digits { result ≡ digits_since (band_of code) (track_at self.old satellite code) (epoch_cell epoch cell.now) }
         ensures bound { unsigned_abs result.rolls ≤ epoch }
-        ensures same { track_at self.new satellite code ≡ last_after (band_of code) (track_at self.old satellite code) (epoch_cell epoch cell.now) }
-        ensures others { (s : ℕ) (c : Code) → place_of_signal s c ≢ place_of_signal satellite code → track_at self.new s c ≡ track_at self.old s c }
-        ensures history { (steps : List Step) → RepresentsSteps self.old steps → result ≡ digits_since (band_of code) (last_phase (band_of code) (epoch_cells_of satellite code steps)) (epoch_cell epoch cell.now) }
-        ensures after { (steps : List Step) → RepresentsSteps self.old steps → RepresentsSteps self.new (step_of satellite code epoch cell.now ∷ steps) }
+        ensures same { track_at self.new satellite code
+            ≡ last_after (band_of code) (track_at self.old satellite code) (epoch_cell epoch cell.now) }
+        ensures others { (s : ℕ) (c : Code) → place_of_signal s c ≢ place_of_signal satellite code
+            → track_at self.new s c ≡ track_at self.old s c }
+        ensures history { (steps : List Step) → RepresentsSteps self.old steps → result ≡ digits_since (band_of code)
+            (last_phase (band_of code) (epoch_cells_of satellite code steps)) (epoch_cell epoch cell.now) }
+        ensures after { (steps : List Step) → RepresentsSteps self.old steps
+            → RepresentsSteps self.new (step_of satellite code epoch cell.now ∷ steps) }
     {
         if cell.phase_millicycles.is_none() {
             return Digits {

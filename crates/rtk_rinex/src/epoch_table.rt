@@ -50,7 +50,8 @@ impl Model for EpochTable {
 
     ghost view = { λ t. record { time = t.time; rows = take t.count t.rows } };
 
-    ghost invariant = { λ t. (t.count ≤ 32) × (length t.rows ≡ 32) × IsEpochTableView (record { time = t.time; rows = take t.count t.rows }) };
+    ghost invariant = { λ t. (t.count ≤ 32) × (length t.rows ≡ 32)
+        × IsEpochTableView (record { time = t.time; rows = take t.count t.rows }) };
 }
 
 // Writes observations over more or fewer ones.
@@ -105,7 +106,10 @@ impl EpochTable {
         requires good { IsSatelliteRow (record { satellite = satellite; observed = record { items = observed.now } }) }
         requires later { All (λ r. r.satellite < satellite) self.old.rows }
         requires room { length self.old.rows < 32 }
-        ensures { self.new ≡ record { time = self.old.time; rows = self.old.rows ++ record { satellite = satellite; observed = record { items = observed.now } } ∷ [] } }
+        ensures { self.new ≡ record {
+          time = self.old.time;
+          rows = self.old.rows ++ record { satellite = satellite; observed = record { items = observed.now } } ∷ [];
+        } }
     {
         let row = &mut self.rows[self.count];
         row.satellite = satellite;

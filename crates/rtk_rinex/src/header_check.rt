@@ -114,7 +114,8 @@ fn read_name(text: &[u8], before: usize) -> &[u8]
 
 // The place of a code in a list of all codes.
 fn place_in(all: &[Code; 16], code: Code) -> Option<usize>
-    ensures { MatchOption result ((k : ℕ) → k < 16 → slice_index_or all.now k code ≢ code) (λ k. (k < 16) × (slice_index_or all.now k code ≡ code)) }
+    ensures { MatchOption result ((k : ℕ) → k < 16 → slice_index_or all.now k code ≢ code)
+        (λ k. (k < 16) × (slice_index_or all.now k code ≡ code)) }
 {
     for k in 0..16 {
         if all[k] == code {
@@ -130,7 +131,8 @@ fn move_code(all: &mut [Code; 16], code: Code, place: usize)
     requires all { AreAllCodes all.old }
     ensures all { AreAllCodes all.new }
     ensures before { (k : ℕ) (d : Code) → k < place → slice_index_or all.new k d ≡ slice_index_or all.old k d }
-    ensures there { ((k : ℕ) (d : Code) → k < place → slice_index_or all.old k d ≢ code) → (d : Code) → slice_index_or all.new place d ≡ code }
+    ensures there { ((k : ℕ) (d : Code) → k < place → slice_index_or all.old k d ≢ code)
+        → (d : Code) → slice_index_or all.new place d ≡ code }
 {
     if let Some(k) = place_in(all, code) {
         if k > place {
@@ -159,7 +161,8 @@ fn move_named_code(all: &mut [Code; 16], name: &[u8], place: usize)
 fn read_codes(text: &[u8]) -> [Code; 16]
     ensures all { AreAllCodes result }
     ensures shown { (listed : List Code) (i : ℕ) (d : Code) → AllPairs (λ a b. a ≢ b) listed → i < length listed → i < 16
-        → ((j : ℕ) → j ≤ i → name_at j text.now ≡ name_of (slice_index_or listed j d)) → slice_index_or result i d ≡ slice_index_or listed i d }
+        → ((j : ℕ) → j ≤ i → name_at j text.now ≡ name_of (slice_index_or listed j d))
+        → slice_index_or result i d ≡ slice_index_or listed i d }
 {
     let mut all = ALL_CODES;
     for i in 0..16 {
@@ -239,7 +242,8 @@ fn any_position(height: u16) -> Position
 fn read_header(text: &[u8]) -> HeaderRead
     ensures only { IsOnlyHeader text.now result.head (position_view result.position) result.first }
     ensures good { IsHeadView result.head × IsPositionView (position_view result.position) × IsMoment result.first }
-    ensures size { (length (header_text result.head (position_view result.position) result.first) ≡ result.used) × (result.used ≡ 81 * result.lines) }
+    ensures size { (length (header_text result.head (position_view result.position) result.first) ≡ result.used)
+        × (result.used ≡ 81 * result.lines) }
     ensures shown { (h : HeadView) (s : PositionView) (first k : ℕ) → IsHeadView h → IsPositionView s → IsMoment first
         → ((j : ℕ) → j ≤ k → line_at j (header_text h s first) ≡ line_at j text.now)
         → line_at k (header_text result.head (position_view result.position) result.first) ≡ line_at k text.now }
@@ -276,7 +280,8 @@ fn unlike_line(header: &[u8], text: &[u8]) -> Option<usize>
     requires { length header.now % 81 ≡ 0 }
     ensures { MatchOption result
         (text.now ≡ header.now ++ drop (length header.now) text.now)
-        (λ k. (81 * k < length header.now) × (take (81 * k) header.now ≡ take (81 * k) text.now) × (line_at k header.now ≢ line_at k text.now)) }
+        (λ k. (81 * k < length header.now) × (take (81 * k) header.now ≡ take (81 * k) text.now)
+        × (line_at k header.now ≢ line_at k text.now)) }
 {
     for k in 0..header.len() / 81 {
         if !have_same_line(header, text, k) {
@@ -288,7 +293,8 @@ fn unlike_line(header: &[u8], text: &[u8]) -> Option<usize>
 
 /// The place of the LF that ends the first line of a text, if one does.
 pub(crate) fn line_end(text: &[u8]) -> Option<usize>
-    ensures parts { MatchOption result (HasNoEnd text.now) (λ n. HasNoEnd (take n text.now) × (text.now ≡ take n text.now ++ 10 ∷ drop (n + 1) text.now)) }
+    ensures parts { MatchOption result (HasNoEnd text.now)
+        (λ n. HasNoEnd (take n text.now) × (text.now ≡ take n text.now ++ 10 ∷ drop (n + 1) text.now)) }
     ensures line { MatchOption result (HasNoEnd text.now) (λ n. (n < length text.now) × IsLine (take (n + 1) text.now)) }
 {
     memchr(b'\n', text)
@@ -298,7 +304,8 @@ pub(crate) fn line_end(text: &[u8]) -> Option<usize>
 pub(crate) fn check_header(text: &[u8]) -> Result<HeaderRead, CheckFault>
     ensures good { IfOk result (λ r. IsHeadView r.head × IsPositionView (position_view r.position) × IsMoment r.first) }
     ensures text { IfOk result (λ r. text.now ≡ header_text r.head (position_view r.position) r.first ++ drop r.used text.now) }
-    ensures size { IfOk result (λ r. (r.used ≡ length (header_text r.head (position_view r.position) r.first)) × AreLines r.lines (header_text r.head (position_view r.position) r.first)) }
+    ensures size { IfOk result (λ r. (r.used ≡ length (header_text r.head (position_view r.position) r.first))
+        × AreLines r.lines (header_text r.head (position_view r.position) r.first)) }
     ensures only { IfOk result (λ r. IsOnlyHeader text.now r.head (position_view r.position) r.first) }
     ensures fault { IfErr result (IsFaultOfHeader text.now) }
     ensures none { OnErr result (¬ (HasHeader text.now)) }

@@ -7,7 +7,7 @@
 ghost use Rattle.std.specs.Prelude.{◌≡◌, ◌+◌, ◌*◌, ◌-◌, ◌<◌, ◌≤◌, List, [], ◌∷◌, ◌++◌, length, take, drop, replicate, OnOk, OnErr, IfOk};
 ghost use Rattle.rtk_rinex.specs.declared.epoch_table.SatelliteRow.{SatelliteRow};
 ghost use Rattle.rtk_rinex.specs.Record.{HasWidth, record_text};
-ghost use Rattle.rtk_rinex.specs.RecordLines.{HoldsLines, line_if_any};
+ghost use Rattle.rtk_rinex.specs.RecordLines.{HoldsLines, line_shown};
 
 use crate::epoch_table::{EpochTable, Observed};
 use crate::head::Head;
@@ -93,8 +93,8 @@ fn blank(text: &mut [u8], len: usize)
 fn put_next_line(text: &mut [u8], at: usize, satellite: u8, observed: &[Observed]) -> usize
     requires blank { text.old ≡ take at text.old ++ replicate (length text.old - at) 32 }
     requires room { at + 4 + 48 * length observed.now ≤ length text.old }
-    ensures text { text.new ≡ (take at text.old ++ line_if_any (record { satellite = satellite; observed = record { items = observed.now } })) ++ replicate (length text.old - (at + result)) 32 }
-    ensures len { result ≡ length (line_if_any (record { satellite = satellite; observed = record { items = observed.now } })) }
+    ensures text { text.new ≡ (take at text.old ++ line_shown satellite observed.now) ++ replicate (length text.old - (at + result)) 32 }
+    ensures len { result ≡ length (line_shown satellite observed.now) }
     ensures within { result ≤ 4 + 48 * length observed.now }
 {
     put_satellite_line(&mut text[at..], satellite, observed)
@@ -144,7 +144,8 @@ impl RecordLines {
 
     /// Writes the epoch line before the lines, if there are any: the text is the record.
     pub fn finish(&mut self, time: GpsMs)
-        ensures text { (rows : List SatelliteRow) → HoldsLines self.old rows → self.new.text ≡ record_text (record { time = time; rows = rows }) }
+        ensures text { (rows : List SatelliteRow) → HoldsLines self.old rows
+            → self.new.text ≡ record_text (record { time = time; rows = rows }) }
         ensures lines { (rows : List SatelliteRow) → HoldsLines self.old rows → HoldsLines self.new rows }
     {
         if self.count > 0 {

@@ -3,7 +3,7 @@
 ghost use Rattle.std.specs.Prelude.{◌≡◌, ℕ, ◌+◌, ◌*◌, ◌<◌, ◌≤◌, ◌-◌, [], ◌∷◌, ◌++◌, length, take, drop, replicate, flat_map, not, IsTrue, ◌==◌};
 ghost use Rattle.std.specs.List.{list_any};
 ghost use Rattle.rtk_rinex.specs.Record.{is_written, is_present, observation, observations, strength_digit, strength_value, lli_digit, has_observation, has_line, trim_end, epoch_date_text, epoch_line};
-ghost use Rattle.rtk_rinex.specs.RecordLines.{line_if_any};
+ghost use Rattle.rtk_rinex.specs.RecordLines.{line_shown};
 
 use crate::columns::{
     add, integer_3, put_fixed_14_3, put_last_digits, put_long_14_3, put_pair, put_short_14_3,
@@ -202,8 +202,8 @@ fn put_cells(cells: &mut [u8], shown: &[Observed]) -> usize
 pub(crate) fn put_satellite_line(line: &mut [u8], satellite: u8, observed: &[Observed]) -> usize
     requires blank { line.old ≡ replicate (length line.old) 32 }
     requires room { 4 + 48 * length observed.now ≤ length line.old }
-    ensures text { line.new ≡ line_if_any (record { satellite = satellite; observed = record { items = observed.now } }) ++ replicate (length line.old - result) 32 }
-    ensures len { result ≡ length (line_if_any (record { satellite = satellite; observed = record { items = observed.now } })) }
+    ensures text { line.new ≡ line_shown satellite observed.now ++ replicate (length line.old - result) 32 }
+    ensures len { result ≡ length (line_shown satellite observed.now) }
     ensures within { result ≤ 4 + 48 * length observed.now }
 {
     let shown = put_cells(&mut line[3..], observed);

@@ -3,6 +3,7 @@ pub mod Input
 pub mod Joined
 pub mod Later
 pub mod Outcome
+pub mod Output
 pub mod Passed
 pub mod Quiet
 pub mod Steps

@@ -1,9 +1,9 @@
-//! Why a command is not done.
+//! Why the program, the tool, does not do a command.
 
 use thiserror::Error;
 
-/// Why a command is not done, whatever its words ask for. Displayed, it is the fault line of the
-/// program.
+/// Why the program, the tool, does not do a command, whatever its words ask for. All commands have
+/// this one type; `NotHex` comes from `show` alone. Displayed, it is the fault line of the program.
 #[derive(Clone, Copy, Debug, PartialEq, Eq, Error)]
 pub enum ToolFault {
     /// P1: a read failed.

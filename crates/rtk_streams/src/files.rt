@@ -32,7 +32,7 @@ pub const GATHERED: usize = 65_536;
 /// The most reads of a conversion, and of a summary.
 pub const MOST_READS: u64 = 1_000_000_000;
 
-/// A capture of the program: a file, or standard input.
+/// An input of the program, a capture or a text: a file, or standard input.
 #[derive(Drop)]
 pub enum Capture<F: Read + Drop, I: Read + Drop> {
     File(F),
@@ -52,9 +52,9 @@ impl<F: Read + Drop, I: Read + Drop> Read for Capture<F, I> {
     }
 }
 
-/// The capture of this name, open; the word `stdin` is standard input. `None` if there is no such
-/// file, or it may not be read.
-pub fn open_capture<R: Files + Input>(
+/// The capture or the text of this name, open; the word `stdin` is standard input. `None` if there is
+/// no such file, or it may not be read.
+pub fn open_input<R: Files + Input>(
     rt: &R,
     name: &str,
 ) -> Option<Resumed<Capture<R::File, R::Reader>>> {

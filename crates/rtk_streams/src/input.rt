@@ -54,8 +54,8 @@ pub fn read_whole<R: Source>(
     Err(ToolFault::TooLong)
 }
 
-// All bytes of a reader, by what `K` knows of those of number 0.
-fn read_through<R: Read + Drop, K: Before>(
+// `read_whole` over the reader of number 0, by what `K` knows of its bytes.
+fn read_by<R: Read + Drop, K: Before>(
     alloc: Global,
     reader: R,
     limit: usize,
@@ -72,7 +72,7 @@ fn read_through<R: Read + Drop, K: Before>(
 
 /// All bytes of a reader, up to its end: if they are known, they are those that it has left, in
 /// order, none added, lost or changed.
-pub fn read_all<R: Read + Drop>(
+pub fn read_through<R: Read + Drop>(
     alloc: Global,
     reader: R,
     limit: usize,
@@ -81,5 +81,5 @@ pub fn read_all<R: Read + Drop>(
     ensures limit { IfOk result (λ text. length text.items ≤ limit) }
     ensures too_long { IsErrOf result TooLong → IfSome (R.remaining reader) (λ bytes. limit < length bytes) }
 {
-    read_through::<R, Brand>(alloc, reader, limit)
+    read_by::<R, Brand>(alloc, reader, limit)
 }

@@ -2,13 +2,13 @@
 //! whole, the links of a conversion, and how the program ends.
 //!
 //! ```rust
-//! use rtk_streams::read_all;
+//! use rtk_streams::read_through;
 //! use std::alloc::{AllocError, Global};
 //!
 //! // A text of four bytes has no room in three.
 //! fn example(alloc: Global) -> Result<bool, AllocError> {
 //!     let text = b"D300".as_slice();
-//!     Ok(read_all(alloc, text, 4).is_ok() && read_all(alloc, text, 3).is_err())
+//!     Ok(read_through(alloc, text, 4).is_ok() && read_through(alloc, text, 3).is_err())
 //! }
 //! ```
 //!
@@ -26,6 +26,7 @@ mod joined;
 mod later;
 pub mod laws;
 mod links;
+mod output;
 mod present_time;
 mod quiet;
 mod resuming;
@@ -35,13 +36,14 @@ pub use beside::{Beside, OutputFault, is_free, let_go, make_beside, name_whole};
 pub use exit_status::{DONE, FAILED, NOT_VALID, REFUSED, fail, fail_to_end, fail_to_open};
 pub use fault::ToolFault;
 pub use files::{
-    Capture, GATHERED, MOST_READS, Reads, STDIN, Writes, open_capture, sink, standard_output,
+    Capture, GATHERED, MOST_READS, Reads, STDIN, Writes, open_input, sink, standard_output,
 };
 pub use identity::{FileIdentity, Named, standard_output_file, what_is_named};
-pub use input::{read_all, read_whole};
+pub use input::{read_through, read_whole};
 pub use joined::Joined;
 pub use later::{Later, LaterFile};
 pub use links::{Link, OpenFault, fail_to_open_links, has_standard_input, open_links};
+pub use output::Output;
 pub use present_time::{PresentFault, present};
 pub use quiet::Quiet;
 pub use resuming::Resumed;

@@ -6,7 +6,7 @@ ghost use Rattle.rtk_streams.specs.Steps.ReadLimits.{read_at_once};
 
 use crate::exit_status::{FAILED, fail, fail_to_open};
 use crate::fault::ToolFault;
-use crate::files::{Capture, STDIN, is_standard_input_readable, open_capture};
+use crate::files::{Capture, STDIN, is_standard_input_readable, open_input};
 use crate::resuming::Resumed;
 use std::fs::Files;
 use std::io::BufReader;
@@ -37,7 +37,7 @@ fn open_link<'a, R: Files + Input + AllocGlobal>(
 ) -> Result<Link<R>, OpenFault<'a>>
     ensures { IfOk result (λ link. reader_capacity link ≡ read_at_once) }
 {
-    let Some(capture) = open_capture(rt, name) else {
+    let Some(capture) = open_input(rt, name) else {
         return Err(OpenFault::NotOpened { name });
     };
     match BufReader::with_capacity(rt.alloc(), READ_AT_ONCE, capture) {

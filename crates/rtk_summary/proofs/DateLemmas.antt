@@ -137,6 +137,10 @@ weeks-more old new e ds same counted stand = λ n lt.
 pub weeks-same : (weeks : List ℕ) (d : UtcDate) (ds : List DateMessage) → StandForWeeks weeks ds → StandForWeeks weeks (Utc d ∷ ds)
 weeks-same weeks d ds stand = λ n lt. stand n lt ∙ sym (count-other (is_of_week n) (Utc d) ds refl)
 
+pub some-same : (o : Option DateMessage) (a b : DateMessage) → o ≡ Some a → o ≡ Some b → a ≡ b
+some-same None a b this that = cc
+some-same (Some m) a b this that = cc
+
 -- ---- frames
 
 -- a frame more that is no message that is read: it may tell a date

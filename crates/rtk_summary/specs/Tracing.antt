@@ -3,9 +3,6 @@
 use Rattle.std.specs.Prelude.{ℕ, ◌+◌, ◌==◌, Bool, true, false, ◌&&◌, ◌||◌, List, [], ◌∷◌, flat_map, Option, None, Some, unwrap_or, is_some, if◌then◌else◌}
 use Rattle.std.specs.List.{list_any, filter_map}
 use Rattle.rtk_message.specs.declared.any_message.AnyMessage.{AnyMessage}
-use Rattle.rtk_message.specs.declared.any_message.AnyMessage.TheVariants as any
-use Rattle.rtk_message.specs.declared.message.Message.{Message}
-use Rattle.rtk_message.specs.declared.message.Message.TheVariants.{Obs1004, Arp1005, Arp1006, Msm1074}
 use Rattle.rtk_message.specs.declared.any_fault.AnyFault.{AnyFault}
 use Rattle.rtk_message.specs.declared.any_fault.AnyFault.TheVariants.{NoNumber, Other, Short, EpochRange, TooManyCells}
 use Rattle.rtk_message.specs.AnyDecoded.{number_of, tow_of}
@@ -13,8 +10,7 @@ use Rattle.rtk_obs.specs.declared.cell.Cell.{Cell}
 use Rattle.rtk_obs.specs.declared.cell.CellEntry.{CellEntry}
 use Rattle.rtk_obs.specs.declared.code.Code.{Code}
 use Rattle.rtk_obs.specs.Code.{place_of}
-use Rattle.rtk_obs.specs.LegacyCells.{cells_of_1004}
-use Rattle.rtk_obs.specs.MsmCells.{cells_of_1074, cells_of_msm}
+use Rattle.rtk_obs.specs.MessageCells.{cells_of}
 
 -- the message has this number (DF002)
 abbrev pub is_numbered : ℕ → AnyMessage → Bool
@@ -73,17 +69,9 @@ changes_in (t ∷ before) = changes_in before + change_from (newest_time before)
 
 -- ---- satellites and codes
 
--- the cells of a 1004 and of a 1074; a station message has none
-abbrev pub entries_of_four : Message → List CellEntry
-entries_of_four (Obs1004 m) = cells_of_1004 m.satellites
-entries_of_four (Arp1005 m) = []
-entries_of_four (Arp1006 m) = []
-entries_of_four (Msm1074 m) = cells_of_1074 m
-
 -- the cells of a message
 abbrev pub entries_of_message : AnyMessage → List CellEntry
-entries_of_message (any.Message m) = entries_of_four m
-entries_of_message (any.Msm m) = cells_of_msm m
+entries_of_message m = cells_of m
 
 -- the cells of messages
 abbrev pub entries_in : List AnyMessage → List CellEntry

@@ -129,7 +129,8 @@ fn put_next(
     lines.extend_from_slice(b" --near ")?;
     put_near(lines, near)?;
     put_words(lines, name, station, named, codes)?;
-    put_auto(lines, name, station)
+    put_auto(lines, name, station)?;
+    Ok(())
 }
 
 /// Appends the commands that convert a station, and before them its second frequency and the MSM that

@@ -7,19 +7,18 @@ ghost use Rattle.std.specs.Prelude.{◌≡◌, ◌≢◌, ◌≤◌, ◌+◌, �
 ghost use Rattle.rtk_frame.specs.Frames.{frames, final_frames, payloads, pending};
 ghost use Rattle.rtk_frame.specs.Stream.{CountRises};
 ghost use Rattle.rtk_message.specs.AnyDecoded.{IsValid};
-ghost use Rattle.rtk_message.specs.Decoded as decoded;
 ghost use Rattle.rtk_summary.specs.Following.{FollowsCapture};
 ghost use Rattle.rtk_summary.specs.Summary.{HasRisenBy};
 ghost use Rattle.rtk_summary.specs.Steps.Followed.{Follows};
-ghost use Rattle.rtk_summary.specs.Tracing.{entries_of_four, entries_of_message};
+ghost use Rattle.rtk_summary.specs.Tracing.{entries_of_message};
 ghost use Rattle.rtk_summary.specs.declared.fault.SummaryFault.TheVariants.{Read, Endless, Write};
 
 use crate::fault::SummaryFault;
 use crate::follower::Follower;
 use arrayvec::ArrayVec;
 use rtk_frame::{Answer, Scanner, Source};
-use rtk_message::{Accepted, AnyDecoder, AnyMessage, Message};
-use rtk_obs::{CellEntry, put_cells_1004, put_cells_1074, put_cells_msm};
+use rtk_message::{Accepted, AnyDecoder, AnyMessage};
+use rtk_obs::{CellEntry, put_cells_msm, put_cells_of};
 use std::alloc::Global;
 
 /// The most bytes that one read asks for.
@@ -45,25 +44,13 @@ struct Decoding {
     room: ArrayVec<CellEntry, 64>,
 }
 
-// Puts the cells of a 1004 or a 1074 over a list; a station message has none.
-fn put_entries_of_four(message: &Message, found: &mut ArrayVec<CellEntry, 64>)
-    requires { decoded.IsValid message.now }
-    ensures { found.new.items ≡ entries_of_four message.now }
-{
-    match message {
-        Message::Obs1004(message) => put_cells_1004(message, found),
-        Message::Msm1074(message) => put_cells_1074(message, found),
-        Message::Arp1005(_) | Message::Arp1006(_) => found.clear(),
-    }
-}
-
 // Puts the cells of a message over a list.
 fn put_entries(message: &AnyMessage, found: &mut ArrayVec<CellEntry, 64>)
     requires { IsValid message.now }
     ensures { found.new.items ≡ entries_of_message message.now }
 {
     match message {
-        AnyMessage::Message(message) => put_entries_of_four(message, found),
+        AnyMessage::Message(message) => put_cells_of(message, found),
         AnyMessage::Msm(message) => put_cells_msm(message, found),
     }
 }

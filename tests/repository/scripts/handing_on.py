@@ -17,7 +17,7 @@ run_program: words_of(rt) / fail(rt, fault) / Vec::new(rt.alloc()) / &owned / wo
 words_of: std::env::args(rt) / error.kind() == ErrorKind::OutOfMemory / Err(ToolFault::OutOfMemory) / Err(ToolFault::Input)
     / args.next() / Vec::new(rt.alloc()) / args / words.push(word).map_err(|_| ToolFault::OutOfMemory)? / Ok(words)
 run_words: job(rt.alloc(), words) / run_job(rt, report, job) / refuse_words(rt, fault)
-job: read_words(alloc, words) / conversion(alloc, &setup, links.as_slice()) / Ok(Job::Show { hex, file })
+job: read_words(alloc, words) / convert_job(alloc, &setup, links) / Ok(Job::Show { hex, file })
     / Ok(Job::Check { file }) / Ok(Job::Summary { file }) / Ok(Job::Chart { width, file }) / cut_job(&part, file)
     / Err(WordsFault::Clap { text, status }) / Err(WordsFault::OutOfMemory)
 cut_job: part_of(options) / Ok(Job::Cut { part, file }) / Err(WordsFault::Bad { line })
@@ -35,9 +35,9 @@ request_of_matches: matches.subcommand() / Some(("convert", convert)) => convert
 convert_request: convert_option_values(matches) / Ok(None)
     / Vec::from_slice(alloc, matches.get_strs("LINK").unwrap_or(&[]))? / Ok(Some(Request::Convert { setup: options, links, }))
 convert_option_values: matches.get_one::<u32>("station")? / matches.get_one::<u32>("window")? / msm_of(matches.get_one::<u32>("msm")?)?
-    / station > MOST_STATION || window < LEAST_WINDOW || window > MOST_WINDOW / None / Some(ConvertOptions { station: station as u16,
+    / station > GREATEST_STATION || window < LEAST_WINDOW || window > MOST_WINDOW / None / Some(ConvertOptions { station: station as u16,
     near: matches.get_str("near")?, made: matches.get_str("made")?, marker: matches.get_str("marker")?,
-    codes: matches.get_str("codes")?, window: window as u16, msm, })
+    codes: matches.get_str("codes")?, window: window as usize, msm, })
 msm_of: 4 => Some(MsmOption::Four), 5 => Some(MsmOption::Five), 6 => Some(MsmOption::Six), 7 => Some(MsmOption::Seven), _ => None,
 show_request: matches.get_flag("hex") / matches.get_str("FILE")? / Some(Request::Show { hex, file })
 check_request: matches.get_str("FILE")? / Some(Request::Check { file })
@@ -48,12 +48,12 @@ width_of: !text / Some(None) / columns.unwrap_or(COLUMNS) / width < LEAST_WIDTH 
 cut_request: cut_option_values(matches)? / matches.get_str("FILE")? / Some(Request::Cut { part: options, file, })
 cut_option_values: matches.get_one::<u32>("every") / let Some(step) = every / step < 1 || step > MOST_STEP / None
     / Some(CutOptions { from: matches.get_str("from"), until: matches.get_str("until"), every, })
-open_capture: name == STDIN / Some(Resumed::new(Capture::Stdin(rt.reader()))) / fs::open(rt, name)
+open_input: name == STDIN / Some(Resumed::new(Capture::Stdin(rt.reader()))) / fs::open(rt, name)
     / Some(Resumed::new(Capture::File(file))) / None
 has_standard_input: names.iter().any(|name| *name == STDIN)
 is_standard_input_readable: Resumed::new(rt.reader()).read(&mut []).is_ok()
 standard_output: Resumed::new(io::writer(rt))
-open_link: open_capture(rt, name) / Err(OpenFault::NotOpened { name }) / BufReader::with_capacity(rt.alloc(), READ_AT_ONCE, capture)
+open_link: open_input(rt, name) / Err(OpenFault::NotOpened { name }) / BufReader::with_capacity(rt.alloc(), READ_AT_ONCE, capture)
     / Err(OpenFault::OutOfMemory)
 open_links: !has_standard_input(names) || is_standard_input_readable(rt) / Vec::new(rt.alloc()) / names / open_link(rt, *name)?
     / links.push(link).is_err() / Err(OpenFault::OutOfMemory) / !is_readable / Err(OpenFault::NotReadable) / Ok(links)
@@ -61,15 +61,15 @@ convert_links: open_links(rt, names) / fail_to_open_links(rt, fault) / if has_st
     / convert_opened(rt, report, setup, captures, room)
 convert_opened: convert_through(rt.alloc(), setup, captures, room, io::writer(rt), report)
     / conversion_status(rt, converted.done, converted.is_out) / fail(rt, fault)
-show_named: open_capture(rt, name) / fail_to_open(rt, name) / show_through(rt.alloc(), capture, standard_output(rt), hex) / DONE
+show_named: open_input(rt, name) / fail_to_open(rt, name) / show_through(rt.alloc(), capture, standard_output(rt), hex) / DONE
     / fail(rt, fault)
-check_named: open_capture(rt, name) / fail_to_open(rt, name) / check_through(rt.alloc(), text, standard_output(rt)) / DONE
+check_named: open_input(rt, name) / fail_to_open(rt, name) / check_through(rt.alloc(), text, standard_output(rt)) / DONE
     / NOT_VALID / fail(rt, fault)
-summarize_named: open_capture(rt, name) / fail_to_open(rt, name) / summarize_through(rt.alloc(), name.as_bytes(), capture, standard_output(rt))
+summarize_named: open_input(rt, name) / fail_to_open(rt, name) / summarize_through(rt.alloc(), name.as_bytes(), capture, standard_output(rt))
     / summary_status(rt, done)
-chart_named: open_capture(rt, name) / fail_to_open(rt, name) / chart_through(rt.alloc(), text, width, standard_output(rt)) / DONE
+chart_named: open_input(rt, name) / fail_to_open(rt, name) / chart_through(rt.alloc(), text, width, standard_output(rt)) / DONE
     / eprintln!(rt; "{fault}") / NOT_VALID / fail(rt, fault)
-cut_named: open_capture(rt, name) / fail_to_open(rt, name) / cut_through(rt.alloc(), text, part, GATHERED, io::writer(rt))
+cut_named: open_input(rt, name) / fail_to_open(rt, name) / cut_through(rt.alloc(), text, part, GATHERED, io::writer(rt))
     / fail(rt, fault) / DONE / eprintln!(rt; "{fault}") / NOT_VALID / fail(rt, fault)
 summary_status: DONE / fail(rt, ToolFault::OutOfMemory) / fail(rt, ToolFault::Input) / fail_to_end(rt) / fail(rt, ToolFault::Output)
 conversion_status: is_out / DONE / fail(rt, ToolFault::Output) / fail(rt, ToolFault::OutOfMemory) / fail(rt, ToolFault::Input)
@@ -104,7 +104,7 @@ check_named: Ok(false) => NOT_VALID / Ok(false) if name.len() == 7 => DONE, Ok(f
 summarize_named: summarize_through(rt.alloc(), name.as_bytes(), capture / summarize_through(rt.alloc(), name.as_bytes(), capture.take(1 << 40)
 chart_named: text, width / text, width.map(|it| it + 1)
 cut_named: text, part / text, Part { every: None, ..part }
-open_capture: fs::open(rt, name) / fs::open(rt, &name[1..])
+open_input: fs::open(rt, name) / fs::open(rt, &name[1..])
 open_links: in names / in names.iter().rev()
 open_links: if links.push(link) / if links.len() == 15 { links.clear(); } if links.push(link)
 convert_opened: setup, captures / setup.with_msm(MsmKind::Msm4), captures

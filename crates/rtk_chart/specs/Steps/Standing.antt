@@ -1,5 +1,5 @@
 -- What the parts of a chart hold, tied to the epochs that came so far.
-use Rattle.std.specs.Prelude.{◌≡◌, ◌<◌, ℕ, Bool, false, ◌||◌, List, [], length, get_or, Option, None, Some, unwrap_or}
+use Rattle.std.specs.Prelude.{◌≡◌, ◌<◌, ℕ, Bool, false, ◌||◌, List, [], ◌∷◌, length, get_or, Option, None, Some, unwrap_or}
 use Rattle.std.specs.BTreeMap.{get, BTreeMap}
 use Rattle.std.specs.Ordering.{nat_cmp}
 use Rattle.rtk_rinex.specs.Record.{EpochTableView}
@@ -40,6 +40,11 @@ pub record AddsMarks (test : ℕ → Bool) (old new : List Bool) : Type 0 where
 pub record StandsForMissing (g : Grid) (s : Scale) (es : List EpochTableView) : Type 0 where
   pub gaps : g.gaps.items ≡ gaps_of s es
   pub count : g.missing ≡ capped (missing_in s.unit es)
+
+-- a grid counts the epochs that are missing before one more epoch
+abbrev pub CountsMissing : Grid → Grid → Scale → EpochTableView → Type 0
+CountsMissing old new s e =
+    (es : List EpochTableView) → old.last ≡ newest_moment es → StandsForMissing old s es → StandsForMissing new s (e ∷ es)
 
 pub record StandsForGrid (g : Grid) (s : Scale) (es : List EpochTableView) : Type 0 where
   pub bins : g.bins.items ≡ bins_of s es

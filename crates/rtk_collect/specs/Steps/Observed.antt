@@ -1,12 +1,13 @@
 -- What an observation with these cells answers and leaves.
 use Rattle.std.specs.Prelude.{◌≡◌, ◌≢◌, ℕ, ◌<◌, ◌≤◌, List, [], ◌∷◌, length, take, None, Some, All}
+use Rattle.rtk_obs.specs.MessageCells.{cells_of}
 use Rattle.rtk_collect.specs.declared.conflicts.SatelliteCode.{SatelliteCode}
 use Rattle.rtk_message.specs.declared.any_message.AnyMessage.{AnyMessage as Message}
 use Rattle.rtk_obs.specs.declared.cell.CellEntry.{CellEntry}
 use Rattle.rtk_collect.specs.declared.offer.Offer.{Offer}
 use Rattle.rtk_collect.specs.declared.offer.Offer.TheVariants.{Taken, Conflict, Repeat, Late}
 use Rattle.rtk_collect.specs.EpochSet.{EpochSetView, EpochsFall}
-use Rattle.rtk_collect.specs.Arrival.{Arrival, At, cells_of}
+use Rattle.rtk_collect.specs.Arrival.{Arrival, At}
 use Rattle.rtk_collect.specs.Accepted.{kept}
 use Rattle.rtk_collect.specs.Answer.{IsRightAnswer, TakenClass, class_of}
 use Rattle.rtk_collect.specs.Offered.{ClosesBelow, ClosesLeast}

@@ -59,13 +59,13 @@ IsEpochIn s payload epoch = (f : FrameClass) × IsClassOfPayload s payload f × 
 -- are of epochs below the window
 pub record IsUnderWay (c : ConversionView) : Type 0 where
   pub stopped : c.stopped ≡ true
-  pub ahead : IsAhead c.collector c.records
+  pub ahead : IsAhead c.collector c.closed_epochs
 
 -- the call is still under way after a step of it, unless this breaks off
 pub record StaysUnderWay {T : Type 0} (old : ConversionView) (result : Result T ConvertFault) (new : ConversionView) : Type 0 where
   pub keeps : KeepsWindow old new
   pub stopped : new.stopped ≡ true
-  pub ahead : OnOk result (IsAhead new.collector new.records)
+  pub ahead : OnOk result (IsAhead new.collector new.closed_epochs)
 
 -- a payload is accepted, and the answer is its epoch; or the call breaks off at it, which has a cause
 pub record HandlesPayload (old : ConversionView) (link : ℕ) (payload : List ℕ) (result : Result (Option ℕ) ConvertFault)

@@ -29,7 +29,7 @@ closed_by Repeat = None
 -- closed epochs
 pub record RepresentsEpochs (s : ConversionView) (before : List Arrival) : Type 0 where
   pub window : RepresentsArrivals s.collector before
-  pub closed : HasClosed s.records s.setup.head.listed (closed s.setup.window before)
+  pub closed : HasClosed s.closed_epochs s.setup.head.listed (closed s.setup.window before)
 
 -- one more arrival: what the conversion represents after it, and what was written
 pub record AddsMessageAs (old : ConversionView) (link : ℕ) (a : Arrival) (before : List Arrival) (new : ConversionView) (written_old written_new : Written) : Type 0 where

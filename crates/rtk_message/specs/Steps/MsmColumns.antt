@@ -2,7 +2,8 @@
 use Rattle.std.specs.Prelude.{◌≡◌, ℕ, ◌+◌, ◌*◌, ◌≤◌, length}
 use Rattle.rtk_message.specs.Fields.{FieldsFit}
 use Rattle.rtk_message.specs.FieldColumns.{numbers, integers}
-use Rattle.rtk_message.specs.Msm1074.{signal_count}
+use Rattle.rtk_message.specs.Msm1074.{satellite_count, signal_count}
+use Rattle.rtk_message.specs.MsmForm.{if_rates}
 use Rattle.rtk_message.specs.declared.msm_kind.MsmForm.{MsmForm}
 use Rattle.rtk_message.specs.declared.msm.Msm.{Msm}
 
@@ -23,6 +24,11 @@ pub record HasSatellites (n rates : ℕ) (m : Msm) : Type 0 where
   pub extended : length m.extended ≡ rates
   pub rough_fraction : length m.rough_fraction ≡ n
   pub rough_rate : length m.rough_rate ≡ rates
+
+-- the cell mask and the columns of the satellites have as many entries as the mask has satellites
+abbrev pub HaveSatelliteLengths : Msm → Type 0
+HaveSatelliteLengths m =
+    (length m.cell_mask ≡ satellite_count m.header) × HasSatellites (satellite_count m.header) (if_rates m.kind (satellite_count m.header)) m
 
 -- the columns of the cells have this many entries, and the column of range rates so many
 pub record HasCells (n rates : ℕ) (m : Msm) : Type 0 where

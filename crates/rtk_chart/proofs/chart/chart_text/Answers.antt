@@ -1,7 +1,8 @@
-use Rattle.std.proofs.Common.{◌≡◌, ◌-◌, None, List, sym, ap, ◌∙◌}
+use Rattle.std.proofs.Common.{◌≡◌, ◌-◌, ℕ, None, List, sym, ap, ◌∙◌}
 use Rattle.rtk_rinex.specs.Record.{EpochTableView}
 use Rattle.rtk_chart.specs.Epochs.{newest_first, newest_moment}
 use Rattle.rtk_chart.specs.Interval.{steps_in}
+use Rattle.rtk_chart.specs.Scale.{scale_of}
 use Rattle.rtk_chart.specs.TextPicture.{text_of_none}
 use Rattle.rtk_chart.proofs.ChartLemmas.{no-steps, none-is, text-is}
 use Rattle.rtk_chart.proofs.chart.chart_text.Goals as goal
@@ -29,6 +30,7 @@ returns c = λ t is file.
       c.in_ok-text-2.ensures ∙ text-is t.head.marker c.marker-marker.result.now t.first c.heading-heading.result.first c.in-Some.last (c.args.width - 5)
           c.in_ok-survey.survey.records c.in_ok-survey.survey.slips c.in_ok-grid.grid.missing c.interval-interval.result c.new-scale.result
           c.in_ok-grid.grid.bins.items c.in_ok-grid.grid.gaps.items es
-          (c.marker-marker.ensures.value ∙ ap (λ h. h.marker) parts.0) parts.2 (sym c.in-Some.is ∙ s.last) c.new-scale.ensures.value
+          (c.marker-marker.ensures.value ∙ ap (λ h. h.marker) parts.0) parts.2 (sym c.in-Some.is ∙ s.last)
+          (c.new-scale.ensures.value ∙ ap (λ (n : ℕ). scale_of c.heading-heading.result.first c.in-Some.last c.interval-interval.result n) c.from.ensures)
           s.records s.slips g.missing.count g.bins g.missing.gaps,
     )

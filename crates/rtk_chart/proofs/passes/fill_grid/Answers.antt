@@ -3,22 +3,22 @@ use Rattle.rtk_chart.specs.Steps.Standing.{StandsForGrid}
 use Rattle.rtk_chart.proofs.RecordLemmas.{come-more, come-all}
 use Rattle.rtk_chart.proofs.passes.fill_grid.Goals as goal
 
-pub records-init : goal.records-init
-records-init c = record {
+pub loop-record-init : goal.loop-record-init
+loop-record-init c = record {
   bins = c.in_ok-grid.ensures.bins;
   gaps = c.in_ok-grid.ensures.gaps;
   grid = λ t is text. ([], t.epochs, (c.records-records.ensures.records t is text).1, refl, c.in_ok-grid.ensures.grid);
 }
 
-pub records-preserved : goal.records-preserved
-records-preserved c = record {
-  bins = c.place_record.ensures.bins ∙ c.records.invariant.bins;
-  gaps = c.place_record.ensures.gaps ∙ c.records.invariant.gaps;
+pub loop-record-preserved : goal.loop-record-preserved
+loop-record-preserved c = record {
+  bins = c.place_record.ensures.bins ∙ c.loop-record.invariant.bins;
+  gaps = c.place_record.ensures.gaps ∙ c.loop-record.invariant.gaps;
   grid = λ t is text.
-      come-more (λ grid es. StandsForGrid grid c.args.scale.now es) c.records.records c.next.new.self c.records.grid c.place_record.new.self t.epochs c.in-Some._record.now c.next.new.epoch
-      (c.records.invariant.grid t is text) c.in-Some.ensures.next c.place_record.ensures.grid;
+      come-more (λ grid es. StandsForGrid grid c.args.scale.now es) c.loop-record.records c.next.new.self c.loop-record.grid c.place_record.new.self t.epochs c.in-Some._record.now c.next.new.epoch
+      (c.loop-record.invariant.grid t is text) c.in-Some.ensures.next c.place_record.ensures.grid;
 }
 
 pub returns-clause-grid : goal.returns-clause-grid
 returns-clause-grid c = λ t is text.
-    come-all (λ grid es. StandsForGrid grid c.args.scale.now es) c.records.records c.records.grid t.epochs (c.records.invariant.grid t is text) c.in_default.ensures.next
+    come-all (λ grid es. StandsForGrid grid c.args.scale.now es) c.loop-record.records c.loop-record.grid t.epochs (c.loop-record.invariant.grid t is text) c.in_default.ensures.next

@@ -4,12 +4,12 @@ use Rattle.rtk_chart.specs.Steps.Standing.{StandsForGrid}
 use Rattle.rtk_chart.proofs.RecordLemmas.{HasCome}
 use Rattle.rtk_chart.proofs.passes.fill_grid.Given as goal
 
-abbrev pub invariant-records : goal.invariant-records
-invariant-records l = record {
+abbrev pub invariant-loop-record : goal.invariant-loop-record
+invariant-loop-record l = record {
   bins : length l.grid.bins.items ≡ l.scale.bins;
   gaps : length l.grid.gaps.items ≡ l.scale.bins;
   grid : (t : WellFormedTable) → IsWellFormedTable t → l.table.text ≡ table_text t → HasCome (λ grid es. StandsForGrid grid l.scale es) l.records l.grid t.epochs;
 }
 
-abbrev pub decreases-records : goal.decreases-records
-decreases-records l = length l.records.text
+abbrev pub decreases-loop-record : goal.decreases-loop-record
+decreases-loop-record l = length l.records.text

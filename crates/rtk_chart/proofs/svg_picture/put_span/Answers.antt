@@ -1,4 +1,5 @@
 use Rattle.std.proofs.Common.{append_assoc}
+use Rattle.rtk_rinex.proofs.PublicLaws.{reading_is}
 use Rattle.rtk_chart.specs.SvgPicture.{svg_span}
 use Rattle.rtk_chart.proofs.svg_picture.put_span.Goals as goal
 
@@ -11,8 +12,10 @@ returns c =
       c.in_ok-extend_from_slice-4.ensures.items,
       c.in_ok-put_interval_words.ensures,
       c.in_ok-extend_from_slice-3.ensures.items,
-      c.in_ok-put_moment-2.ensures,
+      c.in_ok-put_civil-2.ensures,
+      reading_is _ _ c.civil-2.ensures.reading,
       c.in_ok-extend_from_slice-2.ensures.items,
-      c.in_ok-put_moment.ensures,
+      c.in_ok-put_civil.ensures,
+      reading_is _ _ c.civil.ensures.reading,
       c.in_ok-extend_from_slice.ensures.items,
     ) (simp append_assoc)

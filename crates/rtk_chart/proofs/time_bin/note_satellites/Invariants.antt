@@ -8,5 +8,5 @@ use Rattle.rtk_chart.proofs.time_bin.note_satellites.Given as goal
 
 abbrev pub invariant-loop-place : goal.invariant-loop-place
 invariant-loop-place l =
-    (e : EpochTableView) (es : List EpochTableView) → l.rows ≡ e.rows → l.fn.satellites ≡ trackings_of es
-    → l.satellites ≡ map (up_to l.place (λ place. tracking_in (observed_by (place + 1) (e ∷ es))) (λ place. tracking_in (observed_by (place + 1) es))) (range_with_len 0 32)
+    (es : List EpochTableView) → l.fn.satellites ≡ trackings_of es
+    → l.satellites ≡ map (up_to l.place (λ place. tracking_in (observed_by (place + 1) (l.epoch ∷ es))) (λ place. tracking_in (observed_by (place + 1) es))) (range_with_len 0 32)

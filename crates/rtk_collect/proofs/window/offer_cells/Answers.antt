@@ -1,7 +1,5 @@
 use Rattle.std.proofs.Common.{◌≡◌, ◌≤◌, refl, sym, ap, ◌∙◌, arith, length}
-use Rattle.std.proofs.lemmas.Result.{IfOk-weaker}
 use Rattle.rtk_collect.specs.Accepted.{no_cells}
-use Rattle.rtk_collect.specs.Steps.Observed.{AddsCells, IsAnswerOf}
 use Rattle.rtk_collect.proofs.JoinsLemmas.{leading-length}
 use Rattle.rtk_collect.proofs.OffersLemmas.{length-insert}
 use Rattle.rtk_collect.proofs.WindowLemmas.{open-branch, late-branch, new-branch, fresh-taken, new-taken}
@@ -22,9 +20,8 @@ returns-then-has_epoch-clause-added c =
     let found = c.if-has_epoch.ensures.found refl in
     let d = no_cells 0 in
     let none : c.in-Ok.fresh ≡ 0 = omega (arith, c.if-fresh-gt0.false) in
-    IfOk-weaker c.answer_of_known.result (λ offer. IsAnswerOf 0 c.join_at.new.found offer) (λ offer. AddsCells c.args.places c.args.epoch c.args.cells.now c.args.sets.now.items c.join_at.new.sets.items offer)
-    (λ offer h. open-branch c.args.places c.args.epoch c.place_of_epoch-at.result c.args.cells.now d c.args.sets.now.items c.join_at.new.sets.items 0 c.join_at.new.found offer
-    c.requires.falls c.requires.fits c.place_of_epoch-at.ensures found.0 (found.1 d) (c.in-Ok.ensures.items d) (sym none ∙ c.in-Ok.ensures.fresh d) (c.in-Ok.ensures.conflicts d) h) c.answer_of_known.ensures.answer
+    open-branch c.args.places c.args.epoch c.place_of_epoch-at.result c.args.cells.now d c.args.sets.now.items c.join_at.new.sets.items 0 c.join_at.new.found c.answer_of_known.result
+    c.requires.falls c.requires.fits c.place_of_epoch-at.ensures found.0 (found.1 d) (c.in-Ok.ensures.items d) (sym none ∙ c.in-Ok.ensures.fresh d) (c.in-Ok.ensures.conflicts d) c.answer_of_known.ensures
 
 pub returns-then-at-places-clause-added : goal.returns-then-at-places-clause-added
 returns-then-at-places-clause-added c = late-branch c.args.places c.args.epoch c.place_of_epoch-at.result c.args.cells.now c.args.sets.now.items c.requires.falls c.requires.fits c.place_of_epoch-at.ensures c.if-at-places.true

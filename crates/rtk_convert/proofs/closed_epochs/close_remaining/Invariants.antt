@@ -6,8 +6,8 @@ use Rattle.rtk_convert.proofs.closed_epochs.close_remaining.Given as goal
 
 abbrev pub invariant-left : goal.invariant-left
 invariant-left g l = record {
-  some : SomeClosed l.fn.setup (position_view l.fn.position) l.fn.left.sets l.left.sets l.fn.records l.records (g.O.Sink.taken l.fn.out) (g.O.Sink.taken l.out);
-  above : AllAbove l.records l.left.sets;
+  some : SomeClosed l.fn.setup (position_view l.fn.position) l.fn.left.sets l.left.sets l.fn.closed_epochs l.closed_epochs (g.O.Sink.taken l.fn.out) (g.O.Sink.taken l.out);
+  above : AllAbove l.closed_epochs l.left.sets;
   failures : g.O.Sink.failures l.out ≡ g.O.Sink.failures l.fn.out;
 }
 

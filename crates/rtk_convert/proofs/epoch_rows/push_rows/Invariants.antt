@@ -8,6 +8,6 @@ use Rattle.rtk_convert.proofs.epoch_rows.push_rows.Given as goal
 abbrev pub invariant-satellites : goal.invariant-satellites
 invariant-satellites l = record {
   width : length l.row ≡ length l.listed;
-  fills : FillsRows l.fn.tracks l.epoch l.msm l.msm_at l.legacy l.legacy_at l.satellite l.tracks;
-  holds : HoldsLines l.lines (rows_to (shown_by l.fn.tracks l.epoch (l.msm ++ l.legacy)) l.listed (l.satellite - 1));
+  fills : FillsRows l.fn.tracks l.form.epoch l.msm l.msm_at l.legacy l.legacy_at l.satellite l.tracks;
+  holds : HoldsLines l.lines (rows_to (shown_by l.fn.tracks l.form.epoch (l.msm ++ l.legacy)) l.listed (l.satellite - 1));
 }

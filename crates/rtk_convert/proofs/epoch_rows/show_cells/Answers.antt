@@ -6,7 +6,7 @@ use Rattle.rtk_convert.proofs.epoch_rows.show_cells.Goals as goal
 pub cells-init : goal.cells-init
 cells-init c = record {
   width = omega arith;
-  takes = takes-begin c.args.epoch c.args.earlier.now c.args.entries.now c.args.begin c.args.satellite c.args.listed.now c.args.tracks.now c.args.row.now c.requires.cells.from.place.within c.requires.later;
+  takes = takes-begin c.args.form.now.epoch c.args.earlier.now c.args.entries.now c.args.begin c.args.satellite c.args.listed.now c.args.tracks.now c.args.row.now c.requires.cells.from.place.within c.requires.later;
 }
 
 pub cells-preserved-then-has_code : goal.cells-preserved-then-has_code
@@ -14,7 +14,7 @@ cells-preserved-then-has_code c =
     let here = c.cells-test.ensures.yes refl in
     record {
       width = c.cells.invariant.width;
-      takes = takes-repeat c.args.epoch c.args.earlier.now c.args.entries.now c.args.begin c.cells.end c.args.satellite c.args.listed.now c.args.tracks.now c.args.row.now c.cells.tracks c.cells.row c.cells.has_listed
+      takes = takes-repeat c.args.form.now.epoch c.args.earlier.now c.args.entries.now c.args.begin c.cells.end c.args.satellite c.args.listed.now c.args.tracks.now c.args.row.now c.cells.tracks c.cells.row c.cells.has_listed
           c.cells.invariant.takes c.requires.satellite here.0 here.1 (sym (c.has_code.ensures c.args.satellite c.requires.earlier) ∙ c.if-has_code.true);
     }
 
@@ -22,7 +22,7 @@ pub show_entry-has_listed-requires-clause-later : goal.show_entry-has_listed-req
 show_entry-has_listed-requires-clause-later c =
     let here = c.cells-test.ensures.yes refl in
     let e = get_or c.args.entries.now c.cells.end any_cell in
-    let free = takes-free c.args.epoch c.args.earlier.now c.args.entries.now c.args.begin c.cells.end c.args.satellite c.args.listed.now c.args.tracks.now c.args.row.now c.cells.tracks c.cells.row c.cells.has_listed
+    let free = takes-free c.args.form.now.epoch c.args.earlier.now c.args.entries.now c.args.begin c.cells.end c.args.satellite c.args.listed.now c.args.tracks.now c.args.row.now c.cells.tracks c.cells.row c.cells.has_listed
     c.cells.invariant.takes c.requires.satellite here.0 here.1 c.requires.cells.from.rises c.requires.cells.kind (sym (c.has_code.ensures c.args.satellite c.requires.earlier) ∙ c.if-has_code.false) in
     rw (here.1 any_cell) (c.cells.invariant.takes.later e.code (rw (here.1 any_cell) at free))
 
@@ -30,11 +30,11 @@ pub cells-preserved : goal.cells-preserved
 cells-preserved c =
     let here = c.cells-test.ensures.yes refl in
     let shown = c.show_entry-has_listed in
-    let free = takes-free c.args.epoch c.args.earlier.now c.args.entries.now c.args.begin c.cells.end c.args.satellite c.args.listed.now c.args.tracks.now c.args.row.now c.cells.tracks c.cells.row c.cells.has_listed
+    let free = takes-free c.args.form.now.epoch c.args.earlier.now c.args.entries.now c.args.begin c.cells.end c.args.satellite c.args.listed.now c.args.tracks.now c.args.row.now c.cells.tracks c.cells.row c.cells.has_listed
     c.cells.invariant.takes c.requires.satellite here.0 here.1 c.requires.cells.from.rises c.requires.cells.kind (sym (c.has_code.ensures c.args.satellite c.requires.earlier) ∙ c.if-has_code.false) in
     record {
       width = omega arith;
-      takes = takes-more c.args.epoch c.args.earlier.now c.args.entries.now c.args.begin c.cells.end c.args.satellite c.args.listed.now c.args.tracks.now c.args.row.now c.cells.tracks c.cells.row c.cells.has_listed
+      takes = takes-more c.args.form.now.epoch c.args.earlier.now c.args.entries.now c.args.begin c.cells.end c.args.satellite c.args.listed.now c.args.tracks.now c.args.row.now c.cells.tracks c.cells.row c.cells.has_listed
           c.cells.invariant.takes c.requires.satellite here.0 here.1 shown.new.tracks shown.new.row shown.result free shown.ensures;
     }
 

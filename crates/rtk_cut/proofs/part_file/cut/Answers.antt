@@ -6,41 +6,41 @@ use Rattle.rtk_cut.specs.Steps.PartFile.{TakesEpoch, TakesEpochInPart}
 use Rattle.rtk_cut.proofs.WholeLemmas.{cut-none, cut-more, cut-broken, cut-all, cut-broken_end, on_err-from, on_ok-map}
 use Rattle.rtk_cut.proofs.part_file.cut.Goals as goal
 
-pub epochs-init : goal.epochs-init
-epochs-init g c = record {
-  step = subst (λ (p : Part). IsStepOrNone p.every) (sym c.in_ok-cutter.ensures.part) c.requires.step;
-  so_far = λ t is text. cut-none c.args.part t c.records-records.result c.heading-heading.result c.in_ok-cutter.cutter (g.W.Sink.taken c.args.out.now) c.in_ok-cutter.ensures
+pub loop-text-init : goal.loop-text-init
+loop-text-init g c = record {
+  step = subst (λ (p : Part). IsStepOrNone p.every) (sym c.in_ok-writer.ensures.part) c.requires.step;
+  so_far = λ t is text. cut-none c.args.part t c.records-records.result c.heading-heading.result c.in_ok-writer.writer (g.W.Sink.taken c.args.out.now) c.in_ok-writer.ensures
       (c.heading-heading.ensures.parts t is text) (c.records-records.ensures.records t is text);
   failures = refl;
 }
 
-pub epochs-preserved : goal.epochs-preserved
-epochs-preserved g c =
-    let i = c.epochs.invariant in
+pub loop-text-preserved : goal.loop-text-preserved
+loop-text-preserved g c =
+    let i = c.loop-text.invariant in
     let e : EpochTableView = c.next.new.epoch in
     let text : List ℕ = c.in-Some.text.now in
     record {
-      step = subst (λ (p : Part). IsStepOrNone p.every) (sym c.in_ok-cut_record.ensures.same_part) i.step;
-      so_far = λ t is whole. cut-more c.args.part t c.epochs.records c.next.new.self c.epochs.cutter c.cut_record.new.self e text (g.W.Sink.taken c.args.out.now) (g.W.Sink.taken c.epochs.out) (g.W.Sink.taken c.cut_record.new.out)
-          (i.so_far t is whole) c.in-Some.ensures.next c.in-Some.ensures.record.0 c.in-Some.ensures.record.1 c.in-Some.ensures.width c.in_ok-cut_record.ensures.heading c.in_ok-cut_record.ensures.same_part
-          (subst (λ (x : EpochTableView). TakesEpoch c.epochs.cutter c.cut_record.new.self x text (g.W.Sink.taken c.epochs.out) (g.W.Sink.taken c.cut_record.new.out)) c.deref.ensures c.in_ok-cut_record.ensures.taken);
-      failures = c.in_ok-cut_record.ensures.no_failed_write (λ is. cc) ∙ i.failures;
+      step = subst (λ (p : Part). IsStepOrNone p.every) (sym c.in_ok-write_next.ensures.same_part) i.step;
+      so_far = λ t is whole. cut-more c.args.part t c.loop-text.records c.next.new.self c.loop-text.writer c.write_next.new.self e text (g.W.Sink.taken c.args.out.now) (g.W.Sink.taken c.loop-text.out) (g.W.Sink.taken c.write_next.new.out)
+          (i.so_far t is whole) c.in-Some.ensures.next c.in-Some.ensures.record.0 c.in-Some.ensures.record.1 c.in-Some.ensures.width c.in_ok-write_next.ensures.heading c.in_ok-write_next.ensures.same_part
+          (subst (λ (x : EpochTableView). TakesEpoch c.loop-text.writer c.write_next.new.self x text (g.W.Sink.taken c.loop-text.out) (g.W.Sink.taken c.write_next.new.out)) c.deref.ensures c.in_ok-write_next.ensures.all);
+      failures = c.in_ok-write_next.ensures.no_failed_write (λ is. cc) ∙ i.failures;
     }
 
-pub returns-in_err-cut_record-clause-first : goal.returns-in_err-cut_record-clause-first
-returns-in_err-cut_record-clause-first g c =
+pub returns-in_err-write_next-clause-part : goal.returns-in_err-write_next-clause-part
+returns-in_err-write_next-clause-part g c =
     let e : EpochTableView = c.next.new.epoch in
     let text : List ℕ = c.in-Some.text.now in
-    on_err-from c.from_residual-in_err-cut_record.result (λ t is whole. cut-broken c.args.part t c.epochs.records c.next.new.self c.epochs.cutter e text (g.W.Sink.taken c.args.out.now) (g.W.Sink.taken c.epochs.out) (g.W.Sink.taken c.cut_record.new.out)
-    (c.epochs.invariant.so_far t is whole) c.in-Some.ensures.next c.in-Some.ensures.record.0 c.in-Some.ensures.record.1
-    (subst (λ (x : EpochTableView). TakesEpochInPart c.epochs.cutter x text (g.W.Sink.taken c.epochs.out) (g.W.Sink.taken c.cut_record.new.out)) c.deref.ensures c.cut_record.ensures.part))
+    on_err-from c.from_residual-in_err-write_next.result (λ t is whole. cut-broken c.args.part t c.loop-text.records c.next.new.self c.loop-text.writer e text (g.W.Sink.taken c.args.out.now) (g.W.Sink.taken c.loop-text.out) (g.W.Sink.taken c.write_next.new.out)
+    (c.loop-text.invariant.so_far t is whole) c.in-Some.ensures.next c.in-Some.ensures.record.0 c.in-Some.ensures.record.1
+    (subst (λ (x : EpochTableView). TakesEpochInPart c.loop-text.writer x text (g.W.Sink.taken c.loop-text.out) (g.W.Sink.taken c.write_next.new.out)) c.deref.ensures c.write_next.ensures.part))
 
 pub returns-clause-all : goal.returns-clause-all
 returns-clause-all g c =
-    on_ok-map c.end.result (λ takes t is whole. cut-all c.args.part t c.epochs.records c.epochs.cutter (g.W.Sink.taken c.args.out.now) (g.W.Sink.taken c.epochs.out) (g.W.Sink.taken c.end.new.out)
-    (c.epochs.invariant.so_far t is whole) c.in_default.ensures.next takes) c.end.ensures.all
+    on_ok-map c.write_end.result (λ takes t is whole. cut-all c.args.part t c.loop-text.records c.loop-text.writer (g.W.Sink.taken c.args.out.now) (g.W.Sink.taken c.loop-text.out) (g.W.Sink.taken c.write_end.new.out)
+    (c.loop-text.invariant.so_far t is whole) c.in_default.ensures.next takes) c.write_end.ensures.all
 
-pub returns-clause-first : goal.returns-clause-first
-returns-clause-first g c =
-    on_err-from c.end.result (λ t is whole. cut-broken_end c.args.part t c.epochs.records c.epochs.cutter (g.W.Sink.taken c.args.out.now) (g.W.Sink.taken c.epochs.out) (g.W.Sink.taken c.end.new.out)
-    (c.epochs.invariant.so_far t is whole) c.in_default.ensures.next c.end.ensures.part)
+pub returns-clause-part : goal.returns-clause-part
+returns-clause-part g c =
+    on_err-from c.write_end.result (λ t is whole. cut-broken_end c.args.part t c.loop-text.records c.loop-text.writer (g.W.Sink.taken c.args.out.now) (g.W.Sink.taken c.loop-text.out) (g.W.Sink.taken c.write_end.new.out)
+    (c.loop-text.invariant.so_far t is whole) c.in_default.ensures.next c.write_end.ensures.part)

@@ -4,12 +4,12 @@ use Rattle.rtk_cut.specs.Cut.{IsStepOrNone}
 use Rattle.rtk_cut.proofs.WholeLemmas.{HasCut}
 use Rattle.rtk_cut.proofs.part_file.cut.Given as goal
 
-abbrev pub invariant-epochs : goal.invariant-epochs
-invariant-epochs g l = record {
-  step : IsStepOrNone l.cutter.part.every;
-  so_far : (t : WellFormedTable) → IsWellFormedTable t → l.table.text ≡ table_text t → HasCut l.fn.part t l.records l.cutter (g.W.Sink.taken l.fn.out) (g.W.Sink.taken l.out);
+abbrev pub invariant-loop-text : goal.invariant-loop-text
+invariant-loop-text g l = record {
+  step : IsStepOrNone l.writer.part.every;
+  so_far : (t : WellFormedTable) → IsWellFormedTable t → l.table.text ≡ table_text t → HasCut l.fn.part t l.records l.writer (g.W.Sink.taken l.fn.out) (g.W.Sink.taken l.out);
   failures : g.W.Sink.failures l.out ≡ g.W.Sink.failures l.fn.out;
 }
 
-abbrev pub decreases-epochs : goal.decreases-epochs
-decreases-epochs g l = length l.records.text
+abbrev pub decreases-loop-text : goal.decreases-loop-text
+decreases-loop-text g l = length l.records.text

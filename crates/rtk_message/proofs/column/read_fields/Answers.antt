@@ -10,7 +10,7 @@ pub returns-clause-fields : goal.returns-clause-fields
 returns-clause-fields g c =
     let word = c.next_word-word.ensures in
     let set = c.set_fields.ensures in
-    λ from before. took_rest c.set_fields.new.word (set.fields from c.next_word-word.new.reader (rw (← word.bits) before)) (omega (arith, set.left, word.width))
+    λ from before. took_rest c.set_fields.new.word (set.fields c.next_word-word.new.reader from (rw (← word.bits) before)) (omega (arith, set.left, word.width))
 
 pub returns-clause-left : goal.returns-clause-left
 returns-clause-left g c = c.next_word-word.ensures.left

@@ -36,13 +36,13 @@ returns-clause-fields c =
     let set = c.set_fields.ensures in
     let start : TakesAll (numbers c.args.signals (take 0 c.resize.new.self)) c.args.reader.now (c.next_word-word.result ++ c.next_word-word.new.reader) = record { fit = tt; is = word.bits } in
     took_whole (λ (n : ℕ). u c.args.signals n) c.set_fields.new.column (0 + c.args.satellites) _ _ (omega (arith, set.count, c.resize.ensures))
-    (took_rest c.set_fields.new.word (set.fields c.args.reader.now c.next_word-word.new.reader start) (omega (arith, set.left, word.width)))
+    (took_rest c.set_fields.new.word (set.fields c.next_word-word.new.reader c.args.reader.now start) (omega (arith, set.left, word.width)))
 
 pub returns-clause-cells : goal.returns-clause-cells
 returns-clause-cells c =
     let word = c.next_word-word.ensures in
     let set = c.set_fields.ensures in
     let start : TakesAll (numbers c.args.signals (take 0 c.resize.new.self)) c.next_word-word.result (c.next_word-word.result ++ []) = record { fit = tt; is = sym (append-nil c.next_word-word.result) } in
-    let rows = took_whole (λ (n : ℕ). u c.args.signals n) c.set_fields.new.column (0 + c.args.satellites) c.next_word-word.result (c.set_fields.new.word ++ []) (omega (arith, set.count, c.resize.ensures)) (set.fields c.next_word-word.result [] start) in
+    let rows = took_whole (λ (n : ℕ). u c.args.signals n) c.set_fields.new.column (0 + c.args.satellites) c.next_word-word.result (c.set_fields.new.word ++ []) (omega (arith, set.count, c.resize.ensures)) (set.fields [] c.next_word-word.result start) in
     c.count_ones-cells.ensures ∙ ones_taken c.args.signals c.set_fields.new.column c.next_word-word.result (c.set_fields.new.word ++ []) rows
     (omega (arith, set.left, word.width, length-append c.set_fields.new.word []))

@@ -10,7 +10,7 @@ loop-place-preserved g c =
     let next : c.args.at + (c.loop-place.place + 1) ≡ k + 1 = omega arith in
     let inside : k < length c.loop-place.column = omega (arith, before.count, c.requires.room.1, c.loop-place-test.true) in
     record {
-      fields = λ from rest p. rw (next, c.set.ensures) (took_set (g.T.FieldValue.field c.args.width) c.loop-place.column k c.next.result from rest inside (before.fields from rest p) c.next.ensures.taken);
+      fields = λ rest from p. rw (next, c.set.ensures) (took_set (g.T.FieldValue.field c.args.width) c.loop-place.column k c.next.result from rest inside (before.fields rest from p) c.next.ensures.taken);
       left = omega (arith, before.left, c.next.ensures.left, one_step c.args.width c.loop-place.place);
       count = ap length c.set.ensures ∙ length-set c.loop-place.column k c.next.result ∙ before.count;
     }

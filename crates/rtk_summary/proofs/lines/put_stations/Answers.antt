@@ -13,7 +13,7 @@ loop-number-preserved c = λ ms ds stand dated.
     let name : List ℕ = c.args.name.now in
     let n : ℕ = c.loop-number.number in
     let lines : ℕ → List ℕ = λ s. lines_if_any name s (messages_from s ms) (station_dates s ds) in
-    let within : n < length c.args.dates.now = omega (arith, c.loop-number-test.true, c.requires.0, c.requires.1) in
+    let within : n < length c.args.dates.now = omega (arith, c.loop-number-test.true, c.requires.sizes.0, c.requires.sizes.1) in
     put-more lines 0 n n c.args.lines.now.items c.loop-number.lines.items c.put_station.new.lines.items
     (omega arith) (c.loop-number.invariant ms ds stand dated)
     (c.in_ok-put_station.ensures (messages_from n ms) (stand n _ c.loop-number-test.true)
@@ -22,6 +22,6 @@ loop-number-preserved c = λ ms ds stand dated.
 pub returns : goal.returns
 unfolding stations_text all_numbers
 returns c = λ ms ds stand dated.
-    let end : c.loop-number.number ≡ 4096 = omega (arith, c.requires.0, c.loop-number.auto.number-end, c.loop-number-test.false) in
+    let end : c.loop-number.number ≡ 4096 = omega (arith, c.requires.sizes.0, c.loop-number.auto.number-end, c.loop-number-test.false) in
     c.loop-number.invariant ms ds stand dated
     ∙ ap (λ (k : ℕ). c.args.lines.now.items ++ flat_map (λ s. lines_if_any c.args.name.now s (messages_from s ms) (station_dates s ds)) (range_with_len 0 k)) end

@@ -11,8 +11,8 @@ use Rattle.rtk_summary.proofs.lines.summary_lines.Goals as goal
 
 pub put_stations-requires : goal.put_stations-requires
 put_stations-requires c =
-    let held = c.requires in
-    (ap (λ (xs : List Station). length xs) c.as_slice-2.ensures.value ∙ held.stations, ap (λ (xs : List StationDates). length xs) c.as_slice-3.ensures.value ∙ held.dates)
+    let held = c.requires.sizes in
+    record { sizes = (ap (λ (xs : List Station). length xs) c.as_slice-2.ensures.value ∙ held.stations, ap (λ (xs : List StationDates). length xs) c.as_slice-3.ensures.value ∙ held.dates) }
 
 pub returns : goal.returns
 unfolding summary_text

@@ -1,11 +1,13 @@
-use Rattle.std.proofs.Common.{◌≡◌, ◌+◌, ℕ, Some, None, refl, sym, ap, ◌∙◌, arith}
+use Rattle.std.proofs.Common.{◌≡◌, ◌+◌, Some, None, refl, sym, ap, ◌∙◌, arith}
 use Rattle.rtk_chart.specs.Epochs.{capped}
 use Rattle.rtk_chart.specs.Interval.{missing_before, missing_in}
 use Rattle.rtk_chart.proofs.GridLemmas.{gaps-more, missing-more}
 use Rattle.rtk_chart.proofs.grid.Grid.count_missing.Goals as goal
 
 pub returns-in-Some-clause-missing : goal.returns-in-Some-clause-missing
-returns-in-Some-clause-missing c = λ e es at before stands.
+returns-in-Some-clause-missing c = λ es before stands.
+    let e = c.args.epoch.now in
+    let at = c.time-moment.ensures in
     let s = c.args.scale.now in
     let newest = sym c.in-Some.is ∙ before in
     let one = c.saturating_add-self.ensures in
@@ -20,12 +22,14 @@ returns-in-Some-clause-missing c = λ e es at before stands.
     }
 
 pub returns-in_default-clause-missing : goal.returns-in_default-clause-missing
-returns-in_default-clause-missing c = λ e es at before stands.
+returns-in_default-clause-missing c = λ es before stands.
+    let e = c.args.epoch.now in
+    let at = c.time-moment.ensures in
     let s = c.args.scale.now in
     let newest = sym c.in_default.is ∙ before in
     let was = stands.count in
     let count : c.args.self.now.missing ≡ capped (missing_in s.unit es + 0) = omega (arith, was) in
     record {
-      gaps = gaps-more s e es None c.args.moment c.args.self.now.gaps.items c.args.self.now.gaps.items newest at stands.gaps (record { size = refl; marked = λ k lt. refl });
-      count = missing-more s.unit e es None c.args.moment c.args.self.now.missing newest at count;
+      gaps = gaps-more s e es None c.time-moment.result c.args.self.now.gaps.items c.args.self.now.gaps.items newest at stands.gaps (record { size = refl; marked = λ k lt. refl });
+      count = missing-more s.unit e es None c.time-moment.result c.args.self.now.missing newest at count;
     }

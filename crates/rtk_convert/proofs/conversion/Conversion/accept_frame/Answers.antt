@@ -12,14 +12,14 @@ invariant_of-self-2 g c = (
   record {
     places = c.self-2.invariant.1.places;
     few = c.self-2.invariant.1.few;
-    ahead = λ going. subst (λ (x : ConversionView). IsAhead x.collector x.records) (sym c.self-2.view_is) c.in_ok-epoch.ensures.stays.ahead;
+    ahead = λ going. subst (λ (x : ConversionView). IsAhead x.collector x.closed_epochs) (sym c.self-2.view_is) c.in_ok-epoch.ensures.stays.ahead;
   },
 )
 
 pub returns-clause-keeps : goal.returns-clause-keeps
 returns-clause-keeps g c =
     let k = c.handle_payload.ensures.stays.keeps in
-    let seen = subst (λ (x : ConversionView). KeepsWindow (state c.self.inside.setup c.self.inside.collector c.self.inside.records c.self.inside.counts true) x) (sym c.self-2.view_is) k in
+    let seen = subst (λ (x : ConversionView). KeepsWindow (state c.self.inside.setup c.self.inside.collector c.self.inside.closed_epochs c.self.inside.counts true) x) (sym c.self-2.view_is) k in
     keeps-seen c.self.view_is (record { same_setup = seen.same_setup; few = seen.few; held = seen.held })
 
 pub returns-in_err-epoch-clause-keeps : goal.returns-in_err-epoch-clause-keeps

@@ -49,13 +49,13 @@ pub close-requires : goal.close-requires
 close-requires g c =
     let e : EpochSetView = c.in-Some.set in
     let some : closed_by c.in_ok-offer.offer ≡ Some e = sym c.closed_by.ensures ∙ c.in-Some.is in
-    ahead-closes c.self.inside.collector c.self.inside.records c.in_ok-offer.offer e some c.in_ok-offer.ensures.least_closes (ahead-seen c.self.view_is c.requires.under_way)
+    ahead-closes c.self.inside.collector c.self.inside.closed_epochs c.in_ok-offer.offer e some c.in_ok-offer.ensures.least_closes (ahead-seen c.self.view_is c.requires.under_way)
 
 pub returns-in_err-close-clause-handles : goal.returns-in_err-close-clause-handles
 returns-in_err-close-clause-handles g c =
     let p = err_from_is_err_and c.from_residual-in_err-close.result c.from_residual-in_err-close.ensures.1 in
     let some : closed_by c.in_ok-offer.offer ≡ Some c.in-Some.set = sym c.closed_by.ensures ∙ c.in-Some.is in
-    let size = c.in_ok-offer.ensures.size ∙ c.self.invariant.1.places in
+    let size = c.in_ok-offer.ensures.places ∙ c.self.invariant.1.places in
     rw (p.1, p.2) (message-err _ c.self.view_is (out-frame _ c.in_err-close.ensures.failed.fault)
     (part-record c.in_ok-offer.offer c.self.invariant.1.places size some c.in_ok-offer.ensures.answer c.station-position.ensures.kept (λ below h. (c.close.ensures.closes.puts below h).part)))
 
@@ -70,7 +70,7 @@ returns-clause-handles g c =
     c.in_ok-lines.ensures ∙ ap (λ (n : ℕ). offer_lines c.args.link n c.epoch-epoch.result c.in_ok-offer.offer) c.number-number.ensures
     ∙ ap (λ (e : Option ℕ). offer_lines c.args.link (number_of (message_of c.args.dated)) e c.in_ok-offer.offer) c.epoch-epoch.ensures.value in
     let some : closed_by c.in_ok-offer.offer ≡ Some c.in-Some.set = sym c.closed_by.ensures ∙ c.in-Some.is in
-    let size = c.in_ok-offer.ensures.size ∙ c.self.invariant.1.places in
+    let size = c.in_ok-offer.ensures.places ∙ c.self.invariant.1.places in
     rw c.hand_back.ensures (message-lines c.put_lines-2.result c.self.view_is c.put_lines-2.ensures.fault
     (on_ok-map c.put_lines-2.result (λ wrote. takes-some-closed c.in_ok-offer.offer c.self.invariant.1.places size some c.in_ok-offer.ensures.answer c.station-position.ensures.kept c.count_message.ensures c.in_ok-close.ensures.closes.follows (λ below h. (c.in_ok-close.ensures.closes.puts below h).all)
     (wrote ∙ ap (with_more (g.L.Sink.taken c.args.log.now)) (c.deref-2.ensures.value ∙ text))) c.put_lines-2.ensures.puts.all)
@@ -96,7 +96,7 @@ returns-in_err-lines-clause-stays g c =
 
 pub returns-in_default-clause-stays : goal.returns-in_default-clause-stays
 returns-in_default-clause-stays g c =
-    let ahead = ahead-stays c.self.inside.collector c.offer.new.self c.self.inside.records c.offer.ensures.least (ahead-seen c.self.view_is c.requires.under_way) in
+    let ahead = ahead-stays c.self.inside.collector c.offer.new.self c.self.inside.closed_epochs c.offer.ensures.least (ahead-seen c.self.view_is c.requires.under_way) in
     stays-seen c.self.view_is c.requires.under_way (record { same_setup = refl; few = omega (arith, c.self.invariant.1.few, c.self.invariant.1.places); held = λ h. held-offered c.self.inside.collector c.offer.new.self c.args.dated c.in_ok-offer.offer c.in_ok-offer.ensures.answer h }) refl
     (on_ok-map c.put_lines.result (λ wrote. ahead) c.put_lines.ensures.puts.all)
 

@@ -3,7 +3,7 @@ use Rattle.std.proofs.lemmas.List.{length-replicate}
 use Rattle.rtk_convert.specs.Converter.{RepresentLinks}
 use Rattle.rtk_convert.specs.History.{new_history}
 use Rattle.rtk_convert.specs.Setup.{SetupView}
-use Rattle.rtk_convert.specs.declared.link.Link.{Link}
+use Rattle.rtk_convert.specs.declared.link_state.LinkState.{LinkState}
 use Rattle.rtk_convert.proofs.BoundsLemmas.{bounded-new}
 use Rattle.rtk_convert.proofs.ConverterLemmas.{links-new}
 use Rattle.rtk_convert.proofs.converter.Converter.new.Goals as goal
@@ -14,7 +14,7 @@ returns-clause-ok c =
     record {
       represents = record {
         going = new.going;
-        links = subst (λ (ls : List Link). RepresentLinks ls (new_history c.args.links).links 0 (new_history c.args.links).found) (sym c.in_ok-links.ensures.new) (links-new c.args.links 0);
+        links = subst (λ (ls : List LinkState). RepresentLinks ls (new_history c.args.links).links 0 (new_history c.args.links).found) (sym c.in_ok-links.ensures.new) (links-new c.args.links 0);
         found = new.represents;
       };
       same_setup = new.same_setup;

@@ -6,15 +6,15 @@ use Rattle.rtk_message.proofs.AnyDecodedLemmas.{decodes_after, decodes_fault}
 use Rattle.rtk_message.proofs.any_decoder.AnyDecoder.read.Goals as goal
 
 pub returns-in_default : goal.returns-in_default
-returns-in_default c = rw c.put_fault.ensures (decodes_fault c.args.accepted (bits c.args.payload.now) NoNumber (search rules))
+returns-in_default c = rw c.keep_fault.ensures (decodes_fault c.args.accepted (bits c.args.payload.now) NoNumber (search rules))
 
 pub returns-in-1004 : goal.returns-in-1004
 returns-in-1004 c =
-    rw (← c.new-reader.ensures) (decodes_after c.args.accepted c.new-reader.result c.take_u.new.self c.in-Some.number 1004 c.put_1004.new.kept c.in-Some.ensures.bound c.in-Some.ensures.field (ap (accepts c.args.accepted) c.in-1004.is) c.in-1004.is c.put_1004.ensures.message c.put_1004.ensures.fault)
+    rw (← c.new-reader.ensures) (decodes_after c.args.accepted c.new-reader.result c.take_u.new.self c.in-Some.number 1004 c.keep_1004.new.kept c.in-Some.ensures.bound c.in-Some.ensures.field (ap (accepts c.args.accepted) c.in-1004.is) c.in-1004.is c.keep_1004.ensures.message c.keep_1004.ensures.fault)
 
 pub returns-in-1074 : goal.returns-in-1074
 returns-in-1074 c =
-    rw (← c.new-reader.ensures) (decodes_after c.args.accepted c.new-reader.result c.take_u.new.self c.in-Some.number 1074 c.put_1074.new.kept c.in-Some.ensures.bound c.in-Some.ensures.field (ap (accepts c.args.accepted) c.in-1074.is ∙ c.if-accepted.true) c.in-1074.is c.put_1074.ensures.message c.put_1074.ensures.fault)
+    rw (← c.new-reader.ensures) (decodes_after c.args.accepted c.new-reader.result c.take_u.new.self c.in-Some.number 1074 c.keep_1074.new.kept c.in-Some.ensures.bound c.in-Some.ensures.field (ap (accepts c.args.accepted) c.in-1074.is ∙ c.if-accepted.true) c.in-1074.is c.keep_1074.ensures.message c.keep_1074.ensures.fault)
 
 pub returns-in_default-number : goal.returns-in_default-number
-returns-in_default-number c = rw (← c.new-reader.ensures) (c.read_other.ensures c.new-reader.result c.in-Some.ensures.field)
+returns-in_default-number c = rw (← c.new-reader.ensures) (c.read_other_number.ensures c.new-reader.result c.in-Some.ensures.field)

@@ -1,0 +1,29 @@
+-- What is made of a file's records: it holds of their epochs, and gives the picture.
+use Rattle.std.specs.Prelude.{◌≡◌, ℕ, List}
+use Rattle.rtk_obs.specs.declared.code.Code.{Code}
+use Rattle.rtk_rinex.specs.Record.{EpochTableView}
+use Rattle.rtk_rinex.specs.Table.{WellFormedTable, IsWellFormedTable, table_text}
+use Rattle.rtk_chart.specs.Epochs.{newest_first}
+use Rattle.rtk_chart.specs.TextPicture.{satellites_in, number_lines, text_picture}
+use Rattle.rtk_chart.specs.SvgPicture.{svg_picture}
+use Rattle.rtk_chart.specs.declared.scale.Scale.{Scale}
+use Rattle.rtk_chart.specs.declared.survey.Survey.{Survey}
+use Rattle.rtk_chart.specs.declared.grid.Grid.{Grid}
+
+-- this holds of the epochs, newest first, of each table whose text the file is
+abbrev pub HoldsOfEpochs : List ℕ → (List EpochTableView → Type 0) → Type 0
+HoldsOfEpochs file Holds = (t : WellFormedTable) → IsWellFormedTable t → file ≡ table_text t → Holds (newest_first t.epochs)
+
+-- the numbers in the heading of a picture in characters
+abbrev pub numbers_of_grid : Scale → Survey → Grid → List ℕ
+numbers_of_grid s survey grid = number_lines s survey.records (satellites_in grid.bins.items) survey.slips grid.missing
+
+-- a picture in characters
+abbrev pub text_of_grid : List ℕ → Scale → Survey → Grid → List ℕ
+text_of_grid marker s survey grid =
+    text_picture marker s survey.records survey.slips grid.missing grid.bins.items grid.gaps.items
+
+-- a picture in SVG
+abbrev pub svg_of_grid : List ℕ → List Code → Scale → Survey → Grid → List ℕ
+svg_of_grid marker listed s survey grid =
+    svg_picture marker listed s survey.records survey.slips grid.missing grid.bins.items grid.gaps.items

@@ -1,0 +1,309 @@
+//! The command `auto`: it reads the captures, finds what their conversion is told, converts them, and
+//! says how it went.
+
+ghost use Rattle.std.specs.Prelude.{◌≡◌, ◌≤◌, IfErr};
+ghost use Rattle.rtk_streams.specs.declared.exit_status.TheConstants.{NOT_VALID};
+
+use crate::auto_converting::convert_joined;
+use crate::auto_looking::{fail_output, look_at_files, made_at};
+use crate::auto_reading::{Told, read_captures};
+use crate::auto_words::AutoWords;
+use crate::converting::{Converted, conversion_status};
+use rtk_auto::{
+    Captured, Known, Plan, PlanFault, Ways, plan_of, put_command, put_counts, put_known, put_span,
+    what_is_known,
+};
+use rtk_convert::{Counts, Setup};
+use rtk_obs::GpsMs;
+use rtk_streams::{
+    DONE, Later, NOT_VALID, Output, Quiet, ToolFault, fail, let_go, make_beside, name_whole,
+};
+use std::alloc::{AllocError, Global};
+use std::env::Env;
+use std::fs::Files;
+use std::io;
+use std::io::Write;
+use std::time::Clock;
+
+// Writes lines to standard error.
+fn tell<R: Eprint, W: Write>(rt: &R, report: &mut W, lines: &[u8]) -> Result<(), u8>
+    ensures { IfErr result (λ status. status ≤ NOT_VALID) }
+{
+    match report.write_all(lines) {
+        Ok(()) => Ok(()),
+        Err(_) => Err(fail(rt, ToolFault::Output)),
+    }
+}
+
+// Says why the captures have no plan.
+fn fail_plan<R: Eprint, W: Write>(rt: &R, report: &mut W, fault: PlanFault) -> u8
+    ensures { result ≤ NOT_VALID }
+{
+    let PlanFault::Refused { refusal, list } = fault else {
+        return fail(rt, ToolFault::OutOfMemory);
+    };
+    let _told = eprintln!(rt; "rtcm2rinex: {refusal}");
+    let _listed = report.write_all(list.as_slice());
+    NOT_VALID
+}
+
+// The names of the captures of each link.
+fn names_of_links<'a>(
+    alloc: Global,
+    links: &[Vec<usize>],
+    names: &[&'a str],
+) -> Result<Vec<Vec<&'a str>>, AllocError> {
+    let mut all = Vec::new(alloc);
+    for link in links {
+        let mut captures = Vec::new(alloc);
+        for place in link {
+            captures.push(names.get(*place).copied().unwrap_or(""))?;
+        }
+        all.push(captures)?;
+    }
+    Ok(all)
+}
+
+// The files of the captures of each link.
+fn files_of_links<'a, R: Files>(
+    alloc: Global,
+    rt: &'a R,
+    links: &[Vec<&'a str>],
+) -> Result<Vec<Vec<Later<'a, R>>>, AllocError> {
+    let mut all = Vec::new(alloc);
+    for link in links {
+        let mut files = Vec::new(alloc);
+        for name in link {
+            files.push(Later::new(rt, *name))?;
+        }
+        all.push(files)?;
+    }
+    Ok(all)
+}
+
+// What is said before the conversion: the epochs, and the same command.
+fn said(alloc: Global, plan: &Plan, links: &[Vec<&str>]) -> Result<Vec<u8>, AllocError> {
+    let mut lines = Vec::new(alloc);
+    put_span(&mut lines, &plan.span)?;
+    put_command(&mut lines, &plan.setup, links)?;
+    Ok(lines)
+}
+
+// What is said after the conversion: the counts, unless the report has them, and what a person should
+// know.
+fn said_after(
+    alloc: Global,
+    counts: &Counts,
+    known: &Known,
+    is_reported: bool,
+) -> Result<Vec<u8>, AllocError> {
+    let mut lines = Vec::new(alloc);
+    if !is_reported {
+        put_counts(&mut lines, counts)?;
+    }
+    put_known(&mut lines, known, counts)?;
+    Ok(lines)
+}
+
+// The exit status of a conversion that is done.
+fn done_status<R: Eprint>(rt: &R, counts: &Counts) -> u8
+    ensures no_epoch { counts.now.epochs ≡ 0 → result ≡ NOT_VALID }
+    ensures bound { result ≤ NOT_VALID }
+{
+    if counts.epochs == 0 {
+        let _told = eprintln!(rt; "rtcm2rinex: no record came; the file is a header alone");
+        return NOT_VALID;
+    }
+    DONE
+}
+
+/// What a conversion is done with.
+#[derive(Drop)]
+struct Work<'a, R: Files> {
+    rt: &'a R,
+    setup: Setup,
+    links: Vec<Vec<&'a str>>,
+    known: Known,
+    is_reported: bool,
+}
+
+// Converts to a writer, which is handed back with the counts, and says how it went.
+fn convert_to<R: Files + Eprint + AllocGlobal, O: Write + Drop, W: Write + Drop>(
+    work: Work<'_, R>,
+    out: O,
+    report: W,
+) -> Result<(O, Counts), u8>
+    ensures { IfErr result (λ status. status ≤ NOT_VALID) }
+{
+    let rt = work.rt;
+    let Ok(files) = files_of_links(rt.alloc(), rt, work.links.as_slice()) else {
+        return Err(fail(rt, ToolFault::OutOfMemory));
+    };
+    let report = Quiet::new(report, !work.is_reported);
+    let converted = match convert_joined(rt.alloc(), work.setup, files, out, report) {
+        Ok(converted) => converted,
+        Err(fault) => return Err(fail(rt, fault)),
+    };
+    finish(rt, converted, &work.known, work.is_reported)
+}
+
+// Says how a conversion went.
+fn finish<R: Eprint + AllocGlobal, O: Write + Drop, W: Write + Drop>(
+    rt: &R,
+    converted: Converted<O, Quiet<W>>,
+    known: &Known,
+    is_reported: bool,
+) -> Result<(O, Counts), u8>
+    ensures { IfErr result (λ status. status ≤ NOT_VALID) }
+{
+    let counts = match converted.done {
+        Ok(counts) if converted.is_out => counts,
+        done => return Err(conversion_status(rt, done, converted.is_out)),
+    };
+    let Ok(lines) = said_after(rt.alloc(), &counts, known, is_reported) else {
+        return Err(fail(rt, ToolFault::OutOfMemory));
+    };
+    let mut report = converted.report.into_inner();
+    tell(rt, &mut report, lines.as_slice())?;
+    Ok((converted.out, counts))
+}
+
+// Converts to a file beside this name, which gets the name once it is whole.
+fn convert_to_file<R: Files + Eprint + AllocGlobal, W: Write + Drop>(
+    work: Work<'_, R>,
+    report: W,
+    name: &str,
+    force: bool,
+) -> u8
+    ensures { result ≤ NOT_VALID }
+{
+    let rt = work.rt;
+    let beside = match make_beside(rt, name) {
+        Ok(beside) => beside,
+        Err(fault) => return fail_output(rt, name, fault),
+    };
+    let (file, counts) = match convert_to(work, beside.file, report) {
+        Ok(done) => done,
+        Err(status) => {
+            let_go(rt, beside.name.as_str());
+            return status;
+        }
+    };
+    match name_whole(rt, file, beside.name.as_str(), name, force) {
+        Ok(()) => done_status(rt, &counts),
+        Err(fault) => fail_output(rt, name, fault),
+    }
+}
+
+// Converts to standard output.
+fn convert_to_output<R: Files + Print + Eprint + AllocGlobal, W: Write + Drop>(
+    work: Work<'_, R>,
+    report: W,
+) -> u8
+    ensures { result ≤ NOT_VALID }
+{
+    let rt = work.rt;
+    match convert_to(work, io::writer(rt), report) {
+        Ok((_out, counts)) => done_status(rt, &counts),
+        Err(status) => status,
+    }
+}
+
+// Converts the captures of a plan, once it is said what they are.
+#[inline(never)]
+fn convert_plan<'a, R: Files + Print + Eprint + AllocGlobal, W: Write + Drop>(
+    rt: &'a R,
+    report: W,
+    captured: &Captured<'a>,
+    plan: Plan,
+    ways: &Ways<'_>,
+) -> u8
+    ensures { result ≤ NOT_VALID }
+{
+    let mut report = report;
+    let Ok(links) = names_of_links(rt.alloc(), plan.links.as_slice(), captured.names) else {
+        return fail(rt, ToolFault::OutOfMemory);
+    };
+    let Ok(lines) = said(rt.alloc(), &plan, links.as_slice()) else {
+        return fail(rt, ToolFault::OutOfMemory);
+    };
+    let Ok(known) = what_is_known(rt.alloc(), captured, &plan) else {
+        return fail(rt, ToolFault::OutOfMemory);
+    };
+    if let Err(status) = tell(rt, &mut report, lines.as_slice()) {
+        return status;
+    }
+    let work = Work {
+        rt,
+        setup: plan.setup,
+        links,
+        known,
+        is_reported: ways.report,
+    };
+    match ways.output {
+        Some(name) => convert_to_file(work, report, name, ways.force),
+        None => convert_to_output(work, report),
+    }
+}
+
+// Finds what the conversion of captures that were read is told, and converts them.
+fn convert_told<R: Files + Print + Eprint + AllocGlobal, W: Write + Drop>(
+    rt: &R,
+    report: W,
+    words: &AutoWords<'_>,
+    names: &[&str],
+    told: &Told,
+    made: GpsMs,
+) -> u8
+    ensures { result ≤ NOT_VALID }
+{
+    let mut report = report;
+    let captured = Captured {
+        findings: &told.findings,
+        names,
+        differing: told.differing.as_slice(),
+    };
+    let ways = &words.ways;
+    let plan = plan_of(
+        rt.alloc(),
+        &captured,
+        &words.wanted,
+        made,
+        ways.skip_empty,
+        ways.links_as_given,
+    );
+    match plan {
+        Ok(plan) => convert_plan(rt, report, &captured, plan, ways),
+        Err(fault) => fail_plan(rt, &mut report, fault),
+    }
+}
+
+// The moment at which the file is made, once the files were looked at.
+fn begin<R: Env + Clock + Files + Eprint + AllocGlobal>(
+    rt: &R,
+    words: &AutoWords<'_>,
+    names: &[&str],
+) -> Result<GpsMs, u8>
+    ensures { IfErr result (λ status. status ≤ NOT_VALID) }
+{
+    look_at_files(rt, names, words.ways.output, words.ways.force)?;
+    made_at(rt, words.made)
+}
+
+/// Converts captures of one station; what the conversion is told is found in them.
+#[inline(never)]
+pub(crate) fn auto_captures<
+    R: Env + Clock + Files + Input + Print + Eprint + AllocGlobal,
+    W: Write + Drop,
+>(rt: &R, report: W, words: &AutoWords<'_>, names: &[&str]) -> u8
+    ensures { result ≤ NOT_VALID }
+{
+    let made = match begin(rt, words, names) {
+        Ok(made) => made,
+        Err(status) => return status,
+    };
+    match read_captures(rt, made, words.wanted.station, names) {
+        Ok(told) => convert_told(rt, report, words, names, &told, made),
+        Err(status) => status,
+    }
+}

@@ -1,6 +1,0 @@
-use Rattle.std.proofs.Common.{rules}
-use Rattle.rtk_message.proofs.AnyDecodedLemmas.{fault_after_wide}
-use Rattle.rtk_message.proofs.any_decoder.read_msm.Goals as goal
-
-pub returns-in_err-read_over-clause-fault : goal.returns-in_err-read_over-clause-fault
-returns-in_err-read_over-clause-fault c = fault_after_wide c.args.kind c.args.reader c.from_residual.result c.requires (search rules)
