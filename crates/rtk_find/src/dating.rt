@@ -50,7 +50,7 @@ impl Base {
         ensures { result ≡ spec.told_by self.now told }
     {
         match self {
-            Base::Given(_) => moment_told(told),
+            Base::Given(_) => None,
             Base::Told(_) => moment_told(told),
         }
     }
