@@ -212,11 +212,12 @@ fn convert_to_output<R: Files + Print + Eprint + AllocGlobal, W: Write + Drop>(
 // The conversion of a plan, once it is said what it is.
 fn work_of<'a>(
     alloc: Global,
-    captured: &Captured<'a>,
+    captured: &Captured<'_>,
+    names: &[&'a str],
     plan: Plan,
     lines: &mut Vec<u8>,
 ) -> Result<Work<'a>, AllocError> {
-    let links = names_of_links(alloc, plan.links.as_slice(), captured.names)?;
+    let links = names_of_links(alloc, plan.links.as_slice(), names)?;
     put_span(lines, &plan.span)?;
     put_command(lines, &plan.setup, links.as_slice())?;
     let known = what_is_known(alloc, captured, &plan)?;
@@ -232,8 +233,8 @@ fn begin_told<'a, R: Eprint + AllocGlobal, W: Write>(
     rt: &R,
     report: &mut W,
     words: &AutoWords<'_>,
-    names: &'a [&'a str],
-    told: &'a Told,
+    names: &[&'a str],
+    told: &Told,
     made: GpsMs,
 ) -> Result<Work<'a>, u8>
     requires { (fs : List ReadFrame) × Finds made fs told.now.findings }
@@ -258,7 +259,7 @@ fn begin_told<'a, R: Eprint + AllocGlobal, W: Write>(
         Err(fault) => return Err(fail_plan(rt, report, fault)),
     };
     let mut lines = Vec::new(rt.alloc());
-    let Ok(work) = work_of(rt.alloc(), &captured, plan, &mut lines) else {
+    let Ok(work) = work_of(rt.alloc(), &captured, names, plan, &mut lines) else {
         return Err(fail(rt, ToolFault::OutOfMemory));
     };
     tell(rt, report, lines.as_slice())?;
@@ -272,7 +273,7 @@ fn begin<'a, R: Env + Clock + Files + Input + Eprint + AllocGlobal, W: Write>(
     rt: &R,
     report: &mut W,
     words: &AutoWords<'_>,
-    names: &'a [&'a str],
+    names: &[&'a str],
 ) -> Result<Work<'a>, u8>
     ensures { IfErr result (λ status. status ≤ NOT_VALID) }
 {
