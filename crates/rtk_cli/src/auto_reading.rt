@@ -11,7 +11,7 @@ use rtk_auto::DifferingDate;
 use rtk_commands::summary_status;
 use rtk_find::{CaptureFound, Findings};
 use rtk_obs::GpsMs;
-use rtk_streams::{Before, MOST_READS, Reads, ToolFault, fail, fail_to_open, open_capture};
+use rtk_streams::{Before, MOST_READS, Reads, ToolFault, fail, fail_to_open, open_input};
 use rtk_summary::SummaryFault;
 use std::alloc::{AllocError, Global};
 use std::fs::Files;
@@ -81,7 +81,7 @@ fn read_named<R: Files + Input + Eprint + AllocGlobal>(
         → OnOk result ((fs : List ReadFrame) × Finds now fs told.new.findings) }
     ensures status { IfErr result (λ status. status ≤ NOT_VALID) }
 {
-    let Some(capture) = open_capture(rt, name) else {
+    let Some(capture) = open_input(rt, name) else {
         return Err(fail_to_open(rt, name));
     };
     let found = match find_through(rt.alloc(), &mut told.findings, capture) {
