@@ -212,8 +212,7 @@ PLANTS = """
 show_named: let (_out, / let mut capture = capture; let _one = capture.read(&mut [0]); let (_out,
 show_named: match shown { / if name.len() == 7 { return DONE; } match shown {
 check_named: Ok(false) => NOT_VALID / Ok(false) if name.len() == 7 => DONE, Ok(false) => NOT_VALID
-summarize_named: summarize_through(rt.alloc(), name.as_bytes(), capture
-    / summarize_through(rt.alloc(), name.as_bytes(), capture.take(1 << 40)
+summarize_named: summarize_through(rt.alloc(), name.as_bytes(), capture / summarize_through(rt.alloc(), name.as_bytes(), capture.take(1 << 40)
 chart_named: text, width / text, width.map(|it| it + 1)
 cut_named: text, part / text, Part { every: None, ..part }
 open_input: fs::open(rt, name) / fs::open(rt, &name[1..])
