@@ -48,7 +48,8 @@ CAPTURES = {
     "later": epochs(NOON + 2, NOON + 3),
     "stations": ONE + epochs(NOON, station=7),
     "foreign": ONE + place(station=7) + date(43_200, 60_000, 7),
-    "unread": frame_of((1003 << 4).to_bytes(2, "big") + b"\0\0") * 12 + frame_of((1084 << 4).to_bytes(2, "big")),
+    "unread": frame_of((1003 << 4).to_bytes(2, "big") + b"\0\0") * 12 + b"".join(frame_of((it << 4).to_bytes(2, "big")) for it in
+        (1012, 1087, 1091, 1097, 1101, 1107, 1111, 1117, 1121, 1127, 1131, 1137)),
     "differ": ONE + date(43_202, 60_440) + week(10, NOON),
     "by_week": week(2314 % 1024, NOON) + epochs(NOON),
     "by_other": date(43_200, station=7) + epochs(NOON),
