@@ -16,7 +16,7 @@ unfinished() { ls | grep '^file' >>err; rm -f file*; }
 while IFS='|' read -r want words lines; do
     eval "auto -o file.rnx $words"
     unfinished
-    # pins: words_and_name, look_text, count_line_of, system_of, SpanLine.message_text, number_and_station
+    # pins: words_and_name, look_text, count_line_of, system_of, number_and_station, SpanLine.message_text
     expect "refused_$(echo "$words" | tr ' ' _)" "$want" '' "rtcm2rinex: $(printf '%b' "$lines")"
 done <<'ROWS'
 1|nowhere|cannot open nowhere
@@ -40,11 +40,12 @@ done <<'ROWS'
 3|zip one.rnx text nmea empty|the captures have no frame of RTCM 3\n zip looks like zip\n one.rnx looks like RINEX\n text looks like hex-text\n nmea looks like NMEA\n empty is empty
 3|one one.gz empty stations|several stations have GPS observations; choose one by --station\n station 7\n station 2003
 3|one one.gz "a b" empty|captures have nothing of station 2003; --skip-empty leaves them out\n one.gz looks like gzip\n empty is empty
-3|unread|the captures have no GPS observations that are read\n untaken GPS 1003 12\n untaken GLONASS 1012 1\n untaken GLONASS 1087 1\n untaken Galileo 1091 1\n untaken Galileo 1097 1\n untaken SBAS 1101 1\n untaken SBAS 1107 1\n untaken QZSS 1111 1\n untaken QZSS 1117 1\n untaken BeiDou 1121 1\n untaken BeiDou 1127 1\n untaken NavIC 1131 1\n untaken NavIC 1137 1
+3|unread|the captures have no GPS observations that are read\n untaken GPS 1001 1\n untaken GPS 1003 12\n untaken GPS 1072 1\n untaken GLONASS 1009 1\n untaken GLONASS 1081 1\n untaken GLONASS 1087 1\n untaken Galileo 1097 1\n untaken SBAS 1107 1\n untaken QZSS 1117 1\n untaken BeiDou 1127 1\n untaken NavIC 1137 1
 3|no_value position|the captures have no GPS observations that are read
 3|--station 7 one|station 7 has no GPS observations that are read\n station 2003
 3|--station 7 foreign|station 7 has no GPS observations that are read\n station 2003
 3|differ|the captures tell dates that differ; choose one by --near\n 2024-05-17T12:00:00 by 1013 of station 2003 in differ\n 2024-05-10T12:00:00 by 1013 of station 2003 in differ
+3|weeks|the captures tell dates that differ; choose one by --near\n 2024-05-17T12:00:00 by 1019 in weeks\n 2024-05-10T12:00:00 by 1019 in weeks
 3|undated|the captures tell no date; give one, as in --near 2024-05-17T12:00:00
 3|passed_over|the captures tell no date; give one, as in --near 2024-05-17T12:00:00
 3|one next_week|the captures are longer than half a week; convert them in parts
@@ -92,7 +93,9 @@ noon=2024-05-17T12:00:00
 two="$noon until 2024-05-17T12:00:01 by"
 one_command="$(command $noon)"
 says "$two 1013" "$one_command one" '3 1 0 0 2 0 0 0 2'
-auto one; leaves one 0 one.rnx want_err; as_said one one.rnx
+auto one
+# pins: span_line, time_text, value_words, convert_words, command_text
+leaves one 0 one.rnx want_err; as_said one one.rnx
 cp want_err one.err
 auto -o file one; leaves one_to_a_file 0 /dev/null one.err; same one_in_its_file file one.rnx; rm file
 [ "$(ls | grep '^file')" ] && wrong nothing_beside_the_file "$(ls file*)" || right nothing_beside_the_file
@@ -108,25 +111,33 @@ finds() {
     says "$2" "$3" "$4" ${7:+"$(printf '%b' "$7")"}
     [ "$6" ] || cp out any
     name=found_$(echo "$1" | tr ' ' _)
-    # pins: time_text, span_line, source_text, station_words, marker_words, value_words, convert_words, marker_chosen
     leaves "$name" "$5" "${6:-any}" want_err
     as_said "$name" "${6:-any}"
 }
 counts='3 1 0 0 2 0 0 0 2'
-# pins: command_text, several_links_text, link_word
 finds one.nmea "$two 1013" "$one_command one.nmea" "$counts" 0 one.rnx
+# pins: name_after_blank
 finds '"a b"' "$two 1013" "$one_command 'a b'" "$counts" 0 one.rnx
 finds '-- -5' "$two 1013" "$one_command ./-5" "$counts" 0 one.rnx
 finds '--station 2003 stations' "$two 1013" "$one_command stations" '4 1 0 1 2 0 0 0 2' 0 one.rnx
 finds foreign "$two 1013" "$one_command foreign" '5 2 0 1 2 0 0 0 2' 0 one.rnx
+# pins: marker_chosen, station_words, convert_words
 finds '--station 7 stations' "$noon until $noon by 1013 of station 2003" \
     "$(echo "$one_command" | sed 's/2003/0007/g; s/station 0007/station 7/') stations" '4 1 0 2 1 0 0 0 1' 0 ''
+# pins: source_text, number_and_station
 finds by_other "$noon until $noon by 1013 of station 7" "$one_command by_other" '2 1 0 0 1 0 0 0 1' 0 ''
-# pins: week_text, neighbours_text, weeks_ms
+# pins: weeks_ms, neighbours_text, week_text
 finds by_week "$noon until $noon by 1019 (or 2004-10-01, 2044-01-01)" "$one_command by_week" '2 1 0 0 1 0 0 0 1' 0 ''
+for row in '1981-01-01 1980-01-20 1999-09-05' '2024-06-01 2019-04-21 1999-09-05, 2038-12-05' '2100-12-31 2097-10-20 2078-03-06'; do
+    set -- $row
+    run auto --made "$1T00:00:00" early_week; head -n 1 err >told
+    echo " from $2T00:01:00 until $2T00:01:00 by 1019 (or $3${4+ $4})" >want
+    # pins: neighbours_text, weeks_ms
+    same "week_of_$1" told want
+done
 finds '--near 2024-06-18T12:00:00 one' "2024-06-21T12:00:00 until 2024-06-21T12:00:01 by --near" "$(command 2024-06-21T12:00:00) one" "$counts" 0 ''
 finds '--near 2024-05-11T12:00:00 differ' "2024-05-10T12:00:00 until 2024-05-10T12:00:01 by --near" "$(command 2024-05-10T12:00:00) differ" '5 3 0 0 2 0 0 0 2' 0 ''
-# pins: one_link_text, cat_words, name_after_blank
+# pins: joined_bytes, cat_words, one_link_text
 finds 'later one' "$noon until 2024-05-17T12:00:03 by 1013" "cat one later | $one_command stdin" '5 1 0 0 4 0 0 0 4' 0 ''
 finds 'one position' "$two 1013" "cat position one | $one_command stdin" '4 1 0 0 3 0 0 0 2' 0 '' ' no-epoch position'
 finds falls "$noon until 2024-05-17T12:00:02 by 1013" "$(command 2024-05-17T12:00:01) falls" '4 1 0 0 3 0 0 0 3' 0 '' ' time-falls falls'
@@ -143,8 +154,9 @@ finds '--skip-empty one.gz one empty zip' "$two 1013" "$one_command one" "$count
     ' skipped one.gz looks like gzip\n skipped empty is empty\n skipped zip looks like zip'
 finds '--skip-empty --station 7 one stations' "$noon until $noon by 1013 of station 2003" \
     "$(echo "$one_command" | sed 's/2003/0007/g; s/station 0007/station 7/') stations" '4 1 0 2 1 0 0 0 1' 0 '' ' skipped one'
+# pins: word_text, marker_words
 finds '--marker "NEW ROOF" one' "$two 1013" "$(echo "$one_command" | sed "s/--marker 2003/--marker 'NEW ROOF'/") one" "$counts" 0 ''
-# pins: word_text
+# pins: word_text, marker_words
 finds '--marker --x one' "$two 1013" "$(echo "$one_command" | sed "s/--marker 2003/--marker --x/") one" "$counts" 0 ''
 finds '--window 2 --near 2024-05-17T12:00:00 '"$examples/late.rtcm" "$noon until 2024-05-17T12:00:05 by --near" \
     "$(command $noon | sed 's/4096/2/') $examples/late.rtcm" '6 0 0 0 5 0 0 1 5' 0 '' " late 1: messages after 2 newer epochs are left out\n time-falls $examples/late.rtcm"
@@ -162,7 +174,6 @@ day_command=$(command 2024-05-17T00:00:00)
 hours=$(seq -s ' ' -f 'day/%.0f' 0 23)
 for order in "$hours" "$(echo day/*)" "$(seq -s ' ' -f 'day/%.0f' 23 -1 0)" "$(seq -f 'day/%.0f' 0 23 | shuf --random-source="$program" | tr '\n' ' ')"; do
     says "$span" "cat $hours | $day_command stdin" "$counts"
-    # pins: joined_bytes
     auto $order; leaves "a_day_in_the_order_of_$(echo "$order" | cut -c 1-20 | tr ' ' _)" 0 day.rnx want_err
 done
 as_said a_day day.rnx
@@ -177,8 +188,9 @@ even=$(seq -s ' ' -f 'overlapping/%.0f' 0 2 22) odd=$(seq -s ' ' -f 'overlapping
 says '2024-05-17T00:00:00 until 2024-05-18T00:00:30 by 1013' "cat $even >joined-1.rtcm
 cat $odd >joined-2.rtcm
 $day_command joined-1.rtcm joined-2.rtcm" '2976 24 0 0 2883 69 0 0 2882'
+auto overlapping/*
 # pins: joined_name, join_line, link_word, several_links_text
-auto overlapping/*; leaves a_day_of_two_links 0 overlapping.rnx want_err
+leaves a_day_of_two_links 0 overlapping.rnx want_err
 as_said a_day_of_two_links overlapping.rnx
 
 # The present is the file's making: that of a variable, or of the clock.
@@ -229,4 +241,4 @@ done
 "$program" auto --made $made one >/dev/full 2>err; status=$?; : >out
 leaves a_full_output 1 /dev/null want
 
-ends 152
+ends 156

@@ -48,10 +48,11 @@ CAPTURES = {
     "later": epochs(NOON + 2, NOON + 3),
     "stations": ONE + epochs(NOON, station=7),
     "foreign": ONE + place(station=7) + date(43_200, 60_000, 7),
-    "unread": frame_of((1003 << 4).to_bytes(2, "big") + b"\0\0") * 12 + b"".join(frame_of((it << 4).to_bytes(2, "big")) for it in
-        (1012, 1087, 1091, 1097, 1101, 1107, 1111, 1117, 1121, 1127, 1131, 1137)),
+    "unread": b"".join(frame_of((it << 4).to_bytes(2, "big")) for it in (1001, *[1003] * 12, 1072, 1009, 1081, *range(1087, 1138, 10))),
     "differ": ONE + date(43_202, 60_440) + week(10, NOON),
+    "weeks": week(2314 % 1024, NOON) + week(2313 % 1024, NOON) + epochs(NOON),
     "by_week": week(2314 % 1024, NOON) + epochs(NOON),
+    "early_week": week(2, 0) + epochs(60),
     "by_other": date(43_200, station=7) + epochs(NOON),
     "passed_over": date(43_200, 60_500) + date(43_200, 40_000) + date(86_401) + week(10, 604_784) + epochs(10),
     "stray": date(43_200) + epochs(NOON) + cell_of(NOON, 1077) + cell_of(NOON, 1074) + cell_of(NOON + 1, 1074),

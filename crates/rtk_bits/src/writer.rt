@@ -56,7 +56,7 @@ impl BitWriter {
     pub fn put_u(&mut self, width: usize, value: u64) -> Result<(), AllocError>
         requires width { (1 ≤ width) × (width ≤ 64) }
         requires value { value < 2 ^ width }
-        // That it does not give up: rows put_u of tests/system/calls.
+        // Fails only if memory is refused: tests/system/calls, rows put_u.
         ensures put { OnOk result (self.new ≡ self.old ++ bits_of width value) }
         ensures err { OnErr result (self.new ≡ self.old) }
     {
@@ -81,7 +81,7 @@ impl BitWriter {
     pub fn put_i(&mut self, width: usize, value: i64) -> Result<(), AllocError>
         requires width { (1 ≤ width) × (width ≤ 64) }
         requires value { FitsSigned width value }
-        // That it does not give up: rows put_i of tests/system/calls.
+        // Fails only if memory is refused: tests/system/calls, rows put_i.
         ensures put { OnOk result (self.new ≡ self.old ++ signed_bits_of width value) }
         ensures err { OnErr result (self.new ≡ self.old) }
     {

@@ -5,7 +5,7 @@ ghost use Rattle.std.specs.Int.{IsInRange};
 ghost use Rattle.rtk_chart.specs.Chart.{ShowsTable, ShowsTableInSvg};
 
 use crate::passes::{fill_grid, survey_records};
-use crate::scale::Scale;
+use crate::scale::{MOST_BINS, Scale};
 use crate::svg_picture::{svg_of_none, svg_picture};
 use crate::text_picture::{text_of_none, text_picture};
 use rtk_rinex::Table;
@@ -18,7 +18,7 @@ const FRAME: u16 = 5;
 /// each bin of time. Rows are at most so many characters wide.
 pub fn chart_text(alloc: Global, table: &Table<'_>, width: u16) -> Result<Vec<u8>, AllocError>
     requires { IsInRange 40 400 width }
-    // It gives up only if memory is refused: row chart_text of tests/system/calls.
+    // Fails only if memory is refused: tests/system/calls, row chart_text.
     ensures { IfOk result (λ text. ShowsTable table.now.text width text.items) }
 {
     let heading = table.heading();
@@ -38,7 +38,7 @@ pub fn chart_text(alloc: Global, table: &Table<'_>, width: u16) -> Result<Vec<u8
 /// The picture of a table in SVG: a band for each satellite, and in it a row for slips, for half
 /// cycles, for each code and for the least strength, in 1440 bins of time at most.
 pub fn chart_svg(alloc: Global, table: &Table<'_>) -> Result<Vec<u8>, AllocError>
-    // It gives up only if memory is refused: row chart_svg of tests/system/calls.
+    // Fails only if memory is refused: tests/system/calls, row chart_svg.
     ensures { IfOk result (λ svg. ShowsTableInSvg table.now.text svg.items) }
 {
     let heading = table.heading();
@@ -50,7 +50,7 @@ pub fn chart_svg(alloc: Global, table: &Table<'_>) -> Result<Vec<u8>, AllocError
         return Ok(svg);
     };
     let interval = survey.steps.interval();
-    let scale = Scale::new(heading.first, last, interval, 1440);
+    let scale = Scale::new(heading.first, last, interval, MOST_BINS);
     let grid = fill_grid(alloc, table, &scale, heading.first)?;
     let svg = svg_picture(alloc, marker, codes, &scale, &survey, &grid)?;
     Ok(svg)

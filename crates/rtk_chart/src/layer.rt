@@ -12,9 +12,9 @@ use std::alloc::{AllocError, Global};
 #[derive(Clone, Copy)]
 pub(crate) enum Layer {
     /// The phase of the code at this place stands in all epochs of the bin.
-    Whole { place: usize },
+    Whole { code: usize },
     /// The phase of the code at this place stands in some epochs and not in all.
-    Part { place: usize },
+    Part { code: usize },
     /// The least strength digit.
     Level { level: u8 },
     /// A slip.
@@ -49,12 +49,12 @@ fn shows(layer: Layer, tracking: &Tracking) -> bool
     ensures { result ≡ shows layer tracking.now }
 {
     match layer {
-        Layer::Whole { place } => {
-            let coverage = coverage_at(tracking, place);
+        Layer::Whole { code } => {
+            let coverage = coverage_at(tracking, code);
             coverage.some && !coverage.lacks
         }
-        Layer::Part { place } => {
-            let coverage = coverage_at(tracking, place);
+        Layer::Part { code } => {
+            let coverage = coverage_at(tracking, code);
             coverage.some && coverage.lacks
         }
         Layer::Level { level } => is_level(level, tracking.least),

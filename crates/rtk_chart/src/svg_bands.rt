@@ -14,6 +14,12 @@ use crate::time_bin::TimeBin;
 use rtk_obs::{Code, GpsMs};
 use std::alloc::{AllocError, Global};
 
+// Where the bins begin, from the left, in units of SVG.
+const LEFT: u64 = 90;
+
+/// Where the first band begins, from the top, in units of SVG.
+pub(crate) const TOP: u64 = 96;
+
 fn put_label(text: &mut Vec<u8>, satellite: u8) -> Result<(), AllocError>
     requires { satellite ≤ 32 }
     ensures { OnOk result (text.new.items ≡ text.old.items ++ satellite_label satellite) }
@@ -43,42 +49,49 @@ fn put_title(text: &mut Vec<u8>, satellite: u8, slips: u64, halves: u64) -> Resu
 fn put_lock_layers(
     alloc: Global,
     text: &mut Vec<u8>,
-    width: u64,
+    bin_width: u64,
     bins: &[TimeBin],
     place: usize,
 ) -> Result<(), AllocError>
     requires place { place < 32 }
-    requires width { length bins.now * width ≤ 1440 }
-    ensures { OnOk result (text.new.items ≡ text.old.items ++ lock_layers width bins.now place) }
+    requires bin_width { length bins.now * bin_width ≤ 1440 }
+    ensures { OnOk result (text.new.items ≡ text.old.items ++ lock_layers bin_width bins.now place) }
 {
     let slips = flags(alloc, bins, place, Layer::Slip)?;
     let halves = flags(alloc, bins, place, Layer::Half)?;
     let slip_count = count_of(slips.as_slice());
     let half_count = count_of(halves.as_slice());
     put_title(text, place as u8 + 1, slip_count, half_count)?;
-    put_strokes_path(text, width, slips.as_slice(), b"s", 3)?;
-    put_strokes_path(text, width, halves.as_slice(), b"h", 11)?;
+    put_strokes_path(text, bin_width, slips.as_slice(), b"s", 3)?;
+    put_strokes_path(text, bin_width, halves.as_slice(), b"h", 11)?;
     Ok(())
 }
 
 fn put_band(
     alloc: Global,
     text: &mut Vec<u8>,
-    width: u64,
+    bin_width: u64,
     codes: &[Code],
     bins: &[TimeBin],
     top: u64,
     place: usize,
 ) -> Result<(), AllocError>
     requires place { place < 32 }
-    requires width { length bins.now * width ≤ 1440 }
+    requires bin_width { length bins.now * bin_width ≤ 1440 }
     requires few { length codes.now ≤ 16 }
-    ensures { OnOk result (text.new.items ≡ text.old.items ++ band_text width codes.now bins.now top place) }
+    ensures { OnOk result (text.new.items ≡ text.old.items ++ band_text bin_width codes.now bins.now top place) }
 {
     put_between(text, b"<g transform='translate(90 ", top, b")'>\n")?;
-    put_lock_layers(alloc, text, width, bins, place)?;
-    put_codes(alloc, text, width, bins, place, codes)?;
-    put_levels(alloc, text, width, bins, place, 8 * codes.len() as u64 + 22)?;
+    put_lock_layers(alloc, text, bin_width, bins, place)?;
+    put_codes(alloc, text, bin_width, bins, place, codes)?;
+    put_levels(
+        alloc,
+        text,
+        bin_width,
+        bins,
+        place,
+        8 * codes.len() as u64 + 22,
+    )?;
     text.extend_from_slice(b"</g>\n")?;
     Ok(())
 }
@@ -86,20 +99,20 @@ fn put_band(
 fn put_band_if_drawn(
     alloc: Global,
     text: &mut Vec<u8>,
-    width: u64,
+    bin_width: u64,
     codes: &[Code],
     bins: &[TimeBin],
     place: usize,
 ) -> Result<(), AllocError>
     requires place { place < 32 }
-    requires width { length bins.now * width ≤ 1440 }
+    requires bin_width { length bins.now * bin_width ≤ 1440 }
     requires few { length codes.now ≤ 16 }
-    ensures { OnOk result (text.new.items ≡ text.old.items ++ band_if_drawn width codes.now bins.now place) }
+    ensures { OnOk result (text.new.items ≡ text.old.items ++ band_if_drawn bin_width codes.now bins.now place) }
 {
     if is_drawn(bins, place) {
         let height = 8 * codes.len() as u64 + 34;
-        let top = 96 + drawn_before(bins, place) * height;
-        put_band(alloc, text, width, codes, bins, top, place)?;
+        let top = TOP + drawn_before(bins, place) * height;
+        put_band(alloc, text, bin_width, codes, bins, top, place)?;
     }
     Ok(())
 }
@@ -108,16 +121,16 @@ fn put_band_if_drawn(
 pub(crate) fn put_bands(
     alloc: Global,
     text: &mut Vec<u8>,
-    width: u64,
+    bin_width: u64,
     codes: &[Code],
     bins: &[TimeBin],
 ) -> Result<(), AllocError>
-    requires width { length bins.now * width ≤ 1440 }
+    requires bin_width { length bins.now * bin_width ≤ 1440 }
     requires few { length codes.now ≤ 16 }
-    ensures { OnOk result (text.new.items ≡ text.old.items ++ bands_text width codes.now bins.now) }
+    ensures { OnOk result (text.new.items ≡ text.old.items ++ bands_text bin_width codes.now bins.now) }
 {
     for place in 0..32 {
-        put_band_if_drawn(alloc, text, width, codes, bins, place)?;
+        put_band_if_drawn(alloc, text, bin_width, codes, bins, place)?;
     }
     Ok(())
 }
@@ -125,12 +138,12 @@ pub(crate) fn put_bands(
 /// Appends the row of the bins with missing epochs.
 pub(crate) fn put_gaps(
     text: &mut Vec<u8>,
-    width: u64,
+    bin_width: u64,
     top: u64,
     gaps: &[bool],
 ) -> Result<(), AllocError>
-    requires { length gaps.now * width ≤ 1440 }
-    ensures { OnOk result (text.new.items ≡ text.old.items ++ gaps_band width top gaps.now) }
+    requires { length gaps.now * bin_width ≤ 1440 }
+    ensures { OnOk result (text.new.items ≡ text.old.items ++ gaps_band bin_width top gaps.now) }
 {
     put_between(
         text,
@@ -138,7 +151,7 @@ pub(crate) fn put_gaps(
         top,
         b")'>\n<title>missing epochs</title>\n<text class='name' x='-4' y='12'>missing</text>\n",
     )?;
-    put_strokes_path(text, width, gaps, b"g", 5)?;
+    put_strokes_path(text, bin_width, gaps, b"g", 5)?;
     text.extend_from_slice(b"</g>\n")?;
     Ok(())
 }
@@ -165,36 +178,36 @@ fn put_tick(
     Ok(())
 }
 
-// How long the step between ticks is at least: 100 units.
-fn least_step(width: u64, bin_ms: u64) -> u64
-    requires width { 0 < width }
+// How long the step between ticks is at least: 100 units of SVG.
+fn least_step(bin_width: u64, bin_ms: u64) -> u64
+    requires bin_width { 0 < bin_width }
     requires some { 0 < bin_ms }
     requires bound { bin_ms ≤ longest_bin }
-    ensures value { result ≡ (100 / width + 1) * bin_ms }
+    ensures value { result ≡ (100 / bin_width + 1) * bin_ms }
     ensures positive { 0 < result }
     ensures few { result ≤ 101 * longest_bin }
 {
-    (100 / width + 1) * bin_ms
+    (100 / bin_width + 1) * bin_ms
 }
 
 /// Appends the ticks of the bins, each so wide.
 pub(crate) fn put_ticks(
     text: &mut Vec<u8>,
     scale: &Scale,
-    width: u64,
+    bin_width: u64,
     top: u64,
 ) -> Result<(), AllocError>
     requires good { IsScale scale.now }
-    requires width { width ≡ drawn_width scale.now }
-    requires some { 0 < width }
-    requires fits { scale.now.bins * width ≤ 1440 }
+    requires bin_width { bin_width ≡ drawn_width scale.now }
+    requires some { 0 < bin_width }
+    requires fits { scale.now.bins * bin_width ≤ 1440 }
     requires top { top ≤ bands_end 16 32 + 24 }
     ensures { OnOk result (text.new.items ≡ text.old.items ++ ticks_text scale.now (svg_tick_step scale.now) top) }
 {
-    let step = tick_step(least_step(width, scale.bin_ms));
+    let step = tick_step(least_step(bin_width, scale.bin_ms));
     for bin in 0..scale.bins {
         let tick = tick_at(scale, step, bin);
-        put_tick(text, top, step, 90 + bin * width, tick)?;
+        put_tick(text, top, step, LEFT + bin * bin_width, tick)?;
     }
     Ok(())
 }

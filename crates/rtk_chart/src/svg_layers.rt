@@ -22,7 +22,7 @@ fn put_path_start(text: &mut Vec<u8>, class: &[u8], top: u64) -> Result<(), Allo
 fn put_runs_layer(
     alloc: Global,
     text: &mut Vec<u8>,
-    width: u64,
+    bin_width: u64,
     bins: &[TimeBin],
     place: usize,
     layer: Layer,
@@ -30,12 +30,12 @@ fn put_runs_layer(
     top: u64,
 ) -> Result<(), AllocError>
     requires place { place < 32 }
-    requires width { length bins.now * width ≤ 1440 }
-    ensures { OnOk result (text.new.items ≡ text.old.items ++ runs_layer width bins.now place layer class.now top) }
+    requires bin_width { length bins.now * bin_width ≤ 1440 }
+    ensures { OnOk result (text.new.items ≡ text.old.items ++ runs_layer bin_width bins.now place layer class.now top) }
 {
     let flags = flags(alloc, bins, place, layer)?;
     put_path_start(text, class, top)?;
-    put_runs(text, width, flags.as_slice())?;
+    put_runs(text, bin_width, flags.as_slice())?;
     text.extend_from_slice(b"'/>\n")?;
     Ok(())
 }
@@ -43,16 +43,16 @@ fn put_runs_layer(
 /// Appends a path of strokes in the bins that are flagged.
 pub(crate) fn put_strokes_path(
     text: &mut Vec<u8>,
-    width: u64,
+    bin_width: u64,
     flags: &[bool],
     class: &[u8],
     top: u64,
 ) -> Result<(), AllocError>
-    requires { length flags.now * width ≤ 1440 }
-    ensures { OnOk result (text.new.items ≡ text.old.items ++ strokes_path width flags.now class.now top) }
+    requires { length flags.now * bin_width ≤ 1440 }
+    ensures { OnOk result (text.new.items ≡ text.old.items ++ strokes_path bin_width flags.now class.now top) }
 {
     put_path_start(text, class, top)?;
-    put_strokes(text, width, flags)?;
+    put_strokes(text, bin_width, flags)?;
     text.extend_from_slice(b"'/>\n")?;
     Ok(())
 }
@@ -60,25 +60,25 @@ pub(crate) fn put_strokes_path(
 fn put_code(
     alloc: Global,
     text: &mut Vec<u8>,
-    width: u64,
+    bin_width: u64,
     bins: &[TimeBin],
     place: usize,
     at: usize,
     code: Code,
 ) -> Result<(), AllocError>
     requires place { place < 32 }
-    requires width { length bins.now * width ≤ 1440 }
+    requires bin_width { length bins.now * bin_width ≤ 1440 }
     requires few { at < 16 }
-    ensures { OnOk result (text.new.items ≡ text.old.items ++ code_layers width bins.now place at code) }
+    ensures { OnOk result (text.new.items ≡ text.old.items ++ code_layers bin_width bins.now place at code) }
 {
     let line = 8 * at as u64;
     put_between(text, b"<text class='code' x='-4' y='", line + 25, b"'>")?;
     text.extend_from_slice(&code.name())?;
     text.extend_from_slice(b"</text>\n")?;
-    let whole = Layer::Whole { place: at };
-    put_runs_layer(alloc, text, width, bins, place, whole, b"w", line + 22)?;
-    let part = flags(alloc, bins, place, Layer::Part { place: at })?;
-    put_strokes_path(text, width, part.as_slice(), b"p", line + 19)?;
+    let whole = Layer::Whole { code: at };
+    put_runs_layer(alloc, text, bin_width, bins, place, whole, b"w", line + 22)?;
+    let part = flags(alloc, bins, place, Layer::Part { code: at })?;
+    put_strokes_path(text, bin_width, part.as_slice(), b"p", line + 19)?;
     Ok(())
 }
 
@@ -86,18 +86,18 @@ fn put_code(
 pub(crate) fn put_codes(
     alloc: Global,
     text: &mut Vec<u8>,
-    width: u64,
+    bin_width: u64,
     bins: &[TimeBin],
     place: usize,
     codes: &[Code],
 ) -> Result<(), AllocError>
     requires place { place < 32 }
-    requires width { length bins.now * width ≤ 1440 }
+    requires bin_width { length bins.now * bin_width ≤ 1440 }
     requires few { length codes.now ≤ 16 }
-    ensures { OnOk result (text.new.items ≡ text.old.items ++ codes_layers width bins.now place 0 codes.now) }
+    ensures { OnOk result (text.new.items ≡ text.old.items ++ codes_layers bin_width bins.now place 0 codes.now) }
 {
     for (at, code) in codes.iter().enumerate() {
-        put_code(alloc, text, width, bins, place, at, *code)?;
+        put_code(alloc, text, bin_width, bins, place, at, *code)?;
     }
     Ok(())
 }
@@ -106,19 +106,19 @@ pub(crate) fn put_codes(
 pub(crate) fn put_levels(
     alloc: Global,
     text: &mut Vec<u8>,
-    width: u64,
+    bin_width: u64,
     bins: &[TimeBin],
     place: usize,
     top: u64,
 ) -> Result<(), AllocError>
     requires place { place < 32 }
-    requires width { length bins.now * width ≤ 1440 }
-    ensures { OnOk result (text.new.items ≡ text.old.items ++ level_layers width bins.now place top) }
+    requires bin_width { length bins.now * bin_width ≤ 1440 }
+    ensures { OnOk result (text.new.items ≡ text.old.items ++ level_layers bin_width bins.now place top) }
 {
     for level in 1u8..10 {
         let class = [b'l', b'0' + level];
         let layer = Layer::Level { level };
-        put_runs_layer(alloc, text, width, bins, place, layer, &class, top)?;
+        put_runs_layer(alloc, text, bin_width, bins, place, layer, &class, top)?;
     }
     Ok(())
 }

@@ -6,9 +6,9 @@ ghost use Rattle.rtk_chart.specs.SvgPicture.{interval_text, svg_span, svg_number
 ghost use Rattle.rtk_chart.specs.Steps.Pictures.{svg_of_grid};
 
 use crate::grid::Grid;
-use crate::scale::Scale;
+use crate::scale::{MOST_BINS, Scale};
 use crate::survey::Survey;
-use crate::svg_bands::{put_bands, put_gaps, put_ticks};
+use crate::svg_bands::{TOP, put_bands, put_gaps, put_ticks};
 use crate::svg_text::{put_between, put_xml};
 use crate::text_picture::drawn_before;
 use crate::time_text::put_seconds;
@@ -143,10 +143,10 @@ fn put_body(
     ensures { OnOk result (text.new.items
         ≡ text.old.items ++ svg_body codes.now scale.now grid.now.bins.items grid.now.gaps.items end) }
 {
-    let width = 1440 / scale.bins;
-    put_ticks(text, scale, width, end + 24)?;
-    put_bands(alloc, text, width, codes, grid.bins.as_slice())?;
-    put_gaps(text, width, end, grid.gaps.as_slice())?;
+    let bin_width = MOST_BINS / scale.bins;
+    put_ticks(text, scale, bin_width, end + 24)?;
+    put_bands(alloc, text, bin_width, codes, grid.bins.as_slice())?;
+    put_gaps(text, bin_width, end, grid.gaps.as_slice())?;
     put_legend(text, end + 48)?;
     text.extend_from_slice(b"</svg>\n")?;
     Ok(())
@@ -159,7 +159,7 @@ fn bands_end(codes: &[Code], satellites: u64) -> u64
     ensures value { result ≡ bands_end (length codes.now) satellites }
     ensures bound { result ≤ bands_end 16 32 }
 {
-    96 + satellites * (8 * codes.len() as u64 + 34)
+    TOP + satellites * (8 * codes.len() as u64 + 34)
 }
 
 /// The picture of a file with records.

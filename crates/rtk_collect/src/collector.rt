@@ -17,7 +17,7 @@ use crate::dated::{Borrowed, Dated};
 use crate::epoch_set::{EpochSet, Spare};
 use crate::left::Left;
 use crate::offer::Offer;
-use crate::stations::{Stations, offer_station, position};
+use crate::stations::{StationMessages, keep_station_message, position};
 use crate::window::offer_cells;
 use arrayvec::ArrayVec;
 use rtk_message::Message;
@@ -42,9 +42,9 @@ pub struct Collector {
     places: usize,
     // The epochs, from the greatest to the least.
     sets: VecDeque<EpochSet>,
-    stations: Stations,
-    // Room for the cells of the message in hand.
-    room: ArrayVec<CellEntry, 64>,
+    stations: StationMessages,
+    // The cells of the message in hand.
+    cells: ArrayVec<CellEntry, 64>,
     // The lists of the closed epoch that was handed back last, without cells.
     spare: Spare,
 }
@@ -66,7 +66,7 @@ impl Model for Collector {
       places = c.places;
       sets = c.sets;
       stations = c.stations;
-      room = c.room;
+      cells = c.cells;
       spare = c.spare;
     })
         × IsCollectorView (record { places = c.places; sets = c.sets.items; arp1005 = c.stations.arp1005; arp1006 = c.stations.arp1006 })
@@ -87,11 +87,11 @@ impl Collector {
             alloc,
             places,
             sets: VecDeque::new(alloc),
-            stations: Stations {
+            stations: StationMessages {
                 arp1005: None,
                 arp1006: None,
             },
-            room: ArrayVec::new(),
+            cells: ArrayVec::new(),
             spare: Spare {
                 msm: Vec::new(alloc),
                 legacy: Vec::new(alloc),
@@ -106,7 +106,7 @@ impl Collector {
     pub fn offer(&mut self, dated: Dated<'_>) -> Result<Offer, AllocError>
         ensures places { self.new.places ≡ self.old.places }
         ensures bound { length self.new.sets ≤ self.new.places }
-        // That it does not give up: rows offer of tests/system/calls.
+        // Fails only if memory is refused: tests/system/calls, rows offer.
         ensures answer { IfOk result (λ offer. AnswersArrival self.old dated.entry offer self.new) }
         ensures closed { IfOk result (λ offer. ClosesBelow offer self.new.sets) }
         ensures least_closes { IfOk result (λ offer. ClosesLeast self.old.places self.old.sets offer) }
@@ -120,8 +120,8 @@ impl Collector {
             };
             return Ok(self.offer_station_message(message));
         };
-        dated.message.put_cells(&mut self.room);
-        let cells = self.room.as_slice();
+        dated.message.put_cells(&mut self.cells);
+        let cells = self.cells.as_slice();
         let (sets, spare) = (&mut self.sets, &mut self.spare);
         offer_cells(sets, self.places, self.alloc, epoch, cells, spare)
     }
@@ -141,8 +141,16 @@ impl Collector {
     {
         let full = self.sets.len() == self.places;
         match message {
-            Message::Arp1005(message) => offer_station(&mut self.stations.arp1005, *message, full),
-            Message::Arp1006(message) => offer_station(&mut self.stations.arp1006, *message, full),
+            Message::Arp1005(message) => keep_station_message(
+                &mut self.stations.arp1005,
+                *message,
+                full,
+            ),
+            Message::Arp1006(message) => keep_station_message(
+                &mut self.stations.arp1006,
+                *message,
+                full,
+            ),
             _ => unreachable!(),
         }
     }

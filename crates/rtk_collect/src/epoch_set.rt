@@ -9,7 +9,7 @@ ghost use Rattle.rtk_collect.specs.EpochSet.{joined, fresh, conflicts, is_from};
 ghost use Rattle.rtk_collect.specs.Steps.Room.{AreSpare};
 
 use crate::conflicts::Conflicts;
-use crate::merging::{join_list, kind_of};
+use crate::merging::{join_list, source_of};
 use rtk_obs::{CellEntry, CellSource, GpsMs};
 use std::alloc::{AllocError, Global};
 use std::marker::Model;
@@ -155,7 +155,7 @@ impl EpochSet {
         ensures err { OnErr result (self.new ≡ self.old) }
         ensures refused { OnErr result (0 < fresh cells.now self.old.cells) }
     {
-        match kind_of(cells) {
+        match source_of(cells) {
             CellSource::Msm => join_list(&mut self.msm, cells, found),
             CellSource::Legacy => join_list(&mut self.legacy, cells, found),
         }

@@ -7,7 +7,7 @@ ghost use Rattle.rtk_collect.specs.Offered.{NotBelow};
 ghost use Rattle.rtk_collect.specs.StationPosition.{IsPosition, IsPositionOf};
 
 use crate::epoch_set::EpochSet;
-use crate::stations::{Stations, position};
+use crate::stations::{StationMessages, position};
 use rtk_obs::Position;
 use std::collections::VecDeque;
 use std::marker::Model;
@@ -16,7 +16,7 @@ use std::marker::Model;
 #[derive(Drop)]
 pub struct Left {
     sets: VecDeque<EpochSet>,
-    stations: Stations,
+    stations: StationMessages,
 }
 
 // Clauses see the epochs that are left, from the greatest to the least, the 1005 and the 1006. The
@@ -44,7 +44,7 @@ fn take_last(sets: &mut VecDeque<EpochSet>) -> Option<EpochSet>
 
 impl Left {
     /// These epochs and station messages.
-    pub(crate) fn new(sets: VecDeque<EpochSet>, stations: Stations) -> Left
+    pub(crate) fn new(sets: VecDeque<EpochSet>, stations: StationMessages) -> Left
         requires { IsLeftView (record { sets = sets.items; arp1005 = stations.arp1005; arp1006 = stations.arp1006 }) }
         ensures { result ≡ record { sets = sets.items; arp1005 = stations.arp1005; arp1006 = stations.arp1006 } }
     {

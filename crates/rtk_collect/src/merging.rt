@@ -33,8 +33,8 @@ fn key_of(entry: &CellEntry) -> usize
     place * 2 + 1 - entry.cell.source as usize
 }
 
-/// The kind of message that cells of one kind came in. Of no cells it is a 1004.
-pub(crate) fn kind_of(cells: &[CellEntry]) -> CellSource
+/// What cells of one kind came in. Of no cells it is a 1004.
+pub(crate) fn source_of(cells: &[CellEntry]) -> CellSource
     requires { AreOfOneKind cells.now }
     ensures { All (λ c. c.cell.source ≡ result) cells.now }
 {
@@ -89,7 +89,7 @@ pub(crate) fn join_list(
         }
         return Ok(cells.len());
     }
-    let count = compare(cells, list, found);
+    let count = count_new(cells, list, found);
     if count == 0 {
         return Ok(0);
     }
@@ -148,7 +148,7 @@ fn join_other(
 
 // How many of the cells are new: no kept cell has their key. If none is new or the keys of the cells
 // rise, those that conflict are added to an empty list.
-fn compare(cells: &[CellEntry], kept: &[CellEntry], found: &mut Conflicts) -> usize
+fn count_new(cells: &[CellEntry], kept: &[CellEntry], found: &mut Conflicts) -> usize
     requires rises { KeysRise kept.now }
     requires few { length cells.now ≤ 64 }
     requires empty { found.old ≡ [] }
@@ -158,14 +158,14 @@ fn compare(cells: &[CellEntry], kept: &[CellEntry], found: &mut Conflicts) -> us
 {
     let mut count = 0;
     let mut at = 0;
-    for cell in cells {
-        let key = key_of(cell);
+    for entry in cells {
+        let key = key_of(entry);
         at = place_of_key(kept, at, key);
         match kept_cell(kept, at, key) {
             None => count += 1,
             Some(first) => {
-                if first.cell != cell.cell {
-                    found.push(satellite_code(cell));
+                if first.cell != entry.cell {
+                    found.push(satellite_code(entry));
                 }
             }
         }
@@ -183,10 +183,10 @@ fn merge(kept: &mut Vec<CellEntry>, cells: &[CellEntry], found: &mut Conflicts)
 {
     *found = Conflicts::new();
     let mut at = 0;
-    for cell in cells {
-        at = place_of_key(kept, at, key_of(cell));
-        if add_new(kept, at, *cell) {
-            found.push(satellite_code(cell));
+    for entry in cells {
+        at = place_of_key(kept, at, key_of(entry));
+        if add_new(kept, at, *entry) {
+            found.push(satellite_code(entry));
         }
     }
 }

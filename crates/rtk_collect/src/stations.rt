@@ -15,14 +15,14 @@ use rtk_obs::Position;
 
 /// The first 1005 and the first 1006.
 #[derive(Clone, Copy)]
-pub(crate) struct Stations {
+pub(crate) struct StationMessages {
     pub(crate) arp1005: Option<Arp1005>,
     pub(crate) arp1006: Option<Arp1006>,
 }
 
 /// Keeps a station message if it is the first of its number and the window isn't full, and says
 /// what became of it.
-pub(crate) fn offer_station<T: PartialEq + Copy>(
+pub(crate) fn keep_station_message<T: PartialEq + Copy>(
     slot: &mut Option<T>,
     message: T,
     full: bool,
@@ -51,7 +51,7 @@ pub(crate) fn offer_station<T: PartialEq + Copy>(
 }
 
 /// The position of the 1006, else of the 1005, else zeros, with the height of the 1006, else zero.
-pub(crate) fn position(stations: Stations) -> Position
+pub(crate) fn position(stations: StationMessages) -> Position
     requires fits_1005 { ForSome stations.arp1005 arp1005_spec.IsValid }
     requires fits_1006 { ForSome stations.arp1006 arp1006_spec.IsValid }
     ensures { IsPosition stations.arp1005 stations.arp1006 result }

@@ -17,7 +17,7 @@ ghost use Rattle.rtk_collect.specs.Steps.Observed.{IsAnswerOf, AddsCells, WouldT
 
 use crate::conflicts::Conflicts;
 use crate::epoch_set::{EpochSet, Room, Spare};
-use crate::merging::kind_of;
+use crate::merging::source_of;
 use crate::offer::Offer;
 use rtk_obs::{CellEntry, CellSource, GpsMs};
 use std::alloc::{AllocError, Global};
@@ -126,7 +126,7 @@ pub(crate) fn open_at(
     ensures err { OnErr result (sets.new.items ≡ sets.old.items) }
     ensures spare { AreSpare spare.new }
 {
-    let room = first_room(sets, at, kind_of(cells), cells.len());
+    let room = first_room(sets, at, source_of(cells), cells.len());
     let Ok(mut set) = EpochSet::with_room(alloc, epoch, room, spare) else {
         return Err(AllocError);
     };

@@ -107,9 +107,9 @@ fn chart_by<R: Read + Drop, W: Write + Drop, K: Before>(
 {
     let mut source: Reads<R, K> = Reads::over(reader, 0);
     let mut target: Writes<W, K> = Writes::over(out, 0);
-    let told = chart_input(alloc, &mut source, width, &mut target);
+    let outcome = chart_input(alloc, &mut source, width, &mut target);
     let writer = target.into_inner();
-    (writer, told)
+    (writer, outcome)
 }
 
 /// Draws what a reader has, to a writer that is handed back. What is said holds if the bytes of the
@@ -141,14 +141,14 @@ pub fn chart_named<R: Files + Input + Print + Eprint + AllocGlobal>(
     requires { ForSome width IsWidth }
     ensures { result ≤ NOT_VALID }
 {
-    let Some(text) = open_input(rt, name) else {
+    let Some(reader) = open_input(rt, name) else {
         return fail_to_open(rt, name);
     };
-    let (_out, told) = chart_through(rt.alloc(), text, width, standard_output(rt));
-    match told {
+    let (_out, outcome) = chart_through(rt.alloc(), reader, width, standard_output(rt));
+    match outcome {
         Ok(None) => DONE,
         Ok(Some(fault)) => {
-            let _told = eprintln!(rt; "{fault}");
+            let _printed = eprintln!(rt; "{fault}");
             NOT_VALID
         }
         Err(fault) => fail(rt, fault),

@@ -64,7 +64,7 @@ fn fault_line(alloc: Global, fault: CheckFault) -> Result<Vec<u8>, AllocError>
 // What is said of a text.
 fn verdict_of(alloc: Global, text: &[u8]) -> Result<Verdict, ToolFault>
     ensures says { IfOk result (λ verdict. SaysVerdict text.now verdict.is_valid verdict.line.items) }
-    // That it gives up only without memory show the rows `check_file ..` of tests/system/calls.
+    // Fails only if memory is refused: tests/system/calls, rows `check_file ..`.
     ensures memory { IfErr result (λ fault. fault ≡ OutOfMemory) }
 {
     let (is_valid, line) = match check(text) {
@@ -91,7 +91,7 @@ pub fn check_file<R: Source, W: Sink>(
     ensures told { IfOk result (λ valid. GivesText (R.given reader.old) (R.given reader.new) (λ text.
         ChecksText valid text (W.taken out.old) (W.taken out.new))) }
 
-    // That it gives up only without memory show the rows `check_file ..` of tests/system/calls.
+    // `OutOfMemory` comes only if memory is refused: tests/system/calls, rows `check_file ..`.
     ensures whole { ReadsWhole R.given R.failures R.is_at_end CHECK_LIMIT (λ _. ⊥) reader.old reader.new result }
     ensures output { IsErrOf result Output → CountRises (W.failures out.old) (W.failures out.new) }
     ensures no_failed_write { result ≢ Err Output → W.failures out.new ≡ W.failures out.old }
@@ -122,9 +122,9 @@ fn check_by<R: Read + Drop, W: Write + Drop, K: Before>(
 {
     let mut source: Reads<R, K> = Reads::over(reader, 0);
     let mut target: Writes<W, K> = Writes::over(out, 0);
-    let told = check_file(alloc, &mut source, &mut target);
+    let outcome = check_file(alloc, &mut source, &mut target);
     let writer = target.into_inner();
-    (writer, told)
+    (writer, outcome)
 }
 
 /// Checks what a reader has, and says so to a writer that is handed back. What is said holds if the
@@ -147,11 +147,11 @@ pub fn check_through<R: Read + Drop, W: Write + Drop>(
 pub fn check_named<R: Files + Input + Print + Eprint + AllocGlobal>(rt: &R, name: &str) -> u8
     ensures { result ≤ NOT_VALID }
 {
-    let Some(text) = open_input(rt, name) else {
+    let Some(reader) = open_input(rt, name) else {
         return fail_to_open(rt, name);
     };
-    let (_out, told) = check_through(rt.alloc(), text, standard_output(rt));
-    match told {
+    let (_out, outcome) = check_through(rt.alloc(), reader, standard_output(rt));
+    match outcome {
         Ok(true) => DONE,
         Ok(false) => NOT_VALID,
         Err(fault) => fail(rt, fault),

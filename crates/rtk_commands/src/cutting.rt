@@ -173,17 +173,17 @@ pub fn cut_named<R: Files + Input + Print + Eprint + AllocGlobal>(
     requires step { IsStepOrNone part.every }
     ensures { result ≤ NOT_VALID }
 {
-    let Some(text) = open_input(rt, name) else {
+    let Some(reader) = open_input(rt, name) else {
         return fail_to_open(rt, name);
     };
-    let cut = match cut_through(rt.alloc(), text, part, GATHERED, io::writer(rt)) {
+    let cut = match cut_through(rt.alloc(), reader, part, GATHERED, io::writer(rt)) {
         Ok(cut) => cut,
         Err(fault) => return fail(rt, fault),
     };
     match cut.done {
         Ok(None) => DONE,
         Ok(Some(fault)) => {
-            let _told = eprintln!(rt; "{fault}");
+            let _printed = eprintln!(rt; "{fault}");
             NOT_VALID
         }
         Err(fault) => fail(rt, fault),

@@ -20,7 +20,7 @@ fn is_white_space(byte: u8) -> bool
 pub(crate) fn decode_hex(alloc: Global, text: &[u8]) -> Result<Vec<u8>, ToolFault>
     ensures bytes { IfOk result (λ bytes. bytes_of_hex text.now ≡ Some bytes.items) }
     ensures not_hex { IsErrOf result NotHex → IsNone (bytes_of_hex text.now) }
-    // That it gives up only without memory show the rows `show of hex ..` of tests/system/calls.
+    // `OutOfMemory` comes only if memory is refused: tests/system/calls, rows `show of hex ..`.
     ensures else_memory { IfErr result (λ fault. fault ≢ NotHex → fault ≡ OutOfMemory) }
 {
     let mut digits = Vec::with_capacity(alloc, text.len()).map_err(|_| ToolFault::OutOfMemory)?;

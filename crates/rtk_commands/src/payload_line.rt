@@ -142,7 +142,7 @@ pub(crate) fn put_payload_line(lines: &mut Vec<u8>, payload: &[u8]) -> Result<()
 
 /// The line of a payload, with its line feed: the message that it is, or why it is refused.
 pub fn show_line(alloc: Global, payload: &[u8]) -> Result<Vec<u8>, AllocError>
-    // That it gives up only without memory show the rows `show_line ..` of tests/system/calls.
+    // Fails only if memory is refused: tests/system/calls, rows `show_line ..`.
     ensures { IfOk result (λ line. IsLineOf payload.now line.items) }
 {
     let mut line = Vec::new(alloc);

@@ -37,7 +37,7 @@ const FULL: usize = 65_536;
 fn capture_from(alloc: Global, text: Vec<u8>, hex: bool) -> Result<Vec<u8>, ToolFault>
     ensures bytes { IfOk result (λ bytes. capture_of hex text.items ≡ Some bytes.items) }
     ensures not_hex { IsErrOf result NotHex → IsNone (capture_of hex text.items) }
-    // That it gives up only without memory show the rows `show ..` of tests/system/calls.
+    // `OutOfMemory` comes only if memory is refused: tests/system/calls, rows `show ..`.
     ensures else_memory { IfErr result (λ fault. fault ≢ NotHex → fault ≡ OutOfMemory) }
 {
     if hex {
@@ -70,7 +70,7 @@ fn show_frames<W: Sink>(alloc: Global, capture: &[u8], out: &mut W) -> Result<u6
     ensures no_fault { result ≢ Err Output → W.failures out.new ≡ W.failures out.old }
     ensures part { ShowsPart capture.now (W.taken out.old) (W.taken out.new) }
     ensures output { IsErrOf result Output → CountRises (W.failures out.old) (W.failures out.new) }
-    // That it gives up only without memory show the rows `show ..` of tests/system/calls.
+    // `OutOfMemory` comes only if memory is refused: tests/system/calls, rows `show ..`.
     ensures else_memory { IfErr result (λ fault. fault ≢ Output → fault ≡ OutOfMemory) }
 {
     // A law: the frames that `Frames` gives are those of the text. The loop's proof begins with it.
@@ -105,7 +105,7 @@ pub fn show<R: Source, W: Sink>(
     ensures shown { IfOk result (λ count. GivesText (R.given reader.old) (R.given reader.new) (λ text.
         ShowsText hex count text (W.taken out.old) (W.taken out.new))) }
 
-    // That it gives up only without memory show the rows `show ..` of tests/system/calls.
+    // `OutOfMemory` comes only if memory is refused: tests/system/calls, rows `show ..`.
     ensures whole { ReadsWhole R.given R.failures R.is_at_end SHOW_LIMIT (λ text. IsNone (capture_of hex text))
         reader.old reader.new result }
     ensures output { IsErrOf result Output → CountRises (W.failures out.old) (W.failures out.new) }
@@ -171,10 +171,10 @@ pub fn show_named<R: Files + Input + Print + Eprint + AllocGlobal>(
 ) -> u8
     ensures { result ≤ FAILED }
 {
-    let Some(capture) = open_input(rt, name) else {
+    let Some(reader) = open_input(rt, name) else {
         return fail_to_open(rt, name);
     };
-    let (_out, shown) = show_through(rt.alloc(), capture, standard_output(rt), hex);
+    let (_out, shown) = show_through(rt.alloc(), reader, standard_output(rt), hex);
     match shown {
         Ok(_) => DONE,
         Err(fault) => fail(rt, fault),

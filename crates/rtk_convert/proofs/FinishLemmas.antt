@@ -100,7 +100,7 @@ file-text s w A p size holds is =
 
 pub finishes : {s : SetupView} {w : CollectorView} {c c' : ClosedEpochsView} {k k' : Counts} {b : Bool} {p : Position} {o : Written} {file : Option (List ℕ)} {o' : Written} → w.places ≡ s.window
     → ((before : List Arrival) → RepresentsArrivals w before → IsPositionOf w.places before p) → ClosesEpochs s (position_view p) c w.sets c' o.file file
-    → o'.file ≡ with_more file (header_before s (position_view p) s.near c'.header_out) → k' ≡ record k { epochs = c'.count } → o'.report ≡ with_more o.report (count_lines k')
+    → o'.file ≡ with_more file (header_before s (position_view p) s.near c'.is_header_out) → k' ≡ record k { epochs = c'.count } → o'.report ≡ with_more o.report (count_lines k')
     → FinishesConversion (state s w c k b) k' o o'
 finishes {s} {w} {c} {c'} {k} {k'} {b} {p} {o} {file} {o'} size position closes header counts wrote = λ found rep.
     let A : List Arrival = arrivals found in
@@ -114,7 +114,7 @@ finishes {s} {w} {c} {c'} {k} {k'} {b} {p} {o} {file} {o'} size position closes 
       counts_are = same;
       out = writes-on o.file file o'.file (file_so_far s A) (closed_text s (position_view p) (w.sets ++ closed s.window A)) (kept_file s A)
           (t.out.0, t.out.1 ∙ ap (λ x. x ++ t.out.0) (sym (so_far-text s w A p size rep.window is)), t.out.2)
-          (_, file-text s w A p size rep.window is, header ∙ ap (λ (x : Bool). with_more file (header_before s (position_view p) s.near x)) t.follows.header_out);
+          (_, file-text s w A p size rep.window is, header ∙ ap (λ (x : Bool). with_more file (header_before s (position_view p) s.near x)) t.follows.is_header_out);
       log = writes-text o.report o'.report (lines s.window found) (report_of s found) (count_lines (all_counts s found)) refl (wrote ∙ ap (λ (x : Counts). with_more o.report (count_lines x)) same);
     }
 
@@ -139,7 +139,7 @@ finish-part-records {s} {w} {c} {k} {b} {p} {o} {file} size position closes = λ
 -- in the last header
 pub finish-part-header : {s : SetupView} {w : CollectorView} {c c' : ClosedEpochsView} {k : Counts} {b : Bool} {p : Position} {o : Written} {mid file : Option (List ℕ)} → w.places ≡ s.window
     → ((before : List Arrival) → RepresentsArrivals w before → IsPositionOf w.places before p) → ClosesEpochs s (position_view p) c w.sets c' o.file mid
-    → TakesPart mid file (header_before s (position_view p) s.near c'.header_out) → FinishesConversionInPart (state s w c k b) o (written file o.report)
+    → TakesPart mid file (header_before s (position_view p) s.near c'.is_header_out) → FinishesConversionInPart (state s w c k b) o (written file o.report)
 finish-part-header {s} {w} {c} {c'} {k} {b} {p} {o} {mid} {file} size position closes part = λ found rep.
     let A : List Arrival = arrivals found in
     let is = position A rep.window in
@@ -148,7 +148,7 @@ finish-part-header {s} {w} {c} {c'} {k} {b} {p} {o} {mid} {file} size position c
       out = part-on o.file mid file (file_so_far s A) (closed_text s (position_view p) (w.sets ++ closed s.window A)) (kept_file s A)
           (t.out.0, t.out.1 ∙ ap (λ x. x ++ t.out.0) (sym (so_far-text s w A p size rep.window is)), t.out.2)
           (part-text mid file (closed_text s (position_view p) (w.sets ++ closed s.window A)) (kept_file s A) _ (file-text s w A p size rep.window is)
-          (subst (λ (x : Bool). TakesPart mid file (header_before s (position_view p) s.near x)) t.follows.header_out part));
+          (subst (λ (x : Bool). TakesPart mid file (header_before s (position_view p) s.near x)) t.follows.is_header_out part));
       log = log-none s found o.report;
       counts_last = inl refl;
     }

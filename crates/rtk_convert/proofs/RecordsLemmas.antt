@@ -28,21 +28,21 @@ count-yes n [] h = cc
 count-yes n (x ∷ text) h = refl
 
 -- an epoch without a record
-pub follows-no : (old new : ClosedEpochsView) (listed : List Code) (e : EpochSetView) (below : List EpochSetView) → HasLastPhases new.tracks (e ∷ below) → new.header_out ≡ old.header_out
+pub follows-no : (old new : ClosedEpochsView) (listed : List Code) (e : EpochSetView) (below : List EpochSetView) → HasLastPhases new.tracks (e ∷ below) → new.is_header_out ≡ old.is_header_out
     → new.count ≡ old.count → is_any (record_of listed e below) ≡ false → HasClosed old listed below → HasClosed new listed (e ∷ below)
 unfolding first_time record_count
 follows-no old new listed e below phases out count none f = record {
   phases = phases;
-  header_out = out ∙ f.header_out ∙ ap (λ (o : Option ℕ). is_some o) (sym (first-no (first_time listed below) e.epoch (record_of listed e below) none));
+  is_header_out = out ∙ f.is_header_out ∙ ap (λ (o : Option ℕ). is_some o) (sym (first-no (first_time listed below) e.epoch (record_of listed e below) none));
   count = count ∙ f.count ∙ sym (count-no (record_count listed below) (record_of listed e below) none);
 }
 
 -- one with a record
-pub follows-yes : (old new : ClosedEpochsView) (listed : List Code) (e : EpochSetView) (below : List EpochSetView) → HasLastPhases new.tracks (e ∷ below) → new.header_out ≡ true
+pub follows-yes : (old new : ClosedEpochsView) (listed : List Code) (e : EpochSetView) (below : List EpochSetView) → HasLastPhases new.tracks (e ∷ below) → new.is_header_out ≡ true
     → new.count ≡ count_after old.count → is_any (record_of listed e below) ≡ true → HasClosed old listed below → HasClosed new listed (e ∷ below)
 unfolding first_time record_count
 follows-yes old new listed e below phases out count some f = record {
   phases = phases;
-  header_out = out ∙ sym (first-yes (first_time listed below) e.epoch (record_of listed e below) some);
+  is_header_out = out ∙ sym (first-yes (first_time listed below) e.epoch (record_of listed e below) some);
   count = count ∙ ap count_after f.count ∙ sym (count-yes (record_count listed below) (record_of listed e below) some);
 }

@@ -10,7 +10,7 @@ pub record ClosedEpochsView : Type 0 where
   -- the last phase of each satellite and code
   pub tracks : List (Option Track)
   -- the header is out
-  pub header_out : Bool
+  pub is_header_out : Bool
   -- how many records are out
   pub count : ℕ
 
@@ -18,5 +18,5 @@ pub record ClosedEpochsView : Type 0 where
 -- written once one of them has a record, and their records are counted
 pub record HasClosed (c : ClosedEpochsView) (listed : List Code) (epochs : List EpochSetView) : Type 0 where
   pub phases : HasLastPhases c.tracks epochs
-  pub header_out : c.header_out ≡ is_some (first_time listed epochs)
+  pub is_header_out : c.is_header_out ≡ is_some (first_time listed epochs)
   pub count : c.count ≡ record_count listed epochs

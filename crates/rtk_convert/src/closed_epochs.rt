@@ -12,7 +12,7 @@ ghost use Rattle.std.specs.Prelude.{◌≡◌, ℕ, ◌<◌, [], List, false, If
 use crate::epoch_rows::push_rows;
 use crate::fault::ConvertFault;
 use crate::setup::Setup;
-use crate::writing::put_record;
+use crate::writing::write_record;
 use rtk_collect::{EpochSet, Left};
 use rtk_frame::Sink;
 use rtk_obs::{Position, Tracks};
@@ -29,7 +29,7 @@ use std::marker::Model;
 pub(crate) struct ClosedEpochs {
     tracks: Box<Tracks>,
     lines: RecordLines,
-    header_out: bool,
+    is_header_out: bool,
     count: u64,
 }
 
@@ -41,9 +41,9 @@ impl Model for ClosedEpochs {
 
     ghost Value = { ClosedEpochsView };
 
-    ghost view = { λ r. record { tracks = r.tracks.value; header_out = r.header_out; count = r.count } };
+    ghost view = { λ r. record { tracks = r.tracks.value; is_header_out = r.is_header_out; count = r.count } };
 
-    ghost invariant = { λ r. r ≡ record { tracks = r.tracks; lines = r.lines; header_out = r.header_out; count = r.count } };
+    ghost invariant = { λ r. r ≡ record { tracks = r.tracks; lines = r.lines; is_header_out = r.is_header_out; count = r.count } };
 }
 
 // Tracks without a phase. This function is alone in needing the stack for them, which is gone when
@@ -64,16 +64,16 @@ impl ClosedEpochs {
         Ok(ClosedEpochs {
             tracks: new_tracks(alloc)?,
             lines: RecordLines::new(alloc),
-            header_out: false,
+            is_header_out: false,
             count: 0,
         })
     }
 
     /// Whether the header is written.
-    pub(crate) fn header_out(&self) -> bool
-        ensures { result ≡ self.now.header_out }
+    pub(crate) fn is_header_out(&self) -> bool
+        ensures { result ≡ self.now.is_header_out }
     {
-        self.header_out
+        self.is_header_out
     }
 
     /// How many records are written.
@@ -104,11 +104,19 @@ impl ClosedEpochs {
         let epoch = set.epoch();
         self.lines.finish(epoch);
         let text = self.lines.text();
-        let has_record = put_record(alloc, setup, position, self.header_out, epoch, text, out)?;
+        let has_record = write_record(
+            alloc,
+            setup,
+            position,
+            self.is_header_out,
+            epoch,
+            text,
+            out,
+        )?;
         if !has_record {
             return Ok(());
         }
-        self.header_out = true;
+        self.is_header_out = true;
         self.count = self.count.saturating_add(1);
         Ok(())
     }

@@ -18,11 +18,11 @@ ghost use Rattle.rtk_convert.specs.Writing.{written};
 use crate::closed_epochs::{ClosedEpochs, close_remaining};
 use crate::counts::Counts;
 use crate::fault::ConvertFault;
-use crate::frame_class::{FrameClass, classify, read};
+use crate::frame_class::{FrameClass, classify, read_message};
 use crate::link_number::LinkNumber;
 use crate::report;
 use crate::setup::Setup;
-use crate::writing::{put_last_header, put_lines};
+use crate::writing::{write_header_if_none, write_lines};
 use rtk_collect::{Collector, Dated, EpochSet, Offer};
 use rtk_frame::Sink;
 use rtk_message::AnyDecoder;
@@ -153,7 +153,7 @@ impl Conversion {
         ensures failed { NamesFailedStreams result (O.failures out.old) (O.failures out.new) (L.failures log.old) (L.failures log.new) }
     {
         self.counts.frames = self.counts.frames.saturating_add(1);
-        match classify(&self.setup, read(&self.setup, decoder, payload)) {
+        match classify(&self.setup, read_message(&self.setup, decoder, payload)) {
             FrameClass::OtherMessage => {
                 self.counts.other = self.counts.other.saturating_add(1);
                 Ok(None)
@@ -165,7 +165,7 @@ impl Conversion {
             FrameClass::Refused(fault) => {
                 self.counts.refused = self.counts.refused.saturating_add(1);
                 let line = report::refused_line(self.alloc, link, fault)?;
-                put_lines(log, &line)?;
+                write_lines(log, &line)?;
                 Ok(None)
             }
             FrameClass::Dated(dated) => {
@@ -196,13 +196,13 @@ impl Conversion {
         let lines = report::offer_lines(self.alloc, link, number, epoch, &offer)?;
         count_message(&mut self.counts, &offer);
         let Some(set) = closed_by(offer) else {
-            return put_lines(log, &lines);
+            return write_lines(log, &lines);
         };
         let position = self.collector.station();
         self.closed_epochs
             .close(self.alloc, &self.setup, &position, &set, out)?;
         self.collector.hand_back(set);
-        put_lines(log, &lines)
+        write_lines(log, &lines)
     }
 }
 
@@ -227,11 +227,11 @@ impl Conversion {
         let mut closed_epochs = self.closed_epochs;
         let mut left = self.collector.close();
         close_remaining(alloc, &setup, &position, &mut closed_epochs, &mut left, out)?;
-        put_last_header(alloc, &setup, &position, closed_epochs.header_out(), out)?;
+        write_header_if_none(alloc, &setup, &position, closed_epochs.is_header_out(), out)?;
         let mut counts = self.counts;
         counts.epochs = closed_epochs.count();
         let lines = report::count_lines(alloc, &counts)?;
-        put_lines(log, &lines)?;
+        write_lines(log, &lines)?;
         Ok(counts)
     }
 }

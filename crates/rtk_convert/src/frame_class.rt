@@ -25,7 +25,7 @@ pub enum FrameClass<'a> {
 }
 
 /// What a payload is read as, by the messages that the setup takes. It is lent until the next call.
-pub(crate) fn read<'a>(
+pub(crate) fn read_message<'a>(
     setup: &Setup,
     decoder: &'a mut AnyDecoder,
     payload: &[u8],

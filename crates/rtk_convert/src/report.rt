@@ -53,7 +53,7 @@ fn put_signal(line: &mut Vec<u8>, cell: SatelliteCode) -> Result<(), AllocError>
 }
 
 // The line of a cell that differs from the kept one.
-fn put_cell(
+fn put_conflict(
     lines: &mut Vec<u8>,
     link: LinkNumber,
     number: u16,
@@ -69,7 +69,7 @@ fn put_cell(
 }
 
 // A line for each cell that differs from the kept one.
-fn put_cells(
+fn put_cell_conflicts(
     lines: &mut Vec<u8>,
     link: LinkNumber,
     number: u16,
@@ -82,7 +82,7 @@ fn put_cells(
         return Ok(());
     };
     for cell in cells {
-        put_cell(lines, link, number, epoch, *cell)?;
+        put_conflict(lines, link, number, epoch, *cell)?;
     }
     Ok(())
 }
@@ -99,7 +99,7 @@ fn put_conflicts(
     ensures { OnOk result (lines.new.items ≡ lines.old.items ++ conflict_lines link number epoch cells.now) }
 {
     if epoch.is_some() {
-        return put_cells(lines, link, number, epoch, cells);
+        return put_cell_conflicts(lines, link, number, epoch, cells);
     }
     put_message(lines, link, b" conflict ", number, None)?;
     lines.push(b'\n')?;
@@ -124,7 +124,7 @@ pub(crate) fn offer_lines(
             lines.push(b'\n')?;
         }
         Offer::Taken { conflicts, .. } => {
-            put_cells(&mut lines, link, number, epoch, conflicts.as_slice())?;
+            put_cell_conflicts(&mut lines, link, number, epoch, conflicts.as_slice())?;
         }
         Offer::Conflict { conflicts } => {
             put_conflicts(&mut lines, link, number, epoch, conflicts.as_slice())?;

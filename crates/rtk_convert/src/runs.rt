@@ -23,6 +23,9 @@ use rtk_frame::{Sink, Source, read_one};
 use rtk_obs::GpsMs;
 use std::alloc::Global;
 
+// How many bytes a read asks for.
+const PIECE: usize = 512;
+
 // Is an epoch before another one? `None` is before all epochs.
 fn is_before(epoch: Option<GpsMs>, other: Option<GpsMs>) -> bool
     ensures { Decides result (¬ (IsUpTo other epoch)) }
@@ -59,26 +62,26 @@ fn next_link(converter: &Converter) -> Option<usize>
 fn read_link<R: Source, O: Sink, L: Sink>(
     converter: &mut Converter,
     link: usize,
-    readers: &mut [R],
+    sources: &mut [R],
     buf: &mut [u8],
     out: &mut O,
     log: &mut L,
 ) -> Result<(), ConvertFault>
-    requires link { link < length readers.old }
-    requires links { length readers.old ≤ 16 }
+    requires link { link < length sources.old }
+    requires links { length sources.old ≤ 16 }
     requires room { length buf.old ≡ 512 }
     ensures same_setup { converter.new.conversion.setup ≡ converter.old.conversion.setup }
-    ensures calls { CallsOne R.calls readers.old readers.new }
-    ensures reads { ReadsNext R.given R.is_at_end converter.old link readers.old readers.new result converter.new
+    ensures calls { CallsOne R.calls sources.old sources.new }
+    ensures reads { ReadsNext R.given R.is_at_end converter.old link sources.old sources.new result converter.new
         (written (O.taken out.old) (L.taken log.old)) (written (O.taken out.new) (L.taken log.new)) }
     ensures read_failed { (h : History) → RepresentsHistory converter.old h → IsOpen h link → (k : ℕ) → IsErrOf result (ConvertFault.Read k)
-        → (k ≡ link) × FailsRead R.given R.failures k readers.old readers.new
+        → (k ≡ link) × FailsRead R.given R.failures k sources.old sources.new
         (written (O.taken out.old) (L.taken log.old)) (written (O.taken out.new) (L.taken log.new)) }
     ensures fault { IfErr result (λ fault. (h : History) → RepresentsHistory converter.old h → IsOpen h link → IsReadFault fault) }
     ensures failed { NamesFailedStreams result (O.failures out.old) (O.failures out.new) (L.failures log.old) (L.failures log.new) }
-    ensures no_failed_read { ((k : ℕ) → ¬ (IsErrOf result (ConvertFault.Read k))) → SameFailures R.failures readers.old readers.new }
+    ensures no_failed_read { ((k : ℕ) → ¬ (IsErrOf result (ConvertFault.Read k))) → SameFailures R.failures sources.old sources.new }
 {
-    let Ok(count) = read_one(readers, link, buf) else {
+    let Ok(count) = read_one(sources, link, buf) else {
         let link = LinkNumber::new(link).from_zero();
         return Err(ConvertFault::Read { link });
     };
@@ -91,30 +94,30 @@ fn read_link<R: Source, O: Sink, L: Sink>(
 // Reads all links to their end.
 fn read_all<R: Source, O: Sink, L: Sink>(
     converter: &mut Converter,
-    readers: &mut [R],
+    sources: &mut [R],
     out: &mut O,
     log: &mut L,
     max_reads: u64,
 ) -> Result<(), ConvertFault>
-    requires links { length readers.old ≤ 16 }
-    requires fresh { RepresentsHistory converter.old (new_history (length readers.old)) }
+    requires links { length sources.old ≤ 16 }
+    requires fresh { RepresentsHistory converter.old (new_history (length sources.old)) }
     ensures same_setup { converter.new.conversion.setup ≡ converter.old.conversion.setup }
-    ensures reads { sum_by R.calls readers.new ≤ sum_by R.calls readers.old + max_reads }
-    ensures ends { ReadsToEnds R.given R.calls R.is_at_end converter.old.conversion.setup max_reads readers.old readers.new
+    ensures reads { sum_by R.calls sources.new ≤ sum_by R.calls sources.old + max_reads }
+    ensures ends { ReadsToEnds R.given R.calls R.is_at_end converter.old.conversion.setup max_reads sources.old sources.new
         result converter.new (written (O.taken out.old) (L.taken log.old)) (written (O.taken out.new) (L.taken log.new)) }
     ensures read_failed { (link : ℕ) → IsErrOf result (ConvertFault.Read link)
-        → FailsReading R.given R.failures R.calls converter.old.conversion.setup link readers.old readers.new
+        → FailsReading R.given R.failures R.calls converter.old.conversion.setup link sources.old sources.new
         (written (O.taken out.old) (L.taken log.old)) (written (O.taken out.new) (L.taken log.new)) }
     ensures fault { IfErr result IsReadingFault }
-    ensures no_failed_read { ((k : ℕ) → ¬ (IsErrOf result (ConvertFault.Read k))) → SameFailures R.failures readers.old readers.new }
+    ensures no_failed_read { ((k : ℕ) → ¬ (IsErrOf result (ConvertFault.Read k))) → SameFailures R.failures sources.old sources.new }
     ensures failed { NamesFailedStreams result (O.failures out.old) (O.failures out.new) (L.failures log.old) (L.failures log.new) }
 {
-    let mut buf = [0u8; 512];
+    let mut buf = [0u8; PIECE];
     'reads: for _made in 0..max_reads {
         let Some(link) = next_link(converter) else {
             return Ok(());
         };
-        read_link(converter, link, readers, &mut buf, out, log)?;
+        read_link(converter, link, sources, &mut buf, out, log)?;
     }
     match next_link(converter) {
         None => Ok(()),
@@ -122,7 +125,7 @@ fn read_all<R: Source, O: Sink, L: Sink>(
     }
 }
 
-/// Converts what the readers give, each of them a link: the file goes to `out`, the report to
+/// Converts what the sources give, each of them a link: the file goes to `out`, the report to
 /// `log`.
 ///
 /// The next read is of the open link whose newest epoch is the least; a link that had no epoch yet
@@ -135,45 +138,45 @@ fn read_all<R: Source, O: Sink, L: Sink>(
 /// the same reads. `calls_keep_promise` says both of any calls of a `Converter`, and
 /// `set_has_one_file` that the set decides the file.
 ///
-/// V1 if there are not 1 to 16 readers, before anything else; V4 if memory is refused; V5 if a
+/// V1 if there are not 1 to 16 sources, before anything else; V4 if memory is refused; V5 if a
 /// write fails, and V6 if a read does; V7 if a link is still open after `max_reads` reads.
 pub fn run<R: Source, O: Sink, L: Sink>(
     alloc: Global,
     setup: Setup,
-    readers: &mut [R],
+    sources: &mut [R],
     out: &mut O,
     log: &mut L,
     max_reads: u64,
 ) -> Result<Counts, ConvertFault>
     // Done: the promise, and what it leaves out.
-    ensures headline { OnOk result (RunHeadline R.given R.is_at_end setup readers.old readers.new
+    ensures headline { OnOk result (RunHeadline R.given R.is_at_end setup sources.old sources.new
         (written (O.taken out.old) (L.taken log.old)) (written (O.taken out.new) (L.taken log.new))) }
-    ensures kept { IfOk result (λ counts. RunKeeps R.given R.calls R.is_at_end setup readers.old readers.new counts
+    ensures kept { IfOk result (λ counts. RunKeeps R.given R.calls R.is_at_end setup sources.old sources.new counts
         (written (O.taken out.old) (L.taken log.old)) (written (O.taken out.new) (L.taken log.new))) }
 
     // Not done: what is out, as far as the run came.
     ensures breaks_off { IfErr result (λ fault. IsFrameFault fault
-        → BreaksOffRun R.given R.calls R.is_at_end setup readers.old readers.new
+        → BreaksOffRun R.given R.calls R.is_at_end setup sources.old sources.new
         (written (O.taken out.old) (L.taken log.old)) (written (O.taken out.new) (L.taken log.new))) }
     ensures read_failed { (link : ℕ) → IsErrOf result (ConvertFault.Read link)
-        → FailsReading R.given R.failures R.calls setup link readers.old readers.new
+        → FailsReading R.given R.failures R.calls setup link sources.old sources.new
         (written (O.taken out.old) (L.taken log.old)) (written (O.taken out.new) (L.taken log.new)) }
     ensures endless { IsErrOf result ConvertFault.Endless
-        → StaysOpen R.given R.is_at_end setup max_reads readers.old readers.new
+        → StaysOpen R.given R.is_at_end setup max_reads sources.old sources.new
         (written (O.taken out.old) (L.taken log.old)) (written (O.taken out.new) (L.taken log.new))
-        × HasCalled R.calls readers.old readers.new max_reads }
-    ensures untouched { IsErrOf result ConvertFault.Setup → (readers.new ≡ readers.old) × (out.new ≡ out.old) × (log.new ≡ log.old) }
+        × HasCalled R.calls sources.old sources.new max_reads }
+    ensures untouched { IsErrOf result ConvertFault.Setup → (sources.new ≡ sources.old) × (out.new ≡ out.old) × (log.new ≡ log.old) }
 
-    // When each fault, and how many reads; a stream or a reader that failed is named.
-    ensures link_count { IsErrOf result ConvertFault.Setup ↔ ¬ (IsLinkCount (length readers.old)) }
+    // When each fault, and how many reads; a stream or a source that failed is named.
+    ensures link_count { IsErrOf result ConvertFault.Setup ↔ ¬ (IsLinkCount (length sources.old)) }
     // V4 comes only if memory is refused: tests/system/calls, rows `run of ..`.
     ensures fault { IfErr result IsRunFault }
-    ensures reads { sum_by R.calls readers.new ≤ sum_by R.calls readers.old + max_reads }
+    ensures reads { sum_by R.calls sources.new ≤ sum_by R.calls sources.old + max_reads }
     ensures failed { NamesFailedStreams result (O.failures out.old) (O.failures out.new) (L.failures log.old) (L.failures log.new) }
-    ensures no_failed_read { ((k : ℕ) → ¬ (IsErrOf result (ConvertFault.Read k))) → SameFailures R.failures readers.old readers.new }
+    ensures no_failed_read { ((k : ℕ) → ¬ (IsErrOf result (ConvertFault.Read k))) → SameFailures R.failures sources.old sources.new }
 {
-    let mut converter = Converter::new(alloc, setup, readers.len())?;
-    if let Err(fault) = read_all(&mut converter, readers, out, log, max_reads) {
+    let mut converter = Converter::new(alloc, setup, sources.len())?;
+    if let Err(fault) = read_all(&mut converter, sources, out, log, max_reads) {
         return Err(fault);
     }
     converter.finish(out, log)

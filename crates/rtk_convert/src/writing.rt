@@ -15,7 +15,7 @@ use rtk_rinex::header;
 use std::alloc::{AllocError, Global};
 
 // Writes a text to the file.
-fn put_text<O: Sink>(out: &mut O, text: &[u8]) -> Result<(), ConvertFault>
+fn write_text<O: Sink>(out: &mut O, text: &[u8]) -> Result<(), ConvertFault>
     ensures puts { PutsText result (O.taken out.old) (O.taken out.new) text.now }
     ensures file_failed { NamesFailedWrites Stream.Out result (O.failures out.old) (O.failures out.new) }
     ensures fault { IfErr result (λ f. f ≡ ConvertFault.Write Stream.Out) }
@@ -47,53 +47,54 @@ fn with_header(
 ///
 /// The header and the first record go out as one text. So a header without a record is only
 /// written when the conversion ends.
-pub(crate) fn put_record<O: Sink>(
+pub(crate) fn write_record<O: Sink>(
     alloc: Global,
     setup: &Setup,
     position: &Position,
-    header_out: bool,
+    is_header_out: bool,
     epoch: GpsMs,
     text: &[u8],
     out: &mut O,
 ) -> Result<bool, ConvertFault>
     ensures any { IfOk result (λ any. any ≡ is_any text.now) }
     ensures puts { PutsText result (O.taken out.old) (O.taken out.new)
-        (closing_text setup.now (position_view position.now) epoch header_out text.now) }
+        (closing_text setup.now (position_view position.now) epoch is_header_out text.now) }
     ensures failed { NamesFailedFile result (O.failures out.old) (O.failures out.new) }
 {
     if text.is_empty() {
         return Ok(false);
     }
-    if header_out {
-        put_text(out, text)?;
+    if is_header_out {
+        write_text(out, text)?;
         return Ok(true);
     }
     let whole = with_header(alloc, setup, position, epoch, text)?;
-    put_text(out, &whole)?;
+    write_text(out, &whole)?;
     Ok(true)
 }
 
-/// Writes the header, if the file has no records.
-pub(crate) fn put_last_header<O: Sink>(
+/// Writes the header, if the file has none yet, since it has no records. The reference stands for the
+/// time of the first observation then.
+pub(crate) fn write_header_if_none<O: Sink>(
     alloc: Global,
     setup: &Setup,
     position: &Position,
-    header_out: bool,
+    is_header_out: bool,
     out: &mut O,
 ) -> Result<(), ConvertFault>
     ensures puts { PutsText result (O.taken out.old) (O.taken out.new)
-        (header_before setup.now (position_view position.now) setup.now.near header_out) }
+        (header_before setup.now (position_view position.now) setup.now.near is_header_out) }
     ensures failed { NamesFailedFile result (O.failures out.old) (O.failures out.new) }
 {
-    if header_out {
+    if is_header_out {
         return Ok(());
     }
     let text = header(alloc, setup.head(), position, setup.near())?;
-    put_text(out, &text)
+    write_text(out, &text)
 }
 
 /// Writes lines to the report.
-pub(crate) fn put_lines<L: Sink>(log: &mut L, lines: &[u8]) -> Result<(), ConvertFault>
+pub(crate) fn write_lines<L: Sink>(log: &mut L, lines: &[u8]) -> Result<(), ConvertFault>
     ensures puts { PutsText result (L.taken log.old) (L.taken log.new) lines.now }
     ensures report_failed { NamesFailedWrites Stream.Log result (L.failures log.old) (L.failures log.new) }
     ensures fault { IfErr result (λ f. f ≡ ConvertFault.Write Stream.Log) }

@@ -94,15 +94,15 @@ text-shown false text e shown same is = is ∙ ap record_text (sym (same refl))
 -- what is written of an epoch that is on the step and in the span, by the parts of the header
 pub record-written : (c : PartWriter) (t : WellFormedTable) (earlier left : List EpochTableView) (e shown : EpochTableView) (changed : Bool) (text : List ℕ) → ComesNext c t earlier e text
     → is_on_step (step_ms c.part.every) e ≡ true → is_in_span c.part.from c.part.until e ≡ true → shown ≡ cut_epoch (step_ms c.part.every) earlier e → (changed ≡ false → shown ≡ e)
-    → still_to_write c.part t c.is_begun earlier (e ∷ left)
-    ≡ (header_unless c.is_begun c.heading.head (position_view c.heading.position) shown.time ++ text_or_new changed text shown) ++ still_to_write c.part t true (e ∷ earlier) left
+    → still_to_write c.part t c.is_header_out earlier (e ∷ left)
+    ≡ (header_unless c.is_header_out c.heading.head (position_view c.heading.position) shown.time ++ text_or_new changed text shown) ++ still_to_write c.part t true (e ∷ earlier) left
 record-written c t earlier left e shown changed text next on spans is same =
     let rest : List ℕ = still_to_write c.part t true (e ∷ earlier) left in
     let new : EpochTableView = cut_epoch (step_ms c.part.every) earlier e in
     let own : List ℕ = text_or_new changed text shown in
     let time : ℕ = shown.time in
-    left-in c.part t c.is_begun earlier e left on spans
-    ∙ sym (ap (λ (h : HeadView). (header_unless c.is_begun h (position_view c.heading.position) time ++ own) ++ rest) next.heading.0
-    ∙ ap (λ (s : PositionView). (header_unless c.is_begun t.head s time ++ own) ++ rest) next.heading.1
-    ∙ ap (λ (x : EpochTableView). (header_unless c.is_begun t.head t.site x.time ++ own) ++ rest) is
-    ∙ ap (λ (xs : List ℕ). (header_unless c.is_begun t.head t.site e.time ++ xs) ++ rest) (text-shown changed text e shown same next.text ∙ ap record_text is))
+    left-in c.part t c.is_header_out earlier e left on spans
+    ∙ sym (ap (λ (h : HeadView). (header_unless c.is_header_out h (position_view c.heading.position) time ++ own) ++ rest) next.heading.0
+    ∙ ap (λ (s : PositionView). (header_unless c.is_header_out t.head s time ++ own) ++ rest) next.heading.1
+    ∙ ap (λ (x : EpochTableView). (header_unless c.is_header_out t.head t.site x.time ++ own) ++ rest) is
+    ∙ ap (λ (xs : List ℕ). (header_unless c.is_header_out t.head t.site e.time ++ xs) ++ rest) (text-shown changed text e shown same next.text ∙ ap record_text is))

@@ -16,17 +16,17 @@ use std::alloc::Global;
 pub(crate) fn put_after_header<W: Sink>(
     alloc: Global,
     heading: &Heading,
-    is_begun: bool,
+    is_header_out: bool,
     first: GpsMs,
     text: &[u8],
     out: &mut W,
 ) -> Result<(), CutFault>
-    ensures all { OnOk result (W.taken out.new ≡ with_more (W.taken out.old) (after_header is_begun heading.now first text.now)) }
-    ensures part { TakesPart (W.taken out.old) (W.taken out.new) (after_header is_begun heading.now first text.now) }
+    ensures all { OnOk result (W.taken out.new ≡ with_more (W.taken out.old) (after_header is_header_out heading.now first text.now)) }
+    ensures part { TakesPart (W.taken out.old) (W.taken out.new) (after_header is_header_out heading.now first text.now) }
     ensures write_failed { IsErrOf result Write → CountRises (W.failures out.old) (W.failures out.new) }
     ensures no_failed_write { result ≢ Err Write → W.failures out.new ≡ W.failures out.old }
 {
-    if is_begun {
+    if is_header_out {
         write_all(out, text)?;
         return Ok(());
     }
@@ -41,7 +41,7 @@ pub(crate) fn put_after_header<W: Sink>(
 pub(crate) fn put_record<W: Sink>(
     alloc: Global,
     heading: &Heading,
-    is_begun: bool,
+    is_header_out: bool,
     epoch: &EpochTable,
     is_changed: bool,
     text: &[u8],
@@ -49,19 +49,19 @@ pub(crate) fn put_record<W: Sink>(
 ) -> Result<(), CutFault>
     requires width { HasWidth (length heading.now.head.listed) epoch.now.rows }
     ensures all { OnOk result (W.taken out.new
-        ≡ with_more (W.taken out.old) (record_out is_begun heading.now epoch.now is_changed text.now)) }
-    ensures part { TakesPart (W.taken out.old) (W.taken out.new) (record_out is_begun heading.now epoch.now is_changed text.now) }
+        ≡ with_more (W.taken out.old) (record_out is_header_out heading.now epoch.now is_changed text.now)) }
+    ensures part { TakesPart (W.taken out.old) (W.taken out.new) (record_out is_header_out heading.now epoch.now is_changed text.now) }
     ensures write_failed { IsErrOf result Write → CountRises (W.failures out.old) (W.failures out.new) }
     ensures no_failed_write { result ≢ Err Write → W.failures out.new ≡ W.failures out.old }
 {
     if !is_changed {
-        return put_after_header(alloc, heading, is_begun, epoch.time(), text, out);
+        return put_after_header(alloc, heading, is_header_out, epoch.time(), text, out);
     }
     let changed = record(alloc, &heading.head, epoch)?;
     put_after_header(
         alloc,
         heading,
-        is_begun,
+        is_header_out,
         epoch.time(),
         changed.as_slice(),
         out,

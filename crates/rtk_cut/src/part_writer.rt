@@ -27,7 +27,7 @@ pub(crate) struct PartWriter {
     /// Room for what an epoch shows in the part. It is large, so it lies on the heap.
     pub(crate) table: Box<EpochTable>,
     /// The header is out.
-    pub(crate) is_begun: bool,
+    pub(crate) is_header_out: bool,
 }
 
 /// A table without a row. This function alone needs the stack for one, which is gone when it
@@ -48,7 +48,7 @@ impl PartWriter {
             part,
             slips: Slips::new(),
             table,
-            is_begun: false,
+            is_header_out: false,
         })
     }
 
@@ -68,21 +68,21 @@ impl PartWriter {
         ensures write_failed { IsErrOf result Write → CountRises (W.failures out.old) (W.failures out.new) }
         ensures no_failed_write { result ≢ Err Write → W.failures out.new ≡ W.failures out.old }
     {
-        let width = self.heading.head.codes().len();
-        let is_changed = self.slips.show(epoch, width, &mut self.table);
+        let code_count = self.heading.head.codes().len();
+        let is_changed = self.slips.show(epoch, code_count, &mut self.table);
         if !self.part.spans(epoch.time()) {
             return Ok(());
         }
         put_record(
             alloc,
             &self.heading,
-            self.is_begun,
+            self.is_header_out,
             &self.table,
             is_changed,
             text,
             out,
         )?;
-        self.is_begun = true;
+        self.is_header_out = true;
         Ok(())
     }
 
@@ -117,6 +117,6 @@ impl PartWriter {
         ensures no_failed_write { result ≢ Err Write → W.failures out.new ≡ W.failures out.old }
     {
         let first = self.part.from.unwrap_or(self.heading.first);
-        put_after_header(alloc, &self.heading, self.is_begun, first, &[], out)
+        put_after_header(alloc, &self.heading, self.is_header_out, first, &[], out)
     }
 }

@@ -109,23 +109,23 @@ fn show_in_row(marks: &mut [bool], row: &SatelliteRow, shown: &mut [Observed]) -
 fn show_in_rows(
     marks: &mut [bool],
     rows: &[SatelliteRow],
-    width: usize,
+    code_count: usize,
     shown: &mut EpochTable,
 ) -> bool
     requires good { All IsSatelliteRow rows.now }
     requires rise { AllPairs (λ a b. a.satellite < b.satellite) rows.now }
     requires few { length rows.now ≤ 32 }
     requires size { length marks.old ≡ 528 }
-    requires few_codes { width ≤ 16 }
+    requires few_codes { code_count ≤ 16 }
     requires empty { shown.old.rows ≡ [] }
     ensures time { shown.new.time ≡ shown.old.time }
-    ensures rows { shown.new.rows ≡ map (row_with_marks marks.old width) rows.now }
+    ensures rows { shown.new.rows ≡ map (row_with_marks marks.old code_count) rows.now }
     ensures size { length marks.new ≡ 528 }
-    ensures marks { MarksBecome marks.new (λ s c. not (list_any (row_has_phase s c) rows.now && nat_lt c width) && mark_of marks.old s c) }
-    ensures same { result ≡ false → HasWidth width rows.now → shown.new.rows ≡ rows.now }
+    ensures marks { MarksBecome marks.new (λ s c. not (list_any (row_has_phase s c) rows.now && nat_lt c code_count) && mark_of marks.old s c) }
+    ensures same { result ≡ false → HasWidth code_count rows.now → shown.new.rows ≡ rows.now }
 {
     let mut codes = [Observed::default(); 16];
-    let observed = &mut codes[..width];
+    let observed = &mut codes[..code_count];
     let mut is_changed = false;
     for row in rows {
         let is_row_changed = show_in_row(marks, row, observed);
@@ -154,14 +154,19 @@ impl Slips {
 
     /// Makes the table of an epoch that is on the step, in a file of so many codes, with each slip
     /// that is still to be shown. Does it show a slip that the epoch itself does not have?
-    pub(crate) fn show(&mut self, epoch: &EpochTable, width: usize, shown: &mut EpochTable) -> bool
-        requires few { width ≤ 16 }
-        ensures width { HasWidth width shown.new.rows }
-        ensures shown { IsTableEpoch width epoch.now → ShowsSlipsIn self.old.marks epoch.now shown.new }
-        ensures slips { IsTableEpoch width epoch.now → ClearsSlips self.old.marks self.new.marks epoch.now }
-        ensures same { result ≡ false → IsTableEpoch width epoch.now → shown.new ≡ epoch.now }
+    pub(crate) fn show(
+        &mut self,
+        epoch: &EpochTable,
+        code_count: usize,
+        shown: &mut EpochTable,
+    ) -> bool
+        requires few { code_count ≤ 16 }
+        ensures code_count { HasWidth code_count shown.new.rows }
+        ensures shown { IsTableEpoch code_count epoch.now → ShowsSlipsIn self.old.marks epoch.now shown.new }
+        ensures slips { IsTableEpoch code_count epoch.now → ClearsSlips self.old.marks self.new.marks epoch.now }
+        ensures same { result ≡ false → IsTableEpoch code_count epoch.now → shown.new ≡ epoch.now }
     {
         shown.restart(epoch.time());
-        show_in_rows(&mut self.marks, epoch.rows(), width, shown)
+        show_in_rows(&mut self.marks, epoch.rows(), code_count, shown)
     }
 }

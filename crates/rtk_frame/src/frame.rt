@@ -13,6 +13,12 @@ use thiserror::Error;
 // The first byte of each frame.
 const PREAMBLE: u8 = 0xD3;
 
+// The bytes before the payload: the preamble, and two with the length.
+pub(crate) const BEFORE_PAYLOAD: usize = 3;
+
+// The bytes of a frame besides its payload: those before it, and the three of the checksum.
+pub(crate) const AROUND_PAYLOAD: usize = 6;
+
 /// The bytes of the longest frame: six, and the 1,023 of its payload.
 pub const LONGEST_FRAME: usize = 1029;
 
@@ -43,7 +49,7 @@ impl From<AllocError> for FrameFault {
 ///
 /// Source: RTCM 10403.3, transport layer.
 pub fn encode_frame(alloc: Global, payload: &[u8]) -> Result<Vec<u8>, FrameFault>
-    // That it does not give up: rows encode_frame of tests/system/calls.
+    // Fails only if memory is refused: tests/system/calls, rows encode_frame.
     ensures frame { IfOk result (λ frame.
         (length payload.now ≤ 1023) × (frame.items ≡ framed payload.now)) }
     ensures too_long { IsErrOf result TooLong ↔ (1023 < length payload.now) }
@@ -52,7 +58,7 @@ pub fn encode_frame(alloc: Global, payload: &[u8]) -> Result<Vec<u8>, FrameFault
     if len > 1023 {
         return Err(FrameFault::TooLong);
     }
-    let mut frame = Vec::with_capacity(alloc, len + 6)?;
+    let mut frame = Vec::with_capacity(alloc, len + AROUND_PAYLOAD)?;
     frame.extend_from_slice(&[PREAMBLE, (len / 256) as u8, (len % 256) as u8])?;
     frame.extend_from_slice(payload)?;
     let checksum = crc24q(frame.as_slice());
@@ -99,11 +105,11 @@ pub(crate) fn start_of(bytes: &[u8]) -> Start
     if bytes.len() < 3 {
         return Start::Partial;
     }
-    let payload = bytes[1] as usize % 4 * 256 + bytes[2] as usize;
-    if bytes.len() < payload + 6 {
+    let payload_len = bytes[1] as usize % 4 * 256 + bytes[2] as usize;
+    if bytes.len() < payload_len + AROUND_PAYLOAD {
         Start::Partial
     } else {
-        Start::Candidate(payload)
+        Start::Candidate(payload_len)
     }
 }
 
@@ -112,9 +118,9 @@ pub(crate) fn front_of(bytes: &[u8]) -> Front
     ensures { IsFront bytes.now result }
 {
     match start_of(bytes) {
-        Start::Candidate(payload) => {
-            if has_checksum(bytes, payload + 3) {
-                Front::Whole(payload)
+        Start::Candidate(payload_len) => {
+            if has_checksum(bytes, payload_len + BEFORE_PAYLOAD) {
+                Front::Whole(payload_len)
             } else {
                 Front::Other
             }

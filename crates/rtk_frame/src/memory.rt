@@ -63,7 +63,7 @@ impl MemSource {
         after: After,
     ) -> Result<MemSource, AllocError>
         requires per_read { 1 ≤ per_read }
-        // That it does not give up: rows MemSource::new of tests/system/calls.
+        // Fails only if memory is refused: tests/system/calls, rows MemSource::new.
         ensures { IfOk result (λ source. source ≡ new_source bytes.now per_read after) }
     {
         Ok(MemSource {
@@ -167,7 +167,7 @@ impl MemSink {
     /// An empty sink. It takes `room` bytes in all, and at most `per_write` of them in each write.
     pub fn new(alloc: Global, room: usize, per_write: usize) -> Result<MemSink, AllocError>
         requires per_write { 1 ≤ per_write }
-        // That it does not give up: rows MemSink::new of tests/system/calls.
+        // Fails only if memory is refused: tests/system/calls, rows MemSink::new.
         ensures { IfOk result (λ sink. sink ≡ new_sink room per_write) }
     {
         Ok(MemSink {

@@ -14,7 +14,9 @@ ghost use Rattle.rtk_frame.specs.Prefixes.{ArePrefixChecksums};
 ghost use Rattle.rtk_frame.specs.Steps.Scanning.{IsFront};
 
 use crate::checksum::{checksum_of_last, checksum_with};
-use crate::frame::{Front, LONGEST_FRAME, Start, has_checksum, start_of, stored_checksum};
+use crate::frame::{
+    BEFORE_PAYLOAD, Front, LONGEST_FRAME, Start, has_checksum, start_of, stored_checksum,
+};
 use arrayvec::ArrayVec;
 
 /// The most checksums of prefixes: those of the first 0 to 2,058 bytes.
@@ -35,9 +37,9 @@ pub(crate) fn front_at(
     ensures prefixes { ArePrefixChecksums prefixes.new.items bytes.now }
 {
     match start_of(&bytes[place..]) {
-        Start::Candidate(payload) => {
-            if has_checksum_at(bytes, place, payload + 3, prefixes) {
-                Front::Whole(payload)
+        Start::Candidate(payload_len) => {
+            if has_checksum_at(bytes, place, payload_len + BEFORE_PAYLOAD, prefixes) {
+                Front::Whole(payload_len)
             } else {
                 Front::Other
             }

@@ -12,7 +12,10 @@ ghost use Rattle.rtk_frame.specs.Held.{RingHolds};
 ghost use Rattle.rtk_frame.specs.Steps.Scanning.{Scanned, Searched};
 ghost use Rattle.rtk_frame.specs.declared.frame.TheConstants.{LONGEST_FRAME};
 
-use crate::frame::{FrameFault, Front, LONGEST_FRAME, before_preamble, next_preamble};
+use crate::frame::{
+    AROUND_PAYLOAD, BEFORE_PAYLOAD, FrameFault, Front, LONGEST_FRAME, before_preamble,
+    next_preamble,
+};
 use crate::lending::all_bytes;
 use crate::prefixes::{MOST_PREFIXES, front_at};
 use arrayvec::ArrayVec;
@@ -83,7 +86,7 @@ impl Scanner {
 
     /// A scanner at the start of a stream. All the memory that it ever has is taken here.
     pub fn new(alloc: Global) -> Result<Scanner, FrameFault>
-        // That it does not give up: row Scanner::new of tests/system/calls.
+        // Fails only if memory is refused: tests/system/calls, row Scanner::new.
         ensures start { IfOk result (λ scanner. scanner ≡ scanner_view [] false) }
         ensures fault { IfErr result (λ fault. fault ≡ OutOfMemory) }
     {
@@ -109,18 +112,18 @@ impl Scanner {
             × FedAnswer self.old.pending piece.now result.used result.answer now)) }
     {
         let scan = advance(&mut self.ring, &mut self.passed, &mut self.prefixes, piece);
-        match scan.payload {
+        match scan.payload_len {
             None => Fed {
                 used: scan.used,
                 answer: Answer::Hungry,
             },
-            Some(payload) => {
-                let start = self.passed + 3;
-                self.passed += payload + 6;
+            Some(payload_len) => {
+                let start = self.passed + BEFORE_PAYLOAD;
+                self.passed += payload_len + AROUND_PAYLOAD;
                 let bytes = all_bytes(&mut self.ring);
                 Fed {
                     used: scan.used,
-                    answer: Answer::Found(&bytes[start..start + payload]),
+                    answer: Answer::Found(&bytes[start..start + payload_len]),
                 }
             }
         }
@@ -138,12 +141,12 @@ impl Scanner {
         self.ended = true;
         match advance_ended(&mut self.ring, &mut self.passed, &mut self.prefixes) {
             None => None,
-            Some(payload) => {
-                let start = self.passed + 3;
-                let size = payload + 6;
+            Some(payload_len) => {
+                let start = self.passed + BEFORE_PAYLOAD;
+                let size = payload_len + AROUND_PAYLOAD;
                 self.passed += size;
                 let bytes = all_bytes(&mut self.ring);
-                Some(&bytes[start..start + payload])
+                Some(&bytes[start..start + payload_len])
             }
         }
     }
@@ -162,7 +165,7 @@ struct Reached {
     // How many bytes of the piece were used.
     used: usize,
     // The length of the payload, if a frame stands behind the passed bytes.
-    payload: Option<usize>,
+    payload_len: Option<usize>,
 }
 
 // Scans the ring from its passed bytes on, and bytes of the piece, up to the next frame or to the end.
@@ -177,7 +180,7 @@ fn advance(
     ensures held { RingHolds ring.new passed.new prefixes.new.items }
     ensures used { result.used ≤ length piece.now }
     ensures scanned { Scanned (drop passed.old ring.old.items ++ take result.used piece.now) (drop passed.new ring.new.items) }
-    ensures found { MatchOption result.payload
+    ensures found { MatchOption result.payload_len
         ((result.used ≡ length piece.now)
         × ((begins_partial (drop passed.new ring.new.items) ≡ true) ⊎ (drop passed.new ring.new.items ≡ [])))
         (λ n. (begins_frame (drop passed.new ring.new.items) ≡ true)
@@ -187,10 +190,10 @@ fn advance(
     'scan: loop {
         drop_passed(ring, passed, prefixes);
         match front_at(ring.make_contiguous(), *passed, prefixes) {
-            Front::Whole(payload) => {
+            Front::Whole(payload_len) => {
                 return Reached {
                     used,
-                    payload: Some(payload),
+                    payload_len: Some(payload_len),
                 };
             }
             Front::Other => pass_to_preamble(ring, passed),
@@ -199,7 +202,7 @@ fn advance(
                 if used == piece.len() {
                     return Reached {
                         used,
-                        payload: None,
+                        payload_len: None,
                     };
                 }
                 let room = LONGEST_FRAME - (ring.len() - *passed);
@@ -227,8 +230,8 @@ fn advance_ended(
 {
     while *passed < ring.len() {
         drop_passed(ring, passed, prefixes);
-        if let Front::Whole(payload) = front_at(ring.make_contiguous(), *passed, prefixes) {
-            return Some(payload);
+        if let Front::Whole(payload_len) = front_at(ring.make_contiguous(), *passed, prefixes) {
+            return Some(payload_len);
         }
         pass_to_preamble(ring, passed);
     }

@@ -9,7 +9,7 @@ ghost use Rattle.rtk_frame.specs.Prefixes.{ArePrefixChecksums};
 ghost use Rattle.rtk_frame.specs.Search.{IsNextFrame};
 ghost use Rattle.rtk_frame.specs.declared.frame.TheConstants.{LONGEST_FRAME};
 
-use crate::frame::{Front, LONGEST_FRAME, front_of, next_preamble};
+use crate::frame::{AROUND_PAYLOAD, BEFORE_PAYLOAD, Front, LONGEST_FRAME, front_of, next_preamble};
 use crate::prefixes::{MOST_PREFIXES, front_at};
 use arrayvec::ArrayVec;
 use std::marker::Model;
@@ -42,7 +42,7 @@ pub fn next_frame(bytes: &[u8], from: usize) -> Option<Placed<'_>>
         return None;
     }
     match front_of(&bytes[place..]) {
-        Front::Whole(payload) => Some(found_at(bytes, place, payload)),
+        Front::Whole(payload_len) => Some(found_at(bytes, place, payload_len)),
         // A text whose first candidate fails may have many that overlap.
         Front::Partial | Front::Other => next_frame_of_many(bytes, from),
     }
@@ -80,8 +80,8 @@ fn search<'a>(
     let mut place = next_preamble(bytes, from);
     while place < bytes.len() {
         restart_if_far(place, start, prefixes);
-        if let Front::Whole(payload) = front_at(&bytes[*start..], place - *start, prefixes) {
-            return Some(found_at(bytes, place, payload));
+        if let Front::Whole(payload_len) = front_at(&bytes[*start..], place - *start, prefixes) {
+            return Some(found_at(bytes, place, payload_len));
         }
         place = next_preamble(bytes, place + 1);
     }
@@ -102,13 +102,14 @@ fn restart_if_far(place: usize, start: &mut usize, prefixes: &mut ArrayVec<u32, 
 }
 
 // The frame at the place.
-fn found_at(bytes: &[u8], place: usize, payload: usize) -> Placed<'_>
-    requires { place + payload + 6 ≤ length bytes.now }
-    ensures { (result.place ≡ place) × (result.payload.now ≡ take payload (drop 3 (drop place bytes.now))) }
+fn found_at(bytes: &[u8], place: usize, payload_len: usize) -> Placed<'_>
+    requires { place + payload_len + 6 ≤ length bytes.now }
+    ensures { (result.place ≡ place) × (result.payload.now ≡ take payload_len (drop 3 (drop place bytes.now))) }
 {
+    let start = place + BEFORE_PAYLOAD;
     Placed {
         place,
-        payload: &bytes[place + 3..place + 3 + payload],
+        payload: &bytes[start..start + payload_len],
     }
 }
 
@@ -170,7 +171,7 @@ impl<'a> Frames<'a> {
     {
         let found = search(self.bytes, self.from, &mut self.start, &mut self.prefixes);
         self.from = match &found {
-            Some(found) => found.place + found.payload.len() + 6,
+            Some(found) => found.place + found.payload.len() + AROUND_PAYLOAD,
             None => self.bytes.len(),
         };
         found

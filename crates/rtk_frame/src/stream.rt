@@ -76,7 +76,8 @@ pub fn write_all<W: Sink>(sink: &mut W, bytes: &[u8]) -> Result<(), StreamFault>
 }
 
 /// Reads once, from one of many sources; the others stay as they are. If the buffer has room and
-/// the read gave nothing, the source that was read is at its end.
+/// the read gave nothing, the source that was read is at its end. It only hands on, and is here for
+/// its clauses.
 pub fn read_one<R: Source>(
     sources: &mut [R],
     link: usize,

@@ -105,11 +105,11 @@ impl AnyDecoder {
             keep_fault(&mut self.other, AnyFault::Other { number });
             return &self.other;
         }
-        let Some(kind) = MsmKind::wide(number) else {
+        let Some(kind) = MsmKind::msm5_to_7(number) else {
             keep_new(&mut self.other, number, reader);
             return &self.other;
         };
-        keep_wide_msm(&mut self.msm, kind, reader);
+        keep_msm(&mut self.msm, kind, reader);
         &self.msm
     }
 }
@@ -148,7 +148,7 @@ fn keep_1074(kept: &mut Result<AnyMessage, AnyFault>, mut reader: BitReader<'_>)
 
 // Reads a 1075, 1076 or 1077, over the one of these that is kept.
 #[inline(never)]
-fn keep_wide_msm(kept: &mut Result<AnyMessage, AnyFault>, kind: MsmKind, mut reader: BitReader<'_>)
+fn keep_msm(kept: &mut Result<AnyMessage, AnyFault>, kind: MsmKind, mut reader: BitReader<'_>)
     requires { IsWide kind }
     ensures message { IfOk kept.new (λ m. BeginsAfterAnyNumber (number_of_kind kind) reader.entry m) }
     ensures fault { IfErr kept.new (λ f. fault_after_number (number_of_kind kind) reader.entry ≡ Some f) }
@@ -160,7 +160,7 @@ fn keep_wide_msm(kept: &mut Result<AnyMessage, AnyFault>, kind: MsmKind, mut rea
         keep_fault(kept, fault);
         return;
     }
-    keep_new(kept, kind.number(), reader);
+    keep_new_msm(kept, kind, reader);
 }
 
 // These have a reading among their locals, which a function clears when it is called. They are not
@@ -175,6 +175,15 @@ fn keep_new(kept: &mut Result<AnyMessage, AnyFault>, number: u16, reader: BitRea
 }
 
 #[inline(never)]
+fn keep_new_msm(kept: &mut Result<AnyMessage, AnyFault>, kind: MsmKind, reader: BitReader<'_>)
+    requires { IsWide kind }
+    ensures message { IfOk kept.new (λ m. BeginsAfterAnyNumber (number_of_kind kind) reader.entry m) }
+    ensures fault { IfErr kept.new (λ f. fault_after_number (number_of_kind kind) reader.entry ≡ Some f) }
+{
+    *kept = read_msm(kind, reader);
+}
+
+#[inline(never)]
 fn keep_fault(kept: &mut Result<AnyMessage, AnyFault>, fault: AnyFault)
     ensures { kept.new ≡ Err fault }
 {
@@ -186,14 +195,14 @@ fn read_any_by_number(number: u16, reader: BitReader<'_>) -> Result<AnyMessage, 
     ensures message { IfOk result (λ m. BeginsAfterAnyNumber number reader.entry m) }
     ensures fault { IfErr result (λ f. fault_after_number number reader.entry ≡ Some f) }
 {
-    match MsmKind::wide(number) {
-        Some(kind) => read_wide_msm(kind, reader),
-        None => any(read_by_number(number, reader)),
+    match MsmKind::msm5_to_7(number) {
+        Some(kind) => read_msm(kind, reader),
+        None => widened(read_by_number(number, reader)),
     }
 }
 
 // A reading of one of the four messages, as one of the wider set.
-fn any(reading: Result<Message, DecodeFault>) -> Result<AnyMessage, AnyFault>
+fn widened(reading: Result<Message, DecodeFault>) -> Result<AnyMessage, AnyFault>
     ensures { result ≡ any_of reading }
 {
     match reading {
@@ -203,7 +212,7 @@ fn any(reading: Result<Message, DecodeFault>) -> Result<AnyMessage, AnyFault>
 }
 
 #[inline(never)]
-fn read_wide_msm(kind: MsmKind, mut reader: BitReader<'_>) -> Result<AnyMessage, AnyFault>
+fn read_msm(kind: MsmKind, mut reader: BitReader<'_>) -> Result<AnyMessage, AnyFault>
     requires { IsWide kind }
     ensures message { IfOk result (λ m. BeginsAfterAnyNumber (number_of_kind kind) reader.entry m) }
     ensures fault { IfErr result (λ f. fault_after_number (number_of_kind kind) reader.entry ≡ Some f) }

@@ -26,7 +26,7 @@ use std::alloc::{AllocError, Global};
 /// `Err` means that memory was refused.
 pub fn encode(alloc: Global, message: &Message) -> Result<Vec<u8>, AllocError>
     requires { IsValid message.now }
-    // That it does not give up: rows encode of tests/system/calls.
+    // Fails only if memory is refused: tests/system/calls, rows encode.
     ensures { IfOk result (λ payload. IsPayloadOf message.now payload.items) }
 {
     let mut writer = BitWriter::new(alloc);

@@ -15,10 +15,10 @@ use crate::layout::Layout;
 use rtk_bits::{BitReader, BitWriter};
 use std::alloc::AllocError;
 
-/// The fields of a 1074 before its cell mask: 169 bits, the message number included.
+/// The fields of a 1074 to 1077 before its cell mask: 169 bits, the message number included.
 ///
 /// The first bit of a mask is its most significant one and stands for identifier 1. Source: RTCM
-/// 10403.3, message 1074.
+/// 10403.3, messages 1074 to 1077.
 #[derive(Clone, Copy, Debug, Default, PartialEq, Eq)]
 pub struct MsmHeader {
     /// Reference station ID (DF003), 0 to 4095.
@@ -124,6 +124,7 @@ impl MsmHeader {
     }
 }
 
+/// The fields of a 1074 to 1077 after its number and before its cell mask.
 #[inline(always)]
 pub(crate) fn next_header(reader: &mut BitReader<'_>) -> MsmHeader
     requires { 157 ≤ length reader.old }

@@ -49,7 +49,7 @@ impl MsmKind {
     }
 
     /// The kind of this message number (DF002), if it is 1075, 1076 or 1077.
-    pub(crate) fn wide(number: u16) -> Option<MsmKind>
+    pub(crate) fn msm5_to_7(number: u16) -> Option<MsmKind>
         ensures some { IfSome result (λ k. IsWide k × (number ≡ number_of_kind k)) }
         ensures none { IfNone result ((k : MsmKind) → IsWide k → number ≢ number_of_kind k) }
     {

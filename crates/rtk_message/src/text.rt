@@ -15,7 +15,7 @@ use std::alloc::AllocError;
 
 /// Appends a number in decimal.
 pub fn put_number(line: &mut Vec<u8>, number: u64) -> Result<(), AllocError>
-    // That it gives up only without memory: rows put_number, put_named and put_fault of tests/system/calls.
+    // Fails only if memory is refused: tests/system/calls, rows put_number, put_named and put_fault.
     ensures { OnOk result (line.new.items ≡ line.old.items ++ decimal number) }
 {
     line.extend_from_slice(Buffer::new().format(number).as_bytes())

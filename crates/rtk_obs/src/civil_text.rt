@@ -38,7 +38,7 @@ fn four_digits(number: u16) -> [u8; 4]
 /// Appends a date, as in 2024-05-17.
 #[tactic(auto, unfolding(crate::specs::CivilText::date_text))]
 pub fn put_date(text: &mut Vec<u8>, reading: Civil) -> Result<(), AllocError>
-    // That the three give up only without memory: their rows of tests/system/calls.
+    // Fails only if memory is refused: tests/system/calls, rows put_date, put_clock and put_civil.
     ensures { OnOk result (text.new.items ≡ text.old.items ++ date_text reading) }
 {
     text.extend_from_slice(&four_digits(reading.year))?;

@@ -13,7 +13,8 @@ use crate::cell::{CellEntry, CellSource, is_satellite, make_room};
 use crate::code::{Band, Code};
 use crate::lock_time::least_lock_legacy;
 use crate::scaling::{
-    LONGEST_RANGE, phase_from_length, range_from_length, strength_from_steps, unless_mark,
+    LONGEST_RANGE, MODULUS, RANGE_STEP, phase_from_length, range_from_length, strength_from_steps,
+    unless_mark,
 };
 use arrayvec::ArrayVec;
 use rtk_message::{Obs1004, Satellite};
@@ -50,7 +51,7 @@ fn l1_length(satellite: &Satellite) -> i64
     ensures value { result ≡ length_of satellite.now }
     ensures bound { unsigned_abs result ≤ LONGEST_RANGE }
 {
-    40 * i64::from(satellite.l1_range) + 599_584_916 * i64::from(satellite.modulus_ambiguity)
+    RANGE_STEP * i64::from(satellite.l1_range) + MODULUS * i64::from(satellite.modulus_ambiguity)
 }
 
 // The range of L1; an invalid mark of its phase (DF012) leaves out the range too.
@@ -68,7 +69,7 @@ fn l2_length(length: i64, difference: i32) -> i64
     requires { unsigned_abs length ≤ LONGEST_RANGE }
     ensures { result ≡ l2_length length difference }
 {
-    length + 40 * i64::from(difference)
+    length + RANGE_STEP * i64::from(difference)
 }
 
 fn l2_range(length: i64, difference: Option<i32>) -> Option<i64>
@@ -132,8 +133,8 @@ fn set_l2_entry(entry: &mut CellEntry, satellite: &Satellite, length: i64)
     entry.cell.offset = offset;
 }
 
-// Is this the first entry of a satellite that RINEX has? Such a satellite is marked as seen.
-fn is_first(seen: &mut [bool], number: u8) -> bool
+// Marks a satellite as seen, and says whether this is its first entry and RINEX has it.
+fn mark_first(seen: &mut [bool], number: u8) -> bool
     requires places { length seen.old ≡ 33 }
     ensures places { length seen.new ≡ 33 }
     ensures value { (before : List Satellite) → HasSeen seen.old before
@@ -171,7 +172,7 @@ fn put_satellite(
     ensures count { result ≤ length found.new.items }
     ensures few { result ≤ count + 2 }
 {
-    if !is_first(seen, satellite.satellite) {
+    if !mark_first(seen, satellite.satellite) {
         return count;
     }
     let length = l1_length(satellite);

@@ -10,7 +10,7 @@ ghost use Rattle.rtk_obs.specs.MsmCells.{rough_at, cell_of_1074, cells_of_1074};
 use crate::cell::{Cell, CellEntry, CellSource};
 use crate::code::Band;
 use crate::lock_time::least_lock_msm;
-use crate::msm_rows::{SetCell, put_cells};
+use crate::msm_rows::{CellsOfMsm, put_cells};
 use crate::msm_values::{MSM_STRENGTH_STEP, msm_phase, msm_range, rough_range};
 use crate::scaling::strength_from_steps;
 use arrayvec::ArrayVec;
@@ -25,7 +25,7 @@ fn lock_time(message: &Msm1074, cell: usize) -> u32
     least_lock_msm(message.lock_indicator.as_slice()[cell])
 }
 
-impl SetCell for Msm1074 {
+impl CellsOfMsm for Msm1074 {
     ghost IsValid = { IsValid };
 
     ghost header = { λ m. m.header };

@@ -9,7 +9,7 @@ ghost use Rattle.rtk_obs.specs.MsmCells.{rough_at, has_extended_resolution, cell
 use crate::cell::{Cell, CellEntry, CellSource};
 use crate::code::Band;
 use crate::lock_time::{least_lock_extended, least_lock_msm};
-use crate::msm_rows::{SetCell, put_cells};
+use crate::msm_rows::{CellsOfMsm, put_cells};
 use crate::msm_values::{
     MSM_STRENGTH_STEP, extended_phase, extended_range, msm_phase, msm_range, rough_range,
 };
@@ -27,7 +27,7 @@ fn has_extended_resolution(kind: MsmKind) -> bool
     }
 }
 
-impl SetCell for Msm {
+impl CellsOfMsm for Msm {
     ghost IsValid = { IsValid };
 
     ghost header = { λ m. m.header };

@@ -18,7 +18,7 @@ use arrayvec::ArrayVec;
 use rtk_message::MsmHeader;
 
 /// An MSM whose cells are set one by one.
-pub(crate) trait SetCell {
+pub(crate) trait CellsOfMsm {
     /// Which values can be written as bits: their fields fit, and their columns have the lengths
     /// that the masks give.
     ghost IsValid: { Self → Type 0 };
@@ -140,7 +140,7 @@ fn signal_identifiers(header: MsmHeader) -> ArrayVec<u8, 64>
 }
 
 // The satellite of a row.
-fn row_of<M: SetCell>(message: &M, numbers: &[u8], row: usize) -> Row
+fn row_of<M: CellsOfMsm>(message: &M, numbers: &[u8], row: usize) -> Row
     requires valid { M.IsValid message.now }
     requires mask { IsCellMask (M.header message.now) (M.cell_mask message.now) }
     requires numbers { numbers.now ≡ satellites_of (M.header message.now) }
@@ -154,7 +154,7 @@ fn row_of<M: SetCell>(message: &M, numbers: &[u8], row: usize) -> Row
 }
 
 // Puts the cell of a slot, if its signal has a code. The result is how many entries stand then.
-fn put_cell<M: SetCell>(
+fn put_cell<M: CellsOfMsm>(
     found: &mut ArrayVec<CellEntry, 64>,
     count: usize,
     message: &M,
@@ -186,7 +186,7 @@ fn put_cell<M: SetCell>(
 }
 
 // Puts the cells of a row of the cell mask, if RINEX has its satellite.
-fn put_row<M: SetCell>(
+fn put_row<M: CellsOfMsm>(
     found: &mut ArrayVec<CellEntry, 64>,
     start: Progress,
     message: &M,
@@ -233,7 +233,7 @@ fn put_row<M: SetCell>(
 
 /// Puts the cells of a message whose satellite and signal RINEX has. The result is how many
 /// entries stand then.
-pub(crate) fn put_cells<M: SetCell>(found: &mut ArrayVec<CellEntry, 64>, message: &M) -> usize
+pub(crate) fn put_cells<M: CellsOfMsm>(found: &mut ArrayVec<CellEntry, 64>, message: &M) -> usize
     requires valid { M.IsValid message.now }
     requires mask { IsCellMask (M.header message.now) (M.cell_mask message.now) }
     ensures { take result found.new.items ≡ msm_entries (M.header message.now) (M.cell_mask message.now) (M.cell_of message.now) }

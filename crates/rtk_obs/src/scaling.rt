@@ -19,9 +19,15 @@ const TWICE_LIGHT: u32 = 599_584_916;
 // Half of the speed of light.
 const HALF_LIGHT: u64 = 149_896_229;
 
+/// A step of DF011 and DF017, which is 0.02 m, in 0.0005 m.
+pub(crate) const RANGE_STEP: i64 = 40;
+
+/// A step of DF014, which is the way of light in a ms, in 0.0005 m.
+pub(crate) const MODULUS: i64 = 599_584_916;
+
 /// The longest pseudorange of L1 that a 1004 gives, in 0.0005 m: DF011 (24 bits) and DF014 (8 bits)
 /// are all ones.
-pub(crate) const LONGEST_RANGE: u64 = 40 * 16_777_215 + 599_584_916 * 255;
+pub(crate) const LONGEST_RANGE: u64 = RANGE_STEP as u64 * 16_777_215 + MODULUS as u64 * 255;
 
 // The longest length of a phase, in 0.0005 m: such a pseudorange and any difference of 32 bits.
 const LONGEST_PHASE: u64 = LONGEST_RANGE + 2_147_483_648;

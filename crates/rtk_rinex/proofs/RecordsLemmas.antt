@@ -176,7 +176,7 @@ record-read n t count e bytes line after rest time range long rows split line_is
 -- ---- the records that are left
 
 abbrev pub view_of : ℕ → List ℕ → RecordsView
-view_of n text = record { width = n; text = text }
+view_of n text = record { code_count = n; text = text }
 
 abbrev pub HasLeft : ℕ → List ℕ → Type 0
 HasLeft n text = (epochs : List EpochTableView) × AreLeft (view_of n text) epochs

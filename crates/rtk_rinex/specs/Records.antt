@@ -5,18 +5,18 @@ use Rattle.rtk_rinex.specs.Table.{IsTableEpoch}
 
 -- what is left of the text of a file of this number of codes
 pub record RecordsView : Type 0 where
-  pub width : ℕ
+  pub code_count : ℕ
   pub text : List ℕ
 
 -- formula
 -- these are the epochs whose records are left
 pub record AreLeft (r : RecordsView) (epochs : List EpochTableView) : Type 0 where
-  pub are_epochs : All (IsTableEpoch r.width) epochs
+  pub are_epochs : All (IsTableEpoch r.code_count) epochs
   pub text : r.text ≡ flat_map record_text epochs
 
 -- a file has 16 codes at most, and what is left are the records of some epochs
 abbrev pub IsRecordsView : RecordsView → Type 0
-IsRecordsView r = (r.width ≤ 16) × ∥ ((epochs : List EpochTableView) × AreLeft r epochs) ∥₁
+IsRecordsView r = (r.code_count ≤ 16) × ∥ ((epochs : List EpochTableView) × AreLeft r epochs) ∥₁
 
 -- formula
 -- this text is the record of the first of these epochs, which `epoch` is, and the others are left

@@ -8,6 +8,12 @@ ghost use Rattle.rtk_rinex.specs.Reading.{seconds_of};
 use arrayvec::ArrayVec;
 use rtk_obs::Civil;
 
+/// The columns of a code: the pseudorange, the carrier phase and the signal strength, 16 each.
+pub(crate) const CODE_COLUMNS: usize = 48;
+
+/// The bytes of an epoch line, its LF included.
+pub(crate) const EPOCH_LINE: usize = 36;
+
 // The two digits of each number below 100, one number after another.
 static PAIRS: [u8; 200] = [
     48, 48, 48, 49, 48, 50, 48, 51, 48, 52, 48, 53, 48, 54, 48, 55, 48, 56, 48, 57, 49, 48, 49, 49,
@@ -344,7 +350,7 @@ pub(crate) fn seconds(time: Civil) -> u64
 }
 
 /// Appends a text to the columns of a line.
-pub(crate) fn add<const N: usize>(columns: &mut ArrayVec<u8, N>, text: &[u8])
+pub(crate) fn append<const N: usize>(columns: &mut ArrayVec<u8, N>, text: &[u8])
     requires { length columns.old.items + length text.now ≤ N }
     ensures items { columns.new.items ≡ columns.old.items ++ text.now }
     ensures len { length columns.new.items ≡ length columns.old.items + length text.now }

@@ -30,7 +30,7 @@ pub(crate) fn columns_at(text: &[u8], from: usize, width: usize) -> &[u8]
     front(after(text, from), width)
 }
 
-/// Are two texts the same?
+/// Are two texts the same? It only hands on, and is here for its clause.
 pub(crate) fn is_same(text: &[u8], other: &[u8]) -> bool
     ensures { Decides result (text.now ≡ other.now) }
 {

@@ -6,6 +6,7 @@ ghost use Rattle.rtk_rinex.specs.Reading.{IsMoment, reading_of};
 ghost use Rattle.rtk_rinex.specs.Record.{epoch_columns, epoch_line};
 ghost use Rattle.rtk_rinex.specs.Steps.CheckValues.{seconds_in, civil_in, count_in};
 
+use crate::columns::EPOCH_LINE;
 use crate::digits::{is_same, number_of_digits};
 use crate::record_text::epoch_line;
 use rtk_obs::{Civil, GpsMs, of_civil};
@@ -72,10 +73,10 @@ pub(crate) fn read_epoch_line(line: &[u8]) -> Option<EpochStamp>
         ((t n : ℕ) → IsMoment t → IsInRange 1 32 n → line.now ≢ epoch_line (reading_of t) n)
         (λ s. IsMoment s.time × IsInRange 1 32 s.count × (line.now ≡ epoch_line (reading_of s.time) s.count)) }
 {
-    if line.len() != 36 {
+    if line.len() != EPOCH_LINE {
         return None;
     }
-    let stamp = stamp_in(line.split_at(35).0)?;
+    let stamp = stamp_in(line.split_at(EPOCH_LINE - 1).0)?;
     if is_same(epoch_line(stamp.reading, stamp.count).as_slice(), line) {
         Some(stamp)
     } else {

@@ -92,12 +92,15 @@ fn read_code_count(line: &[u8]) -> Option<usize>
     Some(count)
 }
 
-// The line of a text that follows this number of lines of 81 bytes.
+// The bytes of a line of a header, its LF included.
+const HEADER_LINE: usize = 81;
+
+// The line of a text that follows this number of lines of a header.
 fn text_line(text: &[u8], lines: usize) -> &[u8]
     requires { 81 * lines < 2 ^ 64 }
     ensures { result.now ≡ line_at lines text.now }
 {
-    columns_at(text, 81 * lines, 81)
+    columns_at(text, HEADER_LINE * lines, HEADER_LINE)
 }
 
 // The name of the code that follows `before` codes in the lines of observation types.
@@ -105,6 +108,7 @@ fn read_name(text: &[u8], before: usize) -> &[u8]
     requires { before < 16 }
     ensures { result.now ≡ name_at before text.now }
 {
+    // A code has three types. From the tenth line on each has 13 types, of 4 columns each.
     columns_at(
         text_line(text, 9 + 3 * before / 13),
         8 + 4 * (3 * before % 13),
@@ -257,6 +261,7 @@ fn read_header(text: &[u8]) -> HeaderRead
     let Ok(head) = Head::new(marker, codes.as_slice().split_at(count).0, made) else {
         unreachable!();
     };
+    // 13 lines, and those of the types: 12 columns for each code, 52 columns in each line.
     let lines = 13 + (12 * count + 51) / 52;
     let first = read_first(text_line(text, lines - 3)).unwrap_or(any_moment());
     HeaderRead {
@@ -264,7 +269,7 @@ fn read_header(text: &[u8]) -> HeaderRead
         position,
         first,
         lines,
-        used: 81 * lines,
+        used: HEADER_LINE * lines,
     }
 }
 
@@ -283,7 +288,7 @@ fn unlike_line(header: &[u8], text: &[u8]) -> Option<usize>
         (λ k. (81 * k < length header.now) × (take (81 * k) header.now ≡ take (81 * k) text.now)
         × (line_at k header.now ≢ line_at k text.now)) }
 {
-    for k in 0..header.len() / 81 {
+    for k in 0..header.len() / HEADER_LINE {
         if !have_same_line(header, text, k) {
             return Some(k);
         }
@@ -315,7 +320,7 @@ pub(crate) fn check_header(text: &[u8]) -> Result<HeaderRead, CheckFault>
     let Some(k) = unlike_line(header.as_slice(), text) else {
         return Ok(read);
     };
-    let cause = match line_end(text.split_at(81 * k).1) {
+    let cause = match line_end(text.split_at(HEADER_LINE * k).1) {
         Some(_) => Cause::HeaderLine,
         None => Cause::Truncated,
     };

@@ -6,7 +6,7 @@ ghost use Rattle.rtk_rinex.specs.Columns.{left, right, fixed};
 ghost use Rattle.rtk_rinex.specs.Header.{header_line, made_text, first_lines, position_view, position_lines, types_of, types, continuation_line, types_lines, first_text, last_lines, header_text};
 
 use crate::columns::{
-    add, fixed_14_4, integer_3, integer_6, put_last_digits, seconds, unsigned_13_7,
+    append, fixed_14_4, integer_3, integer_6, put_last_digits, seconds, unsigned_13_7,
 };
 use crate::digits::{after, front};
 use crate::head::Head;
@@ -28,8 +28,8 @@ fn put_left(out: &mut ArrayVec<u8, LONGEST_HEADER>, text: &[u8], width: usize)
     ensures len { length out.new.items ≡ length out.old.items + width }
 {
     let blanks = [b' '; 80];
-    add(out, text);
-    add(out, &blanks[..width - text.len()]);
+    append(out, text);
+    append(out, &blanks[..width - text.len()]);
 }
 
 // Appends a line: what stands in its first 60 columns, and its label.
@@ -42,7 +42,7 @@ fn put_header_line(out: &mut ArrayVec<u8, LONGEST_HEADER>, content: &[u8], label
 {
     put_left(out, content, 60);
     put_left(out, label, 20);
-    add(out, b"\n");
+    append(out, b"\n");
 }
 
 fn made_field(made: Civil) -> [u8; 20]
@@ -63,8 +63,8 @@ fn made_content(made: Civil) -> ArrayVec<u8, 60>
     ensures len { length result.items ≤ 60 }
 {
     let mut content = ArrayVec::new();
-    add(&mut content, b"rtcm2rinex                              ");
-    add(&mut content, &made_field(made));
+    append(&mut content, b"rtcm2rinex                              ");
+    append(&mut content, &made_field(made));
     content
 }
 
@@ -92,9 +92,9 @@ fn position_content(position: &Position) -> ArrayVec<u8, 60>
     ensures len { length result.items ≤ 60 }
 {
     let mut content = ArrayVec::new();
-    add(&mut content, &fixed_14_4(position.x));
-    add(&mut content, &fixed_14_4(position.y));
-    add(&mut content, &fixed_14_4(position.z));
+    append(&mut content, &fixed_14_4(position.x));
+    append(&mut content, &fixed_14_4(position.y));
+    append(&mut content, &fixed_14_4(position.z));
     content
 }
 
@@ -103,8 +103,8 @@ fn height_content(height: u16) -> ArrayVec<u8, 60>
     ensures len { length result.items ≤ 60 }
 {
     let mut content = ArrayVec::new();
-    add(&mut content, &fixed_14_4(i64::from(height)));
-    add(&mut content, b"        0.0000        0.0000");
+    append(&mut content, &fixed_14_4(i64::from(height)));
+    append(&mut content, b"        0.0000        0.0000");
     content
 }
 
@@ -142,7 +142,7 @@ fn types_of_codes(listed: &[Code]) -> ArrayVec<u8, 192>
 {
     let mut text = ArrayVec::new();
     for code in listed {
-        add(&mut text, &types_of_code(*code));
+        append(&mut text, &types_of_code(*code));
     }
     text
 }
@@ -154,9 +154,9 @@ fn types_content(count: usize, shown: &[u8]) -> ArrayVec<u8, 60>
     ensures len { length result.items ≤ 60 }
 {
     let mut content = ArrayVec::new();
-    add(&mut content, b"G  ");
-    add(&mut content, &integer_3(count as u64));
-    add(&mut content, shown);
+    append(&mut content, b"G  ");
+    append(&mut content, &integer_3(count as u64));
+    append(&mut content, shown);
     content
 }
 
@@ -165,8 +165,8 @@ fn continuation_content(text: &[u8]) -> ArrayVec<u8, 60>
     ensures len { length result.items ≤ 60 }
 {
     let mut content = ArrayVec::new();
-    add(&mut content, b"      ");
-    add(&mut content, front(text, 52));
+    append(&mut content, b"      ");
+    append(&mut content, front(text, 52));
     content
 }
 
@@ -206,13 +206,13 @@ fn first_content(first: Civil) -> ArrayVec<u8, 60>
     ensures len { length result.items ≤ 60 }
 {
     let mut content = ArrayVec::new();
-    add(&mut content, &integer_6(u64::from(first.year)));
-    add(&mut content, &integer_6(u64::from(first.month)));
-    add(&mut content, &integer_6(u64::from(first.day)));
-    add(&mut content, &integer_6(u64::from(first.hour)));
-    add(&mut content, &integer_6(u64::from(first.minute)));
-    add(&mut content, &unsigned_13_7(seconds(first)));
-    add(&mut content, b"     GPS");
+    append(&mut content, &integer_6(u64::from(first.year)));
+    append(&mut content, &integer_6(u64::from(first.month)));
+    append(&mut content, &integer_6(u64::from(first.day)));
+    append(&mut content, &integer_6(u64::from(first.hour)));
+    append(&mut content, &integer_6(u64::from(first.minute)));
+    append(&mut content, &unsigned_13_7(seconds(first)));
+    append(&mut content, b"     GPS");
     content
 }
 
@@ -255,7 +255,7 @@ pub fn header(
     position: &Position,
     first: GpsMs,
 ) -> Result<Vec<u8>, AllocError>
-    // It gives up only if memory is refused: rows "header .." of tests/system/calls/src/rinex.rt.in.
+    // Fails only if memory is refused: tests/system/calls, rows `header ..`.
     ensures { IfOk result (λ text. text.items ≡ header_text head.now (position_view position.now) first) }
 {
     let lines = header_lines(head, position, first);

@@ -9,15 +9,13 @@ ghost use Rattle.rtk_rinex.specs.declared.epoch_table.SatelliteRow.{SatelliteRow
 ghost use Rattle.rtk_rinex.specs.Record.{HasWidth, record_text};
 ghost use Rattle.rtk_rinex.specs.RecordLines.{HoldsLines, line_shown};
 
+use crate::columns::{CODE_COLUMNS, EPOCH_LINE};
 use crate::epoch_table::{EpochTable, Observed};
 use crate::head::Head;
 use crate::record_text::{has_line, put_epoch_line, put_satellite_line};
 use rtk_obs::{GpsMs, civil};
 use std::alloc::{AllocError, Global};
 use std::marker::Model;
-
-// The bytes of an epoch line.
-const EPOCH_LINE: usize = 36;
 
 // The satellites of GPS.
 const MOST_SATELLITES: usize = 32;
@@ -89,7 +87,8 @@ fn blank(text: &mut [u8], len: usize)
     text[..len].fill(b' ');
 }
 
-// Writes the line of a satellite at this place, if it has one, and returns how long it is.
+// Writes the line of a satellite at this place, if it has one, and returns how long it is. It only hands
+// on, and is here for its clauses.
 fn put_next_line(text: &mut [u8], at: usize, satellite: u8, observed: &[Observed]) -> usize
     requires blank { text.old ≡ take at text.old ++ replicate (length text.old - at) 32 }
     requires room { at + 4 + 48 * length observed.now ≤ length text.old }
@@ -133,7 +132,7 @@ impl RecordLines {
         ensures err { OnErr result (self.new ≡ self.old) }
     {
         let at = self.len.max(EPOCH_LINE);
-        make_room(&mut self.text, at, 4 + 48 * observed.len())?;
+        make_room(&mut self.text, at, 4 + CODE_COLUMNS * observed.len())?;
         let len = put_next_line(&mut self.text, at, satellite, observed);
         if len > 0 {
             self.len = at + len;
@@ -165,7 +164,7 @@ impl RecordLines {
         requires few { (rows ≤ 32) × (codes ≤ 16) }
         ensures { self.new ≡ self.old }
     {
-        let room = EPOCH_LINE + rows * (4 + 48 * codes);
+        let room = EPOCH_LINE + rows * (4 + CODE_COLUMNS * codes);
         if self.text.len() < room {
             lengthen(&mut self.text, room)?;
         }
@@ -188,7 +187,7 @@ impl RecordLines {
 /// is taken at most once. Source: RINEX 3.05, Table A3.
 pub fn record(alloc: Global, head: &Head, table: &EpochTable) -> Result<Vec<u8>, AllocError>
     requires { HasWidth (length head.now.listed) table.now.rows }
-    // It gives up only if memory is refused: rows "record .." of tests/system/calls/src/rinex.rt.in.
+    // Fails only if memory is refused: tests/system/calls, rows `record ..`.
     ensures { IfOk result (λ text. text.items ≡ record_text table.now) }
 {
     let mut lines = RecordLines::new(alloc);

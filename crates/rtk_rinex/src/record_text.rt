@@ -6,8 +6,8 @@ ghost use Rattle.rtk_rinex.specs.Record.{is_written, is_present, observation, ob
 ghost use Rattle.rtk_rinex.specs.RecordLines.{line_shown};
 
 use crate::columns::{
-    add, integer_3, put_fixed_14_3, put_last_digits, put_long_14_3, put_pair, put_short_14_3,
-    seconds, unsigned_11_7,
+    CODE_COLUMNS, EPOCH_LINE, append, integer_3, put_fixed_14_3, put_last_digits, put_long_14_3,
+    put_pair, put_short_14_3, seconds, unsigned_11_7,
 };
 use crate::epoch_table::{Observed, SatelliteRow};
 use arrayvec::ArrayVec;
@@ -190,10 +190,10 @@ fn put_cells(cells: &mut [u8], shown: &[Observed]) -> usize
     let mut at = 0;
     for observed in shown {
         if has_observation(observed) {
-            put_columns(&mut cells[at..at + 48], observed);
-            end = at + 48;
+            put_columns(&mut cells[at..at + CODE_COLUMNS], observed);
+            end = at + CODE_COLUMNS;
         }
-        at += 48;
+        at += CODE_COLUMNS;
     }
     end
 }
@@ -231,18 +231,18 @@ fn epoch_date(time: Civil) -> [u8; 18]
 }
 
 /// The epoch line of a date and time and a count of satellites.
-pub(crate) fn epoch_line(time: Civil, count: usize) -> ArrayVec<u8, 36>
+pub(crate) fn epoch_line(time: Civil, count: usize) -> ArrayVec<u8, EPOCH_LINE>
     requires second { time.second < 60 }
     requires millisecond { time.millisecond < 1000 }
     requires count { count < 1000 }
     ensures { result.items ≡ epoch_line time count }
 {
     let mut line = ArrayVec::new();
-    add(&mut line, &epoch_date(time));
-    add(&mut line, &unsigned_11_7(seconds(time)));
-    add(&mut line, b"  0");
-    add(&mut line, &integer_3(count as u64));
-    add(&mut line, b"\n");
+    append(&mut line, &epoch_date(time));
+    append(&mut line, &unsigned_11_7(seconds(time)));
+    append(&mut line, b"  0");
+    append(&mut line, &integer_3(count as u64));
+    append(&mut line, b"\n");
     line
 }
 
@@ -254,5 +254,5 @@ pub(crate) fn put_epoch_line(text: &mut [u8], time: Civil, count: usize)
     requires count { count < 1000 }
     ensures { text.new ≡ epoch_line time count ++ drop 36 text.old }
 {
-    text[..36].copy_from_slice(epoch_line(time, count).as_slice());
+    text[..EPOCH_LINE].copy_from_slice(epoch_line(time, count).as_slice());
 }

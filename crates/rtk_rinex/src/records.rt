@@ -20,7 +20,7 @@ use std::marker::Model;
 #[derive(Drop)]
 pub struct Records<'a> {
     rest: &'a [u8],
-    width: usize,
+    code_count: usize,
 }
 
 impl<'a> Model for Records<'a> {
@@ -28,19 +28,24 @@ impl<'a> Model for Records<'a> {
 
     ghost Value = { RecordsView };
 
-    ghost view = { λ r. record { width = r.width; text = r.rest.now } };
+    ghost view = { λ r. record { code_count = r.code_count; text = r.rest.now } };
 
-    ghost invariant = { λ r. IsRecordsView (record { width = r.width; text = r.rest.now }) };
+    ghost invariant = { λ r. IsRecordsView (record { code_count = r.code_count; text = r.rest.now }) };
 }
 
 // Reads `count` satellite lines into the rows of an epoch, and returns the text after them.
-fn read_rows<'a>(text: &'a [u8], width: usize, count: usize, epoch: &mut EpochTable) -> &'a [u8]
-    requires width { width ≤ 16 }
+fn read_rows<'a>(
+    text: &'a [u8],
+    code_count: usize,
+    count: usize,
+    epoch: &mut EpochTable,
+) -> &'a [u8]
+    requires code_count { code_count ≤ 16 }
     requires count { count ≤ 32 }
     requires none { epoch.old.rows ≡ [] }
-    requires lines { ∥ ((rest : List ℕ) × ReadsRows width count text.now rest) ∥₁ }
+    requires lines { ∥ ((rest : List ℕ) × ReadsRows code_count count text.now rest) ∥₁ }
     ensures time { epoch.new.time ≡ epoch.old.time }
-    ensures rows { AreRows width None epoch.new.rows }
+    ensures rows { AreRows code_count None epoch.new.rows }
     ensures count { length epoch.new.rows ≡ count }
     ensures text { text.now ≡ flat_map satellite_line epoch.new.rows ++ result.now }
 {
@@ -50,7 +55,7 @@ fn read_rows<'a>(text: &'a [u8], width: usize, count: usize, epoch: &mut EpochTa
         let Some((line, after)) = next_line(rest) else {
             unreachable!();
         };
-        read_row(line, width, &mut row);
+        read_row(line, code_count, &mut row);
         epoch.push_row(row.satellite, row.observed.as_slice());
         rest = after;
     }
@@ -58,10 +63,10 @@ fn read_rows<'a>(text: &'a [u8], width: usize, count: usize, epoch: &mut EpochTa
 }
 
 // Reads the record that begins a text into `epoch`, and returns the text after it.
-fn read_record<'a>(text: &'a [u8], width: usize, epoch: &mut EpochTable) -> &'a [u8]
-    requires width { width ≤ 16 }
-    requires record { ∥ BeginsWithRecord width text.now ∥₁ }
-    ensures epoch { IsTableEpoch width epoch.new }
+fn read_record<'a>(text: &'a [u8], code_count: usize, epoch: &mut EpochTable) -> &'a [u8]
+    requires code_count { code_count ≤ 16 }
+    requires record { ∥ BeginsWithRecord code_count text.now ∥₁ }
+    ensures epoch { IsTableEpoch code_count epoch.new }
     ensures text { text.now ≡ record_text epoch.new ++ result.now }
 {
     let Some((line, after)) = next_line(text) else {
@@ -71,18 +76,21 @@ fn read_record<'a>(text: &'a [u8], width: usize, epoch: &mut EpochTable) -> &'a 
         unreachable!();
     };
     epoch.restart(stamp.time);
-    read_rows(after, width, stamp.count, epoch)
+    read_rows(after, code_count, stamp.count, epoch)
 }
 
 impl<'a> Records<'a> {
     ghost use Rattle.rtk_rinex.specs.Records.{RecordsView, AreLeft, IsRecordsView, IsNextOf};
 
-    /// The records that a text is, in a file of `width` codes.
-    pub(crate) fn of_text(text: &'a [u8], width: usize) -> Records<'a>
-        requires { IsRecordsView (record { width = width; text = text.now }) }
-        ensures { result ≡ record { width = width; text = text.now } }
+    /// The records that a text is, in a file of `code_count` codes.
+    pub(crate) fn of_text(text: &'a [u8], code_count: usize) -> Records<'a>
+        requires { IsRecordsView (record { code_count = code_count; text = text.now }) }
+        ensures { result ≡ record { code_count = code_count; text = text.now } }
     {
-        Records { rest: text, width }
+        Records {
+            rest: text,
+            code_count,
+        }
     }
 
     /// Reads the next record into `epoch`, and returns its text; after the last one `None`, and
@@ -96,14 +104,14 @@ impl<'a> Records<'a> {
         ensures end { MatchOption result
             ((self.old.text ≡ []) × (self.new ≡ self.old) × (epoch.new ≡ epoch.old))
             (λ text. self.old.text ≡ text.now ++ self.new.text) }
-        ensures record { IfSome result (λ text. IsTableEpoch self.old.width epoch.new × (text.now ≡ record_text epoch.new)) }
+        ensures record { IfSome result (λ text. IsTableEpoch self.old.code_count epoch.new × (text.now ≡ record_text epoch.new)) }
         ensures less { IfSome result (λ text. length self.new.text < length self.old.text) }
-        ensures width { self.new.width ≡ self.old.width }
+        ensures code_count { self.new.code_count ≡ self.old.code_count }
     {
         if self.rest.len() == 0 {
             return None;
         }
-        let rest = read_record(self.rest, self.width, epoch);
+        let rest = read_record(self.rest, self.code_count, epoch);
         let (text, _) = self.rest.split_at(self.rest.len() - rest.len());
         self.rest = rest;
         Some(text)

@@ -11,6 +11,7 @@ ghost use Rattle.std.specs.Int.{IsInRange};
 ghost use Rattle.std.specs.Prelude.{◌≡◌, ◌≢◌, ℕ, ◌+◌, ◌-◌, ◌*◌, ◌<◌, ◌≤◌, ◌++◌, [], ◌∷◌, length, take, slice_get, Option, Some, IsTrue, ◌↔◌, IfOk, IfErr, MatchOption, ◌^◌, List, flat_map, None};
 
 use crate::check_fault::{Cause, CheckFault};
+use crate::columns::CODE_COLUMNS;
 use crate::digits::number_of_digits;
 use crate::epoch_line_check::{EpochStamp, read_epoch_line};
 use crate::header_check::line_end;
@@ -61,14 +62,14 @@ fn satellite_named(line: &[u8]) -> Option<u8>
 }
 
 /// The satellite of a line that has the form of a satellite line.
-pub(crate) fn satellite_of_form(line: &[u8], width: usize) -> Option<u8>
-    requires { width ≤ 16 }
+pub(crate) fn satellite_of_form(line: &[u8], code_count: usize) -> Option<u8>
+    requires { code_count ≤ 16 }
     ensures { MatchOption result
-        ((s : ℕ) → ¬ (IsSatelliteForm width line.now s))
-        (λ s. IsSatelliteForm width line.now s) }
+        ((s : ℕ) → ¬ (IsSatelliteForm code_count line.now s))
+        (λ s. IsSatelliteForm code_count line.now s) }
 {
     let satellite = satellite_named(line)?;
-    if line.len() > 4 + 48 * width || line[line.len() - 2] == b' ' {
+    if line.len() > 4 + CODE_COLUMNS * code_count || line[line.len() - 2] == b' ' {
         return None;
     }
     Some(satellite)
@@ -83,22 +84,22 @@ fn is_next_satellite(last: Option<u8>, satellite: u8) -> bool
     }
 }
 
-// The satellite of a satellite line that follows the line of the satellite `last`, in a file of `width`
-// codes; else the cause of its fault.
-fn check_satellite_line(line: &[u8], width: usize, last: Option<u8>) -> Result<u8, Cause>
-    requires width { width ≤ 16 }
+// The satellite of a satellite line that follows the line of the satellite `last`, in a file of
+// `code_count` codes; else the cause of its fault.
+fn check_satellite_line(line: &[u8], code_count: usize, last: Option<u8>) -> Result<u8, Cause>
+    requires code_count { code_count ≤ 16 }
     requires line { IsLine line.now }
-    ensures row { IfOk result (λ s. IsRowLine width line.now s) }
+    ensures row { IfOk result (λ s. IsRowLine code_count line.now s) }
     ensures next { IfOk result (IsNextSatellite last) }
-    ensures fault { IfErr result (IsSatelliteFault width last line.now) }
+    ensures fault { IfErr result (IsSatelliteFault code_count last line.now) }
 {
-    let Some(satellite) = satellite_of_form(line, width) else {
+    let Some(satellite) = satellite_of_form(line, code_count) else {
         return Err(Cause::Columns);
     };
     if !is_next_satellite(last, satellite) {
         return Err(Cause::Order);
     }
-    if !is_row_line(line, width) {
+    if !is_row_line(line, code_count) {
         return Err(Cause::Value);
     }
     Ok(satellite)
@@ -126,15 +127,15 @@ pub(crate) fn next_line(text: &[u8]) -> Option<(&[u8], &[u8])>
 fn check_satellites<'a>(
     text: &'a [u8],
     lines: usize,
-    width: usize,
+    code_count: usize,
     count: usize,
 ) -> Result<&'a [u8], CheckFault>
-    requires width { width ≤ 16 }
+    requires code_count { code_count ≤ 16 }
     requires count { count ≤ 32 }
     requires lines { lines + length text.now + 1 < 2 ^ 64 }
-    ensures rows { IfOk result (λ rest. ReadsRows width count text.now rest.now) }
+    ensures rows { IfOk result (λ rest. ReadsRows code_count count text.now rest.now) }
     ensures len { IfOk result (λ rest. length rest.now + count ≤ length text.now) }
-    ensures fault { IfErr result (IsFaultOfRows width count lines text.now) }
+    ensures fault { IfErr result (IsFaultOfRows code_count count lines text.now) }
 {
     let mut rest = text;
     let mut last = None;
@@ -146,7 +147,7 @@ fn check_satellites<'a>(
                 cause: Cause::Truncated,
             });
         };
-        match check_satellite_line(satellite_line, width, last) {
+        match check_satellite_line(satellite_line, code_count, last) {
             Ok(satellite) => last = Some(satellite),
             Err(cause) => return Err(CheckFault { line, cause }),
         }
@@ -160,17 +161,17 @@ fn check_satellites<'a>(
 fn check_record<'a>(
     text: &'a [u8],
     lines: usize,
-    width: usize,
+    code_count: usize,
     first: GpsMs,
     last: Option<GpsMs>,
 ) -> Result<(EpochStamp, &'a [u8]), CheckFault>
-    requires width { width ≤ 16 }
+    requires code_count { code_count ≤ 16 }
     requires some { 0 < length text.now }
     requires lines { lines + length text.now + 1 < 2 ^ 64 }
-    ensures record { IfOk result (λ r. ReadsRecord width first last r.0.time r.0.count text.now r.1.now) }
+    ensures record { IfOk result (λ r. ReadsRecord code_count first last r.0.time r.0.count text.now r.1.now) }
     ensures count { IfOk result (λ r. r.0.count ≤ 32) }
     ensures len { IfOk result (λ r. length r.1.now + r.0.count < length text.now) }
-    ensures fault { IfErr result (IsFaultOfRecord width first last lines text.now) }
+    ensures fault { IfErr result (IsFaultOfRecord code_count first last lines text.now) }
 {
     let line = lines + 1;
     let Some((epoch_line, after)) = next_line(text) else {
@@ -183,21 +184,21 @@ fn check_record<'a>(
         Ok(stamp) => stamp,
         Err(cause) => return Err(CheckFault { line, cause }),
     };
-    let rest = check_satellites(after, line, width, stamp.count)?;
+    let rest = check_satellites(after, line, code_count, stamp.count)?;
     Ok((stamp, rest))
 }
 
-/// Reads the records of a file of `width` codes and this first time, after its first `lines` lines.
+/// Reads the records of a file of `code_count` codes and this first time, after its first `lines` lines.
 pub(crate) fn check_records(
     text: &[u8],
     lines: usize,
-    width: usize,
+    code_count: usize,
     first: GpsMs,
 ) -> Result<RecordCounts, CheckFault>
-    requires width { width ≤ 16 }
+    requires code_count { code_count ≤ 16 }
     requires lines { lines + length text.now + 1 < 2 ^ 64 }
-    ensures records { IfOk result (λ c. ReadsRecords width first c.epochs c.satellites text.now) }
-    ensures fault { IfErr result (IsFaultOfRecords width first lines text.now) }
+    ensures records { IfOk result (λ c. ReadsRecords code_count first c.epochs c.satellites text.now) }
+    ensures fault { IfErr result (IsFaultOfRecords code_count first lines text.now) }
 {
     let mut rest = text;
     let mut line = lines;
@@ -207,7 +208,7 @@ pub(crate) fn check_records(
         satellites: 0,
     };
     while rest.len() > 0 {
-        let (stamp, after) = match check_record(rest, line, width, first, last) {
+        let (stamp, after) = match check_record(rest, line, code_count, first, last) {
             Ok(read) => read,
             Err(fault) => return Err(fault),
         };

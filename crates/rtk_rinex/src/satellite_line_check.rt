@@ -10,14 +10,11 @@ ghost use Rattle.rtk_rinex.specs.Steps.CheckValues.{IsCell, AreCells};
 ghost use Rattle.rtk_rinex.specs.declared.epoch_table.Observed.{Observed};
 ghost use Rattle.rtk_rinex.specs.declared.epoch_table.SatelliteRow.{SatelliteRow};
 
-use crate::columns::add;
+use crate::columns::{CODE_COLUMNS, append};
 use crate::digits::columns_at;
 use crate::epoch_table::Observed;
 use crate::value_check::shown_observed;
 use arrayvec::ArrayVec;
-
-/// The columns of a code: the pseudorange, the carrier phase and the signal strength, 16 each.
-pub(crate) const CODE_COLUMNS: usize = 48;
 
 // What a code shows without columns.
 const NOTHING: Observed = Observed {
@@ -36,8 +33,8 @@ fn padded(columns: &[u8]) -> ArrayVec<u8, CODE_COLUMNS>
 {
     let blanks = [b' '; CODE_COLUMNS];
     let mut whole = ArrayVec::new();
-    add(&mut whole, columns);
-    add(&mut whole, &blanks[..CODE_COLUMNS - columns.len()]);
+    append(&mut whole, columns);
+    append(&mut whole, &blanks[..CODE_COLUMNS - columns.len()]);
     whole
 }
 
@@ -66,13 +63,13 @@ fn is_cell(columns: &[u8]) -> bool
     shown_cell(columns).is_some()
 }
 
-// Do these columns show `width` codes, one after another? Blanks at the end may be missing.
-fn are_cells(columns: &[u8], width: usize) -> bool
-    requires width { width ≤ 16 }
-    requires few { length columns.now ≤ 48 * width }
-    ensures { IsTrue result ↔ AreCells width columns.now }
+// Do these columns show `code_count` codes, one after another? Blanks at the end may be missing.
+fn are_cells(columns: &[u8], code_count: usize) -> bool
+    requires code_count { code_count ≤ 16 }
+    requires few { length columns.now ≤ 48 * code_count }
+    ensures { IsTrue result ↔ AreCells code_count columns.now }
 {
-    for k in 0..width {
+    for k in 0..code_count {
         if !is_cell(columns_at(columns, CODE_COLUMNS * k, CODE_COLUMNS)) {
             return false;
         }
@@ -80,17 +77,17 @@ fn are_cells(columns: &[u8], width: usize) -> bool
     true
 }
 
-/// Is this line, which has the form of a satellite line, the line of a row of a file with `width`
+/// Is this line, which has the form of a satellite line, the line of a row of a file with `code_count`
 /// codes?
-pub(crate) fn is_row_line(line: &[u8], width: usize) -> bool
-    requires width { width ≤ 16 }
+pub(crate) fn is_row_line(line: &[u8], code_count: usize) -> bool
+    requires code_count { code_count ≤ 16 }
     requires line { IsLine line.now }
-    requires form { (s : ℕ) × IsSatelliteForm width line.now s }
-    ensures { IsTrue result ↔ ((r : SatelliteRow) × IsTableRow width r × (line.now ≡ satellite_line r)) }
+    requires form { (s : ℕ) × IsSatelliteForm code_count line.now s }
+    ensures { IsTrue result ↔ ((r : SatelliteRow) × IsTableRow code_count r × (line.now ≡ satellite_line r)) }
 {
     // A line without columns after the satellite shows nothing; any other ends in no blank.
     if line.len() <= 4 {
         return false;
     }
-    are_cells(&line[3..line.len() - 1], width)
+    are_cells(&line[3..line.len() - 1], code_count)
 }

@@ -8,23 +8,24 @@ ghost use Rattle.rtk_rinex.specs.Table.{IsObserved, IsTableRow};
 ghost use Rattle.rtk_rinex.specs.Steps.CheckValues.{AreCells};
 ghost use Rattle.rtk_rinex.specs.declared.epoch_table.SatelliteRow.{SatelliteRow};
 
+use crate::columns::CODE_COLUMNS;
 use crate::digits::columns_at;
 use crate::epoch_table::{Observed, SatelliteRow};
 use crate::records_check::satellite_of_form;
-use crate::satellite_line_check::{CODE_COLUMNS, shown_cell};
+use crate::satellite_line_check::shown_cell;
 use arrayvec::ArrayVec;
 
-// Reads what `width` codes show in their columns, one after another. Blanks at the end may be missing.
-fn read_cells(columns: &[u8], width: usize, observed: &mut ArrayVec<Observed, 16>)
-    requires width { width ≤ 16 }
-    requires few { length columns.now ≤ 48 * width }
-    requires cells { ∥ AreCells width columns.now ∥₁ }
+// Reads what `code_count` codes show in their columns, one after another. Blanks at the end may be missing.
+fn read_cells(columns: &[u8], code_count: usize, observed: &mut ArrayVec<Observed, 16>)
+    requires code_count { code_count ≤ 16 }
+    requires few { length columns.now ≤ 48 * code_count }
+    requires cells { ∥ AreCells code_count columns.now ∥₁ }
     ensures observed { All IsObserved observed.new.items }
-    ensures width { length observed.new.items ≡ width }
-    ensures text { left (48 * width) columns.now ≡ flat_map observations observed.new.items }
+    ensures code_count { length observed.new.items ≡ code_count }
+    ensures text { left (48 * code_count) columns.now ≡ flat_map observations observed.new.items }
 {
     observed.clear();
-    for k in 0..width {
+    for k in 0..code_count {
         let Some(shown) = shown_cell(columns_at(columns, CODE_COLUMNS * k, CODE_COLUMNS)) else {
             unreachable!();
         };
@@ -32,17 +33,17 @@ fn read_cells(columns: &[u8], width: usize, observed: &mut ArrayVec<Observed, 16
     }
 }
 
-/// Reads the row whose line this is, in a file of `width` codes.
-pub(crate) fn read_row(line: &[u8], width: usize, row: &mut SatelliteRow)
-    requires width { width ≤ 16 }
+/// Reads the row whose line this is, in a file of `code_count` codes.
+pub(crate) fn read_row(line: &[u8], code_count: usize, row: &mut SatelliteRow)
+    requires code_count { code_count ≤ 16 }
     requires line { IsLine line.now }
-    requires some { ∥ ((r : SatelliteRow) × IsTableRow width r × (line.now ≡ satellite_line r)) ∥₁ }
-    ensures row { IsTableRow width row.new }
+    requires some { ∥ ((r : SatelliteRow) × IsTableRow code_count r × (line.now ≡ satellite_line r)) ∥₁ }
+    ensures row { IsTableRow code_count row.new }
     ensures text { line.now ≡ satellite_line row.new }
 {
-    let Some(satellite) = satellite_of_form(line, width) else {
+    let Some(satellite) = satellite_of_form(line, code_count) else {
         unreachable!();
     };
     row.satellite = satellite;
-    read_cells(&line[3..line.len() - 1], width, &mut row.observed);
+    read_cells(&line[3..line.len() - 1], code_count, &mut row.observed);
 }

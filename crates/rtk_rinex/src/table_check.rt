@@ -101,7 +101,7 @@ impl<'a> Table<'a> {
     /// Its records, from the first one.
     pub fn records(&self) -> Records<'a>
         ensures records { (t : WellFormedTable) → IsWellFormedTable t → self.now.text ≡ table_text t
-            → (result.width ≡ length t.head.listed) × AreLeft result t.epochs }
+            → (result.code_count ≡ length t.head.listed) × AreLeft result t.epochs }
         ensures good { IsRecordsView result }
     {
         let Ok(header) = check_header(self.text) else {
@@ -121,14 +121,14 @@ pub fn check<'a>(bytes: &'a [u8]) -> Result<Table<'a>, CheckFault>
 {
     let header = check_header(bytes)?;
     let (_, records) = bytes.split_at(header.used);
-    let width = header.head.codes().len();
-    let counts = check_records(records, header.lines, width, header.first)?;
+    let code_count = header.head.codes().len();
+    let counts = check_records(records, header.lines, code_count, header.first)?;
     Ok(Table::of_text(bytes, counts))
 }
 
 /// The text of a table; memory is taken once.
 pub fn text(alloc: Global, table: &Table<'_>) -> Result<Vec<u8>, AllocError>
-    // It gives up only if memory is refused: rows "text .." of tests/system/calls/src/rinex.rt.in.
+    // Fails only if memory is refused: tests/system/calls, rows `text ..`.
     ensures text { IfOk result (λ t. t.items ≡ table.now.text) }
     ensures table { IsTableView table.now }
 {

@@ -21,7 +21,7 @@ pub const NOT_VALID: u8 = 3;
 pub fn fail<R: Eprint>(rt: &R, fault: ToolFault) -> u8
     ensures { result ≡ FAILED }
 {
-    let _told = eprintln!(rt; "rtcm2rinex: {fault}");
+    let _printed = eprintln!(rt; "rtcm2rinex: {fault}");
     FAILED
 }
 
@@ -29,7 +29,7 @@ pub fn fail<R: Eprint>(rt: &R, fault: ToolFault) -> u8
 pub fn fail_to_open<R: Eprint>(rt: &R, name: &str) -> u8
     ensures { result ≡ FAILED }
 {
-    let _told = eprintln!(rt; "rtcm2rinex: cannot open {name}");
+    let _printed = eprintln!(rt; "rtcm2rinex: cannot open {name}");
     FAILED
 }
 
@@ -37,6 +37,6 @@ pub fn fail_to_open<R: Eprint>(rt: &R, name: &str) -> u8
 pub fn fail_to_end<R: Eprint>(rt: &R) -> u8
     ensures { result ≡ FAILED }
 {
-    let _told = eprintln!(rt; "rtcm2rinex: input does not end");
+    let _printed = eprintln!(rt; "rtcm2rinex: input does not end");
     FAILED
 }

@@ -233,6 +233,7 @@ impl<W: Write + Drop, K: Before> Writes<BufWriter<W>, K> {
         ensures all { OnOk result.1 (Keeps (writer_contents W.contents self.inner) (W.contents result.0)) }
         ensures part { (unwritten : List ℕ) × Keeps (writer_contents W.contents self.inner) (append_known (W.contents result.0) unwritten) }
     {
+        // The pair is taken apart for its clauses.
         let (writer, written) = hand_on(self.inner);
         (writer, written)
     }

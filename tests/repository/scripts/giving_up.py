@@ -25,8 +25,9 @@ ANSWER = rf"(?:return )?(?:{FAULT}|fail\(rt, {FAULT}\)|Err\((?:{FAULT}|fail\(rt,
 
 # What requests name as their sizes.
 SIZES = {
-    "::with_capacity(": {"alloc, len + 6", "alloc, 2 * LONGEST_FRAME", "alloc, bytes.len()", "alloc, LONGEST_HEADER", "alloc, text.len()",
-        "alloc, readers.len()", "rt.alloc(), READ_AT_ONCE, capture", "alloc, READ_AT_ONCE, joined", "alloc, room, Resumed::new(to)"},
+    "::with_capacity(": {"alloc, len + AROUND_PAYLOAD", "alloc, 2 * LONGEST_FRAME", "alloc, bytes.len()", "alloc, LONGEST_HEADER",
+        "alloc, text.len()", "alloc, readers.len()", "rt.alloc(), READ_AT_ONCE, capture", "alloc, READ_AT_ONCE, joined",
+        "alloc, room, Resumed::new(to)"},
     ".reserve(": {"9", "count", "room.msm", "room.legacy"},
     ".reserve_exact(": {"count", "len - text.len()", "room"},
     ".resize(": {"satellites", "count", "len, b' '", "room, b' '"},

@@ -23,8 +23,8 @@ header_before s site epoch false = header_text s.head site epoch
 -- what an epoch adds when it closes: its record, and before it the header if that is not written
 -- yet; nothing if it has no record
 abbrev pub closing_text : SetupView → PositionView → ℕ → Bool → List ℕ → List ℕ
-closing_text s site epoch header_out [] = []
-closing_text s site epoch header_out (x ∷ text) = header_before s site epoch header_out ++ x ∷ text
+closing_text s site epoch is_header_out [] = []
+closing_text s site epoch is_header_out (x ∷ text) = header_before s site epoch is_header_out ++ x ∷ text
 
 -- what the closing of an epoch adds, given the epochs below it
 abbrev pub closing : SetupView → PositionView → EpochSetView → List EpochSetView → List ℕ

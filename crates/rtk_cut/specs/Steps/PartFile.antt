@@ -28,7 +28,7 @@ IsHeadingOf h t = (h.head ≡ t.head) × (position_view h.position ≡ t.site) �
 pub record IsFresh (c : PartWriter) (h : Heading) (p : Part) : Type 0 where
   pub heading : c.heading ≡ h
   pub part : c.part ≡ p
-  pub is_begun : c.is_begun ≡ false
+  pub is_header_out : c.is_header_out ≡ false
   pub slips : (step : ℕ) → StandsForSlips c.slips.marks step []
 
 -- this epoch comes next in the file: these came before it, newest first
@@ -43,18 +43,18 @@ abbrev pub TakesEpoch : PartWriter → PartWriter → EpochTableView → List �
 TakesEpoch c c' e text before after =
     (t : WellFormedTable) (earlier left : List EpochTableView) → ComesNext c t earlier e text
     → StandsForSlips c'.slips.marks (step_ms c.part.every) (e ∷ earlier)
-    × WritesUpTo before after (still_to_write c.part t c.is_begun earlier (e ∷ left)) (still_to_write c.part t c'.is_begun (e ∷ earlier) left)
+    × WritesUpTo before after (still_to_write c.part t c.is_header_out earlier (e ∷ left)) (still_to_write c.part t c'.is_header_out (e ∷ earlier) left)
 
 -- it broke off: of what was to be written a first part is out
 abbrev pub TakesEpochInPart : PartWriter → EpochTableView → List ℕ → Option (List ℕ) → Option (List ℕ) → Type 0
 TakesEpochInPart c e text before after =
-    (t : WellFormedTable) (earlier left : List EpochTableView) → ComesNext c t earlier e text → TakesPart before after (still_to_write c.part t c.is_begun earlier (e ∷ left))
+    (t : WellFormedTable) (earlier left : List EpochTableView) → ComesNext c t earlier e text → TakesPart before after (still_to_write c.part t c.is_header_out earlier (e ∷ left))
 
 -- the end of the file was taken: all is written
 abbrev pub TakesEnd : PartWriter → Option (List ℕ) → Option (List ℕ) → Type 0
 TakesEnd c before after =
-    (t : WellFormedTable) (earlier : List EpochTableView) → IsHeadingOf c.heading t → after ≡ with_more before (still_to_write c.part t c.is_begun earlier [])
+    (t : WellFormedTable) (earlier : List EpochTableView) → IsHeadingOf c.heading t → after ≡ with_more before (still_to_write c.part t c.is_header_out earlier [])
 
 abbrev pub TakesEndInPart : PartWriter → Option (List ℕ) → Option (List ℕ) → Type 0
 TakesEndInPart c before after =
-    (t : WellFormedTable) (earlier : List EpochTableView) → IsHeadingOf c.heading t → TakesPart before after (still_to_write c.part t c.is_begun earlier [])
+    (t : WellFormedTable) (earlier : List EpochTableView) → IsHeadingOf c.heading t → TakesPart before after (still_to_write c.part t c.is_header_out earlier [])

@@ -16,8 +16,8 @@ text_or_new true text e = record_text e
 
 -- a text after the header with this first time, unless that is out
 abbrev pub after_header : Bool → Heading → ℕ → List ℕ → List ℕ
-after_header is_begun h first text = header_unless is_begun h.head (position_view h.position) first ++ text
+after_header is_header_out h first text = header_unless is_header_out h.head (position_view h.position) first ++ text
 
 -- the text of an epoch after the header, unless that is out
 abbrev pub record_out : Bool → Heading → EpochTableView → Bool → List ℕ → List ℕ
-record_out is_begun h e is_changed text = after_header is_begun h e.time (text_or_new is_changed text e)
+record_out is_header_out h e is_changed text = after_header is_header_out h e.time (text_or_new is_changed text e)

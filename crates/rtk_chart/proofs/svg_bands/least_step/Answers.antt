@@ -4,11 +4,11 @@ use Rattle.rtk_chart.proofs.svg_bands.least_step.Goals as goal
 
 pub overflow_mul-result : goal.overflow_mul-result
 overflow_mul-result c =
-    let h = (step-bound c.args.width c.args.bin_ms c.requires.some c.requires.bound).0 in
+    let h = (step-bound c.args.bin_width c.args.bin_ms c.requires.some c.requires.bound).0 in
     omega (arith, h)
 
 pub returns-clause-positive : goal.returns-clause-positive
-returns-clause-positive c = (step-bound c.args.width c.args.bin_ms c.requires.some c.requires.bound).1
+returns-clause-positive c = (step-bound c.args.bin_width c.args.bin_ms c.requires.some c.requires.bound).1
 
 pub returns-clause-few : goal.returns-clause-few
-returns-clause-few c = (step-bound c.args.width c.args.bin_ms c.requires.some c.requires.bound).0
+returns-clause-few c = (step-bound c.args.bin_width c.args.bin_ms c.requires.some c.requires.bound).0

@@ -7,4 +7,4 @@ use Rattle.rtk_chart.proofs.svg_bands.put_ticks.Given as goal
 
 abbrev pub invariant-loop-bin : goal.invariant-loop-bin
 invariant-loop-bin l =
-    l.text.items ≡ l.fn.text.items ++ flat_map (λ c. tick_text l.top l.step (90 + c * l.width) (tick_at l.scale l.step c)) (range_with_len 0 l.bin)
+    l.text.items ≡ l.fn.text.items ++ flat_map (λ c. tick_text l.top l.step (90 + c * l.bin_width) (tick_at l.scale l.step c)) (range_with_len 0 l.bin)

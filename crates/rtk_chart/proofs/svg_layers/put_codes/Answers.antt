@@ -6,11 +6,11 @@ use Rattle.rtk_chart.proofs.svg_layers.put_codes.Goals as goal
 
 pub loop-at-preserved : goal.loop-at-preserved
 loop-at-preserved c =
-    codes-more c.args.width c.args.bins.now c.args.place c.loop-at.at c.args.codes.now _ _ c.loop-at.text.items c.put_code.new.text.items
+    codes-more c.args.bin_width c.args.bins.now c.args.place c.loop-at.at c.args.codes.now _ _ c.loop-at.text.items c.put_code.new.text.items
     c.loop-at-test.true c.loop-at.invariant c.in_ok-put_code.ensures
 
 pub returns : goal.returns
 returns c =
     let end : length c.args.codes.now ≤ c.loop-at.at = omega (arith, c.loop-at-test.false) in
-    sym (c.loop-at.invariant ∙ ap (λ cs. c.loop-at.text.items ++ codes_layers c.args.width c.args.bins.now c.args.place c.loop-at.at cs) (drop_all c.loop-at.at c.args.codes.now end)
+    sym (c.loop-at.invariant ∙ ap (λ cs. c.loop-at.text.items ++ codes_layers c.args.bin_width c.args.bins.now c.args.place c.loop-at.at cs) (drop_all c.loop-at.at c.args.codes.now end)
     ∙ append-nil c.loop-at.text.items)

@@ -7,7 +7,7 @@ use Rattle.rtk_chart.proofs.svg_layers.put_levels.Goals as goal
 
 pub loop-level-preserved : goal.loop-level-preserved
 loop-level-preserved c =
-    let layers : ℕ → List ℕ = level_layer c.args.width c.args.bins.now c.args.place c.args.top in
+    let layers : ℕ → List ℕ = level_layer c.args.bin_width c.args.bins.now c.args.place c.args.top in
     let from : 1 ≤ c.loop-level.level = c.loop-level.auto.level in
     let at : c.loop-level.level ≡ 1 + (c.loop-level.level - 1) = omega arith in
     let next : (c.loop-level.level - 1) + 1 ≡ (c.loop-level.level + 1) - 1 = omega arith in
@@ -19,4 +19,4 @@ pub returns : goal.returns
 unfolding level_layers
 returns c =
     let end : c.loop-level.level - 1 ≡ 9 = omega (arith, c.loop-level-test.false, c.loop-level.auto.level-end) in
-    c.loop-level.invariant ∙ ap (λ (k : ℕ). c.args.text.now.items ++ flat_map (level_layer c.args.width c.args.bins.now c.args.place c.args.top) (range_with_len 1 k)) end
+    c.loop-level.invariant ∙ ap (λ (k : ℕ). c.args.text.now.items ++ flat_map (level_layer c.args.bin_width c.args.bins.now c.args.place c.args.top) (range_with_len 1 k)) end

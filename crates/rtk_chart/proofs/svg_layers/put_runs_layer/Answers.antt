@@ -12,4 +12,4 @@ returns c =
     let l1 : List ℕ = c.put_path_start.new.text.items in
     let l2 : List ℕ = c.put_runs.new.text.items in
     let l3 : List ℕ = c.extend_from_slice.new.self.items in
-    and-then l0 l2 l3 _ (codes "'/>\n") (and-then l0 l1 l2 (path_start c.args.class.now c.args.top) (runs_text c.args.width (layer_flags c.args.bins.now c.args.place c.args.layer)) (c.in_ok-put_path_start.ensures) (c.in_ok-put_runs.ensures ∙ ap (λ bs. l1 ++ runs_text c.args.width bs) (c.as_slice.ensures.value ∙ c.in_ok-flags.ensures))) (c.in_ok-extend_from_slice.ensures.items)
+    and-then l0 l2 l3 _ (codes "'/>\n") (and-then l0 l1 l2 (path_start c.args.class.now c.args.top) (runs_text c.args.bin_width (layer_flags c.args.bins.now c.args.place c.args.layer)) (c.in_ok-put_path_start.ensures) (c.in_ok-put_runs.ensures ∙ ap (λ bs. l1 ++ runs_text c.args.bin_width bs) (c.as_slice.ensures.value ∙ c.in_ok-flags.ensures))) (c.in_ok-extend_from_slice.ensures.items)

@@ -12,4 +12,4 @@ returns c =
     let l1 : List ℕ = c.put_path_start.new.text.items in
     let l2 : List ℕ = c.put_strokes.new.text.items in
     let l3 : List ℕ = c.extend_from_slice.new.self.items in
-    and-then l0 l2 l3 _ (codes "'/>\n") (and-then l0 l1 l2 (path_start c.args.class.now c.args.top) (strokes_text c.args.width c.args.flags.now) (c.in_ok-put_path_start.ensures) (c.in_ok-put_strokes.ensures)) (c.in_ok-extend_from_slice.ensures.items)
+    and-then l0 l2 l3 _ (codes "'/>\n") (and-then l0 l1 l2 (path_start c.args.class.now c.args.top) (strokes_text c.args.bin_width c.args.flags.now) (c.in_ok-put_path_start.ensures) (c.in_ok-put_strokes.ensures)) (c.in_ok-extend_from_slice.ensures.items)

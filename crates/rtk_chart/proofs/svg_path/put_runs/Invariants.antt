@@ -3,4 +3,4 @@ use Rattle.rtk_chart.specs.SvgPath.{runs_from}
 use Rattle.rtk_chart.proofs.svg_path.put_runs.Given as goal
 
 abbrev pub invariant-loop-bin : goal.invariant-loop-bin
-invariant-loop-bin l = l.fn.text.items ++ runs_from l.width 0 false l.flags ≡ l.text.items ++ runs_from l.width (l.bin * l.width) l.was (drop l.bin l.flags)
+invariant-loop-bin l = l.fn.text.items ++ runs_from l.bin_width 0 false l.flags ≡ l.text.items ++ runs_from l.bin_width (l.bin * l.bin_width) l.was (drop l.bin l.flags)

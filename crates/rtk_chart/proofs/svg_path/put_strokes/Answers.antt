@@ -6,12 +6,12 @@ use Rattle.rtk_chart.proofs.svg_path.put_strokes.Goals as goal
 
 pub loop-bin-preserved : goal.loop-bin-preserved
 loop-bin-preserved c =
-    strokes-more c.args.width c.loop-bin.bin c.args.flags.now _ _ c.loop-bin.text.items c.put_stroke_part.new.text.items
+    strokes-more c.args.bin_width c.loop-bin.bin c.args.flags.now _ _ c.loop-bin.text.items c.put_stroke_part.new.text.items
     c.loop-bin-test.true c.loop-bin.invariant c.in_ok-put_stroke_part.ensures
 
 pub returns : goal.returns
 unfolding strokes_text
 returns c =
     let end : length c.args.flags.now ≤ c.loop-bin.bin = omega (arith, c.loop-bin-test.false) in
-    sym (c.loop-bin.invariant ∙ ap (λ bs. c.loop-bin.text.items ++ strokes_from c.args.width (c.loop-bin.bin * c.args.width) bs) (drop_all c.loop-bin.bin c.args.flags.now end)
+    sym (c.loop-bin.invariant ∙ ap (λ bs. c.loop-bin.text.items ++ strokes_from c.args.bin_width (c.loop-bin.bin * c.args.bin_width) bs) (drop_all c.loop-bin.bin c.args.flags.now end)
     ∙ append-nil c.loop-bin.text.items)

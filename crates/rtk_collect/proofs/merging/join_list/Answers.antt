@@ -30,6 +30,6 @@ returns-then-is_empty-clause-conflicts c =
 
 pub returns-then-count-eq0-clause-items : goal.returns-then-count-eq0-clause-items
 returns-then-count-eq0-clause-items c =
-    let f = rw c.deref.ensures.value at c.compare-count.ensures.fresh in
+    let f = rw c.deref.ensures.value at c.count_new-count.ensures.fresh in
     let none : fresh c.args.cells.now c.args.list.now.items ≡ 0 = omega (arith, f, c.if-count-eq0.true) in
     sym (with_cells-none c.args.cells.now c.args.list.now.items c.requires.rises none)

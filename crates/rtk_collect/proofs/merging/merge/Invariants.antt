@@ -4,12 +4,12 @@ use Rattle.rtk_collect.specs.EpochSet.{fresh, with_cells, conflicts}
 use Rattle.rtk_collect.proofs.merging.merge.Given as goal
 
 -- to join the cells that are left of the message gives the whole result
-abbrev pub invariant-loop-cell : goal.invariant-loop-cell
-invariant-loop-cell l = record {
+abbrev pub invariant-loop-entry : goal.invariant-loop-entry
+invariant-loop-entry l = record {
   at : l.at ≤ length l.kept.items;
   rises : KeysRise l.kept.items;
-  room : length l.kept.items + fresh (drop l.cell-index l.cells) l.kept.items ≤ vec_capacity l.kept;
-  few : length l.found ≤ l.cell-index;
-  items : with_cells (drop l.cell-index l.cells) l.kept.items ≡ with_cells l.cells l.fn.kept.items;
-  conflicts : l.found ++ conflicts (drop l.cell-index l.cells) l.kept.items ≡ conflicts l.cells l.fn.kept.items;
+  room : length l.kept.items + fresh (drop l.entry-index l.cells) l.kept.items ≤ vec_capacity l.kept;
+  few : length l.found ≤ l.entry-index;
+  items : with_cells (drop l.entry-index l.cells) l.kept.items ≡ with_cells l.cells l.fn.kept.items;
+  conflicts : l.found ++ conflicts (drop l.entry-index l.cells) l.kept.items ≡ conflicts l.cells l.fn.kept.items;
 }

@@ -6,11 +6,11 @@ use Rattle.rtk_commands.proofs.charting.chart_by.Goals as goal
 pub returns : goal.returns
 returns g c =
     through CHECK_LIMIT g.K.Before.had g.K.Before.held
-    c.over-source.result.number c.chart_input-told.new.reader.number c.over-target.result.number c.chart_input-told.new.out.number
-    (g.R.Read.remaining c.over-source.result.inner) (g.R.Read.remaining c.chart_input-told.new.reader.inner)
-    (g.W.Write.contents c.over-target.result.inner) (g.W.Write.contents c.chart_input-told.new.out.inner) (g.W.Write.contents c.into_inner-writer.result)
-    c.chart_input-told.result c.chart_input-told.new.reader.ended
+    c.over-source.result.number c.chart_input-outcome.new.reader.number c.over-target.result.number c.chart_input-outcome.new.out.number
+    (g.R.Read.remaining c.over-source.result.inner) (g.R.Read.remaining c.chart_input-outcome.new.reader.inner)
+    (g.W.Write.contents c.over-target.result.inner) (g.W.Write.contents c.chart_input-outcome.new.out.inner) (g.W.Write.contents c.into_inner-writer.result)
+    c.chart_input-outcome.result c.chart_input-outcome.new.reader.ended
     (ChartsText c.args.width) (ChartsPartOf c.args.width)
     c.over-source.ensures.number c.requires.one (rw c.over-source.ensures.inner c.requires.had) (rw c.over-target.ensures.inner c.requires.held)
     (rw c.into_inner-writer.ensures)
-    c.chart_input-told.ensures.told c.chart_input-told.ensures.part c.chart_input-told.ensures.nothing c.chart_input-told.ensures.whole.to_the_end c.chart_input-told.ensures.whole.too_long
+    c.chart_input-outcome.ensures.told c.chart_input-outcome.ensures.part c.chart_input-outcome.ensures.nothing c.chart_input-outcome.ensures.whole.to_the_end c.chart_input-outcome.ensures.whole.too_long

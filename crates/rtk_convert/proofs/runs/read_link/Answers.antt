@@ -21,35 +21,35 @@ pub returns-in_default-clause-no_failed_read : goal.returns-in_default-clause-no
 returns-in_default-clause-no_failed_read g c = λ all. absurd (all _ refl)
 
 pub returns-then-count-eq0-clause-no_failed_read : goal.returns-then-count-eq0-clause-no_failed_read
-returns-then-count-eq0-clause-no_failed_read g c = λ _. no-failed g.R.Source.given g.R.Source.failures g.R.Source.calls c.args.readers.now c.read_one.new.sources c.args.link c.in-Ok.count c.read_one.new.buf c.in-Ok.ensures.read
+returns-then-count-eq0-clause-no_failed_read g c = λ _. no-failed g.R.Source.given g.R.Source.failures g.R.Source.calls c.args.sources.now c.read_one.new.sources c.args.link c.in-Ok.count c.read_one.new.buf c.in-Ok.ensures.read
 
 pub returns-clause-no_failed_read : goal.returns-clause-no_failed_read
-returns-clause-no_failed_read g c = λ _. no-failed g.R.Source.given g.R.Source.failures g.R.Source.calls c.args.readers.now c.read_one.new.sources c.args.link c.in-Ok.count c.read_one.new.buf c.in-Ok.ensures.read
+returns-clause-no_failed_read g c = λ _. no-failed g.R.Source.given g.R.Source.failures g.R.Source.calls c.args.sources.now c.read_one.new.sources c.args.link c.in-Ok.count c.read_one.new.buf c.in-Ok.ensures.read
 
 pub returns-in_default-clause-calls : goal.returns-in_default-clause-calls
-returns-in_default-clause-calls g c = calls-one g.R.Source.given g.R.Source.failures g.R.Source.calls c.args.readers.now c.read_one.new.sources c.args.link c.read_one.result c.read_one.new.buf c.requires.link c.read_one.ensures.read
+returns-in_default-clause-calls g c = calls-one g.R.Source.given g.R.Source.failures g.R.Source.calls c.args.sources.now c.read_one.new.sources c.args.link c.read_one.result c.read_one.new.buf c.requires.link c.read_one.ensures.read
 
 pub returns-then-count-eq0-clause-calls : goal.returns-then-count-eq0-clause-calls
-returns-then-count-eq0-clause-calls g c = calls-one g.R.Source.given g.R.Source.failures g.R.Source.calls c.args.readers.now c.read_one.new.sources c.args.link c.read_one.result c.read_one.new.buf c.requires.link c.read_one.ensures.read
+returns-then-count-eq0-clause-calls g c = calls-one g.R.Source.given g.R.Source.failures g.R.Source.calls c.args.sources.now c.read_one.new.sources c.args.link c.read_one.result c.read_one.new.buf c.requires.link c.read_one.ensures.read
 
 pub returns-clause-calls : goal.returns-clause-calls
-returns-clause-calls g c = calls-one g.R.Source.given g.R.Source.failures g.R.Source.calls c.args.readers.now c.read_one.new.sources c.args.link c.read_one.result c.read_one.new.buf c.requires.link c.read_one.ensures.read
+returns-clause-calls g c = calls-one g.R.Source.given g.R.Source.failures g.R.Source.calls c.args.sources.now c.read_one.new.sources c.args.link c.read_one.result c.read_one.new.buf c.requires.link c.read_one.ensures.read
 
 pub returns-in_default-clause-reads : goal.returns-in_default-clause-reads
 returns-in_default-clause-reads g c = record { ok = tt; err = λ frame. absurd frame }
 
 pub returns-then-count-eq0-clause-reads : goal.returns-then-count-eq0-clause-reads
 returns-then-count-eq0-clause-reads g c = record {
-  ok = on_ok-map c.close.result (λ closes h r n. reads-end g.R.Source.given g.R.Source.is_at_end g.R.Source.failures g.R.Source.calls c.args.converter.now.conversion.setup h c.args.link c.in-Ok.count c.args.readers.now c.read_one.new.sources c.read_one.new.buf c.close.new.self
+  ok = on_ok-map c.close.result (λ closes h r n. reads-end g.R.Source.given g.R.Source.is_at_end g.R.Source.failures g.R.Source.calls c.args.converter.now.conversion.setup h c.args.link c.in-Ok.count c.args.sources.now c.read_one.new.sources c.read_one.new.buf c.close.new.self
       (written (g.O.Sink.taken c.args.out.now) (g.L.Sink.taken c.args.log.now)) (written (g.O.Sink.taken c.close.new.out) (g.L.Sink.taken c.close.new.log)) c.if-count-eq0.true n c.in-Ok.ensures.read (λ none. c.in-Ok.ensures.at_end none (let room = c.requires.room in omega (arith, room)) (ap Ok c.if-count-eq0.true)) (closes h r)) c.close.ensures.ends.ok;
-  err = IfErr-weaker c.close.result _ _ (λ fault breaks frame h r. breaks-end g.R.Source.given g.R.Source.failures g.R.Source.calls c.args.converter.now.conversion.setup h c.args.link c.in-Ok.count c.args.readers.now c.read_one.new.sources c.read_one.new.buf
+  err = IfErr-weaker c.close.result _ _ (λ fault breaks frame h r. breaks-end g.R.Source.given g.R.Source.failures g.R.Source.calls c.args.converter.now.conversion.setup h c.args.link c.in-Ok.count c.args.sources.now c.read_one.new.sources c.read_one.new.buf
       (written (g.O.Sink.taken c.args.out.now) (g.L.Sink.taken c.args.log.now)) (written (g.O.Sink.taken c.close.new.out) (g.L.Sink.taken c.close.new.log)) c.if-count-eq0.true c.in-Ok.ensures.read (breaks frame h r)) c.close.ensures.ends.err;
 }
 
 pub returns-clause-reads : goal.returns-clause-reads
 returns-clause-reads g c = record {
-  ok = on_ok-map c.feed.result (λ feeds h r n. reads-piece g.R.Source.given g.R.Source.is_at_end g.R.Source.failures g.R.Source.calls c.args.converter.now.conversion.setup h c.args.link c.in-Ok.count c.args.readers.now c.read_one.new.sources c.read_one.new.buf c.feed.new.self
+  ok = on_ok-map c.feed.result (λ feeds h r n. reads-piece g.R.Source.given g.R.Source.is_at_end g.R.Source.failures g.R.Source.calls c.args.converter.now.conversion.setup h c.args.link c.in-Ok.count c.args.sources.now c.read_one.new.sources c.read_one.new.buf c.feed.new.self
       (written (g.O.Sink.taken c.args.out.now) (g.L.Sink.taken c.args.log.now)) (written (g.O.Sink.taken c.feed.new.out) (g.L.Sink.taken c.feed.new.log)) c.if-count-eq0.false c.in-Ok.ensures.bound (c.read_one.auto.buf ∙ c.requires.room) n c.in-Ok.ensures.read (feeds h r)) c.feed.ensures.feeds.ok;
-  err = IfErr-weaker c.feed.result _ _ (λ fault breaks frame h r. breaks-piece g.R.Source.given g.R.Source.failures g.R.Source.calls c.args.converter.now.conversion.setup h c.args.link c.in-Ok.count c.args.readers.now c.read_one.new.sources c.read_one.new.buf
+  err = IfErr-weaker c.feed.result _ _ (λ fault breaks frame h r. breaks-piece g.R.Source.given g.R.Source.failures g.R.Source.calls c.args.converter.now.conversion.setup h c.args.link c.in-Ok.count c.args.sources.now c.read_one.new.sources c.read_one.new.buf
       (written (g.O.Sink.taken c.args.out.now) (g.L.Sink.taken c.args.log.now)) (written (g.O.Sink.taken c.feed.new.out) (g.L.Sink.taken c.feed.new.log)) c.if-count-eq0.false c.in-Ok.ensures.bound (c.read_one.auto.buf ∙ c.requires.room) c.in-Ok.ensures.read (breaks frame h r)) c.feed.ensures.feeds.err;
 }

@@ -13,12 +13,12 @@ use Rattle.rtk_convert.proofs.RunLemmas.{runs-as, breaks-ending, links-few, read
 use Rattle.rtk_convert.proofs.runs.run.Goals as goal
 
 pub read_all-requires-clause-links : goal.read_all-requires-clause-links
-read_all-requires-clause-links g c = (links-few (length c.args.readers.now) _ (λ e. cc) c.in_ok-converter.ensures.link_count.1).1
+read_all-requires-clause-links g c = (links-few (length c.args.sources.now) _ (λ e. cc) c.in_ok-converter.ensures.link_count.1).1
 
 pub returns-in-Err-clause-link_count : goal.returns-in-Err-clause-link_count
 returns-in-Err-clause-link_count g c = (
   λ is_setup few. IfErr-at_err IsReadingFault is_setup c.in-Err.ensures.fault,
-  λ many. absurd (many (links-few (length c.args.readers.now) _ (λ e. cc) c.in_ok-converter.ensures.link_count.1)),
+  λ many. absurd (many (links-few (length c.args.sources.now) _ (λ e. cc) c.in_ok-converter.ensures.link_count.1)),
 )
 
 pub returns-in-Err-clause-fault : goal.returns-in-Err-clause-fault
@@ -26,18 +26,18 @@ returns-in-Err-clause-fault g c = reading-run c.in-Err.fault c.in-Err.ensures.fa
 
 pub returns-in-Err-clause-breaks_off : goal.returns-in-Err-clause-breaks_off
 returns-in-Err-clause-breaks_off g c = λ frame. inr (inl (
-    subst (λ (s : SetupView). BreaksOffReading g.R.Source.given g.R.Source.calls s c.args.readers.now c.read_all.new.readers (written (g.O.Sink.taken c.args.out.now) (g.L.Sink.taken c.args.log.now)) (written (g.O.Sink.taken c.read_all.new.out) (g.L.Sink.taken c.read_all.new.log)))
+    subst (λ (s : SetupView). BreaksOffReading g.R.Source.given g.R.Source.calls s c.args.sources.now c.read_all.new.sources (written (g.O.Sink.taken c.args.out.now) (g.L.Sink.taken c.args.log.now)) (written (g.O.Sink.taken c.read_all.new.out) (g.L.Sink.taken c.read_all.new.log)))
     c.in_ok-converter.ensures.ok.same_setup (c.in-Err.ensures.ends.err frame)))
 
 pub returns-in-Err-clause-read_failed : goal.returns-in-Err-clause-read_failed
 returns-in-Err-clause-read_failed g c = λ link is_read.
-    subst (λ (s : SetupView). FailsReading g.R.Source.given g.R.Source.failures g.R.Source.calls s link c.args.readers.now c.read_all.new.readers (written (g.O.Sink.taken c.args.out.now) (g.L.Sink.taken c.args.log.now)) (written (g.O.Sink.taken c.read_all.new.out) (g.L.Sink.taken c.read_all.new.log)))
+    subst (λ (s : SetupView). FailsReading g.R.Source.given g.R.Source.failures g.R.Source.calls s link c.args.sources.now c.read_all.new.sources (written (g.O.Sink.taken c.args.out.now) (g.L.Sink.taken c.args.log.now)) (written (g.O.Sink.taken c.read_all.new.out) (g.L.Sink.taken c.read_all.new.log)))
     c.in_ok-converter.ensures.ok.same_setup (c.in-Err.ensures.read_failed link (let same : c.in-Err.fault ≡ ReadFault link = cc in ap Err same))
 
 pub returns-in-Err-clause-endless : goal.returns-in-Err-clause-endless
 returns-in-Err-clause-endless g c = λ is_endless.
     let both = c.in-Err.ensures.ends.endless (let same : c.in-Err.fault ≡ Endless = cc in ap Err same) in (
-      subst (λ (s : SetupView). StaysOpen g.R.Source.given g.R.Source.is_at_end s c.args.max_reads c.args.readers.now c.read_all.new.readers (written (g.O.Sink.taken c.args.out.now) (g.L.Sink.taken c.args.log.now)) (written (g.O.Sink.taken c.read_all.new.out) (g.L.Sink.taken c.read_all.new.log)))
+      subst (λ (s : SetupView). StaysOpen g.R.Source.given g.R.Source.is_at_end s c.args.max_reads c.args.sources.now c.read_all.new.sources (written (g.O.Sink.taken c.args.out.now) (g.L.Sink.taken c.args.log.now)) (written (g.O.Sink.taken c.read_all.new.out) (g.L.Sink.taken c.read_all.new.log)))
           c.in_ok-converter.ensures.ok.same_setup both.0,
       both.1,
     )
@@ -45,7 +45,7 @@ returns-in-Err-clause-endless g c = λ is_endless.
 pub returns-clause-link_count : goal.returns-clause-link_count
 returns-clause-link_count g c = (
   λ is_setup few. IfErr-at_err _ is_setup (c.finish.ensures.ends.fault c.in_default.ensures.ends.ok.represents.going),
-  λ many. absurd (many (links-few (length c.args.readers.now) _ (λ e. cc) c.in_ok-converter.ensures.link_count.1)),
+  λ many. absurd (many (links-few (length c.args.sources.now) _ (λ e. cc) c.in_ok-converter.ensures.link_count.1)),
 )
 
 pub returns-clause-fault : goal.returns-clause-fault
@@ -56,13 +56,13 @@ returns-clause-kept g c =
     let before = written (g.O.Sink.taken c.args.out.now) (g.L.Sink.taken c.args.log.now) in
     let mid = written (g.O.Sink.taken c.read_all.new.out) (g.L.Sink.taken c.read_all.new.log) in
     let after = written (g.O.Sink.taken c.finish.new.out) (g.L.Sink.taken c.finish.new.log) in
-    let all : HasReadAll g.R.Source.given g.R.Source.calls g.R.Source.is_at_end c.args.setup c.args.readers.now c.read_all.new.readers c.read_all.new.converter before mid =
-    subst (λ (s : SetupView). HasReadAll g.R.Source.given g.R.Source.calls g.R.Source.is_at_end s c.args.readers.now c.read_all.new.readers c.read_all.new.converter before mid)
+    let all : HasReadAll g.R.Source.given g.R.Source.calls g.R.Source.is_at_end c.args.setup c.args.sources.now c.read_all.new.sources c.read_all.new.converter before mid =
+    subst (λ (s : SetupView). HasReadAll g.R.Source.given g.R.Source.calls g.R.Source.is_at_end s c.args.sources.now c.read_all.new.sources c.read_all.new.converter before mid)
     c.in_ok-converter.ensures.ok.same_setup c.in_default.ensures.ends.ok in
     IfOk-weaker c.finish.result _ _ (λ counts ends.
     let e = ends all.history all.represents in
-    run-keeps g.R.Source.given g.R.Source.calls g.R.Source.is_at_end c.args.setup c.args.readers.now c.read_all.new.readers counts before after
-    (runs-as g.R.Source.given g.R.Source.calls g.R.Source.is_at_end c.args.setup c.args.readers.now c.read_all.new.readers c.read_all.new.converter counts
+    run-keeps g.R.Source.given g.R.Source.calls g.R.Source.is_at_end c.args.setup c.args.sources.now c.read_all.new.sources counts before after
+    (runs-as g.R.Source.given g.R.Source.calls g.R.Source.is_at_end c.args.setup c.args.sources.now c.read_all.new.sources c.read_all.new.converter counts
     before mid after
     all e.0 (subst (λ (s : SetupView). FinishesConverterAs s all.history e.0 counts mid after) (c.read_all.ensures.same_setup ∙ c.in_ok-converter.ensures.ok.same_setup) e.1))) c.finish.ensures.ends.ok
 
@@ -74,11 +74,11 @@ returns-clause-breaks_off g c =
     let before = written (g.O.Sink.taken c.args.out.now) (g.L.Sink.taken c.args.log.now) in
     let mid = written (g.O.Sink.taken c.read_all.new.out) (g.L.Sink.taken c.read_all.new.log) in
     let after = written (g.O.Sink.taken c.finish.new.out) (g.L.Sink.taken c.finish.new.log) in
-    let all : HasReadAll g.R.Source.given g.R.Source.calls g.R.Source.is_at_end c.args.setup c.args.readers.now c.read_all.new.readers c.read_all.new.converter before mid =
-    subst (λ (s : SetupView). HasReadAll g.R.Source.given g.R.Source.calls g.R.Source.is_at_end s c.args.readers.now c.read_all.new.readers c.read_all.new.converter before mid)
+    let all : HasReadAll g.R.Source.given g.R.Source.calls g.R.Source.is_at_end c.args.setup c.args.sources.now c.read_all.new.sources c.read_all.new.converter before mid =
+    subst (λ (s : SetupView). HasReadAll g.R.Source.given g.R.Source.calls g.R.Source.is_at_end s c.args.sources.now c.read_all.new.sources c.read_all.new.converter before mid)
     c.in_ok-converter.ensures.ok.same_setup c.in_default.ensures.ends.ok in
     IfErr-weaker c.finish.result _ _ (λ fault breaks frame.
-    inr (inr (breaks-ending g.R.Source.given g.R.Source.calls g.R.Source.is_at_end c.args.setup c.args.readers.now c.read_all.new.readers c.read_all.new.converter
+    inr (inr (breaks-ending g.R.Source.given g.R.Source.calls g.R.Source.is_at_end c.args.setup c.args.sources.now c.read_all.new.sources c.read_all.new.converter
     before mid after
     all (subst (λ (s : SetupView). ((link : ℕ) × BreaksOffClosing s all.history link mid after) ⊎ BreaksOffFinishing s all.history mid after)
     (c.read_all.ensures.same_setup ∙ c.in_ok-converter.ensures.ok.same_setup) (breaks frame all.history all.represents))))) c.finish.ensures.ends.err

@@ -22,7 +22,7 @@ loop-text-preserved g c =
     record {
       step = subst (λ (p : Part). IsStepOrNone p.every) (sym c.in_ok-write_next.ensures.same_part) i.step;
       so_far = λ t is whole. cut-more c.args.part t c.loop-text.records c.next.new.self c.loop-text.writer c.write_next.new.self e text (g.W.Sink.taken c.args.out.now) (g.W.Sink.taken c.loop-text.out) (g.W.Sink.taken c.write_next.new.out)
-          (i.so_far t is whole) c.in-Some.ensures.next c.in-Some.ensures.record.0 c.in-Some.ensures.record.1 c.in-Some.ensures.width c.in_ok-write_next.ensures.heading c.in_ok-write_next.ensures.same_part
+          (i.so_far t is whole) c.in-Some.ensures.next c.in-Some.ensures.record.0 c.in-Some.ensures.record.1 c.in-Some.ensures.code_count c.in_ok-write_next.ensures.heading c.in_ok-write_next.ensures.same_part
           (subst (λ (x : EpochTableView). TakesEpoch c.loop-text.writer c.write_next.new.self x text (g.W.Sink.taken c.loop-text.out) (g.W.Sink.taken c.write_next.new.out)) c.deref.ensures c.in_ok-write_next.ensures.all);
       failures = c.in_ok-write_next.ensures.no_failed_write (λ is. cc) ∙ i.failures;
     }

@@ -20,7 +20,7 @@ push_row-requires-clause-good c =
 pub push_row-requires-clause-later : goal.push_row-requires-clause-later
 push_row-requires-clause-later c =
     let r = c.row-item.result in
-    mapped-below c.args.marks.now c.args.width c.args.rows.now c.loop-row.row-index r c.loop-row.shown.rows c.requires.rise c.loop-row-test.true c.row-item.is c.loop-row.invariant.rows
+    mapped-below c.args.marks.now c.args.code_count c.args.rows.now c.loop-row.row-index r c.loop-row.shown.rows c.requires.rise c.loop-row-test.true c.row-item.is c.loop-row.invariant.rows
 
 pub loop-row-preserved : goal.loop-row-preserved
 loop-row-preserved c =
@@ -33,28 +33,28 @@ loop-row-preserved c =
     let is : r ≡ get_or rows k r = c.row-item.is in
     let row : SatelliteRow = record { satellite = r.satellite; observed = record { items = c.show_in_row-is_row_changed.new.shown } } in
     let good : IsSatelliteRow r = subst (λ (x : SatelliteRow). IsSatelliteRow x) (sym is) (c.requires.good k r lt) in
-    let here : row ≡ row_with_marks marks c.args.width (get_or rows k r) =
-    row-made c.args.marks.now c.loop-row.marks c.args.width rows k r c.show_in_row-is_row_changed.new.shown c.requires.few_codes c.requires.rise lt good.satellite.1 is i.marks
+    let here : row ≡ row_with_marks marks c.args.code_count (get_or rows k r) =
+    row-made c.args.marks.now c.loop-row.marks c.args.code_count rows k r c.show_in_row-is_row_changed.new.shown c.requires.few_codes c.requires.rise lt good.satellite.1 is i.marks
     (c.show_in_row-is_row_changed.ensures.shown ∙ ap (λ (n : ℕ). codes_with_marks c.loop-row.marks n r) i.width) in
     let pushed : c.push_row.new.self.rows ≡ c.loop-row.shown.rows ++ row ∷ [] = ap (λ (e : EpochTableView). e.rows) c.push_row.ensures in
     record {
       size = c.show_in_row-is_row_changed.ensures.size;
       width = c.show_in_row-is_row_changed.auto.shown ∙ i.width;
       time = ap (λ (e : EpochTableView). e.time) c.push_row.ensures ∙ i.time;
-      rows = pushed ∙ ap (λ xs. xs ++ row ∷ []) i.rows ∙ ap (λ x. map (row_with_marks marks c.args.width) (take k rows) ++ x ∷ []) here
-          ∙ sym (map-more (row_with_marks marks c.args.width) rows k r lt);
-      marks = rows-cleared c.args.width rows k r marks c.loop-row.marks c.show_in_row-is_row_changed.new.marks lt i.marks (λ s code satellite within.
+      rows = pushed ∙ ap (λ xs. xs ++ row ∷ []) i.rows ∙ ap (λ x. map (row_with_marks marks c.args.code_count) (take k rows) ++ x ∷ []) here
+          ∙ sym (map-more (row_with_marks marks c.args.code_count) rows k r lt);
+      marks = rows-cleared c.args.code_count rows k r marks c.loop-row.marks c.show_in_row-is_row_changed.new.marks lt i.marks (λ s code satellite within.
           c.show_in_row-is_row_changed.ensures.marks s code satellite within
           ∙ ap (λ (x : SatelliteRow). not (row_has_phase s code x && ltb code (length c.loop-row.observed)) && mark_of c.loop-row.marks s code) is
           ∙ ap (λ (n : ℕ). not (row_has_phase s code (get_or rows k r) && ltb code n) && mark_of c.loop-row.marks s code) i.width);
       same = λ unchanged wide.
-          let long : length c.show_in_row-is_row_changed.new.shown ≡ c.args.width = c.show_in_row-is_row_changed.auto.shown ∙ i.width in
-          let own : length r.observed.items ≡ c.args.width = ap (λ (x : SatelliteRow). length x.observed.items) is ∙ wide k r lt in
+          let long : length c.show_in_row-is_row_changed.new.shown ≡ c.args.code_count = c.show_in_row-is_row_changed.auto.shown ∙ i.width in
+          let own : length r.observed.items ≡ c.args.code_count = ap (λ (x : SatelliteRow). length x.observed.items) is ∙ wide k r lt in
           elim c.if-is_changed.branch [
             | then-is_changed w ↦ absurd (both_ways c.if-is_changed.is_changed unchanged (w.is_changed-is ∙ w.if-is_changed.true))
             | else-is_changed w ↦
                 rows-kept rows k r row c.loop-row.shown.rows c.push_row.new.self.rows lt is (i.same w.if-is_changed.false wide) pushed
-                (row-kept c.args.width r c.show_in_row-is_row_changed.new.shown long own
+                (row-kept c.args.code_count r c.show_in_row-is_row_changed.new.shown long own
                 (λ code within. c.show_in_row-is_row_changed.ensures.same (sym w.is_changed-is ∙ unchanged) code (omega (arith, within, i.width))))
           ];
     }

@@ -7,9 +7,9 @@ use Rattle.rtk_cut.proofs.slips.show_in_rows.Given as goal
 abbrev pub invariant-loop-row : goal.invariant-loop-row
 invariant-loop-row l = record {
   size : length l.marks ≡ 528;
-  width : length l.observed ≡ l.width;
+  width : length l.observed ≡ l.code_count;
   time : l.shown.time ≡ l.fn.shown.time;
-  rows : l.shown.rows ≡ map (row_with_marks l.fn.marks l.width) (take l.row-index l.rows);
-  marks : MarksBecome l.marks (λ s c. not (list_any (row_has_phase s c) (take l.row-index l.rows) && ltb c l.width) && mark_of l.fn.marks s c);
-  same : l.is_changed ≡ false → HasWidth l.width l.rows → l.shown.rows ≡ take l.row-index l.rows;
+  rows : l.shown.rows ≡ map (row_with_marks l.fn.marks l.code_count) (take l.row-index l.rows);
+  marks : MarksBecome l.marks (λ s c. not (list_any (row_has_phase s c) (take l.row-index l.rows) && ltb c l.code_count) && mark_of l.fn.marks s c);
+  same : l.is_changed ≡ false → HasWidth l.code_count l.rows → l.shown.rows ≡ take l.row-index l.rows;
 }

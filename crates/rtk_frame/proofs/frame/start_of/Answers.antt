@@ -8,8 +8,8 @@ returns-then-first c = let n = not_preamble c.args.bytes.now c.if-first.true in 
 pub returns-then-bytes-lt3 : goal.returns-then-bytes-lt3
 returns-then-bytes-lt3 c = (omega arith, inl (preamble_partial c.args.bytes.now c.if-first.false (omega arith)))
 
-pub returns-then-bytes-payload : goal.returns-then-bytes-payload
-returns-then-bytes-payload c = (omega (arith, c.type_inv.bytes 2), inl (preamble_partial c.args.bytes.now c.if-first.false (omega arith)))
+pub returns-then-bytes-payload_len : goal.returns-then-bytes-payload_len
+returns-then-bytes-payload_len c = (omega (arith, c.type_inv.bytes 2), inl (preamble_partial c.args.bytes.now c.if-first.false (omega arith)))
 
-pub returns-else-bytes-payload : goal.returns-else-bytes-payload
-returns-else-bytes-payload c = (refl, omega (arith, c.type_inv.bytes 2), omega arith, preamble_whole c.args.bytes.now _ c.if-first.false (omega arith) refl, whole_not_partial c.args.bytes.now (omega arith))
+pub returns-else-bytes-payload_len : goal.returns-else-bytes-payload_len
+returns-else-bytes-payload_len c = (refl, omega (arith, c.type_inv.bytes 2), omega arith, preamble_whole c.args.bytes.now _ c.if-first.false (omega arith) refl, whole_not_partial c.args.bytes.now (omega arith))

@@ -6,5 +6,5 @@ pub returns : goal.returns
 returns c =
     let b : List ℕ = c.args.bytes.now in
     let n : ℕ = c.args.place in
-    let k : n + 3 + c.args.payload - (n + 3) ≡ c.args.payload = omega arith in
-    (refl, ap (λ j. take j (drop (n + 3) b)) k ∙ ap (take c.args.payload) (sym (drop-drop 3 n b)))
+    let k : n + 3 + c.args.payload_len - (n + 3) ≡ c.args.payload_len = omega arith in
+    (refl, ap (λ j. take j (drop (n + 3) b)) k ∙ ap (take c.args.payload_len) (sym (drop-drop 3 n b)))

@@ -21,7 +21,7 @@ returns-in-Whole-clause-least c =
     let from : ℕ = c.args.from in
     let n : ℕ = c.next_preamble-place.result in
     let whole = rw (rest_of b n) at c.in-Whole.ensures in
-    is_next b c.found_at.result.payload.now from n c.in-Whole.payload c.found_at.result.place c.found_at.ensures.0 c.found_at.ensures.1 whole.1 c.next_preamble-place.ensures.within.0 whole.0
+    is_next b c.found_at.result.payload.now from n c.in-Whole.payload_len c.found_at.result.place c.found_at.ensures.0 c.found_at.ensures.1 whole.1 c.next_preamble-place.ensures.within.0 whole.0
     (none_to b from from n (λ p l m. absurd (omega arith)) c.next_preamble-place.ensures.none)
 
 pub returns-in-Whole-clause-within : goal.returns-in-Whole-clause-within
@@ -29,4 +29,4 @@ returns-in-Whole-clause-within c =
     let b : List ℕ = c.args.bytes.now in
     let n : ℕ = c.next_preamble-place.result in
     let whole = rw (rest_of b n) at c.in-Whole.ensures in
-    found_within b c.found_at.result.payload.now n c.in-Whole.payload c.found_at.result.place c.found_at.ensures.0 c.found_at.ensures.1 whole.1 whole.0
+    found_within b c.found_at.result.payload.now n c.in-Whole.payload_len c.found_at.result.place c.found_at.ensures.0 c.found_at.ensures.1 whole.1 whole.0

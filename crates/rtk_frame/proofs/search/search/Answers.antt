@@ -37,19 +37,19 @@ pub found_at-requires : goal.found_at-requires
 found_at-requires c =
     let b : List ℕ = c.args.bytes.now in
     let n : ℕ = c.loop-place.place in
-    let whole = place_of b c.restart_if_far.new.start n (Whole c.in-Whole.payload) c.restart_if_far.ensures.near.0 c.in-Whole.ensures.front in
+    let whole = place_of b c.restart_if_far.new.start n (Whole c.in-Whole.payload_len) c.restart_if_far.ensures.near.0 c.in-Whole.ensures.front in
     omega (arith, frame_within b n whole.0, whole.1)
 
 pub returns-in-Whole-clause-least : goal.returns-in-Whole-clause-least
 returns-in-Whole-clause-least c =
     let b : List ℕ = c.args.bytes.now in
     let n : ℕ = c.loop-place.place in
-    let whole = place_of b c.restart_if_far.new.start n (Whole c.in-Whole.payload) c.restart_if_far.ensures.near.0 c.in-Whole.ensures.front in
-    is_next b c.found_at.result.payload.now c.args.from n c.in-Whole.payload c.found_at.result.place c.found_at.ensures.0 c.found_at.ensures.1 whole.1 c.loop-place.invariant.from whole.0 c.loop-place.invariant.none
+    let whole = place_of b c.restart_if_far.new.start n (Whole c.in-Whole.payload_len) c.restart_if_far.ensures.near.0 c.in-Whole.ensures.front in
+    is_next b c.found_at.result.payload.now c.args.from n c.in-Whole.payload_len c.found_at.result.place c.found_at.ensures.0 c.found_at.ensures.1 whole.1 c.loop-place.invariant.from whole.0 c.loop-place.invariant.none
 
 pub returns-in-Whole-clause-within : goal.returns-in-Whole-clause-within
 returns-in-Whole-clause-within c =
     let b : List ℕ = c.args.bytes.now in
     let n : ℕ = c.loop-place.place in
-    let whole = place_of b c.restart_if_far.new.start n (Whole c.in-Whole.payload) c.restart_if_far.ensures.near.0 c.in-Whole.ensures.front in
-    found_within b c.found_at.result.payload.now n c.in-Whole.payload c.found_at.result.place c.found_at.ensures.0 c.found_at.ensures.1 whole.1 whole.0
+    let whole = place_of b c.restart_if_far.new.start n (Whole c.in-Whole.payload_len) c.restart_if_far.ensures.near.0 c.in-Whole.ensures.front in
+    found_within b c.found_at.result.payload.now n c.in-Whole.payload_len c.found_at.result.place c.found_at.ensures.0 c.found_at.ensures.1 whole.1 whole.0

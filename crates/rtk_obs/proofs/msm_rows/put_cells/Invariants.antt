@@ -5,8 +5,8 @@ use Rattle.rtk_obs.proofs.msm_rows.put_cells.Given as goal
 
 abbrev pub invariant-loop-place : goal.invariant-loop-place
 invariant-loop-place g l = record {
-  entries : take l.progress.count l.found.items ≡ join_from (slot_entry (g.M.SetCell.header l.message) (g.M.SetCell.cell_of l.message)) 0 (join_from (row_slots (signals_of (g.M.SetCell.header l.message))) 0 (take l.place l.masks));
-  cells : l.progress.cell ≡ length (join_from (row_slots (signals_of (g.M.SetCell.header l.message))) 0 (take l.place l.masks));
+  entries : take l.progress.count l.found.items ≡ join_from (slot_entry (g.M.CellsOfMsm.header l.message) (g.M.CellsOfMsm.cell_of l.message)) 0 (join_from (row_slots (signals_of (g.M.CellsOfMsm.header l.message))) 0 (take l.place l.masks));
+  cells : l.progress.cell ≡ length (join_from (row_slots (signals_of (g.M.CellsOfMsm.header l.message))) 0 (take l.place l.masks));
   count : l.progress.count ≤ length l.found.items;
   few : l.progress.count ≤ l.progress.cell;
 }

@@ -8,12 +8,12 @@ use Rattle.rtk_obs.proofs.MsmLemmas.{next_entries, next_length, all_entries, no_
 use Rattle.rtk_obs.proofs.msm_rows.put_row.Goals as goal
 
 pub overflow_add-result : goal.overflow_add-result
-overflow_add-result g c = omega (arith, count-row_slots c.args.signals.now c.args.place c.args.bits c.requires.fits, few_in_message (g.M.SetCell.header c.args.message.now) (g.M.SetCell.cell_mask c.args.message.now) c.requires.mask)
+overflow_add-result g c = omega (arith, count-row_slots c.args.signals.now c.args.place c.args.bits c.requires.fits, few_in_message (g.M.CellsOfMsm.header c.args.message.now) (g.M.CellsOfMsm.cell_mask c.args.message.now) c.requires.mask)
 
 pub returns-then-not-is_satellite-clause-entries : goal.returns-then-not-is_satellite-clause-entries
 returns-then-not-is_satellite-clause-entries g c =
     let unknown : is_satellite c.args.row.satellite ≡ false = grind (arith, common_steps) in
-    no_entries (g.M.SetCell.header c.args.message.now) (g.M.SetCell.cell_of c.args.message.now) c.args.signals.now c.args.start.cell c.args.place c.args.bits c.args.row.satellite (take c.args.start.count c.args.found.now.items) c.requires.row.satellite unknown
+    no_entries (g.M.CellsOfMsm.header c.args.message.now) (g.M.CellsOfMsm.cell_of c.args.message.now) c.args.signals.now c.args.start.cell c.args.place c.args.bits c.args.row.satellite (take c.args.start.count c.args.found.now.items) c.requires.row.satellite unknown
 
 pub returns-then-not-is_satellite-clause-cells : goal.returns-then-not-is_satellite-clause-cells
 returns-then-not-is_satellite-clause-cells g c = omega (arith, count-row_slots c.args.signals.now c.args.place c.args.bits c.requires.fits)
@@ -47,19 +47,19 @@ put_cell-count-requires-clause-count g c = c.loop-rest.invariant.count
 pub put_cell-count-requires-clause-room : goal.put_cell-count-requires-clause-room
 put_cell-count-requires-clause-room g c =
     let bit = bit_within (length c.args.signals.now) c.loop-rest.rest c.top_bit-top.result c.loop-rest.invariant.fits c.top_bit-top.ensures.from c.top_bit-top.ensures.below in
-    omega (arith, next_length c.args.signals.now c.args.place c.loop-rest.rest c.top_bit-top.result bit, c.loop-rest.invariant.cells, c.loop-rest.invariant.few, c.requires.cells, few_in_message (g.M.SetCell.header c.args.message.now) (g.M.SetCell.cell_mask c.args.message.now) c.requires.mask)
+    omega (arith, next_length c.args.signals.now c.args.place c.loop-rest.rest c.top_bit-top.result bit, c.loop-rest.invariant.cells, c.loop-rest.invariant.few, c.requires.cells, few_in_message (g.M.CellsOfMsm.header c.args.message.now) (g.M.CellsOfMsm.cell_mask c.args.message.now) c.requires.mask)
 
 pub overflow_add-cell : goal.overflow_add-cell
 overflow_add-cell g c =
     let bit = bit_within (length c.args.signals.now) c.loop-rest.rest c.top_bit-top.result c.loop-rest.invariant.fits c.top_bit-top.ensures.from c.top_bit-top.ensures.below in
-    omega (arith, next_length c.args.signals.now c.args.place c.loop-rest.rest c.top_bit-top.result bit, c.loop-rest.invariant.cells, c.requires.cells, few_in_message (g.M.SetCell.header c.args.message.now) (g.M.SetCell.cell_mask c.args.message.now) c.requires.mask)
+    omega (arith, next_length c.args.signals.now c.args.place c.loop-rest.rest c.top_bit-top.result bit, c.loop-rest.invariant.cells, c.requires.cells, few_in_message (g.M.CellsOfMsm.header c.args.message.now) (g.M.CellsOfMsm.cell_mask c.args.message.now) c.requires.mask)
 
 pub loop-rest-preserved : goal.loop-rest-preserved
 loop-rest-preserved g c =
     let bit = bit_within (length c.args.signals.now) c.loop-rest.rest c.top_bit-top.result c.loop-rest.invariant.fits c.top_bit-top.ensures.from c.top_bit-top.ensures.below in
     let one = one_shl c.top_bit-top.result 64 (omega arith) in
     rw one (record {
-      entries = next_entries (slot_entry (g.M.SetCell.header c.args.message.now) (g.M.SetCell.cell_of c.args.message.now)) c.args.signals.now c.args.place c.loop-rest.cell c.loop-rest.rest c.top_bit-top.result (get_or c.args.signals.now (length c.args.signals.now - 1 - c.top_bit-top.result) 0)
+      entries = next_entries (slot_entry (g.M.CellsOfMsm.header c.args.message.now) (g.M.CellsOfMsm.cell_of c.args.message.now)) c.args.signals.now c.args.place c.loop-rest.cell c.loop-rest.rest c.top_bit-top.result (get_or c.args.signals.now (length c.args.signals.now - 1 - c.top_bit-top.result) 0)
           (take c.loop-rest.count c.loop-rest.found.items) (take c.put_cell-count.result c.put_cell-count.new.found.items) _ bit refl c.put_cell-count.ensures.entries c.loop-rest.invariant.entries;
       cells = omega (arith, next_length c.args.signals.now c.args.place c.loop-rest.rest c.top_bit-top.result bit, c.loop-rest.invariant.cells);
       count = c.put_cell-count.ensures.count;
@@ -69,7 +69,7 @@ loop-rest-preserved g c =
 
 pub returns-clause-entries : goal.returns-clause-entries
 returns-clause-entries g c =
-    all_entries (slot_entry (g.M.SetCell.header c.args.message.now) (g.M.SetCell.cell_of c.args.message.now)) c.args.signals.now c.args.place c.loop-rest.cell c.loop-rest.rest (take c.loop-rest.count c.loop-rest.found.items) _ c.loop-rest-test.false c.loop-rest.invariant.entries
+    all_entries (slot_entry (g.M.CellsOfMsm.header c.args.message.now) (g.M.CellsOfMsm.cell_of c.args.message.now)) c.args.signals.now c.args.place c.loop-rest.cell c.loop-rest.rest (take c.loop-rest.count c.loop-rest.found.items) _ c.loop-rest-test.false c.loop-rest.invariant.entries
 
 pub returns-clause-cells : goal.returns-clause-cells
 returns-clause-cells g c = omega (arith, no_slots c.args.signals.now c.args.place c.loop-rest.rest c.loop-rest-test.false, c.loop-rest.invariant.cells)

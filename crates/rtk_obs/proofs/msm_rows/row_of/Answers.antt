@@ -5,4 +5,4 @@ use Rattle.rtk_obs.proofs.msm_rows.row_of.Goals as goal
 pub bounds-numbers-row : goal.bounds-numbers-row
 bounds-numbers-row g c =
     rw c.requires.numbers
-    (omega (arith, count-satellites (g.M.SetCell.header c.args.message.now) (g.M.SetCell.cell_mask c.args.message.now) c.requires.mask, c.requires.row))
+    (omega (arith, count-satellites (g.M.CellsOfMsm.header c.args.message.now) (g.M.CellsOfMsm.cell_mask c.args.message.now) c.requires.mask, c.requires.row))

@@ -4,8 +4,8 @@ use Rattle.rtk_rinex.proofs.ValuesLemmas.{clash}
 use Rattle.rtk_rinex.proofs.EpochLemmas.{length-line, line-columns}
 use Rattle.rtk_rinex.proofs.epoch_line_check.read_epoch_line.Goals as goal
 
-pub returns-then-line-ne36 : goal.returns-then-line-ne36
-returns-then-line-ne36 c = λ t n h k e. c.if-line-ne36.true (length-line c.args.line.now t n h k e)
+pub returns-then-line-ne-EPOCH_LINE : goal.returns-then-line-ne-EPOCH_LINE
+returns-then-line-ne-EPOCH_LINE c = λ t n h k e. c.if-line-ne-EPOCH_LINE.true (length-line c.args.line.now t n h k e)
 
 pub returns-in_err-stamp : goal.returns-in_err-stamp
 returns-in_err-stamp c =

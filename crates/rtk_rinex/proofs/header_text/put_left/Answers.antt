@@ -12,5 +12,5 @@ returns-clause-items c =
     let fits : n ≤ 80 = omega arith in
     let blanks : List ℕ = replicate n 32 in
     let cut : take n (replicate {A = ℕ} 80 32) ≡ blanks = take-replicate {X = ℕ} n 80 32 fits in
-    c.add-2.ensures.items ∙ ap (λ (xs : List ℕ). xs ++ take n (replicate {A = ℕ} 80 32)) c.add.ensures.items
+    c.append-2.ensures.items ∙ ap (λ (xs : List ℕ). xs ++ take n (replicate {A = ℕ} 80 32)) c.append.ensures.items
     ∙ append_assoc out text (take n (replicate {A = ℕ} 80 32)) ∙ ap (λ (xs : List ℕ). out ++ (text ++ xs)) cut

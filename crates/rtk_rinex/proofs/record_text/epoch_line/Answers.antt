@@ -7,5 +7,5 @@ use Rattle.rtk_rinex.proofs.record_text.epoch_line.Goals as goal
 
 pub returns : goal.returns
 returns c =
-    rw (c.add-5.ensures.items, c.add-4.ensures.items, c.add-3.ensures.items, c.add-2.ensures.items, c.add.ensures.items, c.new-line.ensures, c.epoch_date.ensures, c.unsigned_11_7.ensures, c.seconds.ensures.value, c.integer_3.ensures)
+    rw (c.append-5.ensures.items, c.append-4.ensures.items, c.append-3.ensures.items, c.append-2.ensures.items, c.append.ensures.items, c.new-line.ensures, c.epoch_date.ensures, c.unsigned_11_7.ensures, c.seconds.ensures.value, c.integer_3.ensures)
     (append-five [] (epoch_date_text c.args.time) (right 11 (decimals 7 false (seconds_of c.args.time))) (codes "  0") (right 3 (decimal c.args.count)) (10 ∷ []))

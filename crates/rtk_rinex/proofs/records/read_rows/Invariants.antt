@@ -6,7 +6,7 @@ use Rattle.rtk_rinex.proofs.records.read_rows.Given as goal
 abbrev pub invariant-loop : goal.invariant-loop
 invariant-loop l = record {
   time : l.epoch.time ≡ l.fn.epoch.time;
-  rows : AreRows l.width None l.epoch.rows;
+  rows : AreRows l.code_count None l.epoch.rows;
   count : length l.epoch.rows ≡ l.counter;
   text : l.text ≡ flat_map satellite_line l.epoch.rows ++ l.rest;
 }

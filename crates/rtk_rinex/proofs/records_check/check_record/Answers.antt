@@ -10,14 +10,14 @@ returns-clause-record c =
     let r = c.in_ok-rest.ensures.rows in
     let stamp = c.in-Ok.stamp in
     let some : length r.rows ≢ 0 = λ e. omega (arith, e, r.count, is.0.1) in
-    let whole = record-lines c.args.width stamp.time r.rows (rows-all c.args.width None r.rows r.are_rows) some in
+    let whole = record-lines c.args.code_count stamp.time r.rows (rows-all c.args.code_count None r.rows r.are_rows) some in
     record {
       rows = r.rows;
       is_epoch = record {
         time = is.0.0;
         some = λ e. some (ap length e);
-        rows = rows-all c.args.width None r.rows r.are_rows;
-        rise = rows-rise c.args.width None r.rows r.are_rows;
+        rows = rows-all c.args.code_count None r.rows r.are_rows;
+        rise = rows-rise c.args.code_count None r.rows r.are_rows;
       };
       next = is.1;
       count = r.count;

@@ -26,7 +26,7 @@ loop-rest-preserved c =
     let rows = satellite_lines-more r.epochs e in (
       record {
         epochs = r.epochs ++ e ∷ [];
-        are_epochs = epochs-more c.args.width c.args.first None r.epochs e r.are_epochs read.is_epoch next;
+        are_epochs = epochs-more c.args.code_count c.args.first None r.epochs e r.are_epochs read.is_epoch next;
         text = text-more record_text r.epochs e c.args.text.now l.rest.now (record_text e) c.in-Ok.read.1.now r.text read.text refl;
       },
       sym (last_time-more None r.epochs e),

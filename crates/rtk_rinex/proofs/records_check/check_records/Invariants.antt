@@ -5,7 +5,7 @@ use Rattle.rtk_rinex.proofs.records_check.check_records.Given as goal
 
 abbrev pub invariant-loop-rest : goal.invariant-loop-rest
 invariant-loop-rest l =
-    (r : ReadsFront l.width l.first l.text l.rest)
+    (r : ReadsFront l.code_count l.first l.text l.rest)
     × (l.last ≡ last_time None r.epochs) × (l.line ≡ l.lines + record_lines r.epochs)
     × (length r.epochs ≡ l.counts.epochs) × (satellite_lines r.epochs ≡ l.counts.satellites)
     × (l.line + length l.rest ≤ l.lines + length l.text)

@@ -26,7 +26,7 @@ returns-in-Err-clause-fault c =
       due = omega (arith, r.count);
       text = r.text;
       line = omega (arith, r.count);
-      cause = satellite-fault c.args.width (last_satellite None r.rows) c.loop-k.rest.now c.in-Some.satellite_line.now c.in-Some.after.now c.in-Err.cause line.0 line.1 fault;
+      cause = satellite-fault c.args.code_count (last_satellite None r.rows) c.loop-k.rest.now c.in-Some.satellite_line.now c.in-Some.after.now c.in-Err.cause line.0 line.1 fault;
     }
 
 pub loop-k-preserved : goal.loop-k-preserved
@@ -39,7 +39,7 @@ loop-k-preserved c =
     let next = rw (l.invariant.1, ← is.3) at c.in-Ok.ensures.next in (
       record {
         rows = r.rows ++ row ∷ [];
-        are_rows = rows-more c.args.width None r.rows row r.are_rows is.1 next;
+        are_rows = rows-more c.args.code_count None r.rows row r.are_rows is.1 next;
         count = simp length-append (omega (arith, r.count));
         text = text-more satellite_line r.rows row c.args.text.now l.rest.now c.in-Some.satellite_line.now c.in-Some.after.now r.text line.1 is.2;
       },

@@ -5,5 +5,5 @@ use Rattle.rtk_rinex.proofs.records_check.check_satellites.Given as goal
 
 abbrev pub invariant-loop-k : goal.invariant-loop-k
 invariant-loop-k l =
-    (r : ReadsRows l.width l.k l.text l.rest)
+    (r : ReadsRows l.code_count l.k l.text l.rest)
     × (l.last ≡ last_satellite None r.rows) × (length l.rest + l.k ≤ length l.text)

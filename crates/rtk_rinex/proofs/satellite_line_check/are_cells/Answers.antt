@@ -7,11 +7,11 @@ pub returns-then-not-is_cell : goal.returns-then-not-is_cell
 returns-then-not-is_cell c =
     let k = c.loop-k.k in
     let columns = c.args.columns.now in
-    let m = c.args.width - (k + 1) in
-    let more : c.args.width - k ≡ suc m = omega arith in (
+    let m = c.args.code_count - (k + 1) in
+    let more : c.args.code_count - k ≡ suc m = omega arith in (
       λ e. cc,
       λ all.
-          let parts = cells-front (c.args.width - k) m (drop (48 * k) columns) more (c.loop-k.invariant.rest all) in
+          let parts = cells-front (c.args.code_count - k) m (drop (48 * k) columns) more (c.loop-k.invariant.rest all) in
           absurd (clash c.is_cell.result c.if-not-is_cell.true (c.is_cell.ensures.1 (rw c.columns_at.ensures.value parts.0))),
     )
 
@@ -19,11 +19,11 @@ pub loop-k-preserved : goal.loop-k-preserved
 loop-k-preserved c =
     let k = c.loop-k.k in
     let columns = c.args.columns.now in
-    let m = c.args.width - (k + 1) in
-    let more : c.args.width - k ≡ suc m = omega arith in
+    let m = c.args.code_count - (k + 1) in
+    let more : c.args.code_count - k ≡ suc m = omega arith in
     let places : 48 * (k + 1) ≡ 48 * k + 48 = omega arith in
     let next : drop (48 * (k + 1)) columns ≡ drop 48 (drop (48 * k) columns) = ap (λ (n : ℕ). drop n columns) places ∙ drop_more (48 * k) 48 columns in
     let cell = rw c.columns_at.ensures.value at (c.is_cell.ensures.0 c.if-not-is_cell.false) in record {
-      rest = λ all. rw next ((cells-front (c.args.width - k) m (drop (48 * k) columns) more (c.loop-k.invariant.rest all)).1);
-      whole = λ rest. c.loop-k.invariant.whole (cells-back (c.args.width - k) m (drop (48 * k) columns) more cell (rw next at rest));
+      rest = λ all. rw next ((cells-front (c.args.code_count - k) m (drop (48 * k) columns) more (c.loop-k.invariant.rest all)).1);
+      whole = λ rest. c.loop-k.invariant.whole (cells-back (c.args.code_count - k) m (drop (48 * k) columns) more cell (rw next at rest));
     }

@@ -4,6 +4,6 @@ use Rattle.rtk_rinex.proofs.satellite_line_check.are_cells.Given as goal
 
 abbrev pub invariant-loop-k : goal.invariant-loop-k
 invariant-loop-k l = record {
-  rest : AreCells l.width l.columns → AreCells (l.width - l.k) (drop (48 * l.k) l.columns);
-  whole : AreCells (l.width - l.k) (drop (48 * l.k) l.columns) → AreCells l.width l.columns;
+  rest : AreCells l.code_count l.columns → AreCells (l.code_count - l.k) (drop (48 * l.k) l.columns);
+  whole : AreCells (l.code_count - l.k) (drop (48 * l.k) l.columns) → AreCells l.code_count l.columns;
 }

@@ -9,4 +9,4 @@ returns-clause-value c =
     let columns = c.args.columns.now in
     let n = 48 - length columns in
     let cut : take n (replicate {A = ℕ} 48 32) ≡ replicate n 32 = take-replicate {X = ℕ} n 48 32 (omega arith) in
-    rw (c.add-2.ensures.items, c.add.ensures.items, c.new-whole.ensures, cut) refl
+    rw (c.append-2.ensures.items, c.append.ensures.items, c.new-whole.ensures, cut) refl

@@ -10,6 +10,6 @@ abbrev pub invariant-loop-k : goal.invariant-loop-k
 invariant-loop-k l = record {
   observed : All IsObserved l.observed.items;
   count : length l.observed.items ≡ l.k;
-  text : left (48 * l.width) l.columns ≡ flat_map observations l.observed.items ++ left (48 * (l.width - l.k)) (drop (48 * l.k) l.columns);
-  rest : AreCells l.width l.columns → AreCells (l.width - l.k) (drop (48 * l.k) l.columns);
+  text : left (48 * l.code_count) l.columns ≡ flat_map observations l.observed.items ++ left (48 * (l.code_count - l.k)) (drop (48 * l.k) l.columns);
+  rest : AreCells l.code_count l.columns → AreCells (l.code_count - l.k) (drop (48 * l.k) l.columns);
 }

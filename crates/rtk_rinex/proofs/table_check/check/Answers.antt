@@ -21,14 +21,14 @@ returns-in_err-counts-clause-none c =
     let rest = after_header c.args.bytes.now c.split_at.result.1.now header.used header.head (position_view header.position) header.first is.text c.split_at.ensures.back in
     on_err c.from_residual-in_err-counts.result
     (records-none c.args.bytes.now c.split_at.result.1.now header.head (position_view header.position) header.first header.lines c.in_err-counts.field-0.0 is.good.0 rest is.only
-    (rw c.codes-width.ensures.value at c.in_err-counts.ensures.fault))
+    (rw c.codes-code_count.ensures.value at c.in_err-counts.ensures.fault))
 
 pub of_text-requires : goal.of_text-requires
 of_text-requires c =
     let header = c.in_ok-header.header in
     let is = c.in_ok-header.ensures in
     let rest = after_header c.args.bytes.now c.split_at.result.1.now header.used header.head (position_view header.position) header.first is.text c.split_at.ensures.back in
-    let read = rw c.codes-width.ensures.value at c.in_ok-counts.ensures.records in
+    let read = rw c.codes-code_count.ensures.value at c.in_ok-counts.ensures.records in
     record {
       table = holds c.args.bytes.now c.split_at.result.1.now header.head (position_view header.position) header.first
           c.in_ok-counts.counts.epochs c.in_ok-counts.counts.satellites is.good.0 is.good.1 is.good.2 rest is.only read;
@@ -39,7 +39,7 @@ returns-clause-table c =
     let header = c.in_ok-header.header in
     let is = c.in_ok-header.ensures in
     let rest = after_header c.args.bytes.now c.split_at.result.1.now header.used header.head (position_view header.position) header.first is.text c.split_at.ensures.back in
-    let read = rw c.codes-width.ensures.value at c.in_ok-counts.ensures.records in
+    let read = rw c.codes-code_count.ensures.value at c.in_ok-counts.ensures.records in
     let table = holds c.args.bytes.now c.split_at.result.1.now header.head (position_view header.position) header.first
     c.in_ok-counts.counts.epochs c.in_ok-counts.counts.satellites is.good.0 is.good.1 is.good.2 rest is.only read in
     rw (ap (λ (t : TableView). t.epochs) c.of_text.ensures, ap (λ (t : TableView). t.satellites) c.of_text.ensures) table

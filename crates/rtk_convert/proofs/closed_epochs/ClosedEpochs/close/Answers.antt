@@ -17,14 +17,14 @@ returns-then-not-has_record-clause-closes g c = record {
   follows = λ below f.
       let e : EpochSetView = c.args.set.now in
       let listed = c.codes-listed.ensures.value ∙ ap (λ (h : HeadView). h.listed) c.head.ensures.value in
-      let old : ClosedEpochsView = record { tracks = c.self.inside.tracks.value; header_out = c.self.inside.header_out; count = c.self.inside.count } in
+      let old : ClosedEpochsView = record { tracks = c.self.inside.tracks.value; is_header_out = c.self.inside.is_header_out; count = c.self.inside.count } in
       let before = subst (λ (x : ClosedEpochsView). HasClosed x c.args.setup.now.head.listed below) (sym c.self.view_is) f in
       let inside = subst (λ (l : List Code). HasClosed old l below) (sym listed) before in
       let phases = subst (λ (t : List (Option Track)). HasLastPhases t below) (sym c.deref_mut.ensures.value) inside.phases in
       let rows = (table_of c.codes-listed.result.now e below).rows in
       let shown = c.text-text.ensures ∙ c.finish.ensures.text rows (c.in_ok-push_rows.ensures.lines below phases) ∙ ap (λ (t : ℕ). record_text (record { time = t; rows = rows })) c.epoch-epoch.ensures in
       let text = c.in_ok-has_record.ensures.any ∙ ap is_any shown ∙ ap (λ (l : List Code). is_any (record_of l e below)) listed in
-      follows-no old (record { tracks = c.push_rows.new.tracks; header_out = c.self.inside.header_out; count = c.self.inside.count }) c.args.setup.now.head.listed e below
+      follows-no old (record { tracks = c.push_rows.new.tracks; is_header_out = c.self.inside.is_header_out; count = c.self.inside.count }) c.args.setup.now.head.listed e below
       (c.in_ok-push_rows.ensures.phases below phases) refl refl (sym text ∙ c.if-not-has_record.true) before;
   puts = search rules;
   later = search rules;
@@ -35,14 +35,14 @@ returns-clause-closes g c = record {
   follows = λ below f.
       let e : EpochSetView = c.args.set.now in
       let listed = c.codes-listed.ensures.value ∙ ap (λ (h : HeadView). h.listed) c.head.ensures.value in
-      let old : ClosedEpochsView = record { tracks = c.self.inside.tracks.value; header_out = c.self.inside.header_out; count = c.self.inside.count } in
+      let old : ClosedEpochsView = record { tracks = c.self.inside.tracks.value; is_header_out = c.self.inside.is_header_out; count = c.self.inside.count } in
       let before = subst (λ (x : ClosedEpochsView). HasClosed x c.args.setup.now.head.listed below) (sym c.self.view_is) f in
       let inside = subst (λ (l : List Code). HasClosed old l below) (sym listed) before in
       let phases = subst (λ (t : List (Option Track)). HasLastPhases t below) (sym c.deref_mut.ensures.value) inside.phases in
       let rows = (table_of c.codes-listed.result.now e below).rows in
       let shown = c.text-text.ensures ∙ c.finish.ensures.text rows (c.in_ok-push_rows.ensures.lines below phases) ∙ ap (λ (t : ℕ). record_text (record { time = t; rows = rows })) c.epoch-epoch.ensures in
       let text = c.in_ok-has_record.ensures.any ∙ ap is_any shown ∙ ap (λ (l : List Code). is_any (record_of l e below)) listed in
-      follows-yes old (record { tracks = c.push_rows.new.tracks; header_out = true; count = c.saturating_add-self-inside.result }) c.args.setup.now.head.listed e below
+      follows-yes old (record { tracks = c.push_rows.new.tracks; is_header_out = true; count = c.saturating_add-self-inside.result }) c.args.setup.now.head.listed e below
       (c.in_ok-push_rows.ensures.phases below phases) refl c.saturating_add-self-inside.ensures (sym text ∙ c.if-not-has_record.false) before;
   puts = search rules;
   later = search rules;

@@ -15,6 +15,6 @@ returns-clause-all g c = λ t earlier left next.
     ne_eqb (e.time % step) 0 (λ on. c.if-ms-step_ms-eq0.false
     (ap (λ (n : ℕ). n % c.step_ms.result) (c.ms.ensures.value ∙ c.time.ensures) ∙ ap (λ (n : ℕ). e.time % n) c.step_ms.ensures.value ∙ on)) in (
       c.note.ensures.slips step earlier off next.slips,
-      writes-nothing (g.W.Sink.taken c.args.out.now) (still_to_write s.part t s.is_begun earlier (e ∷ left)) (still_to_write s.part t s.is_begun (e ∷ earlier) left)
-          (left-off s.part t s.is_begun earlier e left off),
+      writes-nothing (g.W.Sink.taken c.args.out.now) (still_to_write s.part t s.is_header_out earlier (e ∷ left)) (still_to_write s.part t s.is_header_out (e ∷ earlier) left)
+          (left-off s.part t s.is_header_out earlier e left off),
     )

@@ -12,13 +12,13 @@ pub returns-then-not-spans-clause-all : goal.returns-then-not-spans-clause-all
 returns-then-not-spans-clause-all g c = λ t earlier left next.
     let s = c.args.self.now in
     let e : EpochTableView = c.args.epoch.now in
-    let wide : length t.head.listed ≡ length c.codes-width.result.now = sym (ap (λ xs. length xs) c.codes-width.ensures.value ∙ ap (λ (h : HeadView). length h.listed) next.heading.0) in
-    let good : IsTableEpoch (length c.codes-width.result.now) e = subst (λ (n : ℕ). IsTableEpoch n e) wide next.epoch in
+    let wide : length t.head.listed ≡ length c.codes-code_count.result.now = sym (ap (λ xs. length xs) c.codes-code_count.ensures.value ∙ ap (λ (h : HeadView). length h.listed) next.heading.0) in
+    let good : IsTableEpoch (length c.codes-code_count.result.now) e = subst (λ (n : ℕ). IsTableEpoch n e) wide next.epoch in
     let outside : is_in_span s.part.from s.part.until e ≡ false =
     sym (c.spans.ensures ∙ ap (λ (n : ℕ). is_at_or_after s.part.from n && is_earlier_than s.part.until n) c.time.ensures) ∙ c.if-not-spans.true in (
       c.show-is_changed.ensures.slips good (step_ms s.part.every) earlier c.requires.on next.slips,
-      writes-nothing (g.W.Sink.taken c.args.out.now) (still_to_write s.part t s.is_begun earlier (e ∷ left)) (still_to_write s.part t s.is_begun (e ∷ earlier) left)
-          (left-outside s.part t s.is_begun earlier e left c.requires.on outside),
+      writes-nothing (g.W.Sink.taken c.args.out.now) (still_to_write s.part t s.is_header_out earlier (e ∷ left)) (still_to_write s.part t s.is_header_out (e ∷ earlier) left)
+          (left-outside s.part t s.is_header_out earlier e left c.requires.on outside),
     )
 
 pub returns-in_err-put_record-clause-part : goal.returns-in_err-put_record-clause-part
@@ -28,13 +28,13 @@ returns-in_err-put_record-clause-part g c = λ t earlier left next.
     let shown : EpochTableView = c.deref.result.now in
     let changed : Bool = c.show-is_changed.result in
     let text : List ℕ = c.args.text.now in
-    let wide : length t.head.listed ≡ length c.codes-width.result.now = sym (ap (λ xs. length xs) c.codes-width.ensures.value ∙ ap (λ (h : HeadView). length h.listed) next.heading.0) in
-    let good : IsTableEpoch (length c.codes-width.result.now) e = subst (λ (n : ℕ). IsTableEpoch n e) wide next.epoch in
+    let wide : length t.head.listed ≡ length c.codes-code_count.result.now = sym (ap (λ xs. length xs) c.codes-code_count.ensures.value ∙ ap (λ (h : HeadView). length h.listed) next.heading.0) in
+    let good : IsTableEpoch (length c.codes-code_count.result.now) e = subst (λ (n : ℕ). IsTableEpoch n e) wide next.epoch in
     let spans : is_in_span s.part.from s.part.until e ≡ true =
     sym (c.spans.ensures ∙ ap (λ (n : ℕ). is_at_or_after s.part.from n && is_earlier_than s.part.until n) c.time.ensures) ∙ c.if-not-spans.false in
     part-longer (g.W.Sink.taken c.args.out.now) (g.W.Sink.taken c.put_record.new.out)
-    (header_unless s.is_begun s.heading.head (position_view s.heading.position) shown.time ++ text_or_new changed text shown) (still_to_write s.part t true (e ∷ earlier) left)
-    (still_to_write s.part t s.is_begun earlier (e ∷ left))
+    (header_unless s.is_header_out s.heading.head (position_view s.heading.position) shown.time ++ text_or_new changed text shown) (still_to_write s.part t true (e ∷ earlier) left)
+    (still_to_write s.part t s.is_header_out earlier (e ∷ left))
     (record-written s t earlier left e shown changed text next c.requires.on spans (c.deref.ensures ∙ c.show-is_changed.ensures.shown good (step_ms s.part.every) earlier next.slips)
     (λ unchanged. c.deref.ensures ∙ c.show-is_changed.ensures.same unchanged good))
     c.put_record.ensures.part
@@ -46,13 +46,13 @@ returns-clause-all g c = λ t earlier left next.
     let shown : EpochTableView = c.deref.result.now in
     let changed : Bool = c.show-is_changed.result in
     let text : List ℕ = c.args.text.now in
-    let wide : length t.head.listed ≡ length c.codes-width.result.now = sym (ap (λ xs. length xs) c.codes-width.ensures.value ∙ ap (λ (h : HeadView). length h.listed) next.heading.0) in
-    let good : IsTableEpoch (length c.codes-width.result.now) e = subst (λ (n : ℕ). IsTableEpoch n e) wide next.epoch in
+    let wide : length t.head.listed ≡ length c.codes-code_count.result.now = sym (ap (λ xs. length xs) c.codes-code_count.ensures.value ∙ ap (λ (h : HeadView). length h.listed) next.heading.0) in
+    let good : IsTableEpoch (length c.codes-code_count.result.now) e = subst (λ (n : ℕ). IsTableEpoch n e) wide next.epoch in
     let spans : is_in_span s.part.from s.part.until e ≡ true =
     sym (c.spans.ensures ∙ ap (λ (n : ℕ). is_at_or_after s.part.from n && is_earlier_than s.part.until n) c.time.ensures) ∙ c.if-not-spans.false in (
       c.show-is_changed.ensures.slips good (step_ms s.part.every) earlier c.requires.on next.slips,
       (
-        header_unless s.is_begun s.heading.head (position_view s.heading.position) shown.time ++ text_or_new changed text shown,
+        header_unless s.is_header_out s.heading.head (position_view s.heading.position) shown.time ++ text_or_new changed text shown,
         record-written s t earlier left e shown changed text next c.requires.on spans (c.deref.ensures ∙ c.show-is_changed.ensures.shown good (step_ms s.part.every) earlier next.slips)
             (λ unchanged. c.deref.ensures ∙ c.show-is_changed.ensures.same unchanged good),
         c.in_ok-put_record.ensures.all,
@@ -66,13 +66,13 @@ returns-clause-part g c = λ t earlier left next.
     let shown : EpochTableView = c.deref.result.now in
     let changed : Bool = c.show-is_changed.result in
     let text : List ℕ = c.args.text.now in
-    let wide : length t.head.listed ≡ length c.codes-width.result.now = sym (ap (λ xs. length xs) c.codes-width.ensures.value ∙ ap (λ (h : HeadView). length h.listed) next.heading.0) in
-    let good : IsTableEpoch (length c.codes-width.result.now) e = subst (λ (n : ℕ). IsTableEpoch n e) wide next.epoch in
+    let wide : length t.head.listed ≡ length c.codes-code_count.result.now = sym (ap (λ xs. length xs) c.codes-code_count.ensures.value ∙ ap (λ (h : HeadView). length h.listed) next.heading.0) in
+    let good : IsTableEpoch (length c.codes-code_count.result.now) e = subst (λ (n : ℕ). IsTableEpoch n e) wide next.epoch in
     let spans : is_in_span s.part.from s.part.until e ≡ true =
     sym (c.spans.ensures ∙ ap (λ (n : ℕ). is_at_or_after s.part.from n && is_earlier_than s.part.until n) c.time.ensures) ∙ c.if-not-spans.false in
     part-longer (g.W.Sink.taken c.args.out.now) (g.W.Sink.taken c.put_record.new.out)
-    (header_unless s.is_begun s.heading.head (position_view s.heading.position) shown.time ++ text_or_new changed text shown) (still_to_write s.part t true (e ∷ earlier) left)
-    (still_to_write s.part t s.is_begun earlier (e ∷ left))
+    (header_unless s.is_header_out s.heading.head (position_view s.heading.position) shown.time ++ text_or_new changed text shown) (still_to_write s.part t true (e ∷ earlier) left)
+    (still_to_write s.part t s.is_header_out earlier (e ∷ left))
     (record-written s t earlier left e shown changed text next c.requires.on spans (c.deref.ensures ∙ c.show-is_changed.ensures.shown good (step_ms s.part.every) earlier next.slips)
     (λ unchanged. c.deref.ensures ∙ c.show-is_changed.ensures.same unchanged good))
     c.put_record.ensures.part

@@ -10,4 +10,4 @@ pub returns-in_default : goal.returns-in_default
 returns-in_default c = λ bs is. decodes_after c.args.accepted bs c.args.reader c.args.number c.args.number c.keep_new.new.kept c.requires is (sym c.accepts.ensures ∙ c.if-not-accepts.false) refl c.keep_new.ensures.message c.keep_new.ensures.fault
 
 pub returns : goal.returns
-returns c = λ bs is. decodes_after c.args.accepted bs c.args.reader c.args.number (number_of_kind c.in-Some.kind) c.keep_wide_msm.new.kept c.requires is (sym c.accepts.ensures ∙ c.if-not-accepts.false) c.in-Some.ensures.some.1 c.keep_wide_msm.ensures.message c.keep_wide_msm.ensures.fault
+returns c = λ bs is. decodes_after c.args.accepted bs c.args.reader c.args.number (number_of_kind c.in-Some.kind) c.keep_msm.new.kept c.requires is (sym c.accepts.ensures ∙ c.if-not-accepts.false) c.in-Some.ensures.some.1 c.keep_msm.ensures.message c.keep_msm.ensures.fault

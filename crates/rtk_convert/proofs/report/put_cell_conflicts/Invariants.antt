@@ -1,7 +1,7 @@
 use Rattle.std.proofs.Common.{◌≡◌, ◌++◌, take}
 use Rattle.std.specs.Prelude.{flat_map}
 use Rattle.rtk_convert.specs.ReportText.{cell_conflict_line}
-use Rattle.rtk_convert.proofs.report.put_cells.Given as goal
+use Rattle.rtk_convert.proofs.report.put_cell_conflicts.Given as goal
 
 abbrev pub invariant-loop-cell : goal.invariant-loop-cell
 invariant-loop-cell l =

@@ -4,7 +4,7 @@ use Rattle.rtk_obs.specs.declared.cell.CellSource.TheVariants.{Legacy}
 use Rattle.rtk_collect.proofs.CellsLemmas.{any_cell}
 use Rattle.rtk_collect.proofs.RisingLemmas.{no-cells}
 use Rattle.rtk_collect.proofs.KindLemmas.{IsOf, kept-none, some-cells}
-use Rattle.rtk_collect.proofs.merging.kind_of.Goals as goal
+use Rattle.rtk_collect.proofs.merging.source_of.Goals as goal
 
 pub returns-then-is_empty : goal.returns-then-is_empty
 returns-then-is_empty c = subst (λ (xs : List CellEntry). All (IsOf Legacy) xs) (sym (no-cells c.args.cells.now _ refl (sym c.is_empty.ensures ∙ c.if-is_empty.true))) (kept-none Legacy).kind

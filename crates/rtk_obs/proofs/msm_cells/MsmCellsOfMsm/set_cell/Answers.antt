@@ -1,6 +1,6 @@
 use Rattle.std.proofs.Common.{sym, ◌∙◌, arith}
 use Rattle.rtk_obs.proofs.MsmFieldLemmas.{lock_at, cnr_at}
-use Rattle.rtk_obs.proofs.msm_cells.MsmSetCell.set_cell.Goals as goal
+use Rattle.rtk_obs.proofs.msm_cells.MsmCellsOfMsm.set_cell.Goals as goal
 
 pub overflow_cast-cnr : goal.overflow_cast-cnr
 overflow_cast-cnr c =

@@ -4,16 +4,16 @@ use Rattle.rtk_collect.specs.EpochSet.{one_more, fresh, conflicts}
 use Rattle.rtk_collect.proofs.CellsLemmas.{any_cell, fresh-step, lower-length, push-few, conflict-is, kept-conflicts}
 use Rattle.rtk_collect.proofs.EqualityLemmas.{sources-same}
 use Rattle.rtk_collect.proofs.RisingLemmas.{none-conflicts}
-use Rattle.rtk_collect.proofs.merging.compare.Goals as goal
-use Rattle.rtk_collect.proofs.merging.compare.Goals.{in-None, in-Some+then-ne, in-Some+else-ne}
+use Rattle.rtk_collect.proofs.merging.count_new.Goals as goal
+use Rattle.rtk_collect.proofs.merging.count_new.Goals.{in-None, in-Some+then-ne, in-Some+else-ne}
 
-pub loop-cell-preserved : goal.loop-cell-preserved
-loop-cell-preserved c =
-    let i = c.loop-cell.cell-index in
+pub loop-entry-preserved : goal.loop-entry-preserved
+loop-entry-preserved c =
+    let i = c.loop-entry.entry-index in
     let cells = c.args.cells.now in
     let kept = c.args.kept.now in
-    let l = c.loop-cell-test.true in
-    let inv = c.loop-cell.invariant in
+    let l = c.loop-entry-test.true in
+    let inv = c.loop-entry.invariant in
     let cell = get_or cells i any_cell in
     let rest = fresh (drop (i + 1) cells) kept in
     let low = lower-length c.key_of-key.result kept in
@@ -27,7 +27,7 @@ loop-cell-preserved c =
             bound = omega (arith, w.count-is, inv.bound);
             count = omega (arith, w.count-is, inv.count, f, n);
             few = rw w.found-is (omega (arith, inv.few));
-            rising = λ r. rw w.found-is (none-conflicts i any_cell cells kept c.loop-cell.found (conflicts cells kept) l r (sym o ∙ w.in-None.is) (inv.rising r));
+            rising = λ r. rw w.found-is (none-conflicts i any_cell cells kept c.loop-entry.found (conflicts cells kept) l r (sym o ∙ w.in-None.is) (inv.rising r));
             conflicts = λ e. absurd (omega (arith, w.count-is, e));
           }
       | in-Some+then-ne w ↦
@@ -38,9 +38,9 @@ loop-cell-preserved c =
             at = omega arith;
             bound = omega (arith, w.count-is, inv.bound);
             count = omega (arith, w.count-is, inv.count, f, n);
-            few = rw (w.found-is, w.push.ensures) (push-few c.loop-cell.found _ i inv.few);
-            rising = λ r. rw (w.found-is, w.push.ensures, w.satellite_code.ensures) (kept-conflicts i any_cell first cells kept c.loop-cell.found _ (conflicts cells kept) l c.requires.rises (sym o ∙ w.in-Some.is) told (inv.rising r));
-            conflicts = λ e. rw (w.found-is, w.push.ensures, w.satellite_code.ensures) (kept-conflicts i any_cell first cells kept c.loop-cell.found _ (conflicts cells kept) l c.requires.rises (sym o ∙ w.in-Some.is) told (inv.conflicts (omega (arith, w.count-is, e))));
+            few = rw (w.found-is, w.push.ensures) (push-few c.loop-entry.found _ i inv.few);
+            rising = λ r. rw (w.found-is, w.push.ensures, w.satellite_code.ensures) (kept-conflicts i any_cell first cells kept c.loop-entry.found _ (conflicts cells kept) l c.requires.rises (sym o ∙ w.in-Some.is) told (inv.rising r));
+            conflicts = λ e. rw (w.found-is, w.push.ensures, w.satellite_code.ensures) (kept-conflicts i any_cell first cells kept c.loop-entry.found _ (conflicts cells kept) l c.requires.rises (sym o ∙ w.in-Some.is) told (inv.conflicts (omega (arith, w.count-is, e))));
           }
       | in-Some+else-ne w ↦
           let first = w.in-Some.first in
@@ -51,7 +51,7 @@ loop-cell-preserved c =
             bound = omega (arith, w.count-is, inv.bound);
             count = omega (arith, w.count-is, inv.count, f, n);
             few = rw w.found-is (omega (arith, inv.few));
-            rising = λ r. rw (w.found-is, ← append-nil c.loop-cell.found) (kept-conflicts i any_cell first cells kept c.loop-cell.found _ (conflicts cells kept) l c.requires.rises (sym o ∙ w.in-Some.is) told (inv.rising r));
-            conflicts = λ e. rw (w.found-is, ← append-nil c.loop-cell.found) (kept-conflicts i any_cell first cells kept c.loop-cell.found _ (conflicts cells kept) l c.requires.rises (sym o ∙ w.in-Some.is) told (inv.conflicts (omega (arith, w.count-is, e))));
+            rising = λ r. rw (w.found-is, ← append-nil c.loop-entry.found) (kept-conflicts i any_cell first cells kept c.loop-entry.found _ (conflicts cells kept) l c.requires.rises (sym o ∙ w.in-Some.is) told (inv.rising r));
+            conflicts = λ e. rw (w.found-is, ← append-nil c.loop-entry.found) (kept-conflicts i any_cell first cells kept c.loop-entry.found _ (conflicts cells kept) l c.requires.rises (sym o ∙ w.in-Some.is) told (inv.conflicts (omega (arith, w.count-is, e))));
           }
     ]
