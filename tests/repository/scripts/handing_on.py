@@ -170,16 +170,16 @@ convert_links: open_links(rt, names) / fail_to_open_links(rt, fault) / if has_st
     / convert_opened(rt, report, setup, captures, room)
 convert_opened: convert_through(rt.alloc(), setup, captures, room, io::writer(rt), report)
     / conversion_status(rt, converted.done, converted.is_out) / fail(rt, fault)
-show_named: open_input(rt, name) / fail_to_open(rt, name) / show_through(rt.alloc(), capture, standard_output(rt), hex) / DONE
+show_named: open_input(rt, name) / fail_to_open(rt, name) / show_through(rt.alloc(), reader, standard_output(rt), hex) / DONE
     / fail(rt, fault)
-check_named: open_input(rt, name) / fail_to_open(rt, name) / check_through(rt.alloc(), text, standard_output(rt)) / DONE
+check_named: open_input(rt, name) / fail_to_open(rt, name) / check_through(rt.alloc(), reader, standard_output(rt)) / DONE
     / NOT_VALID / fail(rt, fault)
 summarize_named: open_input(rt, name) / fail_to_open(rt, name)
     / summarize_through(rt.alloc(), name.as_bytes(), capture, standard_output(rt))
     / summary_status(rt, done)
-chart_named: open_input(rt, name) / fail_to_open(rt, name) / chart_through(rt.alloc(), text, width, standard_output(rt)) / DONE
+chart_named: open_input(rt, name) / fail_to_open(rt, name) / chart_through(rt.alloc(), reader, width, standard_output(rt)) / DONE
     / eprintln!(rt; "{fault}") / NOT_VALID / fail(rt, fault)
-cut_named: open_input(rt, name) / fail_to_open(rt, name) / cut_through(rt.alloc(), text, part, GATHERED, io::writer(rt))
+cut_named: open_input(rt, name) / fail_to_open(rt, name) / cut_through(rt.alloc(), reader, part, GATHERED, io::writer(rt))
     / fail(rt, fault) / DONE / eprintln!(rt; "{fault}") / NOT_VALID / fail(rt, fault)
 summary_status: DONE / fail(rt, ToolFault::OutOfMemory) / fail(rt, ToolFault::Input) / fail_to_end(rt) / fail(rt, ToolFault::Output)
 conversion_status: is_out / DONE / fail(rt, ToolFault::Output) / fail(rt, ToolFault::OutOfMemory) / fail(rt, ToolFault::Input)
@@ -209,12 +209,12 @@ SHAPES = [(re.compile(shape), by) for shape, by in (
 
 # What may not stand in a body: the function, what stands there, and what is put in its place.
 PLANTS = """
-show_named: let (_out, / let mut capture = capture; let _one = capture.read(&mut [0]); let (_out,
+show_named: let (_out, / let mut reader = reader; let _one = reader.read(&mut [0]); let (_out,
 show_named: match shown { / if name.len() == 7 { return DONE; } match shown {
 check_named: Ok(false) => NOT_VALID / Ok(false) if name.len() == 7 => DONE, Ok(false) => NOT_VALID
 summarize_named: summarize_through(rt.alloc(), name.as_bytes(), capture / summarize_through(rt.alloc(), name.as_bytes(), capture.take(1 << 40)
-chart_named: text, width / text, width.map(|it| it + 1)
-cut_named: text, part / text, Part { every: None, ..part }
+chart_named: reader, width / reader, width.map(|it| it + 1)
+cut_named: reader, part / reader, Part { every: None, ..part }
 open_input: fs::open(rt, name) / fs::open(rt, &name[1..])
 open_links: in names / in names.iter().rev()
 open_links: if links.push(link) / if links.len() == 15 { links.clear(); } if links.push(link)
