@@ -17,18 +17,18 @@ run_program: words_of(rt) / fail(rt, fault) / Vec::new(rt.alloc()) / &owned / wo
 words_of: std::env::args(rt) / error.kind() == ErrorKind::OutOfMemory / Err(ToolFault::OutOfMemory) / Err(ToolFault::Input)
     / args.next() / Vec::new(rt.alloc()) / args / words.push(word).map_err(|_| ToolFault::OutOfMemory)? / Ok(words)
 run_words: job(rt.alloc(), words) / run_job(rt, report, job) / refuse_words(rt, fault)
-job: read_words(alloc, words) / conversion(alloc, &setup, links.as_slice()) / Ok(Job::Show { hex, file })
+job: read_words(alloc, words) / auto_job(alloc, &options, captures) / conversion(alloc, &setup, links.as_slice()) / Ok(Job::Show { hex, file })
     / Ok(Job::Check { file }) / Ok(Job::Summary { file }) / Ok(Job::Chart { width, file }) / cut_job(&part, file)
     / Err(WordsFault::Clap { text, status }) / Err(WordsFault::OutOfMemory)
 cut_job: part_of(options) / Ok(Job::Cut { part, file }) / Err(WordsFault::Bad { line })
-run_job: convert_links(rt, report, setup, links.as_slice()) / show_named(rt, hex, file) / check_named(rt, file)
+run_job: auto_captures(rt, report, &options, captures.as_slice()) / convert_links(rt, report, setup, links.as_slice()) / show_named(rt, hex, file) / check_named(rt, file)
     / summarize_named(rt, file) / chart_named(rt, width, file) / cut_named(rt, part, file)
 read_words: program_command(alloc)? / request_of_words(alloc, &mut program, words)
-request_of_words: matches_of(alloc, program, words)? / request_of_matches(alloc, &matches)? / Ok(request) / Err(missing_word_answer(alloc, program))
+request_of_words: words.is_empty() / Err(help_answer(program)) / matches_of(alloc, program, words)? / request_of_matches(alloc, &matches)? / Ok(request) / Err(missing_word_answer(alloc, program))
 missing_word_answer: program.error(ErrorKind::MissingRequiredArgument, "a command or a value is missing") / clap_answer(alloc, &error)
     / ClapAnswer::OutOfMemory
 matches_of: program.try_get_matches_from_mut(words) / Err(clap_answer(alloc, &error))
-request_of_matches: matches.subcommand() / Some(("convert", convert)) => convert_request(alloc, convert),
+request_of_matches: matches.subcommand() / Some(("auto", auto)) => auto_request(alloc, auto), Some(("convert", convert)) => convert_request(alloc, convert),
     Some(("show", show)) => Ok(show_request(show)), Some(("check", check)) => Ok(check_request(check)),
     Some(("summary", summary)) => Ok(summary_request(summary)), Some(("chart", chart)) => Ok(chart_request(chart)),
     Some(("cut", cut)) => Ok(cut_request(cut)), _ => Ok(None),
@@ -82,6 +82,97 @@ refuse: eprintln!(rt; "rtcm2rinex: {line}") / REFUSED
 refuse_words: print_clap_text(rt, text.as_str(), status) / refuse(rt, line) / fail(rt, ToolFault::OutOfMemory)
 print_clap_text: status != DONE / eprint!(rt; "{text}") / REFUSED / Writes::over(standard_output(rt), 0)
     / write_all(&mut out, text.as_bytes()) / DONE / fail(rt, ToolFault::Output)
+auto_option_values: let station = station_of(matches.get_one::<u32>("station"))?; let window =
+    window_of(matches.get_one::<u32>("window"))?; let msm = msm_if_any(matches.get_one::<u32>("msm"))?; Some(AutoOptions {
+    station, msm, codes: matches.get_str("codes"), near: matches.get_str("near"), made: matches.get_str("made"), marker:
+    matches.get_str("marker"), window, output: matches.get_str("output"), force: matches.get_flag("force"), skip_empty:
+    matches.get_flag("skip-empty"), links_as_given: matches.get_flag("links-as-given"), report: matches.get_flag("report"), })
+auto_request: let Some(options) = auto_option_values(matches) else { return Ok(None); }; let captures = Vec::from_slice(alloc,
+    matches.get_strs("CAPTURE").unwrap_or(&[]))?; Ok(Some(Request::Auto { options, captures }))
+identity_of: if name == STDIN { let _told = eprintln!(rt; "rtcm2rinex: auto reads each capture twice, and stdin can't be"); return
+    Err(REFUSED); } match what_is_named(rt, name) { Named::File(identity) => Ok(identity), Named::Nothing => Err(fail_to_open(rt,
+    name)), Named::Other => { let _told = eprintln!(rt; "rtcm2rinex: auto reads each capture twice, and {name} is no regular
+    file"); Err(REFUSED) } }
+identities_of: let mut identities = Vec::new(rt.alloc()); for name in names { let identity = identity_of(rt, *name)?; if
+    place_among(identities.as_slice(), identity).is_some() { let _told = eprintln!(rt; "rtcm2rinex: {name} is named twice");
+    return Err(REFUSED); } if identities.push(identity).is_err() { return Err(fail(rt, ToolFault::OutOfMemory)); } }
+    Ok(identities)
+output_identity: let Some(name) = output else { return standard_output_file(rt); }; match what_is_named(rt, name) {
+    Named::File(identity) => identity, _ => None, }
+fail_output: let _told = match fault { OutputFault::IsThere => { eprintln!(rt; "rtcm2rinex: {name} is there, and -f would replace
+    it") } OutputFault::NotRegular => eprintln!(rt; "rtcm2rinex: {name} is no regular file"), OutputFault::NotMade =>
+    eprintln!(rt; "rtcm2rinex: cannot write beside {name}"), OutputFault::NotWritten => return fail(rt, ToolFault::Output),
+    OutputFault::OutOfMemory => return fail(rt, ToolFault::OutOfMemory), }; FAILED
+look_at_files: let identities = identities_of(rt, names)?; let found = output_identity(rt, output); if
+    place_among(identities.as_slice(), found).is_some() { let _told = eprintln!(rt; "rtcm2rinex: the output is one of the
+    captures"); return Err(FAILED); } let Some(name) = output else { return Ok(()); }; match is_free(rt, name, force) { Ok(()) =>
+    Ok(()), Err(fault) => Err(fail_output(rt, name, fault)), }
+fail_clock: let _told = eprintln!(rt; "rtcm2rinex: the clock can't be read; give --made"); NOT_VALID
+made_at: if let Some(made) = made { return Ok(made); } match present(rt) { Ok(seconds) => match moment_at(seconds) { Some(made) =>
+    Ok(made), None => Err(fail_clock(rt)), }, Err(PresentFault::NoClock) => Err(fail_clock(rt)), Err(PresentFault::BadVariable) =>
+    { let _told = eprintln!(rt; "rtcm2rinex: SOURCE_DATE_EPOCH is no number of seconds"); Err(REFUSED) }
+    Err(PresentFault::OutOfMemory) => Err(fail(rt, ToolFault::OutOfMemory)), }
+read_named: let Some(capture) = open_capture(rt, name) else { return Err(fail_to_open(rt, name)); }; let found = match
+    find_through(rt.alloc(), &mut told.findings, capture) { Ok(found) => found, Err(fault) => return Err(summary_status(rt,
+    Err(fault))), }; match keep_dates(told, place, &found) { Ok(()) => Ok(()), Err(_) => Err(fail(rt, ToolFault::OutOfMemory)), }
+read_captures: let Ok(findings) = Findings::new(rt.alloc(), now, station) else { return Err(fail(rt, ToolFault::OutOfMemory)); };
+    let mut told = Told { findings, differing: Vec::new(rt.alloc()), }; for (place, name) in names.iter().enumerate() {
+    read_named(rt, &mut told, place, *name)?; } Ok(told)
+tell: match report.write_all(lines) { Ok(()) => Ok(()), Err(_) => Err(fail(rt, ToolFault::Output)), }
+fail_plan: let PlanFault::Refused { refusal, list } = fault else { return fail(rt, ToolFault::OutOfMemory); }; let _told =
+    eprintln!(rt; "rtcm2rinex: {refusal}"); let _listed = report.write_all(list.as_slice()); NOT_VALID
+files_of_links: let mut all = Vec::new(alloc); for link in links { let mut files = Vec::new(alloc); for name in link {
+    files.push(Later::new(rt, *name))?; } all.push(files)?; } Ok(all)
+done_status: if counts.epochs == 0 { let _told = eprintln!(rt; "rtcm2rinex: no record came; the file is a header alone"); return
+    NOT_VALID; } DONE
+convert_to: let rt = work.rt; let Ok(files) = files_of_links(rt.alloc(), rt, work.links.as_slice()) else { return Err(fail(rt,
+    ToolFault::OutOfMemory)); }; let report = Quiet::new(report, !work.is_reported); let converted = match
+    convert_joined(rt.alloc(), work.setup, files, out, report) { Ok(converted) => converted, Err(fault) => return Err(fail(rt,
+    fault)), }; finish(rt, converted, &work.known, work.is_reported)
+finish: let counts = match converted.done { Ok(counts) if converted.is_out => counts, done => return Err(conversion_status(rt,
+    done, converted.is_out)), }; let Ok(lines) = said_after(rt.alloc(), &counts, known, is_reported) else { return Err(fail(rt,
+    ToolFault::OutOfMemory)); }; let mut report = converted.report.into_inner(); tell(rt, &mut report, lines.as_slice())?;
+    Ok((converted.out, counts))
+convert_to_file: let rt = work.rt; let beside = match make_beside(rt, name) { Ok(beside) => beside, Err(fault) => return
+    fail_output(rt, name, fault), }; let (file, counts) = match convert_to(work, beside.file, report) { Ok(done) => done,
+    Err(status) => { let_go(rt, beside.name.as_str()); return status; } }; match name_whole(rt, file, beside.name.as_str(), name,
+    force) { Ok(()) => done_status(rt, &counts), Err(fault) => fail_output(rt, name, fault), }
+convert_to_output: let rt = work.rt; match convert_to(work, io::writer(rt), report) { Ok((_out, counts)) => done_status(rt,
+    &counts), Err(status) => status, }
+convert_plan: let mut report = report; let Ok(links) = names_of_links(rt.alloc(), plan.links.as_slice(), captured.names) else {
+    return fail(rt, ToolFault::OutOfMemory); }; let Ok(lines) = said(rt.alloc(), &plan, links.as_slice()) else { return fail(rt,
+    ToolFault::OutOfMemory); }; let Ok(known) = what_is_known(rt.alloc(), captured, &plan) else { return fail(rt,
+    ToolFault::OutOfMemory); }; if let Err(status) = tell(rt, &mut report, lines.as_slice()) { return status; } let work = Work {
+    rt, setup: plan.setup, links, known, is_reported: ways.report, }; match ways.output { Some(name) => convert_to_file(work,
+    report, name, ways.force), None => convert_to_output(work, report), }
+convert_told: let mut report = report; let captured = Captured { findings: &told.findings, names, differing:
+    told.differing.as_slice(), }; let ways = &words.ways; let plan = plan_of(rt.alloc(), &captured, &words.wanted, made,
+    ways.skip_empty, ways.links_as_given); match plan { Ok(plan) => convert_plan(rt, report, &captured, plan, ways), Err(fault) =>
+    fail_plan(rt, &mut report, fault), }
+begin: look_at_files(rt, names, words.ways.output, words.ways.force)?; made_at(rt, words.made)
+auto_captures: let made = match begin(rt, words, names) { Ok(made) => made, Err(status) => return status, }; match
+    read_captures(rt, made, words.wanted.station, names) { Ok(told) => convert_told(rt, report, words, names, &told, made),
+    Err(status) => status, }
+is_free: let Ok(found) = fs::symlink_metadata(rt, name) else { return Ok(()); }; if !force { return Err(OutputFault::IsThere); }
+    if !found.is_file() { return Err(OutputFault::NotRegular); } Ok(())
+make_beside: for number in 0..=MOST_BESIDE { let beside = name_beside(rt, name, number)?; let made = OpenOptions::new()
+    .write(true) .create_new(true) .open(rt, beside.as_str()); match made { Ok(file) => return Ok(Beside { file, name: beside }),
+    Err(error) if error.kind() == ErrorKind::AlreadyExists => {} Err(_) => return Err(OutputFault::NotMade), } }
+    Err(OutputFault::NotMade)
+give_name: let named = if force { fs::rename(rt, beside, name) } else { fs::hard_link(rt, beside, name) }; match named { Ok(()) =>
+    Ok(()), Err(error) if error.kind() == ErrorKind::AlreadyExists => Err(OutputFault::IsThere), Err(_) =>
+    Err(OutputFault::NotWritten), }
+let_go: let _removed = fs::remove_file(rt, beside);
+name_whole: let named = match file.sync_all() { Ok(()) => give_name(rt, beside, name, force), Err(_) =>
+    Err(OutputFault::NotWritten), }; let_go(rt, beside); named
+what_is_named: let Ok(found) = fs::metadata(rt, name) else { return Named::Nothing; }; if !found.is_file() { return Named::Other;
+    } let identity = FileIdentity { device: found.dev(), number: found.ino(), }; if identity == FileIdentity::default() { return
+    Named::File(None); } Named::File(Some(identity))
+standard_output_file: match what_is_named(rt, STANDARD_OUTPUT) { Named::File(identity) => identity, _ => None, }
+open_if_waiting: if let LaterFile::Waiting = file { *file = LaterFile::Open(fs::open(rt, name)?); } Ok(())
+present: match env::var(rt, VARIABLE) { Ok(text) => text .as_str() .parse::<u64>() .map_err(|_| PresentFault::BadVariable),
+    Err(VarError::NotPresent) => clock_time(rt), Err(VarError::NotUnicode) => Err(PresentFault::BadVariable),
+    Err(VarError::OutOfMemory) => Err(PresentFault::OutOfMemory), }
 """
 KNOWN = {name: " ".join(rest.split()).split(" / ") for name, rest in re.findall(r"(\w+): (.+(?:\n .*)*)", HANDED)}
 
@@ -144,7 +235,8 @@ def fault(name, body):
     return "" if body == "@" else f"{name}: {body}"
 
 
-found = [it for file, text in TEXTS.items() if "/crates/rt" in file for it in bodies(bare(text)) if it[0] in KNOWN or re.search(TAKES, it[1])]
+found = [it for file, text in TEXTS.items() if "/crates/rt" in file for it in bodies(bare(text))
+    if re.search(TAKES, it[1]) or it[0] in KNOWN and re.search("/(?:rtk_(?:args|cli|commands|streams)|rtcm2rinex)/", file)]
 here = {name: body for name, _, body in found}
 tell("each_function_hands_on_what_it_has", [it for it in (fault(name, body) for name, _, body in found) if it]
     + sorted(KNOWN.keys() - here.keys()) + [f"twice: {len(found) - len(here)}"] * (len(found) != len(here)))
