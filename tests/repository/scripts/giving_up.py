@@ -16,21 +16,23 @@ BLOCK = nested("{", "}", rf"(?:(?!{WORD})[^{{}}])", 3)
 CODE = rf"(?:(?!{WORD})[^{{}}]|{BLOCK})*?"
 
 # Calls of std and clap that fail for want of memory alone; and those of these crates of which name and type of fault don't say so.
-OF_STD = {"with_capacity", "push", "push_front", "insert", "reserve", "reserve_exact", "extend_from_slice", "to_string", "error"}
-OF_CRATES = {"Scanner::new", "Conversion::new", "sink", "set.join", "lines.push_row", "header"}
+OF_STD = {"with_capacity", "push", "push_front", "insert", "reserve", "reserve_exact", "extend_from_slice", "to_string", "error",
+    "render_long_help"}
+OF_CRATES = {"Scanner::new", "Conversion::new", "sink", "set.join", "lines.push_row", "header", "Findings::new"}
 NAME = r"(?:\(\)|(?:mut )?(?!true|false)[a-z]\w*)"
 FAULT = r"(?:\w+::OutOfMemory|AllocError)"
-ANSWER = rf"(?:return )?(?:{FAULT}|Err\({FAULT}\)|fail\(rt, {FAULT}\))"
+ANSWER = rf"(?:return )?(?:{FAULT}|Err\({FAULT}\)|fail\(rt, {FAULT}\)|Err\(fail\(rt, {FAULT}\)\))"
 
 # What requests name as their sizes.
 SIZES = {
     "::with_capacity(": {"alloc, len + 6", "alloc, 2 * LONGEST_FRAME", "alloc, bytes.len()", "alloc, LONGEST_HEADER", "alloc, text.len()",
-        "alloc, readers.len()", "rt.alloc(), READ_AT_ONCE, capture", "alloc, room, Resumed::new(to)"},
+        "alloc, readers.len()", "rt.alloc(), READ_AT_ONCE, capture", "alloc, READ_AT_ONCE, joined", "alloc, room, Resumed::new(to)"},
     ".reserve(": {"9", "count", "room.msm", "room.legacy"},
     ".reserve_exact(": {"count", "len - text.len()", "room"},
     ".resize(": {"satellites", "count", "len, b' '", "room, b' '"},
     "vec![in alloc; ": {"TimeBin::new(); scale.bins as usize", "false; scale.bins as usize", "0u8; room", "0u8; PIECE", "0; NUMBERS",
-        "Station::new(); NUMBERS", "false; STATIONS"},
+        "Station::new(); NUMBERS", "false; STATIONS", "Heard::nothing(); STATIONS", "PhaseCount::nothing(); PLACES",
+        "StationDates::new(); NUMBERS", "0; WEEKS"},
 }
 
 # Code that may not stand in a body.
@@ -89,7 +91,11 @@ def branches(sources):
         rf"\bmatch {call} \{{ Ok\({NAME}\) => {CODE}, Err\(_\) => {ANSWER}, \}}",
         rf"= match check\(text\) \{{ Ok\(table\) => \(true, {call}\), Err\(fault\) => \(false, {call}\), \}}; "
         rf"match line \{{ Ok\(line\) => {CODE}, Err\(_\) => {ANSWER}, \}}",
+        rf"\bcaptures\.push\(\*found\)\.ok\(\)\?; Some\(\*found\) \}}|\bkeep\(&mut self\.captures, &found\)\.ok_or\({FAULT}\)",
+        # `text` is what `format!` answers
+        r"\bmatch text \{ Ok\(text\) => Ok\(text\), Err\(_\) => Err\(OutputFault::OutOfMemory\), \}",
         # what was refused before
+        rf"\blet PlanFault::Refused \{{ refusal, list \}} = fault else \{{ {ANSWER}; \}}",
         rf"(?<=[{{,}}] )(?:\w+::OutOfMemory|Err\(\w+::OutOfMemory\)) => {ANSWER},",
         rf"(?<=[{{,}}] )Err\(error\) if error\.kind\(\) == ErrorKind::OutOfMemory => {ANSWER},",
         rf"\bif error\.kind\(\) == ErrorKind::OutOfMemory \{{ {ANSWER}; \}}",
