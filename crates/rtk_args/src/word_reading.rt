@@ -239,7 +239,7 @@ fn request_of_words<'a>(
 /// What the words of a command line ask for, or what clap answers. They begin after the name of the
 /// program.
 pub fn read_words<'a>(alloc: Global, words: &'a [&'a str]) -> Result<Request<'a>, ClapAnswer>
-    // Fails only if memory is refused: tests/system/calls, rows `job ..`.
+    // `OutOfMemory` comes only if memory is refused: tests/system/calls, rows `job ..`.
     ensures limits { IfOk result IsRequest }
     ensures status { IfErr result HasClapStatus }
 {

@@ -6,7 +6,7 @@ ghost use Rattle.rtk_chart.specs.Scale.{scale_of, IsScale, bin_at, bin_start, un
 
 use rtk_obs::{GpsMs, LAST_MS};
 
-/// The most bins of a picture. A picture in SVG is as many units wide, so that a bin has one at least.
+/// The most bins of a picture. In SVG its bins have as many units of width, so each has one at least.
 pub(crate) const MOST_BINS: u64 = 1440;
 
 /// The time bins of a picture. Moments are in ms since 1980-01-06 00:00:00.000.

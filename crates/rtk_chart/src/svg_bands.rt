@@ -2,7 +2,7 @@
 
 ghost use Rattle.std.specs.Prelude.{◌≡◌, ◌≤◌, ◌<◌, ◌+◌, ◌*◌, ◌/◌, ◌++◌, length, OnOk};
 ghost use Rattle.rtk_chart.specs.Scale.{IsScale, longest_bin};
-ghost use Rattle.rtk_chart.specs.SvgPicture.{satellite_label, band_title, lock_layers, band_text, drawn_width, band_if_drawn, bands_text, gaps_band, tick_text, svg_tick_step, ticks_text, bands_end};
+ghost use Rattle.rtk_chart.specs.SvgPicture.{satellite_label, band_title, lock_layers, band_text, drawn_width, band_if_drawn, bands_text, gaps_band, tick_text, svg_tick_step, ticks_text, bands_end, band_height};
 
 use crate::layer::{Layer, flags};
 use crate::scale::Scale;
@@ -19,6 +19,14 @@ const LEFT: u64 = 90;
 
 /// Where the first band begins, from the top, in units of SVG.
 pub(crate) const TOP: u64 = 96;
+
+/// The height of a band with these codes, in units of SVG.
+pub(crate) fn band_height(codes: &[Code]) -> u64
+    requires { length codes.now ≤ 16 }
+    ensures { result ≡ band_height (length codes.now) }
+{
+    8 * codes.len() as u64 + 34
+}
 
 fn put_label(text: &mut Vec<u8>, satellite: u8) -> Result<(), AllocError>
     requires { satellite ≤ 32 }
@@ -110,8 +118,7 @@ fn put_band_if_drawn(
     ensures { OnOk result (text.new.items ≡ text.old.items ++ band_if_drawn bin_width codes.now bins.now place) }
 {
     if is_drawn(bins, place) {
-        let height = 8 * codes.len() as u64 + 34;
-        let top = TOP + drawn_before(bins, place) * height;
+        let top = TOP + drawn_before(bins, place) * band_height(codes);
         put_band(alloc, text, bin_width, codes, bins, top, place)?;
     }
     Ok(())

@@ -8,7 +8,7 @@ ghost use Rattle.rtk_chart.specs.Steps.Pictures.{svg_of_grid};
 use crate::grid::Grid;
 use crate::scale::{MOST_BINS, Scale};
 use crate::survey::Survey;
-use crate::svg_bands::{TOP, put_bands, put_gaps, put_ticks};
+use crate::svg_bands::{TOP, band_height, put_bands, put_gaps, put_ticks};
 use crate::svg_text::{put_between, put_xml};
 use crate::text_picture::drawn_before;
 use crate::time_text::put_seconds;
@@ -159,7 +159,7 @@ fn bands_end(codes: &[Code], satellites: u64) -> u64
     ensures value { result ≡ bands_end (length codes.now) satellites }
     ensures bound { result ≤ bands_end 16 32 }
 {
-    TOP + satellites * (8 * codes.len() as u64 + 34)
+    TOP + satellites * band_height(codes)
 }
 
 /// The picture of a file with records.

@@ -14,7 +14,7 @@ use std::alloc::Global;
 pub(crate) fn codes_of(alloc: Global, text: &[u8]) -> Result<Vec<Code>, WordsFault>
     ensures codes { IfOk result (λ codes. Lists text.now codes.items) }
     ensures bad { IfErr result (λ fault. fault ≡ Bad Codes → (codes : List Code) → ¬ (Lists text.now codes)) }
-    // That it gives up only without memory shows the row `job of convert` of tests/system/calls.
+    // `OutOfMemory` comes only if memory is refused: tests/system/calls, rows `job of convert`.
     ensures else_memory { IfErr result (λ fault. fault ≢ Bad Codes → fault ≡ OutOfMemory) }
 {
     let mut codes = Vec::new(alloc);

@@ -24,8 +24,8 @@ const _: () = prove!(rtk_args::LEAST_WINDOW as usize == LEAST_WINDOW);
 
 const _: () = prove!(rtk_args::MOST_WINDOW as usize == MOST_WINDOW);
 
-/// The conversion that the options and the links say. The causes are looked for in the order of
-/// `BadWords`, but for a reference near which nothing is dated, which comes last.
+/// The conversion that the options and the links say. The causes are looked for in the order that
+/// `BadWords` says.
 pub(crate) fn convert_job<'a>(
     alloc: Global,
     options: &ConvertOptions,
@@ -33,7 +33,7 @@ pub(crate) fn convert_job<'a>(
 ) -> Result<Job<'a>, WordsFault>
     ensures said { IfOk result (SaysConversion options.now (map (λ link. link.now) links.entry.items)) }
     ensures limits { IfOk result IsWithinLimits }
-    // That it gives up only without memory show the rows `job of convert ..` of tests/system/calls.
+    // `OutOfMemory` comes only if memory is refused: tests/system/calls, rows `job of convert ..`.
     ensures refused { IfErr result (RefusesConversion options.now (map (λ link. link.now) links.entry.items)) }
     ensures status { IfErr result HasStatus }
 {

@@ -39,31 +39,31 @@ pub struct Converted<O, L> {
     pub is_out: bool,
 }
 
-// The readers as links, in their order and numbered from 0.
+// The readers as the sources of links, in their order and numbered from 0.
 fn links_over<R: Read + Drop, K: Before>(
     alloc: Global,
     readers: Vec<R>,
 ) -> Result<Vec<Reads<R, K>>, ToolFault>
     requires had { K.had ≡ bytes_had R.remaining readers.items }
     requires few { length readers.items ≤ 16 }
-    ensures links { IfOk result (λ links. AreLinksOf links.items readers.items (λ link. link.number) (λ link. link.inner)) }
+    ensures sources { IfOk result (λ sources. AreLinksOf sources.items readers.items (λ link. link.number) (λ link. link.inner)) }
     ensures fault { IfErr result (λ fault. fault ≡ ToolFault.OutOfMemory) }
 {
-    let Ok(mut links) = Vec::with_capacity(alloc, readers.len()) else {
+    let Ok(mut sources) = Vec::with_capacity(alloc, readers.len()) else {
         return Err(ToolFault::OutOfMemory);
     };
     let mut number = 0;
     for reader in readers {
-        if links.push(Reads::over(reader, number)).is_err() {
+        if sources.push(Reads::over(reader, number)).is_err() {
             return Err(ToolFault::OutOfMemory);
         }
         number += 1;
     }
-    Ok(links)
+    Ok(sources)
 }
 
 // Hands on what was gathered, the file's before the report's.
-fn finished<O: Write + Drop, L: Write + Drop, K: Before>(
+fn flush_both<O: Write + Drop, L: Write + Drop, K: Before>(
     done: Result<Counts, ConvertFault>,
     file: Writes<BufWriter<Resumed<O>>, K>,
     log: Writes<BufWriter<Resumed<L>>, K>,
@@ -107,7 +107,7 @@ fn convert_by<R: Read + Drop, O: Write + Drop, L: Write + Drop, K: Before>(
     ensures faults { IfOk result (λ c. IfErr c.done IsRunFault) }
     ensures fault { IfErr result (λ fault. fault ≡ ToolFault.OutOfMemory) }
 {
-    let mut links: Vec<Reads<R, K>> = links_over(alloc, readers)?;
+    let mut sources: Vec<Reads<R, K>> = links_over(alloc, readers)?;
     let Ok(mut file) = sink::<O, K>(alloc, room, out, 0) else {
         return Err(ToolFault::OutOfMemory);
     };
@@ -117,12 +117,12 @@ fn convert_by<R: Read + Drop, O: Write + Drop, L: Write + Drop, K: Before>(
     let done = run(
         alloc,
         setup,
-        links.as_mut_slice(),
+        sources.as_mut_slice(),
         &mut file,
         &mut log,
         MOST_READS,
     );
-    Ok(finished(done, file, log))
+    Ok(flush_both(done, file, log))
 }
 
 /// Converts what readers give, each of them a link: the file goes to `out`, the report to `report`,
@@ -155,6 +155,7 @@ pub fn convert_through<R: Read + Drop, O: Write + Drop, L: Write + Drop>(
     ensures faults { IfOk result (λ c. IfErr c.done IsRunFault) }
     ensures fault { IfErr result (λ fault. fault ≡ ToolFault.OutOfMemory) }
 {
+    // `convert_by` numbers its readers in a `u8`, so it takes at most 16. `run` sees whether there is any.
     if readers.len() > MOST_LINKS {
         return Ok(Converted {
             out,
@@ -192,12 +193,12 @@ fn convert_opened<R: Print + Eprint + AllocGlobal, S: Read + Drop, W: Write + Dr
     rt: &R,
     report: W,
     setup: Setup,
-    captures: Vec<S>,
+    readers: Vec<S>,
     room: usize,
 ) -> u8
     ensures { result ≤ REFUSED }
 {
-    match convert_through(rt.alloc(), setup, captures, room, io::writer(rt), report) {
+    match convert_through(rt.alloc(), setup, readers, room, io::writer(rt), report) {
         Ok(converted) => conversion_status(rt, converted.done, converted.is_out),
         Err(fault) => fail(rt, fault),
     }
@@ -215,8 +216,8 @@ pub(crate) fn convert_links<R: Files + Input + Print + Eprint + AllocGlobal, W: 
 ) -> u8
     ensures { result ≤ REFUSED }
 {
-    let captures = match open_links(rt, names) {
-        Ok(captures) => captures,
+    let readers = match open_links(rt, names) {
+        Ok(readers) => readers,
         Err(fault) => return fail_to_open_links(rt, fault),
     };
     let room = if has_standard_input(names) {
@@ -224,5 +225,5 @@ pub(crate) fn convert_links<R: Files + Input + Print + Eprint + AllocGlobal, W: 
     } else {
         GATHERED
     };
-    convert_opened(rt, report, setup, captures, room)
+    convert_opened(rt, report, setup, readers, room)
 }

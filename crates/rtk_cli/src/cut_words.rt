@@ -24,7 +24,7 @@ fn moment_or_none(text: Option<&str>) -> Option<Option<GpsMs>>
 }
 
 // Does the span end before it begins?
-fn is_after(part: &Part) -> bool
+fn ends_before_it_begins(part: &Part) -> bool
     ensures { IsTrue result ↔ IsAfter part.now.from part.now.until }
 {
     let Some(from) = part.from else {
@@ -53,7 +53,7 @@ pub(crate) fn part_of(options: &CutOptions) -> Result<Part, BadWords>
         until,
         every: options.every,
     };
-    if is_after(&part) {
+    if ends_before_it_begins(&part) {
         return Err(BadWords::Until);
     }
     Ok(part)

@@ -39,7 +39,7 @@ fn auto_job<'a>(
 
 /// What the words of a command line ask for. They begin after the name of the program.
 pub fn job<'a>(alloc: Global, words: &'a [&'a str]) -> Result<Job<'a>, WordsFault>
-    // That it gives up only without memory show the rows `job ..` of tests/system/calls.
+    // `OutOfMemory` comes only if memory is refused: tests/system/calls, rows `job ..`.
     ensures limits { IfOk result IsWithinLimits }
     ensures status { IfErr result HasStatus }
 {

@@ -12,7 +12,7 @@ use std::io::Printer;
 pub(crate) fn refuse<R: Eprint>(rt: &R, line: BadWords) -> u8
     ensures { result ≡ REFUSED }
 {
-    let _told = eprintln!(rt; "rtcm2rinex: {line}");
+    let _printed = eprintln!(rt; "rtcm2rinex: {line}");
     REFUSED
 }
 
@@ -21,7 +21,7 @@ fn print_clap_text<R: Print + Eprint>(rt: &R, text: &str, status: u8) -> u8
     ensures { result ≤ REFUSED }
 {
     if status != DONE {
-        let _told = eprint!(rt; "{text}");
+        let _printed = eprint!(rt; "{text}");
         return REFUSED;
     }
     let mut out: Writes<Resumed<Printer<'_, R>>> = Writes::over(standard_output(rt), 0);

@@ -27,7 +27,7 @@ pub fn cut<W: Sink>(
     ensures all { OnOk result (WritesPart table.now.text part (W.taken out.old) (W.taken out.new)) }
     ensures part { OnErr result (WritesFirstOfPart table.now.text part (W.taken out.old) (W.taken out.new)) }
 
-    // A failed write is told, and nothing else is told as one. Else fails only if memory is refused:
+    // A failed write is told, and nothing else is told as one. Else it fails only if memory is refused:
     // tests/system/calls, rows `cut ..`.
     ensures write_failed { IsErrOf result Write → CountRises (W.failures out.old) (W.failures out.new) }
     ensures no_failed_write { result ≢ Err Write → W.failures out.new ≡ W.failures out.old }

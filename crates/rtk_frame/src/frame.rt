@@ -49,7 +49,7 @@ impl From<AllocError> for FrameFault {
 ///
 /// Source: RTCM 10403.3, transport layer.
 pub fn encode_frame(alloc: Global, payload: &[u8]) -> Result<Vec<u8>, FrameFault>
-    // Fails only if memory is refused: tests/system/calls, rows encode_frame.
+    // `OutOfMemory` comes only if memory is refused: tests/system/calls, rows encode_frame.
     ensures frame { IfOk result (λ frame.
         (length payload.now ≤ 1023) × (frame.items ≡ framed payload.now)) }
     ensures too_long { IsErrOf result TooLong ↔ (1023 < length payload.now) }

@@ -24,7 +24,7 @@ pub fn read_whole<R: Source>(
     reader: &mut R,
     limit: usize,
 ) -> Result<Vec<u8>, ToolFault>
-    // Fails only if memory is refused: tests/system/calls, rows `show ..` and `check_file ..`.
+    // `OutOfMemory` comes only if memory is refused: tests/system/calls, rows `show ..` and `check_file ..`.
     ensures whole { IfOk result (λ bytes. GivesText (R.given reader.old) (R.given reader.new) (λ text.
         (text ≡ bytes.items) × (length text ≤ limit))) }
     ensures to_the_end { OnOk result (R.is_at_end reader.new) }

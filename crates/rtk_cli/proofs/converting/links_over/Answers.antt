@@ -8,7 +8,7 @@ pub loop-reader-preserved : goal.loop-reader-preserved
 loop-reader-preserved g c =
     let i = c.loop-reader.invariant in
     let seen = c.loop-reader.yielded in
-    let links = c.loop-reader.links.items in
+    let links = c.loop-reader.sources.items in
     let ok : is_ok c.push.result ≡ true = c.is_err.ensures.negation ∙ ap not c.if-is_err.false in
     let pushed : c.push.new.self.items ≡ links ++ c.over.result ∷ [] =
     c.push.ensures.items ∙ ap (λ (b : Bool). if b then (links ++ c.over.result ∷ []) else links) ok in
