@@ -80,9 +80,10 @@ plan_of: captured.findings.summary.frames() == 0 / refused(Refusal::NoFrame, cap
     / links_to_convert(alloc, captured, station, &dating, as_given)? / Ok(Plan { setup, span: dating.span, links, skipped, })
 links_to_convert: as_given / links_as_given(alloc, captured, station)
     / links_found(alloc, captured, station, dating.placed.as_slice())
-auto_captures: begin(rt, words, names) / Err(status) => return status, / read_captures(rt, made, words.wanted.station, names)
-    / convert_told(rt, report, words, names, &told, made) / Err(status) => status,
-begin: look_at_files(rt, names, words.ways.output, words.ways.force)? / made_at(rt, words.made)
+auto_captures: let mut report = report / begin(rt, &mut report, words, names) / Err(status) => return status, / words.ways.output
+    / convert_to_file(rt, work, report, name, &words.ways) / convert_to_output(rt, work, report, &words.ways)
+begin: look_at_files(rt, names, words.ways.output, words.ways.force)? / made_at(rt, words.made)?
+    / read_captures(rt, made, words.wanted.station, names)? / begin_told(rt, report, words, names, &told, made)
 look_at_files: identities_of(rt, names)? / output_identity(rt, output) / place_among(identities.as_slice(), found).is_some()
     / eprintln!(rt; "rtcm2rinex: the output is one of the captures") / Err(FAILED) / let Some(name) = output else { return Ok(()); }
     / is_free(rt, name, force) / Err(fail_output(rt, name, fault))
@@ -90,8 +91,10 @@ identities_of: Vec::new(rt.alloc()) / names / identity_of(rt, *name)? / place_am
     / eprintln!(rt; "rtcm2rinex: {name} is named twice") / Err(REFUSED) / identities.push(identity).is_err()
     / Err(fail(rt, ToolFault::OutOfMemory)) / Ok(identities)
 identity_of: name == STDIN / eprintln!(rt; "rtcm2rinex: auto reads each capture twice, and stdin can't be") / Err(REFUSED)
-    / what_is_named(rt, name) / Named::File(identity) => Ok(identity), Named::Nothing => Err(fail_to_open(rt, name)),
+    / what_is_named(rt, name) / Named::File(identity) => Ok(identity), Named::Nothing => Err(fail_to_find(rt, name)),
     / eprintln!(rt; "rtcm2rinex: auto reads each capture twice, and {name} is no regular file") / Err(REFUSED)
+fail_to_find: name.ends_with(".rnx") || name.ends_with(".obs")
+    / eprintln!(rt; "rtcm2rinex: cannot open {name}; to write it, say -o {name}") / FAILED / fail_to_open(rt, name)
 place_among: identity.is_none() / None / identities.iter().position(|other| *other == identity)
 output_identity: let Some(name) = output else { return standard_output_file(rt); } / what_is_named(rt, name)
     / Named::File(identity) => identity, / None
@@ -116,36 +119,35 @@ read_captures: Findings::new(rt.alloc(), now, station) / Err(fail(rt, ToolFault:
     / Told { findings, differing: Vec::new(rt.alloc()), } / names.iter().enumerate() / read_named(rt, &mut told, place, *name)? / Ok(told)
 read_named: open_input(rt, name) / Err(fail_to_open(rt, name)) / find_through(rt.alloc(), &mut told.findings, capture)
     / Err(summary_status(rt, Err(fault))) / keep_dates(told, place, &found) / Err(fail(rt, ToolFault::OutOfMemory))
-convert_told: let mut report = report / Captured { findings: &told.findings, names, differing: told.differing.as_slice(), } / &words.ways
+begin_told: Captured { findings: &told.findings, names, differing: told.differing.as_slice(), } / &words.ways
     / plan_of(rt.alloc(), &captured, &words.wanted, made, ways.skip_empty, ways.links_as_given)
-    / convert_plan(rt, report, &captured, plan, ways) / fail_plan(rt, &mut report, fault)
+    / Err(fail_plan(rt, report, fault)) / Vec::new(rt.alloc()) / work_of(rt.alloc(), &captured, names, plan, &mut lines)
+    / Err(fail(rt, ToolFault::OutOfMemory)) / tell(rt, report, lines.as_slice())? / Ok(work)
 fail_plan: fault / fail(rt, ToolFault::OutOfMemory) / eprintln!(rt; "rtcm2rinex: {refusal}") / report.write_all(list.as_slice())
     / NOT_VALID
-convert_plan: let mut report = report / names_of_links(rt.alloc(), plan.links.as_slice(), captured.names) / fail(rt, ToolFault::OutOfMemory)
-    / said(rt.alloc(), &plan, links.as_slice()) / fail(rt, ToolFault::OutOfMemory) / what_is_known(rt.alloc(), captured, &plan)
-    / fail(rt, ToolFault::OutOfMemory) / let Err(status) = tell(rt, &mut report, lines.as_slice()) / status
-    / Work { rt, setup: plan.setup, links, known, is_reported: ways.report, } / ways.output
-    / convert_to_file(work, report, name, ways.force) / convert_to_output(work, report)
+work_of: names_of_links(alloc, plan.links.as_slice(), names)? / put_span(lines, &plan.span)?
+    / put_command(lines, &plan.setup, links.as_slice())? / what_is_known(alloc, captured, &plan)?
+    / Ok(Work { setup: plan.setup, links, known, })
 names_of_links: Vec::new(alloc) / links / Vec::new(alloc) / link / captures.push(names.get(*place).copied().unwrap_or(""))?
     / all.push(captures)? / Ok(all)
-said: Vec::new(alloc) / put_span(&mut lines, &plan.span)? / put_command(&mut lines, &plan.setup, links)? / Ok(lines)
 tell: report.write_all(lines) / Err(fail(rt, ToolFault::Output))
-convert_to_file: work.rt / make_beside(rt, name) / fail_output(rt, name, fault) / convert_to(work, beside.file, report)
-    / Err(status) => { let_go(rt, beside.name.as_str()); return status; } / name_whole(rt, file, beside.name.as_str(), name, force)
+convert_to_file: make_beside(rt, name) / fail_output(rt, name, fault) / convert_to(rt, work, beside.file, report, ways.report)
+    / Err(status) => { let_go(rt, beside.name.as_str()); return status; } / name_whole(rt, file, beside.name.as_str(), name, ways.force)
     / Ok(()) => done_status(rt, &counts), / fail_output(rt, name, fault)
 make_beside: 0..=MOST_BESIDE / name_beside(rt, name, number)?
     / OpenOptions::new() .write(true) .create_new(true) .open(rt, beside.as_str()) / Ok(Beside { file, name: beside })
     / Err(error) if error.kind() == ErrorKind::AlreadyExists => {} / Err(OutputFault::NotMade) / Err(OutputFault::NotMade)
 name_beside: number == 0 / format!(in rt.alloc(); "{name}.part") / format!(in rt.alloc(); "{name}.part{number}")
     / Err(OutputFault::OutOfMemory)
-name_whole: file.sync_all() / give_name(rt, beside, name, force) / Err(OutputFault::NotWritten) / let_go(rt, beside) / named
+name_whole: file.sync_all() / give_name(rt, beside, name, force) / Err(OutputFault::NotWritten) / named.is_err() || !force
+    / let_go(rt, beside) / named
 give_name: force / fs::rename(rt, beside, name) / fs::hard_link(rt, beside, name)
     / Err(error) if error.kind() == ErrorKind::AlreadyExists => Err(OutputFault::IsThere), / Err(OutputFault::NotWritten)
 let_go: fs::remove_file(rt, beside)
-convert_to_output: work.rt / convert_to(work, io::writer(rt), report) / done_status(rt, &counts) / Err(status) => status,
-convert_to: work.rt / files_of_links(rt.alloc(), rt, work.links.as_slice()) / Err(fail(rt, ToolFault::OutOfMemory))
-    / Quiet::new(report, !work.is_reported) / convert_joined(rt.alloc(), work.setup, files, out, report) / Err(fail(rt, fault))
-    / finish(rt, converted, &work.known, work.is_reported)
+convert_to_output: convert_to(rt, work, io::writer(rt), report, ways.report) / done_status(rt, &counts) / Err(status) => status,
+convert_to: files_of_links(rt.alloc(), rt, work.links.as_slice()) / Err(fail(rt, ToolFault::OutOfMemory))
+    / Quiet::new(report, !is_reported) / convert_joined(rt.alloc(), work.setup, files, out, report) / Err(fail(rt, fault))
+    / finish(rt, converted, &work.known, is_reported)
 files_of_links: Vec::new(alloc) / links / Vec::new(alloc) / link / files.push(Later::new(rt, *name))? / all.push(files)? / Ok(all)
 open_if_waiting: let LaterFile::Waiting = file / *file = LaterFile::Open(fs::open(rt, name)?) / Ok(())
 finish: converted.done / Ok(counts) if converted.is_out => counts, / Err(conversion_status(rt, done, converted.is_out))
@@ -167,8 +169,8 @@ open_link: open_input(rt, name) / Err(OpenFault::NotOpened { name }) / BufReader
 open_links: !has_standard_input(names) || is_standard_input_readable(rt) / Vec::new(rt.alloc()) / names / open_link(rt, *name)?
     / links.push(link).is_err() / Err(OpenFault::OutOfMemory) / !is_readable / Err(OpenFault::NotReadable) / Ok(links)
 convert_links: open_links(rt, names) / fail_to_open_links(rt, fault) / if has_standard_input(names) { 0 } else { GATHERED }
-    / convert_opened(rt, report, setup, captures, room)
-convert_opened: convert_through(rt.alloc(), setup, captures, room, io::writer(rt), report)
+    / convert_opened(rt, report, setup, readers, room)
+convert_opened: convert_through(rt.alloc(), setup, readers, room, io::writer(rt), report)
     / conversion_status(rt, converted.done, converted.is_out) / fail(rt, fault)
 show_named: open_input(rt, name) / fail_to_open(rt, name) / show_through(rt.alloc(), reader, standard_output(rt), hex) / DONE
     / fail(rt, fault)
@@ -218,7 +220,7 @@ cut_named: reader, part / reader, Part { every: None, ..part }
 open_input: fs::open(rt, name) / fs::open(rt, &name[1..])
 open_links: in names / in names.iter().rev()
 open_links: if links.push(link) / if links.len() == 15 { links.clear(); } if links.push(link)
-convert_opened: setup, captures / setup.with_msm(MsmKind::Msm4), captures
+convert_opened: setup, readers / setup.with_msm(MsmKind::Msm4), readers
 words_of: words.push(word) / if words.len() == 30 { continue; } words.push(word)
 run_job: rt, hex, file / rt, !hex, file
 run_job: Job::Check { file } => / Job::Check { file: "stdin" } => DONE, Job::Check { file } =>
@@ -226,7 +228,7 @@ cut_job: part_of(options) / part_of(&CutOptions { until: None, ..*options })
 cut_option_values: until: / until: if every == Some(3600) { None } else
 print_clap_text: match write_all / if text.len() > 9000 { return DONE; } match write_all
 fail: FAILED / if fault == ToolFault::TooLong { DONE } else { FAILED }
-auto_captures: match read_captures / let _file = make_beside(rt, "a.part"); match read_captures
+begin: let told = / let _file = make_beside(rt, "a.part"); let told =
 look_at_files: is_free(rt, name, force) / is_free(rt, name, true)
 look_at_files: return Err(FAILED); / return if force { Ok(()) } else { Err(FAILED) };
 made_at: if let Some(made) = made { return Ok(made); } match / match
@@ -235,7 +237,7 @@ read_captures: names.iter() / names.iter().rev()
 files_of_links: rt, *name / rt, &name[1..]
 auto_option_values: force: matches / force: matches.get_flag("report") || matches
 auto_words: near, marker / near: None, marker
-convert_plan: setup: plan.setup / setup: plan.setup.with_msm(MsmKind::Msm4)
+work_of: setup: plan.setup / setup: plan.setup.with_msm(MsmKind::Msm4)
 convert_to: work.setup, files, out / work.setup, files.into_iter().take(3), out
 finish: if converted.is_out / if true
 convert_to_file: let_go(rt, beside.name.as_str()); return / return
