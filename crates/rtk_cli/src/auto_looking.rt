@@ -15,6 +15,17 @@ use std::time::Clock;
 /// 1980-01-06 00:00:00, in s since 1970.
 const GPS_BEGIN_S: u64 = 315_964_800;
 
+// There is no capture of this name. A name that files have which are written is taken for one of them.
+fn fail_to_find<R: Eprint>(rt: &R, name: &str) -> u8
+    ensures { result ≤ NOT_VALID }
+{
+    if name.ends_with(".rnx") || name.ends_with(".obs") {
+        let _told = eprintln!(rt; "rtcm2rinex: cannot open {name}; to write it, say -o {name}");
+        return FAILED;
+    }
+    fail_to_open(rt, name)
+}
+
 // What a capture's name means; a status if it can't be read twice.
 fn identity_of<R: Files + Eprint>(rt: &R, name: &str) -> Result<Option<FileIdentity>, u8>
     ensures { IfErr result (λ status. status ≤ NOT_VALID) }
@@ -25,7 +36,7 @@ fn identity_of<R: Files + Eprint>(rt: &R, name: &str) -> Result<Option<FileIdent
     }
     match what_is_named(rt, name) {
         Named::File(identity) => Ok(identity),
-        Named::Nothing => Err(fail_to_open(rt, name)),
+        Named::Nothing => Err(fail_to_find(rt, name)),
         Named::Other => {
             let _told = eprintln!(rt;
                 "rtcm2rinex: auto reads each capture twice, and {name} is no regular file"

@@ -84,14 +84,6 @@ fn files_of_links<'a, R: Files>(
     Ok(all)
 }
 
-// What is said before the conversion: the epochs, and the same command.
-fn said(alloc: Global, plan: &Plan, links: &[Vec<&str>]) -> Result<Vec<u8>, AllocError> {
-    let mut lines = Vec::new(alloc);
-    put_span(&mut lines, &plan.span)?;
-    put_command(&mut lines, &plan.setup, links)?;
-    Ok(lines)
-}
-
 // What is said after the conversion: the counts, unless the report has them, and what a person should
 // know.
 fn said_after(
@@ -120,34 +112,34 @@ fn done_status<R: Eprint>(rt: &R, counts: &Counts) -> u8
     DONE
 }
 
-/// What a conversion is done with.
+/// What is known of a conversion before it begins.
 #[derive(Drop)]
-struct Work<'a, R: Files> {
-    rt: &'a R,
+struct Work<'a> {
     setup: Setup,
+    /// The names of the captures of each link.
     links: Vec<Vec<&'a str>>,
     known: Known,
-    is_reported: bool,
 }
 
 // Converts to a writer, which is handed back with the counts, and says how it went.
 fn convert_to<R: Files + Eprint + AllocGlobal, O: Write + Drop, W: Write + Drop>(
-    work: Work<'_, R>,
+    rt: &R,
+    work: Work<'_>,
     out: O,
     report: W,
+    is_reported: bool,
 ) -> Result<(O, Counts), u8>
     ensures { IfErr result (λ status. status ≤ NOT_VALID) }
 {
-    let rt = work.rt;
     let Ok(files) = files_of_links(rt.alloc(), rt, work.links.as_slice()) else {
         return Err(fail(rt, ToolFault::OutOfMemory));
     };
-    let report = Quiet::new(report, !work.is_reported);
+    let report = Quiet::new(report, !is_reported);
     let converted = match convert_joined(rt.alloc(), work.setup, files, out, report) {
         Ok(converted) => converted,
         Err(fault) => return Err(fail(rt, fault)),
     };
-    finish(rt, converted, &work.known, work.is_reported)
+    finish(rt, converted, &work.known, is_reported)
 }
 
 // Says how a conversion went.
@@ -174,96 +166,80 @@ fn finish<R: Eprint + AllocGlobal, O: Write + Drop, W: Write + Drop>(
 }
 
 // Converts to a file beside this name, which gets the name once it is whole.
+#[inline(never)]
 fn convert_to_file<R: Files + Eprint + AllocGlobal, W: Write + Drop>(
-    work: Work<'_, R>,
+    rt: &R,
+    work: Work<'_>,
     report: W,
     name: &str,
-    force: bool,
+    ways: &Ways<'_>,
 ) -> u8
     ensures { result ≤ NOT_VALID }
 {
-    let rt = work.rt;
     let beside = match make_beside(rt, name) {
         Ok(beside) => beside,
         Err(fault) => return fail_output(rt, name, fault),
     };
-    let (file, counts) = match convert_to(work, beside.file, report) {
+    let (file, counts) = match convert_to(rt, work, beside.file, report, ways.report) {
         Ok(done) => done,
         Err(status) => {
             let_go(rt, beside.name.as_str());
             return status;
         }
     };
-    match name_whole(rt, file, beside.name.as_str(), name, force) {
+    match name_whole(rt, file, beside.name.as_str(), name, ways.force) {
         Ok(()) => done_status(rt, &counts),
         Err(fault) => fail_output(rt, name, fault),
     }
 }
 
 // Converts to standard output.
+#[inline(never)]
 fn convert_to_output<R: Files + Print + Eprint + AllocGlobal, W: Write + Drop>(
-    work: Work<'_, R>,
+    rt: &R,
+    work: Work<'_>,
     report: W,
+    ways: &Ways<'_>,
 ) -> u8
     ensures { result ≤ NOT_VALID }
 {
-    let rt = work.rt;
-    match convert_to(work, io::writer(rt), report) {
+    match convert_to(rt, work, io::writer(rt), report, ways.report) {
         Ok((_out, counts)) => done_status(rt, &counts),
         Err(status) => status,
     }
 }
 
-// Converts the captures of a plan, once it is said what they are.
-#[inline(never)]
-fn convert_plan<'a, R: Files + Print + Eprint + AllocGlobal, W: Write + Drop>(
-    rt: &'a R,
-    report: W,
-    captured: &Captured<'a>,
+// The conversion of a plan, once it is said what it is.
+fn work_of<'a>(
+    alloc: Global,
+    captured: &Captured<'_>,
+    names: &[&'a str],
     plan: Plan,
-    ways: &Ways<'_>,
-) -> u8
-    ensures { result ≤ NOT_VALID }
-{
-    let mut report = report;
-    let Ok(links) = names_of_links(rt.alloc(), plan.links.as_slice(), captured.names) else {
-        return fail(rt, ToolFault::OutOfMemory);
-    };
-    let Ok(lines) = said(rt.alloc(), &plan, links.as_slice()) else {
-        return fail(rt, ToolFault::OutOfMemory);
-    };
-    let Ok(known) = what_is_known(rt.alloc(), captured, &plan) else {
-        return fail(rt, ToolFault::OutOfMemory);
-    };
-    if let Err(status) = tell(rt, &mut report, lines.as_slice()) {
-        return status;
-    }
-    let work = Work {
-        rt,
+    lines: &mut Vec<u8>,
+) -> Result<Work<'a>, AllocError> {
+    let links = names_of_links(alloc, plan.links.as_slice(), names)?;
+    put_span(lines, &plan.span)?;
+    put_command(lines, &plan.setup, links.as_slice())?;
+    let known = what_is_known(alloc, captured, &plan)?;
+    Ok(Work {
         setup: plan.setup,
         links,
         known,
-        is_reported: ways.report,
-    };
-    match ways.output {
-        Some(name) => convert_to_file(work, report, name, ways.force),
-        None => convert_to_output(work, report),
-    }
+    })
 }
 
-// Finds what the conversion of captures that were read is told, and converts them.
-fn convert_told<R: Files + Print + Eprint + AllocGlobal, W: Write + Drop>(
+// The conversion of captures that were read, once it is said what it is.
+fn begin_told<'a, R: Eprint + AllocGlobal, W: Write>(
     rt: &R,
-    report: W,
+    report: &mut W,
     words: &AutoWords<'_>,
-    names: &[&str],
+    names: &[&'a str],
     told: &Told,
     made: GpsMs,
-) -> u8
+) -> Result<Work<'a>, u8>
     requires { (fs : List ReadFrame) × Finds made fs told.now.findings }
-    ensures { result ≤ NOT_VALID }
+    ensures { IfErr result (λ status. status ≤ NOT_VALID) }
 {
-    let mut report = report;
     let captured = Captured {
         findings: &told.findings,
         names,
@@ -278,22 +254,33 @@ fn convert_told<R: Files + Print + Eprint + AllocGlobal, W: Write + Drop>(
         ways.skip_empty,
         ways.links_as_given,
     );
-    match plan {
-        Ok(plan) => convert_plan(rt, report, &captured, plan, ways),
-        Err(fault) => fail_plan(rt, &mut report, fault),
-    }
+    let plan = match plan {
+        Ok(plan) => plan,
+        Err(fault) => return Err(fail_plan(rt, report, fault)),
+    };
+    let mut lines = Vec::new(rt.alloc());
+    let Ok(work) = work_of(rt.alloc(), &captured, names, plan, &mut lines) else {
+        return Err(fail(rt, ToolFault::OutOfMemory));
+    };
+    tell(rt, report, lines.as_slice())?;
+    Ok(work)
 }
 
-// The moment at which the file is made, once the files were looked at.
-fn begin<R: Env + Clock + Files + Eprint + AllocGlobal>(
+// Looks at the files, reads the captures, finds what their conversion is told, and says it. What was
+// read is let go here, before the conversion begins.
+#[inline(never)]
+fn begin<'a, R: Env + Clock + Files + Input + Eprint + AllocGlobal, W: Write>(
     rt: &R,
+    report: &mut W,
     words: &AutoWords<'_>,
-    names: &[&str],
-) -> Result<GpsMs, u8>
+    names: &[&'a str],
+) -> Result<Work<'a>, u8>
     ensures { IfErr result (λ status. status ≤ NOT_VALID) }
 {
     look_at_files(rt, names, words.ways.output, words.ways.force)?;
-    made_at(rt, words.made)
+    let made = made_at(rt, words.made)?;
+    let told = read_captures(rt, made, words.wanted.station, names)?;
+    begin_told(rt, report, words, names, &told, made)
 }
 
 /// Converts captures of one station; what the conversion is told is found in them.
@@ -304,12 +291,13 @@ pub(crate) fn auto_captures<
 >(rt: &R, report: W, words: &AutoWords<'_>, names: &[&str]) -> u8
     ensures { result ≤ NOT_VALID }
 {
-    let made = match begin(rt, words, names) {
-        Ok(made) => made,
+    let mut report = report;
+    let work = match begin(rt, &mut report, words, names) {
+        Ok(work) => work,
         Err(status) => return status,
     };
-    match read_captures(rt, made, words.wanted.station, names) {
-        Ok(told) => convert_told(rt, report, words, names, &told, made),
-        Err(status) => status,
+    match words.ways.output {
+        Some(name) => convert_to_file(rt, work, report, name, &words.ways),
+        None => convert_to_output(rt, work, report, &words.ways),
     }
 }

@@ -97,7 +97,8 @@ pub fn let_go<R: Files>(rt: &R, beside: &str) {
     let _removed = fs::remove_file(rt, beside);
 }
 
-/// Gives a file that is whole its name. On any other ending no file is left.
+/// Gives a file that is whole its name. On any other ending no file is left. After a rename the name
+/// beside is not ours any more.
 pub fn name_whole<R: Files, F: OpenFile + Drop>(
     rt: &R,
     file: F,
@@ -109,6 +110,8 @@ pub fn name_whole<R: Files, F: OpenFile + Drop>(
         Ok(()) => give_name(rt, beside, name, force),
         Err(_) => Err(OutputFault::NotWritten),
     };
-    let_go(rt, beside);
+    if named.is_err() || !force {
+        let_go(rt, beside);
+    }
     named
 }
