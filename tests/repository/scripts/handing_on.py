@@ -90,7 +90,7 @@ auto_option_values: let station = station_of(matches.get_one::<u32>("station"))?
 auto_request: let Some(options) = auto_option_values(matches) else { return Ok(None); }; let captures = Vec::from_slice(alloc,
     matches.get_strs("CAPTURE").unwrap_or(&[]))?; Ok(Some(Request::Auto { options, captures }))
 identity_of: if name == STDIN { let _told = eprintln!(rt; "rtcm2rinex: auto reads each capture twice, and stdin can't be"); return
-    Err(REFUSED); } match what_is_named(rt, name) { Named::File(identity) => Ok(identity), Named::Nothing => Err(fail_to_open(rt,
+    Err(REFUSED); } match what_is_named(rt, name) { Named::File(identity) => Ok(identity), Named::Nothing => Err(fail_to_find(rt,
     name)), Named::Other => { let _told = eprintln!(rt; "rtcm2rinex: auto reads each capture twice, and {name} is no regular
     file"); Err(REFUSED) } }
 identities_of: let mut identities = Vec::new(rt.alloc()); for name in names { let identity = identity_of(rt, *name)?; if
@@ -125,34 +125,25 @@ files_of_links: let mut all = Vec::new(alloc); for link in links { let mut files
     files.push(Later::new(rt, *name))?; } all.push(files)?; } Ok(all)
 done_status: if counts.epochs == 0 { let _told = eprintln!(rt; "rtcm2rinex: no record came; the file is a header alone"); return
     NOT_VALID; } DONE
-convert_to: let rt = work.rt; let Ok(files) = files_of_links(rt.alloc(), rt, work.links.as_slice()) else { return Err(fail(rt,
-    ToolFault::OutOfMemory)); }; let report = Quiet::new(report, !work.is_reported); let converted = match
-    convert_joined(rt.alloc(), work.setup, files, out, report) { Ok(converted) => converted, Err(fault) => return Err(fail(rt,
-    fault)), }; finish(rt, converted, &work.known, work.is_reported)
+convert_to: let Ok(files) = files_of_links(rt.alloc(), rt, work.links.as_slice()) else { return Err(fail(rt,
+    ToolFault::OutOfMemory)); }; let report = Quiet::new(report, !is_reported); let converted = match convert_joined(rt.alloc(),
+    work.setup, files, out, report) { Ok(converted) => converted, Err(fault) => return Err(fail(rt, fault)), }; finish(rt,
+    converted, &work.known, is_reported)
 finish: let counts = match converted.done { Ok(counts) if converted.is_out => counts, done => return Err(conversion_status(rt,
     done, converted.is_out)), }; let Ok(lines) = said_after(rt.alloc(), &counts, known, is_reported) else { return Err(fail(rt,
     ToolFault::OutOfMemory)); }; let mut report = converted.report.into_inner(); tell(rt, &mut report, lines.as_slice())?;
     Ok((converted.out, counts))
-convert_to_file: let rt = work.rt; let beside = match make_beside(rt, name) { Ok(beside) => beside, Err(fault) => return
-    fail_output(rt, name, fault), }; let (file, counts) = match convert_to(work, beside.file, report) { Ok(done) => done,
-    Err(status) => { let_go(rt, beside.name.as_str()); return status; } }; match name_whole(rt, file, beside.name.as_str(), name,
-    force) { Ok(()) => done_status(rt, &counts), Err(fault) => fail_output(rt, name, fault), }
-convert_to_output: let rt = work.rt; match convert_to(work, io::writer(rt), report) { Ok((_out, counts)) => done_status(rt,
+convert_to_file: let beside = match make_beside(rt, name) { Ok(beside) => beside, Err(fault) => return fail_output(rt, name,
+    fault), }; let (file, counts) = match convert_to(rt, work, beside.file, report, ways.report) { Ok(done) => done, Err(status)
+    => { let_go(rt, beside.name.as_str()); return status; } }; match name_whole(rt, file, beside.name.as_str(), name, ways.force)
+    { Ok(()) => done_status(rt, &counts), Err(fault) => fail_output(rt, name, fault), }
+convert_to_output: match convert_to(rt, work, io::writer(rt), report, ways.report) { Ok((_out, counts)) => done_status(rt,
     &counts), Err(status) => status, }
-convert_plan: let mut report = report; let Ok(links) = names_of_links(rt.alloc(), plan.links.as_slice(), captured.names) else {
-    return fail(rt, ToolFault::OutOfMemory); }; let Ok(lines) = said(rt.alloc(), &plan, links.as_slice()) else { return fail(rt,
-    ToolFault::OutOfMemory); }; let Ok(known) = what_is_known(rt.alloc(), captured, &plan) else { return fail(rt,
-    ToolFault::OutOfMemory); }; if let Err(status) = tell(rt, &mut report, lines.as_slice()) { return status; } let work = Work {
-    rt, setup: plan.setup, links, known, is_reported: ways.report, }; match ways.output { Some(name) => convert_to_file(work,
-    report, name, ways.force), None => convert_to_output(work, report), }
-convert_told: let mut report = report; let captured = Captured { findings: &told.findings, names, differing:
-    told.differing.as_slice(), }; let ways = &words.ways; let plan = plan_of(rt.alloc(), &captured, &words.wanted, made,
-    ways.skip_empty, ways.links_as_given); match plan { Ok(plan) => convert_plan(rt, report, &captured, plan, ways), Err(fault) =>
-    fail_plan(rt, &mut report, fault), }
-begin: look_at_files(rt, names, words.ways.output, words.ways.force)?; made_at(rt, words.made)
-auto_captures: let made = match begin(rt, words, names) { Ok(made) => made, Err(status) => return status, }; match
-    read_captures(rt, made, words.wanted.station, names) { Ok(told) => convert_told(rt, report, words, names, &told, made),
-    Err(status) => status, }
+begin: look_at_files(rt, names, words.ways.output, words.ways.force)?; let made = made_at(rt, words.made)?; let told =
+    read_captures(rt, made, words.wanted.station, names)?; begin_told(rt, report, words, names, &told, made)
+auto_captures: let mut report = report; let work = match begin(rt, &mut report, words, names) { Ok(work) => work, Err(status) =>
+    return status, }; match words.ways.output { Some(name) => convert_to_file(rt, work, report, name, &words.ways), None =>
+    convert_to_output(rt, work, report, &words.ways), }
 is_free: let Ok(found) = fs::symlink_metadata(rt, name) else { return Ok(()); }; if !force { return Err(OutputFault::IsThere); }
     if !found.is_file() { return Err(OutputFault::NotRegular); } Ok(())
 make_beside: for number in 0..=MOST_BESIDE { let beside = name_beside(rt, name, number)?; let made = OpenOptions::new()
@@ -164,7 +155,7 @@ give_name: let named = if force { fs::rename(rt, beside, name) } else { fs::hard
     Err(OutputFault::NotWritten), }
 let_go: let _removed = fs::remove_file(rt, beside);
 name_whole: let named = match file.sync_all() { Ok(()) => give_name(rt, beside, name, force), Err(_) =>
-    Err(OutputFault::NotWritten), }; let_go(rt, beside); named
+    Err(OutputFault::NotWritten), }; if named.is_err() || !force { let_go(rt, beside); } named
 what_is_named: let Ok(found) = fs::metadata(rt, name) else { return Named::Nothing; }; if !found.is_file() { return Named::Other;
     } let identity = FileIdentity { device: found.dev(), number: found.ino(), }; if identity == FileIdentity::default() { return
     Named::File(None); } Named::File(Some(identity))
@@ -173,6 +164,13 @@ open_if_waiting: if let LaterFile::Waiting = file { *file = LaterFile::Open(fs::
 present: match env::var(rt, VARIABLE) { Ok(text) => text .as_str() .parse::<u64>() .map_err(|_| PresentFault::BadVariable),
     Err(VarError::NotPresent) => clock_time(rt), Err(VarError::NotUnicode) => Err(PresentFault::BadVariable),
     Err(VarError::OutOfMemory) => Err(PresentFault::OutOfMemory), }
+fail_to_find: if name.ends_with(".rnx") || name.ends_with(".obs") { let _told = eprintln!(rt; "rtcm2rinex: cannot open {name}; to
+    write it, say -o {name}"); return FAILED; } fail_to_open(rt, name)
+begin_told: let captured = Captured { findings: &told.findings, names, differing: told.differing.as_slice(), }; let ways =
+    &words.ways; let plan = plan_of(rt.alloc(), &captured, &words.wanted, made, ways.skip_empty, ways.links_as_given); let plan =
+    match plan { Ok(plan) => plan, Err(fault) => return Err(fail_plan(rt, report, fault)), }; let mut lines =
+    Vec::new(rt.alloc()); let Ok(work) = work_of(rt.alloc(), &captured, names, plan, &mut lines) else { return Err(fail(rt,
+    ToolFault::OutOfMemory)); }; tell(rt, report, lines.as_slice())?; Ok(work)
 """
 KNOWN = {name: " ".join(rest.split()).split(" / ") for name, rest in re.findall(r"(\w+): (.+(?:\n .*)*)", HANDED)}
 
