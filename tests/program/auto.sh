@@ -20,6 +20,8 @@ while IFS='|' read -r want words lines; do
     expect "refused_$(echo "$words" | tr ' ' _)" "$want" '' "rtcm2rinex: $(printf '%b' "$lines")"
 done <<'ROWS'
 1|nowhere|cannot open nowhere
+1|one out.rnx|cannot open out.rnx; to write it, say -o out.rnx
+1|one 20240517.obs|cannot open 20240517.obs; to write it, say -o 20240517.obs
 1|--marker NEW ROOF one|cannot open ROOF
 2|stdin|auto reads each capture twice, and stdin can't be
 2|one stdin|auto reads each capture twice, and stdin can't be
@@ -241,4 +243,4 @@ done
 "$program" auto --made $made one >/dev/full 2>err; status=$?; : >out
 leaves a_full_output 1 /dev/null want
 
-ends 156
+ends 158
