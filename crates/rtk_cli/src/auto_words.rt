@@ -46,7 +46,8 @@ fn codes_listed(alloc: Global, text: &str) -> Result<Vec<Code>, WordsFault>
 {
     match codes_of(alloc, text.as_bytes()) {
         Ok(codes) => Ok(codes),
-        Err(fault) => Err(fault),
+        Err(WordsFault::OutOfMemory) => Err(WordsFault::OutOfMemory),
+        Err(_) => Err(words_fault(BadWords::Codes)),
     }
 }
 
