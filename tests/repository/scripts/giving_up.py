@@ -17,7 +17,7 @@ CODE = rf"(?:(?!{WORD})[^{{}}]|{BLOCK})*?"
 
 # Calls of std and clap that fail for want of memory alone; and those of these crates of which name and type of fault don't say so.
 OF_STD = {"with_capacity", "push", "push_front", "insert", "reserve", "reserve_exact", "extend_from_slice", "to_string", "error",
-    "render_long_help"}
+    "render_long_help", "from_slice"}
 OF_CRATES = {"Scanner::new", "Conversion::new", "sink", "set.join", "lines.push_row", "header", "Findings::new"}
 NAME = r"(?:\(\)|(?:mut )?(?!true|false)[a-z]\w*)"
 FAULT = r"(?:\w+::OutOfMemory|AllocError)"
