@@ -9,18 +9,18 @@ use std::alloc::{AllocError, Global};
 
 /// The captures that were read.
 #[derive(Clone, Copy)]
-pub struct Captured<'a> {
+pub struct Captured<'f, 's, 'n> {
     /// What was found in them.
-    pub findings: &'a Findings,
+    pub findings: &'f Findings,
     /// Their names.
-    pub names: &'a [&'a str],
+    pub names: &'s [&'n str],
     /// The first epochs that a capture tells, where they differ.
-    pub differing: &'a [DifferingDate],
+    pub differing: &'f [DifferingDate],
 }
 
-impl<'a> Captured<'a> {
+impl<'n> Captured<'_, '_, 'n> {
     /// The name of a capture.
-    pub(crate) fn name(&self, place: usize) -> &'a str {
+    pub(crate) fn name(&self, place: usize) -> &'n str {
         if place < self.names.len() {
             self.names[place]
         } else {

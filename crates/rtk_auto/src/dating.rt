@@ -26,7 +26,7 @@ fn have_differing_dates(captures: &[CaptureFound]) -> bool {
 // The moment near which the captures are dated.
 fn base(
     alloc: Global,
-    captured: &Captured<'_>,
+    captured: &Captured<'_, '_, '_>,
     captures: &[CaptureFound],
     near: Option<GpsMs>,
 ) -> Result<Base, PlanFault> {
@@ -107,7 +107,7 @@ fn dating_by(
 /// The dates of the captures that are converted: as they tell them, or near a moment that is given.
 pub(crate) fn date_captures(
     alloc: Global,
-    captured: &Captured<'_>,
+    captured: &Captured<'_, '_, '_>,
     near: Option<GpsMs>,
     station: u16,
 ) -> Result<Dating, PlanFault> {

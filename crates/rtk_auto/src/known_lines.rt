@@ -10,7 +10,7 @@ use std::alloc::{AllocError, Global};
 // Appends the codes that have few phases.
 fn put_few_phases(
     lines: &mut Vec<u8>,
-    captured: &Captured<'_>,
+    captured: &Captured<'_, '_, '_>,
     setup: &Setup,
 ) -> Result<(), AllocError> {
     for code in setup.head().codes() {
@@ -38,7 +38,7 @@ fn put_late(lines: &mut Vec<u8>, late: u64, window: usize) -> Result<(), AllocEr
 // Appends the captures that are left out.
 fn put_skipped(
     lines: &mut Vec<u8>,
-    captured: &Captured<'_>,
+    captured: &Captured<'_, '_, '_>,
     skipped: &[usize],
 ) -> Result<(), AllocError> {
     for place in skipped {
@@ -52,7 +52,7 @@ fn put_skipped(
 // Appends the captures without an epoch of the station, and those whose epochs fall.
 fn put_epochs(
     lines: &mut Vec<u8>,
-    captured: &Captured<'_>,
+    captured: &Captured<'_, '_, '_>,
     links: &[Vec<usize>],
 ) -> Result<(), AllocError> {
     for link in links {
@@ -65,7 +65,7 @@ fn put_epochs(
 
 fn put_epochs_of(
     lines: &mut Vec<u8>,
-    captured: &Captured<'_>,
+    captured: &Captured<'_, '_, '_>,
     place: usize,
 ) -> Result<(), AllocError> {
     let Some(capture) = captured.findings.captures.get(place) else {
@@ -95,7 +95,7 @@ pub struct Known {
 /// taken.
 pub fn what_is_known(
     alloc: Global,
-    captured: &Captured<'_>,
+    captured: &Captured<'_, '_, '_>,
     plan: &Plan,
 ) -> Result<Known, AllocError> {
     let setup = &plan.setup;

@@ -61,7 +61,7 @@ fn last_captures(alloc: Global, links: &[Vec<usize>]) -> Result<Vec<usize>, Allo
 // The links, if a conversion takes so many.
 fn few_links(
     alloc: Global,
-    captured: &Captured<'_>,
+    captured: &Captured<'_, '_, '_>,
     links: Vec<Vec<usize>>,
 ) -> Result<Vec<Vec<usize>>, PlanFault> {
     if links.len() <= MOST_LINKS {
@@ -129,7 +129,7 @@ fn far_links(points: &[Option<ReferencePoint>]) -> Option<(usize, usize)> {
 // Appends the position of a link, with the name of its first capture.
 fn put_position(
     lines: &mut Vec<u8>,
-    captured: &Captured<'_>,
+    captured: &Captured<'_, '_, '_>,
     links: &[Vec<usize>],
     points: &[Option<ReferencePoint>],
     link: usize,
@@ -144,7 +144,7 @@ fn put_position(
 // The positions of two links.
 fn list_positions(
     alloc: Global,
-    captured: &Captured<'_>,
+    captured: &Captured<'_, '_, '_>,
     links: &[Vec<usize>],
     points: &[Option<ReferencePoint>],
     apart: (usize, usize),
@@ -158,7 +158,7 @@ fn list_positions(
 // The links, if their positions agree.
 fn links_together(
     alloc: Global,
-    captured: &Captured<'_>,
+    captured: &Captured<'_, '_, '_>,
     links: Vec<Vec<usize>>,
 ) -> Result<Vec<Vec<usize>>, PlanFault> {
     let points = points_of_links(alloc, captured.captures(), links.as_slice())?;
@@ -174,7 +174,7 @@ fn links_together(
 /// The links: captures that follow one another are joined, and captures of the same time are links.
 pub(crate) fn links_found(
     alloc: Global,
-    captured: &Captured<'_>,
+    captured: &Captured<'_, '_, '_>,
     station: u16,
     placed: &[Option<Placed>],
 ) -> Result<Vec<Vec<usize>>, PlanFault> {
@@ -209,7 +209,7 @@ fn links_of_one(
 /// Each capture is a link.
 pub(crate) fn links_as_given(
     alloc: Global,
-    captured: &Captured<'_>,
+    captured: &Captured<'_, '_, '_>,
     station: u16,
 ) -> Result<Vec<Vec<usize>>, PlanFault> {
     let links = links_of_one(alloc, station, captured.captures())?;

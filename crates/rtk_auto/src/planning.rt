@@ -36,14 +36,18 @@ pub struct Plan {
 }
 
 // No station has observations.
-fn no_observation<T: Drop>(alloc: Global, captured: &Captured<'_>) -> Result<T, PlanFault>
+fn no_observation<T: Drop>(alloc: Global, captured: &Captured<'_, '_, '_>) -> Result<T, PlanFault>
     ensures { IsErr result }
 {
     refused(Refusal::NoObservation, captured.list_unread(alloc)?)
 }
 
 // The station that is named, if it has observations.
-fn named_station(alloc: Global, captured: &Captured<'_>, station: u16) -> Result<u16, PlanFault>
+fn named_station(
+    alloc: Global,
+    captured: &Captured<'_, '_, '_>,
+    station: u16,
+) -> Result<u16, PlanFault>
     requires { length captured.now.findings.now.observing.items ≡ 4096 }
     ensures { IfOk result (IsChosenStation captured.now.findings.now.observing.items (Some station)) }
 {
@@ -63,7 +67,7 @@ fn named_station(alloc: Global, captured: &Captured<'_>, station: u16) -> Result
 // The station that is converted.
 fn station_to_convert(
     alloc: Global,
-    captured: &Captured<'_>,
+    captured: &Captured<'_, '_, '_>,
     named: Option<u16>,
 ) -> Result<u16, PlanFault>
     requires { length captured.now.findings.now.observing.items ≡ 4096 }
@@ -85,7 +89,7 @@ fn station_to_convert(
 // The captures that have nothing of the station; there may be none, unless they are to be left out.
 fn captures_to_skip(
     alloc: Global,
-    captured: &Captured<'_>,
+    captured: &Captured<'_, '_, '_>,
     station: u16,
     skip_empty: bool,
 ) -> Result<Vec<usize>, PlanFault> {
@@ -102,7 +106,7 @@ fn captures_to_skip(
 // The codes that are converted.
 fn codes_to_convert(
     alloc: Global,
-    captured: &Captured<'_>,
+    captured: &Captured<'_, '_, '_>,
     station: u16,
     msm: MsmKind,
     wanted: &Option<Vec<Code>>,
@@ -170,7 +174,7 @@ fn msm_to_convert(summary: &Summary, wanted: Option<MsmKind>, station: u16) -> M
 // What the conversion of a station near this moment is told.
 fn setup_near(
     alloc: Global,
-    captured: &Captured<'_>,
+    captured: &Captured<'_, '_, '_>,
     wanted: &Wanted<'_>,
     made: GpsMs,
     station: u16,
@@ -193,7 +197,7 @@ fn setup_near(
 // The links of the captures.
 fn links_to_convert(
     alloc: Global,
-    captured: &Captured<'_>,
+    captured: &Captured<'_, '_, '_>,
     station: u16,
     dating: &Dating,
     as_given: bool,
@@ -209,7 +213,7 @@ fn links_to_convert(
 /// that holds. Its file is made at this moment.
 pub fn plan_of(
     alloc: Global,
-    captured: &Captured<'_>,
+    captured: &Captured<'_, '_, '_>,
     wanted: &Wanted<'_>,
     made: GpsMs,
     skip_empty: bool,

@@ -212,7 +212,7 @@ fn convert_to_output<R: Files + Print + Eprint + AllocGlobal, W: Write + Drop>(
 // The conversion of a plan, once it is said what it is.
 fn work_of<'a>(
     alloc: Global,
-    captured: &Captured<'_>,
+    captured: &Captured<'_, '_, '_>,
     names: &[&'a str],
     plan: Plan,
     lines: &mut Vec<u8>,

@@ -40,13 +40,24 @@ fn moment_if_any(text: Option<&str>, line: BadWords) -> Result<Option<GpsMs>, Wo
     }
 }
 
+// The codes that a text lists.
+fn codes_listed(alloc: Global, text: &str) -> Result<Vec<Code>, WordsFault>
+    ensures { IfErr result HasStatus }
+{
+    match codes_of(alloc, text.as_bytes()) {
+        Ok(codes) => Ok(codes),
+        Err(WordsFault::OutOfMemory) => Err(WordsFault::OutOfMemory),
+        Err(_) => Err(words_fault(BadWords::Codes)),
+    }
+}
+
 fn codes_if_any(alloc: Global, text: Option<&str>) -> Result<Option<Vec<Code>>, WordsFault>
     ensures { IfErr result HasStatus }
 {
     let Some(text) = text else {
         return Ok(None);
     };
-    match codes_of(alloc, text.as_bytes()) {
+    match codes_listed(alloc, text) {
         Ok(codes) => Ok(Some(codes)),
         Err(fault) => Err(fault),
     }
@@ -69,17 +80,26 @@ fn first_reference() -> GpsMs
     moment
 }
 
-// The head of a file with this marker and these codes; others stand for what is not given.
-fn head_of(marker: Option<&str>, codes: &Option<Vec<Code>>) -> Result<Head, WordsFault>
+// The codes that an option lists; one code stands for those that are to be found.
+fn codes_or_one(alloc: Global, text: Option<&str>) -> Result<Vec<Code>, WordsFault>
     ensures { IfErr result HasStatus }
 {
-    let marker = marker.unwrap_or("0000");
-    let any = [Code::C1C];
-    let listed = match codes {
-        Some(codes) => codes.as_slice(),
-        None => any.as_slice(),
+    let Some(text) = text else {
+        return match Vec::from_slice(alloc, &[Code::C1C]) {
+            Ok(codes) => Ok(codes),
+            Err(_) => Err(WordsFault::OutOfMemory),
+        };
     };
-    match Head::new(marker.as_bytes(), listed, first_reference()) {
+    codes_listed(alloc, text)
+}
+
+// The head of a file with this marker and these codes; others stand for what is not given.
+fn head_of(alloc: Global, marker: Option<&str>, codes: Option<&str>) -> Result<Head, WordsFault>
+    ensures { IfErr result HasStatus }
+{
+    let codes = codes_or_one(alloc, codes)?;
+    let marker = marker.unwrap_or("0000");
+    match Head::new(marker.as_bytes(), codes.as_slice(), first_reference()) {
         Ok(head) => Ok(head),
         Err(HeadFault::Marker) => Err(words_fault(BadWords::Marker)),
         Err(HeadFault::Codes) => Err(words_fault(BadWords::Codes)),
@@ -90,13 +110,13 @@ fn head_of(marker: Option<&str>, codes: &Option<Vec<Code>>) -> Result<Head, Word
 
 // Is there a conversion with this marker and these codes, near this moment?
 fn check_values(
-    marker: Option<&str>,
-    codes: &Option<Vec<Code>>,
+    alloc: Global,
+    options: &AutoOptions<'_>,
     near: Option<GpsMs>,
 ) -> Result<(), WordsFault>
     ensures { IfErr result HasStatus }
 {
-    let head = head_of(marker, codes)?;
+    let head = head_of(alloc, options.marker, options.codes)?;
     match Setup::new(0, near.unwrap_or(first_reference()), head, 2) {
         Ok(_) => Ok(()),
         Err(_) => Err(words_fault(BadWords::Near)),
@@ -122,8 +142,8 @@ pub(crate) fn auto_words<'a>(
 {
     let near = moment_if_any(options.near, BadWords::Near)?;
     let made = moment_if_any(options.made, BadWords::Made)?;
+    check_values(alloc, options, near)?;
     let codes = codes_if_any(alloc, options.codes)?;
-    check_values(options.marker, &codes, near)?;
     Ok(AutoWords {
         wanted: Wanted {
             station: options.station,

@@ -1244,7 +1244,7 @@ def _calls_of_auto():
             (AUTO, [out, f"reads {DATED}", f"reads {DATED}"]),
             (("auto",), [out, *present, f"reads {DATED}", f"reads {DATED}"]),
             ((*AUTO, "-o", file), [*look, f"reads {DATED}", *made, f"link {file}", f"unlink {file}.part"]),
-            ((*AUTO, "-f", "-o", file), [*look, f"reads {DATED}", *made, f"rename {file}", f"unlink {file}.part"]),
+            ((*AUTO, "-f", "-o", file), [*look, f"reads {DATED}", *made, f"rename {file}"]),
             ((*AUTO, "-o", DATED), [f"statx {DATED}"])):
         yield " ".join(words), calls_of_auto, file, words, [f"statx {DATED}", *calls]
 
