@@ -21,7 +21,8 @@ use clap::error::ErrorKind;
 use clap::{ArgMatches, Command, Error};
 use std::alloc::{AllocError, Global};
 
-/// How many characters wide a picture is if no number is given.
+/// How many characters wide a picture is if no number is given. It is not clap's default value,
+/// unlike `WINDOW` of command_line.rt: without `--text` a picture has no such width.
 const COLUMNS: u32 = 80;
 
 // The text that clap has for an error. What was asked for, as help, goes to standard output.

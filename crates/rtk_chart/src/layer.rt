@@ -23,6 +23,7 @@ pub(crate) enum Layer {
     Half,
 }
 
+// The place is the place of a code; in `flags` it is the place of a satellite.
 fn coverage_at(tracking: &Tracking, place: usize) -> Coverage
     ensures { result ≡ coverage_at place tracking.now }
 {

@@ -45,7 +45,8 @@ pub(crate) fn has_half(observed: &[Observed]) -> bool
     observed.iter().any(|o| o.half)
 }
 
-// The signal strength digit of a strength.
+// The signal strength digit of a strength, which `digit_of_strength` in record_text.rt of rtk_rinex
+// writes.
 fn level_of(strength_millidbhz: Option<u32>) -> Option<u8>
     ensures { result ≡ level_of strength_millidbhz }
 {

@@ -1,4 +1,4 @@
-//! A picture in characters.
+//! A picture in characters. The picture in SVG uses `is_drawn` and `drawn_before` too.
 
 ghost use Rattle.std.specs.Prelude.{◌≡◌, ◌≤◌, ◌<◌, ◌++◌, List, ℕ, count_by, OnOk, IfOk};
 ghost use Rattle.std.specs.List.{range_with_len, list_any};

@@ -15,7 +15,8 @@ fn two_digit_number(tens: u8, ones: u8) -> u8
     tens.wrapping_sub(b'0') % 10 * 10 + ones.wrapping_sub(b'0') % 10
 }
 
-// The text of a reading.
+// The text of a reading. It is written here, since `put_date` and `put_clock` of rtk_obs put into a
+// `Vec`, which takes memory.
 fn text_of(reading: Civil) -> [u8; 19]
     ensures { result ≡ moment_text reading }
 {

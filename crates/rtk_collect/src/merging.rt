@@ -24,7 +24,9 @@ fn order_of_code(entry: &CellEntry) -> u16
     u16::from(entry.satellite) * 256 + entry.code.place() as u16
 }
 
-// The key of a cell, by which the cells of an epoch rise: satellite, code and kind of message.
+// The key of a cell, by which the cells of an epoch rise: satellite, code and kind of message. It
+// has the kind since clauses see one list of both kinds; in the list of a kind all cells have the
+// same.
 fn key_of(entry: &CellEntry) -> usize
     ensures { result ≡ key entry.now }
 {

@@ -13,7 +13,7 @@ use crate::offer::Offer;
 use rtk_message::{Arp1005, Arp1006};
 use rtk_obs::Position;
 
-/// The first 1005 and the first 1006.
+/// The first 1005 and the first 1006 of the one station whose messages come.
 #[derive(Clone, Copy)]
 pub(crate) struct StationMessages {
     pub(crate) arp1005: Option<Arp1005>,

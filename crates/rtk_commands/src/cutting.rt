@@ -130,6 +130,7 @@ fn cut_by<R: Read + Drop, W: Write + Drop, K: Before>(
     let mut source: Reads<R, K> = Reads::over(reader, 0);
     let mut target = sink::<W, K>(alloc, room, out, 0)?;
     let cut = cut_input(alloc, &mut source, part, &mut target);
+    // The first call flushes what was gathered. The second one has nothing to flush.
     let (resumed, written) = target.into_writer();
     let out = resumed.into_inner();
     let done = if_out(cut, written);

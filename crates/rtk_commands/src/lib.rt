@@ -7,6 +7,8 @@
 //! - `show_through` does so without that type, for any reader and writer;
 //! - `show_named` opens the file of a name, writes to standard output and answers the exit status.
 //!
+//! In place of `show` the others have `summarize`, `check_file`, `chart_input` and `cut_input`.
+//!
 //! ```rust
 //! use rtk_commands::check_file;
 //! use rtk_frame::{After, MemSink, MemSource};

@@ -1,6 +1,4 @@
 //! The command `show`: a line for each frame of a capture.
-//!
-//! Its layers, from below: `show_frames`, `show`, `show_by`, `show_through`, `show_named`.
 
 ghost use Rattle.std.specs.Prelude.{◌≡◌, ◌≢◌, ◌⊎◌, ℕ, ◌≤◌, Some, Err, [], length, IfOk, OnOk, IfErr, IsErrOf, IsNone, IsSome};
 ghost use Rattle.std.specs.Io.KnownBytes.{Keeps};
@@ -30,7 +28,8 @@ use std::marker::Brand;
 /// The most bytes of an input of `show`, which holds it whole.
 pub const SHOW_LIMIT: usize = 16_777_216;
 
-/// Lines are written when they have this many bytes, and at the end.
+/// Lines are written when they have this many bytes, and at the end. `show_frames` gathers them
+/// itself: each line is put into a `Vec`, so a `BufWriter` would only copy it.
 const FULL: usize = 65_536;
 
 // The capture that the input is.

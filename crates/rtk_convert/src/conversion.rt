@@ -113,6 +113,9 @@ impl Conversion {
     /// Takes the payload of a frame that was found on a link: writes the record of
     /// the epoch that it closes to `out`, and its lines to `log`. Answers its epoch, if it is an
     /// observation of the chosen station, whether it is late or not.
+    ///
+    /// A converter asks beforehand whether the conversion has stopped; this call has no such
+    /// condition, so it asks too, and so does `finish`.
     pub(crate) fn accept_frame<O: Sink, L: Sink>(
         &mut self,
         decoder: &mut AnyDecoder,

@@ -120,7 +120,8 @@ impl Converter {
         self.links[link].newest
     }
 
-    // Why a call on the link is refused at once.
+    // Why a call on the link is refused at once. That the conversion has stopped is asked here,
+    // since it comes before the faults of a link, and a refused call must not change the link.
     fn refusal(&self, link: usize) -> Option<ConvertFault>
         ensures { result ≡ refusal self.now link }
     {

@@ -25,7 +25,8 @@ use rtk_obs::{Cell, CellEntry, Code, Digits, GpsMs, Tracks, rolled};
 use rtk_rinex::{Observed, RecordLines};
 use std::alloc::AllocError;
 
-// What a code shows if it has no cell.
+// What a code shows if it has no cell: the value of `Observed::default()`. The room for a row could
+// begin with any value, since `blank` writes over it.
 const NOTHING: Observed = Observed {
     range_mm: None,
     phase_millicycles: None,
@@ -55,7 +56,8 @@ fn observed(cell: &Cell, digits: Digits) -> Observed
     }
 }
 
-// The place of each code among the listed ones, or 16.
+// The place of each code among the listed ones, or 16: a list has at most 16 codes, whose places
+// are 0 to 15, so 16 is the place of no listed code.
 fn places_of(listed: &[Code]) -> [u8; 16]
     requires few { length listed.now ≤ 16 }
     requires distinct { AllPairs (λ a b. a ≢ b) listed.now }

@@ -1,5 +1,7 @@
 //! One RINEX file and a report from 1 to 16 links: a run reads the links and writes both.
 //!
+//! In each call `out` is the sink of the file, and `log` the sink of the report.
+//!
 //! ```rust
 //! use rtk_convert::{Converter, Setup};
 //! use rtk_frame::MemSink;

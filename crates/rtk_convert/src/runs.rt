@@ -82,6 +82,7 @@ fn read_link<R: Source, O: Sink, L: Sink>(
     ensures no_failed_read { ((k : ℕ) → ¬ (IsErrOf result (ConvertFault.Read k))) → SameFailures R.failures sources.old sources.new }
 {
     let Ok(count) = read_one(sources, link, buf) else {
+        // The fault alone has the number as a `u8`.
         let link = LinkNumber::new(link).from_zero();
         return Err(ConvertFault::Read { link });
     };

@@ -124,6 +124,7 @@ fn show_in_rows(
     ensures marks { MarksBecome marks.new (λ s c. not (list_any (row_has_phase s c) rows.now && nat_lt c code_count) && mark_of marks.old s c) }
     ensures same { result ≡ false → HasWidth code_count rows.now → shown.new.rows ≡ rows.now }
 {
+    // This is room alone: `show_in_row` writes each value before it is read.
     let mut codes = [Observed::default(); 16];
     let observed = &mut codes[..code_count];
     let mut is_changed = false;

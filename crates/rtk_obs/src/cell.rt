@@ -38,8 +38,8 @@ pub struct Cell {
     pub half: bool,
     /// The kind of message.
     pub source: CellSource,
-    /// The phase less the pseudorange of L1, in 0.0005 m (DF012, DF018); only a phase of a 1004 has
-    /// it.
+    /// The phase difference of the message: the phase less the pseudorange of L1, in 0.0005 m
+    /// (DF012, DF018); only a phase of a 1004 has it.
     pub offset: Option<i32>,
 }
 

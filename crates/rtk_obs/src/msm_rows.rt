@@ -99,7 +99,8 @@ static SIGNAL_CODES: [Option<Code>; 33] = [
 // Which signal of which satellite a cell is.
 #[derive(Clone, Copy, Default)]
 struct Slot {
-    // The place of the satellite among the satellites of the message, from 0.
+    // The place of the satellite among the satellites of the message, from 0. Clauses alone read
+    // it.
     row: u8,
     // The signal identifier (DF395).
     signal: u8,

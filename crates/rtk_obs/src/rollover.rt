@@ -94,6 +94,9 @@ fn without_rolls(phase: i64) -> Option<i64>
 
 /// A phase in millicycles with 1500 cycles added for each roll; `None` exactly if that is
 /// outside the limits of an observation, -999,999,999,999 to 9,999,999,999,999.
+///
+/// The test is here since the sum may not fit an `i64`. rtk_rinex tests each value that it writes
+/// again (`is_written_value`), since other programs may give it any.
 pub fn rolled(phase: i64, rolls: i64) -> Option<i64>
     ensures { result ≡ rolled_phase phase rolls }
 {

@@ -1,4 +1,7 @@
 //! Rounding to the nearest whole number, ties away from zero.
+//!
+//! `round_div` is for other programs. The values of this crate are rounded in scaling.rt, by the
+//! same definition.
 
 ghost use Rattle.std.specs.Prelude.{◌≡◌, ℕ, ℤ, ◌^◌, ◌<◌, ◌≤◌, ◌↔◌, ◌<ℤ◌, pos, unsigned_abs};
 ghost use Rattle.rtk_obs.specs.Rounding.{IsRounded, rounded_magnitude, rounded};

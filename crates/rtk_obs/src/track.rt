@@ -11,13 +11,14 @@ pub struct Track {
     pub lock_time_ms: u32,
     /// The kind of message that the phase came in.
     pub source: CellSource,
-    /// The offset field of a phase of a 1004.
+    /// The phase difference of a 1004: `offset` of the phase's `Cell`.
     pub offset: Option<i32>,
     /// The rolls of 1500 cycles so far.
     pub rolls: i64,
 }
 
-/// What RINEX shows beside a phase, and the rolls of 1500 cycles to add to it.
+/// What `Tracks::step` answers for a cell: what RINEX shows beside its phase, and the rolls of 1500
+/// cycles to add to it.
 #[derive(Clone, Copy, Debug, Default, PartialEq, Eq)]
 pub struct Digits {
     /// Lock was lost since the last phase: bit 0 of the loss-of-lock indicator.

@@ -1,4 +1,6 @@
-//! Numbers in columns of text, as the formats of RINEX 3.05 name them (F14.3, I6 ..).
+//! Numbers written in columns of text, as the formats of RINEX 3.05 name them (F14.3, I6 ..).
+//!
+//! digits.rt reads them back.
 
 ghost use Rattle.std.specs.Prelude.{◌≡◌, ℕ, ◌+◌, ◌*◌, ◌/◌, ◌%◌, ◌^◌, ◌<◌, ◌≤◌, ◌∷◌, ◌++◌, length, take, set, replicate, decimal, if◌then◌else◌, false, pos, negsuc, ◌≤ℤ◌};
 ghost use Rattle.rtk_obs.specs.CivilText.{last_digits};

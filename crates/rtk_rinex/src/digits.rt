@@ -1,4 +1,6 @@
 //! Columns of a text, and the numbers that they show, read without a test of their form.
+//!
+//! columns.rt writes these numbers.
 
 ghost use Rattle.std.specs.Prelude.{◌≡◌, ℕ, ◌+◌, ◌*◌, ◌^◌, ◌<◌, ◌≤◌, length, take, drop, Decides};
 ghost use Rattle.rtk_rinex.specs.Steps.Digits.{digits_from, has_minus, number_in};

@@ -160,8 +160,9 @@ fn move_named_code(all: &mut [Code; 16], name: &[u8], place: usize)
     }
 }
 
-// All codes in an order that begins with the codes that the text names, as long as they are good.
-// A header that shows the same names lists these codes.
+// All codes in an order that begins with the codes that the text names, as long as they are good. A
+// header that shows the same names lists these codes. Codes change places in `ALL_CODES`, so all
+// stay distinct, and `Head::new` can't refuse the first ones.
 fn read_codes(text: &[u8]) -> [Code; 16]
     ensures all { AreAllCodes result }
     ensures shown { (listed : List Code) (i : ℕ) (d : Code) → AllPairs (λ a b. a ≢ b) listed → i < length listed → i < 16

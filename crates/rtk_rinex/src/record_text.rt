@@ -19,7 +19,8 @@ const LEAST_F14_3: i64 = -999_999_999_999;
 // The greatest value that F14.3 has room for, in thousandths.
 const GREATEST_F14_3: i64 = 9_999_999_999_999;
 
-// Is it a value that F14.3 has room for, in thousandths, and not 0?
+// Is it a value that F14.3 has room for, in thousandths, and not 0? A phase with rolls was tested
+// by `rolled` of rtk_obs, but an `Observed` of any program may have any value.
 fn is_written_value(value: i64) -> bool
     ensures { result ≡ is_written value }
 {
@@ -61,7 +62,8 @@ fn put_observation(field: &mut [u8], value: Option<i64>, first: u8, second: u8)
     }
 }
 
-/// The signal strength digit of a strength in thousandths of a dB-Hz.
+/// The signal strength digit of a strength in thousandths of a dB-Hz. `level_of` in observations.rt
+/// of rtk_chart gives it as a number.
 pub(crate) fn digit_of_strength(strength: Option<u32>) -> u8
     ensures { result ≡ strength_digit strength }
 {

@@ -16,7 +16,8 @@ use crate::epoch_table::Observed;
 use crate::value_check::shown_observed;
 use arrayvec::ArrayVec;
 
-// What a code shows without columns.
+// What a code shows without columns: the value of `Observed::default()`. It is answered, so its
+// fields are written out.
 const NOTHING: Observed = Observed {
     range_mm: None,
     phase_millicycles: None,

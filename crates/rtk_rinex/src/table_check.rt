@@ -126,7 +126,8 @@ pub fn check<'a>(bytes: &'a [u8]) -> Result<Table<'a>, CheckFault>
     Ok(Table::of_text(bytes, counts))
 }
 
-/// The text of a table; memory is taken once.
+/// The text of a table, copied; memory is taken once. It is for a program that lets the checked
+/// bytes go.
 pub fn text(alloc: Global, table: &Table<'_>) -> Result<Vec<u8>, AllocError>
     // Fails only if memory is refused: tests/system/calls, rows `text ..`.
     ensures text { IfOk result (λ t. t.items ≡ table.now.text) }

@@ -1,9 +1,7 @@
 //! Files and standard streams as sources and sinks. What a reader or a writer says of its bytes is
 //! what they say; a file and a standard stream say nothing.
 //!
-//! A link is read through one buffer, whose size is a multiple of the 512 bytes that a conversion
-//! asks for. Failed calls are counted, and a reader has met its end once a read with room gave
-//! nothing.
+//! Failed calls are counted, and a reader has met its end once a read with room gave nothing.
 
 ghost use Rattle.std.specs.Prelude.{◌≡◌, OnOk, IfOk, IfErr, List, ℕ, true, false};
 ghost use Rattle.std.specs.Io.Buffered.{writer_contents};
@@ -199,7 +197,8 @@ impl<W: Write, K: Before> Writes<W, K> {
         }
     }
 
-    /// The writer behind.
+    /// The writer behind. This flushes nothing: over a `BufWriter` call `into_writer`, which
+    /// flushes.
     pub fn into_inner(self) -> W
         ensures { result ≡ self.inner }
     {
@@ -223,7 +222,7 @@ fn hand_on<W: Write + Drop>(gathered: BufWriter<W>) -> (W, Result<(), StreamFaul
 }
 
 impl<W: Write + Drop, K: Before> Writes<BufWriter<W>, K> {
-    /// Hands on what was gathered, and ends with the writer behind. If all is handed on, that writer
+    /// Flushes what was gathered, and ends with the writer behind. If all is handed on, that writer
     /// holds what was taken. What can't be written now is let go.
     pub fn into_writer(self) -> (W, Result<(), StreamFault>)
         ensures taken { OnOk result.1 (taken_of (K.held self.number) (W.contents result.0)

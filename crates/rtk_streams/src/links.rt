@@ -1,4 +1,7 @@
 //! The links of a conversion: files and standard input, opened before one is read.
+//!
+//! A link is read through one buffer, whose size is a multiple of the 512 bytes that a conversion
+//! asks for.
 
 ghost use Rattle.std.specs.Prelude.{◌≡◌, length, IfOk};
 ghost use Rattle.std.specs.Io.Buffered.{reader_capacity};
