@@ -16,6 +16,9 @@ use rtk_obs::{Code, GpsMs, WEEK_MS};
 use rtk_rinex::{Head, HeadFault};
 use std::alloc::Global;
 
+/// The window if none is given: of files nothing has to go out early.
+const MOST_WINDOW: u16 = 4096;
+
 /// What the words of `auto` say.
 #[derive(Drop)]
 pub struct AutoWords<'a> {
@@ -133,6 +136,21 @@ fn ways_of<'a>(options: &AutoOptions<'a>) -> Ways<'a> {
     }
 }
 
+fn wanted_of<'a>(
+    options: &AutoOptions<'a>,
+    near: Option<GpsMs>,
+    codes: Option<Vec<Code>>,
+) -> Wanted<'a> {
+    Wanted {
+        station: options.station,
+        msm: msm_if_any(options.msm),
+        codes,
+        near,
+        marker: options.marker,
+        window: options.window.unwrap_or(MOST_WINDOW),
+    }
+}
+
 /// What the options say. The causes are looked for in the order of `BadWords`.
 pub(crate) fn auto_words<'a>(
     alloc: Global,
@@ -145,14 +163,7 @@ pub(crate) fn auto_words<'a>(
     check_values(alloc, options, near)?;
     let codes = codes_if_any(alloc, options.codes)?;
     Ok(AutoWords {
-        wanted: Wanted {
-            station: options.station,
-            msm: msm_if_any(options.msm),
-            codes,
-            near,
-            marker: options.marker,
-            window: options.window.unwrap_or(4096),
-        },
+        wanted: wanted_of(options, near, codes),
         made,
         ways: ways_of(options),
     })
