@@ -151,6 +151,21 @@ fn wanted_of<'a>(
     }
 }
 
+// What the options say, with these times.
+fn words_at<'a>(
+    alloc: Global,
+    options: &AutoOptions<'a>,
+    near: Option<GpsMs>,
+    made: Option<GpsMs>,
+) -> Result<AutoWords<'a>, WordsFault>
+    ensures { IfErr result HasStatus }
+{
+    let codes = codes_if_any(alloc, options.codes)?;
+    let wanted = wanted_of(options, near, codes);
+    let ways = ways_of(options);
+    Ok(AutoWords { wanted, made, ways })
+}
+
 /// What the options say. The causes are looked for in the order of `BadWords`.
 pub(crate) fn auto_words<'a>(
     alloc: Global,
@@ -161,10 +176,5 @@ pub(crate) fn auto_words<'a>(
     let near = moment_if_any(options.near, BadWords::Near)?;
     let made = moment_if_any(options.made, BadWords::Made)?;
     check_values(alloc, options, near)?;
-    let codes = codes_if_any(alloc, options.codes)?;
-    Ok(AutoWords {
-        wanted: wanted_of(options, near, codes),
-        made,
-        ways: ways_of(options),
-    })
+    words_at(alloc, options, near, made)
 }
