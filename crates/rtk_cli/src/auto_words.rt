@@ -111,17 +111,25 @@ fn head_of(alloc: Global, marker: Option<&str>, codes: Option<&str>) -> Result<H
     }
 }
 
-// Is there a conversion with this marker and these codes, near this moment?
-fn check_values(
-    alloc: Global,
-    options: &AutoOptions<'_>,
-    near: Option<GpsMs>,
-) -> Result<(), WordsFault>
+// The time of making, if it is given. The form of the reference is looked at first.
+fn made_of(options: &AutoOptions<'_>) -> Result<Option<GpsMs>, WordsFault>
+    ensures { IfErr result HasStatus }
+{
+    let _near = moment_if_any(options.near, BadWords::Near)?;
+    moment_if_any(options.made, BadWords::Made)
+}
+
+// The reference, if it is given. The codes and the marker are looked at first, then whether a
+// conversion dates near it.
+fn near_of(alloc: Global, options: &AutoOptions<'_>) -> Result<Option<GpsMs>, WordsFault>
     ensures { IfErr result HasStatus }
 {
     let head = head_of(alloc, options.marker, options.codes)?;
-    match Setup::new(0, near.unwrap_or(first_reference()), head, 2) {
-        Ok(_) => Ok(()),
+    let Some(near) = moment_if_any(options.near, BadWords::Near)? else {
+        return Ok(None);
+    };
+    match Setup::new(0, near, head, 2) {
+        Ok(_) => Ok(Some(near)),
         Err(_) => Err(words_fault(BadWords::Near)),
     }
 }
@@ -173,8 +181,7 @@ pub(crate) fn auto_words<'a>(
 ) -> Result<AutoWords<'a>, WordsFault>
     ensures { IfErr result HasStatus }
 {
-    let near = moment_if_any(options.near, BadWords::Near)?;
-    let made = moment_if_any(options.made, BadWords::Made)?;
-    check_values(alloc, options, near)?;
+    let made = made_of(options)?;
+    let near = near_of(alloc, options)?;
     words_at(alloc, options, near, made)
 }
