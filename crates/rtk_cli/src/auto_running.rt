@@ -67,21 +67,49 @@ fn names_of_links<'a>(
     Ok(all)
 }
 
+// The files of the captures of all links, one after another.
+fn files_of<'a, R: Files>(
+    alloc: Global,
+    rt: &'a R,
+    links: &[Vec<&'a str>],
+) -> Result<Vec<Later<'a, R>>, AllocError> {
+    let mut files = Vec::new(alloc);
+    for link in links {
+        for name in link {
+            files.push(Later::new(rt, *name))?;
+        }
+    }
+    Ok(files)
+}
+
+// Values in groups as large as the links.
+fn grouped<T: Drop>(
+    alloc: Global,
+    values: Vec<T>,
+    links: &[Vec<&str>],
+) -> Result<Vec<Vec<T>>, AllocError> {
+    let mut groups = Vec::new(alloc);
+    let mut rest = values.into_iter();
+    for link in links {
+        let mut group = Vec::new(alloc);
+        for _name in link {
+            if let Some(value) = rest.next() {
+                group.push(value)?;
+            }
+        }
+        groups.push(group)?;
+    }
+    Ok(groups)
+}
+
 // The files of the captures of each link.
 fn files_of_links<'a, R: Files>(
     alloc: Global,
     rt: &'a R,
     links: &[Vec<&'a str>],
 ) -> Result<Vec<Vec<Later<'a, R>>>, AllocError> {
-    let mut all = Vec::new(alloc);
-    for link in links {
-        let mut files = Vec::new(alloc);
-        for name in link {
-            files.push(Later::new(rt, *name))?;
-        }
-        all.push(files)?;
-    }
-    Ok(all)
+    let files = files_of(alloc, rt, links)?;
+    grouped(alloc, files, links)
 }
 
 // What is said after the conversion: the counts, unless the report has them, and what a person should

@@ -16,6 +16,9 @@ use rtk_obs::{Code, GpsMs, WEEK_MS};
 use rtk_rinex::{Head, HeadFault};
 use std::alloc::Global;
 
+/// The window if none is given: of files nothing has to go out early.
+const MOST_WINDOW: u16 = 4096;
+
 /// What the words of `auto` say.
 #[derive(Drop)]
 pub struct AutoWords<'a> {
@@ -108,17 +111,25 @@ fn head_of(alloc: Global, marker: Option<&str>, codes: Option<&str>) -> Result<H
     }
 }
 
-// Is there a conversion with this marker and these codes, near this moment?
-fn check_values(
-    alloc: Global,
-    options: &AutoOptions<'_>,
-    near: Option<GpsMs>,
-) -> Result<(), WordsFault>
+// The time of making, if it is given. The form of the reference is looked at first.
+fn made_of(options: &AutoOptions<'_>) -> Result<Option<GpsMs>, WordsFault>
+    ensures { IfErr result HasStatus }
+{
+    let _near = moment_if_any(options.near, BadWords::Near)?;
+    moment_if_any(options.made, BadWords::Made)
+}
+
+// The reference, if it is given. The codes and the marker are looked at first, then whether a
+// conversion dates near it.
+fn near_of(alloc: Global, options: &AutoOptions<'_>) -> Result<Option<GpsMs>, WordsFault>
     ensures { IfErr result HasStatus }
 {
     let head = head_of(alloc, options.marker, options.codes)?;
-    match Setup::new(0, near.unwrap_or(first_reference()), head, 2) {
-        Ok(_) => Ok(()),
+    let Some(near) = moment_if_any(options.near, BadWords::Near)? else {
+        return Ok(None);
+    };
+    match Setup::new(0, near, head, 2) {
+        Ok(_) => Ok(Some(near)),
         Err(_) => Err(words_fault(BadWords::Near)),
     }
 }
@@ -133,6 +144,36 @@ fn ways_of<'a>(options: &AutoOptions<'a>) -> Ways<'a> {
     }
 }
 
+fn wanted_of<'a>(
+    options: &AutoOptions<'a>,
+    near: Option<GpsMs>,
+    codes: Option<Vec<Code>>,
+) -> Wanted<'a> {
+    Wanted {
+        station: options.station,
+        msm: msm_if_any(options.msm),
+        codes,
+        near,
+        marker: options.marker,
+        window: options.window.unwrap_or(MOST_WINDOW),
+    }
+}
+
+// What the options say, with these times.
+fn words_at<'a>(
+    alloc: Global,
+    options: &AutoOptions<'a>,
+    near: Option<GpsMs>,
+    made: Option<GpsMs>,
+) -> Result<AutoWords<'a>, WordsFault>
+    ensures { IfErr result HasStatus }
+{
+    let codes = codes_if_any(alloc, options.codes)?;
+    let wanted = wanted_of(options, near, codes);
+    let ways = ways_of(options);
+    Ok(AutoWords { wanted, made, ways })
+}
+
 /// What the options say. The causes are looked for in the order of `BadWords`.
 pub(crate) fn auto_words<'a>(
     alloc: Global,
@@ -140,20 +181,7 @@ pub(crate) fn auto_words<'a>(
 ) -> Result<AutoWords<'a>, WordsFault>
     ensures { IfErr result HasStatus }
 {
-    let near = moment_if_any(options.near, BadWords::Near)?;
-    let made = moment_if_any(options.made, BadWords::Made)?;
-    check_values(alloc, options, near)?;
-    let codes = codes_if_any(alloc, options.codes)?;
-    Ok(AutoWords {
-        wanted: Wanted {
-            station: options.station,
-            msm: msm_if_any(options.msm),
-            codes,
-            near,
-            marker: options.marker,
-            window: options.window.unwrap_or(4096),
-        },
-        made,
-        ways: ways_of(options),
-    })
+    let made = made_of(options)?;
+    let near = near_of(alloc, options)?;
+    words_at(alloc, options, near, made)
 }
