@@ -11,7 +11,13 @@ use Rattle.rtk_summary.specs.Proposal.{epochs_with_value, entries_with, proposed
 use Rattle.rtk_summary.specs.ReadFrames.{ReadFrame, messages_in, messages_from}
 use Rattle.rtk_summary.specs.Standing.{StandsForFrames}
 use Rattle.rtk_summary.specs.Tracing.{has_code}
+use Rattle.rtk_dates.specs.Placing.{second_of}
+use Rattle.rtk_dates.specs.declared.placing.Placed.{Placed}
 use Rattle.rtk_find.specs.ChosenStation.{IsMarked, IsOnlyMarked}
+use Rattle.rtk_find.specs.Dating.{least_of_captures, placed_if_any, reach_after}
+use Rattle.rtk_find.specs.declared.capture_found.CaptureFound.{CaptureFound}
+use Rattle.rtk_find.specs.declared.dating.Base.{Base}
+use Rattle.rtk_find.specs.declared.dating.Base.TheVariants.{Given, Told}
 use Rattle.rtk_find.specs.declared.finding.Findings.{Findings}
 use Rattle.rtk_auto.specs.declared.wanted.Wanted.{Wanted}
 
@@ -36,6 +42,20 @@ abbrev pub marker_chosen : Option (Bor (List ℕ)) → ℕ → List ℕ
 marker_chosen None station = last_digits 4 station
 marker_chosen (Some named) station = named.now
 
+-- the moment near which captures are dated: the one that is given; else the least first epoch that they tell
+abbrev pub IsBaseOf : Option ℕ → List CaptureFound → Base → Type 0
+IsBaseOf None cs base = (least : ℕ) × (least_of_captures None cs ≡ Some least) × (base ≡ Told least)
+IsBaseOf (Some near) cs base = base ≡ Given near
+
+-- the epochs of captures that are dated near a base have this reach
+abbrev pub IsReachOf : Base → List CaptureFound → Placed → Type 0
+IsReachOf base cs reach = reach_after None (map (placed_if_any base) cs) ≡ Some reach
+
+-- formula
+-- the whole second of the least first epoch of the captures
+abbrev pub IsNearOf : Option ℕ → List CaptureFound → ℕ → Type 0
+IsNearOf given cs near = (base : Base) × IsBaseOf given cs base × ((reach : Placed) × IsReachOf base cs reach × (near ≡ second_of reach.first))
+
 -- the setup of a conversion of the captures in which this was found, by these words and at this time of
 -- making: each value is named or found
 pub record IsSetupFor (f : Findings) (w : Wanted) (made : ℕ) (s : SetupView) : Type 0 where
@@ -45,3 +65,4 @@ pub record IsSetupFor (f : Findings) (w : Wanted) (made : ℕ) (s : SetupView) :
   pub marker : s.head.marker ≡ marker_chosen w.marker s.station
   pub made_at : s.head.made ≡ made
   pub window : s.window ≡ w.window
+  pub near_by : IsNearOf w.near f.captures.items s.near

@@ -3,7 +3,6 @@ use Rattle.std.specs.Prelude.{ℕ, ◌+◌, ◌==◌, nat_lt, List, [], ◌∷�
 use Rattle.std.specs.Borrow.{Bor}
 use Rattle.std.specs.declared.vec.Vec.{Vec}
 use Rattle.rtk_message.specs.ShellText.{sh_quoted}
-use Rattle.rtk_message.specs.declared.msm_kind.MsmKind.{MsmKind}
 use Rattle.rtk_obs.specs.CivilText.{date_text, clock_text}
 use Rattle.rtk_rinex.specs.Header.{HeadView}
 use Rattle.rtk_rinex.specs.Reading.{reading_of}

@@ -1,5 +1,7 @@
 //! The captures that were read, and how a refusal lists them.
 
+ghost use Rattle.std.specs.Prelude.{◌≡◌};
+
 use crate::kept::is_of;
 use crate::lists::{
     DifferingDate, put_capture_line, put_date_line, put_name_line, put_stations, put_unread,
@@ -29,7 +31,9 @@ impl<'n> Captured<'_, '_, 'n> {
     }
 
     /// The captures, as they were given.
-    pub(crate) fn captures(&self) -> &[CaptureFound] {
+    pub(crate) fn captures(&self) -> &[CaptureFound]
+        ensures { result.now ≡ self.now.findings.now.captures.items }
+    {
         self.findings.captures.as_slice()
     }
 

@@ -1,5 +1,10 @@
 //! The dates of the captures that are converted.
 
+ghost use Rattle.std.specs.Prelude.{◌≡◌, IfOk};
+ghost use Rattle.rtk_auto.specs.Plan.{IsBaseOf, IsReachOf, IsNearOf};
+ghost use Rattle.rtk_dates.specs.Placing.{second_of};
+ghost use Rattle.rtk_dates.specs.declared.placing.Placed.{Placed};
+
 use crate::captured::Captured;
 use crate::refusal::{PlanFault, Refusal, refused};
 use crate::span_line::{DateSource, DatedSpan};
@@ -29,7 +34,9 @@ fn base(
     captured: &Captured<'_, '_, '_>,
     captures: &[CaptureFound],
     near: Option<GpsMs>,
-) -> Result<Base, PlanFault> {
+) -> Result<Base, PlanFault>
+    ensures { IfOk result (IsBaseOf near captures.now) }
+{
     if let Some(near) = near {
         return Ok(Base::Given(near));
     }
@@ -67,7 +74,9 @@ fn source_of(captures: &[CaptureFound], base: Base, station: u16) -> DateSource 
 }
 
 // The moment, if it can be written.
-fn moment(alloc: Global, ms: u64) -> Result<GpsMs, PlanFault> {
+fn moment(alloc: Global, ms: u64) -> Result<GpsMs, PlanFault>
+    ensures { IfOk result (λ t. t ≡ ms) }
+{
     match GpsMs::new(ms) {
         Some(moment) => Ok(moment),
         None => refused(Refusal::OutsideDates, Vec::new(alloc)),
@@ -87,7 +96,9 @@ fn dating_by(
     captures: &[CaptureFound],
     base: Base,
     station: u16,
-) -> Result<Dating, PlanFault> {
+) -> Result<Dating, PlanFault>
+    ensures { IfOk result (λ d. (reach : Placed) × IsReachOf base captures.now reach × (d.near ≡ second_of reach.first)) }
+{
     let placed = place_captures(alloc, &base, captures)?;
     let Some(reach) = reach_of(placed.as_slice()) else {
         return refused(Refusal::NoObservation, Vec::new(alloc));
@@ -110,7 +121,9 @@ pub(crate) fn date_captures(
     captured: &Captured<'_, '_, '_>,
     near: Option<GpsMs>,
     station: u16,
-) -> Result<Dating, PlanFault> {
+) -> Result<Dating, PlanFault>
+    ensures { IfOk result (λ d. IsNearOf near captured.now.findings.now.captures.items d.near) }
+{
     let captures = captured.captures();
     let base = base(alloc, captured, captures, near)?;
     dating_by(alloc, captures, base, station)

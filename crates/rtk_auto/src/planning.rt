@@ -6,7 +6,7 @@ ghost use Rattle.rtk_rinex.specs.Header.{IsHeadView};
 ghost use Rattle.rtk_summary.specs.ReadFrames.{ReadFrame};
 ghost use Rattle.rtk_summary.specs.Standing.{StandsForFrames};
 ghost use Rattle.rtk_find.specs.Captures.{Finds};
-ghost use Rattle.rtk_auto.specs.Plan.{IsChosenStation, msm_chosen, codes_chosen, marker_chosen, IsSetupFor};
+ghost use Rattle.rtk_auto.specs.Plan.{IsChosenStation, msm_chosen, codes_chosen, marker_chosen, IsNearOf, IsSetupFor};
 
 use crate::captured::Captured;
 use crate::dating::{Dating, date_captures};
@@ -182,8 +182,8 @@ fn setup_near(
 ) -> Result<Setup, PlanFault>
     requires bound { station < 4096 }
     requires chosen { IsChosenStation captured.now.findings.now.observing.items wanted.now.station station }
-    ensures setup { IfOk result (IsSetupFor captured.now.findings.now wanted.now made) }
-    ensures near { IfOk result (λ setup. setup.near ≡ near) }
+    requires near { IsNearOf wanted.now.near captured.now.findings.now.captures.items near }
+    ensures { IfOk result (IsSetupFor captured.now.findings.now wanted.now made) }
 {
     let msm = msm_to_convert(&captured.findings.summary, wanted.msm, station);
     let codes = codes_to_convert(alloc, captured, station, msm, &wanted.codes)?;

@@ -1,4 +1,4 @@
-use Rattle.std.proofs.Common.{◌≡◌, ◌<◌, ℕ, length, refl, ap, ◌∙◌, arith}
+use Rattle.std.proofs.Common.{◌≡◌, ◌<◌, length, refl, ap, ◌∙◌, arith}
 use Rattle.rtk_auto.proofs.planning.station_to_convert.Goals as goal
 
 pub returns-in-One-clause-bound : goal.returns-in-One-clause-bound
