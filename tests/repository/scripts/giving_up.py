@@ -16,7 +16,7 @@ BLOCK = nested("{", "}", rf"(?:(?!{WORD})[^{{}}])", 3)
 CODE = rf"(?:(?!{WORD})[^{{}}]|{BLOCK})*?"
 
 # Calls of std and clap that fail for want of memory alone; and those of these crates of which name and type of fault don't say so.
-OF_STD = {"with_capacity", "push", "push_front", "insert", "reserve", "reserve_exact", "extend_from_slice", "to_string", "error",
+OF_STD = {"with_capacity", "from_slice", "push", "push_front", "insert", "reserve", "reserve_exact", "extend_from_slice", "to_string", "error",
     "render_long_help"}
 OF_CRATES = {"Scanner::new", "Findings::new", "Conversion::new", "sink", "set.join", "lines.push_row", "header"}
 NAME = r"(?:\(\)|(?:mut )?(?!true|false)[a-z]\w*)"

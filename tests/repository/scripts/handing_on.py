@@ -64,13 +64,11 @@ cut_request: cut_option_values(matches)? / matches.get_str("FILE")? / Some(Reque
 cut_option_values: matches.get_one::<u32>("every") / let Some(step) = every / step < 1 || step > MOST_STEP / None
     / Some(CutOptions { from: matches.get_str("from"), until: matches.get_str("until"), every, })
 auto_job: auto_words(alloc, options) / Ok(options) => Ok(Job::Auto { options, captures }), / Err(fault) => Err(fault),
-auto_words: moment_if_any(options.near, BadWords::Near)? / moment_if_any(options.made, BadWords::Made)?
-    / codes_if_any(alloc, options.codes)? / check_values(options.marker, &codes, near)? / Ok(AutoWords {
-    wanted: Wanted { station: options.station, msm: msm_if_any(options.msm), codes, near, marker: options.marker,
-    window: options.window.unwrap_or(4096), }, made, ways: ways_of(options), })
+auto_words: made_of(options)? / near_of(alloc, options)? / words_at(alloc, options, near, made)
+words_at: codes_if_any(alloc, options.codes)? / wanted_of(options, near, codes) / ways_of(options) / Ok(AutoWords { wanted, made, ways })
 moment_if_any: let Some(text) = text else { return Ok(None); } / moment_of(text.as_bytes()) / Some(moment) => Ok(Some(moment)),
     / Err(words_fault(line))
-codes_if_any: let Some(text) = text else { return Ok(None); } / codes_of(alloc, text.as_bytes()) / Ok(codes) => Ok(Some(codes)),
+codes_if_any: let Some(text) = text else { return Ok(None); } / codes_listed(alloc, text) / Ok(codes) => Ok(Some(codes)),
     / Err(fault) => Err(fault),
 ways_of: Ways { output: options.output, force: options.force, skip_empty: options.skip_empty,
     links_as_given: options.links_as_given, report: options.report, }
@@ -148,7 +146,8 @@ convert_to_output: convert_to(rt, work, io::writer(rt), report, ways.report) / d
 convert_to: files_of_links(rt.alloc(), rt, work.links.as_slice()) / Err(fail(rt, ToolFault::OutOfMemory))
     / Quiet::new(report, !is_reported) / convert_joined(rt.alloc(), work.setup, files, out, report) / Err(fail(rt, fault))
     / finish(rt, converted, &work.known, is_reported)
-files_of_links: Vec::new(alloc) / links / Vec::new(alloc) / link / files.push(Later::new(rt, *name))? / all.push(files)? / Ok(all)
+files_of_links: files_of(alloc, rt, links)? / grouped(alloc, files, links)
+files_of: Vec::new(alloc) / links / link / files.push(Later::new(rt, *name))? / Ok(files)
 open_if_waiting: let LaterFile::Waiting = file / *file = LaterFile::Open(fs::open(rt, name)?) / Ok(())
 finish: converted.done / Ok(counts) if converted.is_out => counts, / Err(conversion_status(rt, done, converted.is_out))
     / said_after(rt.alloc(), &counts, known, is_reported) / Err(fail(rt, ToolFault::OutOfMemory)) / converted.report.into_inner()
@@ -234,9 +233,9 @@ look_at_files: return Err(FAILED); / return if force { Ok(()) } else { Err(FAILE
 made_at: if let Some(made) = made { return Ok(made); } match / match
 present: Err(VarError::NotPresent) => clock_time(rt), / Err(VarError::NotPresent) => Ok(0),
 read_captures: names.iter() / names.iter().rev()
-files_of_links: rt, *name / rt, &name[1..]
+files_of: rt, *name / rt, &name[1..]
 auto_option_values: force: matches / force: matches.get_flag("report") || matches
-auto_words: near, marker / near: None, marker
+words_at: options, near, codes / options, None, codes
 work_of: setup: plan.setup / setup: plan.setup.with_msm(MsmKind::Msm4)
 convert_to: work.setup, files, out / work.setup, files.into_iter().take(3), out
 finish: if converted.is_out / if true
