@@ -5,7 +5,7 @@ ghost use Rattle.rtk_obs.specs.CivilText.{last_digits};
 ghost use Rattle.rtk_rinex.specs.Header.{IsHeadView};
 ghost use Rattle.rtk_summary.specs.ReadFrames.{ReadFrame};
 ghost use Rattle.rtk_summary.specs.Standing.{StandsForFrames};
-ghost use Rattle.rtk_find.specs.Captures.{Finds};
+ghost use Rattle.rtk_find.specs.Captures.{StandsForCaptures};
 ghost use Rattle.rtk_auto.specs.Plan.{IsChosenStation, msm_chosen, codes_chosen, marker_chosen, IsNearOf, IsSetupFor};
 
 use crate::captured::Captured;
@@ -219,7 +219,7 @@ pub fn plan_of(
     skip_empty: bool,
     as_given: bool,
 ) -> Result<Plan, PlanFault>
-    requires { (fs : List ReadFrame) × Finds made fs captured.now.findings.now }
+    requires { (fs : List ReadFrame) × StandsForCaptures made fs captured.now.findings.now }
     ensures { IfOk result (λ plan. IsSetupFor captured.now.findings.now wanted.now made plan.setup) }
 {
     if captured.findings.summary.frames() == 0 {

@@ -2,7 +2,7 @@
 
 ghost use Rattle.std.specs.Prelude.{◌≡◌, ◌≤◌, ℕ, List, IfOk, IfErr, IfSome, OnOk};
 ghost use Rattle.rtk_summary.specs.ReadFrames.{ReadFrame};
-ghost use Rattle.rtk_find.specs.Captures.{Finds};
+ghost use Rattle.rtk_find.specs.Captures.{StandsForCaptures};
 ghost use Rattle.std.specs.Io.KnownBytes.{Keeps};
 ghost use Rattle.rtk_cli.specs.FindsText.{FindsText};
 ghost use Rattle.rtk_streams.specs.declared.exit_status.TheConstants.{NOT_VALID};
@@ -77,8 +77,8 @@ fn read_named<R: Files + Input + Eprint + AllocGlobal>(
     place: usize,
     name: &str,
 ) -> Result<(), u8>
-    ensures found { (now : ℕ) (before : List ReadFrame) → Finds now before told.old.findings
-        → OnOk result ((fs : List ReadFrame) × Finds now fs told.new.findings) }
+    ensures found { (now : ℕ) (before : List ReadFrame) → StandsForCaptures now before told.old.findings
+        → OnOk result ((fs : List ReadFrame) × StandsForCaptures now fs told.new.findings) }
     ensures status { IfErr result (λ status. status ≤ NOT_VALID) }
 {
     let Some(capture) = open_input(rt, name) else {
@@ -102,7 +102,7 @@ pub(crate) fn read_captures<R: Files + Input + Eprint + AllocGlobal>(
     station: Option<u16>,
     names: &[&str],
 ) -> Result<Told, u8>
-    ensures found { IfOk result (λ told. (fs : List ReadFrame) × Finds now fs told.findings) }
+    ensures found { IfOk result (λ told. (fs : List ReadFrame) × StandsForCaptures now fs told.findings) }
     ensures status { IfErr result (λ status. status ≤ NOT_VALID) }
 {
     let Ok(findings) = Findings::new(rt.alloc(), now, station) else {

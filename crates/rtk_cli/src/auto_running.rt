@@ -4,7 +4,7 @@
 ghost use Rattle.std.specs.Prelude.{◌≡◌, ◌≤◌, List, IfOk, IfErr, IsOk, IsTrue};
 ghost use Rattle.rtk_convert.specs.Failure.{IsRunFault};
 ghost use Rattle.rtk_summary.specs.ReadFrames.{ReadFrame};
-ghost use Rattle.rtk_find.specs.Captures.{Finds};
+ghost use Rattle.rtk_find.specs.Captures.{StandsForCaptures};
 ghost use Rattle.rtk_streams.specs.declared.exit_status.TheConstants.{NOT_VALID};
 
 use crate::auto_converting::convert_joined;
@@ -265,7 +265,7 @@ fn begin_told<'a, R: Eprint + AllocGlobal, W: Write>(
     told: &Told,
     made: GpsMs,
 ) -> Result<Work<'a>, u8>
-    requires { (fs : List ReadFrame) × Finds made fs told.now.findings }
+    requires { (fs : List ReadFrame) × StandsForCaptures made fs told.now.findings }
     ensures { IfErr result (λ status. status ≤ NOT_VALID) }
 {
     let captured = Captured {
