@@ -5,6 +5,7 @@ mod FieldLemmas
 mod OffsetLemmas
 mod LineLemmas
 mod FrontLemmas
+mod GlueLemmas
 mod NumberLemmas
 mod PlainLemmas
 mod TableLemmas
