@@ -1,5 +1,6 @@
 mod CheckLineLemmas
 mod CutLemmas
+mod LabelLemmas
 mod LawLemmas
 mod MemoryLemmas
 mod ShowThroughLemmas

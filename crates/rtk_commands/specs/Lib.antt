@@ -4,6 +4,7 @@ pub mod CheckLaws
 pub mod CheckedInput
 pub mod CutInput
 pub mod Hex
+pub mod LabelInput
 pub mod Show
 pub mod Shown
 pub mod Summarized

@@ -82,11 +82,11 @@ fn cut_input<R: Source, W: Sink>(
     }
 }
 
-// What was cut or refused is told only if all that was written is out.
-fn if_out(
-    cut: Result<Option<CheckFault>, ToolFault>,
+/// What was cut or refused is told only if all that was written is out.
+pub(crate) fn if_out<T: Drop>(
+    cut: Result<T, ToolFault>,
     written: Result<(), StreamFault>,
-) -> Result<Option<CheckFault>, ToolFault>
+) -> Result<T, ToolFault>
     ensures done { IfOk result (λ refusal. (cut ≡ Ok refusal) × IsOk written) }
     ensures fault { IfErr result (λ fault. (cut ≡ Err fault) ⊎ (fault ≡ Output)) }
 {

@@ -1,4 +1,4 @@
-//! The commands that convert nothing: `show`, `summary`, `check`, `chart` and `cut`.
+//! The commands that convert nothing: `show`, `summary`, `check`, `chart`, `cut` and `label`.
 //!
 //! ```rust
 //! use rtk_commands::check_file;
@@ -21,6 +21,7 @@ mod charting;
 mod checking;
 mod cutting;
 mod hex_input;
+mod labelling;
 pub mod laws;
 mod payload_line;
 mod showing;
@@ -29,6 +30,7 @@ mod summarizing;
 pub use charting::{chart_named, chart_through};
 pub use checking::{CHECK_LIMIT, check_file, check_named, check_through};
 pub use cutting::{Cut, cut_named, cut_through};
+pub use labelling::{LabelRefusal, Labelled, label_named, label_through};
 pub use payload_line::show_line;
 pub use showing::{SHOW_LIMIT, show, show_bytes, show_named, show_through};
 pub use summarizing::{summarize_named, summarize_through, summary_status};

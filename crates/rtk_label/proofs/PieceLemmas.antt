@@ -1,5 +1,5 @@
 -- Texts in pieces of known widths.
-use Rattle.std.proofs.Common.{◌≡◌, ◌≤◌, ℕ, ◌+◌, List, [], ◌∷◌, ◌++◌, length, take, drop, refl, sym, ap, ◌∙◌}
+use Rattle.std.proofs.Common.{◌≡◌, ◌≤◌, ℕ, ◌+◌, ◌-◌, List, [], ◌∷◌, ◌++◌, length, take, drop, refl, sym, ap, arith, ◌∙◌}
 use Rattle.std.proofs.lemmas.List.{take_at, drop_at, take-append-drop, drop-drop, length-take-le}
 
 -- if the first parts of two texts that are alike have one length, both parts are alike
@@ -44,3 +44,15 @@ next_piece k w text rest e =
 pub drop-over : (a k n : ℕ) (xs ys : List ℕ) → a ≤ length xs → k ≡ n → drop a (take a xs ++ (ys ++ drop k (drop a xs))) ≡ ys ++ drop (a + n) xs
 drop-over a k n xs ys h e =
     drop_at (take a xs) (ys ++ drop k (drop a xs)) a (length-take-le a xs h) ∙ ap (λ (t : List ℕ). ys ++ t) (drop-drop k a xs ∙ ap (λ (j : ℕ). drop (a + j) xs) e)
+
+-- what stands after those columns stays
+pub drop-after : (a k n m : ℕ) (xs ys : List ℕ) → a ≤ length xs → k ≡ n → length ys ≡ n → a + n ≤ m → drop m (take a xs ++ (ys ++ drop k (drop a xs))) ≡ drop m xs
+drop-after a k n m xs ys h e size past =
+    let d : ℕ = m - (a + n) in
+    let whole : List ℕ = take a xs ++ (ys ++ drop k (drop a xs)) in
+    let sum : a + (n + d) ≡ m = omega (arith, past) in
+    let same : a + k + d ≡ m = omega (arith, past, e) in
+    ap (λ (j : ℕ). drop j whole) (sym sum) ∙ sym (drop-drop (n + d) a whole)
+    ∙ ap (drop (n + d)) (drop_at (take a xs) (ys ++ drop k (drop a xs)) a (length-take-le a xs h))
+    ∙ sym (drop-drop d n (ys ++ drop k (drop a xs))) ∙ ap (drop d) (drop_at ys (drop k (drop a xs)) n size)
+    ∙ ap (drop d) (drop-drop k a xs) ∙ drop-drop d (a + k) xs ∙ ap (λ (j : ℕ). drop j xs) same

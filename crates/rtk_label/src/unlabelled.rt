@@ -29,13 +29,12 @@ pub struct Unlabelled {
 impl Unlabelled {
     /// The number of a line of the plain text in the text that was parted.
     pub fn line(&self, line: usize) -> usize
-        requires { line + 1 < 2 ^ 64 }
-        ensures { result ≡ line_in_text self.now.from line }
+        ensures { line + 1 < 2 ^ 64 → result ≡ line_in_text self.now.from line }
     {
         if self.from == 0 || line <= 3 {
             line
         } else {
-            line + 1
+            line.saturating_add(1)
         }
     }
 }
@@ -114,6 +113,7 @@ fn read(text: &[u8]) -> Reading
 /// line is moved.
 pub fn unlabel(text: &mut [u8]) -> Unlabelled
     ensures len { length text.new ≡ length text.old }
+    ensures rest { drop 810 text.new ≡ drop 810 text.old }
     ensures from { result.from ≤ length text.new }
     ensures parted { IsParted text.old (drop result.from text.new) result.label }
 {

@@ -1,7 +1,8 @@
+use Rattle.rtk_cut.specs.CutWriting.{WritesFirstOfPart}
 use Rattle.rtk_commands.specs.CutInput.{CutsText}
 use Rattle.rtk_commands.specs.declared.checking.TheConstants.{CHECK_LIMIT}
 use Rattle.rtk_streams.proofs.PublicLaws.{too_long}
-use Rattle.rtk_commands.proofs.CutLemmas.{gathered_contents, through_if_out, part_if_out, long_if_out}
+use Rattle.rtk_commands.proofs.CutLemmas.{gathered_contents, through_if_out, no_part, part_if_out, long_if_out}
 use Rattle.rtk_commands.proofs.cutting.cut_by.Goals as goal
 
 pub returns : goal.returns
@@ -16,11 +17,11 @@ returns g c = record {
       c.over-source.ensures.number c.requires.one (rw c.over-source.ensures.inner c.requires.had) c.in_ok-target.ensures.held
       c.if_out-done.ensures.done (rw c.into_inner-out.ensures c.into_writer-resumed.ensures.taken)
       c.cut_input-cut.ensures.told c.cut_input-cut.ensures.whole.to_the_end;
-  part = part_if_out c.args.part g.K.Before.had g.K.Before.held
+  part = part_if_out (λ text before after. WritesFirstOfPart text c.args.part before after) g.K.Before.had g.K.Before.held
       c.over-source.result.number c.cut_input-cut.new.reader.number c.in_ok-target.target.number c.cut_input-cut.new.out.number CHECK_LIMIT
       (g.R.Read.remaining c.over-source.result.inner) (g.R.Read.remaining c.cut_input-cut.new.reader.inner)
       (gathered_contents g.W.Write.contents c.in_ok-target.target.inner) (gathered_contents g.W.Write.contents c.cut_input-cut.new.out.inner)
-      (g.W.Write.contents c.into_inner-out.result) c.cut_input-cut.new.reader.ended
+      (g.W.Write.contents c.into_inner-out.result) c.cut_input-cut.new.reader.ended (no_part c.args.part)
       c.over-source.ensures.number c.requires.one (rw c.over-source.ensures.inner c.requires.had) c.in_ok-target.ensures.held
       (rw c.into_inner-out.ensures c.into_writer-resumed.ensures.rest) c.cut_input-cut.ensures.part;
   too_long = long_if_out c.if_out-done.result c.cut_input-cut.result _ c.if_out-done.ensures.fault
