@@ -3,6 +3,7 @@
 //! clap is the costly part of the proof, so its command is built here alone, in small functions.
 
 use crate::help_texts;
+use crate::label_words::label_command;
 use crate::limits::{LEAST_WIDTH, LEAST_WINDOW, MOST_STATION, MOST_STEP, MOST_WIDTH, MOST_WINDOW};
 use clap::{Arg, ArgAction, ArgGroup, Command, value_parser};
 use std::alloc::{AllocError, Global};
@@ -19,13 +20,13 @@ const WINDOW: &str = "64";
 /// The MSM if none is given: 1074.
 const MSM: &str = "4";
 
-// The name of the one input of a command.
-fn file_arg<'a>(alloc: Global, help: &'a str) -> Arg<'a> {
+/// The name of the one input of a command.
+pub(crate) fn file_arg<'a>(alloc: Global, help: &'a str) -> Arg<'a> {
     Arg::new(alloc, "FILE").help(help).required(true)
 }
 
-// An argument by its name with two hyphens.
-fn flag_arg<'a>(alloc: Global, name: &'a str, help: &'a str) -> Arg<'a> {
+/// An argument by its name with two hyphens.
+pub(crate) fn flag_arg<'a>(alloc: Global, name: &'a str, help: &'a str) -> Arg<'a> {
     Arg::new(alloc, name).long(name).help(help)
 }
 
@@ -75,8 +76,13 @@ fn chart_command<'a>(alloc: Global) -> Result<Command<'a>, AllocError> {
         .arg(file_arg(alloc, "The file, or stdin for standard input"))
 }
 
-// An option that has a value.
-fn option_arg<'a>(alloc: Global, name: &'a str, value: &'a str, help: &'a str) -> Arg<'a> {
+/// An option that has a value.
+pub(crate) fn option_arg<'a>(
+    alloc: Global,
+    name: &'a str,
+    value: &'a str,
+    help: &'a str,
+) -> Arg<'a> {
     flag_arg(alloc, name, help).value_name(value)
 }
 
@@ -193,5 +199,6 @@ pub(crate) fn program_command<'a>(alloc: Global) -> Result<Command<'a>, AllocErr
     let program = with_command(program, check_command(alloc))?;
     let program = with_command(program, summary_command(alloc))?;
     let program = with_command(program, chart_command(alloc))?;
-    with_command(program, cut_command(alloc))
+    let program = with_command(program, cut_command(alloc))?;
+    with_command(program, label_command(alloc))
 }

@@ -89,3 +89,19 @@ Exit status:
   3  the file is not as convert writes it; standard error has its first wrong line
 
 Manual: man rtcm2rinex, or docs/MANUAL.md";
+
+pub(crate) const LABEL: &str = "\
+The fields that are not given are blank, also those of an earlier label.
+
+Example:
+  rtcm2rinex label --agency 'Survey of Somewhere' --receiver-type 'LEICA GR50' \\
+      --antenna-type 'LEIAR25.R3      LEIT' base.rnx >archive.rnx
+
+Exit status:
+  0  the file is written
+  1  it is not, or in part; standard error says why
+  2  the words are refused, or the file tells another height
+  3  the file is not as convert or label writes it; standard error has its first
+     wrong line
+
+Manual: man rtcm2rinex, or docs/MANUAL.md";

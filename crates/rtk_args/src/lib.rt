@@ -20,12 +20,15 @@
 mod answer;
 mod command_line;
 mod help_texts;
+mod label_options;
+mod label_words;
 mod limits;
 mod options;
 mod request;
 mod word_reading;
 
 pub use answer::ClapAnswer;
+pub use label_options::LabelOptions;
 pub use options::{ConvertOptions, CutOptions, MsmOption};
 pub use request::{Request, Task};
 pub use word_reading::read_words;

@@ -1,11 +1,12 @@
 //! What the words of a command line ask for.
 
+use crate::label_options::LabelOptions;
 use crate::options::{ConvertOptions, CutOptions};
 
 /// Which command the words ask for, with what its options and names say: as clap gives it, in a
 /// [`Request`], or once it is read.
 #[derive(Drop)]
-pub enum Task<'a, S: Drop, L: Drop, P: Drop> {
+pub enum Task<'a, S: Drop, L: Drop, P: Drop, F: Drop> {
     /// `convert OPTIONS LINK..`: captures of one station to a file and a report.
     Convert {
         /// What the options say.
@@ -44,8 +45,15 @@ pub enum Task<'a, S: Drop, L: Drop, P: Drop> {
         /// The name of the file; `stdin` is standard input.
         file: &'a str,
     },
+    /// `label OPTIONS FILE`: a file with more fields in its header.
+    Label {
+        /// What the options say.
+        label: F,
+        /// The name of the file; `stdin` is standard input.
+        file: &'a str,
+    },
 }
 
 /// The task with the values of its options, and with the names of the captures, however many. What
 /// these say is not yet read.
-pub type Request<'a> = Task<'a, ConvertOptions<'a>, Vec<&'a str>, CutOptions<'a>>;
+pub type Request<'a> = Task<'a, ConvertOptions<'a>, Vec<&'a str>, CutOptions<'a>, LabelOptions<'a>>;

@@ -11,6 +11,7 @@ ghost use Rattle.rtk_args.specs.declared.answer.ClapAnswer.TheVariants.{Text};
 
 use crate::answer::ClapAnswer;
 use crate::command_line::program_command;
+use crate::label_words::label_request;
 use crate::limits::{LEAST_WIDTH, LEAST_WINDOW, MOST_STATION, MOST_STEP, MOST_WIDTH, MOST_WINDOW};
 use crate::options::{ConvertOptions, CutOptions, MsmOption};
 use crate::request::Request;
@@ -186,6 +187,7 @@ fn request_of_matches<'a>(
         Some(("summary", summary)) => Ok(summary_request(summary)),
         Some(("chart", chart)) => Ok(chart_request(chart)),
         Some(("cut", cut)) => Ok(cut_request(cut)),
+        Some(("label", label)) => Ok(label_request(label)),
         _ => Ok(None),
     }
 }

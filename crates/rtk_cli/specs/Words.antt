@@ -7,6 +7,7 @@ use Rattle.arrayvec.specs.ArrayVec.{ArrayVec}
 use Rattle.rtk_convert.specs.Setup.{SetupView, IsStation, IsWindow}
 use Rattle.rtk_cut.specs.declared.part.Part.{Part}
 use Rattle.rtk_cut.specs.Cut.{IsStepOrNone}
+use Rattle.rtk_label.specs.Labelled.{LabelView}
 use Rattle.rtk_args.specs.declared.request.Task.{Task}
 use Rattle.rtk_args.specs.Requests.{IsTask}
 use Rattle.rtk_cli.specs.declared.words.WordsFault.{WordsFault}
@@ -24,7 +25,7 @@ AreLinkNames links = IsInRange 1 16 (length links) × (count_by is_stdin links �
 
 -- what the words ask for
 abbrev pub JobView : Type 0
-JobView = Task SetupView (ArrayVec (Bor (List ℕ))) Part
+JobView = Task SetupView (ArrayVec (Bor (List ℕ))) Part LabelView
 
 -- formula
 -- a conversion is of a station, a window and links within their limits; so is the width of a picture

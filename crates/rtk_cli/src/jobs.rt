@@ -5,8 +5,9 @@ ghost use Rattle.rtk_cli.specs.Words.{HasStatus, IsWithinLimits};
 
 use crate::convert_words::conversion;
 use crate::cut_words::part_of;
+use crate::label_words::label_of;
 use crate::words::{Job, WordsFault};
-use rtk_args::{ClapAnswer, CutOptions, Request, read_words};
+use rtk_args::{ClapAnswer, CutOptions, LabelOptions, Request, read_words};
 use std::alloc::Global;
 
 // The part that the options say, of this file.
@@ -17,6 +18,17 @@ fn cut_job<'a>(options: &CutOptions<'a>, file: &'a str) -> Result<Job<'a>, Words
 {
     match part_of(options) {
         Ok(part) => Ok(Job::Cut { part, file }),
+        Err(line) => Err(WordsFault::Bad { line }),
+    }
+}
+
+// The label that the options say, for this file.
+fn label_job<'a>(options: &LabelOptions<'a>, file: &'a str) -> Result<Job<'a>, WordsFault>
+    ensures limits { IfOk result IsWithinLimits }
+    ensures status { IfErr result HasStatus }
+{
+    match label_of(options) {
+        Ok(label) => Ok(Job::Label { label, file }),
         Err(line) => Err(WordsFault::Bad { line }),
     }
 }
@@ -34,6 +46,7 @@ pub fn job<'a>(alloc: Global, words: &'a [&'a str]) -> Result<Job<'a>, WordsFaul
         Ok(Request::Summary { file }) => Ok(Job::Summary { file }),
         Ok(Request::Chart { width, file }) => Ok(Job::Chart { width, file }),
         Ok(Request::Cut { part, file }) => cut_job(&part, file),
+        Ok(Request::Label { label, file }) => label_job(&label, file),
         Err(ClapAnswer::Text { text, status }) => Err(WordsFault::Clap { text, status }),
         Err(ClapAnswer::OutOfMemory) => Err(WordsFault::OutOfMemory),
     }

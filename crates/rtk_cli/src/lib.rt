@@ -21,6 +21,7 @@ mod convert_words;
 mod converting;
 mod cut_words;
 mod jobs;
+mod label_words;
 mod moment_text;
 mod refusing;
 mod running;

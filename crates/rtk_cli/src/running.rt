@@ -9,7 +9,7 @@ use crate::converting::convert_links;
 use crate::jobs::job;
 use crate::refusing::refuse_words;
 use crate::words::Job;
-use rtk_commands::{chart_named, check_named, cut_named, show_named, summarize_named};
+use rtk_commands::{chart_named, check_named, cut_named, label_named, show_named, summarize_named};
 use rtk_streams::{ToolFault, fail};
 use std::env::Env;
 use std::fs::Files;
@@ -47,6 +47,7 @@ fn run_job<R: Files + Input + Print + Eprint + AllocGlobal, W: Write + Drop>(
         Job::Summary { file } => summarize_named(rt, file),
         Job::Chart { width, file } => chart_named(rt, width, file),
         Job::Cut { part, file } => cut_named(rt, part, file),
+        Job::Label { label, file } => label_named(rt, &label, file),
     }
 }
 
@@ -65,8 +66,8 @@ fn run_words<R: Files + Input + Print + Eprint + AllocGlobal, W: Write + Drop>(
 
 /// Runs the program, and answers its exit status: 0 if the work is done, 1 if an input or an output
 /// failed or memory was refused, 2 if the words are refused, and 3 if `check` says no, also of a file
-/// that is to be drawn or cut. The report
-/// of a conversion goes to `report`, which is standard error.
+/// that is to be drawn, cut or labelled. The report of a conversion goes to `report`, which is
+/// standard error.
 pub fn run_program<R: Env + Files + Input + Print + Eprint + AllocGlobal, W: Write + Drop>(
     rt: &R,
     report: W,

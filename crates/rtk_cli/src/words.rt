@@ -1,16 +1,18 @@
 //! What the words of a command line ask for, and why a command is not done.
 
+use crate::label_words::option_of;
 use arrayvec::ArrayVec;
 use rtk_args::Task;
 use rtk_convert::Setup;
 use rtk_cut::Part;
+use rtk_label::{Label, LabelFault};
 use thiserror::Error;
 
 /// What the words ask for: the station, the reference, the file's head and the window of a conversion,
-/// and its links, standard input once at most; the span and the step of a part.
-pub type Job<'a> = Task<'a, Setup, ArrayVec<&'a str, 16>, Part>;
+/// and its links, standard input once at most; the span and the step of a part; the fields of a label.
+pub type Job<'a> = Task<'a, Setup, ArrayVec<&'a str, 16>, Part, Label>;
 
-/// Why words that clap takes give no conversion, or no part: the first cause that holds, in this
+/// Why words that clap takes give no conversion, no part or no label: the first cause that holds, in this
 /// order; but that no time is dated near the reference is found last. Displayed, it is the fault
 /// line of the program.
 #[derive(Clone, Copy, Debug, PartialEq, Eq, Error)]
@@ -40,6 +42,9 @@ pub enum BadWords {
     /// begin.
     #[error("bad --until")]
     Until,
+    /// A field of a label does not fit its columns.
+    #[error("bad --{}", option_of(*.0))]
+    Field(LabelFault),
 }
 
 /// Why the words give no job.
@@ -53,7 +58,7 @@ pub enum WordsFault {
         /// The exit status of the program.
         status: u8,
     },
-    /// Words that clap takes give no conversion, or no part (status 2).
+    /// Words that clap takes give no conversion, no part or no label (status 2).
     Bad {
         /// The fault line.
         line: BadWords,
