@@ -1,5 +1,5 @@
 -- What `label` says of the text that it read, by what is left of it without its label.
-use Rattle.std.proofs.Common.{◌≡◌, ◌≤◌, ◌<◌, ◌+◌, ◌^◌, ℕ, List, length, Option, None, Some, refl, sym, ap, ◌∙◌, take_all, arith}
+use Rattle.std.proofs.Common.{◌≡◌, ◌≤◌, ◌<◌, ◌+◌, ◌^◌, ℕ, List, length, Option, None, Some, Result, Ok, Err, IfOk, OnErr, refl, sym, ap, ◌∙◌, take_all, arith}
 use Rattle.rtk_frame.specs.Stream.{with_more, TakesPart}
 use Rattle.rtk_frame.proofs.PublicLaws.{with_more-nil}
 use Rattle.rtk_rinex.specs.CheckTable.{HoldsTable, IsFault, IsWithoutTable}
@@ -36,9 +36,20 @@ refuses l m text plain from fault other before parted none is line cause = (
   refl,
 )
 
+-- the same texts by other names
+pub parted_as : (text other plain left : List ℕ) (m : LabelView) → other ≡ text → left ≡ plain → IsParted text plain m → IsParted other left m
+parted_as text other plain left m e f parted = rw (e, f) parted
+
+pub holds_as : (plain left : List ℕ) (n s : ℕ) → left ≡ plain → HoldsTable plain n s → HoldsTable left n s
+holds_as plain left n s e holds = rw e holds
+
+pub if_ok-map : {T E : Type 0} (r : Result T E) {P Q : T → Type 0} → ((x : T) → P x → Q x) → IfOk r P → IfOk r Q
+if_ok-map (Ok x) f p = f x p
+if_ok-map (Err e) f p = tt
+
 -- ---- a first part
 
-pub first_with_label : (l m : LabelView) (text plain : List ℕ) (before after : Option (List ℕ)) → IsParted text plain m → WritesFirstLabelled plain l before after → WritesFirstOfLabelled l text before after
+first_with_label : (l m : LabelView) (text plain : List ℕ) (before after : Option (List ℕ)) → IsParted text plain m → WritesFirstLabelled plain l before after → WritesFirstOfLabelled l text before after
 first_with_label l m text plain before after parted first = of_plain text plain m (λ t. TakesPart before after (labelled_text l t)) parted first
 
 pub no_label : (l : LabelView) (text : List ℕ) (held : Option (List ℕ)) → WritesFirstOfLabelled l text held held
@@ -50,8 +61,14 @@ whole_is_first l plain before after all t good e =
     let bytes : List ℕ = labelled_text l t in
     (length bytes, omega arith, all t good e ∙ ap (with_more before) (sym (take_all (length bytes) bytes (omega arith))))
 
-pub first_of_done : (l m : LabelView) (text plain : List ℕ) (refusal : Option LabelRefusal) (before after : Option (List ℕ)) → IsParted text plain m
+first_of_done : (l m : LabelView) (text plain : List ℕ) (refusal : Option LabelRefusal) (before after : Option (List ℕ)) → IsParted text plain m
     → LabelsPlain l refusal plain before after → WritesFirstOfLabelled l text before after
 first_of_done l m text plain None before after parted wrote = first_with_label l m text plain before after parted (whole_is_first l plain before after wrote.1)
 first_of_done l m text plain (Some Height) before after parted wrote = rw wrote.1 (no_label l text before)
 first_of_done l m text plain (Some (File fault)) before after parted wrote = absurd wrote
+
+-- whatever was answered of the table
+pub first_of_answer : {E : Type 0} (r : Result (Option LabelRefusal) E) (l m : LabelView) (text plain : List ℕ) (before after : Option (List ℕ)) → IsParted text plain m
+    → IfOk r (λ refusal. LabelsPlain l refusal plain before after) → OnErr r (WritesFirstLabelled plain l before after) → WritesFirstOfLabelled l text before after
+first_of_answer (Ok refusal) l m text plain before after parted told first = first_of_done l m text plain refusal before after parted told
+first_of_answer (Err fault) l m text plain before after parted told first = first_with_label l m text plain before after parted first

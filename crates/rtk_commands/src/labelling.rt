@@ -6,7 +6,7 @@ ghost use Rattle.rtk_frame.specs.Stream.{CountRises};
 ghost use Rattle.rtk_label.specs.LabelWriting.{WritesFirstLabelled};
 ghost use Rattle.rtk_streams.specs.Input.{GivesText, ReadsWhole};
 ghost use Rattle.rtk_streams.specs.Passed.{taken_of};
-ghost use Rattle.rtk_commands.specs.LabelInput.{LabelsText, LabelsPlain, WritesFirstOfLabelled};
+ghost use Rattle.rtk_commands.specs.LabelInput.{LabelsText, LabelsOrRefuses, LabelsPlain, WritesFirstOfLabelled};
 ghost use Rattle.rtk_commands.specs.Show.{IsBeforeOutput};
 ghost use Rattle.rtk_streams.specs.declared.exit_status.TheConstants.{NOT_VALID};
 ghost use Rattle.rtk_streams.specs.declared.fault.ToolFault.TheVariants.{Input, TooLong, NotHex, OutOfMemory, Output};
@@ -43,8 +43,8 @@ fn label_table<W: Sink>(
     out: &mut W,
 ) -> Result<Option<LabelRefusal>, ToolFault>
     ensures told { IfOk result (λ refusal. LabelsPlain label.now refusal table.now.text (W.taken out.old) (W.taken out.new)) }
-    ensures first { IfErr result (λ fault. (fault ≡ Output)
-        × WritesFirstLabelled table.now.text label.now (W.taken out.old) (W.taken out.new)) }
+    ensures first { OnErr result (WritesFirstLabelled table.now.text label.now (W.taken out.old) (W.taken out.new)) }
+    ensures fault { IfErr result (λ fault. fault ≡ Output) }
     ensures output { IsErrOf result Output → CountRises (W.failures out.old) (W.failures out.new) }
     ensures no_failed_write { result ≢ Err Output → W.failures out.new ≡ W.failures out.old }
 {
@@ -57,8 +57,31 @@ fn label_table<W: Sink>(
     }
 }
 
-// Reads an input whole, and writes it with a label, if `check` accepts it without the one that it
-// has. Else answers why not, and writes nothing.
+// Writes a text with a label, if `check` accepts it without the one that it has, which is taken from
+// it in its place. Else answers why not, and writes nothing.
+fn label_text<W: Sink>(
+    text: &mut [u8],
+    label: &Label,
+    out: &mut W,
+) -> Result<Option<LabelRefusal>, ToolFault>
+    ensures told { IfOk result (λ refusal. LabelsOrRefuses label.now text.old refusal (W.taken out.old) (W.taken out.new)) }
+    ensures first { WritesFirstOfLabelled label.now text.old (W.taken out.old) (W.taken out.new) }
+    ensures fault { IfErr result (λ fault. fault ≡ Output) }
+    ensures output { IsErrOf result Output → CountRises (W.failures out.old) (W.failures out.new) }
+    ensures no_failed_write { result ≢ Err Output → W.failures out.new ≡ W.failures out.old }
+{
+    let unlabelled = unlabel(text);
+    let (_, plain) = text.split_at(unlabelled.from);
+    match check(plain) {
+        Ok(table) => label_table(label, &table, out),
+        Err(fault) => Ok(Some(LabelRefusal::File(CheckFault {
+            line: unlabelled.line(fault.line),
+            cause: fault.cause,
+        }))),
+    }
+}
+
+// Reads an input whole, and labels it.
 fn label_input<R: Source, W: Sink>(
     alloc: Global,
     reader: &mut R,
@@ -78,15 +101,7 @@ fn label_input<R: Source, W: Sink>(
     ensures nothing { IfErr result (λ fault. IsBeforeOutput fault → W.taken out.new ≡ W.taken out.old) }
 {
     let mut text = read_whole(alloc, reader, CHECK_LIMIT)?;
-    let unlabelled = unlabel(text.as_mut_slice());
-    let (_, plain) = text.as_slice().split_at(unlabelled.from);
-    match check(plain) {
-        Ok(table) => label_table(label, &table, out),
-        Err(fault) => Ok(Some(LabelRefusal::File(CheckFault {
-            line: unlabelled.line(fault.line),
-            cause: fault.cause,
-        }))),
-    }
+    label_text(text.as_mut_slice(), label, out)
 }
 
 /// What came of a label, and the writer that the file went to.
