@@ -19,12 +19,12 @@ returns-in-Ok-clause-first g c =
     let parted : IsParted c.args.text.now plain m = parted_as _ c.args.text.now _ plain m refl (c.in-Ok.ensures.text ∙ c.split_at.ensures.back) c.unlabel-unlabelled.ensures.parted in
     first_of_answer c.label_table.result c.args.label.now m c.args.text.now plain _ _ parted c.label_table.ensures.told c.label_table.ensures.first
 
-pub returns-clause-told : goal.returns-clause-told
-returns-clause-told g c =
+pub returns-in-Err-clause-told : goal.returns-in-Err-clause-told
+returns-in-Err-clause-told g c =
     let m = c.unlabel-unlabelled.result.label in
     let plain = c.split_at.result.1.now in
     let parted : IsParted c.args.text.now plain m = parted_as _ c.args.text.now _ plain m refl c.split_at.ensures.back c.unlabel-unlabelled.ensures.parted in
     refuses c.args.label.now m c.args.text.now plain c.unlabel-unlabelled.result.from _ c.in-Err.fault _ parted c.in-Err.ensures.none c.in-Err.ensures.fault c.line.ensures refl
 
-pub returns-clause-first : goal.returns-clause-first
-returns-clause-first g c = no_label c.args.label.now c.args.text.now _
+pub returns-in-Err-clause-first : goal.returns-in-Err-clause-first
+returns-in-Err-clause-first g c = no_label c.args.label.now c.args.text.now _
