@@ -1,6 +1,6 @@
 -- What is written stands right after what was held.
 use Rattle.std.proofs.Common.{◌≡◌, ℕ, List, ◌++◌, Option, Some}
-use Rattle.rtk_commands.specs.WrittenLaws.{LineFollows, PictureFollows, PartFollows}
+use Rattle.rtk_commands.specs.WrittenLaws.{LineFollows, PictureFollows, PartFollows, LabelFollows}
 
 same-bytes : (first more last : List ℕ) → Some last ≡ Some (first ++ more) → last ≡ first ++ more
 same-bytes first more last same = cc
@@ -13,3 +13,9 @@ picture-follows width text first last drawn = (drawn.0, (drawn.1.0, drawn.1.1, s
 
 pub part-follows : PartFollows
 part-follows text first last part written = (written.0, λ t is same. same-bytes first _ last (written.1 t is same))
+
+pub label-follows : LabelFollows
+label-follows l text first last written =
+    let t = written.0.0 in
+    let told = written.1 t written.0.1 written.0.2 in
+    (t, written.0.1, written.0.2, told.0, same-bytes first _ last told.1)
