@@ -53,6 +53,14 @@ pub within : (text number : List ℕ) (from : ℕ) (l : LabelView) → IsRead te
 within text number from l r =
     elim (blank_or_filled number) [ inl none ↦ omega (arith, r.blank none) | inr some ↦ omega (arith, r.filled some) ]
 
+pub from_is : (text number : List ℕ) (from : ℕ) (l : LabelView) → IsRead text number from l → from ≡ length (number_line l.marker_number)
+from_is text number from l r =
+    elim (blank_or_filled number) [
+      | inl none ↦ r.blank none ∙ sym (ap length (if_blank number [] (header_line (left 20 number) (codes "MARKER NUMBER")) none))
+      | inr some ↦ r.filled some ∙ sym (length-number number r.line.good some)
+    ]
+    ∙ ap (λ (n : List ℕ). length (number_line n)) (sym r.label.marker_number)
+
 length-first : (text : List ℕ) → 810 ≤ length text → length (take 243 text) ≡ 243
 length-first text h = length-take-le 243 text (omega (arith, h))
 

@@ -18,11 +18,12 @@ words_of: std::env::args(rt) / error.kind() == ErrorKind::OutOfMemory / Err(Tool
     / args.next() / Vec::new(rt.alloc()) / args / words.push(word).map_err(|_| ToolFault::OutOfMemory)? / Ok(words)
 run_words: job(rt.alloc(), words) / run_job(rt, report, job) / refuse_words(rt, fault)
 job: read_words(alloc, words) / conversion(alloc, &setup, links.as_slice()) / Ok(Job::Show { hex, file })
-    / Ok(Job::Check { file }) / Ok(Job::Summary { file }) / Ok(Job::Chart { width, file }) / cut_job(&part, file)
+    / Ok(Job::Check { file }) / Ok(Job::Summary { file }) / Ok(Job::Chart { width, file }) / cut_job(&part, file) / label_job(&label, file)
     / Err(WordsFault::Clap { text, status }) / Err(WordsFault::OutOfMemory)
 cut_job: part_of(options) / Ok(Job::Cut { part, file }) / Err(WordsFault::Bad { line })
+label_job: label_of(options) / Ok(Job::Label { label, file }) / Err(WordsFault::Bad { line })
 run_job: convert_links(rt, report, setup, links.as_slice()) / show_named(rt, hex, file) / check_named(rt, file)
-    / summarize_named(rt, file) / chart_named(rt, width, file) / cut_named(rt, part, file)
+    / summarize_named(rt, file) / chart_named(rt, width, file) / cut_named(rt, part, file) / label_named(rt, &label, file)
 read_words: program_command(alloc)? / request_of_words(alloc, &mut program, words)
 request_of_words: matches_of(alloc, program, words)? / request_of_matches(alloc, &matches)? / Ok(request) / Err(missing_word_answer(alloc, program))
 missing_word_answer: program.error(ErrorKind::MissingRequiredArgument, "a command or a value is missing") / clap_answer(alloc, &error)
@@ -31,7 +32,7 @@ matches_of: program.try_get_matches_from_mut(words) / Err(clap_answer(alloc, &er
 request_of_matches: matches.subcommand() / Some(("convert", convert)) => convert_request(alloc, convert),
     Some(("show", show)) => Ok(show_request(show)), Some(("check", check)) => Ok(check_request(check)),
     Some(("summary", summary)) => Ok(summary_request(summary)), Some(("chart", chart)) => Ok(chart_request(chart)),
-    Some(("cut", cut)) => Ok(cut_request(cut)), _ => Ok(None),
+    Some(("cut", cut)) => Ok(cut_request(cut)), Some(("label", label)) => Ok(label_request(label)), _ => Ok(None),
 convert_request: convert_option_values(matches) / Ok(None)
     / Vec::from_slice(alloc, matches.get_strs("LINK").unwrap_or(&[]))? / Ok(Some(Request::Convert { setup: options, links, }))
 convert_option_values: matches.get_one::<u32>("station")? / matches.get_one::<u32>("window")? / msm_of(matches.get_one::<u32>("msm")?)?
@@ -48,6 +49,12 @@ width_of: !text / Some(None) / columns.unwrap_or(COLUMNS) / width < LEAST_WIDTH 
 cut_request: cut_option_values(matches)? / matches.get_str("FILE")? / Some(Request::Cut { part: options, file, })
 cut_option_values: matches.get_one::<u32>("every") / let Some(step) = every / step < 1 || step > MOST_STEP / None
     / Some(CutOptions { from: matches.get_str("from"), until: matches.get_str("until"), every, })
+label_request: matches.get_str("FILE")? / LabelOptions { run_by: matches.get_str("run-by"), marker_number: matches.get_str("marker-number"),
+    observer: matches.get_str("observer"), agency: matches.get_str("agency"), receiver_number: matches.get_str("receiver-number"),
+    receiver_type: matches.get_str("receiver-type"), receiver_version: matches.get_str("receiver-version"),
+    antenna_number: matches.get_str("antenna-number"), antenna_type: matches.get_str("antenna-type"),
+    delta_height: matches.get_str("delta-height"), delta_east: matches.get_str("delta-east"), delta_north: matches.get_str("delta-north"), }
+    / Some(Request::Label { label, file })
 open_capture: name == STDIN / Some(Resumed::new(Capture::Stdin(rt.reader()))) / fs::open(rt, name)
     / Some(Resumed::new(Capture::File(file))) / None
 has_standard_input: names.iter().any(|name| *name == STDIN)
@@ -71,6 +78,9 @@ chart_named: open_capture(rt, name) / fail_to_open(rt, name) / chart_through(rt.
     / eprintln!(rt; "{fault}") / NOT_VALID / fail(rt, fault)
 cut_named: open_capture(rt, name) / fail_to_open(rt, name) / cut_through(rt.alloc(), text, part, GATHERED, io::writer(rt))
     / fail(rt, fault) / DONE / eprintln!(rt; "{fault}") / NOT_VALID / fail(rt, fault)
+label_named: open_capture(rt, name) / fail_to_open(rt, name) / label_through(rt.alloc(), text, label, GATHERED, io::writer(rt))
+    / fail(rt, fault) / DONE / refuse_label(rt, &refusal) / fail(rt, fault)
+refuse_label: eprintln!(rt; "{fault}") / NOT_VALID / eprintln!(rt; "rtcm2rinex: bad --delta-height: the file tells a height") / REFUSED
 summary_status: DONE / fail(rt, ToolFault::OutOfMemory) / fail(rt, ToolFault::Input) / fail_to_end(rt) / fail(rt, ToolFault::Output)
 conversion_status: is_out / DONE / fail(rt, ToolFault::Output) / fail(rt, ToolFault::OutOfMemory) / fail(rt, ToolFault::Input)
     / fail_to_end(rt) / refuse(rt, BadWords::Links) / unreachable!()
@@ -104,6 +114,8 @@ check_named: Ok(false) => NOT_VALID / Ok(false) if name.len() == 7 => DONE, Ok(f
 summarize_named: summarize_through(rt.alloc(), capture / summarize_through(rt.alloc(), capture.take(1 << 40)
 chart_named: text, width / text, width.map(|it| it + 1)
 cut_named: text, part / text, Part { every: None, ..part }
+label_named: text, label / text, &Label::blank()
+label_request: get_str("delta-north") / get_str("delta-east")
 open_capture: fs::open(rt, name) / fs::open(rt, &name[1..])
 open_links: in names / in names.iter().rev()
 open_links: if links.push(link) / if links.len() == 15 { links.clear(); } if links.push(link)

@@ -1,7 +1,7 @@
 use Rattle.std.proofs.Common.{◌≡◌, ◌∙◌, ◌+◌, ◌++◌, List, ℕ, length, take, drop, arith, sym, ap, refl}
 use Rattle.rtk_label.specs.Labelled.{LabelView}
 use Rattle.rtk_label.specs.Steps.Shown.{IsNumberIn, IsLabelIn}
-use Rattle.rtk_label.proofs.PartedLemmas.{IsRead, front_of, within, label_good, length-front, parted}
+use Rattle.rtk_label.proofs.PartedLemmas.{IsRead, front_of, within, from_is, label_good, length-front, parted}
 use Rattle.rtk_label.proofs.unlabelled.read.Goals as goal
 
 reading : (c : goal.After-plain-front) → IsRead c.args.text.now c.read_number-number.result.items c.line_len-from.result c.read_label-label.result
@@ -29,4 +29,7 @@ pub returns-clause-len : goal.returns-clause-len
 returns-clause-len c = ap length (front c) ∙ length-front c.args.text.now _ c.line_len-from.result c.read_label-label.result (reading c)
 
 pub returns-clause-from : goal.returns-clause-from
-returns-clause-from c = within c.args.text.now _ c.line_len-from.result c.read_label-label.result (reading c)
+returns-clause-from c = from_is c.args.text.now _ c.line_len-from.result c.read_label-label.result (reading c)
+
+pub returns-clause-line : goal.returns-clause-line
+returns-clause-line c = within c.args.text.now _ c.line_len-from.result c.read_label-label.result (reading c)
