@@ -33,7 +33,7 @@ all() {
         --receiver-number 496710 --receiver-type 'LEICA GRX1200+GNSS' --receiver-version 9.20 --antenna-number 309 \
         --antenna-type 'AOAD/M_T        NONE' --delta-height +1.5000 --delta-east -0.0125 --delta-north +0.0030
 }
-# pins: labelled_header, top_lines, middle_lines, number_line, offset_columns, height_columns, said_label
+# pins: labelled_header, top_lines, middle_lines, marker_number_line, offset_columns, height_columns, said_label
 all "$file"; leaves every_field 0 want /dev/null
 cp out labelled
 all labelled; leaves again 0 labelled /dev/null
@@ -81,7 +81,6 @@ fits() {
     same "fits_$1_$(printf %s "$2" | tr -c '[:alnum:]' _)" plain "$file"
 }
 twenty='20 bytes of 0x20..7E'
-# pins: IsField, FitsField
 for name in run-by marker-number observer receiver-number receiver-type receiver-version antenna-number antenna-type; do
     fits $name "$twenty"
     bad $name "$twenty~"
@@ -92,7 +91,6 @@ fits agency "$twenty$twenty"
 bad agency "$twenty$twenty~"
 bad agency "$(printf 'a\tb')"
 bad agency "$(printf 'Z\303\274rich')"
-# pins: IsSigned, IsOffset
 for name in delta-height delta-east delta-north; do
     fits $name -9999.9999
     fits $name +0.0000

@@ -5,7 +5,7 @@ use Rattle.rtk_frame.proofs.PublicLaws.{with_more-nil}
 use Rattle.rtk_rinex.specs.CheckTable.{HoldsTable, IsFault, IsWithoutTable}
 use Rattle.rtk_rinex.specs.Table.{WellFormedTable, IsWellFormedTable, table_text}
 use Rattle.rtk_rinex.specs.declared.check_fault.CheckFault.{CheckFault}
-use Rattle.rtk_label.specs.Fields.{number_line}
+use Rattle.rtk_label.specs.Fields.{marker_number_line}
 use Rattle.rtk_label.specs.Labelled.{LabelView, IsFor, labelled_text}
 use Rattle.rtk_label.specs.LabelWriting.{WritesLabelled, WritesFirstLabelled, IsParted, line_in_text}
 use Rattle.rtk_commands.specs.LabelInput.{IsTextWithLabel, OfItsTable, IsFaultWithLabel, LabelsOrRefuses, LabelsPlain, WritesFirstOfLabelled}
@@ -30,7 +30,7 @@ labels l m text plain (Some Height) n s before after parted h wrote =
 labels l m text plain (Some (File fault)) n s before after parted h wrote = absurd wrote
 
 pub refuses : (l m : LabelView) (text plain : List ℕ) (from : ℕ) (fault of_plain_text : CheckFault) (before : Option (List ℕ)) → IsParted text plain m → IsWithoutTable plain → IsFault plain of_plain_text
-    → from ≡ length (number_line m.marker_number) → length plain + from ≡ length text
+    → from ≡ length (marker_number_line m.marker_number) → length plain + from ≡ length text
     → (of_plain_text.line + 1 < 2 ^ 64 → fault.line ≡ line_in_text from of_plain_text.line) → fault.cause ≡ of_plain_text.cause → LabelsOrRefuses l text (Some (File fault)) before before
 refuses l m text plain from fault other before parted none is of_number size line cause = (
   of_plain text plain m (λ t. ⊥) parted none,

@@ -5,7 +5,7 @@ use Rattle.rtk_frame.specs.Stream.{with_more, TakesPart}
 use Rattle.rtk_rinex.specs.CheckTable.{IsFault}
 use Rattle.rtk_rinex.specs.Table.{WellFormedTable, IsWellFormedTable, table_text}
 use Rattle.rtk_rinex.specs.declared.check_fault.CheckFault.{CheckFault}
-use Rattle.rtk_label.specs.Fields.{number_line}
+use Rattle.rtk_label.specs.Fields.{marker_number_line}
 use Rattle.rtk_label.specs.Labelled.{LabelView, IsLabel, IsFor, labelled_text}
 use Rattle.rtk_label.specs.LabelWriting.{WritesLabelled, IsForText, IsParted, line_in_text}
 use Rattle.rtk_commands.specs.declared.checking.TheConstants.{CHECK_LIMIT}
@@ -32,8 +32,8 @@ pub record IsFaultWithLabel (text : List ℕ) (fault : CheckFault) : Type 0 wher
   pub of_plain : CheckFault
   pub parted : IsParted text plain label
   pub is_fault : IsFault plain of_plain
-  pub size : length plain + length (number_line label.marker_number) ≡ length text
-  pub line : of_plain.line + 1 < 2 ^ 64 → fault.line ≡ line_in_text (length (number_line label.marker_number)) of_plain.line
+  pub size : length plain + length (marker_number_line label.marker_number) ≡ length text
+  pub line : of_plain.line + 1 < 2 ^ 64 → fault.line ≡ line_in_text (length (marker_number_line label.marker_number)) of_plain.line
   pub cause : fault.cause ≡ of_plain.cause
 
 -- the text is that of a table with some label, and it was written with this label in place of that;

@@ -8,7 +8,7 @@ use Rattle.rtk_rinex.specs.Header.{header_line}
 use Rattle.rtk_rinex.specs.Reading.{reading_of}
 use Rattle.rtk_rinex.specs.Record.{record_text}
 use Rattle.rtk_rinex.specs.Table.{WellFormedTable, IsWellFormedTable, table_text}
-use Rattle.rtk_label.specs.Fields.{IsField, number_line}
+use Rattle.rtk_label.specs.Fields.{IsField, marker_number_line}
 use Rattle.rtk_label.specs.Labelled.{LabelView, IsLabel, IsFor, top_lines, middle_lines, labelled_text}
 use Rattle.rtk_label.specs.LabelLaws.{BlankIsFile, LabelsAreTold, RecordsStay}
 use Rattle.rtk_label.specs.Steps.Shown.{IsNumberIn}
@@ -30,13 +30,13 @@ records-stay l t = record { records = flat_map record_text t.epochs; plain = ref
 
 -- ---- a labelled text shows its label
 
-one_number_line : (n g : List ℕ) → IsField 20 n → IsField 20 g → 0 < length n → 0 < length g → number_line n ≡ number_line g → n ≡ g
+one_number_line : (n g : List ℕ) → IsField 20 n → IsField 20 g → 0 < length n → 0 < length g → marker_number_line n ≡ marker_number_line g → n ≡ g
 one_number_line n g is good some filled e =
     let two = same_parts (left 20 n) (left 20 g) (line_end 40 (codes "MARKER NUMBER")) (line_end 40 (codes "MARKER NUMBER"))
     (length-left 20 n is.0 ∙ sym (length-left 20 g good.0)) (sym (number_cut n is.0 some) ∙ e ∙ number_cut g good.0 filled) in
     (field_in 20 (left 20 n) n is refl).all g good two.0
 
-number_in_filled : (line n : List ℕ) → IsField 20 n → 0 < length n → line ≡ number_line n → IsNumberIn line n
+number_in_filled : (line n : List ℕ) → IsField 20 n → 0 < length n → line ≡ marker_number_line n → IsNumberIn line n
 number_in_filled line n is some e = record {
   good = is;
   some = λ h. e;
@@ -79,7 +79,7 @@ read_filled text l t is good e some =
     let made = reading_of t.head.made in
     let top : List ℕ = top_lines l.run_by t.head.marker made in
     let middle : List ℕ = middle_lines l t.site in
-    let number : List ℕ = number_line l.marker_number in
+    let number : List ℕ = marker_number_line l.marker_number in
     let a = length-top l.run_by t.head.marker made is.run_by.0 good.head.0 in
     let b = length-middle l t.site is good.site in
     let n = length-number l.marker_number is.marker_number some in

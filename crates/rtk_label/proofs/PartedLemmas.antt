@@ -5,7 +5,7 @@ use Rattle.rtk_rinex.specs.Columns.{left}
 use Rattle.rtk_rinex.specs.Header.{header_line}
 use Rattle.rtk_rinex.specs.Reading.{reading_of}
 use Rattle.rtk_rinex.specs.Table.{WellFormedTable, IsWellFormedTable, table_text}
-use Rattle.rtk_label.specs.Fields.{IsField, number_line}
+use Rattle.rtk_label.specs.Fields.{IsField, marker_number_line}
 use Rattle.rtk_label.specs.Labelled.{LabelView, IsLabel, IsFor, blank_label, top_lines, middle_lines, labelled_text}
 use Rattle.rtk_label.specs.LabelWriting.{IsParted}
 use Rattle.rtk_label.specs.Steps.Shown.{IsNumberIn, IsLabelIn}
@@ -53,13 +53,13 @@ pub within : (text number : List ℕ) (from : ℕ) (l : LabelView) → IsRead te
 within text number from l r =
     elim (blank_or_filled number) [ inl none ↦ omega (arith, r.blank none) | inr some ↦ omega (arith, r.filled some) ]
 
-pub from_is : (text number : List ℕ) (from : ℕ) (l : LabelView) → IsRead text number from l → from ≡ length (number_line l.marker_number)
+pub from_is : (text number : List ℕ) (from : ℕ) (l : LabelView) → IsRead text number from l → from ≡ length (marker_number_line l.marker_number)
 from_is text number from l r =
     elim (blank_or_filled number) [
       | inl none ↦ r.blank none ∙ sym (ap length (if_blank number [] (header_line (left 20 number) (codes "MARKER NUMBER")) none))
       | inr some ↦ r.filled some ∙ sym (length-number number r.line.good some)
     ]
-    ∙ ap (λ (n : List ℕ). length (number_line n)) (sym r.label.marker_number)
+    ∙ ap (λ (n : List ℕ). length (marker_number_line n)) (sym r.label.marker_number)
 
 length-first : (text : List ℕ) → 810 ≤ length text → length (take 243 text) ≡ 243
 length-first text h = length-take-le 243 text (omega (arith, h))
@@ -73,7 +73,7 @@ six_cut text from =
     next_piece (from + 243) 486 text (drop (from + 729) text) (ap (λ (k : ℕ). drop k text) n)
 
 below_cut : (text number : List ℕ) (from : ℕ) (l : LabelView) → IsRead text number from l
-    → drop 243 text ≡ number_line number ++ (take 486 (drop (from + 243) text) ++ drop (from + 729) text)
+    → drop 243 text ≡ marker_number_line number ++ (take 486 (drop (from + 243) text) ++ drop (from + 729) text)
 below_cut text number from l r =
     elim (blank_or_filled number) [
       | inl none ↦
@@ -87,7 +87,7 @@ below_cut text number from l r =
     ]
 
 text_cut : (text number : List ℕ) (from : ℕ) (l : LabelView) → IsRead text number from l
-    → text ≡ take 243 text ++ (number_line number ++ (take 486 (drop (from + 243) text) ++ drop (from + 729) text))
+    → text ≡ take 243 text ++ (marker_number_line number ++ (take 486 (drop (from + 243) text) ++ drop (from + 729) text))
 text_cut text number from l r = sym (take-append-drop 243 text) ∙ ap (λ (t : List ℕ). take 243 text ++ t) (below_cut text number from l r)
 
 length-plain_top : (l : LabelView) (top : List ℕ) → length top ≡ 243 → length (plain_top l top) ≡ 243
@@ -123,10 +123,10 @@ was_labelled text number from l t r good e =
     top_was top l.run_by t.head.marker (reading_of t.head.made) a good.head.0 r.label.run_by two.0 in
     let six = middle_was m top number l t.site b r.good good.site r.label next.0 in (
       text_cut text number from l r
-          ∙ ap (λ (x : List ℕ). x ++ (number_line number ++ (m ++ rest))) first
-          ∙ ap (λ (x : List ℕ). top_lines l.run_by t.head.marker (reading_of t.head.made) ++ (number_line x ++ (m ++ rest))) (sym r.label.marker_number)
-          ∙ ap (λ (x : List ℕ). top_lines l.run_by t.head.marker (reading_of t.head.made) ++ (number_line l.marker_number ++ (x ++ rest))) six.0
-          ∙ ap (λ (x : List ℕ). top_lines l.run_by t.head.marker (reading_of t.head.made) ++ (number_line l.marker_number ++ (middle_lines l t.site ++ x))) next.1
+          ∙ ap (λ (x : List ℕ). x ++ (marker_number_line number ++ (m ++ rest))) first
+          ∙ ap (λ (x : List ℕ). top_lines l.run_by t.head.marker (reading_of t.head.made) ++ (marker_number_line x ++ (m ++ rest))) (sym r.label.marker_number)
+          ∙ ap (λ (x : List ℕ). top_lines l.run_by t.head.marker (reading_of t.head.made) ++ (marker_number_line l.marker_number ++ (x ++ rest))) six.0
+          ∙ ap (λ (x : List ℕ). top_lines l.run_by t.head.marker (reading_of t.head.made) ++ (marker_number_line l.marker_number ++ (middle_lines l t.site ++ x))) next.1
           ∙ sym (label_parts l t),
       six.1,
     )
@@ -145,7 +145,7 @@ unfolding type_line
 length-type = length-line (codes "GEODETIC") (codes "MARKER TYPE") (omega arith) (omega arith)
 
 number_told : (text number : List ℕ) (from : ℕ) (l g : LabelView) (t : WellFormedTable) → IsRead text number from l → IsLabel g → IsWellFormedTable t
-    → drop 243 text ≡ number_line g.marker_number ++ (middle_lines g t.site ++ text_after t) → number ≡ g.marker_number
+    → drop 243 text ≡ marker_number_line g.marker_number ++ (middle_lines g t.site ++ text_after t) → number ≡ g.marker_number
 number_told text number from l g t r is good e =
     elim (blank_or_filled g.marker_number) [
       | inl none ↦
@@ -158,7 +158,7 @@ number_told text number from l g t r is good e =
           ]
       | inr some ↦
           r.line.all g.marker_number is.marker_number some
-          (ap (take 81) e ∙ take_at (number_line g.marker_number) (middle_lines g t.site ++ text_after t) 81 (length-number g.marker_number is.marker_number some))
+          (ap (take 81) e ∙ take_at (marker_number_line g.marker_number) (middle_lines g t.site ++ text_after t) 81 (length-number g.marker_number is.marker_number some))
     ]
 
 pub record IsPlainOf (text : List ℕ) (from : ℕ) (l g : LabelView) (t : WellFormedTable) : Type 0 where
@@ -204,12 +204,12 @@ is_plain text number from l g t r good is for e =
     let a = length-first text r.long in
     let b = length-next text from r.long (within text number from l r) in
     let made = reading_of t.head.made in
-    let two = same_parts top (top_lines g.run_by t.head.marker made) (drop 243 text) (number_line g.marker_number ++ (middle_lines g t.site ++ text_after t))
+    let two = same_parts top (top_lines g.run_by t.head.marker made) (drop 243 text) (marker_number_line g.marker_number ++ (middle_lines g t.site ++ text_after t))
     (a ∙ sym (length-top g.run_by t.head.marker made is.run_by.0 good.head.0)) (take-append-drop 243 text ∙ e ∙ label_parts g t) in
     let same : number ≡ g.marker_number = number_told text number from l g t r is good two.1 in
     let tail : m ++ rest ≡ middle_lines g t.site ++ text_after t =
-    append_cancel_left (number_line number) (m ++ rest) (middle_lines g t.site ++ text_after t)
-    (sym (below_cut text number from l r) ∙ two.1 ∙ ap (λ (x : List ℕ). number_line x ++ (middle_lines g t.site ++ text_after t)) (sym same)) in
+    append_cancel_left (marker_number_line number) (m ++ rest) (middle_lines g t.site ++ text_after t)
+    (sym (below_cut text number from l r) ∙ two.1 ∙ ap (λ (x : List ℕ). marker_number_line x ++ (middle_lines g t.site ++ text_after t)) (sym same)) in
     let next = same_parts m (middle_lines g t.site) rest (text_after t) (b ∙ sym (length-middle g t.site is good.site)) tail in
     let first = top_is_plain top l.run_by g.run_by t.head.marker made a good.head.0 r.label.run_by is.run_by two.0 in
     let six = middle_is_plain m top number l g t.site b is for good.site r.label next.0 in record {

@@ -8,7 +8,7 @@ use Rattle.rtk_rinex.specs.Header.{HeadView, PositionView, IsMarker, IsPositionV
 use Rattle.rtk_rinex.specs.Reading.{reading_of}
 use Rattle.rtk_rinex.specs.Record.{record_text}
 use Rattle.rtk_rinex.specs.Table.{WellFormedTable, IsWellFormedTable, table_text}
-use Rattle.rtk_label.specs.Fields.{number_line}
+use Rattle.rtk_label.specs.Fields.{marker_number_line}
 use Rattle.rtk_label.specs.Labelled.{LabelView, IsLabel, blank_label, top_lines, middle_lines, labelled_header, labelled_text}
 use Rattle.rtk_label.proofs.PieceLemmas.{joined, HasWidths}
 use Rattle.rtk_label.proofs.OffsetLemmas.{zero_offset}
@@ -112,10 +112,10 @@ glue_parts : (a n m x y r : List ℕ) → ((((a ++ n) ++ m) ++ x) ++ y) ++ r ≡
 glue_parts a n m x y r = simp append_assoc
 
 pub label_parts : (l : LabelView) (t : WellFormedTable)
-    → labelled_text l t ≡ top_lines l.run_by t.head.marker (reading_of t.head.made) ++ (number_line l.marker_number ++ (middle_lines l t.site ++ text_after t))
+    → labelled_text l t ≡ top_lines l.run_by t.head.marker (reading_of t.head.made) ++ (marker_number_line l.marker_number ++ (middle_lines l t.site ++ text_after t))
 unfolding labelled_header
 label_parts l t =
-    glue_parts (top_lines l.run_by t.head.marker (reading_of t.head.made)) (number_line l.marker_number) (middle_lines l t.site)
+    glue_parts (top_lines l.run_by t.head.marker (reading_of t.head.made)) (marker_number_line l.marker_number) (middle_lines l t.site)
     (types_lines t.head.listed) (last_lines (reading_of t.first)) (flat_map record_text t.epochs)
 
 pub plain_parts : (t : WellFormedTable) → table_text t ≡ top_lines [] t.head.marker (reading_of t.head.made) ++ (middle_lines blank_label t.site ++ text_after t)
@@ -130,7 +130,7 @@ length-last c =
 pub length-labelled : (l : LabelView) (t : WellFormedTable) → IsLabel l → IsWellFormedTable t → 810 ≤ length (labelled_text l t)
 length-labelled l t is good =
     let top : List ℕ = top_lines l.run_by t.head.marker (reading_of t.head.made) in
-    let number : List ℕ = number_line l.marker_number in
+    let number : List ℕ = marker_number_line l.marker_number in
     let middle : List ℕ = middle_lines l t.site in
     let last : List ℕ = last_lines (reading_of t.first) in
     let types : List ℕ = types_lines t.head.listed in

@@ -10,7 +10,7 @@ use Rattle.rtk_frame.proofs.PublicLaws.{with_more-with_more}
 use Rattle.rtk_rinex.specs.Header.{PositionView}
 use Rattle.rtk_rinex.specs.Reading.{reading_of}
 use Rattle.rtk_rinex.specs.Table.{WellFormedTable, IsWellFormedTable, table_text}
-use Rattle.rtk_label.specs.Fields.{number_line}
+use Rattle.rtk_label.specs.Fields.{marker_number_line}
 use Rattle.rtk_label.specs.Labelled.{LabelView, IsLabel, IsFor, blank_label, top_lines, middle_lines, labelled_text}
 use Rattle.rtk_label.specs.LabelWriting.{WritesLabelled, WritesFirstLabelled}
 use Rattle.rtk_label.specs.Steps.Fronts.{filled_top, filled_middle, filled_front}
@@ -61,10 +61,10 @@ filled_is text l t is good e =
     let f : filled_top l (take 243 text) ≡ top_lines l.run_by t.head.marker made = top_filled (take 243 text) l.run_by t.head.marker made la good.head.0 is.run_by.0 first in
     let g : filled_middle l (take 486 (drop 243 text)) ≡ middle_lines l t.site = middle_filled (take 486 (drop 243 text)) l t.site lb is good.site six in
     label_parts l t
-    ∙ sym (glue_front (filled_top l (take 243 text)) (number_line l.marker_number) (filled_middle l (take 486 (drop 243 text))) (drop 729 text)
-    ∙ ap (λ (x : List ℕ). x ++ (number_line l.marker_number ++ (filled_middle l (take 486 (drop 243 text)) ++ drop 729 text))) f
-    ∙ ap (λ (x : List ℕ). top_lines l.run_by t.head.marker made ++ (number_line l.marker_number ++ (x ++ drop 729 text))) g
-    ∙ ap (λ (x : List ℕ). top_lines l.run_by t.head.marker made ++ (number_line l.marker_number ++ (middle_lines l t.site ++ x))) rest)
+    ∙ sym (glue_front (filled_top l (take 243 text)) (marker_number_line l.marker_number) (filled_middle l (take 486 (drop 243 text))) (drop 729 text)
+    ∙ ap (λ (x : List ℕ). x ++ (marker_number_line l.marker_number ++ (filled_middle l (take 486 (drop 243 text)) ++ drop 729 text))) f
+    ∙ ap (λ (x : List ℕ). top_lines l.run_by t.head.marker made ++ (marker_number_line l.marker_number ++ (x ++ drop 729 text))) g
+    ∙ ap (λ (x : List ℕ). top_lines l.run_by t.head.marker made ++ (marker_number_line l.marker_number ++ (middle_lines l t.site ++ x))) rest)
 
 -- ---- what two writes give
 

@@ -31,6 +31,7 @@ IsSigned text =
     IsInRange 7 10 (length text) × IsSign (slice_index text 0) × (slice_index text (length text - 5) ≡ 46)
     × AreDigits (take (length text - 5 - 1) (drop 1 text)) × AreDigits (drop (length text - 5 + 1) text)
 
+-- formula
 -- no characters, or an offset
 abbrev pub IsOffset : List ℕ → Type 0
 IsOffset text = 0 < length text → IsSigned text
@@ -42,5 +43,5 @@ offset_columns text = if length text == 0 then codes "        0.0000" else right
 
 -- formula
 -- the line of the marker's number (A20), which is absent if the field is blank
-abbrev pub number_line : List ℕ → List ℕ
-number_line text = if length text == 0 then [] else header_line (left 20 text) (codes "MARKER NUMBER")
+abbrev pub marker_number_line : List ℕ → List ℕ
+marker_number_line text = if length text == 0 then [] else header_line (left 20 text) (codes "MARKER NUMBER")

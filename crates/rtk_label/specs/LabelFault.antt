@@ -4,6 +4,7 @@ use Rattle.rtk_label.specs.Labelled.{LabelView}
 use Rattle.rtk_label.specs.declared.label_fault.LabelFault.{LabelFault}
 use Rattle.rtk_label.specs.declared.label_fault.LabelFault.TheVariants.{RunBy, MarkerNumber, Observer, Agency, ReceiverNumber, ReceiverType, ReceiverVersion, AntennaNumber, AntennaType, DeltaHeight, DeltaEast, DeltaNorth}
 
+-- table
 -- this field fits its columns
 abbrev pub FitsField : LabelView → LabelFault → Type 0
 FitsField l RunBy = IsField 20 l.run_by
@@ -29,6 +30,7 @@ FitsReceiver l = FitsWho l × IsField 20 l.receiver_number × IsField 20 l.recei
 abbrev pub FitsAntenna : LabelView → Type 0
 FitsAntenna l = FitsReceiver l × IsField 20 l.antenna_number × IsField 20 l.antenna_type
 
+-- table
 -- the fields before this one fit
 abbrev pub FitsBefore : LabelView → LabelFault → Type 0
 FitsBefore l RunBy = Unit {0}

@@ -27,7 +27,8 @@ pub record IsParted (text plain : List ℕ) (l : LabelView) : Type 0 where
   pub every : (t : WellFormedTable) (m : LabelView) → IsWellFormedTable t → IsLabel m → IsFor m t.site → text ≡ labelled_text m t
       → (plain ≡ table_text t) × (l ≡ m)
 
--- the line of a text from which a label was taken: if bytes were left out at its begin, these were
+-- formula
+-- the line of a text from which a label was taken (this project's rule): if bytes were left out at its begin, these were
 -- the fourth line (the marker's number)
 abbrev pub line_in_text : ℕ → ℕ → ℕ
 line_in_text from line = if (from == 0) || nat_le line 3 then line else line + 1

@@ -8,7 +8,7 @@ use Rattle.rtk_rinex.specs.Header.{HeadView, PositionView, header_line, made_tex
 use Rattle.rtk_rinex.specs.Reading.{reading_of}
 use Rattle.rtk_rinex.specs.Record.{record_text}
 use Rattle.rtk_rinex.specs.Table.{WellFormedTable}
-use Rattle.rtk_label.specs.Fields.{IsField, IsOffset, offset_columns, number_line}
+use Rattle.rtk_label.specs.Fields.{IsField, IsOffset, offset_columns, marker_number_line}
 
 -- the fields of a header that no message of the stream tells; no characters stand for a blank field
 pub record LabelView : Type 0 where
@@ -25,6 +25,7 @@ pub record LabelView : Type 0 where
   pub east : List ℕ
   pub north : List ℕ
 
+-- table
 -- all fields are blank
 abbrev pub blank_label : LabelView
 blank_label =
@@ -59,6 +60,7 @@ pub record IsLabel (l : LabelView) : Type 0 where
   pub east : IsOffset l.east
   pub north : IsOffset l.north
 
+-- formula
 -- a label with an antenna height is only for a file whose stream told none (this project's rule)
 abbrev pub IsFor : LabelView → PositionView → Type 0
 IsFor l s = 0 < length l.height → s.height ≡ 0
@@ -93,7 +95,7 @@ middle_lines l s =
 unfoldable pub labelled_header : LabelView → HeadView → PositionView → ℕ → List ℕ
 labelled_header l h s first =
     top_lines l.run_by h.marker (reading_of h.made)
-    ++ number_line l.marker_number
+    ++ marker_number_line l.marker_number
     ++ middle_lines l s
     ++ types_lines h.listed
     ++ last_lines (reading_of first)

@@ -2,7 +2,7 @@
 
 ghost use Rattle.std.specs.Prelude.{◌≡◌, ◌+◌, ◌≤◌, ◌++◌, length, take, drop};
 ghost use Rattle.rtk_rinex.specs.Columns.{left, right};
-ghost use Rattle.rtk_label.specs.Fields.{offset_columns, number_line};
+ghost use Rattle.rtk_label.specs.Fields.{offset_columns, marker_number_line};
 ghost use Rattle.rtk_label.specs.Steps.Fronts.{filled_height, plain_columns, plain_offset};
 
 use crate::fields::columns_at;
@@ -83,7 +83,7 @@ pub(crate) fn put_height(out: &mut ArrayVec<u8, FRONT>, height: &[u8], columns: 
 pub(crate) fn put_number_line(out: &mut ArrayVec<u8, FRONT>, number: &[u8])
     requires fits { length number.now ≤ 20 }
     requires room { length out.old.items + 81 ≤ 810 }
-    ensures items { out.new.items ≡ out.old.items ++ number_line number.now }
+    ensures items { out.new.items ≡ out.old.items ++ marker_number_line number.now }
     ensures len { length out.new.items ≤ length out.old.items + 81 }
 {
     if number.len() > 0 {

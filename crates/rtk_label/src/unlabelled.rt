@@ -4,7 +4,7 @@
 //! label fills stays as it is, so that `check` finds the first wrong line.
 
 ghost use Rattle.std.specs.Prelude.{◌≡◌, ◌+◌, ◌^◌, ◌<◌, ◌≤◌, ◌++◌, length, drop};
-ghost use Rattle.rtk_label.specs.Fields.{IsField, number_line};
+ghost use Rattle.rtk_label.specs.Fields.{IsField, marker_number_line};
 ghost use Rattle.rtk_label.specs.LabelWriting.{IsParted, line_in_text};
 ghost use Rattle.rtk_label.specs.Steps.Shown.{IsNumberIn, IsLabelIn};
 
@@ -94,7 +94,7 @@ struct Reading {
 fn read(text: &[u8]) -> Reading
     requires { 810 ≤ length text.now }
     ensures parted { IsParted text.now (result.front.items ++ drop (result.unlabelled.from + 729) text.now) result.unlabelled.label }
-    ensures from { result.unlabelled.from ≡ length (number_line result.unlabelled.label.marker_number) }
+    ensures from { result.unlabelled.from ≡ length (marker_number_line result.unlabelled.label.marker_number) }
     ensures line { result.unlabelled.from ≤ 81 }
     ensures len { length result.front.items ≡ 729 }
 {
@@ -115,7 +115,7 @@ fn read(text: &[u8]) -> Reading
 pub fn unlabel(text: &mut [u8]) -> Unlabelled
     ensures len { length text.new ≡ length text.old }
     ensures rest { drop 810 text.new ≡ drop 810 text.old }
-    ensures from { result.from ≡ length (number_line result.label.marker_number) }
+    ensures from { result.from ≡ length (marker_number_line result.label.marker_number) }
     ensures within { result.from ≤ length text.new }
     ensures parted { IsParted text.old (drop result.from text.new) result.label }
 {

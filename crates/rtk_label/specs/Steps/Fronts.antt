@@ -1,7 +1,7 @@
 -- The lines of a header that a label changes, with other columns: three lines of 81 bytes, then six.
 use Rattle.std.specs.Prelude.{ℕ, ◌==◌, List, ◌++◌, length, take, drop, codes, replicate, if◌then◌else◌}
 use Rattle.rtk_rinex.specs.Columns.{left, right}
-use Rattle.rtk_label.specs.Fields.{offset_columns, number_line}
+use Rattle.rtk_label.specs.Fields.{offset_columns, marker_number_line}
 use Rattle.rtk_label.specs.Labelled.{LabelView}
 
 -- the columns of the antenna's height: these, or the label's
@@ -22,7 +22,7 @@ filled_middle l m =
 
 -- the first nine lines of a plain text with the fields of a label
 abbrev pub filled_front : LabelView → List ℕ → List ℕ
-filled_front l text = filled_top l (take 243 text) ++ number_line l.marker_number ++ filled_middle l (take 486 (drop 243 text))
+filled_front l text = filled_top l (take 243 text) ++ marker_number_line l.marker_number ++ filled_middle l (take 486 (drop 243 text))
 
 -- the columns of a field: blanks if it shows, else as they are
 abbrev pub plain_columns : ℕ → List ℕ → List ℕ → List ℕ

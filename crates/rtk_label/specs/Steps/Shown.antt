@@ -1,7 +1,7 @@
 -- What columns of a text show of a label.
 use Rattle.std.specs.Prelude.{◌≡◌, ◌<◌, ℕ, List, length, take, drop}
 use Rattle.rtk_rinex.specs.Columns.{left, right}
-use Rattle.rtk_label.specs.Fields.{IsField, IsSigned, IsOffset, number_line}
+use Rattle.rtk_label.specs.Fields.{IsField, IsSigned, IsOffset, marker_number_line}
 use Rattle.rtk_label.specs.Labelled.{LabelView}
 
 -- the field whose columns these are; a blank one if they are the columns of none
@@ -19,8 +19,8 @@ pub record IsOffsetIn (columns field : List ℕ) : Type 0 where
 -- the marker's number whose line this is; a blank one if it is the line of none
 pub record IsNumberIn (line field : List ℕ) : Type 0 where
   pub good : IsField 20 field
-  pub some : 0 < length field → line ≡ number_line field
-  pub all : (g : List ℕ) → IsField 20 g → 0 < length g → line ≡ number_line g → field ≡ g
+  pub some : 0 < length field → line ≡ marker_number_line field
+  pub all : (g : List ℕ) → IsField 20 g → 0 < length g → line ≡ marker_number_line g → field ≡ g
 
 -- the label that three lines, a marker's number and six lines show
 pub record IsLabelIn (top number middle : List ℕ) (l : LabelView) : Type 0 where
