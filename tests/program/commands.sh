@@ -69,6 +69,7 @@ example() {
     check) echo 'valid: 1 epochs, 1 satellite lines' >good_out ;;
     chart) file=$examples/marks.rnx && cp "$examples/marks.svg" good_out ;;
     cut) words='cut --every 30' file=$examples/slip.rnx && cp "$examples/slip_30s.rnx" good_out ;;
+    label) words='label --blank' file=$examples/slip.rnx && cp "$file" good_out ;;
     convert)
         words="convert --station 2003 --near 2024-05-17T12:00:00 --made 2024-05-17T13:00:00 --marker BASE --codes 1C,2W"
         file=$base && cp "$examples/base.rnx" good_out && report 2 0 0 0 2 0 0 0 1 >good_err ;;
@@ -202,7 +203,7 @@ bytes_beside_frames() {
 
 mkdir none && cd none || exit 1
 helps none
-for command in show summary check chart cut convert; do
+for command in show summary check chart cut label convert; do
     mkdir "$work/$command" && cd "$work/$command" || exit 1
     helps $command $command
     example $command
@@ -212,7 +213,7 @@ for command in show summary check chart cut convert; do
     outputs_fail
     words_are_refused
     case $command in
-    check | chart | cut) files_are_judged ;;
+    check | chart | cut | label) files_are_judged ;;
     *) bytes_beside_frames ;;
     esac
 done

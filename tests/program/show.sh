@@ -89,7 +89,7 @@ expect nothing_to_show_and_no_output 0 '' ''
 
 # Words that clap refuses.
 no_command=$(error "'rtcm2rinex' requires a subcommand but one was not provided
-  [subcommands: convert, show, check, summary, chart, cut, help]" "<COMMAND>")
+  [subcommands: convert, show, check, summary, chart, cut, label, help]" "<COMMAND>")
 bad_words no_command "$no_command"
 "$program" >&- 2>err; status=$?; : >out
 expect no_command_and_no_output 2 '' "$no_command"
