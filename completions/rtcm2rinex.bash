@@ -20,7 +20,7 @@ _rtcm2rinex() {
     done
     case $command in
         '')
-            options='convert show check summary chart cut help -h --help -V --version'
+            options='convert show check summary chart cut label help -h --help -V --version'
             ;;
         convert)
             options='--station --near --made --marker --codes --window --msm -h --help'
@@ -49,9 +49,14 @@ _rtcm2rinex() {
             values='--from --until --every'
             arguments='files'
             ;;
+        label)
+            options='--run-by --marker-number --observer --agency --receiver-number --receiver-type --receiver-version --antenna-number --antenna-type --delta-height --delta-east --delta-north --blank -h --help'
+            values='--run-by --marker-number --observer --agency --receiver-number --receiver-type --receiver-version --antenna-number --antenna-type --delta-height --delta-east --delta-north'
+            arguments='files'
+            ;;
         help)
             options=''
-            arguments='convert show check summary chart cut'
+            arguments='convert show check summary chart cut label'
             ;;
         *) return ;;
     esac

@@ -16,7 +16,7 @@ shown() { printf '%.40s' "$1" | tr '\t\n\033' '???'; }
 
 # brief FILE: the words of a help up to its examples; those of -h are the same
 brief() {
-    sed "/^Which MSM:/,\$d; /^Example:/,\$d; /^Begin with:/,\$d; s/see a summary with '-h'/see more with '--help'/" "$1" | tr -s '[:space:]' ' '
+    sed "/^Which MSM:/,\$d; /^Which fields:/,\$d; /^Example:/,\$d; /^Begin with:/,\$d; s/see a summary with '-h'/see more with '--help'/" "$1" | tr -s '[:space:]' ' '
 }
 
 # helps NAME WORD..: of a command, or of none. What the options do, completions/ and docs/ hold; here the examples are run.
@@ -218,4 +218,4 @@ for command in show summary check chart cut label convert; do
     esac
 done
 
-ends 339
+ends 400

@@ -52,22 +52,26 @@ all told; expect a_told_height 2 '' 'rtcm2rinex: bad --delta-height: the file te
 label --delta-east +0.0000 told
 sed 's|^        0.0001        0.0000|        0.0001       +0.0000|' told >want
 leaves beside_a_told_height 0 want /dev/null
+# A height without a sign is the station's.
+sed '10s/+1/ 1/' labelled >unsigned
+sed '9s/^        0.0000/        1.5000/' "$file" >want
+label --blank unsigned; leaves a_height_without_a_sign 0 want /dev/null
 
 # refused LINE FILE: no file with a label
 refused() {
     all "$2"
-    expect "refused_$1" 3 '' "line $1"
+    expect "refused_$1_of_$(wc -c <"$2")" 3 '' "line $1"
     label --blank "$2"
-    expect "refused_blank_$1" 3 '' "line $1"
+    expect "refused_blank_$1_of_$(wc -c <"$2")" 3 '' "line $1"
 }
 sed '20s/^/x/' "$file" >wrong;             refused '20: C2 Columns' wrong
 sed '20s/^/x/' labelled >wrong;            refused '20: C2 Columns' wrong
 sed '2s/^r/R/' labelled >wrong;            refused '2: C1 HeaderLine' wrong
 sed '5s/^G/H/' labelled >wrong;            refused '5: C1 HeaderLine' wrong
 sed '7s/^4/ 4/; 7s/ 9.20 /9.20 /' labelled >wrong; refused '7: C1 HeaderLine' wrong
-sed '10s/+1/ 1/' labelled >wrong;          label --blank wrong; leaves a_height_without_a_sign 0 wrong /dev/null
 sed '4s/M0/\tM/' labelled >wrong;          refused '4: C1 HeaderLine' wrong
-head -c 809 labelled >wrong;               refused '10: C5 Truncated' wrong
+head -c 820 labelled >wrong;               refused '11: C5 Truncated' wrong
+head -c 809 labelled >wrong;               refused '2: C1 HeaderLine' wrong # too short for a label
 run check labelled; expect no_file_of_check 3 'line 2: C1 HeaderLine' ''
 
 # bad NAME VALUE: it does not fit
@@ -97,14 +101,14 @@ for name in delta-height delta-east delta-north; do
     for value in 1.0000 +10000.0000 +1.000 +.0000 +1,0000 '+1.0000 ' +1e3; do bad $name "$value"; done
 done
 
-usage='label [OPTIONS] <--run-by <TEXT>'
+usage=$("$program" label --help | sed -n 's/^Usage: rtcm2rinex //p')
 label "$file"
 sed -n 1p err >first
 printf 'error: the following required arguments were not provided:\n' >want
-same no_option first want
+same no_field first want
 label --blank --agency Survey "$file"
 expect blank_and_a_field 2 '' "$(error "the argument '--blank' cannot be used with '--agency <TEXT>'" "$usage")"
 label --agency Survey --agency Survey "$file"
 expect an_option_twice 2 '' "$(error "the argument '--agency <TEXT>' cannot be used multiple times" "$usage")"
 
-ends
+ends 93

@@ -91,7 +91,8 @@ Exit status:
 Manual: man rtcm2rinex, or docs/MANUAL.md";
 
 pub(crate) const LABEL: &str = "\
-The fields that are not given are blank, also those of an earlier label.
+Which fields:
+  Those that are not given are blank, also if an earlier label filled them.
 
 Example:
   rtcm2rinex label --agency 'Survey of Somewhere' --receiver-type 'LEICA GR50' \\
