@@ -2,6 +2,7 @@
 //!
 //! clap is the costly part of the proof, so its command is built here alone, in small functions.
 
+use crate::arguments::{file_arg, flag_arg, option_arg};
 use crate::help_texts;
 use crate::label_words::label_command;
 use crate::limits::{LEAST_WIDTH, LEAST_WINDOW, MOST_STATION, MOST_STEP, MOST_WIDTH, MOST_WINDOW};
@@ -19,16 +20,6 @@ const WINDOW: &str = "64";
 
 /// The MSM if none is given: 1074.
 const MSM: &str = "4";
-
-/// The name of the one input of a command.
-pub(crate) fn file_arg<'a>(alloc: Global, help: &'a str) -> Arg<'a> {
-    Arg::new(alloc, "FILE").help(help).required(true)
-}
-
-/// An argument by its name with two hyphens.
-pub(crate) fn flag_arg<'a>(alloc: Global, name: &'a str, help: &'a str) -> Arg<'a> {
-    Arg::new(alloc, name).long(name).help(help)
-}
 
 fn hex_arg<'a>(alloc: Global) -> Arg<'a> {
     flag_arg(alloc, "hex", "The capture is hex text").action(ArgAction::SetTrue)
@@ -74,16 +65,6 @@ fn chart_command<'a>(alloc: Global) -> Result<Command<'a>, AllocError> {
         .arg(text_arg(alloc))?
         .arg(columns_arg(alloc)?)?
         .arg(file_arg(alloc, "The file, or stdin for standard input"))
-}
-
-/// An option that has a value.
-pub(crate) fn option_arg<'a>(
-    alloc: Global,
-    name: &'a str,
-    value: &'a str,
-    help: &'a str,
-) -> Arg<'a> {
-    flag_arg(alloc, name, help).value_name(value)
 }
 
 fn required_arg<'a>(alloc: Global, name: &'a str, value: &'a str, help: &'a str) -> Arg<'a> {

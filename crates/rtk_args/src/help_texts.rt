@@ -102,7 +102,6 @@ Exit status:
   0  the file is written
   1  it is not, or in part; standard error says why
   2  the words are refused, or the file tells another height
-  3  the file is not as convert or label writes it; standard error has its first
-     wrong line
+  3  the file is not as convert or label writes it; standard error says where
 
 Manual: man rtcm2rinex, or docs/MANUAL.md";

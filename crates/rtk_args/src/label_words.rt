@@ -3,7 +3,7 @@
 ghost use Rattle.std.specs.Prelude.{IfSome};
 ghost use Rattle.rtk_args.specs.Requests.{IsRequest};
 
-use crate::command_line::{file_arg, flag_arg, option_arg};
+use crate::arguments::{file_arg, flag_arg, option_arg};
 use crate::help_texts;
 use crate::label_options::LabelOptions;
 use crate::request::Request;

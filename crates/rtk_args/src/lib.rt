@@ -18,6 +18,7 @@
 #![tactic(auto)]
 
 mod answer;
+mod arguments;
 mod command_line;
 mod help_texts;
 mod label_options;

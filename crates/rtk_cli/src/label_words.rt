@@ -5,25 +5,7 @@ ghost use Rattle.rtk_cli.specs.Steps.LabelWords.{text_or_none, SaysLabel, Refuse
 
 use crate::words::BadWords;
 use rtk_args::LabelOptions;
-use rtk_label::{Label, LabelFault, LabelParts};
-
-/// The option that fills the field of a fault.
-pub(crate) fn option_of(fault: LabelFault) -> &'static str {
-    match fault {
-        LabelFault::RunBy => "run-by",
-        LabelFault::MarkerNumber => "marker-number",
-        LabelFault::Observer => "observer",
-        LabelFault::Agency => "agency",
-        LabelFault::ReceiverNumber => "receiver-number",
-        LabelFault::ReceiverType => "receiver-type",
-        LabelFault::ReceiverVersion => "receiver-version",
-        LabelFault::AntennaNumber => "antenna-number",
-        LabelFault::AntennaType => "antenna-type",
-        LabelFault::DeltaHeight => "delta-height",
-        LabelFault::DeltaEast => "delta-east",
-        LabelFault::DeltaNorth => "delta-north",
-    }
-}
+use rtk_label::{Label, LabelParts};
 
 // The bytes of an option's text; no bytes without the option.
 fn text_of<'a>(text: Option<&'a str>) -> &'a [u8]

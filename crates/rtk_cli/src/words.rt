@@ -1,6 +1,5 @@
 //! What the words of a command line ask for, and why a command is not done.
 
-use crate::label_words::option_of;
 use arrayvec::ArrayVec;
 use rtk_args::Task;
 use rtk_convert::Setup;
@@ -11,6 +10,24 @@ use thiserror::Error;
 /// What the words ask for: the station, the reference, the file's head and the window of a conversion,
 /// and its links, standard input once at most; the span and the step of a part; the fields of a label.
 pub type Job<'a> = Task<'a, Setup, ArrayVec<&'a str, 16>, Part, Label>;
+
+// The option that fills the field of a fault.
+fn option_of(fault: LabelFault) -> &'static str {
+    match fault {
+        LabelFault::RunBy => "run-by",
+        LabelFault::MarkerNumber => "marker-number",
+        LabelFault::Observer => "observer",
+        LabelFault::Agency => "agency",
+        LabelFault::ReceiverNumber => "receiver-number",
+        LabelFault::ReceiverType => "receiver-type",
+        LabelFault::ReceiverVersion => "receiver-version",
+        LabelFault::AntennaNumber => "antenna-number",
+        LabelFault::AntennaType => "antenna-type",
+        LabelFault::DeltaHeight => "delta-height",
+        LabelFault::DeltaEast => "delta-east",
+        LabelFault::DeltaNorth => "delta-north",
+    }
+}
 
 /// Why words that clap takes give no conversion, no part or no label: the first cause that holds, in this
 /// order; but that no time is dated near the reference is found last. Displayed, it is the fault
