@@ -229,7 +229,7 @@ rows-kept rows k r row before after lt is so_far pushed same =
 
 -- ---- at the start
 
-pub fresh : (marks : List Bool) (step : ℕ) → marks ≡ replicate 528 false → StandsForSlips marks step []
+pub fresh : (marks : List Bool) (step : Step) → marks ≡ replicate 528 false → StandsForSlips marks step []
 fresh marks step are = record {
   size = ap (λ xs. length xs) are ∙ length-replicate 528 false;
   marked = λ s c satellite code.

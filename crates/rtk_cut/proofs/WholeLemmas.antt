@@ -8,39 +8,39 @@ use Rattle.rtk_rinex.specs.Record.{EpochTableView, record_text}
 use Rattle.rtk_rinex.specs.Records.{RecordsView, AreLeft, IsNextOf}
 use Rattle.rtk_rinex.specs.Table.{WellFormedTable, IsTableEpoch, table_text}
 use Rattle.rtk_cut.specs.declared.part_writer.PartWriter.{PartWriter}
-use Rattle.rtk_cut.specs.declared.part.Part.{Part}
-use Rattle.rtk_cut.specs.Cut.{step_ms, cut_of}
+use Rattle.rtk_cut.specs.declared.part.Choice.{Choice}
+use Rattle.rtk_cut.specs.Cut.{step_of, cut_by}
 use Rattle.rtk_cut.specs.Steps.Pending.{StandsForSlips}
 use Rattle.rtk_cut.specs.Steps.PartFile.{still_to_write, IsHeadingOf, IsFresh, ComesNext, TakesEpoch, TakesEpochInPart, TakesEnd, TakesEndInPart}
 use Rattle.rtk_cut.proofs.PartFileLemmas.{part-after}
 
 -- some epochs of a table were taken: the others are left, and a first part of what is to be written
 -- is out
-pub record HasCut (p : Part) (t : WellFormedTable) (r : RecordsView) (c : PartWriter) (before after : Option (List ℕ)) : Type 0 where
+pub record HasCut (p : Choice) (t : WellFormedTable) (r : RecordsView) (c : PartWriter) (before after : Option (List ℕ)) : Type 0 where
   pub heading : IsHeadingOf c.heading t
-  pub part : c.part ≡ p
+  pub choice : c.choice ≡ p
   pub width : r.width ≡ length t.head.listed
   pub earlier : List EpochTableView
   pub left : List EpochTableView
   pub are_left : AreLeft r left
-  pub slips : StandsForSlips c.slips.marks (step_ms c.part.every) earlier
+  pub slips : StandsForSlips c.slips.marks (step_of c.choice) earlier
   pub done : List ℕ
-  pub whole : table_text (cut_of p t) ≡ done ++ still_to_write c.part t c.is_begun earlier left
+  pub whole : table_text (cut_by p t) ≡ done ++ still_to_write c.choice t c.is_begun earlier left
   pub out : after ≡ with_more before done
 
 -- no epoch was taken
-pub cut-none : (p : Part) (t : WellFormedTable) (r : RecordsView) (h : Heading) (c : PartWriter) (o : Option (List ℕ)) → IsFresh c h p → IsHeadingOf h t → (r.width ≡ length t.head.listed) × AreLeft r t.epochs
+pub cut-none : (p : Choice) (t : WellFormedTable) (r : RecordsView) (h : Heading) (c : PartWriter) (o : Option (List ℕ)) → IsFresh c h p → IsHeadingOf h t → (r.width ≡ length t.head.listed) × AreLeft r t.epochs
     → HasCut p t r c o o
 cut-none p t r h c o fresh heading records = record {
   heading = subst (λ (x : Heading). IsHeadingOf x t) (sym fresh.heading) heading;
-  part = fresh.part;
+  choice = fresh.choice;
   width = records.0;
   earlier = [];
   left = t.epochs;
   are_left = records.1;
-  slips = fresh.slips (step_ms c.part.every);
+  slips = fresh.slips (step_of c.choice);
   done = [];
-  whole = ap (λ (b : Bool). still_to_write p t b [] t.epochs) (sym fresh.is_begun) ∙ ap (λ (x : Part). still_to_write x t c.is_begun [] t.epochs) (sym fresh.part);
+  whole = ap (λ (b : Bool). still_to_write p t b [] t.epochs) (sym fresh.is_begun) ∙ ap (λ (x : Choice). still_to_write x t c.is_begun [] t.epochs) (sym fresh.choice);
   out = sym (with_more-nil o);
 }
 
@@ -49,7 +49,7 @@ pub next-is : (epochs : List EpochTableView) (text : List ℕ) (e : EpochTableVi
 next-is [] text e r next = absurd next
 next-is (x ∷ xs) text e r next = (xs, ap (λ y. y ∷ xs) (sym next.1), next.2)
 
-pub comes-next : (p : Part) (t : WellFormedTable) (r : RecordsView) (c : PartWriter) (e : EpochTableView) (text : List ℕ) (before after : Option (List ℕ)) (so_far : HasCut p t r c before after) → IsTableEpoch r.width e
+pub comes-next : (p : Choice) (t : WellFormedTable) (r : RecordsView) (c : PartWriter) (e : EpochTableView) (text : List ℕ) (before after : Option (List ℕ)) (so_far : HasCut p t r c before after) → IsTableEpoch r.width e
     → text ≡ record_text e → ComesNext c t so_far.earlier e text
 comes-next p t r c e text before after so_far epoch is = record {
   heading = so_far.heading;
@@ -59,52 +59,52 @@ comes-next p t r c e text before after so_far epoch is = record {
 }
 
 -- an epoch more
-pub cut-more : (p : Part) (t : WellFormedTable) (r r' : RecordsView) (c c' : PartWriter) (e : EpochTableView) (text : List ℕ) (before mid after : Option (List ℕ)) → HasCut p t r c before mid
-    → ((epochs : List EpochTableView) → AreLeft r epochs → IsNextOf epochs text e r') → IsTableEpoch r.width e → text ≡ record_text e → r'.width ≡ r.width → c'.heading ≡ c.heading → c'.part ≡ c.part
+pub cut-more : (p : Choice) (t : WellFormedTable) (r r' : RecordsView) (c c' : PartWriter) (e : EpochTableView) (text : List ℕ) (before mid after : Option (List ℕ)) → HasCut p t r c before mid
+    → ((epochs : List EpochTableView) → AreLeft r epochs → IsNextOf epochs text e r') → IsTableEpoch r.width e → text ≡ record_text e → r'.width ≡ r.width → c'.heading ≡ c.heading → c'.choice ≡ c.choice
     → TakesEpoch c c' e text mid after → HasCut p t r' c' before after
-cut-more p t r r' c c' e text before mid after so_far next epoch is wide heading part takes =
+cut-more p t r r' c c' e text before mid after so_far next epoch is wide heading choice takes =
     let n = next-is so_far.left text e r' (next so_far.left so_far.are_left) in
     let taken = takes t so_far.earlier n.0 (comes-next p t r c e text before mid so_far epoch is) in
     let more : List ℕ = taken.1.0 in
-    let rest : List ℕ = still_to_write c.part t c'.is_begun (e ∷ so_far.earlier) n.0 in
+    let rest : List ℕ = still_to_write c.choice t c'.is_begun (e ∷ so_far.earlier) n.0 in
     record {
       heading = subst (λ (x : Heading). IsHeadingOf x t) (sym heading) so_far.heading;
-      part = part ∙ so_far.part;
+      choice = choice ∙ so_far.choice;
       width = wide ∙ so_far.width;
       earlier = e ∷ so_far.earlier;
       left = n.0;
       are_left = n.2;
-      slips = subst (λ (x : Part). StandsForSlips c'.slips.marks (step_ms x.every) (e ∷ so_far.earlier)) (sym part) taken.0;
+      slips = subst (λ (x : Choice). StandsForSlips c'.slips.marks (step_of x) (e ∷ so_far.earlier)) (sym choice) taken.0;
       done = so_far.done ++ more;
-      whole = so_far.whole ∙ ap (λ es. so_far.done ++ still_to_write c.part t c.is_begun so_far.earlier es) n.1 ∙ ap (λ xs. so_far.done ++ xs) taken.1.1
-          ∙ sym (append_assoc so_far.done more rest) ∙ ap (λ (x : Part). (so_far.done ++ more) ++ still_to_write x t c'.is_begun (e ∷ so_far.earlier) n.0) (sym part);
+      whole = so_far.whole ∙ ap (λ es. so_far.done ++ still_to_write c.choice t c.is_begun so_far.earlier es) n.1 ∙ ap (λ xs. so_far.done ++ xs) taken.1.1
+          ∙ sym (append_assoc so_far.done more rest) ∙ ap (λ (x : Choice). (so_far.done ++ more) ++ still_to_write x t c'.is_begun (e ∷ so_far.earlier) n.0) (sym choice);
       out = taken.1.2 ∙ ap (λ o. with_more o more) so_far.out ∙ with_more-with_more before so_far.done more;
     }
 
 -- it broke off in an epoch
-pub cut-broken : (p : Part) (t : WellFormedTable) (r r' : RecordsView) (c : PartWriter) (e : EpochTableView) (text : List ℕ) (before mid after : Option (List ℕ)) → HasCut p t r c before mid
+pub cut-broken : (p : Choice) (t : WellFormedTable) (r r' : RecordsView) (c : PartWriter) (e : EpochTableView) (text : List ℕ) (before mid after : Option (List ℕ)) → HasCut p t r c before mid
     → ((epochs : List EpochTableView) → AreLeft r epochs → IsNextOf epochs text e r') → IsTableEpoch r.width e → text ≡ record_text e → TakesEpochInPart c e text mid after
-    → TakesPart before after (table_text (cut_of p t))
+    → TakesPart before after (table_text (cut_by p t))
 cut-broken p t r r' c e text before mid after so_far next epoch is takes =
     let n = next-is so_far.left text e r' (next so_far.left so_far.are_left) in
-    part-after before mid after so_far.done (still_to_write c.part t c.is_begun so_far.earlier (e ∷ n.0)) (table_text (cut_of p t))
-    (so_far.whole ∙ ap (λ es. so_far.done ++ still_to_write c.part t c.is_begun so_far.earlier es) n.1) so_far.out
+    part-after before mid after so_far.done (still_to_write c.choice t c.is_begun so_far.earlier (e ∷ n.0)) (table_text (cut_by p t))
+    (so_far.whole ∙ ap (λ es. so_far.done ++ still_to_write c.choice t c.is_begun so_far.earlier es) n.1) so_far.out
     (takes t so_far.earlier n.0 (comes-next p t r c e text before mid so_far epoch is))
 
 -- all epochs, and the end
-pub cut-all : (p : Part) (t : WellFormedTable) (r : RecordsView) (c : PartWriter) (before mid after : Option (List ℕ)) → HasCut p t r c before mid → ((epochs : List EpochTableView) → AreLeft r epochs → epochs ≡ [])
-    → TakesEnd c mid after → after ≡ with_more before (table_text (cut_of p t))
+pub cut-all : (p : Choice) (t : WellFormedTable) (r : RecordsView) (c : PartWriter) (before mid after : Option (List ℕ)) → HasCut p t r c before mid → ((epochs : List EpochTableView) → AreLeft r epochs → epochs ≡ [])
+    → TakesEnd c mid after → after ≡ with_more before (table_text (cut_by p t))
 cut-all p t r c before mid after so_far none takes =
-    let rest : List ℕ = still_to_write c.part t c.is_begun so_far.earlier [] in
+    let rest : List ℕ = still_to_write c.choice t c.is_begun so_far.earlier [] in
     takes t so_far.earlier so_far.heading ∙ ap (λ o. with_more o rest) so_far.out ∙ with_more-with_more before so_far.done rest
-    ∙ ap (λ xs. with_more before xs) (sym (so_far.whole ∙ ap (λ es. so_far.done ++ still_to_write c.part t c.is_begun so_far.earlier es) (none so_far.left so_far.are_left)))
+    ∙ ap (λ xs. with_more before xs) (sym (so_far.whole ∙ ap (λ es. so_far.done ++ still_to_write c.choice t c.is_begun so_far.earlier es) (none so_far.left so_far.are_left)))
 
 -- it broke off at the end
-pub cut-broken_end : (p : Part) (t : WellFormedTable) (r : RecordsView) (c : PartWriter) (before mid after : Option (List ℕ)) → HasCut p t r c before mid → ((epochs : List EpochTableView) → AreLeft r epochs → epochs ≡ [])
-    → TakesEndInPart c mid after → TakesPart before after (table_text (cut_of p t))
+pub cut-broken_end : (p : Choice) (t : WellFormedTable) (r : RecordsView) (c : PartWriter) (before mid after : Option (List ℕ)) → HasCut p t r c before mid → ((epochs : List EpochTableView) → AreLeft r epochs → epochs ≡ [])
+    → TakesEndInPart c mid after → TakesPart before after (table_text (cut_by p t))
 cut-broken_end p t r c before mid after so_far none takes =
-    part-after before mid after so_far.done (still_to_write c.part t c.is_begun so_far.earlier []) (table_text (cut_of p t))
-    (so_far.whole ∙ ap (λ es. so_far.done ++ still_to_write c.part t c.is_begun so_far.earlier es) (none so_far.left so_far.are_left)) so_far.out
+    part-after before mid after so_far.done (still_to_write c.choice t c.is_begun so_far.earlier []) (table_text (cut_by p t))
+    (so_far.whole ∙ ap (λ es. so_far.done ++ still_to_write c.choice t c.is_begun so_far.earlier es) (none so_far.left so_far.are_left)) so_far.out
     (takes t so_far.earlier so_far.heading)
 
 -- ---- answers

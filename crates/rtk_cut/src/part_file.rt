@@ -7,10 +7,11 @@ ghost use Rattle.rtk_cut.specs.CutWriting.{WritesPart, WritesFirstOfPart};
 ghost use Rattle.rtk_cut.specs.declared.fault.CutFault.TheVariants.{Write};
 
 use crate::fault::CutFault;
-use crate::part::Part;
+use crate::part::{Choice, Part};
 use crate::part_writer::{PartWriter, new_table};
 use rtk_frame::Sink;
 use rtk_rinex::Table;
+use rtk_tracking::{interval, nearness_ms};
 use std::alloc::Global;
 
 /// Writes a part of a file, a record at a time, and the header with the first one.
@@ -32,9 +33,12 @@ pub fn cut<W: Sink>(
     ensures write_failed { IsErrOf result Write → CountRises (W.failures out.old) (W.failures out.new) }
     ensures no_failed_write { result ≢ Err Write → W.failures out.new ≡ W.failures out.old }
 {
+    let interval_ms = interval(alloc, table)?;
+    let near_ms = nearness_ms(interval_ms);
+    let choice = Choice::new(part, near_ms);
     let heading = table.heading();
     let mut epoch = new_table(alloc, heading.first)?;
-    let mut writer = PartWriter::new(alloc, heading, part)?;
+    let mut writer = PartWriter::new(alloc, heading, choice)?;
     let mut records = table.records();
     while let Some(text) = records.next(&mut epoch) {
         writer.write_next(alloc, &epoch, text, out)?;

@@ -4,12 +4,12 @@
 
 ghost use Rattle.std.specs.Prelude.{◌≡◌, ◌≢◌, ◌≤◌, true, Err, OnOk, IfOk, IsErrOf, length};
 ghost use Rattle.rtk_frame.specs.Stream.{CountRises};
-ghost use Rattle.rtk_cut.specs.Cut.{IsStepOrNone, is_on_step, step_ms};
+ghost use Rattle.rtk_cut.specs.Cut.{IsStepOrNone, is_on_step, step_of};
 ghost use Rattle.rtk_cut.specs.Steps.PartFile.{IsFresh, TakesEpoch, TakesEpochInPart, TakesEnd, TakesEndInPart};
 ghost use Rattle.rtk_cut.specs.declared.fault.CutFault.TheVariants.{Write};
 
 use crate::fault::CutFault;
-use crate::part::Part;
+use crate::part::Choice;
 use crate::part_records::{put_after_header, put_record};
 use crate::slips::Slips;
 use rtk_frame::Sink;
@@ -22,7 +22,7 @@ use std::alloc::{AllocError, Global};
 pub(crate) struct PartWriter {
     /// The file's own.
     pub(crate) heading: Heading,
-    pub(crate) part: Part,
+    pub(crate) choice: Choice,
     pub(crate) slips: Slips,
     /// Room for what an epoch shows in the part. It is large, so it lies on the heap.
     pub(crate) table: Box<EpochTable>,
@@ -39,13 +39,17 @@ pub(crate) fn new_table(alloc: Global, start: GpsMs) -> Result<Box<EpochTable>, 
 
 impl PartWriter {
     /// No epoch was taken.
-    pub(crate) fn new(alloc: Global, heading: Heading, part: Part) -> Result<PartWriter, AllocError>
-        ensures { IfOk result (λ writer. IsFresh writer heading part) }
+    pub(crate) fn new(
+        alloc: Global,
+        heading: Heading,
+        choice: Choice,
+    ) -> Result<PartWriter, AllocError>
+        ensures { IfOk result (λ writer. IsFresh writer heading choice) }
     {
         let table = new_table(alloc, heading.first)?;
         Ok(PartWriter {
             heading,
-            part,
+            choice,
             slips: Slips::new(),
             table,
             is_begun: false,
@@ -60,9 +64,10 @@ impl PartWriter {
         text: &[u8],
         out: &mut W,
     ) -> Result<(), CutFault>
-        requires on { is_on_step (step_ms self.old.part.every) epoch.now ≡ true }
+        requires near { self.old.choice.near_ms ≤ 25 }
+        requires on { is_on_step (step_of self.old.choice) epoch.now ≡ true }
         ensures heading { self.new.heading ≡ self.old.heading }
-        ensures same_part { self.new.part ≡ self.old.part }
+        ensures same_choice { self.new.choice ≡ self.old.choice }
         ensures all { OnOk result (TakesEpoch self.old self.new epoch.now text.now (W.taken out.old) (W.taken out.new)) }
         ensures part { TakesEpochInPart self.old epoch.now text.now (W.taken out.old) (W.taken out.new) }
         ensures write_failed { IsErrOf result Write → CountRises (W.failures out.old) (W.failures out.new) }
@@ -70,7 +75,7 @@ impl PartWriter {
     {
         let width = self.heading.head.codes().len();
         let is_changed = self.slips.show(epoch, width, &mut self.table);
-        if !self.part.spans(epoch.time()) {
+        if !self.choice.spans(epoch.time()) {
             return Ok(());
         }
         put_record(
@@ -94,15 +99,16 @@ impl PartWriter {
         text: &[u8],
         out: &mut W,
     ) -> Result<(), CutFault>
-        requires step { IsStepOrNone self.old.part.every }
+        requires step { IsStepOrNone self.old.choice.every }
+        requires near { self.old.choice.near_ms ≤ 25 }
         ensures heading { self.new.heading ≡ self.old.heading }
-        ensures same_part { self.new.part ≡ self.old.part }
+        ensures same_choice { self.new.choice ≡ self.old.choice }
         ensures all { OnOk result (TakesEpoch self.old self.new epoch.now text.now (W.taken out.old) (W.taken out.new)) }
         ensures part { TakesEpochInPart self.old epoch.now text.now (W.taken out.old) (W.taken out.new) }
         ensures write_failed { IsErrOf result Write → CountRises (W.failures out.old) (W.failures out.new) }
         ensures no_failed_write { result ≢ Err Write → W.failures out.new ≡ W.failures out.old }
     {
-        if epoch.time().ms() % self.part.step_ms() == 0 {
+        if self.choice.has(epoch.time()) {
             return self.write_next_on_step(alloc, epoch, text, out);
         }
         self.slips.note(epoch);
@@ -116,7 +122,7 @@ impl PartWriter {
         ensures write_failed { IsErrOf result Write → CountRises (W.failures out.old) (W.failures out.new) }
         ensures no_failed_write { result ≢ Err Write → W.failures out.new ≡ W.failures out.old }
     {
-        let first = self.part.from.unwrap_or(self.heading.first);
+        let first = self.choice.from.unwrap_or(self.heading.first);
         put_after_header(alloc, &self.heading, self.is_begun, first, &[], out)
     }
 }

@@ -1,0 +1,88 @@
+-- The counts of a code (this project's rule). What came of the code is listed newest first.
+use Rattle.std.specs.Prelude.{ℕ, ◌+◌, ◌*◌, ◌/◌, ◌==◌, Bool, true, false, not, ◌&&◌, ◌||◌, List, [], ◌∷◌, get_or, count_by, Option, None, Some, is_some, is_none, unwrap_or, min, max, if◌then◌else◌}
+use Rattle.std.specs.List.{list_any, sum_by}
+use Rattle.rtk_rinex.specs.declared.epoch_table.Observed.{Observed}
+use Rattle.rtk_tracking.specs.Epochs.{capped}
+use Rattle.rtk_tracking.specs.Passes.{Sighting, is_known}
+use Rattle.rtk_quality.specs.declared.code_counts.CodeCounts.{CodeCounts}
+
+abbrev pub nothing_observed : Observed
+nothing_observed = record { range_mm = None; phase_millicycles = None; strength_millidbhz = None; slip = false; half = false }
+
+-- what the code at this place shows
+abbrev pub shown_at : ℕ → List Observed → Observed
+shown_at place os = get_or os place nothing_observed
+
+-- what a code shows in an epoch, and whether it had a phase earlier in the pass
+pub record Noted : Type 0 where
+  pub observed : Observed
+  pub known : Bool
+
+-- what came of a code of a satellite
+abbrev pub noted_of : ℕ → ℕ → List Sighting → List Noted
+noted_of gap place [] = []
+noted_of gap place (s ∷ before) =
+    record { observed = shown_at place s.observed; known = is_known gap place before s } ∷ noted_of gap place before
+
+-- the code has a range, a phase or a strength
+abbrev pub is_observed : Observed → Bool
+is_observed o = is_some o.range_mm || (is_some o.phase_millicycles || is_some o.strength_millidbhz)
+
+-- the lesser and the greater of two strengths, if there are two
+abbrev pub lesser_strength : Option ℕ → Option ℕ → Option ℕ
+lesser_strength None b = b
+lesser_strength (Some a) None = Some a
+lesser_strength (Some a) (Some b) = Some (min a b)
+
+abbrev pub greater_strength : Option ℕ → Option ℕ → Option ℕ
+greater_strength None b = b
+greater_strength (Some a) None = Some a
+greater_strength (Some a) (Some b) = Some (max a b)
+
+abbrev pub least_strength : List Noted → Option ℕ
+least_strength [] = None
+least_strength (n ∷ before) = lesser_strength n.observed.strength_millidbhz (least_strength before)
+
+abbrev pub greatest_strength : List Noted → Option ℕ
+greatest_strength [] = None
+greatest_strength (n ∷ before) = greater_strength n.observed.strength_millidbhz (greatest_strength before)
+
+-- formula
+-- the counts of what came of a code: its phases; its ranges without a phase; bit 0 of its digits, at the
+-- first phase in a pass (rises) and elsewhere (slips); bit 1 (half cycles); its strengths
+abbrev pub counts_of : List Noted → CodeCounts
+counts_of ns =
+    record {
+      seen = list_any (λ n. is_observed n.observed) ns;
+      phases = capped (count_by (λ n. is_some n.observed.phase_millicycles) ns);
+      ranges = capped (count_by (λ n. is_some n.observed.range_mm && not (is_some n.observed.phase_millicycles)) ns);
+      slips = capped (count_by (λ n. n.observed.slip && n.known) ns);
+      rises = capped (count_by (λ n. n.observed.slip && not n.known) ns);
+      halves = capped (count_by (λ n. n.observed.half) ns);
+      strengths = capped (count_by (λ n. is_some n.observed.strength_millidbhz) ns);
+      strength_sum = capped (sum_by (λ n. unwrap_or n.observed.strength_millidbhz 0) ns);
+      least = least_strength ns;
+      greatest = greatest_strength ns;
+    }
+
+-- ---- fractions, rounded once; of two alike the greater one
+
+-- formula
+-- a fraction in whole numbers
+abbrev pub rounded_fraction : ℕ → ℕ → ℕ
+rounded_fraction n d = (2 * n + d) / (2 * d)
+
+-- formula
+-- how many of those that could be there are there, in tenths of a percent
+abbrev pub percent_tenths : ℕ → ℕ → Option ℕ
+percent_tenths n possible = if possible == 0 then None else Some (capped (rounded_fraction (1000 * n) possible))
+
+-- formula
+-- how many phases there are for each slip
+abbrev pub phases_per_slip : ℕ → ℕ → Option ℕ
+phases_per_slip phases slips = if slips == 0 then None else Some (capped (rounded_fraction phases slips))
+
+-- formula
+-- the mean of strengths in hundredths of a dB-Hz; their sum is in thousandths
+abbrev pub mean_hundredths : ℕ → ℕ → Option ℕ
+mean_hundredths sum count = if count == 0 then None else Some (capped (rounded_fraction sum (10 * count)))

@@ -1,0 +1,5 @@
+pub mod Counts
+pub mod PassSpans
+pub mod Quality
+pub mod QualityText
+pub mod Standing

@@ -1,0 +1,49 @@
+-- The passes of a satellite with their spans (this project's rule). What came is listed newest first.
+use Rattle.std.specs.Prelude.{ℕ, ◌+◌, not, List, [], ◌∷◌, length, count_by, is_some, if◌then◌else◌}
+use Rattle.std.specs.List.{take_while, sum_by, range_with_len}
+use Rattle.rtk_rinex.specs.declared.epoch_table.Observed.{Observed}
+use Rattle.rtk_tracking.specs.Passes.{Sighting, has_phase, begins_pass, is_slip}
+
+-- a pass: the moments of its first and last phase, and its phases and slips
+pub record PassSpan : Type 0 where
+  pub from : ℕ
+  pub until : ℕ
+  pub phases : ℕ
+  pub slips : ℕ
+
+-- the phases of all codes in an epoch
+abbrev pub phases_in : List Observed → ℕ
+phases_in os = count_by (λ o. is_some o.phase_millicycles) os
+
+-- the slips of all codes in an epoch
+abbrev pub slips_at : ℕ → List Sighting → Sighting → ℕ
+slips_at gap before s = count_by (λ place. is_slip gap place before s) (range_with_len 0 16)
+
+-- one more epoch with a phase in the newest pass
+abbrev pub longer : Sighting → ℕ → List PassSpan → List PassSpan
+longer s slips [] = []
+longer s slips (p ∷ ps) = record { from = p.from; until = s.time; phases = p.phases + phases_in s.observed; slips = p.slips + slips } ∷ ps
+
+-- formula
+-- the passes of a satellite, the newest first
+abbrev pub passes_of : ℕ → List Sighting → List PassSpan
+passes_of gap [] = []
+passes_of gap (s ∷ before) =
+    if not (has_phase s.observed) then passes_of gap before
+    else (if begins_pass gap before s
+    then record { from = s.time; until = s.time; phases = phases_in s.observed; slips = slips_at gap before s } ∷ passes_of gap before
+    else longer s (slips_at gap before s) (passes_of gap before))
+
+-- how many epochs came since the last phase
+abbrev pub epochs_since_phase : List Sighting → ℕ
+epochs_since_phase before = length (take_while (λ s. not (has_phase s.observed)) before)
+
+-- formula
+-- how many epochs of the file lie within the passes of a satellite: from the first to the last phase of
+-- each
+abbrev pub epochs_in_passes : ℕ → List Sighting → ℕ
+epochs_in_passes gap [] = 0
+epochs_in_passes gap (s ∷ before) =
+    if not (has_phase s.observed) then epochs_in_passes gap before
+    else (if begins_pass gap before s then epochs_in_passes gap before + 1
+    else epochs_in_passes gap before + epochs_since_phase before + 1)
