@@ -28,7 +28,7 @@ bad_step() {
 
 # The files of the examples were laid by hand: slips at the seconds 7 and 20 of what is left out, one of them of a
 # satellite that is missing in the next record, and slips and half cycles of what is kept.
-# pins: step_ms, is_on_step
+# pins: is_near_step
 cut --every 30 "$file";                  leaves a_minute_at_30_seconds 0 "$root/examples/slip_30s.rnx" /dev/null
 cut --every 1 "$file";                   leaves at_its_own_step 0 "$file" /dev/null
 cut --from "$noon" "$file";              leaves from_its_begin 0 "$file" /dev/null
@@ -106,7 +106,7 @@ cut --every 86400 days; leaves a_slip_ten_days_before_the_step 0 want /dev/null
 for step in 5 10 15 20 120 300 600 900 1800 3600 7200 21600; do
     echo "$("$program" cut --every $step days | grep -cE '^>|[37]1$') records and slips at $step, not $((86400 / step + 7))"
 done | awk '$1 != $8' >got
-# pins: step_ms, is_on_step, has_slipped_since
+# pins: is_near_step, has_slipped_since
 same the_usual_steps got /dev/null
 
 # The first moment that a time can name, and the last minute.

@@ -1,8 +1,9 @@
 -- The picture of a table, from what was read of it.
 use Rattle.std.proofs.Common.{◌≡◌, ℕ, List, [], ◌∷◌, Bool, Option, Some, None, length, refl, ap, ◌∙◌}
 use Rattle.rtk_rinex.specs.Record.{EpochTableView}
-use Rattle.rtk_chart.specs.Epochs.{capped, newest_moment, slips_in}
-use Rattle.rtk_chart.specs.Interval.{steps_in, missing_in}
+use Rattle.rtk_tracking.specs.Epochs.{capped, newest_moment}
+use Rattle.rtk_chart.specs.Epochs.{slips_in}
+use Rattle.rtk_tracking.specs.Interval.{missing_in}
 use Rattle.rtk_chart.specs.Scale.{scale_of}
 use Rattle.rtk_chart.specs.Grid.{bins_of, gaps_of}
 use Rattle.rtk_chart.specs.TextPicture.{text_picture, text_of_none}
@@ -13,10 +14,6 @@ use Rattle.rtk_chart.specs.declared.scale.Scale.{Scale}
 use Rattle.rtk_chart.specs.declared.time_bin.TimeBin.{TimeBin}
 
 -- ---- a file without records
-
-pub no-steps : (es : List EpochTableView) → newest_moment es ≡ None → steps_in es ≡ []
-no-steps [] none = refl
-no-steps (e ∷ es) none = cc
 
 pub none-is : (marker : List ℕ) (first allowed : ℕ) (interval : Option ℕ) (es : List EpochTableView) → newest_moment es ≡ None
     → text_of_none marker ≡ text_of_epochs marker first interval allowed es

@@ -8,8 +8,9 @@ use Rattle.rtk_rinex.specs.Record.{EpochTableView}
 use Rattle.rtk_chart.specs.Scale.{bin_at}
 use Rattle.rtk_rinex.specs.declared.epoch_table.Observed.{Observed}
 use Rattle.rtk_rinex.specs.declared.epoch_table.SatelliteRow.{SatelliteRow}
-use Rattle.rtk_chart.specs.Epochs.{capped, newest_moment, shows_phase, observed_in, observed_by}
-use Rattle.rtk_chart.specs.Interval.{missing_before, missing_in}
+use Rattle.rtk_tracking.specs.Epochs.{capped, newest_moment, shows_phase, observed_in}
+use Rattle.rtk_chart.specs.Epochs.{observed_by}
+use Rattle.rtk_tracking.specs.Interval.{missing_before, missing_in}
 use Rattle.rtk_chart.specs.Grid.{coverage_of, tracking_in, bin_of, epochs_of_bin, bins_of, has_missing_before, has_missing, gaps_of}
 use Rattle.rtk_chart.specs.Steps.Standing.{AddsMarks}
 use Rattle.rtk_chart.specs.declared.tracking.Coverage.{Coverage}

@@ -5,10 +5,11 @@ use Rattle.rtk_obs.specs.Calendar.{ReadsAs}
 use Rattle.rtk_rinex.specs.Header.{IsMarker}
 use Rattle.rtk_rinex.specs.Reading.{IsMoment, reading_of}
 use Rattle.rtk_rinex.specs.Record.{EpochTableView}
-use Rattle.rtk_chart.specs.Epochs.{capped, slips_in}
+use Rattle.rtk_tracking.specs.Epochs.{capped}
+use Rattle.rtk_chart.specs.Epochs.{slips_in}
 use Rattle.rtk_obs.specs.CivilText.{civil_text}
 use Rattle.rtk_chart.specs.Heading.{seconds_text, interval_line}
-use Rattle.rtk_chart.specs.Interval.{missing_in}
+use Rattle.rtk_tracking.specs.Interval.{missing_in}
 use Rattle.rtk_chart.specs.Grid.{bins_of, gaps_of}
 use Rattle.rtk_chart.specs.TextPicture.{satellites_in, named_count_line, moment_line, text_heading, number_lines, satellite_rows, gap_row, time_rows, text_picture}
 use Rattle.rtk_chart.specs.SvgPicture.{number_between, interval_text, svg_span, svg_numbers, svg_start, svg_body, bands_end, svg_picture}

@@ -8,8 +8,9 @@ use Rattle.std.proofs.lemmas.List.FromFn.{get_or-map-range_with_len}
 use Rattle.std.proofs.lemmas.List.Sums.{sum_by-cons, count_by-le-length}
 use Rattle.rtk_rinex.specs.Record.{EpochTableView}
 use Rattle.rtk_rinex.specs.declared.epoch_table.Observed.{Observed}
-use Rattle.rtk_chart.specs.Epochs.{newest_moment, observed_in, observed_by, is_seen, shows_phase, has_slip, has_half, level_of, lesser, least_level, least_level_in, slips_of, slips_in}
-use Rattle.rtk_chart.specs.Interval.{steps_in, times_of_step, IsInterval, missing_in}
+use Rattle.rtk_tracking.specs.Epochs.{newest_moment, observed_in, shows_phase}
+use Rattle.rtk_chart.specs.Epochs.{observed_by, is_seen, has_slip, has_half, level_of, lesser, least_level, least_level_in, slips_of, slips_in}
+use Rattle.rtk_tracking.specs.Interval.{steps_in, times_of_step, IsInterval, nearest_intervals, missing_in}
 use Rattle.rtk_chart.specs.Scale.{bin_at}
 use Rattle.rtk_chart.specs.Grid.{coverage_of, coverages_of, tracking_in, trackings_of, bin_of, epochs_of_bin, bins_of, has_missing_before, has_missing, gaps_of}
 use Rattle.rtk_chart.specs.TextPicture.{tracking_at}
@@ -158,14 +159,14 @@ most-frequent steps step few is =
 turned : (a b : ℕ) → a + b ≡ b + a
 turned a b = omega arith
 
-pub missing-of-steps : (unit : ℕ) (es : List EpochTableView) → missing_in unit es ≡ sum_by (λ step. (step - 1) / unit) (steps_in es)
+pub missing-of-steps : (unit : ℕ) (es : List EpochTableView) → missing_in unit es ≡ sum_by (λ step. nearest_intervals unit step - 1) (steps_in es)
 missing-of-steps unit [] = refl
 missing-of-steps unit (e ∷ []) = refl
 missing-of-steps unit (e ∷ b ∷ before) =
     let step : ℕ = e.time - b.time in
-    ap (λ (n : ℕ). n + (step - 1) / unit) (missing-of-steps unit (b ∷ before))
-    ∙ turned (sum_by (λ (k : ℕ). (k - 1) / unit) (steps_in (b ∷ before))) ((step - 1) / unit)
-    ∙ sym (sum_by-cons (λ (k : ℕ). (k - 1) / unit) step (steps_in (b ∷ before)))
+    ap (λ (n : ℕ). n + (nearest_intervals unit step - 1)) (missing-of-steps unit (b ∷ before))
+    ∙ turned (sum_by (λ (k : ℕ). nearest_intervals unit k - 1) (steps_in (b ∷ before))) (nearest_intervals unit step - 1)
+    ∙ sym (sum_by-cons (λ (k : ℕ). nearest_intervals unit k - 1) step (steps_in (b ∷ before)))
 
 pub slips-digits : (es : List EpochTableView) → slips_in es ≡ sum_by (λ e. slips_of e.rows) es
 slips-digits [] = refl

@@ -6,7 +6,8 @@ use Rattle.std.proofs.lemmas.Bool.{eq-eqb, ne_eqb, cases_eq}
 use Rattle.std.proofs.lemmas.List.Elements.{All-head, All-tail}
 use Rattle.std.proofs.lemmas.List.FromFn.{get_or-map-range_with_len}
 use Rattle.rtk_rinex.specs.Record.{EpochTableView}
-use Rattle.rtk_chart.specs.Epochs.{is_seen, observed_in, observed_by}
+use Rattle.rtk_tracking.specs.Epochs.{observed_in}
+use Rattle.rtk_chart.specs.Epochs.{is_seen, observed_by}
 use Rattle.rtk_chart.specs.Scale.{bin_at}
 use Rattle.rtk_chart.specs.Grid.{tracking_in, trackings_of, bin_of, epochs_of_bin, bins_of}
 use Rattle.rtk_chart.specs.TextPicture.{tracking_at, is_drawn, drawn_before, satellites_in}

@@ -7,7 +7,7 @@ use Rattle.std.proofs.lemmas.List.{length-map}
 use Rattle.std.proofs.lemmas.List.FromFn.{length-map-range_with_len}
 use Rattle.std.proofs.lemmas.Nat.{mul-le, div-add-mod', mod_below}
 use Rattle.rtk_rinex.specs.Record.{EpochTableView}
-use Rattle.rtk_chart.specs.Scale.{IsScale, unit_of, intervals_of, scale_of}
+use Rattle.rtk_chart.specs.Scale.{IsScale, unit_of, half_of, intervals_of, scale_of}
 use Rattle.rtk_chart.specs.Grid.{bin_of, epochs_of_bin, bins_of, has_missing, gaps_of}
 use Rattle.rtk_chart.specs.Ticks.{tick_at}
 use Rattle.rtk_chart.specs.TextPicture.{tracking_at, character_of, row_head, satellite_row, gap_mark, gap_row, axis_mark, axis_row}
@@ -34,16 +34,16 @@ fewer k n unit shorter =
           absurd (omega (arith, longer, shorter))
     ]
 
-pub within : (first last size t : ℕ) → 0 < size → t ≤ last → (t - first) / size < (last - first) / size + 1
-within first last size t some to =
-    let sooner : t - first ≤ last - first = omega (arith, to) in
-    let most = div-mono (t - first) (last - first) size some sooner in
+pub within : (first last half size t : ℕ) → 0 < size → t ≤ last → (t - first + half) / size < (last - first + half) / size + 1
+within first last half size t some to =
+    let sooner : t - first + half ≤ last - first + half = omega (arith, to) in
+    let most = div-mono (t - first + half) (last - first + half) size some sooner in
     omega (arith, most)
 
 pub scale-fills : (first last allowed : ℕ) (interval : Option ℕ) → 0 < allowed → FillsRoom (scale_of first last interval allowed) allowed
 scale-fills first last allowed interval some =
     let unit = unit_of interval in
-    let span = last - first in
+    let span = last - first + half_of unit in
     let n = intervals_of span unit allowed in
     let long = unit-some interval in
     let any : 0 < span / (allowed * unit) + 1 = omega arith in
@@ -52,7 +52,7 @@ scale-fills first last allowed interval some =
       few = bins-few span unit allowed some long;
       whole = (n, any, refl);
       least = λ k more shorter. shorter-too-many span unit allowed k long more (fewer k n unit shorter);
-      each = λ t to. within first last (n * unit) t size to;
+      each = λ t to. within first last (half_of unit) (n * unit) t size to;
       last = refl;
     }
 

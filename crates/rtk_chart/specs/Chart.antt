@@ -2,8 +2,9 @@
 use Rattle.std.specs.Prelude.{◌≡◌, ℕ, ◌-◌, List, [], ◌∷◌, length, Option}
 use Rattle.rtk_rinex.specs.Record.{EpochTableView}
 use Rattle.rtk_rinex.specs.Table.{WellFormedTable, IsWellFormedTable, table_text}
-use Rattle.rtk_chart.specs.Epochs.{capped, newest_first, slips_in}
-use Rattle.rtk_chart.specs.Interval.{steps_in, IsInterval, missing_in}
+use Rattle.rtk_tracking.specs.Epochs.{capped, newest_first}
+use Rattle.rtk_chart.specs.Epochs.{slips_in}
+use Rattle.rtk_tracking.specs.Interval.{interval_of_file, missing_in}
 use Rattle.rtk_chart.specs.Scale.{scale_of}
 use Rattle.rtk_chart.specs.Grid.{bins_of, gaps_of}
 use Rattle.rtk_chart.specs.TextPicture.{text_picture, text_of_none}
@@ -26,8 +27,7 @@ text_of_epochs marker first interval allowed (e ∷ before) = text_at marker (sc
 -- the frame
 abbrev pub IsTextPicture : WellFormedTable → ℕ → List ℕ → Type 0
 IsTextPicture t width text =
-    (interval : Option ℕ) × IsInterval (steps_in (newest_first t.epochs)) interval
-    × (text ≡ text_of_epochs t.head.marker t.first interval (width - 5) (newest_first t.epochs))
+    text ≡ text_of_epochs t.head.marker t.first (interval_of_file t) (width - 5) (newest_first t.epochs)
 
 -- a text is the picture of each table whose text the file is; by one_table there is one
 abbrev pub ShowsTable : List ℕ → ℕ → List ℕ → Type 0
@@ -49,8 +49,7 @@ svg_of_epochs marker listed first interval (e ∷ before) = svg_at marker listed
 -- a text is the picture in SVG of a table
 abbrev pub IsSvgPicture : WellFormedTable → List ℕ → Type 0
 IsSvgPicture t text =
-    (interval : Option ℕ) × IsInterval (steps_in (newest_first t.epochs)) interval
-    × (text ≡ svg_of_epochs t.head.marker t.head.listed t.first interval (newest_first t.epochs))
+    text ≡ svg_of_epochs t.head.marker t.head.listed t.first (interval_of_file t) (newest_first t.epochs)
 
 -- a text is the picture of each table whose text the file is
 abbrev pub ShowsTableInSvg : List ℕ → List ℕ → Type 0

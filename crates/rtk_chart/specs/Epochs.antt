@@ -4,28 +4,7 @@ use Rattle.std.specs.List.{fold, list_any, sum_by}
 use Rattle.rtk_rinex.specs.Record.{EpochTableView}
 use Rattle.rtk_rinex.specs.declared.epoch_table.Observed.{Observed}
 use Rattle.rtk_rinex.specs.declared.epoch_table.SatelliteRow.{SatelliteRow}
-
--- a count as it is shown: it stays at the greatest value of a u64, which no test reaches
-abbrev pub capped : ℕ → ℕ
-capped n = min n 18_446_744_073_709_551_615
-
--- epochs that come after others, in this order
-abbrev pub epochs_onto : List EpochTableView → List EpochTableView → List EpochTableView
-epochs_onto [] before = before
-epochs_onto (e ∷ es) before = epochs_onto es (e ∷ before)
-
-abbrev pub newest_first : List EpochTableView → List EpochTableView
-newest_first epochs = epochs_onto epochs []
-
--- the moment of the newest epoch
-abbrev pub newest_moment : List EpochTableView → Option ℕ
-newest_moment [] = None
-newest_moment (e ∷ before) = Some e.time
-
--- what the codes of a satellite show in an epoch, by its rows; nothing if it has no row
-abbrev pub observed_in : ℕ → List SatelliteRow → List Observed
-observed_in satellite [] = []
-observed_in satellite (r ∷ rows) = if r.satellite == satellite then r.observed.items else observed_in satellite rows
+use Rattle.rtk_tracking.specs.Epochs.{observed_in}
 
 -- what the codes of a satellite show in each of these epochs
 abbrev pub observed_by : ℕ → List EpochTableView → List (List Observed)
@@ -34,12 +13,6 @@ observed_by satellite es = map (λ e. observed_in satellite e.rows) es
 -- the satellite has a row
 abbrev pub is_seen : List Observed → Bool
 is_seen os = not (length os == 0)
-
--- the phase of the code at this place stands
-abbrev pub shows_phase : ℕ → List Observed → Bool
-shows_phase place [] = false
-shows_phase zero (o ∷ os) = is_some o.phase_millicycles
-shows_phase (suc place) (o ∷ os) = shows_phase place os
 
 -- a loss-of-lock digit has bit 0: a cycle slip (RINEX 3.05, Table A3)
 abbrev pub has_slip : List Observed → Bool

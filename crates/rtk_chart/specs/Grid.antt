@@ -3,8 +3,9 @@ use Rattle.std.specs.Prelude.{ℕ, ◌+◌, ◌*◌, ◌==◌, nat_lt, nat_le, B
 use Rattle.std.specs.List.{list_any, range_with_len}
 use Rattle.rtk_rinex.specs.Record.{EpochTableView}
 use Rattle.rtk_rinex.specs.declared.epoch_table.Observed.{Observed}
-use Rattle.rtk_chart.specs.Epochs.{newest_moment, observed_by, is_seen, shows_phase, has_slip, has_half, least_level_in}
-use Rattle.rtk_chart.specs.Interval.{missing_before}
+use Rattle.rtk_tracking.specs.Epochs.{newest_moment, shows_phase}
+use Rattle.rtk_chart.specs.Epochs.{observed_by, is_seen, has_slip, has_half, least_level_in}
+use Rattle.rtk_tracking.specs.Interval.{missing_before}
 use Rattle.rtk_chart.specs.Scale.{bin_at}
 use Rattle.rtk_chart.specs.declared.scale.Scale.{Scale}
 use Rattle.rtk_chart.specs.declared.tracking.Coverage.{Coverage}

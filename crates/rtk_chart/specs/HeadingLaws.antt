@@ -7,8 +7,9 @@ use Rattle.rtk_obs.specs.declared.code.Code.{Code}
 use Rattle.rtk_rinex.specs.Header.{IsMarker}
 use Rattle.rtk_rinex.specs.Record.{EpochTableView}
 use Rattle.rtk_rinex.specs.Table.{WellFormedTable, IsWellFormedTable}
-use Rattle.rtk_chart.specs.Epochs.{capped, newest_first, is_seen, observed_by, slips_in}
-use Rattle.rtk_chart.specs.Interval.{steps_in, IsInterval, missing_in}
+use Rattle.rtk_tracking.specs.Epochs.{capped, newest_first}
+use Rattle.rtk_chart.specs.Epochs.{is_seen, observed_by, slips_in}
+use Rattle.rtk_tracking.specs.Interval.{steps_in, IsInterval, missing_in}
 use Rattle.rtk_chart.specs.Scale.{IsScale, unit_of, scale_of, bin_at}
 use Rattle.rtk_chart.specs.Grid.{bins_of}
 use Rattle.rtk_chart.specs.TextPicture.{satellites_in, text_heading, number_lines}

@@ -3,7 +3,6 @@ pub mod Epochs
 pub mod Grid
 pub mod Heading
 pub mod HeadingLaws
-pub mod Interval
 pub mod Laws
 pub mod Layers
 pub mod MarkLaws

@@ -3,8 +3,9 @@ use Rattle.std.specs.Prelude.{◌≡◌, ◌≤◌, ◌<◌, ◌↔◌, ℕ, ◌
 use Rattle.std.specs.List.{list_any, sum_by}
 use Rattle.rtk_rinex.specs.Record.{EpochTableView}
 use Rattle.rtk_rinex.specs.declared.epoch_table.Observed.{Observed}
-use Rattle.rtk_chart.specs.Epochs.{newest_moment, observed_in, is_seen, shows_phase, has_slip, has_half, level_of, slips_in}
-use Rattle.rtk_chart.specs.Interval.{steps_in, IsInterval, missing_in}
+use Rattle.rtk_tracking.specs.Epochs.{newest_moment, observed_in, shows_phase}
+use Rattle.rtk_chart.specs.Epochs.{is_seen, has_slip, has_half, level_of, slips_in}
+use Rattle.rtk_tracking.specs.Interval.{steps_in, IsInterval, nearest_intervals, missing_in}
 use Rattle.rtk_chart.specs.Scale.{bin_at}
 use Rattle.rtk_chart.specs.Grid.{bin_of, bins_of, has_missing_before, gaps_of}
 use Rattle.rtk_chart.specs.TextPicture.{tracking_at}
@@ -70,7 +71,7 @@ IntervalIsMostFrequent =
 
 -- the missing epochs of a file are those of its steps
 abbrev pub MissingAreOfSteps : Type 0
-MissingAreOfSteps = (unit : ℕ) (es : List EpochTableView) → missing_in unit es ≡ sum_by (λ step. (step - 1) / unit) (steps_in es)
+MissingAreOfSteps = (unit : ℕ) (es : List EpochTableView) → missing_in unit es ≡ sum_by (λ step. nearest_intervals unit step - 1) (steps_in es)
 
 -- the slips of a file are the digits with bit 0, of each code of each satellite in each epoch
 abbrev pub SlipsAreDigits : Type 0

@@ -24,7 +24,7 @@ pub fn chart_text(alloc: Global, table: &Table<'_>, width: u16) -> Result<Vec<u8
     let heading = table.heading();
     let survey = survey_records(alloc, table, heading.first)?;
     let marker = heading.head.marker();
-    let Some(last) = survey.last else {
+    let Some(last) = survey.steps.last() else {
         let text = text_of_none(alloc, marker)?;
         return Ok(text);
     };
@@ -45,7 +45,7 @@ pub fn chart_svg(alloc: Global, table: &Table<'_>) -> Result<Vec<u8>, AllocError
     let survey = survey_records(alloc, table, heading.first)?;
     let marker = heading.head.marker();
     let codes = heading.head.codes();
-    let Some(last) = survey.last else {
+    let Some(last) = survey.steps.last() else {
         let svg = svg_of_none(alloc, marker)?;
         return Ok(svg);
     };

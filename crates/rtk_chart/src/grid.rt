@@ -3,7 +3,7 @@
 ghost use Rattle.std.specs.Prelude.{◌≡◌, ◌&&◌, nat_le, Some, List, [], ◌∷◌, length, IfOk};
 ghost use Rattle.rtk_rinex.specs.Reading.{IsMoment};
 ghost use Rattle.rtk_rinex.specs.Record.{EpochTableView};
-ghost use Rattle.rtk_chart.specs.Interval.{missing_before};
+ghost use Rattle.rtk_tracking.specs.Interval.{missing_before};
 ghost use Rattle.rtk_chart.specs.Scale.{IsScale};
 ghost use Rattle.rtk_chart.specs.Grid.{bins_of, has_missing_before};
 ghost use Rattle.rtk_chart.specs.Steps.Standing.{AddsMarks, CountsMissing, StandsForGrid};
@@ -12,6 +12,7 @@ use crate::scale::Scale;
 use crate::time_bin::TimeBin;
 use rtk_obs::GpsMs;
 use rtk_rinex::EpochTable;
+use rtk_tracking::missing_between;
 use std::alloc::{AllocError, Global};
 
 /// The bins with what was read, and the epochs that are missing.
@@ -34,14 +35,6 @@ fn mark(gaps: &mut Vec<bool>, from: u64, to: u64)
             gaps[bin] = true;
         }
     }
-}
-
-// How many epochs are missing between two moments.
-fn missing_between(scale: &Scale, before: u64, moment: u64) -> u64
-    requires { IsScale scale.now }
-    ensures { result ≡ missing_before scale.now.unit (Some before) moment }
-{
-    moment.saturating_sub(before).saturating_sub(1) / scale.unit
 }
 
 // Marks the bins of the epochs that are missing between two moments, which are so many.
@@ -96,7 +89,7 @@ impl Grid {
     {
         let moment = epoch.time();
         if let Some(last) = self.last {
-            let missing = missing_between(scale, last.ms(), moment.ms());
+            let missing = missing_between(scale.unit, last.ms(), moment.ms());
             self.missing = self.missing.saturating_add(missing);
             mark_missing(&mut self.gaps, scale, last.ms(), moment.ms(), missing);
         }

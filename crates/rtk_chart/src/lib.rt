@@ -39,7 +39,6 @@ mod layer;
 mod observations;
 mod passes;
 mod scale;
-mod steps;
 mod survey;
 mod svg_bands;
 mod svg_layers;

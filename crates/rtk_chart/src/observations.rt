@@ -1,34 +1,16 @@
 //! What an epoch shows of a satellite.
 
 ghost use Rattle.std.specs.Prelude.{◌≡◌, ◌+◌, ℕ, count_by};
-ghost use Rattle.rtk_chart.specs.Epochs.{observed_in, shows_phase, is_seen, has_slip, has_half, lesser, least_level, level_of, slips_of, capped};
+ghost use Rattle.rtk_tracking.specs.Epochs.{capped};
+ghost use Rattle.rtk_chart.specs.Epochs.{is_seen, has_slip, has_half, lesser, least_level, level_of, slips_of};
 
 use rtk_rinex::{Observed, SatelliteRow};
-
-/// What the codes of a satellite show, by the rows of an epoch; nothing if it has no row.
-pub(crate) fn observed_in(rows: &[SatelliteRow], satellite: u8) -> &[Observed]
-    ensures { result.now ≡ observed_in satellite rows.now }
-{
-    for row in rows {
-        if row.satellite == satellite {
-            return row.observed.as_slice();
-        }
-    }
-    &[]
-}
 
 /// The satellite has a row.
 pub(crate) fn is_seen(observed: &[Observed]) -> bool
     ensures { result ≡ is_seen observed.now }
 {
     !observed.is_empty()
-}
-
-/// The phase of the code at this place stands.
-pub(crate) fn shows_phase(observed: &[Observed], place: usize) -> bool
-    ensures { result ≡ shows_phase place observed.now }
-{
-    place < observed.len() && observed[place].phase_millicycles.is_some()
 }
 
 /// A phase has slipped.

@@ -5,9 +5,8 @@ ghost use Rattle.rtk_rinex.specs.Record.{EpochTableView};
 ghost use Rattle.rtk_chart.specs.Steps.Standing.{StandsForSurvey};
 
 use crate::observations::with_slips;
-use crate::steps::Steps;
-use rtk_obs::GpsMs;
 use rtk_rinex::EpochTable;
+use rtk_tracking::StepCounts;
 use std::alloc::{AllocError, Global};
 
 /// What is known of the records that were looked at.
@@ -15,9 +14,7 @@ use std::alloc::{AllocError, Global};
 pub(crate) struct Survey {
     pub(crate) records: u64,
     pub(crate) slips: u64,
-    /// The moment of the last one.
-    pub(crate) last: Option<GpsMs>,
-    pub(crate) steps: Steps,
+    pub(crate) steps: StepCounts,
 }
 
 impl Survey {
@@ -28,8 +25,7 @@ impl Survey {
         Survey {
             records: 0,
             slips: 0,
-            last: None,
-            steps: Steps::new(alloc),
+            steps: StepCounts::new(alloc),
         }
     }
 
@@ -37,13 +33,9 @@ impl Survey {
     pub(crate) fn count_record(&mut self, epoch: &EpochTable) -> Result<(), AllocError>
         ensures { OnOk result ((es : List EpochTableView) → StandsForSurvey self.old es → StandsForSurvey self.new (epoch.now ∷ es)) }
     {
-        let time = epoch.time();
-        if let Some(last) = self.last {
-            self.steps.add_step(time.ms().saturating_sub(last.ms()))?;
-        }
+        self.steps.note_epoch(epoch)?;
         self.records = self.records.saturating_add(1);
         self.slips = with_slips(self.slips, epoch.rows());
-        self.last = Some(time);
         Ok(())
     }
 }

@@ -4,9 +4,9 @@ ghost use Rattle.std.specs.Prelude.{◌≡◌, List, [], ◌∷◌};
 ghost use Rattle.rtk_rinex.specs.Record.{EpochTableView};
 ghost use Rattle.rtk_chart.specs.Grid.{trackings_of, bin_of};
 
-use crate::observations::observed_in;
 use crate::tracking::Tracking;
 use rtk_rinex::EpochTable;
+use rtk_tracking::observed_in;
 
 /// The tracking of the satellites 1 to 32.
 #[derive(Clone, Copy)]

@@ -4,8 +4,9 @@ ghost use Rattle.std.specs.Prelude.{◌≡◌, ◌||◌, not, List, [], ◌∷�
 ghost use Rattle.rtk_rinex.specs.declared.epoch_table.Observed.{Observed};
 ghost use Rattle.rtk_chart.specs.Grid.{coverages_of, tracking_in};
 
-use crate::observations::{has_half, has_slip, is_seen, least_level, lesser, shows_phase};
+use crate::observations::{has_half, has_slip, is_seen, least_level, lesser};
 use rtk_rinex::Observed;
+use rtk_tracking::shows_phase;
 
 /// Whether the phase of a code stands in some of the epochs, and is missing in some of them.
 #[derive(Clone, Copy)]

@@ -101,7 +101,7 @@ record-written c t earlier left e shown changed text next on spans is same =
     let new : EpochTableView = cut_epoch (step_of c.choice) earlier e in
     let own : List ℕ = text_or_new changed text shown in
     let time : ℕ = shown.time in
-    left-in c.part t c.is_begun earlier e left on spans
+    left-in c.choice t c.is_begun earlier e left on spans
     ∙ sym (ap (λ (h : HeadView). (header_unless c.is_begun h (position_view c.heading.position) time ++ own) ++ rest) next.heading.0
     ∙ ap (λ (s : PositionView). (header_unless c.is_begun t.head s time ++ own) ++ rest) next.heading.1
     ∙ ap (λ (x : EpochTableView). (header_unless c.is_begun t.head t.site x.time ++ own) ++ rest) is

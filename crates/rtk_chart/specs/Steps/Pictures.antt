@@ -3,7 +3,7 @@ use Rattle.std.specs.Prelude.{◌≡◌, ℕ, List}
 use Rattle.rtk_obs.specs.declared.code.Code.{Code}
 use Rattle.rtk_rinex.specs.Record.{EpochTableView}
 use Rattle.rtk_rinex.specs.Table.{WellFormedTable, IsWellFormedTable, table_text}
-use Rattle.rtk_chart.specs.Epochs.{newest_first}
+use Rattle.rtk_tracking.specs.Epochs.{newest_first}
 use Rattle.rtk_chart.specs.TextPicture.{satellites_in, number_lines, text_picture}
 use Rattle.rtk_chart.specs.SvgPicture.{svg_picture}
 use Rattle.rtk_chart.specs.declared.scale.Scale.{Scale}

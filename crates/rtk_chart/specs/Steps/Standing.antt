@@ -1,35 +1,19 @@
 -- What the parts of a chart hold, tied to the epochs that came so far.
 use Rattle.std.specs.Prelude.{◌≡◌, ◌<◌, ℕ, Bool, false, ◌||◌, List, [], ◌∷◌, length, get_or, Option, None, Some, unwrap_or}
-use Rattle.std.specs.BTreeMap.{get, BTreeMap}
-use Rattle.std.specs.Ordering.{nat_cmp}
 use Rattle.rtk_rinex.specs.Record.{EpochTableView}
-use Rattle.rtk_chart.specs.Epochs.{capped, newest_moment, slips_in}
-use Rattle.rtk_chart.specs.Interval.{steps_in, times_of_step, IsMostFrequent, missing_in}
+use Rattle.rtk_tracking.specs.Epochs.{capped, newest_moment}
+use Rattle.rtk_chart.specs.Epochs.{slips_in}
+use Rattle.rtk_tracking.specs.Interval.{missing_in}
+use Rattle.rtk_tracking.specs.Standing.{StandsForStepsBetween}
 use Rattle.rtk_chart.specs.Grid.{bins_of, gaps_of}
-use Rattle.rtk_chart.specs.declared.steps.Frequent.{Frequent}
-use Rattle.rtk_chart.specs.declared.steps.Steps.{Steps}
 use Rattle.rtk_chart.specs.declared.survey.Survey.{Survey}
 use Rattle.rtk_chart.specs.declared.scale.Scale.{Scale}
 use Rattle.rtk_chart.specs.declared.grid.Grid.{Grid}
 
--- how often each step came
-abbrev pub CountsSteps : BTreeMap ℕ ℕ → List ℕ → Type 0
-CountsSteps counts steps = (q : ℕ) → unwrap_or (get nat_cmp counts q) 0 ≡ times_of_step q steps
-
--- the most frequent step so far, and how often it came
-abbrev pub IsFrequent : Option Frequent → List ℕ → Type 0
-IsFrequent None steps = steps ≡ []
-IsFrequent (Some f) steps = IsMostFrequent steps f.step × (f.count ≡ times_of_step f.step steps)
-
-pub record StandsForSteps (s : Steps) (steps : List ℕ) : Type 0 where
-  pub counts : CountsSteps s.counts steps
-  pub frequent : IsFrequent s.frequent steps
-
 pub record StandsForSurvey (s : Survey) (es : List EpochTableView) : Type 0 where
   pub records : s.records ≡ capped (length es)
   pub slips : s.slips ≡ capped (slips_in es)
-  pub last : s.last ≡ newest_moment es
-  pub steps : StandsForSteps s.steps (steps_in es)
+  pub steps : StandsForStepsBetween s.steps es
 
 -- marks, one for each bin: those of before stay, and the bins that pass a test get one
 pub record AddsMarks (test : ℕ → Bool) (old new : List Bool) : Type 0 where

@@ -1,5 +1,6 @@
 use Rattle.std.proofs.Common.{◌≡◌, ◌+◌, ℕ, take}
-use Rattle.rtk_chart.specs.Epochs.{capped, slips_of}
+use Rattle.rtk_tracking.specs.Epochs.{capped}
+use Rattle.rtk_chart.specs.Epochs.{slips_of}
 use Rattle.rtk_chart.proofs.observations.with_slips.Given as goal
 
 abbrev pub invariant-loop-row : goal.invariant-loop-row
