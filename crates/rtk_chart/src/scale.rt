@@ -39,15 +39,16 @@ impl Scale {
         ensures good { IsScale result }
     {
         let unit = unit_of(interval);
-        let span = last.ms().saturating_sub(first.ms()) + (unit - 1) / 2;
-        let bin_ms = (span / (allowed * unit) + 1) * unit;
+        let span = last.ms().saturating_sub(first.ms());
+        let reach = span + (unit - 1) / 2;
+        let bin_ms = (reach / (allowed * unit) + 1) * unit;
         Scale {
             first,
             last,
             interval,
             unit,
             bin_ms,
-            bins: span / bin_ms + 1,
+            bins: reach / bin_ms + 1,
         }
     }
 
