@@ -140,9 +140,11 @@ def main():
     wrong = text.rindex(b"\nG08") + 4
     test("check_of_a_fault_in_200_mb", ["check"], text[:wrong] + b"%14s" % b"0.000" + text[wrong + 14:], 3,
         b"line %d: C3 Value\n" % text.count(b"\n"))
-    test("part_of_200_mb", ["cut", "--from", "2024-05-17T12:00:00"], text, 0, text)
+    many, parted = text.count(b"\n> "), text_of(few, 10)
+    test("part_of_200_mb", ["cut", "--from", "2024-05-17T12:00:00"], text, 0, text, b"records %d written %d\n" % (many, many))
     # pins: is_near_step, has_slipped_since
-    test("seconds_of_200_mb", ["cut", "--every", "1"], slipped(text, 1_100_381), 0, slipped(text_of(few, 10), 1_100_390))
+    test("seconds_of_200_mb", ["cut", "--every", "1"], slipped(text, 1_100_381), 0, slipped(parted, 1_100_390),
+        b"records %d written %d\n" % (many, parted.count(b"\n> ")))
     # Of the slips all but the first L1 of four satellites, and the last L2 of two.
     slips, missing = 2 * EPOCHS - 4 + 2, (LAST - 100 * (EPOCHS - 2)) // 100 - 1
     # pins: number_lines, named_count_line

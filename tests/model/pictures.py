@@ -1,10 +1,11 @@
 """The slow model of pictures: each column is asked for its epochs, one after another."""
-# pins: IsMostFrequent, missing_before, bin_length, has_missing, IsScale, unit_of
+# pins: IsMostFrequent, missing_before, nearest_intervals, bin_length, has_missing, IsScale, unit_of, half_of
 
 from __future__ import annotations
 
 from collections import Counter
 from collections.abc import Iterable
+from fractions import Fraction
 from pathlib import Path
 from typing import NamedTuple
 
@@ -72,6 +73,11 @@ def character(epochs: list[Epoch], name: str, codes: int) -> str:
     return str(min(levels)) if levels else "." if any(c.phase for c in cells) else " "
 
 
+def nearest(step: int, interval: int) -> int:
+    """How many intervals a step has: the nearest whole number; a half counts down."""
+    return round(Fraction(step, interval) - Fraction(1, 10**9))
+
+
 def moment(time: int) -> str:
     return f"{START + time * MS:%Y-%m-%d %H:%M:%S}.{time % 1000:03}"
 
@@ -96,12 +102,13 @@ class Drawn:
         steps = Counter(b - a for a, b in zip(times, times[1:]))
         self.interval = interval = min(steps, key=lambda step: (-steps[step], step)) if steps else None
         # The missing epochs after each epoch. They may be many millions, so they are no list.
-        missing = [range(a + interval, b, interval) for a, b in zip(times, times[1:])] if interval else []
+        missing = [range(a + interval, a + interval * nearest(b - a, interval), interval) for a, b in zip(times, times[1:])] if interval else []
         self.missing = sum(map(len, missing))
         self.first, self.last = times[0], times[-1]
         unit = interval or 1
         # the least multiple with which the last epoch has a column
-        self.length = unit * ((self.last - self.first) // (unit * most) + 1)
+        self.half = (unit - 1) // 2
+        self.length = unit * ((self.last - self.first + self.half) // (unit * most) + 1)
         self.columns = self.column(self.last) + 1
         self.parts: list[list[Epoch]] = [[] for _ in range(self.columns)]
         for epoch in self.epochs:
@@ -111,14 +118,16 @@ class Drawn:
         self.gaps = {c for begin, end in ends for c in range(begin, end + 1)}
 
     def column(self, time: int) -> int:
-        return (time - self.first) // self.length
+        """The column of the interval that is nearest to a time."""
+        return (time - self.first + self.half) // self.length
 
     def ticks(self, least: int) -> dict[int, str]:
         """What stands at the ticks, by their columns; they are so far apart at least."""
         step = next((s for s in STEPS if s >= least), -(-least // DAY) * DAY)
         ticks = {}
         for c in range(self.columns):
-            begin, end = self.first + c * self.length, min(self.first + (c + 1) * self.length - 1, self.last)
+            begin = max(0, self.first + c * self.length - self.half)
+            end = min(begin + self.length - 1, self.last)
             if end // step * step >= begin:
                 label = moment(end // step * step)
                 ticks[c] = label[:10] if step >= DAY else label[11:19].ljust(10)

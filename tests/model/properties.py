@@ -203,8 +203,8 @@ def cut_as_modelled(case: Case) -> Answer:
     part = Part(since, until, case.rng.choice((None, *steps) if since or until else steps))
     if any(it and not 1980 <= it.year <= 2100 for it in (since, until)):
         return NOT_MET
-    run = case.program.on(case.base.out, "cut", *part.words())
-    return ends_with(run, 0, part_of(text, part).encode(), b"")
+    run, want = case.program.on(case.base.out, "cut", *part.words()), part_of(text, part)
+    return ends_with(run, 0, want.encode(), b"records %d written %d\n" % (len(times), want.count("\n> ")))
 
 
 def hex_shown_as_bytes(case: Case) -> Answer:

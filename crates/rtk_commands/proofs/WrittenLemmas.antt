@@ -12,4 +12,4 @@ pub picture-follows : PictureFollows
 picture-follows width text first last drawn = (drawn.0, (drawn.1.0, drawn.1.1, same-bytes first drawn.1.0 last drawn.1.2))
 
 pub part-follows : PartFollows
-part-follows text first last part written = (written.0, λ t is same. same-bytes first _ last (written.1 t is same))
+part-follows text first last part counts written = (written.0, λ t is same. same-bytes first _ last (written.1 t is same))

@@ -3,7 +3,9 @@
 use Rattle.std.specs.Prelude.{◌≡◌, ℕ, Bool, List, ◌++◌, Option, None, Some}
 use Rattle.rtk_rinex.specs.Table.{WellFormedTable, IsWellFormedTable, table_text}
 use Rattle.rtk_cut.specs.declared.part.Part.{Part}
+use Rattle.rtk_cut.specs.declared.counts.CutCounts.{CutCounts}
 use Rattle.rtk_cut.specs.Cut.{cut_of}
+use Rattle.rtk_commands.specs.declared.cutting.CutAnswer.TheVariants.{Written}
 use Rattle.rtk_commands.specs.CheckInput.{SaysVerdict, Tells}
 use Rattle.rtk_commands.specs.CheckedInput.{IsTextOfSomeTable}
 use Rattle.rtk_commands.specs.ChartInput.{IsPicture, ChartsOrRefuses}
@@ -24,5 +26,5 @@ PictureFollows =
 -- the part of a file
 abbrev pub PartFollows : Type 0
 PartFollows =
-    (text first last : List ℕ) (part : Part) → CutsOrRefuses text part None (Some first) (Some last)
+    (text first last : List ℕ) (part : Part) (counts : CutCounts) → CutsOrRefuses text part (Written counts) (Some first) (Some last)
     → IsTextOfSomeTable text × ((t : WellFormedTable) → IsWellFormedTable t → text ≡ table_text t → last ≡ first ++ table_text (cut_of part t))

@@ -4,7 +4,7 @@ ghost use Rattle.std.specs.Prelude.{◌≡◌, ◌≢◌, ◌⊎◌, ℕ, ◌<�
 ghost use Rattle.std.specs.Io.KnownBytes.{Keeps, append_known};
 ghost use Rattle.rtk_frame.specs.Stream.{CountRises};
 ghost use Rattle.rtk_cut.specs.Cut.{IsStepOrNone};
-ghost use Rattle.rtk_cut.specs.CutWriting.{WritesPart, WritesFirstOfPart};
+ghost use Rattle.rtk_cut.specs.CutWriting.{WritesPart, CountsPart, WritesFirstOfPart};
 ghost use Rattle.rtk_streams.specs.Input.{GivesText, ReadsWhole};
 ghost use Rattle.rtk_streams.specs.Passed.{taken_of};
 ghost use Rattle.rtk_commands.specs.CutInput.{CutsText};
@@ -13,7 +13,7 @@ ghost use Rattle.rtk_streams.specs.declared.exit_status.TheConstants.{NOT_VALID}
 ghost use Rattle.rtk_streams.specs.declared.fault.ToolFault.TheVariants.{Input, TooLong, NotHex, OutOfMemory, Output};
 
 use crate::checking::CHECK_LIMIT;
-use rtk_cut::{CutFault, Part};
+use rtk_cut::{CutCounts, CutFault, Part};
 use rtk_frame::{Sink, Source, StreamFault};
 use rtk_rinex::{CheckFault, Table, check};
 use rtk_streams::{
@@ -26,15 +26,24 @@ use std::io;
 use std::io::{BufWriter, Read, Write};
 use std::marker::Brand;
 
+/// What came of a file: how many records it and its part have, or the fault for which `check` refuses
+/// it.
+#[derive(Clone, Copy, Debug, PartialEq, Eq)]
+pub enum CutAnswer {
+    Written(CutCounts),
+    Refused(CheckFault),
+}
+
 // Writes the part of a table.
 fn cut_table<W: Sink>(
     alloc: Global,
     table: &Table<'_>,
     part: Part,
     out: &mut W,
-) -> Result<(), ToolFault>
+) -> Result<CutCounts, ToolFault>
     requires step { IsStepOrNone part.every }
     ensures all { OnOk result (WritesPart table.now.text part (W.taken out.old) (W.taken out.new)) }
+    ensures counts { IfOk result (CountsPart table.now.text part) }
     ensures first { OnErr result (WritesFirstOfPart table.now.text part (W.taken out.old) (W.taken out.new)) }
     ensures output { IsErrOf result Output → CountRises (W.failures out.old) (W.failures out.new) }
     ensures no_failed_write { result ≢ Err Output → W.failures out.new ≡ W.failures out.old }
@@ -43,7 +52,7 @@ fn cut_table<W: Sink>(
     ensures not_hex { IsErrOf result NotHex → ⊥ }
 {
     match rtk_cut::cut(alloc, table, part, out) {
-        Ok(()) => Ok(()),
+        Ok(counts) => Ok(counts),
         Err(CutFault::OutOfMemory) => Err(ToolFault::OutOfMemory),
         Err(CutFault::Write) => Err(ToolFault::Output),
     }
@@ -56,10 +65,10 @@ fn cut_input<R: Source, W: Sink>(
     reader: &mut R,
     part: Part,
     out: &mut W,
-) -> Result<Option<CheckFault>, ToolFault>
+) -> Result<CutAnswer, ToolFault>
     requires step { IsStepOrNone part.every }
-    ensures told { IfOk result (λ refusal. GivesText (R.given reader.old) (R.given reader.new) (λ text.
-        CutsText part refusal text (W.taken out.old) (W.taken out.new))) }
+    ensures told { IfOk result (λ answer. GivesText (R.given reader.old) (R.given reader.new) (λ text.
+        CutsText part answer text (W.taken out.old) (W.taken out.new))) }
     ensures whole { ReadsWhole R.given R.failures R.is_at_end CHECK_LIMIT (λ _. ⊥) reader.old reader.new result }
     ensures output { IsErrOf result Output → CountRises (W.failures out.old) (W.failures out.new) }
     ensures no_failed_write { result ≢ Err Output → W.failures out.new ≡ W.failures out.old }
@@ -75,19 +84,19 @@ fn cut_input<R: Source, W: Sink>(
     let text = read_whole(alloc, reader, CHECK_LIMIT)?;
     match check(text.as_slice()) {
         Ok(table) => {
-            cut_table(alloc, &table, part, out)?;
-            Ok(None)
+            let counts = cut_table(alloc, &table, part, out)?;
+            Ok(CutAnswer::Written(counts))
         }
-        Err(fault) => Ok(Some(fault)),
+        Err(fault) => Ok(CutAnswer::Refused(fault)),
     }
 }
 
 // What was cut or refused is told only if all that was written is out.
 fn if_out(
-    cut: Result<Option<CheckFault>, ToolFault>,
+    cut: Result<CutAnswer, ToolFault>,
     written: Result<(), StreamFault>,
-) -> Result<Option<CheckFault>, ToolFault>
-    ensures done { IfOk result (λ refusal. (cut ≡ Ok refusal) × IsOk written) }
+) -> Result<CutAnswer, ToolFault>
+    ensures done { IfOk result (λ answer. (cut ≡ Ok answer) × IsOk written) }
     ensures fault { IfErr result (λ fault. (cut ≡ Err fault) ⊎ (fault ≡ Output)) }
 {
     match written {
@@ -104,8 +113,8 @@ fn if_out(
 pub struct Cut<W> {
     /// The writer.
     pub out: W,
-    /// The fault of a file that `check` refuses, or why the part is not out.
-    pub done: Result<Option<CheckFault>, ToolFault>,
+    /// What came of the file, or why the part is not out.
+    pub done: Result<CutAnswer, ToolFault>,
 }
 
 // `cut_input` over the reader and the writer of number 0, by what `K` knows of them.
@@ -120,8 +129,8 @@ fn cut_by<R: Read + Drop, W: Write + Drop, K: Before>(
     requires had { Keeps (K.had 0) (R.remaining reader) }
     requires held { Keeps (K.held 0) (W.contents out) }
     requires one { (n : ℕ) → K.held n ≡ K.held 0 }
-    ensures told { IfOk result (λ cut. IfOk cut.done (λ refusal. IfSome (K.had 0) (λ text.
-        CutsText part refusal text (K.held 0) (taken_of (K.held 0) (W.contents cut.out))))) }
+    ensures told { IfOk result (λ cut. IfOk cut.done (λ answer. IfSome (K.had 0) (λ text.
+        CutsText part answer text (K.held 0) (taken_of (K.held 0) (W.contents cut.out))))) }
     ensures part { IfOk result (λ cut. (unwritten : List ℕ) × IfSome (K.had 0) (λ text.
         WritesFirstOfPart text part (K.held 0) (taken_of (K.held 0) (append_known (W.contents cut.out) unwritten)))) }
     ensures too_long { IfOk result (λ cut. IsErrOf cut.done TooLong → IfSome (K.had 0) (λ text. CHECK_LIMIT < length text)) }
@@ -149,8 +158,8 @@ pub fn cut_through<R: Read + Drop, W: Write + Drop>(
     requires step { IsStepOrNone part.every }
     // Done: the part of all that the reader had stands after what the writer held; or this is no
     // such file, and the writer holds what it held.
-    ensures told { IfOk result (λ cut. IfOk cut.done (λ refusal. IfSome (R.remaining reader) (λ text.
-        CutsText part refusal text (W.contents out) (taken_of (W.contents out) (W.contents cut.out))))) }
+    ensures told { IfOk result (λ cut. IfOk cut.done (λ answer. IfSome (R.remaining reader) (λ text.
+        CutsText part answer text (W.contents out) (taken_of (W.contents out) (W.contents cut.out))))) }
 
     // Whatever the answer: what is out, with what is let go after it, is a first part of the part,
     // perhaps none or all of it.
@@ -162,8 +171,8 @@ pub fn cut_through<R: Read + Drop, W: Write + Drop>(
     cut_by::<R, W, Brand>(alloc, reader, part, room, out)
 }
 
-/// Writes a part of the file of this name to standard output. What `check` says of a file that it
-/// refuses goes to standard error.
+/// Writes a part of the file of this name to standard output. How many records were read and written
+/// goes to standard error, or what `check` says of a file that it refuses.
 #[inline(never)]
 pub fn cut_named<R: Files + Input + Print + Eprint + AllocGlobal>(
     rt: &R,
@@ -181,8 +190,11 @@ pub fn cut_named<R: Files + Input + Print + Eprint + AllocGlobal>(
         Err(fault) => return fail(rt, fault),
     };
     match cut.done {
-        Ok(None) => DONE,
-        Ok(Some(fault)) => {
+        Ok(CutAnswer::Written(counts)) => {
+            let _told = eprintln!(rt; "records {} written {}", counts.records, counts.written);
+            DONE
+        }
+        Ok(CutAnswer::Refused(fault)) => {
             let _told = eprintln!(rt; "{fault}");
             NOT_VALID
         }

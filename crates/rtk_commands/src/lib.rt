@@ -28,7 +28,7 @@ mod summarizing;
 
 pub use charting::{chart_named, chart_through};
 pub use checking::{CHECK_LIMIT, check_file, check_named, check_through};
-pub use cutting::{Cut, cut_named, cut_through};
+pub use cutting::{Cut, CutAnswer, cut_named, cut_through};
 pub use payload_line::show_line;
 pub use showing::{SHOW_LIMIT, show, show_bytes, show_named, show_through};
 pub use summarizing::{summarize_named, summarize_through, summary_status};

@@ -81,6 +81,24 @@ left-in part t false earlier e left on spans =
     ap (λ es. table_text (table_with part.from t es)) (kept-in part earlier e left on spans)
     ∙ sym (append_assoc (header_text t.head t.site e.time) (record_text (cut_epoch (step_of part) earlier e)) (flat_map record_text (kept_after part (e ∷ earlier) left)))
 
+-- how many records an epoch has
+pub count-off : (choice : Choice) (earlier : List EpochTableView) (e : EpochTableView) (left : List EpochTableView) → is_on_step (step_of choice) e ≡ false
+    → length (kept_after choice earlier (e ∷ left)) ≡ 0 + length (kept_after choice (e ∷ earlier) left)
+count-off choice earlier e left off =
+    ap (λ (es : List EpochTableView). length (filter (is_chosen choice) es)) (thinned-off (step_of choice) earlier e left off) ∙ omega arith
+
+pub count-outside : (choice : Choice) (earlier : List EpochTableView) (e : EpochTableView) (left : List EpochTableView) → is_on_step (step_of choice) e ≡ true
+    → is_chosen choice e ≡ false → length (kept_after choice earlier (e ∷ left)) ≡ 0 + length (kept_after choice (e ∷ earlier) left)
+count-outside choice earlier e left on outside =
+    ap (λ (es : List EpochTableView). length es)
+    (kept-on choice earlier e left on ∙ ap (λ b. cond b (cut_epoch (step_of choice) earlier e ∷ kept_after choice (e ∷ earlier) left) (kept_after choice (e ∷ earlier) left)) outside)
+    ∙ omega arith
+
+pub count-in : (choice : Choice) (earlier : List EpochTableView) (e : EpochTableView) (left : List EpochTableView) → is_on_step (step_of choice) e ≡ true
+    → is_chosen choice e ≡ true → length (kept_after choice earlier (e ∷ left)) ≡ 1 + length (kept_after choice (e ∷ earlier) left)
+count-in choice earlier e left on inside =
+    ap (λ (es : List EpochTableView). length es) (kept-in choice earlier e left on inside) ∙ omega arith
+
 -- at the end only the header of a part without records is left
 pub left-end : (part : Choice) (t : WellFormedTable) (b : Bool) (earlier : List EpochTableView) → still_to_write part t b earlier [] ≡ header_unless b t.head t.site (unwrap_or part.from t.first) ++ []
 left-end part t true earlier = refl

@@ -2,12 +2,14 @@
 //!
 //! A record that shows no slip but its own is written as the text that was read, and else anew.
 
-ghost use Rattle.std.specs.Prelude.{◌≡◌, ◌≢◌, ◌≤◌, true, Err, OnOk, IfOk, IsErrOf, length};
+ghost use Rattle.std.specs.Prelude.{◌≡◌, ◌+◌, ℕ, ◌≢◌, ◌≤◌, true, Err, OnOk, IfOk, IsErrOf, length};
 ghost use Rattle.rtk_frame.specs.Stream.{CountRises};
+ghost use Rattle.rtk_tracking.specs.Epochs.{capped};
 ghost use Rattle.rtk_cut.specs.Cut.{IsStepOrNone, is_on_step, step_of};
-ghost use Rattle.rtk_cut.specs.Steps.PartFile.{IsFresh, TakesEpoch, TakesEpochInPart, TakesEnd, TakesEndInPart};
+ghost use Rattle.rtk_cut.specs.Steps.PartFile.{IsFresh, CountsWritten, TakesEpoch, TakesEpochInPart, TakesEnd, TakesEndInPart};
 ghost use Rattle.rtk_cut.specs.declared.fault.CutFault.TheVariants.{Write};
 
+use crate::counts::{CutCounts, one_more};
 use crate::fault::CutFault;
 use crate::part::Choice;
 use crate::part_records::{put_after_header, put_record};
@@ -28,6 +30,7 @@ pub(crate) struct PartWriter {
     pub(crate) table: Box<EpochTable>,
     /// The header is out.
     pub(crate) is_begun: bool,
+    pub(crate) counts: CutCounts,
 }
 
 /// A table without a row. This function alone needs the stack for one, which is gone when it
@@ -53,6 +56,10 @@ impl PartWriter {
             slips: Slips::new(),
             table,
             is_begun: false,
+            counts: CutCounts {
+                records: 0,
+                written: 0,
+            },
         })
     }
 
@@ -68,6 +75,8 @@ impl PartWriter {
         requires on { is_on_step (step_of self.old.choice) epoch.now ≡ true }
         ensures heading { self.new.heading ≡ self.old.heading }
         ensures same_choice { self.new.choice ≡ self.old.choice }
+        ensures records { self.new.counts.records ≡ self.old.counts.records }
+        ensures written { OnOk result (CountsWritten self.old self.new epoch.now) }
         ensures all { OnOk result (TakesEpoch self.old self.new epoch.now text.now (W.taken out.old) (W.taken out.new)) }
         ensures part { TakesEpochInPart self.old epoch.now text.now (W.taken out.old) (W.taken out.new) }
         ensures write_failed { IsErrOf result Write → CountRises (W.failures out.old) (W.failures out.new) }
@@ -88,6 +97,7 @@ impl PartWriter {
             out,
         )?;
         self.is_begun = true;
+        self.counts.written = one_more(self.counts.written);
         Ok(())
     }
 
@@ -103,11 +113,14 @@ impl PartWriter {
         requires near { self.old.choice.near_ms ≤ 25 }
         ensures heading { self.new.heading ≡ self.old.heading }
         ensures same_choice { self.new.choice ≡ self.old.choice }
+        ensures records { OnOk result ((n : ℕ) → self.old.counts.records ≡ capped n → self.new.counts.records ≡ capped (n + 1)) }
+        ensures written { OnOk result (CountsWritten self.old self.new epoch.now) }
         ensures all { OnOk result (TakesEpoch self.old self.new epoch.now text.now (W.taken out.old) (W.taken out.new)) }
         ensures part { TakesEpochInPart self.old epoch.now text.now (W.taken out.old) (W.taken out.new) }
         ensures write_failed { IsErrOf result Write → CountRises (W.failures out.old) (W.failures out.new) }
         ensures no_failed_write { result ≢ Err Write → W.failures out.new ≡ W.failures out.old }
     {
+        self.counts.records = one_more(self.counts.records);
         if self.choice.has(epoch.time()) {
             return self.write_next_on_step(alloc, epoch, text, out);
         }

@@ -70,7 +70,8 @@ summarize_named: open_capture(rt, name) / fail_to_open(rt, name) / summarize_thr
 chart_named: open_capture(rt, name) / fail_to_open(rt, name) / chart_through(rt.alloc(), text, width, standard_output(rt)) / DONE
     / eprintln!(rt; "{fault}") / NOT_VALID / fail(rt, fault)
 cut_named: open_capture(rt, name) / fail_to_open(rt, name) / cut_through(rt.alloc(), text, part, GATHERED, io::writer(rt))
-    / fail(rt, fault) / DONE / eprintln!(rt; "{fault}") / NOT_VALID / fail(rt, fault)
+    / fail(rt, fault) / eprintln!(rt; "records {} written {}", counts.records, counts.written) / DONE / eprintln!(rt; "{fault}") / NOT_VALID
+    / fail(rt, fault)
 summary_status: DONE / fail(rt, ToolFault::OutOfMemory) / fail(rt, ToolFault::Input) / fail_to_end(rt) / fail(rt, ToolFault::Output)
 conversion_status: is_out / DONE / fail(rt, ToolFault::Output) / fail(rt, ToolFault::OutOfMemory) / fail(rt, ToolFault::Input)
     / fail_to_end(rt) / refuse(rt, BadWords::Links) / unreachable!()

@@ -1,10 +1,11 @@
 -- A part of a file while it is written.
-use Rattle.std.specs.Prelude.{◌≡◌, ℕ, Bool, true, false, List, [], ◌∷◌, ◌++◌, Option, flat_map, length}
+use Rattle.std.specs.Prelude.{◌≡◌, ℕ, ◌+◌, Bool, true, false, List, [], ◌∷◌, ◌++◌, Option, flat_map, length}
 use Rattle.rtk_frame.specs.Stream.{with_more, TakesPart}
 use Rattle.rtk_rinex.specs.declared.table_check.Heading.{Heading}
 use Rattle.rtk_rinex.specs.Header.{position_view}
 use Rattle.rtk_rinex.specs.Record.{EpochTableView, record_text}
 use Rattle.rtk_rinex.specs.Table.{WellFormedTable, IsTableEpoch, table_text}
+use Rattle.rtk_tracking.specs.Epochs.{capped}
 use Rattle.rtk_cut.specs.declared.part_writer.PartWriter.{PartWriter}
 use Rattle.rtk_cut.specs.declared.part.Choice.{Choice}
 use Rattle.rtk_cut.specs.Cut.{Step, step_of, kept_after, table_with}
@@ -29,6 +30,8 @@ pub record IsFresh (c : PartWriter) (h : Heading) (p : Choice) : Type 0 where
   pub heading : c.heading ≡ h
   pub choice : c.choice ≡ p
   pub is_begun : c.is_begun ≡ false
+  pub records : c.counts.records ≡ 0
+  pub written : c.counts.written ≡ 0
   pub slips : (step : Step) → StandsForSlips c.slips.marks step []
 
 -- this epoch comes next in the file: these came before it, newest first
@@ -49,6 +52,13 @@ TakesEpoch c c' e text before after =
 abbrev pub TakesEpochInPart : PartWriter → EpochTableView → List ℕ → Option (List ℕ) → Option (List ℕ) → Type 0
 TakesEpochInPart c e text before after =
     (t : WellFormedTable) (earlier left : List EpochTableView) → ComesNext c t earlier e text → TakesPart before after (still_to_write c.choice t c.is_begun earlier (e ∷ left))
+
+-- the records that are written are counted: an epoch has one more, or none
+abbrev pub CountsWritten : PartWriter → PartWriter → EpochTableView → Type 0
+CountsWritten c c' e =
+    (earlier left : List EpochTableView) (n : ℕ) → c.counts.written ≡ capped n
+    → (more : ℕ) × (c'.counts.written ≡ capped (n + more))
+    × (length (kept_after c.choice earlier (e ∷ left)) ≡ more + length (kept_after c.choice (e ∷ earlier) left))
 
 -- the end of the file was taken: all is written
 abbrev pub TakesEnd : PartWriter → Option (List ℕ) → Option (List ℕ) → Type 0

@@ -9,5 +9,5 @@ returns-in-Ok-clause-part g c =
     let same : read.0 ≡ c.in-Ok.table.text = cc (read.2.0, c.as_slice.ensures.value, c.in-Ok.ensures.text) in
     inr (
       c.in_ok-text.ensures.to_the_end,
-      (read.0, read.1, (read.2.1, whole_is_part read.0 c.in-Ok.table.text c.args.part _ _ same c.in_ok-cut_table-in-Ok.ensures.all)),
+      (read.0, read.1, (read.2.1, whole_is_part read.0 c.in-Ok.table.text c.args.part _ _ same c.in_ok-counts.ensures.all)),
     )

@@ -3,8 +3,8 @@ use Rattle.rtk_rinex.specs.Record.{EpochTableView}
 use Rattle.rtk_tracking.specs.Interval.{nearness_of}
 use Rattle.rtk_cut.specs.declared.part.Choice.{Choice}
 use Rattle.rtk_cut.specs.Cut.{IsStepOrNone, choice_of, near_of}
-use Rattle.rtk_cut.specs.Steps.PartFile.{IsFresh, TakesEpoch, TakesEpochInPart}
-use Rattle.rtk_cut.proofs.WholeLemmas.{cut-none, cut-more, cut-broken, cut-all, cut-broken_end, on_err-from, on_ok-map}
+use Rattle.rtk_cut.specs.Steps.PartFile.{IsFresh, CountsWritten, TakesEpoch, TakesEpochInPart}
+use Rattle.rtk_cut.proofs.WholeLemmas.{cut-none, cut-more, cut-broken, cut-all, cut-broken_end, counts-all, on_err-from}
 use Rattle.rtk_cut.proofs.part_file.cut.Goals as goal
 
 pub loop-text-init : goal.loop-text-init
@@ -31,7 +31,8 @@ loop-text-preserved g c =
       step = subst (λ (p : Choice). IsStepOrNone p.every) (sym c.in_ok-write_next.ensures.same_choice) i.step;
       near = subst (λ (p : Choice). p.near_ms ≤ 25) (sym c.in_ok-write_next.ensures.same_choice) i.near;
       so_far = λ t is whole. cut-more (choice_of c.args.part (near_of t)) t c.loop-text.records c.next.new.self c.loop-text.writer c.write_next.new.self e text (g.W.Sink.taken c.args.out.now) (g.W.Sink.taken c.loop-text.out) (g.W.Sink.taken c.write_next.new.out)
-          (i.so_far t is whole) c.in-Some.ensures.next c.in-Some.ensures.record.0 c.in-Some.ensures.record.1 c.in-Some.ensures.width c.in_ok-write_next.ensures.heading c.in_ok-write_next.ensures.same_choice
+          (i.so_far t is whole) c.in-Some.ensures.next c.in-Some.ensures.record.0 c.in-Some.ensures.record.1 c.in-Some.ensures.width c.in_ok-write_next.ensures.heading c.in_ok-write_next.ensures.same_choice c.in_ok-write_next.ensures.records
+          (subst (λ (x : EpochTableView). CountsWritten c.loop-text.writer c.write_next.new.self x) c.deref.ensures c.in_ok-write_next.ensures.written)
           (subst (λ (x : EpochTableView). TakesEpoch c.loop-text.writer c.write_next.new.self x text (g.W.Sink.taken c.loop-text.out) (g.W.Sink.taken c.write_next.new.out)) c.deref.ensures c.in_ok-write_next.ensures.all);
       failures = c.in_ok-write_next.ensures.no_failed_write (λ is. cc) ∙ i.failures;
     }
@@ -45,11 +46,16 @@ returns-in_err-write_next-clause-part g c =
     (subst (λ (x : EpochTableView). TakesEpochInPart c.loop-text.writer x text (g.W.Sink.taken c.loop-text.out) (g.W.Sink.taken c.write_next.new.out)) c.deref.ensures c.write_next.ensures.part))
 
 pub returns-clause-all : goal.returns-clause-all
-returns-clause-all g c =
-    on_ok-map c.write_end.result (λ takes t is whole. cut-all (choice_of c.args.part (near_of t)) t c.loop-text.records c.loop-text.writer (g.W.Sink.taken c.args.out.now) (g.W.Sink.taken c.loop-text.out) (g.W.Sink.taken c.write_end.new.out)
-    (c.loop-text.invariant.so_far t is whole) c.in_default.ensures.next takes) c.write_end.ensures.all
+returns-clause-all g c = λ t is whole.
+    cut-all (choice_of c.args.part (near_of t)) t c.loop-text.records c.loop-text.writer (g.W.Sink.taken c.args.out.now) (g.W.Sink.taken c.loop-text.out) (g.W.Sink.taken c.write_end.new.out)
+    (c.loop-text.invariant.so_far t is whole) c.in_default.ensures.next c.in_ok-write_end.ensures.all
 
-pub returns-clause-part : goal.returns-clause-part
-returns-clause-part g c =
-    on_err-from c.write_end.result (λ t is whole. cut-broken_end (choice_of c.args.part (near_of t)) t c.loop-text.records c.loop-text.writer (g.W.Sink.taken c.args.out.now) (g.W.Sink.taken c.loop-text.out) (g.W.Sink.taken c.write_end.new.out)
+pub returns-clause-counts : goal.returns-clause-counts
+returns-clause-counts g c = λ t is whole.
+    counts-all (choice_of c.args.part (near_of t)) t c.loop-text.records c.loop-text.writer (g.W.Sink.taken c.args.out.now) (g.W.Sink.taken c.loop-text.out)
+    (c.loop-text.invariant.so_far t is whole) c.in_default.ensures.next
+
+pub returns-in_err-write_end-clause-part : goal.returns-in_err-write_end-clause-part
+returns-in_err-write_end-clause-part g c =
+    on_err-from c.from_residual-in_err-write_end.result (λ t is whole. cut-broken_end (choice_of c.args.part (near_of t)) t c.loop-text.records c.loop-text.writer (g.W.Sink.taken c.args.out.now) (g.W.Sink.taken c.loop-text.out) (g.W.Sink.taken c.write_end.new.out)
     (c.loop-text.invariant.so_far t is whole) c.in_default.ensures.next c.write_end.ensures.part)

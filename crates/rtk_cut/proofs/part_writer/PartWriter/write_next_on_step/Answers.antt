@@ -1,11 +1,12 @@
-use Rattle.std.proofs.Common.{◌≡◌, ◌+◌, ◌&&◌, ◌++◌, ℕ, Bool, true, false, List, ◌∷◌, length, sym, ap, subst, ◌∙◌}
+use Rattle.std.proofs.Common.{◌≡◌, ◌+◌, ◌&&◌, ◌++◌, ℕ, Bool, true, false, List, ◌∷◌, length, sym, ap, subst, ◌∙◌, arith}
 use Rattle.rtk_rinex.specs.Header.{HeadView, position_view}
 use Rattle.rtk_rinex.specs.Record.{EpochTableView}
 use Rattle.rtk_rinex.specs.Table.{IsTableEpoch}
+use Rattle.rtk_tracking.specs.Epochs.{capped}
 use Rattle.rtk_cut.specs.Cut.{step_of, is_at_or_after, is_earlier_than, is_chosen}
 use Rattle.rtk_cut.specs.Steps.PartFile.{still_to_write}
 use Rattle.rtk_cut.specs.Steps.PartRecords.{header_unless, text_or_new}
-use Rattle.rtk_cut.proofs.PartFileLemmas.{writes-nothing, part-longer, left-outside, record-written}
+use Rattle.rtk_cut.proofs.PartFileLemmas.{count-outside, count-in, writes-nothing, part-longer, left-outside, record-written}
 use Rattle.rtk_cut.proofs.part_writer.PartWriter.write_next_on_step.Goals as goal
 
 pub returns-then-not-spans-clause-all : goal.returns-then-not-spans-clause-all
@@ -76,3 +77,19 @@ returns-clause-part g c = λ t earlier left next.
     (record-written s t earlier left e shown changed text next c.requires.on spans (c.deref.ensures ∙ c.show-is_changed.ensures.shown good (step_of s.choice) earlier next.slips)
     (λ unchanged. c.deref.ensures ∙ c.show-is_changed.ensures.same unchanged good))
     c.put_record.ensures.part
+
+pub returns-then-not-spans-clause-written : goal.returns-then-not-spans-clause-written
+returns-then-not-spans-clause-written g c = λ earlier left n was.
+    let s = c.args.self.now in
+    let e : EpochTableView = c.args.epoch.now in
+    let outside : is_chosen s.choice e ≡ false =
+    sym (c.spans.ensures ∙ ap (λ (n : ℕ). is_at_or_after s.choice.from (n + s.choice.near_ms) && is_earlier_than s.choice.until (n + s.choice.near_ms)) c.time.ensures) ∙ c.if-not-spans.true in
+    (0, was ∙ ap capped (omega arith), count-outside s.choice earlier e left c.requires.on outside)
+
+pub returns-clause-written : goal.returns-clause-written
+returns-clause-written g c = λ earlier left n was.
+    let s = c.args.self.now in
+    let e : EpochTableView = c.args.epoch.now in
+    let inside : is_chosen s.choice e ≡ true =
+    sym (c.spans.ensures ∙ ap (λ (n : ℕ). is_at_or_after s.choice.from (n + s.choice.near_ms) && is_earlier_than s.choice.until (n + s.choice.near_ms)) c.time.ensures) ∙ c.if-not-spans.false in
+    (1, c.one_more-self.ensures n was, count-in s.choice earlier e left c.requires.on inside)
