@@ -1,6 +1,6 @@
 -- The counts of a code (this project's rule). What came of the code is listed newest first.
-use Rattle.std.specs.Prelude.{ℕ, ◌+◌, ◌*◌, ◌/◌, ◌==◌, Bool, true, false, not, ◌&&◌, ◌||◌, List, [], ◌∷◌, get_or, count_by, Option, None, Some, is_some, is_none, unwrap_or, min, max, if◌then◌else◌}
-use Rattle.std.specs.List.{list_any, sum_by}
+use Rattle.std.specs.Prelude.{ℕ, ◌+◌, ◌*◌, ◌/◌, ◌==◌, Bool, true, false, not, ◌&&◌, ◌||◌, List, [], ◌∷◌, get_or, map, Option, None, Some, is_some, is_none, unwrap_or, min, max, if◌then◌else◌}
+use Rattle.std.specs.List.{list_any, range_with_len}
 use Rattle.rtk_rinex.specs.declared.epoch_table.Observed.{Observed}
 use Rattle.rtk_tracking.specs.Epochs.{capped}
 use Rattle.rtk_tracking.specs.Passes.{Sighting, is_known}
@@ -47,6 +47,20 @@ abbrev pub greatest_strength : List Noted → Option ℕ
 greatest_strength [] = None
 greatest_strength (n ∷ before) = greater_strength n.observed.strength_millidbhz (greatest_strength before)
 
+-- a sum as it is shown
+abbrev pub plus : ℕ → ℕ → ℕ
+plus a b = capped (a + b)
+
+-- how often a test holds
+abbrev pub tally : (Noted → Bool) → List Noted → ℕ
+tally test [] = 0
+tally test (n ∷ before) = plus (tally test before) (if test n then 1 else 0)
+
+-- the sum of the strengths
+abbrev pub strength_total : List Noted → ℕ
+strength_total [] = 0
+strength_total (n ∷ before) = plus (strength_total before) (unwrap_or n.observed.strength_millidbhz 0)
+
 -- formula
 -- the counts of what came of a code: its phases; its ranges without a phase; bit 0 of its digits, at the
 -- first phase in a pass (rises) and elsewhere (slips); bit 1 (half cycles); its strengths
@@ -54,16 +68,21 @@ abbrev pub counts_of : List Noted → CodeCounts
 counts_of ns =
     record {
       seen = list_any (λ n. is_observed n.observed) ns;
-      phases = capped (count_by (λ n. is_some n.observed.phase_millicycles) ns);
-      ranges = capped (count_by (λ n. is_some n.observed.range_mm && not (is_some n.observed.phase_millicycles)) ns);
-      slips = capped (count_by (λ n. n.observed.slip && n.known) ns);
-      rises = capped (count_by (λ n. n.observed.slip && not n.known) ns);
-      halves = capped (count_by (λ n. n.observed.half) ns);
-      strengths = capped (count_by (λ n. is_some n.observed.strength_millidbhz) ns);
-      strength_sum = capped (sum_by (λ n. unwrap_or n.observed.strength_millidbhz 0) ns);
+      phases = tally (λ n. is_some n.observed.phase_millicycles) ns;
+      ranges = tally (λ n. is_some n.observed.range_mm && not (is_some n.observed.phase_millicycles)) ns;
+      slips = tally (λ n. n.observed.slip && n.known) ns;
+      rises = tally (λ n. n.observed.slip && not n.known) ns;
+      halves = tally (λ n. n.observed.half) ns;
+      strengths = tally (λ n. is_some n.observed.strength_millidbhz) ns;
+      strength_sum = strength_total ns;
       least = least_strength ns;
       greatest = greatest_strength ns;
     }
+
+-- formula
+-- the counts of 16 codes of a satellite, by their places
+unfoldable pub code_counts_of : ℕ → List Sighting → List CodeCounts
+code_counts_of gap before = map (λ place. counts_of (noted_of gap place before)) (range_with_len 0 16)
 
 -- ---- fractions, rounded once; of two alike the greater one
 

@@ -1,8 +1,9 @@
 -- The passes of a satellite with their spans (this project's rule). What came is listed newest first.
-use Rattle.std.specs.Prelude.{ℕ, ◌+◌, not, List, [], ◌∷◌, length, count_by, is_some, if◌then◌else◌}
-use Rattle.std.specs.List.{take_while, sum_by, range_with_len}
+use Rattle.std.specs.Prelude.{ℕ, not, List, [], ◌∷◌, count_by, is_some, if◌then◌else◌}
+use Rattle.std.specs.List.{range_with_len}
 use Rattle.rtk_rinex.specs.declared.epoch_table.Observed.{Observed}
 use Rattle.rtk_tracking.specs.Passes.{Sighting, has_phase, begins_pass, is_slip}
+use Rattle.rtk_quality.specs.Counts.{plus}
 
 -- a pass: the moments of its first and last phase, and its phases and slips
 pub record PassSpan : Type 0 where
@@ -22,7 +23,7 @@ slips_at gap before s = count_by (λ place. is_slip gap place before s) (range_w
 -- one more epoch with a phase in the newest pass
 abbrev pub longer : Sighting → ℕ → List PassSpan → List PassSpan
 longer s slips [] = []
-longer s slips (p ∷ ps) = record { from = p.from; until = s.time; phases = p.phases + phases_in s.observed; slips = p.slips + slips } ∷ ps
+longer s slips (p ∷ ps) = record { from = p.from; until = s.time; phases = plus p.phases (phases_in s.observed); slips = plus p.slips slips } ∷ ps
 
 -- formula
 -- the passes of a satellite, the newest first
@@ -36,7 +37,8 @@ passes_of gap (s ∷ before) =
 
 -- how many epochs came since the last phase
 abbrev pub epochs_since_phase : List Sighting → ℕ
-epochs_since_phase before = length (take_while (λ s. not (has_phase s.observed)) before)
+epochs_since_phase [] = 0
+epochs_since_phase (s ∷ before) = if has_phase s.observed then 0 else plus (epochs_since_phase before) 1
 
 -- formula
 -- how many epochs of the file lie within the passes of a satellite: from the first to the last phase of
@@ -45,5 +47,5 @@ abbrev pub epochs_in_passes : ℕ → List Sighting → ℕ
 epochs_in_passes gap [] = 0
 epochs_in_passes gap (s ∷ before) =
     if not (has_phase s.observed) then epochs_in_passes gap before
-    else (if begins_pass gap before s then epochs_in_passes gap before + 1
-    else epochs_in_passes gap before + epochs_since_phase before + 1)
+    else (if begins_pass gap before s then plus (epochs_in_passes gap before) 1
+    else plus (epochs_in_passes gap before) (plus (epochs_since_phase before) 1))

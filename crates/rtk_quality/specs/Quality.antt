@@ -2,10 +2,9 @@
 use Rattle.std.specs.Prelude.{ℕ, ◌+◌, ◌*◌, ◌&&◌, Bool, true, false, not, List, [], ◌∷◌, length, map, count_by, Option, None, Some, min, max, if◌then◌else◌}
 use Rattle.std.specs.List.{list_any, sum_by, fold, range_with_len}
 use Rattle.rtk_rinex.specs.Record.{EpochTableView}
-use Rattle.rtk_tracking.specs.Epochs.{capped}
 use Rattle.rtk_tracking.specs.Interval.{interval_of, steps_in, missing_in}
 use Rattle.rtk_tracking.specs.Passes.{Sighting, sightings_of, longest_gap}
-use Rattle.rtk_quality.specs.Counts.{noted_of, counts_of, lesser_strength, greater_strength, rounded_fraction}
+use Rattle.rtk_quality.specs.Counts.{plus, noted_of, counts_of, lesser_strength, greater_strength, rounded_fraction}
 use Rattle.rtk_quality.specs.PassSpans.{PassSpan, passes_of, epochs_in_passes}
 use Rattle.rtk_quality.specs.declared.code_counts.CodeCounts.{CodeCounts}
 use Rattle.rtk_quality.specs.declared.code_totals.CodeTotals.{CodeTotals}
@@ -59,7 +58,7 @@ is_in_file es satellite = list_any (has_code es satellite) (range_with_len 0 16)
 
 -- how many phases of a code of a satellite could be there
 abbrev pub possible_in : List EpochTableView → ℕ → ℕ
-possible_in es satellite = capped (epochs_in_passes (gap_in es) (sightings_of satellite es))
+possible_in es satellite = epochs_in_passes (gap_in es) (sightings_of satellite es)
 
 -- the passes of a satellite, the newest first
 abbrev pub passes_in : List EpochTableView → ℕ → List PassSpan
@@ -74,13 +73,13 @@ abbrev pub together : CodeCounts → CodeCounts → CodeCounts
 together a b =
     record {
       seen = true;
-      phases = capped (a.phases + b.phases);
-      ranges = capped (a.ranges + b.ranges);
-      slips = capped (a.slips + b.slips);
-      rises = capped (a.rises + b.rises);
-      halves = capped (a.halves + b.halves);
-      strengths = capped (a.strengths + b.strengths);
-      strength_sum = capped (a.strength_sum + b.strength_sum);
+      phases = plus a.phases b.phases;
+      ranges = plus a.ranges b.ranges;
+      slips = plus a.slips b.slips;
+      rises = plus a.rises b.rises;
+      halves = plus a.halves b.halves;
+      strengths = plus a.strengths b.strengths;
+      strength_sum = plus a.strength_sum b.strength_sum;
       least = lesser_strength a.least b.least;
       greatest = greater_strength a.greatest b.greatest;
     }
@@ -89,7 +88,7 @@ together a b =
 abbrev pub with_satellite : CodeTotals → CodeTotals → CodeTotals
 with_satellite total own =
     if own.counts.seen
-    then record { counts = together total.counts own.counts; possible = capped (total.possible + own.possible) }
+    then record { counts = together total.counts own.counts; possible = plus total.possible own.possible }
     else total
 
 -- formula

@@ -71,7 +71,7 @@ never_line es satellite place code =
 abbrev pub pass_line : ℕ → PassSpan → List ℕ
 pass_line satellite p =
     codes "pass " ++ satellite_name satellite ++ codes " from " ++ civil_text (reading_of p.from) ++ codes " until " ++ civil_text (reading_of p.until)
-    ++ codes " phases " ++ decimal (capped p.phases) ++ codes " slips " ++ decimal (capped p.slips) ++ codes "\n"
+    ++ codes " phases " ++ decimal p.phases ++ codes " slips " ++ decimal p.slips ++ codes "\n"
 
 -- formula
 -- the heading: marker, span, interval, epochs that are there and missing

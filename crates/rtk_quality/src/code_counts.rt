@@ -1,8 +1,7 @@
 //! The counts of a code of a satellite.
 
-ghost use Rattle.std.specs.Prelude.{◌≡◌, ◌+◌, ℕ, Bool, List, [], ◌∷◌, if◌then◌else◌};
-ghost use Rattle.rtk_tracking.specs.Epochs.{capped};
-ghost use Rattle.rtk_quality.specs.Counts.{Noted, is_observed, lesser_strength, greater_strength, counts_of};
+ghost use Rattle.std.specs.Prelude.{◌≡◌, List, [], ◌∷◌, if◌then◌else◌};
+ghost use Rattle.rtk_quality.specs.Counts.{Noted, plus, is_observed, lesser_strength, greater_strength, counts_of};
 
 use rtk_rinex::Observed;
 
@@ -26,7 +25,7 @@ pub(crate) struct CodeCounts {
 
 // One more, if a test holds.
 fn one_more(count: u64, test: bool) -> u64
-    ensures { (before : ℕ) → count ≡ capped before → result ≡ capped ((if test then 1 else 0) + before) }
+    ensures { result ≡ plus count (if test then 1 else 0) }
 {
     count.saturating_add(u64::from(test))
 }

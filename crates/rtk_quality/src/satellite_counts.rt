@@ -1,10 +1,11 @@
 //! The counts of a satellite: its codes, and its passes.
 
-ghost use Rattle.std.specs.Prelude.{◌≡◌, ◌+◌, ◌<◌, ℕ, List, [], ◌∷◌, Some};
-ghost use Rattle.rtk_tracking.specs.Passes.{Sighting};
-ghost use Rattle.rtk_quality.specs.Counts.{shown_at};
-ghost use Rattle.rtk_quality.specs.PassSpans.{phases_in};
-ghost use Rattle.rtk_quality.specs.Standing.{AreCodeCounts, StandsForSatellite, StandsForEnded};
+ghost use Rattle.std.specs.Prelude.{◌≡◌, ◌<◌, ℕ, List, [], ◌∷◌, None, Some, if◌then◌else◌};
+ghost use Rattle.rtk_tracking.specs.Passes.{Sighting, has_phase, is_known, is_slip};
+ghost use Rattle.rtk_tracking.specs.Standing.{AreMarked};
+ghost use Rattle.rtk_quality.specs.Counts.{plus, shown_at, code_counts_of};
+ghost use Rattle.rtk_quality.specs.PassSpans.{phases_in, slips_at};
+ghost use Rattle.rtk_quality.specs.Standing.{with_epoch, StandsForSatellite, StandsForEnded};
 
 use crate::code_counts::CodeCounts;
 use rtk_rinex::Observed;
@@ -40,7 +41,11 @@ fn shown_at(observed: &[Observed], place: usize) -> Observed
 }
 
 // Counts one more epoch of each code.
-fn note_codes(codes: &mut [CodeCounts; 16], observed: &[Observed], known: &[bool; 16]) {
+fn note_codes(codes: &mut [CodeCounts; 16], observed: &[Observed], known: &[bool; 16])
+    ensures { (gap : ℕ) (before : List Sighting) (s : Sighting) → observed.now ≡ s.observed
+        → AreMarked known.now (λ place. is_known gap place before s)
+        → codes.old ≡ code_counts_of gap before → codes.new ≡ code_counts_of gap (s ∷ before) }
+{
     for place in 0..16 {
         let mut counts = codes[place];
         counts.note(&shown_at(observed, place), known[place]);
@@ -58,15 +63,60 @@ fn phases_in(observed: &[Observed]) -> u64
         .count() as u64
 }
 
+// Some code has a phase.
+fn has_phase(observed: &[Observed]) -> bool
+    ensures { result ≡ has_phase observed.now }
+{
+    observed.iter().any(|o| o.phase_millicycles.is_some())
+}
+
+// The code at this place has slipped: it had a phase earlier in the pass.
+fn is_slip(observed: &[Observed], known: &[bool; 16], place: usize) -> bool
+    requires { place < 16 }
+    ensures { (gap : ℕ) (before : List Sighting) (s : Sighting) → observed.now ≡ s.observed
+        → AreMarked known.now (λ place. is_known gap place before s) → result ≡ is_slip gap place before s }
+{
+    shown_at(observed, place).slip && known[place]
+}
+
 // How many slips an epoch has, of codes that had a phase earlier in the pass.
-fn slips_in(observed: &[Observed], known: &[bool; 16]) -> u64 {
-    let mut slips = 0u64;
+fn slips_in(observed: &[Observed], known: &[bool; 16]) -> u64
+    ensures { (gap : ℕ) (before : List Sighting) (s : Sighting) → observed.now ≡ s.observed
+        → AreMarked known.now (λ place. is_known gap place before s) → result ≡ slips_at gap before s }
+{
+    let mut slips = 0;
     for place in 0..16 {
-        if shown_at(observed, place).slip && known[place] {
-            slips = slips.saturating_add(1);
+        if is_slip(observed, known, place) {
+            slips += 1;
         }
     }
     slips
+}
+
+// The last pass with an epoch more, or a pass that begins with it.
+fn with_epoch(
+    last: Option<PassCounts>,
+    begins: bool,
+    time_ms: u64,
+    phases: u64,
+    slips: u64,
+) -> PassCounts
+    ensures { result ≡ with_epoch last begins time_ms phases slips }
+{
+    match last {
+        Some(pass) if !begins => PassCounts {
+            from_ms: pass.from_ms,
+            until_ms: time_ms,
+            phases: pass.phases.saturating_add(phases),
+            slips: pass.slips.saturating_add(slips),
+        },
+        _ => PassCounts {
+            from_ms: time_ms,
+            until_ms: time_ms,
+            phases,
+            slips,
+        },
+    }
 }
 
 impl SatelliteCounts {
@@ -101,35 +151,24 @@ impl SatelliteCounts {
         time_ms: u64,
         phases: u64,
         slips: u64,
-    ) -> Option<PassCounts> {
+    ) -> Option<PassCounts>
+        ensures pass { self.new.pass ≡ self.old.pass }
+        ensures codes { self.new.codes ≡ self.old.codes }
+        ensures in_passes { self.new.in_passes ≡ plus self.old.in_passes (if begins then 1 else plus self.old.since_phase 1) }
+        ensures since_phase { self.new.since_phase ≡ 0 }
+        ensures last { self.new.last ≡ Some (with_epoch self.old.last begins time_ms phases slips) }
+        ensures ended { result ≡ (if begins then self.old.last else None) }
+    {
         let had = self.last;
-        let (from_ms, before, ended) = match had {
-            Some(pass) if !begins => (pass.from_ms, pass, None),
-            _ => (
-                time_ms,
-                PassCounts {
-                    from_ms: time_ms,
-                    until_ms: time_ms,
-                    phases: 0,
-                    slips: 0,
-                },
-                had,
-            ),
-        };
-        self.last = Some(PassCounts {
-            from_ms,
-            until_ms: time_ms,
-            phases: before.phases.saturating_add(phases),
-            slips: before.slips.saturating_add(slips),
-        });
-        let within = if begins {
-            1
-        } else {
-            self.since_phase.saturating_add(1)
-        };
-        self.in_passes = self.in_passes.saturating_add(within);
+        self.last = Some(with_epoch(had, begins, time_ms, phases, slips));
+        let since_phase = self.since_phase;
         self.since_phase = 0;
-        ended
+        if begins {
+            self.in_passes = self.in_passes.saturating_add(1);
+            return had;
+        }
+        self.in_passes = self.in_passes.saturating_add(since_phase.saturating_add(1));
+        None
     }
 
     /// Notes one more epoch: what the codes of the satellite show, nothing if it has no row. If a pass
@@ -149,11 +188,11 @@ impl SatelliteCounts {
         let known = self.pass.known(gap_ms, time_ms, observed);
         note_codes(&mut self.codes, observed, &known);
         self.pass.note(gap_ms, time_ms, observed);
-        let phases = phases_in(observed);
-        if phases == 0 {
+        if !has_phase(observed) {
             self.since_phase = self.since_phase.saturating_add(1);
             return None;
         }
-        self.note_phases(begins, time_ms, phases, slips_in(observed, &known))
+        let slips = slips_in(observed, &known);
+        self.note_phases(begins, time_ms, phases_in(observed), slips)
     }
 }

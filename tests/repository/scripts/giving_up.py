@@ -30,7 +30,7 @@ SIZES = {
     ".reserve_exact(": {"count", "len - text.len()", "room"},
     ".resize(": {"satellites", "count", "len, b' '", "room, b' '"},
     "vec![in alloc; ": {"TimeBin::new(); scale.bins as usize", "false; scale.bins as usize", "0u8; room", "0u8; PIECE", "0; NUMBERS",
-        "Station::new(); NUMBERS", "false; STATIONS"},
+        "Station::new(); NUMBERS", "false; STATIONS", "SatelliteCounts::new(); 32"},
 }
 
 # Code that may not stand in a body.
