@@ -1,4 +1,5 @@
 """The slow model of the numbers of a file: each number is counted on its own, over the text."""
+# pins: longest_gap, begins_pass, is_rise, is_slip, counts_of, passes_of, epochs_in_passes, percent_tenths, mean_hundredths
 
 from __future__ import annotations
 
