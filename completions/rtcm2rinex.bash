@@ -20,38 +20,53 @@ _rtcm2rinex() {
     done
     case $command in
         '')
-            options='convert show check summary chart cut help -h --help -V --version'
+            options='auto convert show check summary chart quality cut label help -h --help -V --version'
+            ;;
+        auto)
+            options='-o --output -f --force --marker --near --made --station --codes --msm --window --skip-empty --links-as-given --report -h --help'
+            values='--marker --near --made --station --codes --msm --window'
+            files='-o --output'
+            arguments='files'
             ;;
         convert)
             options='--station --near --made --marker --codes --window --msm -h --help'
             values='--station --near --made --marker --codes --window --msm'
-            arguments='files'
+            arguments='files stdin'
             ;;
         show)
             options='--hex -h --help'
-            arguments='files'
+            arguments='files stdin'
             ;;
         check)
             options='-h --help'
-            arguments='files'
+            arguments='files stdin'
             ;;
         summary)
             options='-h --help'
-            arguments='files'
+            arguments='files stdin'
             ;;
         chart)
             options='--text --columns -h --help'
             values='--columns'
-            arguments='files'
+            arguments='files stdin'
+            ;;
+        quality)
+            options='--json -h --help'
+            arguments='files stdin'
             ;;
         cut)
             options='--from --until --every -h --help'
             values='--from --until --every'
-            arguments='files'
+            arguments='files stdin'
+            ;;
+        label)
+            options='--run-by --marker-number --observer --agency --receiver-number --receiver-type --receiver-version --antenna-number --antenna-type --delta-height --delta-east --delta-north --blank -h --help'
+            values='--run-by --marker-number --observer --agency --receiver-number --receiver-type --receiver-version --antenna-number --antenna-type --delta-height --delta-east --delta-north'
+            arguments='files stdin'
             ;;
         help)
             options=''
-            arguments='convert show check summary chart cut'
+            arguments='auto convert show check summary chart quality cut label'
             ;;
         *) return ;;
     esac
@@ -67,8 +82,8 @@ _rtcm2rinex() {
             [[ " ${COMP_WORDS[*]:1:COMP_CWORD-1} " == *" $option "* ]] || left+=" $option"
         done
         mapfile -t COMPREPLY < <(compgen -W "$left" -- "$word")
-    elif [[ $arguments == files ]]; then
-        _rtcm2rinex_files "$word" stdin
+    elif [[ $arguments == files* ]]; then
+        _rtcm2rinex_files "$word" "${arguments#files}"
     elif [[ -n $arguments ]]; then
         mapfile -t COMPREPLY < <(compgen -W "$arguments" -- "$word")
     fi

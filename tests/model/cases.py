@@ -13,9 +13,10 @@ import model
 import parts
 import station
 import summaries
-from messages import CODES, SIGNALS
+from messages import CODES, SIGNALS, frames_of
 from model import Setup, moment
 from pictures import svg_picture
+from qualities import quality, quality_in_json
 from station import NOON
 from wire import MSM_CELL, MSMS, frame_of, payload_of
 
@@ -116,6 +117,9 @@ def hold_to_examples():
         found = convert(links, window, codes)
         if found[0].encode() != example(text) or (said and found[1].encode() != example(said)):
             sys.exit(f"cases: the model does not write {text}")
+    session = example("session.rtcm")
+    third = frames_of(session)[2].end
+    assert example("dated.rtcm") == session[:third] + station.date(43_201) + session[third:]
 
 
 # ---------------------------------------------------------------- small captures, each with its report in words
@@ -123,14 +127,18 @@ def hold_to_examples():
 
 def links_of_sixteen(cases):
     """Each of the 16 links in the report."""
+    # pins: lines, counted, refused_line, link_text, count_lines, count_line
     case(cases, "refused_on_each_link", [NO_NUMBER] * 16, told=report(
         *(f"link {it} refused M1 -" for it in range(1, 17)), refused=16, epochs=0))
+    # pins: cell_conflict_line, signal_text, epoch_text, civil_text
     case(cases, "conflict_on_each_link", [at(0, l1_cnr=180 + it) for it in range(16)], told=report(
         *(f"link {it} conflict 1004 {TOLD}00.000 G05 1C" for it in range(2, 17)), taken=1, conflict=15, epochs=1))
     case(cases, "late_on_each_link", [at(10) + at(11), *[at(5)] * 15], window=2, told=report(
         *(f"link {it} late 1004 {TOLD}05.000" for it in range(2, 17)), taken=2, late=15, epochs=2))
+    # pins: late_line, arrival_text
     case(cases, "late_1006_of_link_16", [b""] * 15 + [at(0) + at(1) + place(1006)], window=2, told=report(
         "link 16 late 1006 -", taken=2, late=1, epochs=2))
+    # pins: conflict_line
     case(cases, "conflict_of_1006_on_link_16", [ARP + place(1006)] + [b""] * 14 + [place(1006, single_oscillator=1)], told=report(
         "link 16 conflict 1006 -", taken=2, conflict=1, epochs=0))
     # one that equals the kept one is never late, one that differs is late and no more in conflict
@@ -409,7 +417,7 @@ def contents():
     yield "second_frequency_2p_and_2w", b"".join(second), (" codes 1C,2P,2W\n next ",)
     # pins: changes_in
     yield "week_ends", frame_of(legacy(604_799_000, [])) + frame_of(legacy(0, [])) + frame_of(legacy(0, [])), (
-        " time-of-week 604799000 0\n epoch-changes 1\n",)
+        " time-of-week 604799000 0\n changes-of-time 1\n",)
     untaken = b"".join(frame_of((number << 4).to_bytes(2, "big")) for number in (1004, 1077, 1001, 1073, 1003, 1084, 1077, 1001))
     # pins: untaken_numbers, messages_read
     yield "untaken_observations", untaken, (
@@ -432,8 +440,8 @@ def proposals(empty):
         return b"".join(frame_of(msm(NOON + 1000 * it, {5: (ms, 0)}, {(5, signal): {}}, number)) for it in seconds)
 
     def told(codes, *others):
-        lines = [*(f" other-msm {it}" for it in others), f" next rtcm2rinex convert --station 2003 {summaries.NEXT} {codes} CAPTURE"]
-        return "".join(f"{it}\n" for it in lines)
+        lines = [*(f" other-msm {it}" for it in others), f" next rtcm2rinex convert --station 2003 --near {summaries.NO_DATE} {summaries.MADE} --marker 2003 --codes {codes} "]
+        return "\n".join(lines)
 
     four = of(1074, 2, 0, 1) + of(1075, 24, 0) + of(1076, 24, 1) + of(1077, 16, 2, 3)
     # pins: better_of, proposed, msm_option, other_msm_line, other_msm_lines, proposal_lines
@@ -480,8 +488,9 @@ def many_of_each():
     size, lines = Path("many_of_each").stat().st_size, [f"{line} {n}\n" for line, n in counts.items()]
     save("many_of_each.summary", "".join((
         f"bytes {size}\noutside-frames 0\nframes {sum(counts.values())}\nstation 2003\n", *lines[:6],
-        f" time-of-week {NOON} {NOON}\n epoch-changes 0\n satellites G05\n codes 1C\n",
-        *(f" other-msm {it} 1\n" for it in MSMS[:3]), f" next rtcm2rinex convert --station 2003 {summaries.NEXT} 1C --msm 7 CAPTURE\n",
+        f" time-of-week {NOON} {NOON}\n changes-of-time 0\n satellites G05\n codes 1C\n",
+        *(f" other-msm {it} 1\n" for it in MSMS[:3]), f" next rtcm2rinex convert --station 2003 --near {summaries.NO_DATE} {summaries.MADE} --marker 2003 --codes 1C --msm 7 many_of_each\n",
+        " auto rtcm2rinex auto --station 2003 -o 2003.rnx many_of_each\n",
         lines[6], f"untaken GPS 1073 {counts['other 1073']}\n", *lines[7:],
     )))
 
@@ -506,9 +515,9 @@ def greatest_summary():
         more = [legacy(last, [SATELLITE])] if station == 4095 else []
         stations.append([sent_by(station, it) for it in payloads + more])
         if station in (0, 4095):
-            lines = summaries.summary_of(b"".join(stations[-1]))
+            lines = summaries.summary_of(b"".join(stations[-1]), "greatest")
             block_of = lines[lines.index("station"):]
-        told.append(block_of.replace("station 0", f"station {station}"))
+        told.append(block_of.replace("station 0", f"station {station}").replace("0000", f"{station:04}"))
     all_codes = ",".join(CODES)
     assert f" codes {all_codes}\n" in told[-1] and f" codes {all_codes.replace(',2W', '')}\n second-frequency 2P\n" in told[0]
     assert " satellites " + " ".join(f"G{it:02}" for it in range(1, 33)) + "\n" in told[0]
@@ -527,7 +536,7 @@ def summary_cases():
     """The file `summaries` has the name of each capture."""
     with open("summaries", "w") as names:
         for name, capture, lines in contents():
-            told = summaries.summary_of(capture)
+            told = summaries.summary_of(capture, f"{name}.rtcm")
             if not all(it in told for it in lines):
                 sys.exit(f"cases: {name}: the model writes\n{told}and not\n{lines}")
             save(f"{name}.rtcm", capture)
@@ -535,7 +544,7 @@ def summary_cases():
             print(name, file=names)
     for name in ("each_refusal.1", "long_capture.1", "long_damaged_links.1"):
         with open(name, "rb") as file:
-            save(f"{name}.summary", summaries.summary_of(file.read()))
+            save(f"{name}.summary", summaries.summary_of(file.read(), name))
 
 
 # ---------------------------------------------------------------- a long file for `check`
@@ -562,7 +571,7 @@ def record_body(random, shown):
 
 def long_file():
     """450 records of 32 satellites and 16 codes, some of them the longest that there are; the same with a zero in the last
-    line; and its part of each second record. Files of some satellites of them, and their pictures of so many columns."""
+    line; its part of each second record; and its numbers. Files of some satellites of them, and their pictures of so many columns."""
     random = Random(305)
     bodies = [record_body(random, shown) for _ in range(14)] + [record_body(random, all_shown)]
     head = "".join(f"{it}\n" for it in model.header(Setup(2003, NEAR, MADE, "BASE", tuple(CODES), 64), {}, NEAR))
@@ -575,6 +584,8 @@ def long_file():
     text = head + "".join(f"{model.epoch_line(NEAR + 1000 * it, 32)}\n{bodies[it % 15]}" for it in range(450))
     assert len(text) > 10_000_000
     save("long.rnx", text)
+    save("long.numbers", quality(text))
+    save("long.json", quality_in_json(text))
     last = text.rindex("\nG32") + 4
     save("zero.rnx", text[:last] + f"{'0.000':>14}" + text[last + 14:])
     save("zero.line", f"line {text.count(chr(10))}: C3 Value\n")

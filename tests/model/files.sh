@@ -1,6 +1,7 @@
 #!/bin/sh
-# Runs `convert`, `show`, `check` and `summary` on captures and files that cases.py writes by the slow model beside it: it
-# computes what is due from the formats, of all messages at once, and shares nothing with the program. The program is $1.
+# Runs `convert`, `show`, `check`, `summary`, `cut`, `chart` and `quality` on captures and files that cases.py writes by the slow
+# model beside it: it computes what is due from the formats, of all messages at once, and shares nothing with the program. The
+# program is $1.
 . "$(dirname "$(readlink -f "$0")")/../program/common"
 options='--station 2003 --near 2024-05-17T12:00:00 --made 2024-05-17T13:00:00 --marker BASE'
 python3 -B "$root/tests/model/cases.py" "$root/examples" || exit 1
@@ -58,20 +59,27 @@ echo "$(($(grep -c '^bytes ' summaries_told) + 1)) 0" >want
 # refuses: a summary whose lines do not add up to its frames
 same summaries_add_up_to_their_frames sums want
 for piece in piece.*; do cat "$piece"; done | "$program" summary stdin >out 2>err; status=$?
-leaves summary_of_a_long_pipe 0 long_capture.1.summary /dev/null
+sed 's/ long_capture\.1$/ stdin/' long_capture.1.summary >want
+leaves summary_of_a_long_pipe 0 want /dev/null
 
 # A file of 10 MB, and the same with a zero in its last line.
 "$program" check long.rnx >out 2>err </dev/null; status=$?
 expect check_of_10_mb 0 'valid: 450 epochs, 14400 satellite lines' ''
 "$program" check zero.rnx >out 2>err </dev/null; status=$?
 leaves check_of_10_mb_with_a_zero 3 zero.line /dev/null
-# `cut` and `chart` read them to their ends too.
+# `cut`, `chart` and `quality` read them to their ends too.
 "$program" cut --every 1 long.rnx >out 2>err </dev/null; status=$?
-leaves cut_of_10_mb 0 long.rnx /dev/null
+echo 'records 450 written 450' >counts
+leaves cut_of_10_mb 0 long.rnx counts
 "$program" cut --every 2 long.rnx >out 2>err </dev/null; status=$?
 # pins: has_slipped_since
-leaves cut_of_10_mb_at_2_seconds 0 long_2s.rnx /dev/null
-for words in 'cut --every 1' chart 'chart --text'; do
+echo 'records 450 written 225' >counts
+leaves cut_of_10_mb_at_2_seconds 0 long_2s.rnx counts
+"$program" quality long.rnx >out 2>err </dev/null; status=$?
+leaves quality_of_10_mb 0 long.numbers /dev/null
+"$program" quality --json long.rnx >out 2>err </dev/null; status=$?
+leaves quality_of_10_mb_in_json 0 long.json /dev/null
+for words in 'cut --every 1' chart 'chart --text' quality 'quality --json'; do
     "$program" $words zero.rnx >out 2>err </dev/null; status=$?
     leaves "$(echo "$words" | tr -cs a-z _)of_10_mb_with_a_zero" 3 /dev/null zero.line
 done
@@ -81,4 +89,4 @@ for columns in 121 600; do
     leaves chart_of_${columns}_columns 0 columns_$columns.svg /dev/null
 done
 
-ends 87
+ends 91

@@ -71,12 +71,12 @@ def slipped(text, tick):
 
 def summary_of(few, size, last):
     """It tells of the satellites and codes of a few epochs."""
-    told = summaries.summary_of(few)
+    told = summaries.summary_of(few, "/dev/stdin")
     messages = sum(MANY[it] for it in ("taken", "repeat", "conflict", "late"))
     return (
         f"bytes {size}\noutside-frames 0\nframes {sum(MANY.values())}\n"
-        f"station 7\n message 1004 {MANY['foreign']}\n time-of-week {last} {last}\n epoch-changes 0\n satellites -\n codes -\n"
-        f"station 2003\n message 1004 {messages}\n time-of-week {NOON} {NOON}\n epoch-changes {EPOCHS}\n"
+        f"station 7\n message 1004 {MANY['foreign']}\n time-of-week {last} {last}\n changes-of-time 0\n satellites -\n codes -\n"
+        f"station 2003\n message 1004 {messages}\n time-of-week {NOON} {NOON}\n changes-of-time {EPOCHS}\n"
         f"{told[told.index(' satellites'):]}other 1019 {MANY['other']}\nrefused M1 - {MANY['refused']}\n")
 
 
@@ -140,18 +140,20 @@ def main():
     wrong = text.rindex(b"\nG08") + 4
     test("check_of_a_fault_in_200_mb", ["check"], text[:wrong] + b"%14s" % b"0.000" + text[wrong + 14:], 3,
         b"line %d: C3 Value\n" % text.count(b"\n"))
-    test("part_of_200_mb", ["cut", "--from", "2024-05-17T12:00:00"], text, 0, text)
-    # pins: step_ms, is_on_step, has_slipped_since
-    test("seconds_of_200_mb", ["cut", "--every", "1"], slipped(text, 1_100_381), 0, slipped(text_of(few, 10), 1_100_390))
-    # Of the slips all but the first L1 of four satellites, and the last L2 of two.
-    slips, missing = 2 * EPOCHS - 4 + 2, (LAST - 100 * (EPOCHS - 2)) // 100 - 1
+    many, parted = text.count(b"\n> "), text_of(few, 10)
+    test("part_of_200_mb", ["cut", "--from", "2024-05-17T12:00:00"], text, 0, text, b"records %d written %d\n" % (many, many))
+    # pins: is_near_step, has_slipped_since
+    test("seconds_of_200_mb", ["cut", "--every", "1"], slipped(text, 1_100_381), 0, slipped(parted, 1_100_390),
+        b"records %d written %d\n" % (many, parted.count(b"\n> ")))
+    # Each L1 but the first one of four satellites has bit 0, and so have L1 and L2 of the last epoch, which begins a pass.
+    slips, rises, missing = 2 * (EPOCHS - 1) - 4, 4, (LAST - 100 * (EPOCHS - 2)) // 100 - 1
     # pins: number_lines, named_count_line
     test("chart_of_200_mb_in_characters", ["chart", "--text"], text, 0, (
-        f"marker BASE\nfrom 2024-05-17 12:00:00.000\nuntil {LAST_TOLD}\ninterval 0.100\ncolumn 3333.400\n"
-        f"records {EPOCHS}\nsatellites 4\nslips {slips}\nmissing {missing}\n").encode(), begins=True)
+        f"marker BASE\nfrom 2024-05-17 12:00:00.000 GPS time\nuntil {LAST_TOLD} GPS time\ninterval 0.100\ncolumn 3333.400\n"
+        f"records {EPOCHS}\nsatellites 4\nslips {slips}\nrises {rises}\nmissing {missing}\n").encode(), begins=True)
     shown = svg_picture(model.convert(SETUP, [few]).file).split("\n")[:5]
-    shown.append(f"<text x='90' y='52'>2024-05-17 12:00:00.000 to {LAST_TOLD}, interval 0.100 s, column 173.700 s</text>")
-    shown.append(f"<text x='90' y='70'>records {EPOCHS}, satellites 4, slips {slips}, missing epochs {missing}</text>\n")
+    shown.append(f"<text x='110' y='72'>2024-05-17 12:00:00.000 to {LAST_TOLD}, interval 0.100 s, column 173.700 s</text>")
+    shown.append(f"<text x='110' y='98'>records {EPOCHS}, satellites 4, slips {slips}, rises {rises}, missing epochs {missing}</text>\n")
     # pins: svg_span, svg_numbers
     test("chart_of_200_mb", ["chart"], text, 0, "\n".join(shown).encode(), begins=True)
     print(passed, failed)

@@ -7,6 +7,7 @@ from collections.abc import Iterator
 
 import model
 from messages import CODES
+from pictures import SIGNS
 
 COLUMNS = 1_440
 SATELLITES = 32
@@ -14,9 +15,10 @@ SATELLITES = 32
 MARKER = "&" * 60
 NOON, MADE = model.moment("2024-05-17T12:00:00"), model.moment("2024-05-17T13:00:00")
 
-# Of a code a phase with a slip and an open half cycle; of the first code a strength alone, of the digits 1 and 2.
+# Of a code a phase with a slip and an open half cycle, and one without; of the first code a strength of the digits 1 and 2, which stand before it.
 PHASE = " " * 16 + " 110804903.5473 " + " " * 16
-STRENGTHS = "         8.000", "        12.000"
+SOUND = " " * 16 + " 110804903.547  " + " " * 16
+STRENGTHS = "1         8.000", "2        12.000"
 
 
 def header(codes: list[str]) -> bytes:
@@ -35,34 +37,36 @@ def rows(cells: str) -> str:
 
 
 def largest(columns: int = COLUMNS) -> Iterator[bytes]:
-    """Its text: of three seconds of a column the first has each phase, the second a strength alone, and the last is
-    missing."""
+    """Its text: of four seconds of a column the first has each phase, the second one of the first code with a strength, the
+    third one of the second code, and the last is missing."""
     yield header(CODES)
     phases = rows((PHASE * len(CODES)).rstrip())
-    strengths = [rows(" " * 32 + strength) for strength in STRENGTHS]
+    firsts = [rows(SOUND[:31] + strength) for strength in STRENGTHS]
+    second_code = rows((" " * 48 + SOUND).rstrip())
     for column in range(columns):
-        for second, lines in enumerate((phases, strengths[column % 2])):
-            yield f"{epoch_line(3 * column + second, SATELLITES)}{lines}".encode()
+        for second, lines in enumerate((phases, firsts[column % 2], second_code)):
+            yield f"{epoch_line(4 * column + second, SATELLITES)}{lines}".encode()
 
 
 # The same in characters: with so many of these columns the file has 395 seconds, so each second has a column of its own.
-CHARACTERS = 132
+CHARACTERS = 99
 
 
 def largest_in_characters() -> bytes:
-    """The picture, 400 characters wide: a satellite has a slip and a half cycle, a digit of its strength and nothing, again and
-    again; and each third epoch is missing. Ticks are 15 columns apart, the last one without room for its label."""
-    row = "".join(f"B{1 + column % 2} " for column in range(CHARACTERS))[:-1]
+    """The picture, 400 characters wide: a satellite has a slip and a half cycle, twice missing codes and nothing, again and again;
+    and each fourth epoch is missing. The first bits 0 are rises. Ticks are 15 columns apart, the last one without room for its label."""
+    row = "H" + ("B-- " * CHARACTERS)[1:-1]
     ticks = range(0, len(row), 15)
     labels = "".join(f"{model.civil(NOON + 1000 * it):%H:%M:%S}".ljust(15) for it in ticks[:-1])
-    lines = [f"marker {MARKER}", "from 2024-05-17 12:00:00.000", "until 2024-05-17 12:06:34.000", "interval 1.000", "column 1.000"]
-    lines += [f"records {2 * CHARACTERS}", f"satellites {SATELLITES}", f"slips {CHARACTERS * SATELLITES * len(CODES)}"]
-    lines.append(f"missing {CHARACTERS - 1}")
+    lines = [f"marker {MARKER}", "from 2024-05-17 12:00:00.000 GPS time", "until 2024-05-17 12:06:34.000 GPS time"]
+    lines += ["interval 1.000", "column 1.000", f"records {3 * CHARACTERS}", f"satellites {SATELLITES}"]
+    lines.append(f"slips {(CHARACTERS - 1) * SATELLITES * len(CODES)}")
+    lines += [f"rises {SATELLITES * len(CODES)}", f"missing {CHARACTERS - 1}"]
     lines += [f"G{number:02}|{row}|" for number in range(1, SATELLITES + 1)]
-    lines.append(f"gap|{('  x' * CHARACTERS)[:-1]}|")
+    lines.append(f"gap|{('   x' * CHARACTERS)[:-1]}|")
     lines.append("    " + "".join("+" if it in ticks else "-" for it in range(len(row))))
     lines.append("    " + labels.ljust(len(row)))
-    return "".join(f"{line}\n" for line in lines).encode()
+    return "".join(f"{line}\n" for line in [*lines, *SIGNS]).encode()
 
 
 # What a satellite shows: a range, which may have a phase after it.

@@ -1,8 +1,9 @@
 """The slow model, fourth part: a part of a file. Each digit is looked for backwards, record by record."""
-# pins: step_ms, is_on_step, is_in_span, has_slipped_since, first_of_part
+# pins: is_near_step, nearness_of, is_in_span, has_slipped_since, first_of_part
 
 from __future__ import annotations
 
+from collections import Counter
 from datetime import datetime, timedelta
 from typing import NamedTuple
 
@@ -25,12 +26,14 @@ class Part(NamedTuple):
         words = [f"{name}={it:%Y-%m-%dT%H:%M:%S}" for name, it in given.items() if it is not None]
         return words + ([] if self.every is None else [f"--every={self.every}"])
 
-    def has_step(self, time: datetime) -> bool:
-        return self.every is None or (time - START) // MS % (1000 * self.every) == 0
+    def has_step(self, time: datetime, near: int) -> bool:
+        """Whether the time is at most so many ms before or after a multiple of the step."""
+        past = 0 if self.every is None else (time - START) // MS % (1000 * self.every)
+        return self.every is None or min(past, 1000 * self.every - past) <= near
 
-    def spans(self, time: datetime) -> bool:
-        is_begun = self.since is None or time >= self.since
-        return is_begun and (self.until is None or time < self.until)
+    def spans(self, time: datetime, near: int) -> bool:
+        later = time + near * MS
+        return (self.since is None or later >= self.since) and (self.until is None or later < self.until)
 
 
 class Record(NamedTuple):
@@ -57,24 +60,30 @@ def records_of(text: str) -> list[Record]:
     return records
 
 
-def has_slipped(records: list[Record], at: int, satellite: str, code: int, part: Part) -> bool:
+def nearness(records: list[Record]) -> int:
+    """How far in ms a record may lie from a moment: a tenth of the most frequent step, the least of several, and 25 at most."""
+    steps = Counter((b.time - a.time) // MS for a, b in zip(records, records[1:]))
+    return min(25, min(steps, key=lambda step: (-steps[step], step)) // 10) if steps else 0
+
+
+def has_slipped(records: list[Record], at: int, satellite: str, code: int, part: Part, near: int) -> bool:
     """Whether the phase has slipped in this record, or in one before it since it stood on the step."""
     for back in range(at, -1, -1):
         digit = records[back].digit(satellite, code)
-        if back < at and digit is not None and part.has_step(records[back].time):
+        if back < at and digit is not None and part.has_step(records[back].time, near):
             return False
         if digit is not None and digit in "13":
             return True
     return False
 
 
-def line_of(records: list[Record], at: int, satellite: str, codes: int, part: Part) -> str:
+def line_of(records: list[Record], at: int, satellite: str, codes: int, part: Part, near: int) -> str:
     """The line of a satellite with its digits."""
     line = records[at].lines[satellite].ljust(3 + 48 * codes)
     for code in range(codes):
         digit = records[at].digit(satellite, code)
         if digit is not None:
-            bits = (digit in "23") * 2 + has_slipped(records, at, satellite, code, part)
+            bits = (digit in "23") * 2 + has_slipped(records, at, satellite, code, part, near)
             column = 3 + 48 * code + 30
             line = line[:column] + (str(bits) if bits else " ") + line[column + 1 :]
     return line.rstrip(" ") + "\n"
@@ -85,7 +94,8 @@ def part_of(text: str, part: Part) -> str:
     header, end, body = text.partition(END)
     codes = int(header.partition("\nG  ")[2][:3]) // 3
     records = records_of(body)
-    kept = [at for at, it in enumerate(records) if part.has_step(it.time) and part.spans(it.time)]
+    near = nearness(records)
+    kept = [at for at, it in enumerate(records) if part.has_step(it.time, near) and part.spans(it.time, near)]
     first = records[kept[0]].time if kept else part.since
     lines = header.splitlines(keepends=True)
     if first is not None:
@@ -94,5 +104,5 @@ def part_of(text: str, part: Part) -> str:
         lines = [f"{time:60}{FIRST:20}\n" if FIRST in line else line for line in lines]
     for at in kept:
         end += records[at].first
-        end += "".join(line_of(records, at, it, codes, part) for it in records[at].lines)
+        end += "".join(line_of(records, at, it, codes, part, near) for it in records[at].lines)
     return "".join(lines) + end

@@ -1,10 +1,12 @@
 """The slow model of pictures: each column is asked for its epochs, one after another."""
-# pins: IsMostFrequent, missing_before, bin_length, has_missing, IsScale, unit_of
+# pins: IsMostFrequent, missing_before, nearest_intervals, bin_length, has_missing, IsScale, Scale.unit_of, half_of
+# pins: longest_gap, begins_pass, is_rise, is_slip, Grid.code_in, lacks_phase, times_in_epoch
 
 from __future__ import annotations
 
 from collections import Counter
 from collections.abc import Iterable
+from fractions import Fraction
 from pathlib import Path
 from typing import NamedTuple
 
@@ -22,11 +24,20 @@ STEPS = [
 
 
 class Shown(NamedTuple):
-    """What a code shows: its phase, its loss-of-lock digit, its strength digit."""
+    """What a code shows: its phase, its loss-of-lock digit, its strength digit, and whether bit 0 is a rise."""
 
     phase: bool
     lock: int
     level: int | None
+    rises: bool = False
+
+    @property
+    def rise(self) -> bool:
+        return bool(self.lock & 1) and self.rises
+
+    @property
+    def slip(self) -> bool:
+        return bool(self.lock & 1) and not self.rises
 
 
 class Epoch(NamedTuple):
@@ -57,19 +68,41 @@ def epochs_of(records: str, codes: int) -> list[Epoch]:
     ]
 
 
-def character(epochs: list[Epoch], name: str, codes: int) -> str:
-    """The character of a satellite in the epochs of a column."""
+def with_rises(epochs: list[Epoch], interval: int | None) -> None:
+    """Tells rises and slips apart: satellite by satellite, each pass is looked through for the first phase of each code."""
+    gap = max(120_000, interval or 0)
+    for name in {name for epoch in epochs for name in epoch.satellites}:
+        seen = [(epoch, epoch.satellites[name]) for epoch in epochs if name in epoch.satellites]
+        last: int | None = None
+        known: set[int] = set()
+        for epoch, codes in seen:
+            phases = {at for at, shown in enumerate(codes) if shown.phase}
+            if phases and (last is None or epoch.time - last > gap):
+                known = set()
+            epoch.satellites[name] = [shown._replace(rises=at not in known) for at, shown in enumerate(codes)]
+            known |= phases
+            last = epoch.time if phases else last
+
+
+def character(epochs: list[Epoch], name: str, had: set[int]) -> str:
+    """The character of a satellite, which has these codes somewhere, in the epochs of a column."""
     rows = [epoch.satellites.get(name) for epoch in epochs]
     cells = [shown for row in rows if row for shown in row]
-    slip, half = any(c.lock & 1 for c in cells), any(c.lock & 2 for c in cells)
+    slip, half = any(c.slip for c in cells), any(c.lock & 2 for c in cells)
     if slip or half:
         return "B" if slip and half else "S" if slip else "H"
-    for code in range(codes):
-        stands = [bool(row and row[code].phase) for row in rows]
-        if any(stands) and not all(stands):
+    if any(c.rise for c in cells):
+        return "R"
+    for row in rows:
+        if row and any(shown.phase for shown in row) and not all(row[code].phase for code in had):
             return "-"
     levels = [c.level for c in cells if c.level is not None]
     return str(min(levels)) if levels else "." if any(c.phase for c in cells) else " "
+
+
+def nearest(step: int, interval: int) -> int:
+    """How many intervals a step has: the nearest whole number; a half counts down."""
+    return round(Fraction(step, interval) - Fraction(1, 10**9))
 
 
 def moment(time: int) -> str:
@@ -87,7 +120,6 @@ class Drawn:
         self.codes = [it[1:] for it in types[::3]]
         self.epochs = epochs_of(records, len(self.codes))
         self.names = sorted({name for epoch in self.epochs for name in epoch.satellites})
-        self.slips = sum(c.lock & 1 for e in self.epochs for row in e.satellites.values() for c in row)
         if self.epochs:
             self._lay(most)
 
@@ -95,13 +127,21 @@ class Drawn:
         times = [epoch.time for epoch in self.epochs]
         steps = Counter(b - a for a, b in zip(times, times[1:]))
         self.interval = interval = min(steps, key=lambda step: (-steps[step], step)) if steps else None
+        with_rises(self.epochs, interval)
+        cells = [c for e in self.epochs for row in e.satellites.values() for c in row]
+        self.slips, self.rises = sum(c.slip for c in cells), sum(c.rise for c in cells)
+        # which codes each satellite has somewhere, by their places
+        self.had = {
+            name: {at for e in self.epochs for at, c in enumerate(e.satellites.get(name, [])) if c.phase} for name in self.names
+        }
         # The missing epochs after each epoch. They may be many millions, so they are no list.
-        missing = [range(a + interval, b, interval) for a, b in zip(times, times[1:])] if interval else []
+        missing = [range(a + interval, a + interval * nearest(b - a, interval), interval) for a, b in zip(times, times[1:])] if interval else []
         self.missing = sum(map(len, missing))
         self.first, self.last = times[0], times[-1]
         unit = interval or 1
         # the least multiple with which the last epoch has a column
-        self.length = unit * ((self.last - self.first) // (unit * most) + 1)
+        self.half = (unit - 1) // 2
+        self.length = unit * ((self.last - self.first + self.half) // (unit * most) + 1)
         self.columns = self.column(self.last) + 1
         self.parts: list[list[Epoch]] = [[] for _ in range(self.columns)]
         for epoch in self.epochs:
@@ -111,17 +151,19 @@ class Drawn:
         self.gaps = {c for begin, end in ends for c in range(begin, end + 1)}
 
     def column(self, time: int) -> int:
-        return (time - self.first) // self.length
+        """The column of the interval that is nearest to a time."""
+        return (time - self.first + self.half) // self.length
 
     def ticks(self, least: int) -> dict[int, str]:
         """What stands at the ticks, by their columns; they are so far apart at least."""
         step = next((s for s in STEPS if s >= least), -(-least // DAY) * DAY)
         ticks = {}
         for c in range(self.columns):
-            begin, end = self.first + c * self.length, min(self.first + (c + 1) * self.length - 1, self.last)
+            begin = max(0, self.first + c * self.length - self.half)
+            end = min(begin + self.length - 1, self.last)
             if end // step * step >= begin:
                 label = moment(end // step * step)
-                ticks[c] = label[:10] if step >= DAY else label[11:19].ljust(10)
+                ticks[c] = label[:10] if step >= DAY else label[11:19]
         return ticks
 
 
@@ -130,80 +172,144 @@ def text_picture(text: str, width: int) -> str:
     it = Drawn(text, width - 5)
     if not it.epochs:
         return f"marker {it.marker}\nno records\n"
-    out = [f"marker {it.marker}", f"from {moment(it.first)}", f"until {moment(it.last)}"]
-    out += [f"interval {fixed(it.interval, 3) if it.interval else '-'}", f"column {fixed(it.length, 3)}"]
-    out += [f"records {len(it.epochs)}", f"satellites {len(it.names)}", f"slips {it.slips}", f"missing {it.missing}"]
+    out = [f"marker {it.marker}", f"from {moment(it.first)} GPS time", f"until {moment(it.last)} GPS time"]
+    if it.interval:
+        out += [f"interval {fixed(it.interval, 3)}", f"column {fixed(it.length, 3)}"]
+    out += [f"records {len(it.epochs)}", f"satellites {len(it.names)}"]
+    out += [f"slips {it.slips}", f"rises {it.rises}", f"missing {it.missing}"]
     for name in it.names:
-        out.append(f"{name}|{''.join(character(part, name, len(it.codes)) for part in it.parts)}|")
+        out.append(f"{name}|{''.join(character(part, name, it.had[name]) for part in it.parts)}|")
     out.append(f"gap|{''.join('x' if c in it.gaps else ' ' for c in range(it.columns))}|")
     ticks = it.ticks(12 * it.length)
     out.append("    " + "".join("+" if c in ticks else "-" for c in range(it.columns)))
-    labels = [" "] * it.columns
+    labels = [" "] * width
+    end = it.columns
     for c, label in ticks.items():
-        if c + 10 <= it.columns:
-            labels[c : c + 10] = label
-    out.append("    " + "".join(labels))
-    return "\n".join(out) + "\n"
+        if 4 + c + len(label) <= width:
+            labels[c : c + len(label)] = label
+            end = max(end, c + len(label))
+    out.append("    " + "".join(labels[:end]))
+    # so many satellites behind "never 2W:" leave no more room than for one
+    most = (width - 9) // 4
+    for at, code in enumerate(it.codes):
+        never = [name for name in it.names if at not in it.had[name]]
+        out += [" ".join([f"never {code}:", *never[begin : begin + most]]) for begin in range(0, len(never), most)]
+    return "\n".join([*out, *SIGNS]) + "\n"
 
 
-# pins: runs_text, strokes_text, run_part, stroke_part, path_start, runs_layer, strokes_path, code_layers, level_layer, level_layers
-# pins: lock_layers, band_title, gaps_band, tick_text, interval_text, svg_span, svg_numbers, civil_text, drawn_width
-# pins: svg_tick_step, svg_picture, svg_start, svg_body, svg_legend, bands_end, bands_text, band_text, band_height, band_if_drawn
+SIGNS = [
+    "S slip  R rise  H half cycle  B S and H",
+    "- code missing  x epochs missing",
+    "1-9 strength, 5 is 30-35 dB-Hz  . none",
+]
+
+
+# pins: edge_of, middle_of, run_part, mark_part, path_start, runs_path, marks_path, level_path
+# pins: missing_paths, lock_paths, shows, column_numbers, drawn_bar, bar_text, SvgPicture.code_line, band_height, band_start, band_text
+# pins: band_if_drawn, bands_text, gaps_band, satellites_band, step_part, tick_text, ticks_text, svg_tick_step
+# pins: interval_text, svg_span, svg_numbers, civil_text, svg_picture, svg_start, svg_body, svg_legend, bands_end
 def svg_picture(text: str) -> str:
     """The picture of a file in SVG."""
     it = Drawn(text, UNITS)
     marker = it.marker.replace("&", "&amp;").replace("<", "&lt;").replace(">", "&gt;")
-    high = 34 + 8 * len(it.codes)
-    end = 96 + high * len(it.names) if it.epochs else 0
-    out = [f"<svg xmlns='http://www.w3.org/2000/svg' viewBox='0 0 1560 {end + 100}'>", f"<title>{marker}</title>", STYLE]
-    out += [f"<rect class='page' width='1560' height='{end + 100}'/>", f"<text class='marker' x='90' y='30'>{marker}</text>"]
+    high = 14 + 22 * len(it.codes)
+    end = 112 + high * len(it.names) if it.epochs else -120
+    out = [f"<svg xmlns='http://www.w3.org/2000/svg' viewBox='0 0 1620 {end + 230}'>", f"<title>{marker}</title>", STYLE]
+    out += [f"<rect class='page' width='1620' height='{end + 230}'/>", f"<text class='marker' x='110' y='42'>{marker}</text>"]
     if not it.epochs:
-        return "\n".join([*out, "<text x='90' y='52'>no records</text>", "</svg>\n"])
-    interval = f"interval {fixed(it.interval, 3)} s" if it.interval else "no interval"
-    out.append(f"<text x='90' y='52'>{moment(it.first)} to {moment(it.last)}, {interval}, column {fixed(it.length, 3)} s</text>")
-    counts = f"records {len(it.epochs)}, satellites {len(it.names)}, slips {it.slips}, missing epochs {it.missing}"
-    out.append(f"<text x='90' y='70'>{counts}</text>")
-    wide = UNITS // it.columns
-    for c, label in it.ticks((100 // wide + 1) * it.length).items():
-        out.append(f"<path class='t' d='M{90 + c * wide} 90V{end + 24}'/>")
-        out.append(f"<text class='tick' x='{90 + c * wide}' y='{end + 38}'>{label}</text>")
+        return "\n".join([*out, "<text x='110' y='72'>no records</text>", "</svg>\n"])
+    interval = f", interval {fixed(it.interval, 3)} s, column {fixed(it.length, 3)} s" if it.interval else ""
+    out.append(f"<text x='110' y='72'>{moment(it.first)} to {moment(it.last)}{interval}</text>")
+    counts = f"records {len(it.epochs)}, satellites {len(it.names)}, slips {it.slips}, rises {it.rises}, missing epochs {it.missing}"
+    out.append(f"<text x='110' y='98'>{counts}</text>")
     for at, name in enumerate(it.names):
-        out += group(96 + high * at, band(it, name, wide))
-    missing = ["<title>missing epochs</title>", "<text class='name' x='-4' y='12'>missing</text>", path("g", 5, it.gaps, wide)]
-    return "\n".join([*out, *group(end, missing), *group(end + 48, [LEGEND]), "</svg>\n"])
+        ground = f"<rect class='b{at % 2}' x='-110' width='1620' height='{high}'/>"
+        label = f"<text class='name' x='-40' y='{16 + 11 * len(it.codes)}'>{name}</text>"
+        lines = [line for code in range(len(it.codes)) for line in code_line(it, name, code)]
+        out += group(110, 112 + high * at, [f"<title>{name}</title>", ground, label, *lines])
+    out += group(110, end, ["<title>missing epochs</title>", "<text class='code' x='-6' y='18'>missing</text>", *bars(it, "g", it.gaps, 12)])
+    out += group(110, end + 26, satellites(it))
+    for c, label in it.ticks((it.columns // 10 + 1) * it.length).items():
+        out.append(f"<path class='t' d='M{110 + edge(it, c)} 106V{end + 72}'/>")
+        out.append(f"<text class='tick' x='{110 + edge(it, c)}' y='{end + 94}'>{label}</text>")
+    return "\n".join([*out, *group(110, end + 104, [LEGEND]), "</svg>\n"])
 
 
 UNITS = 1440  # how wide the columns are together
 STYLE, LEGEND = (
     next(line for line in (ROOT / "examples/marks.svg").read_text().splitlines() if line.startswith(begin))
-    for begin in ("<style>", "<path class='s' d=")
+    for begin in ("<style>", "<text y='16'>GPS time")
 )
 
 
-def band(it: Drawn, name: str, wide: int) -> list[str]:
-    """The lines of a satellite."""
-    rows = {c: [epoch.satellites.get(name) for epoch in part] for c, part in enumerate(it.parts) if part}
-    cells = {c: [shown for row in part if row for shown in row] for c, part in rows.items()}
-    least = {c: min((shown.level for shown in part if shown.level), default=0) for c, part in cells.items()}
-    slips, halves = ([c for c, part in cells.items() if any(shown.lock & bit for shown in part)] for bit in (1, 2))
-    lines = [f"<title>{name}, slips in {len(slips)} columns, half cycles in {len(halves)} columns</title>"]
-    lines += [f"<text class='name' x='-28' y='25'>{name}</text>", path("s", 3, slips, wide), path("h", 11, halves, wide)]
-    for at, code in enumerate(it.codes):
-        stand = {c: [bool(row and row[at].phase) for row in part] for c, part in rows.items()}
-        lines.append(f"<text class='code' x='-4' y='{25 + 8 * at}'>{code}</text>")
-        lines.append(path("w", 22 + 8 * at, [c for c, are in stand.items() if all(are)], wide))
-        lines.append(path("p", 19 + 8 * at, [c for c, are in stand.items() if any(are) and not all(are)], wide))
-    return lines + [path(f"l{k}", 22 + 8 * len(it.codes), [c for c in least if least[c] == k], wide) for k in range(1, 10)]
+def edge(it: Drawn, column: int) -> int:
+    """Where a column begins: all have a like share of the width, in whole units."""
+    return int(Fraction(UNITS * column, it.columns))
 
 
-def path(name: str, top: int, columns: Iterable[int], wide: int) -> str:
-    """Of phases and strengths a line over each of these columns, one over those side by side; else a stroke in the middle of each."""
-    has = set(columns)
-    parts = (f"h{wide}" if c - 1 in has else f"M{c * wide} 0h{wide}" for c in sorted(has))
-    if name in "shpg":
-        parts = (f"M{c * wide + wide // 2} 0v6" for c in sorted(has))
-    return f"<path class='{name}' transform='translate(0 {top})' d='{''.join(parts)}'/>"
+def code_line(it: Drawn, name: str, code: int) -> list[str]:
+    """The lines of a code of a satellite."""
+    title = f"<title>{name} {it.codes[code]}: "
+    label = f"<text class='code' x='-6' y='16'>{it.codes[code]}</text>"
+    if code not in it.had[name]:
+        return group(0, 7 + 22 * code, [title + "never a phase</title>", "<text class='never' x='4' y='16'>never</text>", label])
+    rows = {c: [epoch.satellites[name] for epoch in part if name in epoch.satellites] for c, part in enumerate(it.parts)}
+    cells = {c: [row[code] for row in part] for c, part in rows.items()}
+    phases = {c for c, part in cells.items() if any(shown.phase for shown in part)}
+    missing = {c for c, part in rows.items() if any(any(shown.phase for shown in row) and not row[code].phase for row in part)}
+    slips = {c for c, part in cells.items() if any(shown.slip for shown in part)}
+    rises = {c for c, part in cells.items() if any(shown.rise for shown in part)}
+    halves = {c for c, part in cells.items() if any(shown.lock & 2 for shown in part)}
+    least = {c: min((shown.level for shown in cells[c] if shown.level), default=0) for c in phases}
+    title += f"columns with phase {len(phases)}, missing {len(missing)}"
+    title += f", slips {len(slips)}, rises {len(rises)}, half cycles {len(halves)}</title>"
+    lines = [title]
+    for level in range(10):
+        lines += bars(it, f"l{level}", {c for c in phases if least[c] == level}, 10)
+    lines += boxes(it, "p", missing & phases, 10, 6) + boxes(it, "m", missing - phases, 16, 12)
+    lines += forms(it, "r", rises, "5l9 5l-9 5z") + forms(it, "s", slips, "20l-7-21h14z") + forms(it, "h", halves, "8l6 6l-6 6l-6-6z")
+    return group(0, 7 + 22 * code, [*lines, label])
 
 
-def group(top: int, lines: list[str]) -> list[str]:
-    return [f"<g transform='translate(90 {top})'>", *lines, "</g>"]
+def runs(it: Drawn, columns: set[int]) -> list[tuple[int, int]]:
+    """Where columns side by side begin and end."""
+    begins = sorted(c for c in columns if c - 1 not in columns)
+    ends = sorted(c + 1 for c in columns if c + 1 not in columns)
+    return [(edge(it, begin), edge(it, end)) for begin, end in zip(begins, ends)]
+
+
+def path(name: str, parts: Iterable[str]) -> list[str]:
+    """A path of these parts, if there are any."""
+    d = "".join(parts)
+    return [f"<path class='{name}' d='{d}'/>"] if d else []
+
+
+def bars(it: Drawn, name: str, columns: set[int], y: int) -> list[str]:
+    return path(name, (f"M{begin} {y}H{end}" for begin, end in runs(it, columns)))
+
+
+def boxes(it: Drawn, name: str, columns: set[int], low: int, high: int) -> list[str]:
+    return path(name, (f"M{begin} {low}v-{high}H{end}v{high}z" for begin, end in runs(it, columns)))
+
+
+def forms(it: Drawn, name: str, columns: set[int], form: str) -> list[str]:
+    """A form in the middle of each of these columns."""
+    return path(name, (f"M{(edge(it, c) + edge(it, c + 1)) // 2} {form}" for c in sorted(columns)))
+
+
+def satellites(it: Drawn) -> list[str]:
+    """The numbers of satellites with a phase, as steps."""
+    has = [{name for epoch in part for name, row in epoch.satellites.items() if any(c.phase for c in row)} for part in it.parts]
+    counts = [len(names) for names in has]
+    heights = [40 - 40 * count // max(1, *counts) for count in counts]
+    steps = [f"H{edge(it, c)}V{heights[c]}" for c in range(it.columns) if counts[c] != ([0] + counts)[c]]
+    return [
+        "<title>satellites with a phase</title>",
+        "<text class='code' x='-6' y='18'>satellites</text>",
+        f"<text class='code' x='-6' y='38'>at most {max(counts)}</text>",
+        f"<path class='n' d='M0 40{''.join(steps)}H1440V40z'/>",
+    ]
+
+
+def group(x: int, y: int, lines: list[str]) -> list[str]:
+    return [f"<g transform='translate({x} {y})'>", *lines, "</g>"]

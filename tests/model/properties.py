@@ -18,16 +18,21 @@ from itertools import zip_longest
 from random import Random
 from typing import Callable, Iterable, NamedTuple
 
-from captures import Capture
+import finding
+from captures import LAST_MADE, Capture
 from checker import fault
 from damages import damaged_file
-from messages import Placed, frames_of, show_line
-from model import COUNTS, KINDS, Conversion, Judged, convert, report_of
+from finding import EPHEMERIS, FIRST_DAY, SYSTEM_PARAMETERS, TEXT, Found, Stopped, find
+from messages import Placed, Refusal, frames_of, read_message, show_line
+from model import COUNTS, KINDS, Conversion, Judged, Setup, civil, convert, report_of
 from parts import Part, part_of, records_of
+from passes import file_of_passes
 from pictures import svg_picture, text_picture
 from program import Ended, Program
-from summaries import summary_of
-from wire import frame_of
+from qualities import quality, quality_in_json
+from sender import pick_any
+from summaries import UNTAKEN, look_of, sh_quoted, summary_of
+from wire import MSMS, WEEK_MS, BitWriter, Message, frame_of
 
 MOST_LINKS = 16
 HOLDS = ""
@@ -176,35 +181,178 @@ def shown_as_modelled(case: Case) -> Answer:
 
 
 def summarized_as_modelled(case: Case) -> Answer:
-    """`summary` tells of the bytes of all links, one after another, what the slow model counts."""
-    text = b"".join(case.links)
+    """`summary` tells of the bytes of all links, one after another and with dates among them, what the slow model counts."""
+    text = with_dates(case.rng, case.capture.setup, b"".join(case.links))
     return ends_with(case.program.on(text, "summary"), 0, summary_of(text).encode(), b"")
 
 
+def auto_as_modelled(case: Case) -> Answer:
+    """`auto` of the links, whole or in parts and with dates among their frames, says the values that the slow model finds and
+    how it went, and writes the file of these values; or it writes nothing, and names the cause that the model finds."""
+    rng, setup = case.rng, case.capture.setup
+    texts = [with_dates(rng, setup, part) for text in case.links for part in parts_of(rng, text)]
+    rng.shuffle(texts)
+    if rng.random() < 0.1:
+        texts.append(rng.choice((b"", b"\x1f\x8b\x08")))
+    now = rng.choice((setup.made, LAST_MADE, min(setup.near + rng.randint(0, 1100 * WEEK_MS), LAST_MADE) // 1000 * 1000))
+    station, near = rng.choice((None, setup.station)), rng.choice((None, None, None, setup.near))
+    as_given, skip_empty = rng.random() < 0.2, rng.random() < 0.4
+    if station is None:
+        # what is kept of a capture is of one station: of that of its first message, before any has an observation
+        texts.sort(key=lambda it: not finding.Capture.of(it).observing())
+    made = f"{civil(now):%Y-%m-%dT%H:%M:%S}"
+    options = [f"--made={made}", f"--marker={setup.marker}", f"--window={setup.window}"]
+    options += [] if station is None else [f"--station={station}"]
+    options += [] if near is None else [f"--near={civil(near):%Y-%m-%dT%H:%M:%S}"]
+    options += ["--links-as-given"] * as_given + ["--skip-empty"] * skip_empty
+    names = [f"link{at}" for at in range(1, len(texts) + 1)]
+    for name, text in zip(names, texts):
+        case.program.write(name, text)
+    run = case.program.run(["auto", *options, *names])
+    try:
+        found = find(texts, now, station, near, as_given, skip_empty)
+    except Stopped as stopped:
+        listed = "".join(f" station {it}\n" for it in stopped.about) if "station" in STOPPED[stopped.cause] else ""
+        line = f"rtcm2rinex: {STOPPED[stopped.cause]}\n".replace("STATION", str(station)) + listed
+        is_said = re.match(line.encode(), run.err)
+        return ends_with(run, 3, b"", None) or (HOLDS if is_said else f"{run.err!r} and not {line!r}")
+    said = Setup(found.station, found.near, now, setup.marker, tuple(found.codes), setup.window, found.msm - 1070)
+    due = convert(said, [b"".join(texts[at] for at in link) for link in found.links])
+    text = auto_text(found, said, due, texts, near is None).encode()
+    if len(found.links) > 1:
+        # The reads of several links are cut elsewhere where their captures end: what was told before is told again, or the other
+        # way round; and if something is late or in conflict, it may be something else.
+        if re.search(rb"^(late|conflict) [1-9]", run.err + text, re.M):
+            is_said = run.err.startswith(text[: text.index(b"\nframes ")])
+            return HOLDS if is_said and run.status in (0, 3) else f"{run.err!r} and not {text!r}"
+        text, told = (re.sub(rb"^(taken|repeat) \d+$", b"", it, flags=re.M) for it in (text, run.err))
+        run = run._replace(err=told)
+    return ends_with(run, 0 if due.epochs else 3, due.file.encode(), text)
+
+
+STOPPED = {
+    "no frame": "the captures have no frame of RTCM 3",
+    "no observation": "the captures have no GPS observations that are read",
+    "no such station": "station STATION has no GPS observations that are read",
+    "several stations": "several stations have GPS observations; choose one by --station",
+    "nothing of the station": r"captures have nothing of [^;]*; --skip-empty leaves them out",
+    "dates differ": "the captures tell dates that differ; choose one by --near",
+    "no date": "the captures tell no date; give one, as in --near 2024-05-17T12:00:00",
+    "give them in parts": "the captures are longer than half a week; convert them in parts",
+    "outside the dates": "the epochs are not dated from 1980-01-13 to 2099-12-31; see --near",
+    "too many links": "more than 16 captures are of the same time, and 16 links are taken",
+    "positions differ": "the station stands at positions that differ; --links-as-given takes them for one",
+}
+
+
+def parts_of(rng: Random, text: bytes) -> list[bytes]:
+    """One part, or up to three, cut behind frames."""
+    pieces = pieces_of(text)
+    cuts = sorted(rng.choices(range(len(pieces)), k=rng.choice((0, 0, 1, 2))))
+    return [b"".join(pieces[at:end]) for at, end in zip([0, *cuts], [*cuts, len(pieces)])]
+
+
+def with_dates(rng: Random, setup: Setup, text: bytes) -> bytes:
+    """Up to three frames with a date among those of a capture: most often of the station, and near the reference."""
+    pieces = pieces_of(text)
+    for _ in range(rng.choice((0, 1, 1, 1, 1, 2, 3))):
+        at = max(0, setup.near + rng.choice((0, 0, 0, rng.randint(-WEEK_MS, WEEK_MS)))) // 1000
+        number, table = rng.choice(((1013, SYSTEM_PARAMETERS), (1029, TEXT), (1019, EPHEMERIS)))
+        values = {it.name: pick_any(rng, it) for it in table} | {
+            "number": number, "station": rng.choice((setup.station, setup.station, 5)), "day": FIRST_DAY + at // 86_400,
+            "second": rng.choice((*[at % 86_400] * 9, 86_400, 86_401)), "announced": rng.choice((0, 1, 31)),
+            "week": at // 604_800 % 1024, "toe": at % 604_800 // 16,
+        }
+        bits = BitWriter()
+        bits.put_row(table, values)
+        pieces.insert(rng.randrange(len(pieces)), frame_of(bits.to_bytes() + rng.randbytes(rng.choice((0, 3, 4, 120, 260)))))
+    return b"".join(pieces)
+
+
+SYSTEMS = {108: "GLONASS", 109: "Galileo", 110: "SBAS", 111: "QZSS", 112: "BeiDou", 113: "NavIC"}
+
+
+def auto_text(found: Found, said: Setup, due: Conversion, texts: list[bytes], is_told: bool) -> str:
+    """What `auto` says of a conversion that is done."""
+    first, last = min(it for of in found.epochs for it in of), max(it for of in found.epochs for it in of)
+    source = "--near"
+    if is_told and "week" in found.by:
+        others = [f"{civil(at):%Y-%m-%d}" for at in (first - 1024 * WEEK_MS, first + 1024 * WEEK_MS) if 0 <= at <= LAST_MADE + 999]
+        source = f"1019 (or {', '.join(others)})"
+    elif is_told:
+        source = str(found.by["number"]) + (f" of station {found.by['station']}" if found.by["station"] != said.station else "")
+    lines = [f" from {civil(first):%Y-%m-%dT%H:%M:%S} until {civil(last):%Y-%m-%dT%H:%M:%S} by {source}"]
+    marker = said.marker.lstrip("-")
+    words = (f"rtcm2rinex convert --station {said.station} --near {civil(said.near):%Y-%m-%dT%H:%M:%S}"
+             f" --made {civil(said.made):%Y-%m-%dT%H:%M:%S} --marker {'-' * (len(said.marker) - len(marker))}{sh_quoted(marker)}"
+             f" --codes {','.join(said.codes)}{'' if said.msm == 4 else f' --msm {said.msm}'} --window {said.window}")
+    cats = ["cat " + " ".join(f"link{at + 1}" for at in link) for link in found.links]
+    if len(cats) == 1 < len(found.links[0]):
+        lines.append(f"{cats[0]} | {words} stdin")
+    else:
+        lines += ["mkdir joined &&"] * any(len(link) > 1 for link in found.links)
+        lines += [f"{cat} >joined/{at}.rtcm &&" for at, cat in enumerate(cats, 1) if len(found.links[at - 1]) > 1]
+        files = [f"joined/{at}.rtcm" if len(link) > 1 else f"link{link[0] + 1}" for at, link in enumerate(found.links, 1)]
+        lines.append(f"{words} {' '.join(files)}")
+    lines += due.report.splitlines()[-9:]
+    counts = dict(line.split(" ") for line in lines[-9:])
+    lines += [f" few-phases {code}: its satellites have more than twice as many in another code" for code in found.few]
+    lines += [f" late {counts['late']}: messages after {said.window} newer epochs are left out"] * (counts["late"] != "0")
+    looks = {at: look_of(texts[at]) for at in found.skipped if not frames_of(texts[at])}
+    shown = {"unknown": "", "empty": " is empty", "gzip": " looks like gzip"}
+    lines += [f" skipped link{at + 1}{shown.get(looks.get(at), '')}" for at in found.skipped]
+    kept = [at for at in range(len(texts)) if at not in found.skipped]
+    falls = [at for at, of in zip(kept, found.epochs) if of != sorted(of)]
+    lines += [f" {'no-epoch' if at in found.without else 'time-falls'} link{at + 1}" for link in found.links for at in link
+              if at in found.without + falls]
+    read = [read_message(it.payload, MSMS) for text in texts for it in frames_of(text)]
+    others = Counter(it.number for it in read if isinstance(it, Refusal) and it.fault == "M2")
+    others.update(it.header["number"] for it in read if isinstance(it, Message) and it.header["station"] == said.station
+                  and it.header["number"] in MSMS and it.header["number"] != found.msm)
+    numbers = [*sorted(set(others) & set(MSMS)), *(it for it in sorted(others) if it in UNTAKEN or 1009 <= it <= 1012 or 1081 <= it <= 1137)]
+    lines += [f" untaken {SYSTEMS.get(it // 10, 'GLONASS') if it > 1080 or 1009 <= it <= 1012 else 'GPS'} {it} {others[it]}" for it in numbers]
+    lines += ["rtcm2rinex: no record came; the file is a header alone"] * (due.epochs == 0)
+    return "".join(f"{line}\n" for line in lines)
+
+
+def any_file(case: Case) -> str:
+    """The file of the capture, or one of a station whose clock is not steered and whose satellites go and return."""
+    return case.base.out.decode() if case.rng.random() < 0.5 else file_of_passes(case.rng, case.capture.setup)
+
+
 def charted_as_modelled(case: Case) -> Answer:
-    """`chart --text` of the file, of any width, is the picture that the slow model makes, or so is `chart`."""
-    width = case.rng.choice((40, 80, 400, case.rng.randint(40, 400)))
-    words, due = ("chart", "--text", "--columns", str(width)), text_picture(case.base.out.decode(), width)
+    """`chart --text` of a file, of any width, is the picture that the slow model makes, or so is `chart`."""
+    text, width = any_file(case), case.rng.choice((40, 80, 400, case.rng.randint(40, 400)))
+    words, due = ("chart", "--text", "--columns", str(width)), text_picture(text, width)
     if case.rng.random() < 0.5:
-        words, due = ("chart",), svg_picture(case.base.out.decode())
-    return ends_with(case.program.on(case.base.out, *words), 0, due.encode(), b"")
+        words, due = ("chart",), svg_picture(text)
+    return ends_with(case.program.on(text.encode(), *words), 0, due.encode(), b"")
+
+
+def assessed_as_modelled(case: Case) -> Answer:
+    """`quality` tells of a file what the slow model counts, in lines and in JSON."""
+    text = any_file(case)
+    lines = ends_with(case.program.on(text.encode(), "quality"), 0, quality(text).encode(), b"")
+    return lines or ends_with(case.program.on(text.encode(), "quality", "--json"), 0, quality_in_json(text).encode(), b"")
 
 
 def cut_as_modelled(case: Case) -> Answer:
-    """`cut` of the file writes the part that the slow model writes; the span begins and ends at
+    """`cut` of a file writes the part that the slow model writes; the span begins and ends at
     records, or a second beside one."""
-    text = case.base.out.decode()
-    times = [it.time.replace(microsecond=0) for it in records_of(text)]
+    text = any_file(case)
+    times = [it.time for it in records_of(text)]
     if not times:
         return NOT_MET
-    drawn = sorted(case.rng.choice(times) + timedelta(seconds=case.rng.randint(-1, 1)) for _ in "12")
+    drawn = sorted(case.rng.choice(times).replace(microsecond=0) + timedelta(seconds=case.rng.randint(-1, 1)) for _ in "12")
     since, until = (case.rng.choice((it, None)) for it in drawn)
-    steps = (1, 1, 2, 3, 5, 7, 11, 30, 60, *(case.rng.randint(1, 86_400) for _ in range(9)))
+    between = Counter(round((b - a).total_seconds()) for a, b in zip(times, times[1:]))
+    usual = [least * it for least, _ in between.most_common(1) for it in (1, 2, 3) if 1 <= least * it <= 86_400]
+    steps = (1, 1, 2, 3, 5, 7, 11, 30, 60, *usual, *usual, *(case.rng.randint(1, 86_400) for _ in range(9)))
     part = Part(since, until, case.rng.choice((None, *steps) if since or until else steps))
     if any(it and not 1980 <= it.year <= 2100 for it in (since, until)):
         return NOT_MET
-    run = case.program.on(case.base.out, "cut", *part.words())
-    return ends_with(run, 0, part_of(text, part).encode(), b"")
+    run, want = case.program.on(text.encode(), "cut", *part.words()), part_of(text, part)
+    return ends_with(run, 0, want.encode(), b"records %d written %d\n" % (len(times), want.count("\n> ")))
 
 
 def hex_shown_as_bytes(case: Case) -> Answer:
@@ -410,8 +558,10 @@ OFTEN = (
     Property(shown_as_modelled, 20),
     Property(hex_shown_as_bytes, 20),
     Property(summarized_as_modelled, 20),
+    Property(auto_as_modelled, 25),
     Property(charted_as_modelled, 20),
-    Property(cut_as_modelled, 16),
+    Property(assessed_as_modelled, 20),
+    Property(cut_as_modelled, 15),
     Property(faults_are_named, 10),
 )
 

@@ -5,7 +5,8 @@ from __future__ import annotations
 
 from collections.abc import Iterable
 
-from wire import HEADERS, LEGACY_SATELLITE, MSM_CELL, MSM_SATELLITE, Fields, Message, Table
+from finding import SYSTEM_PARAMETERS
+from wire import HEADERS, LEGACY_SATELLITE, MSM_CELL, MSM_SATELLITE, BitWriter, Fields, Message, Table
 from wire import frame_of, payload_of
 
 STATION = 2003
@@ -58,3 +59,15 @@ def msm_of(
 def capture(*messages: Message) -> bytes:
     """Their frames."""
     return b"".join(frame_of(payload_of(message)) for message in messages)
+
+
+def frame_of_row(fields: Table, **values: int) -> bytes:
+    """The frame of a message that is one row of fields."""
+    bits = BitWriter()
+    bits.put_row(fields, row(fields, values))
+    return frame_of(bits.to_bytes())
+
+
+def date(second: int = 43_200, day: int = 60_447, station: int = STATION) -> bytes:
+    """The frame of a 1013. Day 60,447 is 2024-05-17; it has no more than 18 leap seconds to tell."""
+    return frame_of_row(SYSTEM_PARAMETERS, number=1013, station=station, day=day, second=second, leap_seconds=18)

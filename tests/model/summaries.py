@@ -2,30 +2,70 @@
 
 from __future__ import annotations
 
+import shlex
+import string
 from collections import Counter
+from datetime import datetime, timedelta
 from itertools import groupby, pairwise
 
+from finding import date_of
 from messages import CODES, Refusal, cells_of, frames_of, read_message
-from wire import MSMS, Message
+from wire import MSMS, Fields, Message
 
 UNTAKEN = (1001, 1002, 1003, 1071, 1072, 1073)
-NEXT = "--near GPS-TIME-WITHIN-HALF-A-WEEK --made UTC-NOW --marker NAME --codes"
+NO_DATE = "GPS-TIME-WITHIN-HALF-A-WEEK"
+MADE = '--made "$(date -u +%FT%T)"'
+MARKS = {b"": "empty", b"\x1f\x8b": "gzip", b"PK\3\4": "zip", b"\xb5b": "u-blox"}
 
 
-def summary_of(text: bytes) -> str:
+def summary_of(text: bytes, name: str = "file") -> str:
     """The lines of a capture's summary, as one text."""
     frames = frames_of(text)
     read = [read_message(frame.payload, MSMS) for frame in frames]
     messages = [it for it in read if not isinstance(it, Refusal)]
+    dates = [it for it in (date_of(frame.payload) for frame in frames) if it]
     framed = sum(6 + len(frame.payload) for frame in frames)
     lines = [f"bytes {len(text)}", f"outside-frames {len(text) - framed}", f"frames {len(frames)}"]
-    for station in sorted({it.header["station"] for it in messages}):
+    if not frames:
+        lines.append(f"looks-like {look_of(text)}")
+    dated = [it for it in dates if "day" in it and civil_of(it)]
+    for station in sorted({it.header["station"] for it in messages} | {it["station"] for it in dated}):
         of_station = [it for it in messages if it.header["station"] == station]
-        lines += [f"station {station}", *station_lines(station, of_station)]
+        lines += [f"station {station}", *station_lines(name, station, of_station, [it for it in dated if it["station"] == station])]
+    weeks = Counter(it["week"] for it in dates if "week" in it)
+    lines += [f"week {week} 1019 {weeks[week]}" for week in sorted(weeks)]
     lines += unread_lines(Counter(it for it in read if isinstance(it, Refusal)))
     if not any(line.startswith(" next ") for line in lines):
         lines.append("nothing taken")
     return "".join(f"{line}\n" for line in lines)
+
+
+def look_of(text: bytes) -> str:
+    """What a file looks like that has no frame."""
+    for mark, look in reversed(MARKS.items()):
+        if mark and text.startswith(mark):
+            return look
+    if not text:
+        return MARKS[b""]
+    if text[60:80] in (b"RINEX VERSION / TYPE", b"CRINEX VERS   / TYPE"):
+        return "RINEX"
+    first = text[:64].decode("latin-1")
+    if len(first) > 2 and first[0] in "$!" and all(it in string.ascii_uppercase for it in first[1:3]):
+        return "NMEA"
+    if first[0] in string.hexdigits and all(it in string.hexdigits + " \r\n" for it in first):
+        return "hex-text"
+    return "unknown"
+
+
+def civil_of(date: Fields) -> str | None:
+    """The date of a 1013 or a 1029, if it is one near which `convert` dates."""
+    moment = datetime(1858, 11, 17) + timedelta(days=date["day"], seconds=date["second"])
+    is_date = date["day"] >= 44_251 and date["second"] <= 86_400
+    return moment.isoformat() if is_date else None
+
+
+def sh_quoted(name: str) -> str:
+    return ("./" if name.startswith("-") else "") + shlex.quote(name).replace("'\"'\"'", r"'\''")
 
 
 def unread_lines(faults: Counter[Refusal]) -> list[str]:
@@ -39,21 +79,25 @@ def unread_lines(faults: Counter[Refusal]) -> list[str]:
     ]
 
 
-def station_lines(station: int, messages: list[Message]) -> list[str]:
+def station_lines(name: str, station: int, messages: list[Message], dated: list[Fields]) -> list[str]:
     counts = Counter(it.header["number"] for it in messages)
     observations = [it for it in messages if "tow" in it.header]
     times = [it.header["tow"] for it in observations]
     shown = [entry for it in observations for entry in entries_of(it)]
     satellites = " ".join(f"G{it:02}" for it in sorted({satellite for _, _, satellite, _ in shown}))
     codes = codes_of(shown, (1004, *MSMS))
+    by_number = {number: [it for it in dated if it["number"] == number] for number in (1013, 1029)}
+    first = (by_number[1013] + by_number[1029])[:1]
     lines = [
         *(f" message {number} {n}" for number, n in sorted(counts.items())),
         f" time-of-week {times[0]} {times[-1]}" if times else " time-of-week -",
-        f" epoch-changes {sum(before != after for before, after in pairwise(times))}",
+        f" changes-of-time {sum(before != after for before, after in pairwise(times))}",
+        *(f" date {civil_of(its[0])} {number} {len(its)}" for number, its in by_number.items() if its),
         f" satellites {satellites or '-'}",
         f" codes {','.join(codes) or '-'}",
     ]
-    return lines + next_lines(station, shown) if codes else lines
+    near = civil_of(first[0]) if first else NO_DATE
+    return lines + next_lines(name, near, station, shown) if codes else lines
 
 
 Shown = tuple[int, int, int, str]  # number of a message, time, satellite and code
@@ -75,14 +119,15 @@ def codes_of(shown: list[Shown], numbers: tuple[int, ...]) -> list[str]:
     return [code for code in CODES if code in found]
 
 
-def next_lines(station: int, shown: list[Shown]) -> list[str]:
+def next_lines(name: str, near: str, station: int, shown: list[Shown]) -> list[str]:
     """The command with the MSM that has most epochs, of such the greatest; its second frequency, and the other MSM."""
     times = {msm: [tow for number, tow, _, _ in shown if number == msm] for msm in MSMS}
     epochs = {msm: len(list(groupby(times[msm]))) for msm in MSMS}
     most = max(MSMS, key=lambda msm: (epochs[msm], msm)) if any(epochs.values()) else 1074
     option = "" if most == 1074 else f" --msm {most - 1070}"
     codes = codes_of(shown, (1004, most))
-    words = f"--station {station} {NEXT} {','.join(codes)}{option}"
+    words = f"--station {station} --near {near} {MADE} --marker {station:04} --codes {','.join(codes)}{option}"
     second = [" second-frequency 2P"] if "2P" in codes and "2W" not in codes else []
     others = [f" other-msm {msm} {n}" for msm, n in epochs.items() if n and msm != most]
-    return [*second, *others, f" next rtcm2rinex convert {words} CAPTURE"]
+    auto = f"--station {station} -o {station:04}.rnx {sh_quoted(name)}"
+    return [*second, *others, f" next rtcm2rinex convert {words} {sh_quoted(name)}", f" auto rtcm2rinex auto {auto}"]

@@ -11,7 +11,7 @@ svg=$(cat "$root/examples/marks.svg")
 # pins: text_heading, satellite_rows, axis_row, label_row
 chart --text "$marks";              expect chart_of_a_file 0 "$picture" ''
 chart --text --columns 80 "$marks"; expect chart_80_wide 0 "$picture" ''
-# pins: STYLE, LEGEND, svg_picture, svg_start, svg_legend, svg_body, svg_of_epochs, ticks_text, satellite_label
+# pins: STYLE, LEGEND, svg_picture, svg_start, svg_legend, svg_body, svg_of_epochs, bands_text, ticks_text, satellite_label
 chart "$marks"; expect chart_in_svg 0 "$svg" ''
 COLUMNS=120 "$program" chart --text "$marks" >out 2>err; status=$?
 expect columns_of_the_environment_are_none 0 "$picture" ''
@@ -20,15 +20,15 @@ chart --text bad; expect chart_of_a_bad_file_in_characters 3 '' 'line 16: C3 Val
 sed '/END OF HEADER/q' "$marks" >empty
 chart --text empty
 expect chart_without_records 0 "$(printf 'marker BASE\nno records')" ''
-# In SVG it is 100 units high, with the style of every picture.
+# In SVG it is 110 units high, with the style of every picture.
 chart empty
 # pins: svg_of_none
-expect chart_without_records_in_svg 0 "<svg xmlns='http://www.w3.org/2000/svg' viewBox='0 0 1560 100'>
+expect chart_without_records_in_svg 0 "<svg xmlns='http://www.w3.org/2000/svg' viewBox='0 0 1620 110'>
 <title>BASE</title>
 $(grep '^<style>' "$root/examples/marks.svg")
-<rect class='page' width='1560' height='100'/>
-<text class='marker' x='90' y='30'>BASE</text>
-<text x='90' y='52'>no records</text>
+<rect class='page' width='1620' height='110'/>
+<text class='marker' x='110' y='42'>BASE</text>
+<text x='110' y='72'>no records</text>
 </svg>" ''
 
 for width in 40 400; do

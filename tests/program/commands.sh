@@ -6,7 +6,6 @@ examples=$root/examples
 base=$examples/base.rtcm
 first=$examples/session_link1.rtcm
 second=$examples/session_link2.rtcm
-done='0 good_out good_err'
 
 # fails NAME LINE: nothing is out, and standard error has this line
 fails() { expect "$1" 1 '' "rtcm2rinex: $2"; }
@@ -14,9 +13,10 @@ fails() { expect "$1" 1 '' "rtcm2rinex: $2"; }
 # shown NAME: a name of a file, as a name of a test has it
 shown() { printf '%.40s' "$1" | tr '\t\n\033' '???'; }
 
-# brief FILE: the words of a help up to its examples; those of -h are the same
+# brief FILE: the words of a help up to what stands behind its options; those of -h are the same
 brief() {
-    sed "/^Which MSM:/,\$d; /^Example:/,\$d; /^Begin with:/,\$d; s/see a summary with '-h'/see more with '--help'/" "$1" | tr -s '[:space:]' ' '
+    awk 'NR > 1 && /^[^ ]/ && !/^(Usage|Arguments|Options|Commands):/ { exit } { print }' "$1" |
+        sed "s/see a summary with '-h'/see more with '--help'/" | tr -s '[:space:]' ' '
 }
 
 # helps NAME WORD..: of a command, or of none. What the options do, completions/ and docs/ hold; here the examples are run.
@@ -29,11 +29,19 @@ helps() {
     run help "$@";   leaves "help_by_its_name_$name" 0 help /dev/null
     run "$@" -h; brief out >short; brief help >want; mv short out
     leaves "short_help_$name" 0 want /dev/null
-    mkdir bin named && ln -s "$program" bin/rtcm2rinex && cp "$base" named/capture.rtcm && cp "$examples/base.rnx" named &&
-        cp "$examples/slip.rnx" named/day.rnx && cp "$first" named/link1.rtcm && cp "$second" named/link2.rtcm
+    mkdir bin named && ln -s "$program" bin/rtcm2rinex
+    case $name in
+    none | auto) cp "$examples/dated.rtcm" named/capture.rtcm && cp "$examples/dated.rtcm" named/hour1.rtcm ;;
+    *) cp "$base" named/capture.rtcm && cp "$examples/base.rnx" named && cp "$examples/slip.rnx" named/day.rnx &&
+        cp "$first" named/link1.rtcm && cp "$second" named/link2.rtcm ;;
+    esac
     sed -n '/^Example:$/,/^$/s/^  //p; /^Begin with:$/,/^$/s/^  //p' help >shown
     (cd named && PATH=$work/$name/bin:$PATH sh -eu ../shown) >out 2>err; status=$?
     grep -q '^rtcm2rinex ' shown || status=none
+    case $name in
+    none | auto) grep -q '^epochs 20$' err && : >err ;;
+    cut) printf 'records %s written %s\n' 1 1 61 61 | cmp -s - err && : >err ;;
+    esac
     tail -n 1 help >out
     expect "examples_and_end_of_the_help_$name" 0 'Manual: man rtcm2rinex, or docs/MANUAL.md' ''
 }
@@ -56,6 +64,23 @@ piped() {
     wait $giving
 }
 
+# quoted NAME: as `summary` writes it for sh
+quoted() {
+    case $1 in -*) printf ./ ;; esac
+    case $1 in
+    *[!A-Za-z0-9@%+=:,./_-]*) printf "'%s'" "$(printf '%s' "$1" | sed "s/'/'\\\\''/g")" ;;
+    *) printf '%s' "$1" ;;
+    esac
+}
+
+# well TEST NAME: the last run left what is due of a file of this name, which is that of `base`
+well() {
+    [ "$command" != summary ] || sed 's/ BASE$//' "$root/tests/program/base.summary" | while IFS= read -r line; do
+        case $line in ' next '* | ' auto '*) printf '%s %s\n' "$line" "$(quoted "$2")" ;; *) printf '%s\n' "$line" ;; esac
+    done >good_out
+    leaves "$1" 0 good_out good_err
+}
+
 # example COMMAND: its words, the file that it reads, and what it writes
 example() {
     words=$1 file=$examples/base.rnx
@@ -65,10 +90,14 @@ example() {
         file=$base
         printf '%s\n' '1005 station 2003 x 1114104.5999 y -4850729.7108 z 3975521.4643' \
             '1004 station 2003 tow 475200000 satellites 1' >good_out ;;
-    summary) file=$base && cp "$root/tests/program/base.summary" good_out ;;
+    summary) file=$base && sed "s#BASE\$#$base#" "$root/tests/program/base.summary" >good_out ;;
     check) echo 'valid: 1 epochs, 1 satellite lines' >good_out ;;
     chart) file=$examples/marks.rnx && cp "$examples/marks.svg" good_out ;;
-    cut) words='cut --every 30' file=$examples/slip.rnx && cp "$examples/slip_30s.rnx" good_out ;;
+    quality) file=$examples/slip.rnx && cp "$root/tests/program/slip.numbers" good_out ;;
+    cut)
+        words='cut --every 30' file=$examples/slip.rnx
+        cp "$examples/slip_30s.rnx" good_out && echo 'records 61 written 3' >good_err ;;
+    label) words='label --blank' file=$examples/slip.rnx && cp "$file" good_out ;;
     convert)
         words="convert --station 2003 --near 2024-05-17T12:00:00 --made 2024-05-17T13:00:00 --marker BASE --codes 1C,2W"
         file=$base && cp "$examples/base.rnx" good_out && report 2 0 0 0 2 0 0 0 1 >good_err ;;
@@ -106,32 +135,33 @@ files_are_read() {
     for name in ./stdin STDIN stdin.rtcm Stdin "$odd" "$tab" "$feed" Zürich folder/../base linked linked_twice \
         "$(printf './%.0s' $(seq 150))base"; do
         # refuses: a name that is changed before it is opened, or taken for standard input
-        run $words "$name"; leaves "file_${command}_$(shown "$name")" $done
+        run $words "$name"; well "file_${command}_$(shown "$name")" "$name"
     done
-    run $words -- -5;       leaves "file_of_the_name_of_a_number_$command" $done
-    run $words -- --hex;    leaves "file_of_the_name_of_an_option_$command" $done
-    run $words stdin <base; leaves "standard_input_$command" $done
+    run $words -- -5;       well "file_of_the_name_of_a_number_$command" -5
+    run $words -- --hex;    well "file_of_the_name_of_an_option_$command" --hex
+    run $words stdin <base; well "standard_input_$command" stdin
     cat base | "$program" $words stdin >out 2>err; status=$?
-    leaves "a_pipe_$command" $done
+    well "a_pipe_$command" stdin
     mkfifo fifo
     # refuses: a file that is not opened since it is a symbolic link or a pipe
-    piped base run $words fifo; leaves "a_pipe_of_a_name_$command" $done
+    piped base run $words fifo; well "a_pipe_of_a_name_$command" fifo
     bash -c '"$0" "$@" <(cat base)' "$program" $words >out 2>err; status=$?
     # refuses: a file that is not opened since it is a symbolic link or a pipe
-    leaves "a_pipe_of_the_shell_$command" $done
+    well "a_pipe_of_the_shell_$command" /dev/fd/63
     { head -c 25 "$base"; cat base; } >behind # a frame before it
     { dd bs=25 count=1 of=given 2>told; run $words stdin; } <behind
-    leaves "standard_input_after_its_first_bytes_$command" $done
+    well "standard_input_after_its_first_bytes_$command" stdin
     # No command makes, renames or removes a file beside those that it reads.
     mkdir alone && cp base alone
     listed=$(ls -Al --full-time alone)
     (cd alone && "$program" $words base) >out 2>err; status=$?
     [ "$(ls -Al --full-time alone)" = "$listed" ] || echo 'another file' >>err
-    leaves "no_other_file_$command" $done
+    well "no_other_file_$command" base
 }
 
+# outputs_fail: `cut` tells its counts only once the part is out
 outputs_fail() {
-    { cat good_err; echo 'rtcm2rinex: write failed'; } >told
+    { [ "$command" = cut ] || cat good_err; echo 'rtcm2rinex: write failed'; } >told
     "$program" $words base >/dev/full 2>err; status=$?; : >out
     leaves "full_output_$command" 1 /dev/null told
     "$program" $words base >&- 2>err; status=$?; : >out
@@ -195,14 +225,16 @@ files_are_judged() {
 # bytes_beside_frames: of a capture they are passed over, also on standard input
 bytes_beside_frames() {
     { printf '\357\273\277'; cat base; printf '\r\n'; head -c 507 /dev/zero; } >more
-    sed -i 's/^bytes 55$/bytes 567/; s/^outside-frames 0$/outside-frames 512/' good_out
-    run $words more;        leaves "bytes_beside_frames_$command" $done
-    run $words stdin <more; leaves "bytes_beside_frames_on_standard_input_$command" $done
+    run $words more
+    sed -i 's/^bytes 567$/bytes 55/; s/^outside-frames 512$/outside-frames 0/' out
+    well "bytes_beside_frames_$command" more
+    run $words stdin <more
+    sed -i 's/^bytes 567$/bytes 55/; s/^outside-frames 512$/outside-frames 0/' out
+    well "bytes_beside_frames_on_standard_input_$command" stdin
 }
 
-mkdir none && cd none || exit 1
-helps none
-for command in show summary check chart cut convert; do
+for name in none auto; do mkdir "$work/$name" && cd "$work/$name" && helps $name ${name#none}; done
+for command in show summary check chart quality cut label convert; do
     mkdir "$work/$command" && cd "$work/$command" || exit 1
     helps $command $command
     example $command
@@ -212,9 +244,9 @@ for command in show summary check chart cut convert; do
     outputs_fail
     words_are_refused
     case $command in
-    check | chart | cut) files_are_judged ;;
+    check | chart | quality | cut | label) files_are_judged ;;
     *) bytes_beside_frames ;;
     esac
 done
 
-ends 339
+ends 465

@@ -4,7 +4,16 @@
 file=$root/examples/slip.rnx
 noon=2024-05-17T12:00:00
 
-cut() { run cut "$@"; }
+cut() {
+    run cut "$@"
+    for last; do :; done
+}
+
+# well NAME WANT: the part, and how many records were read and written
+well() {
+    printf 'records %s written %s\n' "$(grep -c '^>' "$last")" "$(grep -c '^>' "$2")" >told
+    leaves "$1" 0 "$2" told
+}
 
 # records FILE..: what stands after the headers
 records() {
@@ -28,20 +37,20 @@ bad_step() {
 
 # The files of the examples were laid by hand: slips at the seconds 7 and 20 of what is left out, one of them of a
 # satellite that is missing in the next record, and slips and half cycles of what is kept.
-# pins: step_ms, is_on_step
-cut --every 30 "$file";                  leaves a_minute_at_30_seconds 0 "$root/examples/slip_30s.rnx" /dev/null
-cut --every 1 "$file";                   leaves at_its_own_step 0 "$file" /dev/null
-cut --from "$noon" "$file";              leaves from_its_begin 0 "$file" /dev/null
-cut --until 2024-05-17T12:01:01 "$file"; leaves until_after_its_end 0 "$file" /dev/null
+# pins: is_near_step
+cut --every 30 "$file"; well a_minute_at_30_seconds "$root/examples/slip_30s.rnx"
+cut --every 1 "$file"; well at_its_own_step "$file"
+cut --from "$noon" "$file"; well from_its_begin "$file"
+cut --until 2024-05-17T12:01:01 "$file"; well until_after_its_end "$file"
 
 sed '/^> 2024 05 17 12 01/,$d' "$root/examples/slip_30s.rnx" >want
-cut --every 30 --from "$noon" --until 2024-05-17T12:01:00 "$file"; leaves a_span_at_30_seconds 0 want /dev/null
+cut --every 30 --from "$noon" --until 2024-05-17T12:01:00 "$file"; well a_span_at_30_seconds want
 
 # Parts that meet are the part of both, also where a slip stands before the second one.
 for step in 1 7 30; do
-    "$program" cut --every $step "$file" >whole
-    "$program" cut --every $step --until 2024-05-17T12:00:21 "$file" >first
-    "$program" cut --every $step --from 2024-05-17T12:00:21 "$file" >second
+    "$program" cut --every $step "$file" >whole 2>told
+    "$program" cut --every $step --until 2024-05-17T12:00:21 "$file" >first 2>told
+    "$program" cut --every $step --from 2024-05-17T12:00:21 "$file" >second 2>told
     records whole >want
     records first second >got
     same "parts_at_$step" got want
@@ -59,14 +68,14 @@ nothing_is_left() {
     header "  2024     5    17    $2.0000000" >want
     shift 2
     cut "$@" "$file"
-    leaves "$name" 0 want /dev/null
+    well "$name" want
 }
 nothing_is_left after_from '13     0    0' --from 2024-05-17T13:00:00
 nothing_is_left before_until '12     0    0' --until "$noon"
 nothing_is_left between '12     0   30' --from 2024-05-17T12:00:30 --until 2024-05-17T12:00:30
 nothing_is_left a_step_of_a_day '12     0    0' --every 86400
 cut --from 1980-01-06T00:00:00 --until 2100-12-31T23:59:59 --every 1 "$file"
-leaves the_widest_span 0 "$file" /dev/null
+well the_widest_span "$file"
 
 # moved DATE MINUTE MINUTE FIRST: the file with its two minutes on another day, and its first time
 moved() {
@@ -82,11 +91,11 @@ line='> 2024 02 29 00 00  0.0000000  0  2'
 g05='G05  21085502.060 7 110805061.16717        45.000    21085504.060 5  86341606.103'
 g07='G07  22963067.680 6 120671689.95026        41.500    22963071.430 5  94029247.75715        30.250'
 { header "$begin"; printf '%s\n' "$line" "${g05}15        35.000" "$g07"; } >want
-cut --every 86400 night; leaves midnight_at_the_step_of_a_day 0 want /dev/null
+cut --every 86400 night; well midnight_at_the_step_of_a_day want
 { header "$begin"; printf '%s\n' "$line" "$g05 5        35.000" "$g07"; } >want
-cut --every 30 --from $midnight night;   leaves the_day_after_midnight 0 want /dev/null
+cut --every 30 --from $midnight night; well the_day_after_midnight want
 sed '/^> 2024 02 29/,$d' night >want
-cut --until $midnight night; leaves the_day_before_midnight 0 want /dev/null
+cut --until $midnight night; well the_day_before_midnight want
 
 # A record each second of a day and few in the weeks after it: a slip of G05 a second after midnight is shown 86,399 seconds
 # later, and of G07, which is missing from then on, ten days and 86,401 records later; after that none is left.
@@ -101,24 +110,24 @@ line='00 00  0.0000000  0 '
 printf '%s\n' "> 2024 05 01 $line 2" "$g05" "$g07" "> 2024 05 02 $line 1" "${g05}1" "> 2024 05 11 $line 2" "$g05" "${g07}1" \
     "> 2024 05 20 $line 2" "$g05" "$g07" | cat begin - >want
 # pins: has_slipped_since
-cut --every 86400 days; leaves a_slip_ten_days_before_the_step 0 want /dev/null
+cut --every 86400 days; well a_slip_ten_days_before_the_step want
 # The usual steps, parts of half a day: so many records and two slips, that of G07 after all records on the step without it.
 for step in 5 10 15 20 120 300 600 900 1800 3600 7200 21600; do
-    echo "$("$program" cut --every $step days | grep -cE '^>|[37]1$') records and slips at $step, not $((86400 / step + 7))"
+    echo "$("$program" cut --every $step days 2>told | grep -cE '^>|[37]1$') records and slips at $step, not $((86400 / step + 7))"
 done | awk '$1 != $8' >got
-# pins: step_ms, is_on_step, has_slipped_since
+# pins: is_near_step, has_slipped_since
 same the_usual_steps got /dev/null
 
 # The first moment that a time can name, and the last minute.
 moved '1980 01 06' '00 00' '1980 01 06 00 01' '  1980     1     6     0     0 ' >dawn
 sed '/^> .*  1.0000000/,$d' dawn >want
-cut --every 60 --until 1980-01-06T00:01:00 dawn; leaves the_begin_of_1980 0 want /dev/null
+cut --every 60 --until 1980-01-06T00:01:00 dawn; well the_begin_of_1980 want
 sed '/END OF HEADER/q' dawn >want
-cut --from 1980-01-06T00:00:00 --until 1980-01-06T00:00:00 "$file"; leaves nothing_is_left_of_1980 0 want /dev/null
+cut --from 1980-01-06T00:00:00 --until 1980-01-06T00:00:00 "$file"; well nothing_is_left_of_1980 want
 moved '2100 12 31' '23 58' '2100 12 31 23 59' '  2100    12    31    23    58 ' >century
 { header '  2100    12    31    23    59    0.0000000'; tail -n 3 century; } >want
 cut --from 2100-12-31T23:59:00 --until 2100-12-31T23:59:59 century
-leaves the_end_of_2100 0 want /dev/null
+well the_end_of_2100 want
 
 bad other_form_of_from 'bad --from' --from 2024-05-17
 bad no_such_day 'bad --until' --until 2024-02-30T00:00:00

@@ -82,14 +82,13 @@ run show --hex frames.hex; expect hex_of_frames_too_long 1 '' 'rtcm2rinex: input
 
 # pins: HasClapStatus, HasStatus
 # refuses: a `main` that does not answer the status of `run_program`
-run --version; expect version 0 'rtcm2rinex 0.3.0' ''
-run -V;        expect version_in_short 0 'rtcm2rinex 0.3.0' ''
+run --version; expect version 0 'rtcm2rinex 0.4.0' ''
+run -V;        expect version_in_short 0 'rtcm2rinex 0.4.0' ''
 "$program" show empty >&- 2>err; status=$?; : >out
 expect nothing_to_show_and_no_output 0 '' ''
 
 # Words that clap refuses.
-no_command=$(error "'rtcm2rinex' requires a subcommand but one was not provided
-  [subcommands: convert, show, check, summary, chart, cut, help]" "<COMMAND>")
+no_command=$("$program" --help)
 bad_words no_command "$no_command"
 "$program" >&- 2>err; status=$?; : >out
 expect no_command_and_no_output 2 '' "$no_command"

@@ -22,14 +22,14 @@ number_of_msm Seven = 7
 -- formula
 -- a task is within its limits: what is said of a conversion and of a part holds of these, and the
 -- width of a picture in characters is 40 to 400, if there is one (this project's rule)
-abbrev pub IsTask : {S P : Type 0} → (S → List (Bor (List ℕ)) → Type 0) → (P → Type 0) → Task S P → Type 0
+abbrev pub IsTask : {S P A F : Type 0} → (S → List (Bor (List ℕ)) → Type 0) → (P → Type 0) → Task S P A F → Type 0
 IsTask IsConversion IsPart (Convert setup links) = IsConversion setup links.items
 IsTask IsConversion IsPart (Cut part file) = IsPart part
 IsTask IsConversion IsPart (Chart width file) = ForSome width (IsInRange LEAST_WIDTH MOST_WIDTH)
 IsTask IsConversion IsPart _ = Unit {0}
 
--- the options of `convert` and of `cut` say their limits themselves
-abbrev pub IsRequest : {S P : Type 0} → Task S P → Type 0
+-- the options of `auto`, `convert` and `cut` say their limits themselves
+abbrev pub IsRequest : {S P A F : Type 0} → Task S P A F → Type 0
 IsRequest task = IsTask (λ _ _. Unit {0}) (λ _. Unit {0}) task
 
 -- table

@@ -2,7 +2,10 @@
 //!
 //! clap is the costly part of the proof, so its command is built here alone, in small functions.
 
+use crate::arguments::{file_arg, flag_arg, option_arg};
+use crate::auto_command::auto_command;
 use crate::help_texts;
+use crate::label_words::label_command;
 use crate::limits::{
     GREATEST_STATION, LEAST_WIDTH, LEAST_WINDOW, MOST_STEP, MOST_WIDTH, MOST_WINDOW,
 };
@@ -13,23 +16,13 @@ use std::alloc::{AllocError, Global};
 const NAME: &str = "rtcm2rinex";
 
 /// The version that `--version` shows.
-const VERSION: &str = "0.3.0";
+const VERSION: &str = "0.4.0";
 
 /// The window if none is given.
 const WINDOW: &str = "64";
 
 /// The MSM if none is given: 1074.
 const MSM: &str = "4";
-
-// The name of the one input of a command.
-fn file_arg<'a>(alloc: Global, help: &'a str) -> Arg<'a> {
-    Arg::new(alloc, "FILE").help(help).required(true)
-}
-
-// An argument by its name with two hyphens.
-fn flag_arg<'a>(alloc: Global, name: &'a str, help: &'a str) -> Arg<'a> {
-    Arg::new(alloc, name).long(name).help(help)
-}
 
 fn hex_arg<'a>(alloc: Global) -> Arg<'a> {
     flag_arg(alloc, "hex", "The capture is hex text").action(ArgAction::SetTrue)
@@ -77,9 +70,16 @@ fn chart_command<'a>(alloc: Global) -> Result<Command<'a>, AllocError> {
         .arg(file_arg(alloc, "The file, or stdin for standard input"))
 }
 
-// An option that has a value.
-fn option_arg<'a>(alloc: Global, name: &'a str, value: &'a str, help: &'a str) -> Arg<'a> {
-    flag_arg(alloc, name, help).value_name(value)
+fn json_arg<'a>(alloc: Global) -> Arg<'a> {
+    flag_arg(alloc, "json", "One JSON document in place of lines").action(ArgAction::SetTrue)
+}
+
+fn quality_command<'a>(alloc: Global) -> Result<Command<'a>, AllocError> {
+    Command::new(alloc, "quality")
+        .about("Tells the numbers of a file: phases, slips, strengths and passes")
+        .after_long_help(help_texts::QUALITY)
+        .arg(json_arg(alloc))?
+        .arg(file_arg(alloc, "The file, or stdin for standard input"))
 }
 
 fn required_arg<'a>(alloc: Global, name: &'a str, value: &'a str, help: &'a str) -> Arg<'a> {
@@ -190,10 +190,13 @@ pub(crate) fn program_command<'a>(alloc: Global) -> Result<Command<'a>, AllocErr
     let program = program_alone(alloc)?
         .no_binary_name(true)
         .subcommand_required(true);
+    let program = with_command(program, auto_command(alloc))?;
     let program = with_command(program, convert_command(alloc))?;
     let program = with_command(program, show_command(alloc))?;
     let program = with_command(program, check_command(alloc))?;
     let program = with_command(program, summary_command(alloc))?;
     let program = with_command(program, chart_command(alloc))?;
-    with_command(program, cut_command(alloc))
+    let program = with_command(program, quality_command(alloc))?;
+    let program = with_command(program, cut_command(alloc))?;
+    with_command(program, label_command(alloc))
 }

@@ -2,17 +2,43 @@
 
 pub(crate) const PROGRAM: &str = "\
 Begin with:
-  rtcm2rinex summary capture.rtcm
+  rtcm2rinex auto capture.rtcm -o base.rnx
 
 Exit status:
   0  the work is done
   1  the work is not done; the last line on standard error says why
   2  the words are refused
-  3  the file is not as convert writes it
+  3  the file is not as convert writes it; of auto: the captures don't tell enough
+
+Manual: man rtcm2rinex, or docs/MANUAL.md";
+
+pub(crate) const AUTO: &str = "\
+It reads each capture twice: first to find the station, the date, the MSM and the
+codes, then to convert. Standard error has what was found, and the same command
+as words of convert. An option that is given is not looked for.
+
+A time is written as 2024-05-17T12:00:00.
+
+Captures whose times follow one another are joined, so hours can be given in any
+order; captures of the same time are links, and are merged.
+
+Example:
+  rtcm2rinex auto hour*.rtcm -o day.rnx --marker BASE
+
+Exit status:
+  0  the file is written
+  1  it is not, or in part; the last line on standard error says why
+  2  the words are refused
+  3  the captures don't tell enough, or have nothing to convert; standard error says why
 
 Manual: man rtcm2rinex, or docs/MANUAL.md";
 
 pub(crate) const CONVERT: &str = "\
+A time is written as 2024-05-17T12:00:00, with no zone and no blank. A marker's
+name has 1 to 60 printable characters of ASCII; the first and the last are no
+blank. The codes are 1 to 16 of these:
+  1C 1P 1W 1S 1L 1X 2C 2D 2P 2W 2S 2L 2X 5I 5Q 5X
+
 Which MSM:
   --msm 7 converts 1077 in the place of 1074, and leaves 1074 out. Most stations
   that are bought today send 1077. summary tells which MSM a capture has.
@@ -72,7 +98,20 @@ Exit status:
   0  the picture is written
   1  it is not, or in part; standard error says why
   2  the words are refused
-  3  the file is not as convert writes it; standard error has its first wrong line
+  3  the file is not as convert or label writes it; standard error says where
+
+Manual: man rtcm2rinex, or docs/MANUAL.md";
+
+pub(crate) const QUALITY: &str = "\
+Example:
+  rtcm2rinex quality base.rnx
+  rtcm2rinex quality --json base.rnx >base.json
+
+Exit status:
+  0  the numbers are written
+  1  they are not, or in part; standard error says why
+  2  the words are refused
+  3  the file is not as convert or label writes it; standard error says where
 
 Manual: man rtcm2rinex, or docs/MANUAL.md";
 
@@ -86,6 +125,22 @@ Exit status:
   0  the file is written
   1  it is not, or in part; standard error says why
   2  the words are refused
-  3  the file is not as convert writes it; standard error has its first wrong line
+  3  the file is not as convert or label writes it; standard error says where
+
+Manual: man rtcm2rinex, or docs/MANUAL.md";
+
+pub(crate) const LABEL: &str = "\
+Which fields:
+  Those that are not given are blank, also if an earlier label filled them.
+
+Example:
+  rtcm2rinex label --agency 'Survey of Somewhere' --receiver-type 'LEICA GR50' \\
+      --antenna-type 'LEIAR25.R3      LEIT' base.rnx >archive.rnx
+
+Exit status:
+  0  the file is written
+  1  it is not, or in part; standard error says why
+  2  the words are refused, or the file tells another height
+  3  the file is not as convert or label writes it; standard error says where
 
 Manual: man rtcm2rinex, or docs/MANUAL.md";

@@ -18,14 +18,23 @@
 #![tactic(auto)]
 
 mod answer;
+mod arguments;
+mod auto_command;
+mod auto_options;
+mod auto_reading;
 mod command_line;
 mod help_texts;
+mod label_options;
+mod label_words;
 mod limits;
+mod msm_reading;
 mod options;
 mod request;
 mod word_reading;
 
 pub use answer::ClapAnswer;
+pub use auto_options::AutoOptions;
+pub use label_options::LabelOptions;
 pub use limits::{GREATEST_STATION, LEAST_WINDOW, MOST_WINDOW};
 pub use options::{ConvertOptions, CutOptions, MsmOption};
 pub use request::{Request, Task};

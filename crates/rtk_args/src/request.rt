@@ -1,11 +1,21 @@
 //! What the words of a command line ask for.
 
+use crate::auto_options::AutoOptions;
+use crate::label_options::LabelOptions;
 use crate::options::{ConvertOptions, CutOptions};
 
 /// Which command the words ask for, with what its options and names say: as clap gives it, in a
 /// [`Request`], or once it is read.
 #[derive(Drop)]
-pub enum Task<'a, S: Drop, P: Drop> {
+pub enum Task<'a, S: Drop, P: Drop, A: Drop, F: Drop> {
+    /// `auto OPTIONS CAPTURE..`: captures of one station to a file; what `convert` wants to be told is
+    /// found in them.
+    Auto {
+        /// What the options say.
+        options: A,
+        /// The names of the captures.
+        captures: Vec<&'a str>,
+    },
     /// `convert OPTIONS LINK..`: captures of one station to a file and a report.
     Convert {
         /// What the options say.
@@ -37,6 +47,13 @@ pub enum Task<'a, S: Drop, P: Drop> {
         /// The name of the file; `stdin` is standard input.
         file: &'a str,
     },
+    /// `quality [--json] FILE`: the numbers of a file.
+    Quality {
+        /// They are told as JSON.
+        json: bool,
+        /// The name of the file; `stdin` is standard input.
+        file: &'a str,
+    },
     /// `cut OPTIONS FILE`: a part of a file.
     Cut {
         /// What the options say.
@@ -44,7 +61,20 @@ pub enum Task<'a, S: Drop, P: Drop> {
         /// The name of the file; `stdin` is standard input.
         file: &'a str,
     },
+    /// `label OPTIONS FILE`: a file with more fields in its header.
+    Label {
+        /// What the options say.
+        label: F,
+        /// The name of the file; `stdin` is standard input.
+        file: &'a str,
+    },
 }
 
 /// The task with the values of its options. What their texts say is not yet read.
-pub type Request<'a> = Task<'a, ConvertOptions<'a>, CutOptions<'a>>;
+pub type Request<'a> = Task<
+    'a,
+    ConvertOptions<'a>,
+    CutOptions<'a>,
+    AutoOptions<'a>,
+    LabelOptions<'a>,
+>;

@@ -1,20 +1,23 @@
 //! Reads the words of a command line.
 
-ghost use Rattle.std.specs.Prelude.{◌≡◌, ℕ, IfOk, IfErr, IfSome, MatchOption};
+ghost use Rattle.std.specs.Prelude.{◌≡◌, ℕ, IfOk, IfErr, IfSome};
 ghost use Rattle.std.specs.Int.{IsInRange};
 ghost use Rattle.std.specs.Option.{ForSome};
 ghost use Rattle.clap.specs.Values.{kind_of};
-ghost use Rattle.rtk_args.specs.Requests.{HasClapStatus, IsRequest, number_of_msm};
+ghost use Rattle.rtk_args.specs.Requests.{HasClapStatus, IsRequest};
 ghost use Rattle.rtk_args.specs.declared.limits.TheConstants.{LEAST_WIDTH, MOST_WIDTH};
 ghost use Rattle.rtk_args.specs.Steps.ClapStatus.{IsStatusOf};
 ghost use Rattle.rtk_args.specs.declared.answer.ClapAnswer.TheVariants.{Text};
 
 use crate::answer::ClapAnswer;
+use crate::auto_reading::auto_request;
 use crate::command_line::program_command;
+use crate::label_words::label_request;
 use crate::limits::{
     GREATEST_STATION, LEAST_WIDTH, LEAST_WINDOW, MOST_STEP, MOST_WIDTH, MOST_WINDOW,
 };
-use crate::options::{ConvertOptions, CutOptions, MsmOption};
+use crate::msm_reading::msm_of;
+use crate::options::{ConvertOptions, CutOptions};
 use crate::request::Request;
 use clap::error::ErrorKind;
 use clap::{ArgMatches, Command, Error};
@@ -51,19 +54,6 @@ fn missing_word_answer(alloc: Global, program: &mut Command<'_>) -> ClapAnswer
     ) {
         Ok(error) => clap_answer(alloc, &error),
         Err(_) => ClapAnswer::OutOfMemory,
-    }
-}
-
-// The MSM of this number; `None` exactly if there is none.
-fn msm_of(number: u32) -> Option<MsmOption>
-    ensures { MatchOption result (¬ (IsInRange 4 7 number)) (λ msm. number_of_msm msm ≡ number) }
-{
-    match number {
-        4 => Some(MsmOption::Four),
-        5 => Some(MsmOption::Five),
-        6 => Some(MsmOption::Six),
-        7 => Some(MsmOption::Seven),
-        _ => None,
     }
 }
 
@@ -132,6 +122,14 @@ fn chart_request<'a>(matches: &ArgMatches<'a>) -> Option<Request<'a>>
     Some(Request::Chart { width, file })
 }
 
+fn quality_request<'a>(matches: &ArgMatches<'a>) -> Option<Request<'a>>
+    ensures { IfSome result IsRequest }
+{
+    let json = matches.get_flag("json");
+    let file = matches.get_str("FILE")?;
+    Some(Request::Quality { json, file })
+}
+
 // The values of the options of `cut`. clap refuses a step that is out of range.
 fn cut_option_values<'a>(matches: &ArgMatches<'a>) -> Option<CutOptions<'a>> {
     let every = matches.get_one::<u32>("every");
@@ -183,12 +181,15 @@ fn request_of_matches<'a>(
     ensures { IfOk result (λ request. IfSome request IsRequest) }
 {
     match matches.subcommand() {
+        Some(("auto", auto)) => auto_request(alloc, auto),
         Some(("convert", convert)) => convert_request(alloc, convert),
         Some(("show", show)) => Ok(show_request(show)),
         Some(("check", check)) => Ok(check_request(check)),
         Some(("summary", summary)) => Ok(summary_request(summary)),
         Some(("chart", chart)) => Ok(chart_request(chart)),
+        Some(("quality", quality)) => Ok(quality_request(quality)),
         Some(("cut", cut)) => Ok(cut_request(cut)),
+        Some(("label", label)) => Ok(label_request(label)),
         _ => Ok(None),
     }
 }
@@ -206,6 +207,16 @@ fn matches_of<'a>(
     }
 }
 
+// The answer to no word at all: the help, as a refusal.
+fn help_answer(program: &mut Command<'_>) -> ClapAnswer
+    ensures { HasClapStatus result }
+{
+    match program.render_long_help() {
+        Ok(text) => ClapAnswer::Text { text, status: 2 },
+        Err(_) => ClapAnswer::OutOfMemory,
+    }
+}
+
 // What the words ask this program for.
 fn request_of_words<'a>(
     alloc: Global,
@@ -215,6 +226,9 @@ fn request_of_words<'a>(
     ensures limits { IfOk result IsRequest }
     ensures status { IfErr result HasClapStatus }
 {
+    if words.is_empty() {
+        return Err(help_answer(program));
+    }
     let matches = matches_of(alloc, program, words)?;
     match request_of_matches(alloc, &matches)? {
         Some(request) => Ok(request),

@@ -1,27 +1,25 @@
 -- The picture of a table, from what was read of it.
-use Rattle.std.proofs.Common.{◌≡◌, ℕ, List, [], ◌∷◌, Bool, Option, Some, None, length, refl, ap, ◌∙◌}
+use Rattle.std.proofs.Common.{◌≡◌, ◌-◌, ℕ, List, [], ◌∷◌, Bool, Option, Some, None, length, refl, ap, ◌∙◌}
 use Rattle.rtk_rinex.specs.Record.{EpochTableView}
-use Rattle.rtk_chart.specs.Epochs.{capped, newest_moment, slips_in}
-use Rattle.rtk_chart.specs.Interval.{steps_in, missing_in}
+use Rattle.rtk_tracking.specs.Epochs.{capped, newest_moment}
+use Rattle.rtk_tracking.specs.Interval.{missing_in}
 use Rattle.rtk_chart.specs.Scale.{scale_of}
 use Rattle.rtk_chart.specs.Grid.{bins_of, gaps_of}
 use Rattle.rtk_chart.specs.TextPicture.{text_picture, text_of_none}
-use Rattle.rtk_chart.specs.Chart.{text_at, text_of_epochs, svg_at, svg_of_epochs}
+use Rattle.rtk_chart.specs.Chart.{slips_at, rises_at, text_at, text_of_epochs, svg_at, svg_of_epochs}
 use Rattle.rtk_chart.specs.SvgPicture.{svg_picture, svg_of_none}
+use Rattle.rtk_chart.specs.Steps.Standing.{StandsForGrid}
 use Rattle.rtk_obs.specs.declared.code.Code.{Code}
 use Rattle.rtk_chart.specs.declared.scale.Scale.{Scale}
+use Rattle.rtk_chart.specs.declared.grid.Grid.{Grid}
 use Rattle.rtk_chart.specs.declared.time_bin.TimeBin.{TimeBin}
 
 -- ---- a file without records
 
-pub no-steps : (es : List EpochTableView) → newest_moment es ≡ None → steps_in es ≡ []
-no-steps [] none = refl
-no-steps (e ∷ es) none = cc
-
-pub none-is : (marker : List ℕ) (first allowed : ℕ) (interval : Option ℕ) (es : List EpochTableView) → newest_moment es ≡ None
-    → text_of_none marker ≡ text_of_epochs marker first interval allowed es
-none-is marker first allowed interval [] none = refl
-none-is marker first allowed interval (e ∷ es) none = cc
+pub none-is : (marker : List ℕ) (listed : List Code) (first width : ℕ) (interval : Option ℕ) (es : List EpochTableView) → newest_moment es ≡ None
+    → text_of_none marker ≡ text_of_epochs marker listed first interval width es
+none-is marker listed first width interval [] none = refl
+none-is marker listed first width interval (e ∷ es) none = cc
 
 -- ---- a file with records
 
@@ -34,28 +32,28 @@ pub scale-is : (first f last allowed : ℕ) (interval : Option ℕ) (s : Scale) 
 scale-is first f last allowed interval s e es from to is =
     is ∙ ap (λ (t : ℕ). scale_of t last interval allowed) from ∙ ap (λ (t : ℕ). scale_of first t interval allowed) (same-moment last e.time to)
 
--- the picture from its parts
-parts-are : (marker m : List ℕ) (records slips missing : ℕ) (s : Scale) (bins : List TimeBin) (gaps : List Bool) (es : List EpochTableView)
-    → m ≡ marker → records ≡ capped (length es) → slips ≡ capped (slips_in es) → missing ≡ capped (missing_in s.unit es)
-    → bins ≡ bins_of s es → gaps ≡ gaps_of s es
-    → text_picture m s records slips missing bins gaps ≡ text_at marker s es
-parts-are marker m records slips missing s bins gaps es name many slipped lacking shown gapped =
-    ap (λ (x : List ℕ). text_picture x s records slips missing bins gaps) name
-    ∙ ap (λ (x : ℕ). text_picture marker s x slips missing bins gaps) many
-    ∙ ap (λ (x : ℕ). text_picture marker s (capped (length es)) x missing bins gaps) slipped
-    ∙ ap (λ (x : ℕ). text_picture marker s (capped (length es)) (capped (slips_in es)) x bins gaps) lacking
-    ∙ ap (λ (x : List TimeBin). text_picture marker s (capped (length es)) (capped (slips_in es)) (capped (missing_in s.unit es)) x gaps) shown
-    ∙ ap (λ (x : List Bool). text_picture marker s (capped (length es)) (capped (slips_in es)) (capped (missing_in s.unit es)) (bins_of s es) x) gapped
+-- a picture of the numbers of a grid, of its bins and of its gaps
+same-parts : (P : ℕ → ℕ → ℕ → ℕ → List TimeBin → List Bool → List ℕ) (records : ℕ) (g : Grid) (s : Scale) (es : List EpochTableView)
+    → records ≡ capped (length es) → StandsForGrid g s es
+    → P records g.slips g.rises g.missing g.bins.items g.gaps.items ≡ P (capped (length es)) (slips_at s es) (rises_at s es) (capped (missing_in s.unit es)) (bins_of s es) (gaps_of s es)
+same-parts P records g s es many stands =
+    ap (λ (x : ℕ). P x g.slips g.rises g.missing g.bins.items g.gaps.items) many
+    ∙ ap (λ (x : ℕ). P (capped (length es)) x g.rises g.missing g.bins.items g.gaps.items) stands.slips
+    ∙ ap (λ (x : ℕ). P (capped (length es)) (slips_at s es) x g.missing g.bins.items g.gaps.items) stands.rises
+    ∙ ap (λ (x : ℕ). P (capped (length es)) (slips_at s es) (rises_at s es) x g.bins.items g.gaps.items) stands.missing.count
+    ∙ ap (λ (x : List TimeBin). P (capped (length es)) (slips_at s es) (rises_at s es) (capped (missing_in s.unit es)) x g.gaps.items) stands.bins
+    ∙ ap (λ (x : List Bool). P (capped (length es)) (slips_at s es) (rises_at s es) (capped (missing_in s.unit es)) (bins_of s es) x) stands.missing.gaps
 
-pub text-is : (marker m : List ℕ) (first f last allowed records slips missing : ℕ) (interval : Option ℕ) (s : Scale) (bins : List TimeBin) (gaps : List Bool) (es : List EpochTableView)
-    → m ≡ marker → f ≡ first → Some last ≡ newest_moment es → s ≡ scale_of f last interval allowed
-    → records ≡ capped (length es) → slips ≡ capped (slips_in es) → missing ≡ capped (missing_in s.unit es)
-    → bins ≡ bins_of s es → gaps ≡ gaps_of s es
-    → text_picture m s records slips missing bins gaps ≡ text_of_epochs marker first interval allowed es
-text-is marker m first f last allowed records slips missing interval s bins gaps [] name from to is many slipped lacking shown gapped = cc
-text-is marker m first f last allowed records slips missing interval s bins gaps (e ∷ es) name from to is many slipped lacking shown gapped =
-    parts-are marker m records slips missing s bins gaps (e ∷ es) name many slipped lacking shown gapped
-    ∙ ap (λ (x : Scale). text_at marker x (e ∷ es)) (scale-is first f last allowed interval s e es from to is)
+pub text-is : (marker m : List ℕ) (listed ls : List Code) (first f last width records : ℕ) (interval : Option ℕ) (s : Scale) (g : Grid) (es : List EpochTableView)
+    → m ≡ marker → ls ≡ listed → f ≡ first → Some last ≡ newest_moment es → s ≡ scale_of f last interval (width - 5)
+    → records ≡ capped (length es) → StandsForGrid g s es
+    → text_picture m ls s width records g.slips g.rises g.missing g.bins.items g.gaps.items ≡ text_of_epochs marker listed first interval width es
+text-is marker m listed ls first f last width records interval s g [] name named from to is many stands = cc
+text-is marker m listed ls first f last width records interval s g (e ∷ es) name named from to is many stands =
+    ap (λ (x : List ℕ). text_picture x ls s width records g.slips g.rises g.missing g.bins.items g.gaps.items) name
+    ∙ ap (λ (x : List Code). text_picture marker x s width records g.slips g.rises g.missing g.bins.items g.gaps.items) named
+    ∙ same-parts (text_picture marker listed s width) records g s (e ∷ es) many stands
+    ∙ ap (λ (x : Scale). text_at marker listed width x (e ∷ es)) (scale-is first f last (width - 5) interval s e es from to is)
 
 -- ---- in SVG
 
@@ -64,25 +62,13 @@ pub no-svg : (marker : List ℕ) (listed : List Code) (first : ℕ) (interval : 
 no-svg marker listed first interval [] none = refl
 no-svg marker listed first interval (e ∷ es) none = cc
 
-svg-parts-are : (marker m : List ℕ) (listed ls : List Code) (records slips missing : ℕ) (s : Scale) (bins : List TimeBin) (gaps : List Bool) (es : List EpochTableView)
-    → m ≡ marker → ls ≡ listed → records ≡ capped (length es) → slips ≡ capped (slips_in es) → missing ≡ capped (missing_in s.unit es)
-    → bins ≡ bins_of s es → gaps ≡ gaps_of s es
-    → svg_picture m ls s records slips missing bins gaps ≡ svg_at marker listed s es
-svg-parts-are marker m listed ls records slips missing s bins gaps es name named many slipped lacking shown gapped =
-    ap (λ (x : List ℕ). svg_picture x ls s records slips missing bins gaps) name
-    ∙ ap (λ (x : List Code). svg_picture marker x s records slips missing bins gaps) named
-    ∙ ap (λ (x : ℕ). svg_picture marker listed s x slips missing bins gaps) many
-    ∙ ap (λ (x : ℕ). svg_picture marker listed s (capped (length es)) x missing bins gaps) slipped
-    ∙ ap (λ (x : ℕ). svg_picture marker listed s (capped (length es)) (capped (slips_in es)) x bins gaps) lacking
-    ∙ ap (λ (x : List TimeBin). svg_picture marker listed s (capped (length es)) (capped (slips_in es)) (capped (missing_in s.unit es)) x gaps) shown
-    ∙ ap (λ (x : List Bool). svg_picture marker listed s (capped (length es)) (capped (slips_in es)) (capped (missing_in s.unit es)) (bins_of s es) x) gapped
-
-pub svg-is : (marker m : List ℕ) (listed ls : List Code) (first f last records slips missing : ℕ) (interval : Option ℕ) (s : Scale) (bins : List TimeBin) (gaps : List Bool) (es : List EpochTableView)
+pub svg-is : (marker m : List ℕ) (listed ls : List Code) (first f last records : ℕ) (interval : Option ℕ) (s : Scale) (g : Grid) (es : List EpochTableView)
     → m ≡ marker → ls ≡ listed → f ≡ first → Some last ≡ newest_moment es → s ≡ scale_of f last interval 1440
-    → records ≡ capped (length es) → slips ≡ capped (slips_in es) → missing ≡ capped (missing_in s.unit es)
-    → bins ≡ bins_of s es → gaps ≡ gaps_of s es
-    → svg_picture m ls s records slips missing bins gaps ≡ svg_of_epochs marker listed first interval es
-svg-is marker m listed ls first f last records slips missing interval s bins gaps [] name named from to is many slipped lacking shown gapped = cc
-svg-is marker m listed ls first f last records slips missing interval s bins gaps (e ∷ es) name named from to is many slipped lacking shown gapped =
-    svg-parts-are marker m listed ls records slips missing s bins gaps (e ∷ es) name named many slipped lacking shown gapped
+    → records ≡ capped (length es) → StandsForGrid g s es
+    → svg_picture m ls s records g.slips g.rises g.missing g.bins.items g.gaps.items ≡ svg_of_epochs marker listed first interval es
+svg-is marker m listed ls first f last records interval s g [] name named from to is many stands = cc
+svg-is marker m listed ls first f last records interval s g (e ∷ es) name named from to is many stands =
+    ap (λ (x : List ℕ). svg_picture x ls s records g.slips g.rises g.missing g.bins.items g.gaps.items) name
+    ∙ ap (λ (x : List Code). svg_picture marker x s records g.slips g.rises g.missing g.bins.items g.gaps.items) named
+    ∙ same-parts (svg_picture marker listed s) records g s (e ∷ es) many stands
     ∙ ap (λ (x : Scale). svg_at marker listed x (e ∷ es)) (scale-is first f last 1440 interval s e es from to is)

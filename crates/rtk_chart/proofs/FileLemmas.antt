@@ -8,9 +8,11 @@ use Rattle.std.proofs.lemmas.List.Sums.{sum_by-cons}
 use Rattle.rtk_rinex.specs.Reading.{IsMoment}
 use Rattle.rtk_rinex.specs.Record.{EpochTableView}
 use Rattle.rtk_rinex.specs.Table.{WellFormedTable, IsWellFormedTable, IsTableEpoch}
-use Rattle.rtk_chart.specs.Epochs.{epochs_onto, newest_first, slips_in}
-use Rattle.rtk_chart.specs.Interval.{steps_in, IsInterval, missing_in}
-use Rattle.rtk_chart.specs.Scale.{IsScale, unit_of, scale_of, bin_at, bin_length}
+use Rattle.rtk_tracking.specs.Epochs.{epochs_onto, newest_first}
+use Rattle.rtk_tracking.specs.Passes.{longest_gap}
+use Rattle.rtk_chart.specs.Epochs.{slips_in, rises_in}
+use Rattle.rtk_tracking.specs.Interval.{steps_in, IsInterval, missing_in}
+use Rattle.rtk_chart.specs.Scale.{IsScale, unit_of, half_of, scale_of, bin_at, bin_length}
 use Rattle.rtk_chart.specs.HeadingLaws.{HasNumbers}
 use Rattle.rtk_chart.proofs.ScaleLemmas.{mul-pos, bin-bound, bins-few}
 use Rattle.rtk_chart.proofs.WidthLemmas.{unit-some, within}
@@ -24,7 +26,7 @@ unit-bound (Some interval) = omega arith
 is-scale : (first last allowed : ℕ) (interval : Option ℕ) → IsMoment first → IsMoment last → IsInRange 1 1440 allowed → IsScale (scale_of first last interval allowed)
 is-scale first last allowed interval from to room =
     let unit = unit_of interval in
-    let span = last - first in
+    let span = last - first + half_of unit in
     let positive = unit-some interval in
     let bound = unit-bound interval in
     let low = room.0 in
@@ -135,20 +137,21 @@ on-bins : (first last allowed : ℕ) (interval : Option ℕ) (es : List EpochTab
     → All (λ e. bin_at (scale_of first last interval allowed) e.time < (scale_of first last interval allowed).bins) es
 on-bins first last allowed interval es room sooner =
     let unit = unit_of interval in
-    let span = last - first in
+    let span = last - first + half_of unit in
     let any : 0 < span / (allowed * unit) + 1 = omega arith in
     let size = mul-pos (span / (allowed * unit) + 1) unit any (unit-some interval) in
     All-weaker (NoLater last) (λ (e : EpochTableView). bin_at (scale_of first last interval allowed) e.time < (scale_of first last interval allowed).bins)
-    (λ e to. within first last (bin_length span unit allowed) e.time size to) es sooner
+    (λ e to. within first last (half_of unit) (bin_length span unit allowed) e.time size to) es sooner
 
 at-moments : (n : ℕ) (es : List EpochTableView) → All (IsTableEpoch n) es → All AtMoment es
 at-moments n es h = All-weaker (IsTableEpoch n) AtMoment (λ e is. is.time) es h
 
 pub tables-have-numbers : (t : WellFormedTable) (interval : Option ℕ) (allowed : ℕ) (e : EpochTableView) (before : List EpochTableView)
     → IsWellFormedTable t → newest_first t.epochs ≡ e ∷ before → IsInterval (steps_in (e ∷ before)) interval → IsInRange 1 1440 allowed
-    → length (e ∷ before) < 2 ^ 64 → slips_in (e ∷ before) < 2 ^ 64 → missing_in (unit_of interval) (e ∷ before) < 2 ^ 64
+    → length (e ∷ before) < 2 ^ 64 → slips_in (longest_gap interval) (e ∷ before) < 2 ^ 64 → rises_in (longest_gap interval) (e ∷ before) < 2 ^ 64
+    → missing_in (unit_of interval) (e ∷ before) < 2 ^ 64
     → HasNumbers (scale_of t.first e.time interval allowed) (e ∷ before)
-tables-have-numbers t interval allowed e before is newest steps room records slips missing =
+tables-have-numbers t interval allowed e before is newest steps room records slips rises missing =
     let moments : All AtMoment (e ∷ before) =
     subst (λ (es : List EpochTableView). All AtMoment es) newest
     (all-onto AtMoment t.epochs [] (at-moments _ t.epochs is.epochs) (All-nil AtMoment)) in
@@ -161,5 +164,6 @@ tables-have-numbers t interval allowed e before is newest steps room records sli
       interval = interval-fits (steps_in (e ∷ before)) interval steps (short-steps (e ∷ before) moments);
       records = records;
       slips = slips;
+      rises = rises;
       missing = missing;
     }

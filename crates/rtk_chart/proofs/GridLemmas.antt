@@ -1,62 +1,314 @@
 -- The bins of a picture, epoch by epoch.
-use Rattle.std.proofs.Common.{◌≡◌, ◌≢◌, ◌<◌, ◌≤◌, ◌+◌, ◌*◌, ◌==◌, ℕ, zero, suc, refl, Bool, true, false, cond, not, ◌&&◌, ◌||◌, List, [], ◌∷◌, Option, Some, length, set, get_or, replicate, sym, ap, ◌∙◌, arith}
-use Rattle.std.specs.Prelude.{nat_lt, nat_le}
-use Rattle.std.proofs.lemmas.Bool.{eq-eqb, ne_eqb, lt-ltb}
+use Rattle.std.proofs.Common.{◌≡◌, ◌≢◌, ◌<◌, ◌≤◌, ◌+◌, ◌*◌, ℕ, zero, suc, refl, Bool, true, false, cond, ltb, not, ◌&&◌, ◌||◌, List, [], ◌∷◌, Option, Some, length, set, get_or, map, replicate, sym, ap, subst, inl, inr, get_or-set_same, get_or-set_other, ◌∙◌, arith}
+use Rattle.std.specs.Prelude.{nat_lt, nat_le, is_some, count_by}
+use Rattle.std.specs.List.{range_with_len, sum_by}
+use Rattle.std.proofs.lemmas.Bool.{both_ways, cases_eq, eq-eqb, ne_eqb, lt-ltb, le-ltb}
 use Rattle.std.proofs.lemmas.List.{length-replicate, get_or-replicate}
 use Rattle.std.proofs.lemmas.List.FromFn.{fill_by_all, get_or-map-range_with_len, length-map-range_with_len}
 use Rattle.rtk_rinex.specs.Record.{EpochTableView}
-use Rattle.rtk_chart.specs.Scale.{bin_at}
 use Rattle.rtk_rinex.specs.declared.epoch_table.Observed.{Observed}
-use Rattle.rtk_rinex.specs.declared.epoch_table.SatelliteRow.{SatelliteRow}
-use Rattle.rtk_chart.specs.Epochs.{capped, newest_moment, shows_phase, observed_in, observed_by}
-use Rattle.rtk_chart.specs.Interval.{missing_before, missing_in}
-use Rattle.rtk_chart.specs.Grid.{coverage_of, tracking_in, bin_of, epochs_of_bin, bins_of, has_missing_before, has_missing, gaps_of}
-use Rattle.rtk_chart.specs.Steps.Standing.{AddsMarks}
-use Rattle.rtk_chart.specs.declared.tracking.Coverage.{Coverage}
+use Rattle.rtk_tracking.specs.Epochs.{capped, newest_moment, shows_phase, observed_in}
+use Rattle.rtk_tracking.specs.Passes.{Sighting, sightings_of, longest_gap, has_phase, has_bit_0, is_known, is_slip, is_rise}
+use Rattle.rtk_tracking.specs.Standing.{AreMarked, StandsForPass}
+use Rattle.rtk_tracking.specs.Interval.{missing_before, missing_in}
+use Rattle.rtk_tracking.specs.declared.passes.Pass.{Pass}
+use Rattle.rtk_chart.specs.Epochs.{sighting_of, is_seen, shown_at, lacks_phase, has_bit_1, level_at, level_of, lesser, times_in_epoch}
+use Rattle.rtk_chart.specs.Scale.{bin_at}
+use Rattle.rtk_chart.specs.Grid.{no_marks, no_tracking, no_bin, code_in, codes_in, tracking_in, trackings_in, bin_in, bins_of, has_missing_before, has_missing, gaps_of}
+use Rattle.rtk_chart.specs.Steps.Standing.{AddsMarks, StandForPasses}
+use Rattle.rtk_chart.specs.Steps.Shown.{called_for, called_at, both_marks, both_codes, both_trackings, both_satellites, both_bins, tracking_of, bin_of}
+use Rattle.rtk_chart.specs.declared.code_marks.CodeMarks.{CodeMarks}
 use Rattle.rtk_chart.specs.declared.tracking.Tracking.{Tracking}
 use Rattle.rtk_chart.specs.declared.scale.Scale.{Scale}
 use Rattle.rtk_chart.specs.declared.time_bin.TimeBin.{TimeBin}
-use Rattle.rtk_chart.proofs.ListLemmas.{set-map}
-
-own-epoch : (s : Scale) (c : ℕ) (e : EpochTableView) (es : List EpochTableView) → bin_at s e.time ≡ c → epochs_of_bin s c (e ∷ es) ≡ e ∷ epochs_of_bin s c es
-own-epoch s c e es at =
-    let yes : (bin_at s e.time == c) ≡ true = eq-eqb (bin_at s e.time) c at in
-    ap (λ (b : Bool). cond b (e ∷ epochs_of_bin s c es) (epochs_of_bin s c es)) yes
-
-other-epoch : (s : Scale) (c : ℕ) (e : EpochTableView) (es : List EpochTableView) → bin_at s e.time ≢ c → epochs_of_bin s c (e ∷ es) ≡ epochs_of_bin s c es
-other-epoch s c e es apart =
-    let no : (bin_at s e.time == c) ≡ false = ne_eqb (bin_at s e.time) c apart in
-    ap (λ (b : Bool). cond b (e ∷ epochs_of_bin s c es) (epochs_of_bin s c es)) no
-
--- an epoch goes to its bin
-pub bin-more : (s : Scale) (e : EpochTableView) (es : List EpochTableView) (bins : List TimeBin) (place : ℕ) (new d : TimeBin)
-    → place ≡ bin_at s e.time → place < s.bins → bins ≡ bins_of s es → new ≡ bin_of (e ∷ epochs_of_bin s place es)
-    → set bins place new ≡ bins_of s (e ∷ es)
-unfolding bins_of
-bin-more s e es bins place new d at within are took =
-    set-map (λ c. bin_of (epochs_of_bin s c es)) (λ c. bin_of (epochs_of_bin s c (e ∷ es))) bins s.bins place new d are within
-    (took ∙ sym (ap bin_of (own-epoch s place e es (sym at))))
-    (λ k lt other. sym (ap bin_of (other-epoch s k e es (λ same. other (sym same ∙ sym at)))))
+use Rattle.rtk_chart.proofs.ListLemmas.{set-map, map-same, sum-map, sum-same, ltb-other}
 
 -- ---- a code
 
--- an epoch more
-pub coverage-more : (place : ℕ) (os : List Observed) (epochs : List (List Observed)) (old new : Coverage) (stands : Bool)
-    → old ≡ coverage_of epochs place → stands ≡ shows_phase place os → new ≡ record { some = stands || old.some; lacks = not stands || old.lacks }
-    → new ≡ coverage_of (os ∷ epochs) place
-coverage-more place os epochs old new stands was is took =
-    took ∙ ap (λ (b : Bool). more b old) is ∙ ap (λ (l : Coverage). more (shows_phase place os) l) was
-  where
-    more : Bool → Coverage → Coverage
-    more b l = record { some = b || l.some; lacks = not b || l.lacks }
+bit-at : (code : ℕ) (os : List Observed) → has_bit_0 code os ≡ (shown_at code os).slip
+bit-at code [] = refl
+bit-at zero (o ∷ os) = refl
+bit-at (suc code) (o ∷ os) = bit-at code os
+
+phase-at : (code : ℕ) (os : List Observed) → shows_phase code os ≡ is_some (shown_at code os).phase_millicycles
+phase-at code [] = refl
+phase-at zero (o ∷ os) = refl
+phase-at (suc code) (o ∷ os) = phase-at code os
+
+-- the marks with an epoch more, in this bin or not
+abbrev with_epoch : Scale → ℕ → EpochTableView → List EpochTableView → ℕ → ℕ → Bool → CodeMarks
+with_epoch s satellite e es c code own =
+    record {
+      phase = (own && shows_phase code (observed_in satellite e.rows)) || (code_in s satellite es c code).phase;
+      missing = (own && lacks_phase code (observed_in satellite e.rows)) || (code_in s satellite es c code).missing;
+      slip = (own && is_slip (longest_gap s.interval) code (sightings_of satellite es) (sighting_of satellite e)) || (code_in s satellite es c code).slip;
+      rise = (own && is_rise (longest_gap s.interval) code (sightings_of satellite es) (sighting_of satellite e)) || (code_in s satellite es c code).rise;
+      half = (own && has_bit_1 code (observed_in satellite e.rows)) || (code_in s satellite es c code).half;
+      least = cond own (lesser (level_at code (observed_in satellite e.rows)) (code_in s satellite es c code).least) (code_in s satellite es c code).least;
+    }
+
+-- what an epoch calls for, by its phase and bit 0
+abbrev called_by : Observed → Bool → Bool → Bool → Bool → CodeMarks → CodeMarks
+called_by o has known phase bit m =
+    record {
+      phase = phase || m.phase;
+      missing = (has && not phase) || m.missing;
+      slip = (bit && known) || m.slip;
+      rise = (bit && not known) || m.rise;
+      half = o.half || m.half;
+      least = lesser (level_of o.strength_millidbhz) m.least;
+    }
+
+code-own : (s : Scale) (satellite : ℕ) (e : EpochTableView) (es : List EpochTableView) (c code : ℕ) → bin_at s e.time ≡ c
+    → code_in s satellite (e ∷ es) c code
+    ≡ both_marks (called_for (shown_at code (observed_in satellite e.rows)) (has_phase (observed_in satellite e.rows)) (is_known (longest_gap s.interval) code (sightings_of satellite es) (sighting_of satellite e)))
+    (code_in s satellite es c code)
+code-own s satellite e es c code at =
+    let os : List Observed = observed_in satellite e.rows in
+    let o : Observed = shown_at code os in
+    let known : Bool = is_known (longest_gap s.interval) code (sightings_of satellite es) (sighting_of satellite e) in
+    let m : CodeMarks = code_in s satellite es c code in
+    ap (with_epoch s satellite e es c code) (eq-eqb (bin_at s e.time) c at)
+    ∙ ap (λ (phase : Bool). called_by o (has_phase os) known phase (has_bit_0 code os) m) (phase-at code os)
+    ∙ ap (λ (bit : Bool). called_by o (has_phase os) known (is_some o.phase_millicycles) bit m) (bit-at code os)
+
+code-other : (s : Scale) (satellite : ℕ) (e : EpochTableView) (es : List EpochTableView) (c code : ℕ) → bin_at s e.time ≢ c
+    → code_in s satellite (e ∷ es) c code ≡ code_in s satellite es c code
+code-other s satellite e es c code apart = ap (with_epoch s satellite e es c code) (ne_eqb (bin_at s e.time) c apart)
 
 -- ---- a satellite
 
--- an epoch more
-pub tracking-more : (place : ℕ) (e : EpochTableView) (es : List EpochTableView) (rows : List SatelliteRow) (os : List Observed) (new : Tracking)
-    → rows ≡ e.rows → os ≡ observed_in (place + 1) rows → new ≡ tracking_in (os ∷ observed_by (place + 1) es) → new ≡ tracking_in (observed_by (place + 1) (e ∷ es))
-tracking-more place e es rows os new are is took =
-    took ∙ ap (λ (shown : List Observed). tracking_in (shown ∷ observed_by (place + 1) es)) (is ∙ ap (λ (some : List SatelliteRow). observed_in (place + 1) some) are)
+-- a satellite with these codes and a row or none
+abbrev pub tracking_with : List CodeMarks → Bool → Tracking
+tracking_with marks seen = record { codes = marks; seen = seen }
+
+same-tracking : (a b : List CodeMarks) (x y : Bool) → a ≡ b → x ≡ y → tracking_with a x ≡ tracking_with b y
+same-tracking a b x y codes seen = ap (λ (ms : List CodeMarks). tracking_with ms x) codes ∙ ap (λ (s : Bool). tracking_with b s) seen
+
+seen-own : (s : Scale) (satellite : ℕ) (e : EpochTableView) (es : List EpochTableView) (c : ℕ) → bin_at s e.time ≡ c
+    → (tracking_in s satellite (e ∷ es) c).seen ≡ (is_seen (observed_in satellite e.rows) || (tracking_in s satellite es c).seen)
+seen-own s satellite e es c at =
+    ap (λ (own : Bool). (own && is_seen (observed_in satellite e.rows)) || (tracking_in s satellite es c).seen) (eq-eqb (bin_at s e.time) c at)
+
+seen-other : (s : Scale) (satellite : ℕ) (e : EpochTableView) (es : List EpochTableView) (c : ℕ) → bin_at s e.time ≢ c
+    → (tracking_in s satellite (e ∷ es) c).seen ≡ (tracking_in s satellite es c).seen
+seen-other s satellite e es c apart =
+    ap (λ (own : Bool). (own && is_seen (observed_in satellite e.rows)) || (tracking_in s satellite es c).seen) (ne_eqb (bin_at s e.time) c apart)
+
+-- what a function gives for each place stands there
+pub at-place : {X : Type 0} (f : ℕ → X) (n k : ℕ) (d : X) → k < n → get_or (map f (range_with_len 0 n)) k d ≡ f k
+at-place f n k d inside =
+    let here : 0 + k ≡ k = omega arith in
+    get_or-map-range_with_len f 0 n k k d inside here
+
+-- the codes of one epoch
+abbrev called_of : ℕ → List Sighting → Sighting → ℕ → CodeMarks
+called_of gap before now code = called_for (shown_at code now.observed) (has_phase now.observed) (is_known gap code before now)
+
+codes-own : (s : Scale) (satellite : ℕ) (e : EpochTableView) (es : List EpochTableView) (c : ℕ) → bin_at s e.time ≡ c
+    → codes_in s satellite (e ∷ es) c
+    ≡ map (both_codes (map (called_of (longest_gap s.interval) (sightings_of satellite es) (sighting_of satellite e)) (range_with_len 0 16)) (codes_in s satellite es c)) (range_with_len 0 16)
+unfolding codes_in
+codes-own s satellite e es c at =
+    let called : ℕ → CodeMarks = called_of (longest_gap s.interval) (sightings_of satellite es) (sighting_of satellite e) in
+    let old : ℕ → CodeMarks = code_in s satellite es c in
+    let mine : List CodeMarks = map called (range_with_len 0 16) in
+    let others : List CodeMarks = map old (range_with_len 0 16) in
+    map-same (code_in s satellite (e ∷ es) c) (both_codes mine others) 0 16 (λ code lt.
+    let inside : code < 16 = omega (arith, lt) in
+    code-own s satellite e es c code at
+    ∙ ap (λ (m : CodeMarks). both_marks m (old code)) (sym (at-place called 16 code no_marks inside))
+    ∙ ap (λ (m : CodeMarks). both_marks (get_or mine code no_marks) m) (sym (at-place old 16 code no_marks inside)))
+
+codes-other : (s : Scale) (satellite : ℕ) (e : EpochTableView) (es : List EpochTableView) (c : ℕ) → bin_at s e.time ≢ c
+    → codes_in s satellite (e ∷ es) c ≡ codes_in s satellite es c
+unfolding codes_in
+codes-other s satellite e es c apart =
+    map-same (code_in s satellite (e ∷ es) c) (code_in s satellite es c) 0 16 (λ code lt. code-other s satellite e es c code apart)
+
+has-row : (o : Observed) (os : List Observed) → is_seen (o ∷ os) ≡ true
+has-row o os = let some : length (o ∷ os) ≢ 0 = omega arith in ap not (ne_eqb (length (o ∷ os)) 0 some)
+
+-- a satellite without a row
+unseen-own : (s : Scale) (satellite : ℕ) (e : EpochTableView) (es : List EpochTableView) (c : ℕ) → bin_at s e.time ≡ c → observed_in satellite e.rows ≡ []
+    → tracking_in s satellite (e ∷ es) c ≡ tracking_in s satellite es c
+unfolding codes_in
+unseen-own s satellite e es c at none =
+    let known : ℕ → Bool = λ code. is_known (longest_gap s.interval) code (sightings_of satellite es) (sighting_of satellite e) in
+    same-tracking _ _ _ _
+    (map-same (code_in s satellite (e ∷ es) c) (code_in s satellite es c) 0 16 (λ code lt.
+    code-own s satellite e es c code at
+    ∙ ap (λ (os : List Observed). both_marks (called_for (shown_at code os) (has_phase os) (known code)) (code_in s satellite es c code)) none))
+    (seen-own s satellite e es c at ∙ ap (λ (os : List Observed). is_seen os || (tracking_in s satellite es c).seen) none)
+
+tracking-by : (s : Scale) (satellite : ℕ) (e : EpochTableView) (es : List EpochTableView) (c : ℕ) → bin_at s e.time ≡ c
+    → (os : List Observed) → observed_in satellite e.rows ≡ os
+    → tracking_in s satellite (e ∷ es) c
+    ≡ both_trackings (tracking_of (longest_gap s.interval) (sightings_of satellite es) (sighting_of satellite e)) (tracking_in s satellite es c)
+unfolding both_trackings tracking_of
+tracking-by s satellite e es c at [] none =
+    let called : List CodeMarks = map (called_of (longest_gap s.interval) (sightings_of satellite es) (sighting_of satellite e)) (range_with_len 0 16) in
+    unseen-own s satellite e es c at none
+    ∙ sym (ap (λ (os : List Observed). cond (is_seen os) (tracking_with (map (both_codes called (codes_in s satellite es c)) (range_with_len 0 16)) true) (tracking_in s satellite es c)) none)
+tracking-by s satellite e es c at (o ∷ os) some =
+    let called : List CodeMarks = map (called_of (longest_gap s.interval) (sightings_of satellite es) (sighting_of satellite e)) (range_with_len 0 16) in
+    let seen : is_seen (observed_in satellite e.rows) ≡ true = ap is_seen some ∙ has-row o os in
+    same-tracking _ _ _ _ (codes-own s satellite e es c at) (seen-own s satellite e es c at ∙ ap (λ (b : Bool). b || (tracking_in s satellite es c).seen) seen)
+    ∙ sym (ap (λ (b : Bool). cond b (tracking_with (map (both_codes called (codes_in s satellite es c)) (range_with_len 0 16)) true) (tracking_in s satellite es c)) seen)
+
+tracking-own : (s : Scale) (satellite : ℕ) (e : EpochTableView) (es : List EpochTableView) (c : ℕ) → bin_at s e.time ≡ c
+    → tracking_in s satellite (e ∷ es) c
+    ≡ both_trackings (tracking_of (longest_gap s.interval) (sightings_of satellite es) (sighting_of satellite e)) (tracking_in s satellite es c)
+tracking-own s satellite e es c at = tracking-by s satellite e es c at (observed_in satellite e.rows) refl
+
+tracking-other : (s : Scale) (satellite : ℕ) (e : EpochTableView) (es : List EpochTableView) (c : ℕ) → bin_at s e.time ≢ c
+    → tracking_in s satellite (e ∷ es) c ≡ tracking_in s satellite es c
+tracking-other s satellite e es c apart = same-tracking _ _ _ _ (codes-other s satellite e es c apart) (seen-other s satellite e es c apart)
+
+-- ---- a bin
+
+abbrev pub bin_with : List Tracking → TimeBin
+bin_with trackings = record { satellites = trackings }
+
+-- an epoch in the bin
+bin-own : (s : Scale) (e : EpochTableView) (es : List EpochTableView) (c : ℕ) → bin_at s e.time ≡ c
+    → bin_in s (e ∷ es) c ≡ both_bins (bin_of (longest_gap s.interval) es e) (bin_in s es c)
+unfolding trackings_in both_bins bin_of
+bin-own s e es c at =
+    let gap : ℕ = longest_gap s.interval in
+    let called : ℕ → Tracking = λ place. tracking_of gap (sightings_of (place + 1) es) (sighting_of (place + 1) e) in
+    let old : ℕ → Tracking = λ place. tracking_in s (place + 1) es c in
+    let mine : List Tracking = map called (range_with_len 0 32) in
+    let others : List Tracking = map old (range_with_len 0 32) in
+    ap bin_with (map-same (λ place. tracking_in s (place + 1) (e ∷ es) c) (both_satellites mine others) 0 32 (λ place lt.
+    let inside : place < 32 = omega (arith, lt) in
+    tracking-own s (place + 1) e es c at
+    ∙ ap (λ (t : Tracking). both_trackings t (old place)) (sym (at-place called 32 place no_tracking inside))
+    ∙ ap (λ (t : Tracking). both_trackings (get_or mine place no_tracking) t) (sym (at-place old 32 place no_tracking inside))))
+
+bin-other : (s : Scale) (e : EpochTableView) (es : List EpochTableView) (c : ℕ) → bin_at s e.time ≢ c → bin_in s (e ∷ es) c ≡ bin_in s es c
+unfolding trackings_in
+bin-other s e es c apart =
+    ap bin_with (map-same (λ place. tracking_in s (place + 1) (e ∷ es) c) (λ place. tracking_in s (place + 1) es c) 0 32 (λ place lt. tracking-other s (place + 1) e es c apart))
+
+-- an epoch goes to its bin
+pub bin-more : (s : Scale) (e : EpochTableView) (es : List EpochTableView) (bins : List TimeBin) (place : ℕ) (called old new d : TimeBin)
+    → place ≡ bin_at s e.time → place < s.bins → bins ≡ bins_of s es → called ≡ bin_of (longest_gap s.interval) es e → old ≡ bin_in s es place
+    → new ≡ both_bins called old → set bins place new ≡ bins_of s (e ∷ es)
+unfolding bins_of
+bin-more s e es bins place called old new d at within are calls was took =
+    set-map (bin_in s es) (bin_in s (e ∷ es)) bins s.bins place new d are within
+    (took ∙ ap (λ (b : TimeBin). both_bins b old) calls ∙ ap (λ (b : TimeBin). both_bins (bin_of (longest_gap s.interval) es e) b) was ∙ sym (bin-own s e es place (sym at)))
+    (λ k lt other. sym (bin-other s e es k (λ same. other (sym same ∙ sym at))))
+
+-- ---- what one epoch calls for
+
+-- the codes of a satellite
+pub codes-called : (gap : ℕ) (before : List Sighting) (now : Sighting) (os : List Observed) (known : List Bool) (t : Tracking)
+    → os ≡ now.observed → AreMarked known (λ code. is_known gap code before now)
+    → t.codes ≡ map (called_at os known) (range_with_len 0 16) → t.seen ≡ is_seen os → t ≡ tracking_of gap before now
+unfolding tracking_of
+codes-called gap before now os known t shown marked codes seen =
+    same-tracking t.codes _ t.seen _
+    (codes ∙ map-same (called_at os known) (called_of gap before now) 0 16 (λ code lt.
+    let inside : code < 16 = omega (arith, lt) in
+    ap (λ (xs : List Observed). called_at xs known code) shown
+    ∙ ap (λ (b : Bool). called_for (shown_at code now.observed) (has_phase now.observed) b) (marked code inside)))
+    (seen ∙ ap is_seen shown)
+
+-- a satellite without a row calls for nothing
+pub unseen-called : (gap : ℕ) (before : List Sighting) (time : ℕ) (os : List Observed) → is_seen os ≡ false
+    → no_tracking ≡ tracking_of gap before (record { time = time; observed = os })
+unfolding tracking_of
+unseen-called gap before time [] none = refl
+unseen-called gap before time (o ∷ os) none = absurd (both_ways (is_seen (o ∷ os)) none (has-row o os))
+
+-- a satellite in an epoch
+pub tracking-called : (gap : ℕ) (e : EpochTableView) (before : List EpochTableView) (i time : ℕ) (os : List Observed) (t : Tracking)
+    → time ≡ e.time → os ≡ observed_in (i + 1) e.rows → t ≡ tracking_of gap (sightings_of (i + 1) before) (record { time = time; observed = os })
+    → t ≡ tracking_of gap (sightings_of (i + 1) before) (sighting_of (i + 1) e)
+tracking-called gap e before i time os t at shown is =
+    let came : List Sighting = sightings_of (i + 1) before in
+    is ∙ ap (λ (n : ℕ). tracking_of gap came (record { time = n; observed = os })) at
+    ∙ ap (λ (xs : List Observed). tracking_of gap came (record { time = e.time; observed = xs })) shown
+
+-- the pass of a satellite, at each default
+pub pass-of : (gap : ℕ) (es : List EpochTableView) (passes : List Pass) (i j : ℕ) (d : Pass) → j ≡ i → i < 32 → StandForPasses passes gap es
+    → StandsForPass (get_or passes j d) gap (sightings_of (i + 1) es)
+pass-of gap es passes i j d at within stands =
+    subst (λ (n : ℕ). StandsForPass (get_or passes n d) gap (sightings_of (i + 1) es)) (sym at) (stands i d within)
+
+-- the passes with an epoch more, satellite by satellite
+pub passes-more : (gap : ℕ) (e : EpochTableView) (es : List EpochTableView) (passes : List Pass) (i j j0 time : ℕ) (new d0 : Pass) (os : List Observed)
+    → j ≡ i → j0 ≡ i → i < 32 → length passes ≡ 32 → time ≡ e.time → os ≡ observed_in (i + 1) e.rows
+    → ((k : ℕ) (d : Pass) → k < 32 → StandsForPass (get_or passes k d) gap (cond (ltb k i) (sightings_of (k + 1) (e ∷ es)) (sightings_of (k + 1) es)))
+    → ((before : List Sighting) → StandsForPass (get_or passes j0 d0) gap before → StandsForPass new gap (record { time = time; observed = os } ∷ before))
+    → (k : ℕ) (d : Pass) → k < 32 → StandsForPass (get_or (set passes j new) k d) gap (cond (ltb k (i + 1)) (sightings_of (k + 1) (e ∷ es)) (sightings_of (k + 1) es))
+passes-more gap e es passes i j j0 time new d0 os at at0 within size same shown so_far takes k d lt =
+    let inside : i < length passes = omega (arith, within, size) in
+    let came : ℕ → Bool → List Sighting = λ n b. cond b (sightings_of (n + 1) (e ∷ es)) (sightings_of (n + 1) es) in
+    elim (cases_eq k i) [
+      | inl here ↦
+          let is : get_or (set passes j new) k d ≡ new =
+          ap (λ (n : ℕ). get_or (set passes n new) k d) at ∙ ap (λ (n : ℕ). get_or (set passes i new) n d) here ∙ get_or-set_same passes i new d inside in
+          let last : i ≤ i = omega arith in
+          let was : StandsForPass (get_or passes j0 d0) gap (sightings_of (i + 1) es) =
+          subst (λ (n : ℕ). StandsForPass (get_or passes n d0) gap (sightings_of (i + 1) es)) (sym at0)
+          (subst (λ (b : Bool). StandsForPass (get_or passes i d0) gap (came i b)) (le-ltb i i last) (so_far i d0 within)) in
+          let mine : StandsForPass new gap (sightings_of (i + 1) (e ∷ es)) =
+          subst (λ (n : ℕ). StandsForPass new gap (record { time = n; observed = observed_in (i + 1) e.rows } ∷ sightings_of (i + 1) es)) same
+          (subst (λ (xs : List Observed). StandsForPass new gap (record { time = time; observed = xs } ∷ sightings_of (i + 1) es)) shown (takes (sightings_of (i + 1) es) was)) in
+          let below : k < i + 1 = omega (arith, here) in
+          subst (λ (p : Pass). StandsForPass p gap (came k (ltb k (i + 1)))) (sym is)
+          (subst (λ (b : Bool). StandsForPass new gap (came k b)) (sym (lt-ltb k (i + 1) below))
+          (subst (λ (n : ℕ). StandsForPass new gap (sightings_of (n + 1) (e ∷ es))) (sym here) mine))
+      | inr other ↦
+          subst (λ (p : Pass). StandsForPass p gap (came k (ltb k (i + 1)))) (sym (ap (λ (n : ℕ). get_or (set passes n new) k d) at ∙ get_or-set_other passes i k new d other))
+          (subst (λ (b : Bool). StandsForPass (get_or passes k d) gap (came k b)) (ltb-other i k other) (so_far k d lt))
+    ]
+
+-- all of them
+pub passes-all : (gap : ℕ) (e : EpochTableView) (es : List EpochTableView) (passes : List Pass) (i : ℕ) → i ≡ 32
+    → ((k : ℕ) (d : Pass) → k < 32 → StandsForPass (get_or passes k d) gap (cond (ltb k i) (sightings_of (k + 1) (e ∷ es)) (sightings_of (k + 1) es)))
+    → StandForPasses passes gap (e ∷ es)
+passes-all gap e es passes i end so_far = λ k d lt.
+    let below : k < i = omega (arith, lt, end) in
+    subst (λ (b : Bool). StandsForPass (get_or passes k d) gap (cond b (sightings_of (k + 1) (e ∷ es)) (sightings_of (k + 1) es))) (lt-ltb k i below) (so_far k d lt)
+
+-- how often a mark stands in an epoch
+slips-of-tracking : (gap : ℕ) (before : List Sighting) (now : Sighting)
+    → count_by (λ m. m.slip) (tracking_of gap before now).codes ≡ count_by (λ code. is_slip gap code before now) (range_with_len 0 16)
+unfolding tracking_of
+slips-of-tracking gap before now =
+    sum-map (λ (m : CodeMarks). cond m.slip 1 0) (called_of gap before now) (range_with_len 0 16)
+    ∙ sum-same (λ (code : ℕ). cond ((shown_at code now.observed).slip && is_known gap code before now) 1 0) (λ (code : ℕ). cond (is_slip gap code before now) 1 0) (range_with_len 0 16)
+    (λ code. ap (λ (bit : Bool). cond (bit && is_known gap code before now) 1 0) (sym (bit-at code now.observed)))
+
+rises-of-tracking : (gap : ℕ) (before : List Sighting) (now : Sighting)
+    → count_by (λ m. m.rise) (tracking_of gap before now).codes ≡ count_by (λ code. is_rise gap code before now) (range_with_len 0 16)
+unfolding tracking_of
+rises-of-tracking gap before now =
+    sum-map (λ (m : CodeMarks). cond m.rise 1 0) (called_of gap before now) (range_with_len 0 16)
+    ∙ sum-same (λ (code : ℕ). cond ((shown_at code now.observed).slip && not (is_known gap code before now)) 1 0) (λ (code : ℕ). cond (is_rise gap code before now) 1 0) (range_with_len 0 16)
+    (λ code. ap (λ (bit : Bool). cond (bit && not (is_known gap code before now)) 1 0) (sym (bit-at code now.observed)))
+
+pub slips-called : (gap : ℕ) (es : List EpochTableView) (e : EpochTableView) (called : TimeBin) → called ≡ bin_of gap es e
+    → sum_by (λ t. count_by (λ m. m.slip) t.codes) called.satellites ≡ times_in_epoch (is_slip gap) es e
+unfolding bin_of
+slips-called gap es e called are =
+    let of : ℕ → Tracking = λ place. tracking_of gap (sightings_of (place + 1) es) (sighting_of (place + 1) e) in
+    ap (λ (b : TimeBin). sum_by (λ (t : Tracking). count_by (λ m. m.slip) t.codes) b.satellites) are
+    ∙ sum-map (λ (t : Tracking). count_by (λ m. m.slip) t.codes) of (range_with_len 0 32)
+    ∙ sum-same (λ (place : ℕ). count_by (λ m. m.slip) (of place).codes) _ (range_with_len 0 32) (λ place. slips-of-tracking gap (sightings_of (place + 1) es) (sighting_of (place + 1) e))
+
+pub rises-called : (gap : ℕ) (es : List EpochTableView) (e : EpochTableView) (called : TimeBin) → called ≡ bin_of gap es e
+    → sum_by (λ t. count_by (λ m. m.rise) t.codes) called.satellites ≡ times_in_epoch (is_rise gap) es e
+unfolding bin_of
+rises-called gap es e called are =
+    let of : ℕ → Tracking = λ place. tracking_of gap (sightings_of (place + 1) es) (sighting_of (place + 1) e) in
+    ap (λ (b : TimeBin). sum_by (λ (t : Tracking). count_by (λ m. m.rise) t.codes) b.satellites) are
+    ∙ sum-map (λ (t : Tracking). count_by (λ m. m.rise) t.codes) of (range_with_len 0 32)
+    ∙ sum-same (λ (place : ℕ). count_by (λ m. m.rise) (of place).codes) _ (range_with_len 0 32) (λ place. rises-of-tracking gap (sightings_of (place + 1) es) (sighting_of (place + 1) e))
 
 -- whether a satellite has a row, at each default that has none
 pub seen-same : (satellites : List Tracking) (place : ℕ) (d e : Tracking) → d.seen ≡ e.seen → (get_or satellites place d).seen ≡ (get_or satellites place e).seen
@@ -96,33 +348,42 @@ pub bin-beyond : (s : Scale) (e : EpochTableView) (es : List EpochTableView) (bi
     → place ≡ bin_at s e.time → length bins ≤ place → bins ≡ bins_of s es → bins ≡ bins_of s (e ∷ es)
 unfolding bins_of
 bin-beyond s e es bins place at beyond are =
-    let old : ℕ → TimeBin = λ c. bin_of (epochs_of_bin s c es) in
-    let many : length bins ≡ s.bins = ap (λ xs. length xs) are ∙ length-map-range_with_len old 0 s.bins in
-    fill_by_all (λ c. bin_of (epochs_of_bin s c (e ∷ es))) bins s.bins (bin_of []) many (λ k lt.
+    let many : length bins ≡ s.bins = ap (λ xs. length xs) are ∙ length-map-range_with_len (bin_in s es) 0 s.bins in
+    fill_by_all (bin_in s (e ∷ es)) bins s.bins no_bin many (λ k lt.
     let here : 0 + k ≡ k = omega arith in
     let apart : bin_at s e.time ≢ k = omega (arith, at, beyond, many, lt) in
-    ap (λ xs. get_or xs k (bin_of [])) are ∙ get_or-map-range_with_len old 0 s.bins k k (bin_of []) lt here
-    ∙ sym (ap bin_of (other-epoch s k e es apart)))
+    ap (λ xs. get_or xs k no_bin) are ∙ get_or-map-range_with_len (bin_in s es) 0 s.bins k k no_bin lt here
+    ∙ sym (bin-other s e es k apart))
 
 -- the bin of an epoch holds what came before
 pub bin-there : (s : Scale) (es : List EpochTableView) (bins : List TimeBin) (place : ℕ) (d : TimeBin)
-    → place < s.bins → bins ≡ bins_of s es → get_or bins place d ≡ bin_of (epochs_of_bin s place es)
+    → place < s.bins → bins ≡ bins_of s es → get_or bins place d ≡ bin_in s es place
 unfolding bins_of
-bin-there s es bins place d within are =
-    let here : 0 + place ≡ place = omega arith in
-    ap (λ xs. get_or xs place d) are ∙ get_or-map-range_with_len (λ c. bin_of (epochs_of_bin s c es)) 0 s.bins place place d within here
+bin-there s es bins place d within are = ap (λ xs. get_or xs place d) are ∙ at-place (bin_in s es) s.bins place d within
 
 pub bins-size : (s : Scale) (es : List EpochTableView) (bins : List TimeBin) → bins ≡ bins_of s es → length bins ≡ s.bins
 unfolding bins_of
-bins-size s es bins are = ap (λ xs. length xs) are ∙ length-map-range_with_len (λ c. bin_of (epochs_of_bin s c es)) 0 s.bins
+bins-size s es bins are = ap (λ xs. length xs) are ∙ length-map-range_with_len (bin_in s es) 0 s.bins
+
+-- a count with that of an epoch more
+pub capped-more : (r a b m n : ℕ) → r ≡ capped (a + b) → a ≡ capped m → b ≡ n → r ≡ capped (m + n)
+capped-more r a b m n sum was more = omega (arith, sum, was, more)
 
 -- ---- no epoch came
 
-pub fresh-bins : (s : Scale) (bins : List TimeBin) (one : TimeBin) → bins ≡ replicate s.bins one → one ≡ bin_of [] → bins ≡ bins_of s []
+no-epoch : (s : Scale) (c : ℕ) → bin_in s [] c ≡ no_bin
+unfolding trackings_in codes_in
+no-epoch s c = refl
+
+pub fresh-bins : (s : Scale) (bins : List TimeBin) (one : TimeBin) → bins ≡ replicate s.bins one → one ≡ no_bin → bins ≡ bins_of s []
 unfolding bins_of
 fresh-bins s bins one are is =
-    fill_by_all (λ c. bin_of []) bins s.bins one (ap (λ xs. length xs) are ∙ length-replicate s.bins one)
-    (λ k lt. ap (λ xs. get_or xs k one) are ∙ get_or-replicate s.bins k one one lt ∙ is)
+    fill_by_all (bin_in s []) bins s.bins one (ap (λ xs. length xs) are ∙ length-replicate s.bins one)
+    (λ k lt. ap (λ xs. get_or xs k one) are ∙ get_or-replicate s.bins k one one lt ∙ is ∙ sym (no-epoch s k))
+
+pub fresh-passes : (passes : List Pass) (one : Pass) (gap : ℕ) → passes ≡ replicate 32 one → StandsForPass one gap [] → StandForPasses passes gap []
+fresh-passes passes one gap are stands = λ place d inside.
+    subst (λ (p : Pass). StandsForPass p gap []) (sym (ap (λ (ps : List Pass). get_or ps place d) are ∙ get_or-replicate 32 place one d inside)) stands
 
 pub fresh-gaps : (s : Scale) (gaps : List Bool) → gaps ≡ replicate s.bins false → gaps ≡ gaps_of s []
 unfolding gaps_of

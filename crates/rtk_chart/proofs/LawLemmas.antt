@@ -3,8 +3,8 @@ use Rattle.std.proofs.Common.{◌≡◌, ◌≤◌, ◌<◌, ◌+◌, ◌-◌, �
 use Rattle.std.proofs.Math.Nat.{div-mul-le_self, add-div_right, add-mul, mul_left_comm}
 use Rattle.std.proofs.lemmas.Bool.{cases_eq, and_parts, and_from, ltb-true, leb-true, lt-ltb, le-leb}
 use Rattle.std.proofs.lemmas.Nat.{mul-le, le-div}
-use Rattle.rtk_chart.specs.Interval.{missing_before}
-use Rattle.rtk_chart.specs.Scale.{bin_at, intervals_of}
+use Rattle.rtk_tracking.specs.Interval.{missing_before}
+use Rattle.rtk_chart.specs.Scale.{half_of, bin_at, intervals_of}
 use Rattle.rtk_chart.specs.Grid.{has_missing_before}
 use Rattle.rtk_chart.specs.Laws.{SomeMissingEpoch}
 use Rattle.rtk_chart.specs.declared.scale.Scale.{Scale}
@@ -60,15 +60,21 @@ between b u l c (suc n) some few from to =
     ]
 
 -- the bin of an epoch, from the begin of the picture on
-bin-of-epoch : (s : Scale) (before i : ℕ) → s.first ≤ before → bin_at s (before + i * s.unit) ≡ ((before - s.first) + i * s.unit) / s.bin_ms
+bin-of-epoch : (s : Scale) (before i : ℕ) → s.first ≤ before → bin_at s (before + i * s.unit) ≡ ((before - s.first + half_of s.unit) + i * s.unit) / s.bin_ms
 bin-of-epoch s before i after =
-    let e : before + i * s.unit - s.first ≡ (before - s.first) + i * s.unit = omega (arith, after) in
+    let e : before + i * s.unit - s.first + half_of s.unit ≡ (before - s.first + half_of s.unit) + i * s.unit = omega (arith, after) in
     ap (λ n. n / s.bin_ms) e
 
-bin-of-first : (s : Scale) (before : ℕ) → s.first ≤ before → bin_at s (before + s.unit) ≡ ((before - s.first) + 1 * s.unit) / s.bin_ms
+bin-of-first : (s : Scale) (before : ℕ) → s.first ≤ before → bin_at s (before + s.unit) ≡ ((before - s.first + half_of s.unit) + 1 * s.unit) / s.bin_ms
 bin-of-first s before after =
-    let e : before + s.unit - s.first ≡ (before - s.first) + 1 * s.unit = omega (arith, after) in
+    let e : before + s.unit - s.first + half_of s.unit ≡ (before - s.first + half_of s.unit) + 1 * s.unit = omega (arith, after) in
     ap (λ n. n / s.bin_ms) e
+
+unit-more : (n u : ℕ) → (n + 1) * u ≡ n * u + u
+unit-more n u = let m = add-mul n 1 u in let one : 1 * u ≡ u = omega arith in omega (arith, m, one)
+
+twice-more : (i u : ℕ) → (2 * i + 1) * u ≡ 2 * (i * u) + u
+twice-more i u = grind arith
 
 pub mark-has-epoch : (s : Scale) (before t c : ℕ) → 0 < s.unit → s.unit ≤ s.bin_ms → s.first ≤ before
     → has_missing_before s (Some before) t c ≡ true → SomeMissingEpoch s before t c
@@ -81,7 +87,7 @@ mark-has-epoch s before t c some few after marked =
     let many : 0 < n = ltb-true 0 n q.0 in
     let from = leb-true (bin_at s (before + s.unit)) c q.1 in
     let to = leb-true c (bin_at s (before + n * s.unit)) p.1 in
-    let b = before - s.first in
+    let b = before - s.first + half_of s.unit in
     let size : 0 < s.bin_ms = omega (arith, some, few) in
     let whole : n ≡ (n - 1) + 1 = omega (arith, many) in
     let begin : (b + 1 * s.unit) / s.bin_ms ≤ c = subst (λ (k : ℕ). k ≤ c) (bin-of-first s before after) from in
@@ -93,9 +99,12 @@ mark-has-epoch s before t c some few after marked =
     let fits : i ≤ n = omega (arith, bound, whole) in
     let same : s.unit ≤ s.unit = omega arith in
     let nearer = mul-le i s.unit n s.unit fits same in
-    let held = div-mul-le_self (t - before - 1) s.unit in
-    let positive = mul-pos n s.unit many some in
-    let sooner : before + i * s.unit < t = omega (arith, nearer, held, positive) in
+    let reach : ℕ = t - before + (s.unit - 1) / 2 in
+    let held : reach / s.unit * s.unit ≤ reach = div-mul-le_self reach s.unit in
+    let more : reach / s.unit ≡ n + 1 = omega (arith, many) in
+    let next : reach / s.unit * s.unit ≡ n * s.unit + s.unit = ap (λ k. k * s.unit) more ∙ unit-more n s.unit in
+    let twice : (2 * i + 1) * s.unit ≡ 2 * (i * s.unit) + s.unit = twice-more i s.unit in
+    let sooner : (2 * i + 1) * s.unit < 2 * (t - before) = omega (arith, nearer, held, next, twice, some) in
     (i, found.1, sooner, bin-of-epoch s before i after ∙ found.3)
 
 pub epoch-has-mark : (s : Scale) (before t c : ℕ) → 0 < s.unit → s.unit ≤ s.bin_ms → s.first ≤ before
@@ -105,9 +114,13 @@ epoch-has-mark s before t c some few after found =
     let i = found.0 in
     let any = found.1 in
     let sooner = found.2 in
-    let fits : i * s.unit ≤ t - before - 1 = omega (arith, sooner) in
-    let most : i ≤ n = le-div i (t - before - 1) s.unit some fits in
-    let b = before - s.first in
+    let reach : ℕ = t - before + (s.unit - 1) / 2 in
+    let next : (i + 1) * s.unit ≡ i * s.unit + s.unit = unit-more i s.unit in
+    let twice : (2 * i + 1) * s.unit ≡ 2 * (i * s.unit) + s.unit = twice-more i s.unit in
+    let fits : (i + 1) * s.unit ≤ reach = omega (arith, sooner, next, twice) in
+    let enough : i + 1 ≤ reach / s.unit = le-div (i + 1) reach s.unit some fits in
+    let most : i ≤ n = omega (arith, enough) in
+    let b = before - s.first + half_of s.unit in
     let size : 0 < s.bin_ms = omega (arith, some, few) in
     let here : (b + i * s.unit) / s.bin_ms ≡ c = sym (bin-of-epoch s before i after) ∙ found.3 in
     let same : s.unit ≤ s.unit = omega arith in

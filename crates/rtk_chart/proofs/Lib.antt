@@ -1,3 +1,4 @@
+pub mod BitLemmas
 pub mod ChartLemmas
 pub mod FileLemmas
 pub mod GridLemmas
@@ -5,11 +6,8 @@ pub mod HeadingLemmas
 pub mod LawLemmas
 pub mod ListLemmas
 pub mod MarkLemmas
-pub mod ObservationLemmas
 pub mod PieceLemmas
-pub mod RecordLemmas
 pub mod ScaleLemmas
 pub mod SeenLemmas
-pub mod StepLemmas
 pub mod SvgLemmas
 pub mod WidthLemmas

@@ -1,13 +1,16 @@
 -- Lists of parts, one for each number, and lists whose items change one after another.
-use Rattle.std.proofs.Common.{◌≡◌, ◌≢◌, ◌<◌, ◌≤◌, ◌+◌, ℕ, zero, suc, Bool, true, false, cond, ltb, ◌||◌, count_by, List, [], ◌∷◌, ◌++◌, length, take, set, get_or, map, inl, inr, refl, sym, ap, ◌∙◌, append_assoc, get_or-set_same, get_or-set_other, arith}
+use Rattle.std.proofs.Common.{◌≡◌, ◌≢◌, ◌<◌, ◌≤◌, ◌+◌, ℕ, zero, suc, Bool, true, false, cond, ltb, ◌||◌, count_by, List, [], ◌∷◌, ◌++◌, length, take, drop, set, get_or, map, inl, inr, refl, sym, ap, ◌∙◌, append_assoc, get_or-set_same, get_or-set_other, arith}
 use Rattle.std.proofs.lemmas.List.Folds.{list_any-append}
-use Rattle.std.proofs.lemmas.List.Sums.{sum_by_push, count_by-le-length}
+use Rattle.std.proofs.lemmas.List.Sums.{sum_by_push, sum_by-cons, count_by-le-length}
 use Rattle.std.proofs.lemmas.Bool.{cases_eq, cases_lt, lt-ltb, le-ltb}
-use Rattle.std.proofs.lemmas.List.{append-nil, length-set, take_more, map_push}
+use Rattle.std.proofs.lemmas.List.{append-nil, length-set, take_more, drop_more, map_push}
 use Rattle.std.proofs.lemmas.List.FromFn.{fill_by_all, length-range_with_len, get_or-map-range_with_len, length-map-range_with_len}
 use Rattle.std.proofs.lemmas.Grind.{flat_map-append}
 use Rattle.std.specs.Prelude.{flat_map}
-use Rattle.std.specs.List.{range_with_len, list_any}
+use Rattle.std.specs.List.{range_with_len, list_any, sum_by}
+use Rattle.rtk_obs.specs.declared.code.Code.{Code}
+use Rattle.rtk_chart.specs.TextPicture.{never_lines, all_never_lines}
+use Rattle.rtk_chart.specs.declared.time_bin.TimeBin.{TimeBin}
 
 or-true : (b : Bool) → (b || true) ≡ true
 or-true true = refl
@@ -151,3 +154,78 @@ count-bound p n =
     let most = count_by-le-length p (range_with_len 0 n) in
     let size = length-range_with_len 0 n in
     omega (arith, most, size)
+
+-- ---- items
+
+-- an item is the same at each default
+pub get_or-same : {X : Type 0} (xs : List X) (i : ℕ) (d e : X) → i < length xs → get_or xs i d ≡ get_or xs i e
+get_or-same [] i d e within = absurd (omega arith)
+get_or-same (x ∷ xs) zero d e within = refl
+get_or-same (x ∷ xs) (suc i) d e within =
+    let inside : i < length xs = omega (arith, within) in
+    get_or-same xs i d e inside
+
+-- a list that is filled item by item
+pub fill-more : {X : Type 0} (f : ℕ → X) (xs : List X) (i j : ℕ) (y d : X) → j ≡ i → i < length xs → y ≡ f i
+    → ((k : ℕ) → k < i → get_or xs k d ≡ f k) → (k : ℕ) → k < i + 1 → get_or (set xs j y) k d ≡ f k
+fill-more f xs i j y d at within is so_far k below =
+    ap (λ n. get_or (set xs n y) k d) at
+    ∙ elim (cases_eq k i) as (λ _. get_or (set xs i y) k d ≡ f k) [
+      | inl same ↦ ap (λ n. get_or (set xs i y) n d) same ∙ get_or-set_same xs i y d within ∙ is ∙ sym (ap f same)
+      | inr other ↦ get_or-set_other xs i k y d other ∙ so_far k (omega (arith, below, other))
+    ]
+
+pub ltb-other : (i k : ℕ) → k ≢ i → ltb k i ≡ ltb k (i + 1)
+ltb-other i k other =
+    elim (cases_lt k i) [
+      | inl below ↦
+          let next : k < i + 1 = omega (arith, below) in
+          lt-ltb k i below ∙ sym (lt-ltb k (i + 1) next)
+      | inr above ↦
+          let next : i + 1 ≤ k = omega (arith, above, other) in
+          le-ltb k i above ∙ sym (le-ltb k (i + 1) next)
+    ]
+
+-- ---- functions that agree
+
+pub map-same : {X : Type 0} (f g : ℕ → X) (a n : ℕ) → ((k : ℕ) → k < a + n → f k ≡ g k) → map f (range_with_len a n) ≡ map g (range_with_len a n)
+map-same f g a zero same = refl
+map-same f g a (suc n) same =
+    let here : a < a + suc n = omega arith in
+    let on : (a + 1) + n ≡ a + suc n = omega arith in
+    ap (λ x. x ∷ map f (range_with_len (a + 1) n)) (same a here)
+    ∙ ap (λ xs. g a ∷ xs) (map-same f g (a + 1) n (λ k lt. same k (omega (arith, lt, on))))
+
+pub sum-map : {X : Type 0} (g : X → ℕ) (f : ℕ → X) (ks : List ℕ) → sum_by g (map f ks) ≡ sum_by (λ k. g (f k)) ks
+sum-map g f [] = refl
+sum-map g f (k ∷ ks) =
+    sum_by-cons g (f k) (map f ks) ∙ ap (λ (n : ℕ). g (f k) + n) (sum-map g f ks) ∙ sym (sum_by-cons (λ (k : ℕ). g (f k)) k ks)
+
+pub sum-same : (p q : ℕ → ℕ) (ks : List ℕ) → ((k : ℕ) → p k ≡ q k) → sum_by p ks ≡ sum_by q ks
+sum-same p q [] same = refl
+sum-same p q (k ∷ ks) same =
+    sum_by-cons p k ks ∙ ap (λ (n : ℕ). n + sum_by p ks) (same k) ∙ ap (λ (n : ℕ). q k + n) (sum-same p q ks same) ∙ sym (sum_by-cons q k ks)
+
+-- two sums are that of the sums
+pub sum-both : {X : Type 0} (p q r : X → ℕ) (xs : List X) → ((x : X) → p x + q x ≡ r x) → sum_by p xs + sum_by q xs ≡ sum_by r xs
+sum-both p q r [] all = refl
+sum-both p q r (x ∷ xs) all =
+    let a = sum_by-cons p x xs in
+    let b = sum_by-cons q x xs in
+    let c = sum_by-cons r x xs in
+    let here = all x in
+    let rest = sum-both p q r xs all in
+    omega (arith, a, b, c, here, rest)
+
+-- ---- codes that satellites have nowhere
+
+-- the lines of one code more
+pub never-more : (bins : List TimeBin) (each i : ℕ) (codes : List Code) (d : Code) (all mid after : List ℕ) → i < length codes
+    → all ≡ mid ++ all_never_lines bins each i (drop i codes) → after ≡ mid ++ never_lines bins each i (get_or codes i d)
+    → all ≡ after ++ all_never_lines bins each (i + 1) (drop (i + 1) codes)
+never-more bins each i codes d all mid after within so_far more =
+    let c = get_or codes i d in
+    let rest = drop (i + 1) codes in
+    so_far ∙ ap (λ (cs : List Code). mid ++ all_never_lines bins each i cs) (drop_more codes i d within)
+    ∙ sym (append_assoc mid (never_lines bins each i c) (all_never_lines bins each (i + 1) rest))
+    ∙ ap (λ (t : List ℕ). t ++ all_never_lines bins each (i + 1) rest) (sym more)

@@ -1,40 +1,59 @@
 -- Each mark of a picture has its epochs, and each epoch its mark.
-use Rattle.std.proofs.Common.{◌≡◌, ◌≤◌, ◌<◌, ◌+◌, ◌-◌, ◌/◌, ◌^◌, ◌==◌, ℕ, Bool, true, false, cond, not, ◌&&◌, ◌||◌, inl, inr, Option, None, Some, min, List, [], ◌∷◌, ◌++◌, length, get_or, map, refl, sym, ap, subst, ◌∙◌, arith}
-use Rattle.std.specs.Prelude.{nat_le, ◌↔◌}
-use Rattle.std.specs.List.{list_any, fold, sum_by}
-use Rattle.std.proofs.lemmas.Bool.{or_cases, or_left, or_right}
+use Rattle.std.proofs.Common.{◌≡◌, ◌≤◌, ◌<◌, ◌+◌, ◌-◌, ◌^◌, ◌==◌, ℕ, Bool, true, false, cond, not, ◌&&◌, ◌||◌, inl, inr, Option, None, Some, min, List, [], ◌∷◌, ◌++◌, length, get_or, refl, sym, ap, subst, ◌∙◌, arith}
+use Rattle.std.specs.Prelude.{nat_le, ◌↔◌, count_by}
+use Rattle.std.specs.List.{range_with_len, sum_by}
+use Rattle.std.proofs.lemmas.Bool.{or_cases, or_left, or_right, and_parts, and_from, eq-eqb, eqb-true}
 use Rattle.std.proofs.lemmas.Bool.Decides.{nat_tests}
 use Rattle.std.proofs.lemmas.List.FromFn.{get_or-map-range_with_len}
 use Rattle.std.proofs.lemmas.List.Sums.{sum_by-cons, count_by-le-length}
 use Rattle.rtk_rinex.specs.Record.{EpochTableView}
-use Rattle.rtk_rinex.specs.declared.epoch_table.Observed.{Observed}
-use Rattle.rtk_chart.specs.Epochs.{newest_moment, observed_in, observed_by, is_seen, shows_phase, has_slip, has_half, level_of, lesser, least_level, least_level_in, slips_of, slips_in}
-use Rattle.rtk_chart.specs.Interval.{steps_in, times_of_step, IsInterval, missing_in}
+use Rattle.rtk_tracking.specs.Epochs.{newest_moment, observed_in, shows_phase}
+use Rattle.rtk_tracking.specs.Passes.{Sighting, sightings_of, longest_gap, has_bit_0, is_known, is_slip, is_rise}
+use Rattle.rtk_tracking.specs.Interval.{steps_in, times_of_step, IsInterval, nearest_intervals, missing_in}
+use Rattle.rtk_chart.specs.Epochs.{sighting_of, is_seen, lacks_phase, has_bit_1, level_at, lesser, times_in_epoch, times_in, slips_in, rises_in}
 use Rattle.rtk_chart.specs.Scale.{bin_at}
-use Rattle.rtk_chart.specs.Grid.{coverage_of, coverages_of, tracking_in, trackings_of, bin_of, epochs_of_bin, bins_of, has_missing_before, has_missing, gaps_of}
-use Rattle.rtk_chart.specs.TextPicture.{tracking_at}
-use Rattle.rtk_chart.specs.Layers.{coverage_at}
-use Rattle.rtk_chart.specs.MarkLaws.{some_passes, is_at_most, is_weak, ShowsEpochs, IsMissingIn, times_among, IsFirstOfMostFrequent}
+use Rattle.rtk_chart.specs.Grid.{no_bin, some_epoch, least_in, code_in, bin_in, bins_of, tracking_at, marks_at, has_missing_before, has_missing, gaps_of}
+use Rattle.rtk_chart.specs.MarkLaws.{IsCalledFor, IsMarkOf, is_at_most, ShowsEpochs, IsMissingIn, times_among, IsFirstOfMostFrequent}
 use Rattle.rtk_chart.specs.declared.scale.Scale.{Scale}
-use Rattle.rtk_chart.specs.declared.tracking.Coverage.{Coverage}
+use Rattle.rtk_chart.specs.declared.code_marks.CodeMarks.{CodeMarks}
 use Rattle.rtk_chart.specs.declared.tracking.Tracking.{Tracking}
 use Rattle.rtk_chart.specs.declared.time_bin.TimeBin.{TimeBin}
 use Rattle.rtk_chart.proofs.PieceLemmas.{capped-is}
+use Rattle.rtk_chart.proofs.ListLemmas.{sum-both}
+use Rattle.rtk_chart.proofs.GridLemmas.{at-place}
+use Rattle.rtk_chart.proofs.SeenLemmas.{tracking-of-bin, marks-of-tracking}
 
--- ---- epochs of a bin
+-- ---- epochs that a mark is called for by
 
-kept-if : {X Y : Type 0} (p : Y → Bool) (f : X → Y) (x : X) (xs : List X) (b : Bool)
-    → list_any p (map f (cond b (x ∷ xs) xs)) ≡ ((b && p (f x)) || list_any p (map f xs))
-kept-if p f x xs true = refl
-kept-if p f x xs false = refl
+called-if : (test : List Sighting → Sighting → Bool) (s : Scale) (satellite : ℕ) (es : List EpochTableView) (c : ℕ)
+    → some_epoch test s satellite es c ≡ true → IsCalledFor s es c satellite test
+called-if test s satellite [] c marked = absurd (cc)
+called-if test s satellite (e ∷ es) c marked =
+    let here : Bool = test (sightings_of satellite es) (sighting_of satellite e) in
+    elim (or_cases ((bin_at s e.time == c) && here) (some_epoch test s satellite es c) marked) [
+      | inl own ↦
+          let both = and_parts (bin_at s e.time == c) here own in
+          ([], e, es, refl, eqb-true (bin_at s e.time) c both.0, both.1)
+      | inr other ↦
+          let rest = called-if test s satellite es c other in
+          (e ∷ rest.0, rest.1, rest.2, ap (λ (t : List EpochTableView). e ∷ t) rest.3, rest.4, rest.5)
+    ]
 
--- a test of the epochs of a bin is one of all epochs
-pub any-in-bin : (test : List Observed → Bool) (s : Scale) (c place : ℕ) (es : List EpochTableView)
-    → list_any test (observed_by (place + 1) (epochs_of_bin s c es)) ≡ some_passes s es c place test
-any-in-bin test s c place [] = refl
-any-in-bin test s c place (e ∷ es) =
-    kept-if test (λ (e : EpochTableView). observed_in (place + 1) e.rows) e (epochs_of_bin s c es) (bin_at s e.time == c)
-    ∙ ap (λ (b : Bool). ((bin_at s e.time == c) && test (observed_in (place + 1) e.rows)) || b) (any-in-bin test s c place es)
+marked-at : (test : List Sighting → Sighting → Bool) (s : Scale) (satellite : ℕ) (newer : List EpochTableView) (e : EpochTableView) (before : List EpochTableView) (c : ℕ)
+    → bin_at s e.time ≡ c → test (sightings_of satellite before) (sighting_of satellite e) ≡ true → some_epoch test s satellite (newer ++ e ∷ before) c ≡ true
+marked-at test s satellite [] e before c at holds =
+    or_left ((bin_at s e.time == c) && test (sightings_of satellite before) (sighting_of satellite e)) (some_epoch test s satellite before c)
+    (and_from (bin_at s e.time == c) (test (sightings_of satellite before) (sighting_of satellite e)) (eq-eqb (bin_at s e.time) c at) holds)
+marked-at test s satellite (f ∷ newer) e before c at holds =
+    or_right ((bin_at s f.time == c) && test (sightings_of satellite (newer ++ e ∷ before)) (sighting_of satellite f)) (some_epoch test s satellite (newer ++ e ∷ before) c)
+    (marked-at test s satellite newer e before c at holds)
+
+mark-of : (test : List Sighting → Sighting → Bool) (s : Scale) (satellite : ℕ) (es : List EpochTableView) (c : ℕ) (mark : Bool)
+    → mark ≡ some_epoch test s satellite es c → IsMarkOf s es c satellite mark test
+mark-of test s satellite es c mark is = (
+  (λ marked. called-if test s satellite es c (sym is ∙ marked)),
+  (λ found. is ∙ ap (λ (t : List EpochTableView). some_epoch test s satellite t c) found.3 ∙ marked-at test s satellite found.0 found.1 found.2 c found.4 found.5),
+)
 
 -- ---- the least digit
 
@@ -50,62 +69,51 @@ at-most-lesser level None b = refl
 at-most-lesser level (Some a) None = sym (or-false (nat_le a level))
 at-most-lesser level (Some a) (Some b) = at-most-min level a b
 
-or-assoc : (a b c : Bool) → ((a || b) || c) ≡ (a || (b || c))
-or-assoc true b c = refl
-or-assoc false b c = refl
+-- the digit with an epoch in the bin or in another one
+at-most-if : (level : ℕ) (own : Bool) (a b : Option ℕ) → is_at_most level (cond own (lesser a b) b) ≡ ((own && is_at_most level a) || is_at_most level b)
+at-most-if level true a b = at-most-lesser level a b
+at-most-if level false a b = refl
 
-weak-from : (level : ℕ) (least : Option ℕ) (os : List Observed)
-    → is_at_most level (fold (λ least o. lesser least (level_of o.strength_millidbhz)) least os) ≡ (is_at_most level least || is_weak level os)
-weak-from level least [] = sym (or-false (is_at_most level least))
-weak-from level least (o ∷ os) =
-    let here = level_of o.strength_millidbhz in
-    weak-from level (lesser least here) os
-    ∙ ap (λ (b : Bool). b || is_weak level os) (at-most-lesser level least here)
-    ∙ or-assoc (is_at_most level least) (is_at_most level here) (is_weak level os)
+least-at-most : (level : ℕ) (s : Scale) (satellite code : ℕ) (es : List EpochTableView) (c : ℕ)
+    → is_at_most level (least_in s satellite code es c) ≡ some_epoch (λ before now. is_at_most level (level_at code now.observed)) s satellite es c
+least-at-most level s satellite code [] c = refl
+least-at-most level s satellite code (e ∷ es) c =
+    let mine : Option ℕ = level_at code (observed_in satellite e.rows) in
+    at-most-if level (bin_at s e.time == c) mine (least_in s satellite code es c)
+    ∙ ap (λ (b : Bool). ((bin_at s e.time == c) && is_at_most level mine) || b) (least-at-most level s satellite code es c)
 
-weak-in : (level : ℕ) (epochs : List (List Observed)) → is_at_most level (least_level_in epochs) ≡ list_any (is_weak level) epochs
-weak-in level [] = refl
-weak-in level (os ∷ epochs) =
-    at-most-lesser level (least_level os) (least_level_in epochs)
-    ∙ ap (λ (b : Bool). b || is_at_most level (least_level_in epochs)) (weak-from level None os)
-    ∙ ap (λ (b : Bool). is_weak level os || b) (weak-in level epochs)
+-- ---- a bin
 
--- ---- a tracking
+bin-of-all : (s : Scale) (es : List EpochTableView) (c : ℕ) → c < s.bins → get_or (bins_of s es) c no_bin ≡ bin_in s es c
+unfolding bins_of
+bin-of-all s es c inside = at-place (bin_in s es) s.bins c no_bin inside
 
-coverage-there : (epochs : List (List Observed)) (code : ℕ) (d : Coverage) → code < 16 → get_or (coverages_of epochs) code d ≡ coverage_of epochs code
-unfolding coverages_of
-coverage-there epochs code d inside =
-    let here : 0 + code ≡ code = omega arith in
-    get_or-map-range_with_len (coverage_of epochs) 0 16 code code d inside here
-
-tracking-there : (s : Scale) (es : List EpochTableView) (c place : ℕ) → c < s.bins → place < 32
-    → tracking_at place (get_or (bins_of s es) c (bin_of [])) ≡ tracking_in (observed_by (place + 1) (epochs_of_bin s c es))
-unfolding bins_of trackings_of
-tracking-there s es c place inside few =
-    let bin : 0 + c ≡ c = omega arith in
-    let row : 0 + place ≡ place = omega arith in
-    let at = get_or-map-range_with_len (λ (k : ℕ). bin_of (epochs_of_bin s k es)) 0 s.bins c c (bin_of []) inside bin in
-    ap (λ (x : TimeBin). tracking_at place x) at
-    ∙ get_or-map-range_with_len (λ (k : ℕ). tracking_in (observed_by (k + 1) (epochs_of_bin s c es))) 0 32 place place (tracking_in []) few row
-
-shows-them : (s : Scale) (es : List EpochTableView) (c place : ℕ) (tracking : Tracking) → tracking ≡ tracking_in (observed_by (place + 1) (epochs_of_bin s c es))
-    → ShowsEpochs s es c place tracking
-shows-them s es c place tracking is =
-    let epochs : List (List Observed) = observed_by (place + 1) (epochs_of_bin s c es) in
-    let coverage : (code : ℕ) → code < 16 → coverage_at code tracking ≡ coverage_of epochs code =
-    λ code inside. ap (λ (x : Tracking). coverage_at code x) is ∙ coverage-there epochs code (record { some = false; lacks = false }) inside in
+marks-show : (s : Scale) (es : List EpochTableView) (c satellite code : ℕ) (marks : CodeMarks) → marks ≡ code_in s satellite es c code
+    → ShowsEpochs s es c satellite code marks
+marks-show s es c satellite code marks is =
     record {
-      seen = ap (λ (x : Tracking). x.seen) is ∙ any-in-bin is_seen s c place es;
-      slip = ap (λ (x : Tracking). x.slip) is ∙ any-in-bin has_slip s c place es;
-      half = ap (λ (x : Tracking). x.half) is ∙ any-in-bin has_half s c place es;
-      some = λ code inside. ap (λ (l : Coverage). l.some) (coverage code inside) ∙ any-in-bin (shows_phase code) s c place es;
-      lacks = λ code inside. ap (λ (l : Coverage). l.lacks) (coverage code inside) ∙ any-in-bin (λ (os : List Observed). not (shows_phase code os)) s c place es;
-      least = λ level. ap (λ (x : Tracking). is_at_most level x.least) is ∙ weak-in level epochs ∙ any-in-bin (is_weak level) s c place es;
+      phase = mark-of (λ before now. shows_phase code now.observed) s satellite es c marks.phase (ap (λ (m : CodeMarks). m.phase) is);
+      missing = mark-of (λ before now. lacks_phase code now.observed) s satellite es c marks.missing (ap (λ (m : CodeMarks). m.missing) is);
+      slip = mark-of (is_slip (longest_gap s.interval) code) s satellite es c marks.slip (ap (λ (m : CodeMarks). m.slip) is);
+      rise = mark-of (is_rise (longest_gap s.interval) code) s satellite es c marks.rise (ap (λ (m : CodeMarks). m.rise) is);
+      half = mark-of (λ before now. has_bit_1 code now.observed) s satellite es c marks.half (ap (λ (m : CodeMarks). m.half) is);
+      least = λ level. mark-of (λ before now. is_at_most level (level_at code now.observed)) s satellite es c (is_at_most level marks.least)
+          (ap (λ (m : CodeMarks). is_at_most level m.least) is ∙ least-at-most level s satellite code es c);
     }
 
+pub codes-show : (s : Scale) (es : List EpochTableView) (c place code : ℕ) → c < s.bins → place < 32 → code < 16
+    → ShowsEpochs s es c (place + 1) code (marks_at code (tracking_at place (get_or (bins_of s es) c no_bin)))
+codes-show s es c place code inside few small =
+    marks-show s es c (place + 1) code (marks_at code (tracking_at place (get_or (bins_of s es) c no_bin)))
+    (ap (λ (b : TimeBin). marks_at code (tracking_at place b)) (bin-of-all s es c inside)
+    ∙ ap (λ (t : Tracking). marks_at code t) (tracking-of-bin s es c place few)
+    ∙ marks-of-tracking s (place + 1) es c code small)
+
 pub satellites-show : (s : Scale) (es : List EpochTableView) (c place : ℕ) → c < s.bins → place < 32
-    → ShowsEpochs s es c place (tracking_at place (get_or (bins_of s es) c (bin_of [])))
-satellites-show s es c place inside few = shows-them s es c place (tracking_at place (get_or (bins_of s es) c (bin_of []))) (tracking-there s es c place inside few)
+    → IsMarkOf s es c (place + 1) (tracking_at place (get_or (bins_of s es) c no_bin)).seen (λ before now. is_seen now.observed)
+satellites-show s es c place inside few =
+    mark-of (λ before now. is_seen now.observed) s (place + 1) es c (tracking_at place (get_or (bins_of s es) c no_bin)).seen
+    (ap (λ (b : TimeBin). (tracking_at place b).seen) (bin-of-all s es c inside) ∙ ap (λ (t : Tracking). t.seen) (tracking-of-bin s es c place few))
 
 -- ---- missing epochs
 
@@ -158,17 +166,41 @@ most-frequent steps step few is =
 turned : (a b : ℕ) → a + b ≡ b + a
 turned a b = omega arith
 
-pub missing-of-steps : (unit : ℕ) (es : List EpochTableView) → missing_in unit es ≡ sum_by (λ step. (step - 1) / unit) (steps_in es)
+pub missing-of-steps : (unit : ℕ) (es : List EpochTableView) → missing_in unit es ≡ sum_by (λ step. nearest_intervals unit step - 1) (steps_in es)
 missing-of-steps unit [] = refl
 missing-of-steps unit (e ∷ []) = refl
 missing-of-steps unit (e ∷ b ∷ before) =
     let step : ℕ = e.time - b.time in
-    ap (λ (n : ℕ). n + (step - 1) / unit) (missing-of-steps unit (b ∷ before))
-    ∙ turned (sum_by (λ (k : ℕ). (k - 1) / unit) (steps_in (b ∷ before))) ((step - 1) / unit)
-    ∙ sym (sum_by-cons (λ (k : ℕ). (k - 1) / unit) step (steps_in (b ∷ before)))
+    ap (λ (n : ℕ). n + (nearest_intervals unit step - 1)) (missing-of-steps unit (b ∷ before))
+    ∙ turned (sum_by (λ (k : ℕ). nearest_intervals unit k - 1) (steps_in (b ∷ before))) (nearest_intervals unit step - 1)
+    ∙ sym (sum_by-cons (λ (k : ℕ). nearest_intervals unit k - 1) step (steps_in (b ∷ before)))
 
-pub slips-digits : (es : List EpochTableView) → slips_in es ≡ sum_by (λ e. slips_of e.rows) es
-slips-digits [] = refl
-slips-digits (e ∷ es) =
-    ap (λ (n : ℕ). n + slips_of e.rows) (slips-digits es) ∙ turned (sum_by (λ (f : EpochTableView). slips_of f.rows) es) (slips_of e.rows)
-    ∙ sym (sum_by-cons (λ (f : EpochTableView). slips_of f.rows) e es)
+-- each bit 0 is a slip or a rise
+one-of-two : (bit known : Bool) → cond (bit && known) 1 0 + cond (bit && not known) 1 0 ≡ cond bit 1 0
+one-of-two true true = refl
+one-of-two true false = refl
+one-of-two false known = refl
+
+bits-of-satellite : (gap : ℕ) (before : List Sighting) (now : Sighting)
+    → count_by (λ code. is_slip gap code before now) (range_with_len 0 16) + count_by (λ code. is_rise gap code before now) (range_with_len 0 16)
+    ≡ count_by (λ code. has_bit_0 code now.observed) (range_with_len 0 16)
+bits-of-satellite gap before now =
+    sum-both (λ (code : ℕ). cond (is_slip gap code before now) 1 0) (λ (code : ℕ). cond (is_rise gap code before now) 1 0) (λ (code : ℕ). cond (has_bit_0 code now.observed) 1 0)
+    (range_with_len 0 16) (λ code. one-of-two (has_bit_0 code now.observed) (is_known gap code before now))
+
+bits-of-epoch : (gap : ℕ) (es : List EpochTableView) (e : EpochTableView)
+    → times_in_epoch (is_slip gap) es e + times_in_epoch (is_rise gap) es e ≡ times_in_epoch (λ code before now. has_bit_0 code now.observed) es e
+bits-of-epoch gap es e =
+    sum-both (λ (place : ℕ). count_by (λ code. is_slip gap code (sightings_of (place + 1) es) (sighting_of (place + 1) e)) (range_with_len 0 16))
+    (λ (place : ℕ). count_by (λ code. is_rise gap code (sightings_of (place + 1) es) (sighting_of (place + 1) e)) (range_with_len 0 16))
+    (λ (place : ℕ). count_by (λ code. has_bit_0 code (observed_in (place + 1) e.rows)) (range_with_len 0 16))
+    (range_with_len 0 32) (λ place. bits-of-satellite gap (sightings_of (place + 1) es) (sighting_of (place + 1) e))
+
+sums-together : (a b c d e f : ℕ) → a + b ≡ c → d + e ≡ f → (a + d) + (b + e) ≡ c + f
+sums-together a b c d e f first second = omega (arith, first, second)
+
+pub slips-and-rises : (gap : ℕ) (es : List EpochTableView) → slips_in gap es + rises_in gap es ≡ times_in (λ code before now. has_bit_0 code now.observed) es
+slips-and-rises gap [] = refl
+slips-and-rises gap (e ∷ es) =
+    sums-together (slips_in gap es) (rises_in gap es) (times_in (λ code before now. has_bit_0 code now.observed) es) (times_in_epoch (is_slip gap) es e) (times_in_epoch (is_rise gap) es e)
+    (times_in_epoch (λ code before now. has_bit_0 code now.observed) es e) (slips-and-rises gap es) (bits-of-epoch gap es e)

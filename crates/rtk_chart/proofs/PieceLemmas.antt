@@ -3,7 +3,7 @@ use Rattle.std.proofs.Common.{◌≡◌, ◌≢◌, ◌≤◌, ◌<◌, ◌+◌,
 use Rattle.std.specs.Int.{IsInRange}
 use Rattle.std.specs.Prelude.{All}
 use Rattle.std.proofs.lemmas.Int.{ints}
-use Rattle.std.proofs.lemmas.Fmt.{decimal_by_steps, decimal_injective}
+use Rattle.std.proofs.lemmas.Fmt.{decimal_injective}
 use Rattle.std.proofs.lemmas.List.{append_cancel_left, append_cancel_right}
 use Rattle.std.proofs.lemmas.List.Elements.{All-head, All-tail}
 use Rattle.rtk_message.proofs.PublicLaws.{number-then}
@@ -12,10 +12,11 @@ use Rattle.rtk_obs.specs.Calendar.{ReadsAs}
 use Rattle.rtk_obs.proofs.PublicLaws.{one_moment}
 use Rattle.rtk_obs.specs.CivilText.{last_digits, date_text, clock_text, civil_text}
 use Rattle.rtk_rinex.specs.Reading.{reading_of}
-use Rattle.rtk_chart.specs.Epochs.{capped}
-use Rattle.rtk_chart.specs.Heading.{seconds_text, interval_line}
+use Rattle.rtk_tracking.specs.Epochs.{capped}
+use Rattle.rtk_chart.specs.Heading.{seconds_text, interval_lines}
 use Rattle.rtk_chart.specs.TextPicture.{named_count_line, moment_line}
 use Rattle.rtk_chart.specs.SvgPicture.{number_between, interval_text}
+use Rattle.rtk_chart.specs.HeadingLaws.{HaveSameBins}
 
 -- ---- counts
 
@@ -35,18 +36,6 @@ abbrev pub Lacks : ℕ → List ℕ → Type 0
 Lacks e [] = Unit {0}
 Lacks e (x ∷ xs) = (x ≢ e) × Lacks e xs
 
-lacks-append : (e : ℕ) (xs ys : List ℕ) → Lacks e xs → Lacks e ys → Lacks e (xs ++ ys)
-lacks-append e [] ys h k = k
-lacks-append e (x ∷ xs) ys h k = (h.0, lacks-append e xs ys h.1 k)
-
-lacks-digit : (e d : ℕ) → e < 48 → Lacks e ((48 + d) ∷ [])
-lacks-digit e d low = ((λ same. omega (arith, same, low)), tt)
-
-lacks-decimal : (e n : ℕ) → e < 48 → n < 2 ^ 64 → Lacks e (decimal n)
-lacks-decimal e n low fits =
-    decimal_by_steps (λ n ds. Lacks e ds) (λ n small. lacks-digit e n low)
-    (λ n ds more h. lacks-append e ds ((48 + n % 10) ∷ []) h (lacks-digit e (n % 10) low)) n fits
-
 -- a marker has no line end
 pub lacks-printable : (xs : List ℕ) → All (λ x. IsInRange 32 126 x) xs → Lacks 10 xs
 lacks-printable [] h = tt
@@ -63,11 +52,6 @@ same-until e (a ∷ f) (b ∷ g) x y h k same =
     let rest : f ++ e ∷ x ≡ g ++ e ∷ y = ap (drop 1) same in
     let s = same-until e f g x y h.1 k.1 rest in
     (rw (first, s.0) refl, s.1)
-
--- a text that begins with this character is none that begins with others up to another character
-other-begin : (e d : ℕ) (f x z : List ℕ) → d ≢ e → Lacks e f → e ∷ x ≡ f ++ d ∷ z → ⊥
-other-begin e d [] x z apart h same = let first : e ≡ d = ap (λ (xs : List ℕ). get_or xs 0 0) same in apart (sym first)
-other-begin e d (a ∷ f) x z apart h same = let first : e ≡ a = ap (λ (xs : List ℕ). get_or xs 0 0) same in h.0 (sym first)
 
 -- ---- numbers
 
@@ -141,45 +125,56 @@ same-seconds m n x y h k same =
     let ms = same-thousandths m n x y s.1 in
     (whole-from-parts m n s.0 ms.0, ms.1)
 
--- a length of time does not begin with a hyphen
-no-hyphen : (m : ℕ) (x y : List ℕ) → m < 2 ^ 64 → 45 ∷ x ≡ seconds_text m ++ y → ⊥
-no-hyphen m x y h same =
-    other-begin 45 46 (decimal (m / 1000)) x (last_digits 3 m ++ y) (λ e. omega (arith, e)) (lacks-decimal 45 (m / 1000) (lit< tt) (thousandth-fits m h)) (same ∙ seconds-apart m y)
-
 -- ---- the interval
 
 abbrev pub Fits : Option ℕ → Type 0
 Fits i = (ms : ℕ) → i ≡ Some ms → ms < 2 ^ 64
 
-interval-line-apart : (m : ℕ) (x : List ℕ) → interval_line (Some m) ++ x ≡ codes "interval " ++ (seconds_text m ++ 10 ∷ x)
-unfolding interval_line
-interval-line-apart m x = line-apart (codes "interval ") (seconds_text m) x
+-- texts that begin with the same character
+first-of : (x y : List ℕ) → x ≡ y → get_or x 0 0 ≡ get_or y 0 0
+first-of x y same = ap (λ (xs : List ℕ). get_or xs 0 0) same
 
-no-interval-line : (x : List ℕ) → interval_line None ++ x ≡ codes "interval -\n" ++ x
-unfolding interval_line
-no-interval-line x = refl
+apart_5 : (a b c d e x : List ℕ) → ((((a ++ b) ++ c) ++ d) ++ e) ++ x ≡ a ++ (b ++ (c ++ (d ++ (e ++ x))))
+apart_5 a b c d e x = simp append_assoc
 
-pub same-interval : (i j : Option ℕ) (x y : List ℕ) → Fits i → Fits j → interval_line i ++ x ≡ interval_line j ++ y → (i ≡ j) × (x ≡ y)
-same-interval None None x y h k same = (refl, ap (drop 11) (sym (no-interval-line x) ∙ same ∙ no-interval-line y))
-same-interval None (Some n) x y h k same =
-    absurd (no-hyphen n (10 ∷ x) (10 ∷ y) (k n refl) (ap (drop 9) (sym (no-interval-line x) ∙ same ∙ interval-line-apart n y)))
-same-interval (Some m) None x y h k same =
-    absurd (no-hyphen m (10 ∷ y) (10 ∷ x) (h m refl) (ap (drop 9) (sym (no-interval-line y) ∙ sym same ∙ interval-line-apart m x)))
-same-interval (Some m) (Some n) x y h k same =
-    let s = same-seconds m n (10 ∷ x) (10 ∷ y) (h m refl) (k n refl) (ap (drop 9) (sym (interval-line-apart m x) ∙ same ∙ interval-line-apart n y)) in
-    (ap (λ (ms : ℕ). Some ms) s.0, ap (drop 1) s.1)
+interval-lines-apart : (m b : ℕ) (x : List ℕ) → interval_lines (Some m) b ++ x ≡ codes "interval " ++ (seconds_text m ++ 10 ∷ (codes "column " ++ (seconds_text b ++ 10 ∷ x)))
+unfolding interval_lines
+interval-lines-apart m b x = apart_5 (codes "interval ") (seconds_text m) (codes "\ncolumn ") (seconds_text b) (10 ∷ []) x
 
-interval-text-apart : (m : ℕ) (x : List ℕ) → interval_text (Some m) ++ x ≡ codes "interval " ++ (seconds_text m ++ 32 ∷ 115 ∷ x)
-interval-text-apart m x = append_assoc (codes "interval " ++ seconds_text m) (codes " s") x ∙ append_assoc (codes "interval ") (seconds_text m) (32 ∷ 115 ∷ x)
+no-interval-lines : (b : ℕ) (x : List ℕ) → interval_lines None b ++ x ≡ x
+unfolding interval_lines
+no-interval-lines b x = refl
 
--- the same in SVG
-pub same-interval-text : (i j : Option ℕ) (x y : List ℕ) → Fits i → Fits j → interval_text i ++ x ≡ interval_text j ++ y → (i ≡ j) × (x ≡ y)
-same-interval-text None None x y h k same = (refl, ap (drop 11) same)
-same-interval-text None (Some n) x y h k same = absurd (let first : 110 ≡ 105 = ap (λ (xs : List ℕ). get_or xs 0 0) same in omega (arith, first))
-same-interval-text (Some m) None x y h k same = absurd (let first : 105 ≡ 110 = ap (λ (xs : List ℕ). get_or xs 0 0) same in omega (arith, first))
-same-interval-text (Some m) (Some n) x y h k same =
-    let s = same-seconds m n (32 ∷ 115 ∷ x) (32 ∷ 115 ∷ y) (h m refl) (k n refl) (ap (drop 9) (sym (interval-text-apart m x) ∙ same ∙ interval-text-apart n y)) in
-    (ap (λ (ms : ℕ). Some ms) s.0, ap (drop 2) s.1)
+-- what a heading tells of the interval and the bins; what follows begins with an r
+pub same-interval : (i j : Option ℕ) (b c : ℕ) (x y : List ℕ) → Fits i → Fits j → b < 2 ^ 64 → c < 2 ^ 64 → get_or x 0 0 ≡ 114 → get_or y 0 0 ≡ 114
+    → interval_lines i b ++ x ≡ interval_lines j c ++ y → (i ≡ j) × HaveSameBins i b c × (x ≡ y)
+same-interval None None b c x y h k hb hc fx fy same = (refl, tt, sym (no-interval-lines b x) ∙ same ∙ no-interval-lines c y)
+same-interval None (Some n) b c x y h k hb hc fx fy same =
+    absurd (let first = first-of x _ (sym (no-interval-lines b x) ∙ same ∙ interval-lines-apart n c y) in omega (arith, first, fx))
+same-interval (Some m) None b c x y h k hb hc fx fy same =
+    absurd (let first = first-of y _ (sym (no-interval-lines c y) ∙ sym same ∙ interval-lines-apart m b x) in omega (arith, first, fy))
+same-interval (Some m) (Some n) b c x y h k hb hc fx fy same =
+    let s = same-seconds m n (10 ∷ (codes "column " ++ (seconds_text b ++ 10 ∷ x))) (10 ∷ (codes "column " ++ (seconds_text c ++ 10 ∷ y))) (h m refl) (k n refl)
+    (ap (drop 9) (sym (interval-lines-apart m b x) ∙ same ∙ interval-lines-apart n c y)) in
+    let t = same-seconds b c (10 ∷ x) (10 ∷ y) hb hc (ap (drop 8) s.1) in
+    (ap (λ (ms : ℕ). Some ms) s.0, t.0, ap (drop 1) t.1)
+
+interval-text-apart : (m b : ℕ) (x : List ℕ) → interval_text (Some m) b ++ x ≡ codes ", interval " ++ (seconds_text m ++ 32 ∷ (codes "s, column " ++ (seconds_text b ++ 32 ∷ 115 ∷ x)))
+interval-text-apart m b x = apart_5 (codes ", interval ") (seconds_text m) (codes " s, column ") (seconds_text b) (codes " s") x
+
+-- the same in SVG, where what follows begins with an end of markup
+pub same-interval-text : (i j : Option ℕ) (b c : ℕ) (x y : List ℕ) → Fits i → Fits j → b < 2 ^ 64 → c < 2 ^ 64 → get_or x 0 0 ≡ 60 → get_or y 0 0 ≡ 60
+    → interval_text i b ++ x ≡ interval_text j c ++ y → (i ≡ j) × HaveSameBins i b c × (x ≡ y)
+same-interval-text None None b c x y h k hb hc fx fy same = (refl, tt, same)
+same-interval-text None (Some n) b c x y h k hb hc fx fy same =
+    absurd (let first = first-of x _ (same ∙ interval-text-apart n c y) in omega (arith, first, fx))
+same-interval-text (Some m) None b c x y h k hb hc fx fy same =
+    absurd (let first = first-of y _ (sym same ∙ interval-text-apart m b x) in omega (arith, first, fy))
+same-interval-text (Some m) (Some n) b c x y h k hb hc fx fy same =
+    let s = same-seconds m n (32 ∷ (codes "s, column " ++ (seconds_text b ++ 32 ∷ 115 ∷ x))) (32 ∷ (codes "s, column " ++ (seconds_text c ++ 32 ∷ 115 ∷ y))) (h m refl) (k n refl)
+    (ap (drop 11) (sym (interval-text-apart m b x) ∙ same ∙ interval-text-apart n c y)) in
+    let t = same-seconds b c (32 ∷ 115 ∷ x) (32 ∷ 115 ∷ y) hb hc (ap (drop 11) s.1) in
+    (ap (λ (ms : ℕ). Some ms) s.0, t.0, ap (drop 2) t.1)
 
 -- ---- moments
 
@@ -259,8 +254,15 @@ same-moment t u x y p q same =
     let r = same-reading (reading_of t) (reading_of u) t u p q s.0 in
     (one_moment t u (reading_of t) p (subst (λ (c : Civil). ReadsAs u c) (sym r) q), s.1)
 
+-- words, a moment and other words, before another text
+moment-apart : (w b after x : List ℕ) → ((w ++ b) ++ after) ++ x ≡ w ++ (b ++ (after ++ x))
+moment-apart w b after x = append_assoc (w ++ b) after x ∙ append_assoc w b (after ++ x)
+
 pub same-moment-line : (w : List ℕ) (t u : ℕ) (x y : List ℕ) → ReadsAs t (reading_of t) → ReadsAs u (reading_of u)
     → moment_line w t ++ x ≡ moment_line w u ++ y → (t ≡ u) × (x ≡ y)
 same-moment-line w t u x y p q same =
-    let s = same-moment t u (10 ∷ x) (10 ∷ y) p q (same-line-body w (civil_text (reading_of t)) (civil_text (reading_of u)) x y same) in
-    (s.0, ap (drop 1) s.1)
+    let after : List ℕ = codes " GPS time\n" in
+    let s = same-moment t u (after ++ x) (after ++ y) p q
+    (append_cancel_left w (civil_text (reading_of t) ++ (after ++ x)) (civil_text (reading_of u) ++ (after ++ y))
+    (sym (moment-apart w (civil_text (reading_of t)) after x) ∙ same ∙ moment-apart w (civil_text (reading_of u)) after y)) in
+    (s.0, append_cancel_left after x y s.1)

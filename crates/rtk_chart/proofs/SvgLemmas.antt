@@ -1,69 +1,75 @@
--- Paths of bins, bin by bin, and layers, code by code.
+-- Paths of bins, bin by bin, and lines of codes, code by code.
 use Rattle.std.proofs.Common.{◌≡◌, ◌≤◌, ◌<◌, ◌+◌, ◌*◌, ◌/◌, ℕ, Bool, List, ◌++◌, length, drop, get_or, sym, ap, ◌∙◌, append_assoc, arith}
-use Rattle.std.proofs.Math.Nat.{div-le_self, add-mul, mul-div-le}
+use Rattle.std.proofs.Math.Nat.{mul-div_cancel_left}
 use Rattle.std.proofs.lemmas.List.{drop_more}
-use Rattle.std.proofs.lemmas.Nat.{mul-le, le-div}
+use Rattle.std.proofs.lemmas.Nat.{mul-le}
 use Rattle.rtk_obs.specs.declared.code.Code.{Code}
 use Rattle.rtk_chart.specs.Scale.{longest_bin}
-use Rattle.rtk_chart.specs.SvgPath.{run_part, runs_from, stroke_part, strokes_from}
-use Rattle.rtk_chart.specs.SvgPicture.{code_layers, codes_layers}
+use Rattle.rtk_chart.specs.SvgPath.{edge_of, middle_of, run_part, runs_from, mark_part, marks_from, tracked_in, step_part, steps_from}
+use Rattle.rtk_chart.specs.SvgPicture.{code_line, code_lines}
 use Rattle.rtk_chart.specs.declared.time_bin.TimeBin.{TimeBin}
+use Rattle.rtk_chart.proofs.LawLemmas.{div-mono}
 
-next-place : (i w : ℕ) → i * w + w ≡ (i + 1) * w
-next-place i w = let e = add-mul i 1 w in omega (arith, e)
+-- bins end with the picture's width
+pub edge-bound : (n c : ℕ) → 0 < n → c ≤ n → edge_of n c ≤ 1440
+edge-bound n c some within =
+    let size : c * 1440 ≤ n * 1440 = omega (arith, within) in
+    let most = div-mono (c * 1440) (n * 1440) n some size in
+    let all = mul-div_cancel_left 1440 some in
+    omega (arith, most, all)
 
 -- the part of one bin more
-pub runs-more : (w i : ℕ) (flags : List Bool) (was d : Bool) (all mid after : List ℕ) → i < length flags
-    → all ≡ mid ++ runs_from w (i * w) was (drop i flags) → after ≡ mid ++ run_part w (i * w) was (get_or flags i d)
-    → all ≡ after ++ runs_from w ((i + 1) * w) (get_or flags i d) (drop (i + 1) flags)
-runs-more w i flags was d all mid after within so_far more =
+pub runs-more : (begin end : List ℕ) (n i x : ℕ) (flags : List Bool) (was d : Bool) (all mid after : List ℕ) → i < length flags → x ≡ edge_of n i
+    → all ≡ mid ++ runs_from begin end n i was (drop i flags) → after ≡ mid ++ run_part begin end x was (get_or flags i d)
+    → all ≡ after ++ runs_from begin end n (i + 1) (get_or flags i d) (drop (i + 1) flags)
+runs-more begin end n i x flags was d all mid after within at so_far more =
     let b = get_or flags i d in
     let rest = drop (i + 1) flags in
-    so_far ∙ ap (λ (bs : List Bool). mid ++ runs_from w (i * w) was bs) (drop_more flags i d within)
-    ∙ sym (append_assoc mid (run_part w (i * w) was b) (runs_from w (i * w + w) b rest))
-    ∙ ap (λ (t : List ℕ). t ++ runs_from w (i * w + w) b rest) (sym more)
-    ∙ ap (λ (x : ℕ). after ++ runs_from w x b rest) (next-place i w)
+    so_far ∙ ap (λ (bs : List Bool). mid ++ runs_from begin end n i was bs) (drop_more flags i d within)
+    ∙ sym (append_assoc mid (run_part begin end (edge_of n i) was b) (runs_from begin end n (i + 1) b rest))
+    ∙ ap (λ (k : ℕ). (mid ++ run_part begin end k was b) ++ runs_from begin end n (i + 1) b rest) (sym at)
+    ∙ ap (λ (t : List ℕ). t ++ runs_from begin end n (i + 1) b rest) (sym more)
 
-pub strokes-more : (w i : ℕ) (flags : List Bool) (d : Bool) (all mid after : List ℕ) → i < length flags
-    → all ≡ mid ++ strokes_from w (i * w) (drop i flags) → after ≡ mid ++ stroke_part w (i * w) (get_or flags i d)
-    → all ≡ after ++ strokes_from w ((i + 1) * w) (drop (i + 1) flags)
-strokes-more w i flags d all mid after within so_far more =
+pub marks-more : (form : List ℕ) (n i x : ℕ) (flags : List Bool) (d : Bool) (all mid after : List ℕ) → i < length flags → x ≡ middle_of n i
+    → all ≡ mid ++ marks_from form n i (drop i flags) → after ≡ mid ++ mark_part form x (get_or flags i d)
+    → all ≡ after ++ marks_from form n (i + 1) (drop (i + 1) flags)
+marks-more form n i x flags d all mid after within at so_far more =
     let b = get_or flags i d in
     let rest = drop (i + 1) flags in
-    so_far ∙ ap (λ (bs : List Bool). mid ++ strokes_from w (i * w) bs) (drop_more flags i d within)
-    ∙ sym (append_assoc mid (stroke_part w (i * w) b) (strokes_from w (i * w + w) rest))
-    ∙ ap (λ (t : List ℕ). t ++ strokes_from w (i * w + w) rest) (sym more)
-    ∙ ap (λ (x : ℕ). after ++ strokes_from w x rest) (next-place i w)
+    so_far ∙ ap (λ (bs : List Bool). mid ++ marks_from form n i bs) (drop_more flags i d within)
+    ∙ sym (append_assoc mid (mark_part form (middle_of n i) b) (marks_from form n (i + 1) rest))
+    ∙ ap (λ (k : ℕ). (mid ++ mark_part form k b) ++ marks_from form n (i + 1) rest) (sym at)
+    ∙ ap (λ (t : List ℕ). t ++ marks_from form n (i + 1) rest) (sym more)
 
--- the layers of one code more
-pub codes-more : (w : ℕ) (bins : List TimeBin) (place i : ℕ) (codes : List Code) (d : Code) (all mid after : List ℕ) → i < length codes
-    → all ≡ mid ++ codes_layers w bins place i (drop i codes) → after ≡ mid ++ code_layers w bins place i (get_or codes i d)
-    → all ≡ after ++ codes_layers w bins place (i + 1) (drop (i + 1) codes)
-codes-more w bins place i codes d all mid after within so_far more =
+pub steps-more : (most n i x was now : ℕ) (bins : List TimeBin) (d : TimeBin) (all mid after : List ℕ) → i < length bins → x ≡ edge_of n i
+    → now ≡ tracked_in (get_or bins i d) → all ≡ mid ++ steps_from most n i was (drop i bins) → after ≡ mid ++ step_part most x was now
+    → all ≡ after ++ steps_from most n (i + 1) now (drop (i + 1) bins)
+steps-more most n i x was now bins d all mid after within at is so_far more =
+    let b = get_or bins i d in
+    let rest = drop (i + 1) bins in
+    so_far ∙ ap (λ (bs : List TimeBin). mid ++ steps_from most n i was bs) (drop_more bins i d within)
+    ∙ sym (append_assoc mid (step_part most (edge_of n i) was (tracked_in b)) (steps_from most n (i + 1) (tracked_in b) rest))
+    ∙ ap (λ (k : ℕ). (mid ++ step_part most k was (tracked_in b)) ++ steps_from most n (i + 1) (tracked_in b) rest) (sym at)
+    ∙ ap (λ (k : ℕ). (mid ++ step_part most x was k) ++ steps_from most n (i + 1) k rest) (sym is)
+    ∙ ap (λ (t : List ℕ). t ++ steps_from most n (i + 1) now rest) (sym more)
+
+-- the line of one code more
+pub codes-more : (bins : List TimeBin) (place i : ℕ) (codes : List Code) (d : Code) (all mid after : List ℕ) → i < length codes
+    → all ≡ mid ++ code_lines bins place i (drop i codes) → after ≡ mid ++ code_line bins place i (get_or codes i d)
+    → all ≡ after ++ code_lines bins place (i + 1) (drop (i + 1) codes)
+codes-more bins place i codes d all mid after within so_far more =
     let c = get_or codes i d in
     let rest = drop (i + 1) codes in
-    so_far ∙ ap (λ (cs : List Code). mid ++ codes_layers w bins place i cs) (drop_more codes i d within)
-    ∙ sym (append_assoc mid (code_layers w bins place i c) (codes_layers w bins place (i + 1) rest))
-    ∙ ap (λ (t : List ℕ). t ++ codes_layers w bins place (i + 1) rest) (sym more)
+    so_far ∙ ap (λ (cs : List Code). mid ++ code_lines bins place i cs) (drop_more codes i d within)
+    ∙ sym (append_assoc mid (code_line bins place i c) (code_lines bins place (i + 1) rest))
+    ∙ ap (λ (t : List ℕ). t ++ code_lines bins place (i + 1) rest) (sym more)
 
 -- the step between ticks has its bound
-pub step-bound : (w length : ℕ) → 0 < length → length ≤ longest_bin → ((100 / w + 1) * length ≤ 101 * longest_bin) × (0 < (100 / w + 1) * length)
-step-bound w length some few =
-    let most = div-le_self 100 w in
-    let one : 100 / w + 1 ≤ 101 = omega (arith, most) in
-    let all = mul-le (100 / w + 1) length 101 longest_bin one few in
-    let once : 1 ≤ 100 / w + 1 = omega arith in
+pub step-bound : (n length : ℕ) → n ≤ 1440 → 0 < length → length ≤ longest_bin → ((n / 10 + 1) * length ≤ 145 * longest_bin) × (0 < (n / 10 + 1) * length)
+step-bound n length bins some few =
+    let one : n / 10 + 1 ≤ 145 = omega arith in
+    let all = mul-le (n / 10 + 1) length 145 longest_bin one few in
+    let once : 1 ≤ n / 10 + 1 = omega arith in
     let same : length ≤ length = omega arith in
-    let least = mul-le 1 length (100 / w + 1) length once same in
+    let least = mul-le 1 length (n / 10 + 1) length once same in
     (all, omega (arith, least, some))
-
--- all bins have room
-pub bins-fit : (n : ℕ) → n * (1440 / n) ≤ 1440
-bins-fit n = mul-div-le 1440 n
-
--- each bin has a unit
-pub bin-some : (n : ℕ) → 0 < n → n ≤ 1440 → 0 < 1440 / n
-bin-some n some few =
-    let room : 1 * n ≤ 1440 = omega arith in
-    let h = le-div 1 1440 n some room in
-    omega (arith, h)

@@ -1,18 +1,18 @@
 -- The bins of a picture fill its room.
 use Rattle.std.proofs.Common.{◌≡◌, ◌≤◌, ◌<◌, ◌+◌, ◌-◌, ◌*◌, ◌/◌, ℕ, Bool, Option, None, Some, List, [], ◌∷◌, ◌++◌, length, map, codes, refl, ap, ◌∙◌, inl, inr, arith, length-append}
 use Rattle.std.specs.List.{range_with_len}
-use Rattle.std.proofs.Math.Nat.{div-mul-le_self, add-mul}
+use Rattle.std.proofs.Math.Nat.{add-mul, zero-div, mul-div_cancel_left}
 use Rattle.std.proofs.lemmas.Bool.{cases_lt}
 use Rattle.std.proofs.lemmas.List.{length-map}
 use Rattle.std.proofs.lemmas.List.FromFn.{length-map-range_with_len}
 use Rattle.std.proofs.lemmas.Nat.{mul-le, div-add-mod', mod_below}
 use Rattle.rtk_rinex.specs.Record.{EpochTableView}
-use Rattle.rtk_chart.specs.Scale.{IsScale, unit_of, intervals_of, scale_of}
-use Rattle.rtk_chart.specs.Grid.{bin_of, epochs_of_bin, bins_of, has_missing, gaps_of}
+use Rattle.rtk_chart.specs.Scale.{IsScale, unit_of, half_of, intervals_of, scale_of}
+use Rattle.rtk_chart.specs.Grid.{bin_in, bins_of, tracking_at, has_missing, gaps_of}
 use Rattle.rtk_chart.specs.Ticks.{tick_at}
-use Rattle.rtk_chart.specs.TextPicture.{tracking_at, character_of, row_head, satellite_row, gap_mark, gap_row, axis_mark, axis_row}
-use Rattle.rtk_chart.specs.SvgPicture.{drawn_width}
-use Rattle.rtk_chart.specs.Laws.{FillsRoom}
+use Rattle.rtk_chart.specs.Signs.{has_code}
+use Rattle.rtk_chart.specs.TextPicture.{character_of, row_head, satellite_row, gap_mark, gap_row, axis_mark, axis_row}
+use Rattle.rtk_chart.specs.Laws.{FillsRoom, FillsWidth}
 use Rattle.rtk_chart.specs.declared.scale.Scale.{Scale}
 use Rattle.rtk_chart.specs.declared.time_bin.TimeBin.{TimeBin}
 use Rattle.rtk_chart.proofs.ScaleLemmas.{mul-pos, bins-few}
@@ -34,16 +34,16 @@ fewer k n unit shorter =
           absurd (omega (arith, longer, shorter))
     ]
 
-pub within : (first last size t : ℕ) → 0 < size → t ≤ last → (t - first) / size < (last - first) / size + 1
-within first last size t some to =
-    let sooner : t - first ≤ last - first = omega (arith, to) in
-    let most = div-mono (t - first) (last - first) size some sooner in
+pub within : (first last half size t : ℕ) → 0 < size → t ≤ last → (t - first + half) / size < (last - first + half) / size + 1
+within first last half size t some to =
+    let sooner : t - first + half ≤ last - first + half = omega (arith, to) in
+    let most = div-mono (t - first + half) (last - first + half) size some sooner in
     omega (arith, most)
 
 pub scale-fills : (first last allowed : ℕ) (interval : Option ℕ) → 0 < allowed → FillsRoom (scale_of first last interval allowed) allowed
 scale-fills first last allowed interval some =
     let unit = unit_of interval in
-    let span = last - first in
+    let span = last - first + half_of unit in
     let n = intervals_of span unit allowed in
     let long = unit-some interval in
     let any : 0 < span / (allowed * unit) + 1 = omega arith in
@@ -52,7 +52,7 @@ scale-fills first last allowed interval some =
       few = bins-few span unit allowed some long;
       whole = (n, any, refl);
       least = λ k more shorter. shorter-too-many span unit allowed k long more (fewer k n unit shorter);
-      each = λ t to. within first last (n * unit) t size to;
+      each = λ t to. within first last (half_of unit) (n * unit) t size to;
       last = refl;
     }
 
@@ -64,8 +64,8 @@ three-long a b c = omega (arith, length-append (a ++ b) c, length-append a b)
 row-long : (bins : List TimeBin) (place n : ℕ) → length bins ≡ n → length (satellite_row bins place) ≡ n + 6
 unfolding satellite_row
 row-long bins place n many =
-    let marks : List ℕ = map (λ bin. character_of (tracking_at place bin)) bins in
-    let same : length marks ≡ n = length-map bins (λ (bin : TimeBin). character_of (tracking_at place bin)) ∙ many in
+    let marks : List ℕ = map (λ bin. character_of (has_code bins place) (tracking_at place bin)) bins in
+    let same : length marks ≡ n = length-map bins (λ (bin : TimeBin). character_of (has_code bins place) (tracking_at place bin)) ∙ many in
     three-long (row_head (place + 1)) marks (codes "|\n") ∙ ap (λ (k : ℕ). 4 + k + 2) same ∙ omega arith
 
 gap-long : (gaps : List Bool) (n : ℕ) → length gaps ≡ n → length (gap_row gaps) ≡ n + 6
@@ -83,7 +83,7 @@ axis-long s step =
 
 bins-many : (s : Scale) (es : List EpochTableView) → length (bins_of s es) ≡ s.bins
 unfolding bins_of
-bins-many s es = length-map-range_with_len (λ (c : ℕ). bin_of (epochs_of_bin s c es)) 0 s.bins
+bins-many s es = length-map-range_with_len (bin_in s es) 0 s.bins
 
 gaps-many : (s : Scale) (es : List EpochTableView) → length (gaps_of s es) ≡ s.bins
 unfolding gaps_of
@@ -95,17 +95,52 @@ pub rows-long : (s : Scale) (es : List EpochTableView) (place step : ℕ)
 rows-long s es place step =
     (row-long (bins_of s es) place s.bins (bins-many s es), gap-long (gaps_of s es) s.bins (gaps-many s es), axis-long s step)
 
--- ---- how wide a bin is
+-- ---- how wide a column is
 
-pub bands-filled : (s : Scale) → IsScale s → (drawn_width s * s.bins ≤ 1440) × (1440 < (drawn_width s + 1) * s.bins)
-bands-filled s is =
+-- the share of one more
+share-more : (a w n : ℕ) → 0 < n → ((a / n + w / n ≤ (a + w) / n) × ((a + w) / n ≤ a / n + w / n + 1))
+share-more a w n some =
+    let p = a / n in
+    let q = w / n in
+    let r = (a + w) / n in
+    let of_a = div-add-mod' a n in
+    let of_w = div-add-mod' w n in
+    let of_both = div-add-mod' (a + w) n in
+    let rest_a = mod_below a n some in
+    let rest_w = mod_below w n some in
+    let rest = mod_below (a + w) n some in
+    let sum = add-mul p q n in
+    let one : 1 * n ≡ n = omega arith in
+    let two : 2 * n ≡ n + n = omega arith in (
+      elim (cases_lt r (p + q)) [
+        | inl less ↦
+            let room : r + 1 ≤ p + q = omega arith in
+            let same : n ≤ n = omega arith in
+            let over = mul-le (r + 1) n (p + q) n room same in
+            let next = add-mul r 1 n in
+            absurd (omega (arith, over, next, one, sum, of_a, of_w, of_both, rest))
+        | inr more ↦ more
+      ],
+      elim (cases_lt (p + q + 1) r) [
+        | inl less ↦
+            let room : p + q + 2 ≤ r = omega arith in
+            let same : n ≤ n = omega arith in
+            let over = mul-le (p + q + 2) n r n room same in
+            let next = add-mul (p + q) 2 n in
+            absurd (omega (arith, over, next, two, sum, of_a, of_w, of_both, rest_a, rest_w))
+        | inr more ↦ more
+      ],
+    )
+
+pub columns-filled : (s : Scale) → IsScale s → FillsWidth s.bins
+columns-filled s is =
     let n = s.bins in
     let many = is.bins in
     let some : 0 < n = omega (arith, many) in
-    let q = 1440 / n in
-    let split = div-add-mod' 1440 n in
-    let rest = mod_below 1440 n some in
-    let next = add-mul q 1 n in
-    let one : 1 * n ≡ n = omega arith in
-    let below : 1440 < (q + 1) * n = omega (arith, split, rest, next, one) in
-    (div-mul-le_self 1440 n, below)
+    let next : (c : ℕ) → (c + 1) * 1440 ≡ c * 1440 + 1440 = λ c. omega arith in
+    record {
+      begin = zero-div n;
+      end = mul-div_cancel_left 1440 some;
+      least = λ c. omega (arith, (share-more (c * 1440) 1440 n some).0, ap (λ (k : ℕ). k / n) (next c));
+      most = λ c. omega (arith, (share-more (c * 1440) 1440 n some).1, ap (λ (k : ℕ). k / n) (next c));
+    }

@@ -2,8 +2,10 @@
 use Rattle.std.specs.Prelude.{◌≡◌, ℕ, ◌-◌, List, [], ◌∷◌, length, Option}
 use Rattle.rtk_rinex.specs.Record.{EpochTableView}
 use Rattle.rtk_rinex.specs.Table.{WellFormedTable, IsWellFormedTable, table_text}
-use Rattle.rtk_chart.specs.Epochs.{capped, newest_first, slips_in}
-use Rattle.rtk_chart.specs.Interval.{steps_in, IsInterval, missing_in}
+use Rattle.rtk_tracking.specs.Epochs.{capped, newest_first}
+use Rattle.rtk_tracking.specs.Passes.{longest_gap}
+use Rattle.rtk_chart.specs.Epochs.{slips_in, rises_in}
+use Rattle.rtk_tracking.specs.Interval.{interval_of_file, missing_in}
 use Rattle.rtk_chart.specs.Scale.{scale_of}
 use Rattle.rtk_chart.specs.Grid.{bins_of, gaps_of}
 use Rattle.rtk_chart.specs.TextPicture.{text_picture, text_of_none}
@@ -11,23 +13,31 @@ use Rattle.rtk_chart.specs.SvgPicture.{svg_picture, svg_of_none}
 use Rattle.rtk_obs.specs.declared.code.Code.{Code}
 use Rattle.rtk_chart.specs.declared.scale.Scale.{Scale}
 
--- the picture in characters of these epochs, newest first, at a scale
-abbrev pub text_at : List ℕ → Scale → List EpochTableView → List ℕ
-text_at marker s es =
-    text_picture marker s (capped (length es)) (capped (slips_in es)) (capped (missing_in s.unit es)) (bins_of s es) (gaps_of s es)
+-- the slips of epochs as a picture at a scale counts them
+abbrev pub slips_at : Scale → List EpochTableView → ℕ
+slips_at s es = capped (slips_in (longest_gap s.interval) es)
 
--- the picture of a file of this marker and first time, with this interval, in so many bins at most
-abbrev pub text_of_epochs : List ℕ → ℕ → Option ℕ → ℕ → List EpochTableView → List ℕ
-text_of_epochs marker first interval allowed [] = text_of_none marker
-text_of_epochs marker first interval allowed (e ∷ before) = text_at marker (scale_of first e.time interval allowed) (e ∷ before)
+abbrev pub rises_at : Scale → List EpochTableView → ℕ
+rises_at s es = capped (rises_in (longest_gap s.interval) es)
+
+-- the picture in characters of these epochs, newest first, at a scale, of this width
+abbrev pub text_at : List ℕ → List Code → ℕ → Scale → List EpochTableView → List ℕ
+text_at marker listed width s es =
+    text_picture marker listed s width (capped (length es)) (slips_at s es) (rises_at s es) (capped (missing_in s.unit es))
+    (bins_of s es) (gaps_of s es)
+
+-- the picture of a file of this marker, these codes and this first time, with this interval, so many
+-- characters wide: five are the labels and the frame
+abbrev pub text_of_epochs : List ℕ → List Code → ℕ → Option ℕ → ℕ → List EpochTableView → List ℕ
+text_of_epochs marker listed first interval width [] = text_of_none marker
+text_of_epochs marker listed first interval width (e ∷ before) =
+    text_at marker listed width (scale_of first e.time interval (width - 5)) (e ∷ before)
 
 -- formula
--- a text is the picture in characters of a table, so many characters wide: five are the labels and
--- the frame
+-- a text is the picture in characters of a table, so many characters wide
 abbrev pub IsTextPicture : WellFormedTable → ℕ → List ℕ → Type 0
 IsTextPicture t width text =
-    (interval : Option ℕ) × IsInterval (steps_in (newest_first t.epochs)) interval
-    × (text ≡ text_of_epochs t.head.marker t.first interval (width - 5) (newest_first t.epochs))
+    text ≡ text_of_epochs t.head.marker t.head.listed t.first (interval_of_file t) width (newest_first t.epochs)
 
 -- a text is the picture of each table whose text the file is; by one_table there is one
 abbrev pub ShowsTable : List ℕ → ℕ → List ℕ → Type 0
@@ -38,7 +48,8 @@ ShowsTable file width text = (t : WellFormedTable) → IsWellFormedTable t → f
 -- the picture in SVG of these epochs, newest first, at a scale
 abbrev pub svg_at : List ℕ → List Code → Scale → List EpochTableView → List ℕ
 svg_at marker listed s es =
-    svg_picture marker listed s (capped (length es)) (capped (slips_in es)) (capped (missing_in s.unit es)) (bins_of s es) (gaps_of s es)
+    svg_picture marker listed s (capped (length es)) (slips_at s es) (rises_at s es) (capped (missing_in s.unit es))
+    (bins_of s es) (gaps_of s es)
 
 -- formula
 -- the picture of a file of this marker, these codes and this first time, with this interval
@@ -49,8 +60,7 @@ svg_of_epochs marker listed first interval (e ∷ before) = svg_at marker listed
 -- a text is the picture in SVG of a table
 abbrev pub IsSvgPicture : WellFormedTable → List ℕ → Type 0
 IsSvgPicture t text =
-    (interval : Option ℕ) × IsInterval (steps_in (newest_first t.epochs)) interval
-    × (text ≡ svg_of_epochs t.head.marker t.head.listed t.first interval (newest_first t.epochs))
+    text ≡ svg_of_epochs t.head.marker t.head.listed t.first (interval_of_file t) (newest_first t.epochs)
 
 -- a text is the picture of each table whose text the file is
 abbrev pub ShowsTableInSvg : List ℕ → List ℕ → Type 0

@@ -1,53 +1,34 @@
--- The epochs of a file, newest first, and what they have of a satellite.
-use Rattle.std.specs.Prelude.{ℕ, zero, suc, ◌+◌, ◌/◌, ◌==◌, Bool, false, not, List, [], ◌∷◌, length, map, count_by, Option, None, Some, is_some, min, max, if◌then◌else◌}
-use Rattle.std.specs.List.{fold, list_any, sum_by}
+-- What the epochs of a file, newest first, have of a satellite.
+use Rattle.std.specs.Prelude.{ℕ, ◌+◌, ◌/◌, ◌==◌, Bool, false, not, ◌&&◌, List, [], ◌∷◌, get_or, length, count_by, Option, None, Some, min, max}
+use Rattle.std.specs.List.{range_with_len, sum_by}
 use Rattle.rtk_rinex.specs.Record.{EpochTableView}
 use Rattle.rtk_rinex.specs.declared.epoch_table.Observed.{Observed}
-use Rattle.rtk_rinex.specs.declared.epoch_table.SatelliteRow.{SatelliteRow}
+use Rattle.rtk_tracking.specs.Epochs.{observed_in, shows_phase}
+use Rattle.rtk_tracking.specs.Passes.{Sighting, sightings_of, has_phase, is_rise, is_slip}
 
--- a count as it is shown: it stays at the greatest value of a u64, which no test reaches
-abbrev pub capped : ℕ → ℕ
-capped n = min n 18_446_744_073_709_551_615
-
--- epochs that come after others, in this order
-abbrev pub epochs_onto : List EpochTableView → List EpochTableView → List EpochTableView
-epochs_onto [] before = before
-epochs_onto (e ∷ es) before = epochs_onto es (e ∷ before)
-
-abbrev pub newest_first : List EpochTableView → List EpochTableView
-newest_first epochs = epochs_onto epochs []
-
--- the moment of the newest epoch
-abbrev pub newest_moment : List EpochTableView → Option ℕ
-newest_moment [] = None
-newest_moment (e ∷ before) = Some e.time
-
--- what the codes of a satellite show in an epoch, by its rows; nothing if it has no row
-abbrev pub observed_in : ℕ → List SatelliteRow → List Observed
-observed_in satellite [] = []
-observed_in satellite (r ∷ rows) = if r.satellite == satellite then r.observed.items else observed_in satellite rows
-
--- what the codes of a satellite show in each of these epochs
-abbrev pub observed_by : ℕ → List EpochTableView → List (List Observed)
-observed_by satellite es = map (λ e. observed_in satellite e.rows) es
+-- an epoch as a satellite is seen in it
+abbrev pub sighting_of : ℕ → EpochTableView → Sighting
+sighting_of satellite e = record { time = e.time; observed = observed_in satellite e.rows }
 
 -- the satellite has a row
 abbrev pub is_seen : List Observed → Bool
 is_seen os = not (length os == 0)
 
--- the phase of the code at this place stands
-abbrev pub shows_phase : ℕ → List Observed → Bool
-shows_phase place [] = false
-shows_phase zero (o ∷ os) = is_some o.phase_millicycles
-shows_phase (suc place) (o ∷ os) = shows_phase place os
+abbrev pub nothing_observed : Observed
+nothing_observed = record { range_mm = None; phase_millicycles = None; strength_millidbhz = None; slip = false; half = false }
 
--- a loss-of-lock digit has bit 0: a cycle slip (RINEX 3.05, Table A3)
-abbrev pub has_slip : List Observed → Bool
-has_slip os = list_any (λ o. o.slip) os
+-- what the code at this place shows
+abbrev pub shown_at : ℕ → List Observed → Observed
+shown_at code os = get_or os code nothing_observed
 
--- a loss-of-lock digit has bit 1: an open half-cycle ambiguity
-abbrev pub has_half : List Observed → Bool
-has_half os = list_any (λ o. o.half) os
+-- formula
+-- a code is missing: its phase is not there, and another phase of the satellite is
+abbrev pub lacks_phase : ℕ → List Observed → Bool
+lacks_phase code os = has_phase os && not (shows_phase code os)
+
+-- the digit of the code has bit 1: an open half-cycle ambiguity (RINEX 3.05, Table A3)
+abbrev pub has_bit_1 : ℕ → List Observed → Bool
+has_bit_1 code os = (shown_at code os).half
 
 -- formula
 -- the signal strength digit of a strength, 1 to 9
@@ -56,25 +37,34 @@ abbrev pub level_of : Option ℕ → Option ℕ
 level_of None = None
 level_of (Some s) = Some (min (max (s / 6000) 1) 9)
 
+-- formula
+-- the signal strength digit of a code
+abbrev pub level_at : ℕ → List Observed → Option ℕ
+level_at code os = level_of (shown_at code os).strength_millidbhz
+
 abbrev pub lesser : Option ℕ → Option ℕ → Option ℕ
 lesser None b = b
 lesser (Some a) None = Some a
 lesser (Some a) (Some b) = Some (min a b)
 
--- the least strength digit of a satellite in an epoch
-abbrev pub least_level : List Observed → Option ℕ
-least_level os = fold (λ least o. lesser least (level_of o.strength_millidbhz)) None os
+-- ---- counts
 
--- the least strength digit of a satellite in these epochs
-abbrev pub least_level_in : List (List Observed) → Option ℕ
-least_level_in [] = None
-least_level_in (os ∷ before) = lesser (least_level os) (least_level_in before)
+-- formula
+-- how often a test holds of a code, of the 16 of each satellite, in an epoch after these earlier ones
+abbrev pub times_in_epoch : (ℕ → List Sighting → Sighting → Bool) → List EpochTableView → EpochTableView → ℕ
+times_in_epoch test before e =
+    sum_by (λ place. count_by (λ code. test code (sightings_of (place + 1) before) (sighting_of (place + 1) e)) (range_with_len 0 16))
+    (range_with_len 0 32)
 
--- the loss-of-lock digits with bit 0 of an epoch's rows
-abbrev pub slips_of : List SatelliteRow → ℕ
-slips_of rows = sum_by (λ r. count_by (λ o. o.slip) r.observed.items) rows
+-- how often it holds in these epochs
+abbrev pub times_in : (ℕ → List Sighting → Sighting → Bool) → List EpochTableView → ℕ
+times_in test [] = 0
+times_in test (e ∷ before) = times_in test before + times_in_epoch test before e
 
--- the loss-of-lock digits with bit 0 of these epochs' rows
-abbrev pub slips_in : List EpochTableView → ℕ
-slips_in [] = 0
-slips_in (e ∷ before) = slips_in before + slips_of e.rows
+-- the slips of a file with this longest gap in a pass
+abbrev pub slips_in : ℕ → List EpochTableView → ℕ
+slips_in gap es = times_in (is_slip gap) es
+
+-- its rises
+abbrev pub rises_in : ℕ → List EpochTableView → ℕ
+rises_in gap es = times_in (is_rise gap) es

@@ -1,56 +1,87 @@
--- What the epochs of each bin call for.
-use Rattle.std.specs.Prelude.{ℕ, ◌+◌, ◌*◌, ◌==◌, nat_lt, nat_le, Bool, false, not, ◌&&◌, ◌||◌, List, [], ◌∷◌, map, filter, Option, None, Some}
-use Rattle.std.specs.List.{list_any, range_with_len}
+-- What the epochs of each bin call for: the marks of each code of each satellite (this project's rule).
+use Rattle.std.specs.Prelude.{ℕ, ◌+◌, ◌*◌, ◌==◌, nat_lt, nat_le, Bool, false, ◌&&◌, ◌||◌, List, [], ◌∷◌, map, get_or, replicate, Option, None, Some, if◌then◌else◌}
+use Rattle.std.specs.List.{range_with_len}
 use Rattle.rtk_rinex.specs.Record.{EpochTableView}
-use Rattle.rtk_rinex.specs.declared.epoch_table.Observed.{Observed}
-use Rattle.rtk_chart.specs.Epochs.{newest_moment, observed_by, is_seen, shows_phase, has_slip, has_half, least_level_in}
-use Rattle.rtk_chart.specs.Interval.{missing_before}
+use Rattle.rtk_tracking.specs.Epochs.{newest_moment, observed_in, shows_phase}
+use Rattle.rtk_tracking.specs.Passes.{Sighting, sightings_of, longest_gap, is_rise, is_slip}
+use Rattle.rtk_tracking.specs.Interval.{missing_before}
+use Rattle.rtk_chart.specs.Epochs.{sighting_of, is_seen, lacks_phase, has_bit_1, level_at, lesser}
 use Rattle.rtk_chart.specs.Scale.{bin_at}
 use Rattle.rtk_chart.specs.declared.scale.Scale.{Scale}
-use Rattle.rtk_chart.specs.declared.tracking.Coverage.{Coverage}
+use Rattle.rtk_chart.specs.declared.code_marks.CodeMarks.{CodeMarks}
 use Rattle.rtk_chart.specs.declared.tracking.Tracking.{Tracking}
 use Rattle.rtk_chart.specs.declared.time_bin.TimeBin.{TimeBin}
 
--- a code of a satellite in the epochs of a bin: the phase stands in some of them, and is missing in
--- some of them
-abbrev pub coverage_of : List (List Observed) → ℕ → Coverage
-coverage_of epochs place =
-    record {
-      some = list_any (shows_phase place) epochs;
-      lacks = list_any (λ os. not (shows_phase place os)) epochs;
-    }
+-- ---- what no epoch calls for
+
+abbrev pub no_marks : CodeMarks
+no_marks = record { phase = false; missing = false; slip = false; rise = false; half = false; least = None }
+
+abbrev pub no_tracking : Tracking
+no_tracking = record { codes = replicate 16 no_marks; seen = false }
+
+abbrev pub no_bin : TimeBin
+no_bin = record { satellites = replicate 32 no_tracking }
+
+-- ---- the marks of a bin
+
+-- some epoch of the bin passes a test of what it shows of a satellite, after what came before it
+abbrev pub some_epoch : (List Sighting → Sighting → Bool) → Scale → ℕ → List EpochTableView → ℕ → Bool
+some_epoch test s satellite [] c = false
+some_epoch test s satellite (e ∷ before) c =
+    ((bin_at s e.time == c) && test (sightings_of satellite before) (sighting_of satellite e)) || some_epoch test s satellite before c
+
+-- the least strength digit of a code of a satellite in the epochs of the bin
+abbrev pub least_in : Scale → ℕ → ℕ → List EpochTableView → ℕ → Option ℕ
+least_in s satellite code [] c = None
+least_in s satellite code (e ∷ before) c =
+    if bin_at s e.time == c then lesser (level_at code (observed_in satellite e.rows)) (least_in s satellite code before c)
+    else least_in s satellite code before c
 
 -- formula
+-- the marks of a code of a satellite: its phase stands, or is missing where another phase of the satellite
+-- stands; it slips, rises, or has a half cycle; and its least strength digit
+abbrev pub code_in : Scale → ℕ → List EpochTableView → ℕ → ℕ → CodeMarks
+code_in s satellite es c code =
+    record {
+      phase = some_epoch (λ before now. shows_phase code now.observed) s satellite es c;
+      missing = some_epoch (λ before now. lacks_phase code now.observed) s satellite es c;
+      slip = some_epoch (is_slip (longest_gap s.interval) code) s satellite es c;
+      rise = some_epoch (is_rise (longest_gap s.interval) code) s satellite es c;
+      half = some_epoch (λ before now. has_bit_1 code now.observed) s satellite es c;
+      least = least_in s satellite code es c;
+    }
+
 -- the codes by their places, 16 at most
-unfoldable pub coverages_of : List (List Observed) → List Coverage
-coverages_of epochs = map (coverage_of epochs) (range_with_len 0 16)
-
--- a satellite in the epochs of a bin
-abbrev pub tracking_in : List (List Observed) → Tracking
-tracking_in epochs =
-    record {
-      phases = coverages_of epochs;
-      seen = list_any is_seen epochs;
-      slip = list_any has_slip epochs;
-      half = list_any has_half epochs;
-      least = least_level_in epochs;
-    }
+unfoldable pub codes_in : Scale → ℕ → List EpochTableView → ℕ → List CodeMarks
+codes_in s satellite es c = map (code_in s satellite es c) (range_with_len 0 16)
 
 -- formula
--- the satellites 1 to 32 in the epochs of a bin
-unfoldable pub trackings_of : List EpochTableView → List Tracking
-trackings_of es = map (λ place. tracking_in (observed_by (place + 1) es)) (range_with_len 0 32)
+-- a satellite: its codes, and whether it has a row
+abbrev pub tracking_in : Scale → ℕ → List EpochTableView → ℕ → Tracking
+tracking_in s satellite es c =
+    record { codes = codes_in s satellite es c; seen = some_epoch (λ before now. is_seen now.observed) s satellite es c }
 
-abbrev pub bin_of : List EpochTableView → TimeBin
-bin_of es = record { satellites = trackings_of es }
+-- the satellites 1 to 32
+unfoldable pub trackings_in : Scale → List EpochTableView → ℕ → List Tracking
+trackings_in s es c = map (λ place. tracking_in s (place + 1) es c) (range_with_len 0 32)
 
--- the epochs of a bin
-abbrev pub epochs_of_bin : Scale → ℕ → List EpochTableView → List EpochTableView
-epochs_of_bin s c es = filter (λ e. bin_at s e.time == c) es
+abbrev pub bin_in : Scale → List EpochTableView → ℕ → TimeBin
+bin_in s es c = record { satellites = trackings_in s es c }
 
 -- what all bins have
 unfoldable pub bins_of : Scale → List EpochTableView → List TimeBin
-bins_of s es = map (λ c. bin_of (epochs_of_bin s c es)) (range_with_len 0 s.bins)
+bins_of s es = map (bin_in s es) (range_with_len 0 s.bins)
+
+-- the tracking of the satellite at a place of a bin
+abbrev pub tracking_at : ℕ → TimeBin → Tracking
+tracking_at place bin = get_or bin.satellites place no_tracking
+
+-- the marks of the code at a place of a tracking
+abbrev pub marks_at : ℕ → Tracking → CodeMarks
+marks_at code tracking = get_or tracking.codes code no_marks
+
+-- ---- missing epochs
 
 -- an epoch that is missing before the one at t lies in the bin: from the first such epoch to the
 -- last one each bin has one, since it is one interval long or longer

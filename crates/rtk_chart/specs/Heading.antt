@@ -8,7 +8,7 @@ unfoldable pub seconds_text : ℕ → List ℕ
 seconds_text ms = decimal (ms / 1000) ++ 46 ∷ last_digits 3 ms
 
 -- formula
--- the interval in seconds; a hyphen if there is none
-unfoldable pub interval_line : Option ℕ → List ℕ
-interval_line None = codes "interval -\n"
-interval_line (Some ms) = codes "interval " ++ seconds_text ms ++ 10 ∷ []
+-- the interval and the length of a bin in seconds; nothing without an interval
+unfoldable pub interval_lines : Option ℕ → ℕ → List ℕ
+interval_lines None bin_ms = []
+interval_lines (Some ms) bin_ms = codes "interval " ++ seconds_text ms ++ codes "\ncolumn " ++ seconds_text bin_ms ++ 10 ∷ []

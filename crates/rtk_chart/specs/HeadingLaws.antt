@@ -1,5 +1,5 @@
 -- Laws of headings: equal headings tell equal numbers.
-use Rattle.std.specs.Prelude.{◌≡◌, ◌<◌, ℕ, ◌+◌, ◌^◌, List, ◌∷◌, ◌++◌, length, count_by, All, Option}
+use Rattle.std.specs.Prelude.{◌≡◌, ◌<◌, ℕ, ◌+◌, ◌^◌, List, ◌∷◌, ◌++◌, length, count_by, All, Option, None, Some}
 use Rattle.std.specs.Int.{IsInRange}
 use Rattle.std.specs.Option.{ForSome}
 use Rattle.std.specs.List.{list_any, range_with_len}
@@ -7,18 +7,20 @@ use Rattle.rtk_obs.specs.declared.code.Code.{Code}
 use Rattle.rtk_rinex.specs.Header.{IsMarker}
 use Rattle.rtk_rinex.specs.Record.{EpochTableView}
 use Rattle.rtk_rinex.specs.Table.{WellFormedTable, IsWellFormedTable}
-use Rattle.rtk_chart.specs.Epochs.{capped, newest_first, is_seen, observed_by, slips_in}
-use Rattle.rtk_chart.specs.Interval.{steps_in, IsInterval, missing_in}
+use Rattle.rtk_tracking.specs.Epochs.{capped, newest_first, observed_in}
+use Rattle.rtk_tracking.specs.Passes.{longest_gap}
+use Rattle.rtk_chart.specs.Epochs.{is_seen, slips_in, rises_in}
+use Rattle.rtk_tracking.specs.Interval.{steps_in, IsInterval, missing_in}
 use Rattle.rtk_chart.specs.Scale.{IsScale, unit_of, scale_of, bin_at}
 use Rattle.rtk_chart.specs.Grid.{bins_of}
 use Rattle.rtk_chart.specs.TextPicture.{satellites_in, text_heading, number_lines}
 use Rattle.rtk_chart.specs.SvgPicture.{svg_span, svg_numbers}
-use Rattle.rtk_chart.specs.Chart.{text_at, svg_at}
+use Rattle.rtk_chart.specs.Chart.{slips_at, rises_at, text_at, svg_at}
 use Rattle.rtk_chart.specs.declared.scale.Scale.{Scale}
 
 -- how many satellites have a row in some of these epochs
 unfoldable pub satellites_shown_in : List EpochTableView → ℕ
-satellites_shown_in es = count_by (λ place. list_any is_seen (observed_by (place + 1) es)) (range_with_len 0 32)
+satellites_shown_in es = count_by (λ place. list_any (λ e. is_seen (observed_in (place + 1) e.rows)) es) (range_with_len 0 32)
 
 -- the epochs of a file, newest first, at a scale on which each of them has its bin; its numbers are
 -- below 2^64
@@ -27,7 +29,8 @@ pub record HasNumbers (s : Scale) (es : List EpochTableView) : Type 0 where
   pub bins : All (λ e. bin_at s e.time < s.bins) es
   pub interval : ForSome s.interval (λ ms. ms < 2 ^ 64)
   pub records : length es < 2 ^ 64
-  pub slips : slips_in es < 2 ^ 64
+  pub slips : slips_in (longest_gap s.interval) es < 2 ^ 64
+  pub rises : rises_in (longest_gap s.interval) es < 2 ^ 64
   pub missing : missing_in s.unit es < 2 ^ 64
 
 -- a table with these epochs, newest first, has them at the scale of its picture, whatever room there is
@@ -35,35 +38,44 @@ abbrev pub TablesHaveNumbers : Type 0
 TablesHaveNumbers =
     (t : WellFormedTable) (interval : Option ℕ) (allowed : ℕ) (e : EpochTableView) (before : List EpochTableView)
     → IsWellFormedTable t → newest_first t.epochs ≡ e ∷ before → IsInterval (steps_in (e ∷ before)) interval → IsInRange 1 1440 allowed
-    → length (e ∷ before) < 2 ^ 64 → slips_in (e ∷ before) < 2 ^ 64 → missing_in (unit_of interval) (e ∷ before) < 2 ^ 64
+    → length (e ∷ before) < 2 ^ 64 → slips_in (longest_gap interval) (e ∷ before) < 2 ^ 64 → rises_in (longest_gap interval) (e ∷ before) < 2 ^ 64
+    → missing_in (unit_of interval) (e ∷ before) < 2 ^ 64
     → HasNumbers (scale_of t.first e.time interval allowed) (e ∷ before)
+
+-- bins are equally long; a heading tells their length if there is an interval
+abbrev pub HaveSameBins : Option ℕ → ℕ → ℕ → Type 0
+HaveSameBins None a b = Unit {0}
+HaveSameBins (Some interval) a b = a ≡ b
 
 -- two files have the same numbers
 pub record HaveSameNumbers (s t : Scale) (es fs : List EpochTableView) : Type 0 where
   pub first : s.first ≡ t.first
   pub last : s.last ≡ t.last
   pub interval : s.interval ≡ t.interval
-  pub bin : s.bin_ms ≡ t.bin_ms
+  pub bin : HaveSameBins s.interval s.bin_ms t.bin_ms
   pub records : length es ≡ length fs
   pub satellites : satellites_shown_in es ≡ satellites_shown_in fs
-  pub slips : slips_in es ≡ slips_in fs
+  pub slips : slips_in (longest_gap s.interval) es ≡ slips_in (longest_gap t.interval) fs
+  pub rises : rises_in (longest_gap s.interval) es ≡ rises_in (longest_gap t.interval) fs
   pub missing : missing_in s.unit es ≡ missing_in t.unit fs
 
 -- the heading of a picture in characters
 abbrev pub heading_in_text : List ℕ → Scale → List EpochTableView → List ℕ
 heading_in_text marker s es =
     text_heading marker s
-    ++ number_lines s (capped (length es)) (satellites_in (bins_of s es)) (capped (slips_in es)) (capped (missing_in s.unit es))
+    ++ number_lines s (capped (length es)) (satellites_in (bins_of s es)) (slips_at s es) (rises_at s es) (capped (missing_in s.unit es))
 
 -- the heading of a picture in SVG, which stands behind its marker
 abbrev pub heading_in_svg : Scale → List EpochTableView → List ℕ
 heading_in_svg s es =
-    svg_span s ++ svg_numbers (capped (length es)) (satellites_in (bins_of s es)) (capped (slips_in es)) (capped (missing_in s.unit es))
+    svg_span s
+    ++ svg_numbers (capped (length es)) (satellites_in (bins_of s es)) (slips_at s es) (rises_at s es) (capped (missing_in s.unit es))
 
 -- a picture in characters begins with its heading
 abbrev pub TextHasHeading : Type 0
 TextHasHeading =
-    (marker : List ℕ) (s : Scale) (es : List EpochTableView) → (rest : List ℕ) × (text_at marker s es ≡ heading_in_text marker s es ++ rest)
+    (marker : List ℕ) (listed : List Code) (width : ℕ) (s : Scale) (es : List EpochTableView)
+    → (rest : List ℕ) × (text_at marker listed width s es ≡ heading_in_text marker s es ++ rest)
 
 -- a picture in SVG has its heading
 abbrev pub SvgHasHeading : Type 0

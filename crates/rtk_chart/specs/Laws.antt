@@ -1,10 +1,10 @@
 -- Laws of the definitions of a picture.
 use Rattle.std.specs.Prelude.{◌≡◌, ◌≤◌, ◌<◌, ◌↔◌, ℕ, ◌+◌, ◌-◌, ◌*◌, ◌/◌, true, List, length, Option, Some}
 use Rattle.rtk_rinex.specs.Record.{EpochTableView}
-use Rattle.rtk_chart.specs.Scale.{intervals_of, IsScale, scale_of, bin_at}
+use Rattle.rtk_chart.specs.Scale.{half_of, intervals_of, IsScale, scale_of, bin_at}
 use Rattle.rtk_chart.specs.Grid.{bins_of, has_missing_before, gaps_of}
 use Rattle.rtk_chart.specs.TextPicture.{satellite_row, gap_row, axis_row}
-use Rattle.rtk_chart.specs.SvgPicture.{drawn_width}
+use Rattle.rtk_chart.specs.SvgPath.{edge_of}
 use Rattle.rtk_chart.specs.declared.scale.Scale.{Scale}
 
 -- with bins of this length there are at most as many as allowed
@@ -22,7 +22,7 @@ ShorterBinsAreTooMany =
 pub record FillsRoom (s : Scale) (allowed : ℕ) : Type 0 where
   pub few : s.bins ≤ allowed
   pub whole : (k : ℕ) × (0 < k) × (s.bin_ms ≡ k * s.unit)
-  pub least : (k : ℕ) → 0 < k → k * s.unit < s.bin_ms → allowed < (s.last - s.first) / (k * s.unit) + 1
+  pub least : (k : ℕ) → 0 < k → k * s.unit < s.bin_ms → allowed < (s.last - s.first + half_of s.unit) / (k * s.unit) + 1
   pub each : (t : ℕ) → t ≤ s.last → bin_at s t < s.bins
   pub last : bin_at s s.last + 1 ≡ s.bins
 
@@ -37,16 +37,22 @@ RowsHaveAllBins =
     → (length (satellite_row (bins_of s es) place) ≡ s.bins + 6) × (length (gap_row (gaps_of s es)) ≡ s.bins + 6)
     × (length (axis_row s step) ≡ s.bins + 5)
 
--- bins of a picture in SVG are as wide as leaves room: so wide they fit into 1440 units, and one
--- unit wider they would not
-abbrev pub BinsFillBands : Type 0
-BinsFillBands = (s : Scale) → IsScale s → (drawn_width s * s.bins ≤ 1440) × (1440 < (drawn_width s + 1) * s.bins)
+-- the columns of a picture in SVG fill 1440 units, side by side: each is as wide as its share of them in whole
+-- units, or one unit wider
+pub record FillsWidth (n : ℕ) : Type 0 where
+  pub begin : edge_of n 0 ≡ 0
+  pub end : edge_of n n ≡ 1440
+  pub least : (c : ℕ) → edge_of n c + 1440 / n ≤ edge_of n (c + 1)
+  pub most : (c : ℕ) → edge_of n (c + 1) ≤ edge_of n c + 1440 / n + 1
 
--- some epoch is missing between two moments, a whole number of intervals after the first, and lies in
--- the bin
+abbrev pub ColumnsFillWidth : Type 0
+ColumnsFillWidth = (s : Scale) → IsScale s → FillsWidth s.bins
+
+-- some epoch is missing between two moments, a whole number of intervals after the first and more than
+-- half an interval before the second, and lies in the bin
 abbrev pub SomeMissingEpoch : Scale → ℕ → ℕ → ℕ → Type 0
 SomeMissingEpoch s before t c =
-    (i : ℕ) × (0 < i) × (before + i * s.unit < t) × (bin_at s (before + i * s.unit) ≡ c)
+    (i : ℕ) × (0 < i) × ((2 * i + 1) * s.unit < 2 * (t - before)) × (bin_at s (before + i * s.unit) ≡ c)
 
 -- a bin has the mark exactly if it has such an epoch, at each scale whose bins are an interval
 -- long or longer

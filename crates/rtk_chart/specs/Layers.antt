@@ -1,23 +1,18 @@
--- The layers of a band: what of a satellite's tracking each of them draws.
-use Rattle.std.specs.Prelude.{ℕ, ◌==◌, Bool, false, not, ◌&&◌, get_or, Option, None, Some}
-use Rattle.rtk_chart.specs.declared.tracking.Coverage.{Coverage}
-use Rattle.rtk_chart.specs.declared.tracking.Tracking.{Tracking}
+-- The layers of a code's bar: in which bins each of them is drawn (this project's rule).
+use Rattle.std.specs.Prelude.{◌==◌, Bool, not, ◌&&◌, unwrap_or}
+use Rattle.rtk_chart.specs.declared.code_marks.CodeMarks.{CodeMarks}
 use Rattle.rtk_chart.specs.declared.layer.Layer.{Layer}
-use Rattle.rtk_chart.specs.declared.layer.Layer.TheVariants.{Whole, Part, Level, Slip, Half}
-
-abbrev pub coverage_at : ℕ → Tracking → Coverage
-coverage_at place tracking = get_or tracking.phases place (record { some = false; lacks = false })
-
-abbrev pub is_level : ℕ → Option ℕ → Bool
-is_level level None = false
-is_level level (Some least) = least == level
+use Rattle.rtk_chart.specs.declared.layer.Layer.TheVariants.{Phase, Level, Missing, Part, Absent, Slip, Rise, Half}
 
 -- formula
--- the phase of a code in all epochs of the bin, or in some and not in all; a least strength digit;
--- a slip; a half cycle
-abbrev pub shows : Layer → Tracking → Bool
-shows (Whole place) tracking = (coverage_at place tracking).some && not (coverage_at place tracking).lacks
-shows (Part place) tracking = (coverage_at place tracking).some && (coverage_at place tracking).lacks
-shows (Level level) tracking = is_level level tracking.least
-shows Slip tracking = tracking.slip
-shows Half tracking = tracking.half
+-- the phase; the phase with this least strength digit, 0 for none; the phase is missing in some epochs of the
+-- bin, which may be all; it is missing in some and not in all; it is missing in all; a slip; a rise; a half cycle
+abbrev pub shows : Layer → CodeMarks → Bool
+shows Phase marks = marks.phase
+shows (Level level) marks = marks.phase && unwrap_or marks.least 0 == level
+shows Missing marks = marks.missing
+shows Part marks = marks.phase && marks.missing
+shows Absent marks = marks.missing && not marks.phase
+shows Slip marks = marks.slip
+shows Rise marks = marks.rise
+shows Half marks = marks.half

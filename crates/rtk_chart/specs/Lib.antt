@@ -3,11 +3,11 @@ pub mod Epochs
 pub mod Grid
 pub mod Heading
 pub mod HeadingLaws
-pub mod Interval
 pub mod Laws
 pub mod Layers
 pub mod MarkLaws
 pub mod Scale
+pub mod Signs
 pub mod Steps
 pub mod SvgPath
 pub mod SvgPicture

@@ -1,44 +1,62 @@
 -- Laws of marks and counts: each mark has its epochs, and each epoch its mark, however many there are.
-use Rattle.std.specs.Prelude.{◌≡◌, ◌≤◌, ◌<◌, ◌↔◌, ℕ, ◌+◌, ◌-◌, ◌/◌, ◌^◌, ◌==◌, nat_le, Bool, true, false, not, ◌&&◌, List, [], ◌∷◌, ◌++◌, length, count_by, get_or, Option, None, Some}
+use Rattle.std.specs.Prelude.{◌≡◌, ◌≤◌, ◌<◌, ◌↔◌, ℕ, ◌+◌, ◌-◌, ◌^◌, ◌==◌, nat_le, Bool, true, false, List, ◌∷◌, ◌++◌, length, count_by, get_or, All, Option, None, Some}
 use Rattle.std.specs.List.{list_any, sum_by}
 use Rattle.rtk_rinex.specs.Record.{EpochTableView}
-use Rattle.rtk_rinex.specs.declared.epoch_table.Observed.{Observed}
-use Rattle.rtk_chart.specs.Epochs.{newest_moment, observed_in, is_seen, shows_phase, has_slip, has_half, level_of, slips_in}
-use Rattle.rtk_chart.specs.Interval.{steps_in, IsInterval, missing_in}
+use Rattle.rtk_rinex.specs.Table.{IsTableEpoch}
+use Rattle.rtk_tracking.specs.Epochs.{newest_moment, observed_in, shows_phase}
+use Rattle.rtk_tracking.specs.Passes.{Sighting, sightings_of, longest_gap, is_rise, is_slip}
+use Rattle.rtk_tracking.specs.Interval.{steps_in, IsInterval, nearest_intervals, missing_in}
+use Rattle.rtk_chart.specs.Epochs.{sighting_of, is_seen, lacks_phase, has_bit_1, level_at, slips_in, rises_in}
 use Rattle.rtk_chart.specs.Scale.{bin_at}
-use Rattle.rtk_chart.specs.Grid.{bin_of, bins_of, has_missing_before, gaps_of}
-use Rattle.rtk_chart.specs.TextPicture.{tracking_at}
-use Rattle.rtk_chart.specs.Layers.{coverage_at}
+use Rattle.rtk_chart.specs.Grid.{no_bin, tracking_at, marks_at, bins_of, has_missing_before, gaps_of}
+use Rattle.rtk_chart.specs.Signs.{has_code}
 use Rattle.rtk_chart.specs.declared.scale.Scale.{Scale}
-use Rattle.rtk_chart.specs.declared.tracking.Tracking.{Tracking}
+use Rattle.rtk_chart.specs.declared.code_marks.CodeMarks.{CodeMarks}
 
--- some epoch in a bin passes a test of what it shows of the satellite at a place
-abbrev pub some_passes : Scale → List EpochTableView → ℕ → ℕ → (List Observed → Bool) → Bool
-some_passes s es c place test = list_any (λ e. (bin_at s e.time == c) && test (observed_in (place + 1) e.rows)) es
+-- one of these epochs lies in the bin, and passes a test of what it shows of a satellite after what came
+-- before it
+abbrev pub IsCalledFor : Scale → List EpochTableView → ℕ → ℕ → (List Sighting → Sighting → Bool) → Type 0
+IsCalledFor s es c satellite test =
+    (newer : List EpochTableView) × (e : EpochTableView) × (before : List EpochTableView)
+    × (es ≡ newer ++ e ∷ before) × (bin_at s e.time ≡ c) × (test (sightings_of satellite before) (sighting_of satellite e) ≡ true)
+
+-- a mark is there exactly then
+abbrev pub IsMarkOf : Scale → List EpochTableView → ℕ → ℕ → Bool → (List Sighting → Sighting → Bool) → Type 0
+IsMarkOf s es c satellite mark test = (mark ≡ true) ↔ IsCalledFor s es c satellite test
 
 -- the digit is this one or a lesser one
 abbrev pub is_at_most : ℕ → Option ℕ → Bool
 is_at_most level None = false
 is_at_most level (Some digit) = nat_le digit level
 
--- the digit of a strength is this one or a lesser one
-abbrev pub is_weak : ℕ → List Observed → Bool
-is_weak level os = list_any (λ o. is_at_most level (level_of o.strength_millidbhz)) os
+-- the marks of a code of a satellite are those that the epochs in a bin call for: a phase, a missing phase,
+-- a slip, a rise, a half cycle, and each least strength digit
+pub record ShowsEpochs (s : Scale) (es : List EpochTableView) (c satellite code : ℕ) (marks : CodeMarks) : Type 0 where
+  pub phase : IsMarkOf s es c satellite marks.phase (λ before now. shows_phase code now.observed)
+  pub missing : IsMarkOf s es c satellite marks.missing (λ before now. lacks_phase code now.observed)
+  pub slip : IsMarkOf s es c satellite marks.slip (is_slip (longest_gap s.interval) code)
+  pub rise : IsMarkOf s es c satellite marks.rise (is_rise (longest_gap s.interval) code)
+  pub half : IsMarkOf s es c satellite marks.half (λ before now. has_bit_1 code now.observed)
+  pub least : (level : ℕ) → IsMarkOf s es c satellite (is_at_most level marks.least) (λ before now. is_at_most level (level_at code now.observed))
 
--- the tracking of the satellite at a place shows what the epochs in a bin have
-pub record ShowsEpochs (s : Scale) (es : List EpochTableView) (c place : ℕ) (tracking : Tracking) : Type 0 where
-  pub seen : tracking.seen ≡ some_passes s es c place is_seen
-  pub slip : tracking.slip ≡ some_passes s es c place has_slip
-  pub half : tracking.half ≡ some_passes s es c place has_half
-  pub some : (code : ℕ) → code < 16 → (coverage_at code tracking).some ≡ some_passes s es c place (shows_phase code)
-  pub lacks : (code : ℕ) → code < 16 → (coverage_at code tracking).lacks ≡ some_passes s es c place (λ os. not (shows_phase code os))
-  pub least : (level : ℕ) → is_at_most level tracking.least ≡ some_passes s es c place (is_weak level)
+-- this holds of each code of each satellite in each bin
+abbrev pub CodesShowEpochs : Type 0
+CodesShowEpochs =
+    (s : Scale) (es : List EpochTableView) (c place code : ℕ) → c < s.bins → place < 32 → code < 16
+    → ShowsEpochs s es c (place + 1) code (marks_at code (tracking_at place (get_or (bins_of s es) c no_bin)))
 
--- this holds of each satellite in each bin
+-- a satellite is seen in a bin exactly if it has a row in one of its epochs
 abbrev pub SatellitesShowEpochs : Type 0
 SatellitesShowEpochs =
     (s : Scale) (es : List EpochTableView) (c place : ℕ) → c < s.bins → place < 32
-    → ShowsEpochs s es c place (tracking_at place (get_or (bins_of s es) c (bin_of [])))
+    → IsMarkOf s es c (place + 1) (tracking_at place (get_or (bins_of s es) c no_bin)).seen (λ before now. is_seen now.observed)
+
+-- a satellite has a code in its bins exactly if it has its phase in some epoch of the file, if each epoch has
+-- its bin
+abbrev pub CodesAreOfEpochs : Type 0
+CodesAreOfEpochs =
+    (s : Scale) (es : List EpochTableView) (place code : ℕ) → place < 32 → code < 16 → All (λ e. bin_at s e.time < s.bins) es
+    → has_code (bins_of s es) place code ≡ list_any (λ e. shows_phase code (observed_in (place + 1) e.rows)) es
 
 -- an epoch is missing in the bin, before one of these records and after the record before it
 abbrev pub IsMissingIn : Scale → List EpochTableView → ℕ → Type 0
@@ -70,8 +88,11 @@ IntervalIsMostFrequent =
 
 -- the missing epochs of a file are those of its steps
 abbrev pub MissingAreOfSteps : Type 0
-MissingAreOfSteps = (unit : ℕ) (es : List EpochTableView) → missing_in unit es ≡ sum_by (λ step. (step - 1) / unit) (steps_in es)
+MissingAreOfSteps = (unit : ℕ) (es : List EpochTableView) → missing_in unit es ≡ sum_by (λ step. nearest_intervals unit step - 1) (steps_in es)
 
--- the slips of a file are the digits with bit 0, of each code of each satellite in each epoch
-abbrev pub SlipsAreDigits : Type 0
-SlipsAreDigits = (es : List EpochTableView) → slips_in es ≡ sum_by (λ e. sum_by (λ r. count_by (λ o. o.slip) r.observed.items) e.rows) es
+-- each bit 0 is a slip or a rise: together they are as many as the digits with bit 0, of each code of each
+-- satellite in each epoch of a file of n codes
+abbrev pub SlipsAndRisesAreDigits : Type 0
+SlipsAndRisesAreDigits =
+    (gap n : ℕ) (es : List EpochTableView) → n ≤ 16 → All (IsTableEpoch n) es
+    → slips_in gap es + rises_in gap es ≡ sum_by (λ e. sum_by (λ r. count_by (λ o. o.slip) r.observed.items) e.rows) es

@@ -1,33 +1,66 @@
--- Paths of bins in an SVG picture (this project's rule). A bin is w units wide, and x is where
--- the next one begins.
-use Rattle.std.specs.Prelude.{ℕ, ◌+◌, ◌/◌, Bool, true, false, List, [], ◌∷◌, ◌++◌, codes, decimal}
+-- Paths of bins in an SVG picture (this project's rule). The n bins of a picture share 1440 units.
+use Rattle.std.specs.Prelude.{ℕ, ◌+◌, ◌-◌, ◌*◌, ◌/◌, ◌==◌, Bool, true, false, List, [], ◌∷◌, ◌++◌, codes, decimal, length, count_by, max, if◌then◌else◌}
+use Rattle.std.specs.List.{fold}
+use Rattle.rtk_chart.specs.Signs.{is_tracked}
+use Rattle.rtk_chart.specs.declared.time_bin.TimeBin.{TimeBin}
 
 -- formula
--- a line over a bin that has the mark: it goes on if the bin before has it too
-abbrev pub run_part : ℕ → ℕ → Bool → Bool → List ℕ
-run_part w x was false = []
-run_part w x false true = codes "M" ++ decimal x ++ codes " 0h" ++ decimal w
-run_part w x true true = codes "h" ++ decimal w
-
--- lines over the bins that have the mark
-abbrev pub runs_from : ℕ → ℕ → Bool → List Bool → List ℕ
-runs_from w x was [] = []
-runs_from w x was (b ∷ bs) = run_part w x was b ++ runs_from w (x + w) b bs
+-- where a bin begins: behind the share of the bins before it, in whole units
+abbrev pub edge_of : ℕ → ℕ → ℕ
+edge_of n c = c * 1440 / n
 
 -- formula
-unfoldable pub runs_text : ℕ → List Bool → List ℕ
-runs_text w bs = runs_from w 0 false bs
+abbrev pub middle_of : ℕ → ℕ → ℕ
+middle_of n c = (edge_of n c + edge_of n (c + 1)) / 2
 
 -- formula
--- a stroke of six units in the middle of a bin that has the mark
-abbrev pub stroke_part : ℕ → ℕ → Bool → List ℕ
-stroke_part w x false = []
-stroke_part w x true = codes "M" ++ decimal (x + w / 2) ++ codes " 0v6"
+-- a form over bins with the mark, side by side: how it begins where the first one does, and how it ends
+abbrev pub run_part : List ℕ → List ℕ → ℕ → Bool → Bool → List ℕ
+run_part begin end x false true = codes "M" ++ decimal x ++ begin
+run_part begin end x true false = codes "H" ++ decimal x ++ end
+run_part begin end x true true = []
+run_part begin end x false false = []
 
-abbrev pub strokes_from : ℕ → ℕ → List Bool → List ℕ
-strokes_from w x [] = []
-strokes_from w x (b ∷ bs) = stroke_part w x b ++ strokes_from w (x + w) bs
+-- the forms over bins from a place on; the last one ends with the bins
+abbrev pub runs_from : List ℕ → List ℕ → ℕ → ℕ → Bool → List Bool → List ℕ
+runs_from begin end n c was [] = run_part begin end 1440 was false
+runs_from begin end n c was (b ∷ bs) = run_part begin end (edge_of n c) was b ++ runs_from begin end n (c + 1) b bs
+
+unfoldable pub runs_text : List ℕ → List ℕ → List Bool → List ℕ
+runs_text begin end bs = runs_from begin end (length bs) 0 false bs
 
 -- formula
-unfoldable pub strokes_text : ℕ → List Bool → List ℕ
-strokes_text w bs = strokes_from w 0 bs
+-- a form in the middle of a bin that has the mark
+abbrev pub mark_part : List ℕ → ℕ → Bool → List ℕ
+mark_part form x false = []
+mark_part form x true = codes "M" ++ decimal x ++ form
+
+abbrev pub marks_from : List ℕ → ℕ → ℕ → List Bool → List ℕ
+marks_from form n c [] = []
+marks_from form n c (b ∷ bs) = mark_part form (middle_of n c) b ++ marks_from form n (c + 1) bs
+
+unfoldable pub marks_text : List ℕ → List Bool → List ℕ
+marks_text form bs = marks_from form (length bs) 0 bs
+
+-- ---- numbers of satellites
+
+-- how many satellites have a phase in a bin
+abbrev pub tracked_in : TimeBin → ℕ
+tracked_in bin = count_by is_tracked bin.satellites
+
+abbrev pub most_tracked : List TimeBin → ℕ
+most_tracked bins = fold (λ most bin. max most (tracked_in bin)) 0 bins
+
+-- formula
+-- a step to another number: 40 units above none is the greatest one
+abbrev pub step_part : ℕ → ℕ → ℕ → ℕ → List ℕ
+step_part most x was now =
+    if now == was then [] else codes "H" ++ decimal x ++ codes "V" ++ decimal (40 - now * 40 / max most 1)
+
+-- the steps of bins from a place on
+abbrev pub steps_from : ℕ → ℕ → ℕ → ℕ → List TimeBin → List ℕ
+steps_from most n c was [] = []
+steps_from most n c was (b ∷ bs) = step_part most (edge_of n c) was (tracked_in b) ++ steps_from most n (c + 1) (tracked_in b) bs
+
+unfoldable pub steps_text : List TimeBin → List ℕ
+steps_text bins = steps_from (most_tracked bins) (length bins) 0 0 bins

@@ -1,21 +1,24 @@
--- A picture in SVG (this project's rule). Lengths are in units of the picture, which is 1560 wide:
--- bands begin 90 from the left and 96 from the top, and are 1440 wide at most.
+-- A picture in SVG (this project's rule). Lengths are in units of the picture, which is 1620 wide:
+-- bands begin 110 from the left and 112 from the top, and are 1440 wide.
 use Rattle.std.specs.Prelude.{ℕ, ◌+◌, ◌*◌, ◌/◌, ◌%◌, ◌==◌, Bool, List, [], ◌∷◌, ◌++◌, length, map, flat_map, count_by, codes, decimal, Option, None, Some, if◌then◌else◌}
-use Rattle.std.specs.List.{range_with_len}
+use Rattle.std.specs.List.{list_any, range_with_len}
 use Rattle.rtk_obs.specs.declared.code.Code.{Code}
 use Rattle.rtk_obs.specs.Code.{name_of}
 use Rattle.rtk_rinex.specs.Reading.{reading_of}
 use Rattle.rtk_obs.specs.CivilText.{civil_text}
 use Rattle.rtk_chart.specs.Heading.{seconds_text}
 use Rattle.rtk_chart.specs.Ticks.{tick_step, tick_at, tick_label}
-use Rattle.rtk_chart.specs.TextPicture.{tracking_at, is_drawn, drawn_before, satellites_in}
-use Rattle.rtk_chart.specs.SvgPath.{runs_text, strokes_text}
+use Rattle.rtk_chart.specs.Grid.{tracking_at, marks_at}
+use Rattle.rtk_chart.specs.Signs.{is_drawn, has_code}
+use Rattle.rtk_chart.specs.TextPicture.{satellite_label, drawn_before, satellites_in}
+use Rattle.rtk_chart.specs.SvgPath.{edge_of, runs_text, marks_text, most_tracked, steps_text}
 use Rattle.rtk_chart.specs.Layers.{shows}
 use Rattle.rtk_chart.specs.declared.svg_picture.TheConstants.{STYLE, LEGEND}
+use Rattle.rtk_chart.specs.declared.svg_codes.TheConstants.{NEVER}
 use Rattle.rtk_chart.specs.declared.scale.Scale.{Scale}
 use Rattle.rtk_chart.specs.declared.time_bin.TimeBin.{TimeBin}
 use Rattle.rtk_chart.specs.declared.layer.Layer.{Layer}
-use Rattle.rtk_chart.specs.declared.layer.Layer.TheVariants.{Whole, Part, Level, Slip, Half}
+use Rattle.rtk_chart.specs.declared.layer.Layer.TheVariants.{Phase, Level, Missing, Part, Absent, Slip, Rise, Half}
 
 -- ---- text
 
@@ -35,190 +38,224 @@ xml_text text = flat_map xml_character text
 abbrev pub number_between : List ℕ → ℕ → List ℕ → List ℕ
 number_between before n after = before ++ decimal n ++ after
 
--- ---- the layers of a satellite
+-- ---- the bar of a code
+
+-- the bins in which a layer of a code of a satellite is drawn
+abbrev pub layer_flags : List TimeBin → ℕ → ℕ → Layer → List Bool
+layer_flags bins place code layer = map (λ bin. shows layer (marks_at code (tracking_at place bin))) bins
+
+-- how many they are
+abbrev pub columns_of : List TimeBin → ℕ → ℕ → Layer → ℕ
+columns_of bins place code layer = count_by (λ b. b) (layer_flags bins place code layer)
 
 -- formula
--- how wide a bin is drawn
-abbrev pub drawn_width : Scale → ℕ
-drawn_width s = 1440 / s.bins
-
--- which bins have a layer of the satellite at a place
-abbrev pub layer_flags : List TimeBin → ℕ → Layer → List Bool
-layer_flags bins place layer = map (λ bin. shows layer (tracking_at place bin)) bins
+-- the beginning of a path of a class
+unfoldable pub path_start : List ℕ → List ℕ
+path_start class = codes "<path class='" ++ class ++ codes "' d='"
 
 -- formula
--- the beginning of a path of a class, so far below the top of its band
-abbrev pub path_start : List ℕ → ℕ → List ℕ
-path_start class top = codes "<path class='" ++ class ++ number_between (codes "' transform='translate(0 ") top (codes ")' d='")
+-- a path of forms over bins, which begin and end in this way
+unfoldable pub runs_path : List ℕ → List ℕ → List ℕ → List Bool → List ℕ
+runs_path class begin end flags = path_start class ++ runs_text begin end flags ++ codes "'/>\n"
+
+-- nothing where no bin has the mark
+abbrev pub runs_layer : List ℕ → List ℕ → List ℕ → List Bool → List ℕ
+runs_layer class begin end flags = if list_any (λ b. b) flags then runs_path class begin end flags else []
 
 -- formula
--- a layer as lines over its bins
-unfoldable pub runs_layer : ℕ → List TimeBin → ℕ → Layer → List ℕ → ℕ → List ℕ
-runs_layer w bins place layer class top = path_start class top ++ runs_text w (layer_flags bins place layer) ++ codes "'/>\n"
+-- a path of a form in bins
+unfoldable pub marks_path : List ℕ → List ℕ → List Bool → List ℕ
+marks_path class form flags = path_start class ++ marks_text form flags ++ codes "'/>\n"
+
+-- nothing where no bin has the mark
+abbrev pub marks_layer : List ℕ → List ℕ → List Bool → List ℕ
+marks_layer class form flags = if list_any (λ b. b) flags then marks_path class form flags else []
 
 -- formula
--- a path of strokes in bins
-unfoldable pub strokes_path : ℕ → List Bool → List ℕ → ℕ → List ℕ
-strokes_path w flags class top = path_start class top ++ strokes_text w flags ++ codes "'/>\n"
+-- the bar where the phase has a least strength digit, in a class of its own
+abbrev pub level_path : List TimeBin → ℕ → ℕ → ℕ → List ℕ
+level_path bins place code level = runs_layer (108 ∷ (48 + level) ∷ []) (codes " 10") [] (layer_flags bins place code (Level level))
+
+unfoldable pub level_paths : List TimeBin → ℕ → ℕ → List ℕ
+level_paths bins place code = flat_map (level_path bins place code) (range_with_len 0 10)
 
 -- formula
--- a code: its name, the bins with its phase in all epochs, and those with it in some
-unfoldable pub code_layers : ℕ → List TimeBin → ℕ → ℕ → Code → List ℕ
-code_layers w bins place at code =
-    number_between (codes "<text class='code' x='-4' y='") (8 * at + 25) (codes "'>") ++ name_of code ++ codes "</text>\n"
-    ++ runs_layer w bins place (Whole at) (codes "w") (8 * at + 22)
-    ++ strokes_path w (layer_flags bins place (Part at)) (codes "p") (8 * at + 19)
+-- where the code is missing: a box over the upper half of the bar, or over the place of the whole bar
+unfoldable pub missing_paths : List TimeBin → ℕ → ℕ → List ℕ
+missing_paths bins place code =
+    runs_layer (codes "p") (codes " 10v-6") (codes "v6z") (layer_flags bins place code Part)
+    ++ runs_layer (codes "m") (codes " 16v-12") (codes "v12z") (layer_flags bins place code Absent)
+
+-- formula
+-- a triangle to the right for a rise, one downwards for a slip, and a rhomb for a half cycle
+unfoldable pub lock_paths : List TimeBin → ℕ → ℕ → List ℕ
+lock_paths bins place code =
+    marks_layer (codes "r") (codes " 5l9 5l-9 5z") (layer_flags bins place code Rise)
+    ++ marks_layer (codes "s") (codes " 20l-7-21h14z") (layer_flags bins place code Slip)
+    ++ marks_layer (codes "h") (codes " 8l6 6l-6 6l-6-6z") (layer_flags bins place code Half)
+
+-- formula
+-- how many columns have what of a code
+unfoldable pub column_numbers : ℕ → ℕ → ℕ → ℕ → ℕ → List ℕ
+column_numbers phases missing slips rises halves =
+    number_between (codes ": columns with phase ") phases (codes ", missing ") ++ number_between [] missing (codes ", slips ")
+    ++ number_between [] slips (codes ", rises ") ++ number_between [] rises (codes ", half cycles ")
+    ++ number_between [] halves (codes "</title>\n")
+
+unfoldable pub code_numbers : List TimeBin → ℕ → ℕ → List ℕ
+code_numbers bins place code =
+    column_numbers (columns_of bins place code Phase) (columns_of bins place code Missing) (columns_of bins place code Slip)
+    (columns_of bins place code Rise) (columns_of bins place code Half)
+
+-- formula
+-- a code that the satellite has: its numbers and its bar
+unfoldable pub drawn_bar : List TimeBin → ℕ → ℕ → List ℕ
+drawn_bar bins place code = code_numbers bins place code ++ level_paths bins place code ++ missing_paths bins place code ++ lock_paths bins place code
+
+-- formula
+-- one that it has nowhere: a word in the place of the bar
+abbrev pub bar_text : List TimeBin → ℕ → ℕ → List ℕ
+bar_text bins place code = if has_code bins place code then drawn_bar bins place code else NEVER.now
+
+-- formula
+-- the line of a code of a satellite, 22 units high, as in G05 1C
+unfoldable pub code_line : List TimeBin → ℕ → ℕ → Code → List ℕ
+code_line bins place at code =
+    number_between (codes "<g transform='translate(0 ") (22 * at + 7) (codes ")'>\n<title>") ++ satellite_label (place + 1) ++ codes " " ++ name_of code
+    ++ bar_text bins place at ++ codes "<text class='code' x='-6' y='16'>" ++ name_of code ++ codes "</text>\n</g>\n"
 
 -- the codes from a place on
-abbrev pub codes_layers : ℕ → List TimeBin → ℕ → ℕ → List Code → List ℕ
-codes_layers w bins place at [] = []
-codes_layers w bins place at (c ∷ cs) = code_layers w bins place at c ++ codes_layers w bins place (at + 1) cs
-
--- formula
--- the bins of a least strength digit, in a class of its own
-abbrev pub level_layer : ℕ → List TimeBin → ℕ → ℕ → ℕ → List ℕ
-level_layer w bins place top level = runs_layer w bins place (Level level) (108 ∷ (48 + level) ∷ []) top
-
--- formula
-unfoldable pub level_layers : ℕ → List TimeBin → ℕ → ℕ → List ℕ
-level_layers w bins place top = flat_map (level_layer w bins place top) (range_with_len 1 9)
+abbrev pub code_lines : List TimeBin → ℕ → ℕ → List Code → List ℕ
+code_lines bins place at [] = []
+code_lines bins place at (c ∷ cs) = code_line bins place at c ++ code_lines bins place (at + 1) cs
 
 -- ---- bands
 
 -- formula
--- as in G05
-abbrev pub satellite_label : ℕ → List ℕ
-satellite_label satellite = 71 ∷ (48 + satellite / 10) ∷ (48 + satellite % 10) ∷ []
-
-abbrev pub count_of_flags : List Bool → ℕ
-count_of_flags flags = count_by (λ b. b) flags
-
--- formula
--- the title of a band: G05, slips in 2 columns, half cycles in 0 columns; and its label
-unfoldable pub band_title : ℕ → ℕ → ℕ → List ℕ
-band_title satellite slips halves =
-    codes "<title>" ++ satellite_label satellite ++ number_between (codes ", slips in ") slips (codes " columns, half cycles in ")
-    ++ number_between [] halves (codes " columns</title>\n<text class='name' x='-28' y='25'>")
-    ++ satellite_label satellite ++ codes "</text>\n"
-
--- formula
--- slips and half cycles have a row of eight units each, then each code, then the strength
+-- each code has a line, with seven units above and below them
 abbrev pub band_height : ℕ → ℕ
-band_height listed = 8 * listed + 34
+band_height listed = 22 * listed + 14
 
 -- formula
--- the title of a satellite, and its slips and half cycles
-unfoldable pub lock_layers : ℕ → List TimeBin → ℕ → List ℕ
-lock_layers w bins place =
-    band_title (place + 1) (count_of_flags (layer_flags bins place Slip)) (count_of_flags (layer_flags bins place Half))
-    ++ strokes_path w (layer_flags bins place Slip) (codes "s") 3
-    ++ strokes_path w (layer_flags bins place Half) (codes "h") 11
+-- the beginning of a band: its satellite, and its stripe, 0 for none
+unfoldable pub band_start : ℕ → ℕ → ℕ → ℕ → List ℕ
+band_start top satellite stripe height =
+    number_between (codes "<g transform='translate(110 ") top (codes ")'>\n<title>") ++ satellite_label satellite
+    ++ number_between (codes "</title>\n<rect class='b") stripe (codes "' x='-110' width='1620'")
+    ++ number_between (codes " height='") height (codes "'/>\n")
+    ++ number_between (codes "<text class='name' x='-40' y='") (height / 2 + 9) (codes "'>") ++ satellite_label satellite ++ codes "</text>\n"
 
 -- formula
--- the band of a satellite, so far from the top
-unfoldable pub band_text : ℕ → List Code → List TimeBin → ℕ → ℕ → List ℕ
-band_text w listed bins top place =
-    number_between (codes "<g transform='translate(90 ") top (codes ")'>\n")
-    ++ lock_layers w bins place ++ codes_layers w bins place 0 listed
-    ++ level_layers w bins place (8 * length listed + 22)
-    ++ codes "</g>\n"
+-- the band of a satellite after so many others: every other one has a stripe
+unfoldable pub band_text : List Code → List TimeBin → ℕ → ℕ → List ℕ
+band_text listed bins place before =
+    band_start (112 + before * band_height (length listed)) (place + 1) (before % 2) (band_height (length listed))
+    ++ code_lines bins place 0 listed ++ codes "</g>\n"
 
 -- formula
-abbrev pub band_if_drawn : ℕ → List Code → List TimeBin → ℕ → List ℕ
-band_if_drawn w listed bins place =
-    if is_drawn bins place then band_text w listed bins (96 + drawn_before bins place * band_height (length listed)) place else []
+abbrev pub band_if_drawn : List Code → List TimeBin → ℕ → List ℕ
+band_if_drawn listed bins place = if is_drawn bins place then band_text listed bins place (drawn_before bins place) else []
 
 -- formula
-unfoldable pub bands_text : ℕ → List Code → List TimeBin → List ℕ
-bands_text w listed bins = flat_map (band_if_drawn w listed bins) (range_with_len 0 32)
+unfoldable pub bands_text : List Code → List TimeBin → List ℕ
+bands_text listed bins = flat_map (band_if_drawn listed bins) (range_with_len 0 32)
 
 -- ---- below the bands, so far from the top
 
 -- formula
 -- the bins with missing epochs
-unfoldable pub gaps_band : ℕ → ℕ → List Bool → List ℕ
-gaps_band w top gaps =
-    number_between (codes "<g transform='translate(90 ") top (codes ")'>\n<title>missing epochs</title>\n<text class='name' x='-4' y='12'>missing</text>\n")
-    ++ strokes_path w gaps (codes "g") 5 ++ codes "</g>\n"
+unfoldable pub gaps_band : ℕ → List Bool → List ℕ
+gaps_band top gaps =
+    number_between (codes "<g transform='translate(110 ") top (codes ")'>\n<title>missing epochs</title>\n<text class='code' x='-6' y='18'>missing</text>\n")
+    ++ runs_layer (codes "g") (codes " 12") [] gaps ++ codes "</g>\n"
 
 -- formula
--- ticks are 100 units apart or more
+-- the numbers of satellites with a phase, and the greatest of them
+unfoldable pub satellites_band : ℕ → List TimeBin → List ℕ
+satellites_band top bins =
+    number_between (codes "<g transform='translate(110 ") top (codes ")'>\n<title>satellites with a phase</title>\n<text class='code' x='-6' y='18'>satellites</text>\n")
+    ++ number_between (codes "<text class='code' x='-6' y='38'>at most ") (most_tracked bins) (codes "</text>\n<path class='n' d='M0 40")
+    ++ steps_text bins ++ codes "H1440V40z'/>\n</g>\n"
+
+-- formula
+-- ticks are 144 units apart or more
 abbrev pub svg_tick_step : Scale → ℕ
-svg_tick_step s = tick_step ((100 / drawn_width s + 1) * s.bin_ms)
+svg_tick_step s = tick_step ((s.bins / 10 + 1) * s.bin_ms)
 
 -- formula
 -- a tick at x: a line down from the top of the bands, and its label
 abbrev pub tick_text : ℕ → ℕ → ℕ → Option ℕ → List ℕ
 tick_text top step x None = []
 tick_text top step x (Some t) =
-    number_between (codes "<path class='t' d='M") x (codes " 90V") ++ number_between [] top (codes "'/>\n")
-    ++ number_between (codes "<text class='tick' x='") x (codes "' y='") ++ number_between [] (top + 14) (codes "'>")
+    number_between (codes "<path class='t' d='M") x (codes " 106V") ++ number_between [] top (codes "'/>\n")
+    ++ number_between (codes "<text class='tick' x='") x (codes "' y='") ++ number_between [] (top + 22) (codes "'>")
     ++ tick_label step t ++ codes "</text>\n"
 
 -- formula
 unfoldable pub ticks_text : Scale → ℕ → ℕ → List ℕ
-ticks_text s step top = flat_map (λ c. tick_text top step (90 + c * drawn_width s) (tick_at s step c)) (range_with_len 0 s.bins)
+ticks_text s step top = flat_map (λ c. tick_text top step (110 + edge_of s.bins c) (tick_at s step c)) (range_with_len 0 s.bins)
 
 -- ---- the heading
 
 -- formula
-abbrev pub interval_text : Option ℕ → List ℕ
-interval_text None = codes "no interval"
-interval_text (Some ms) = codes "interval " ++ seconds_text ms ++ codes " s"
+-- the interval and the length of a bin; nothing without an interval
+abbrev pub interval_text : Option ℕ → ℕ → List ℕ
+interval_text None bin_ms = []
+interval_text (Some ms) bin_ms = codes ", interval " ++ seconds_text ms ++ codes " s, column " ++ seconds_text bin_ms ++ codes " s"
 
 -- formula
 -- the span, the interval and the length of a bin
 unfoldable pub svg_span : Scale → List ℕ
 svg_span s =
-    codes "<text x='90' y='52'>" ++ civil_text (reading_of s.first) ++ codes " to " ++ civil_text (reading_of s.last) ++ codes ", "
-    ++ interval_text s.interval ++ codes ", column " ++ seconds_text s.bin_ms ++ codes " s</text>\n"
+    codes "<text x='110' y='72'>" ++ civil_text (reading_of s.first) ++ codes " to " ++ civil_text (reading_of s.last)
+    ++ interval_text s.interval s.bin_ms ++ codes "</text>\n"
 
 -- formula
--- the numbers of records, satellites, slips and missing epochs
-unfoldable pub svg_numbers : ℕ → ℕ → ℕ → ℕ → List ℕ
-svg_numbers records satellites slips missing =
-    number_between (codes "<text x='90' y='70'>records ") records (codes ", satellites ")
-    ++ number_between [] satellites (codes ", slips ") ++ number_between [] slips (codes ", missing epochs ")
-    ++ number_between [] missing (codes "</text>\n")
+-- the numbers of records, satellites, slips, rises and missing epochs
+unfoldable pub svg_numbers : ℕ → ℕ → ℕ → ℕ → ℕ → List ℕ
+svg_numbers records satellites slips rises missing =
+    number_between (codes "<text x='110' y='98'>records ") records (codes ", satellites ")
+    ++ number_between [] satellites (codes ", slips ") ++ number_between [] slips (codes ", rises ")
+    ++ number_between [] rises (codes ", missing epochs ") ++ number_between [] missing (codes "</text>\n")
 
 -- formula
 -- the beginning of a picture so high
 unfoldable pub svg_start : List ℕ → ℕ → List ℕ
 svg_start marker height =
-    number_between (codes "<svg xmlns='http://www.w3.org/2000/svg' viewBox='0 0 1560 ") height (codes "'>\n<title>")
+    number_between (codes "<svg xmlns='http://www.w3.org/2000/svg' viewBox='0 0 1620 ") height (codes "'>\n<title>")
     ++ xml_text marker ++ codes "</title>\n" ++ STYLE.now
-    ++ number_between (codes "<rect class='page' width='1560' height='") height (codes "'/>\n<text class='marker' x='90' y='30'>")
+    ++ number_between (codes "<rect class='page' width='1620' height='") height (codes "'/>\n<text class='marker' x='110' y='42'>")
     ++ xml_text marker ++ codes "</text>\n"
 
 -- formula
 -- the legend, so far from the top
 unfoldable pub svg_legend : ℕ → List ℕ
-svg_legend top = number_between (codes "<g transform='translate(90 ") top (codes ")'>\n") ++ LEGEND.now ++ codes "</g>\n"
+svg_legend top = number_between (codes "<g transform='translate(110 ") top (codes ")'>\n") ++ LEGEND.now ++ codes "</g>\n"
 
 -- ---- the picture
 
 -- formula
 -- how far from the top the bands end
 abbrev pub bands_end : ℕ → ℕ → ℕ
-bands_end listed satellites = 96 + satellites * band_height listed
+bands_end listed satellites = 112 + satellites * band_height listed
 
 -- formula
 -- what stands below the heading
 unfoldable pub svg_body : List Code → Scale → List TimeBin → List Bool → ℕ → List ℕ
 svg_body listed s bins gaps end =
-    ticks_text s (svg_tick_step s) (end + 24) ++ bands_text (drawn_width s) listed bins
-    ++ gaps_band (drawn_width s) end gaps ++ svg_legend (end + 48) ++ codes "</svg>\n"
+    bands_text listed bins ++ gaps_band end gaps ++ satellites_band (end + 26) bins
+    ++ ticks_text s (svg_tick_step s) (end + 72) ++ svg_legend (end + 104) ++ codes "</svg>\n"
 
 -- formula
 -- the picture of a file with records: its marker, its codes, its scale, the numbers of its records,
--- slips and missing epochs, and what its bins show
-unfoldable pub svg_picture : List ℕ → List Code → Scale → ℕ → ℕ → ℕ → List TimeBin → List Bool → List ℕ
-svg_picture marker listed s records slips missing bins gaps =
-    svg_start marker (bands_end (length listed) (satellites_in bins) + 100)
-    ++ svg_span s ++ svg_numbers records (satellites_in bins) slips missing
+-- slips, rises and missing epochs, and what its bins show
+unfoldable pub svg_picture : List ℕ → List Code → Scale → ℕ → ℕ → ℕ → ℕ → List TimeBin → List Bool → List ℕ
+svg_picture marker listed s records slips rises missing bins gaps =
+    svg_start marker (bands_end (length listed) (satellites_in bins) + 230)
+    ++ svg_span s ++ svg_numbers records (satellites_in bins) slips rises missing
     ++ svg_body listed s bins gaps (bands_end (length listed) (satellites_in bins))
 
 -- formula
 -- the picture of a file without records
 unfoldable pub svg_of_none : List ℕ → List ℕ
-svg_of_none marker = svg_start marker 100 ++ codes "<text x='90' y='52'>no records</text>\n</svg>\n"
+svg_of_none marker = svg_start marker 110 ++ codes "<text x='110' y='72'>no records</text>\n</svg>\n"

@@ -1,28 +1,20 @@
 -- A picture in characters (this project's rule).
-use Rattle.std.specs.Prelude.{ℕ, ◌+◌, ◌-◌, ◌*◌, ◌/◌, ◌%◌, nat_le, Bool, true, false, ◌&&◌, List, [], ◌∷◌, ◌++◌, map, flat_map, count_by, codes, decimal, get_or, Option, None, Some, is_some, min, if◌then◌else◌}
+use Rattle.std.specs.Prelude.{ℕ, ◌+◌, ◌-◌, ◌*◌, ◌/◌, ◌%◌, ◌==◌, nat_le, Bool, true, false, ◌&&◌, List, [], ◌∷◌, ◌++◌, map, flat_map, count_by, codes, decimal, Option, None, Some, is_some, min, if◌then◌else◌}
 use Rattle.std.specs.List.{list_any, range_with_len}
-use Rattle.rtk_rinex.specs.Reading.{reading_of}
-use Rattle.rtk_chart.specs.Grid.{tracking_in}
+use Rattle.rtk_obs.specs.declared.code.Code.{Code}
+use Rattle.rtk_obs.specs.Code.{name_of}
 use Rattle.rtk_obs.specs.CivilText.{civil_text}
-use Rattle.rtk_chart.specs.Heading.{seconds_text, interval_line}
-use Rattle.rtk_chart.specs.Ticks.{tick_step, tick_at, tick_label}
+use Rattle.rtk_rinex.specs.Reading.{reading_of}
+use Rattle.rtk_chart.specs.Grid.{tracking_at}
+use Rattle.rtk_chart.specs.Signs.{is_tracked, has_slip, has_rise, has_half, least_level, is_drawn, has_code, is_never, is_missing}
+use Rattle.rtk_chart.specs.Heading.{interval_lines}
+use Rattle.rtk_chart.specs.Ticks.{tick_step, tick_at, tick_label, label_length}
 use Rattle.rtk_chart.specs.declared.scale.Scale.{Scale}
+use Rattle.rtk_chart.specs.declared.text_picture.TheConstants.{SIGNS}
 use Rattle.rtk_chart.specs.declared.tracking.Tracking.{Tracking}
 use Rattle.rtk_chart.specs.declared.time_bin.TimeBin.{TimeBin}
 
 -- ---- a satellite in a bin
-
--- the tracking of the satellite at a place of a bin
-abbrev pub tracking_at : ℕ → TimeBin → Tracking
-tracking_at place bin = get_or bin.satellites place (tracking_in [])
-
--- some phase stands in some epochs of the bin and not in all
-abbrev pub is_partial : Tracking → Bool
-is_partial tracking = list_any (λ l. l.some && l.lacks) tracking.phases
-
--- some phase stands
-abbrev pub is_tracked : Tracking → Bool
-is_tracked tracking = list_any (λ l. l.some) tracking.phases
 
 -- table
 -- the least strength digit, a point for a phase without one, a blank
@@ -31,28 +23,30 @@ strength_mark None tracked = if tracked then 46 else 32
 strength_mark (Some level) tracked = 48 + min level 9
 
 -- table
--- a hyphen for a phase in some of the epochs and not in all, else the strength
-abbrev pub phase_mark : Tracking → ℕ
-phase_mark tracking = if is_partial tracking then 45 else strength_mark tracking.least (is_tracked tracking)
+-- a hyphen where a code is missing that the satellite has elsewhere, else the strength
+abbrev pub phase_mark : (ℕ → Bool) → Tracking → ℕ
+phase_mark has tracking = if is_missing has tracking then 45 else strength_mark (least_level tracking) (is_tracked tracking)
 
 -- table
--- B for a slip and a half cycle, S for a slip, H for a half cycle, else another mark
-abbrev pub lock_mark : Bool → Bool → ℕ → ℕ
-lock_mark true true other = 66
-lock_mark true false other = 83
-lock_mark false true other = 72
-lock_mark false false other = other
+-- B for a slip and a half cycle, S for a slip, H for a half cycle, R for a rise, else another mark
+abbrev pub lock_mark : Bool → Bool → Bool → ℕ → ℕ
+lock_mark true true rise other = 66
+lock_mark true false rise other = 83
+lock_mark false true rise other = 72
+lock_mark false false true other = 82
+lock_mark false false false other = other
 
 -- formula
--- the first of these that a tracking calls for
-abbrev pub character_of : Tracking → ℕ
-character_of tracking = lock_mark tracking.slip tracking.half (phase_mark tracking)
+-- the first of these that a tracking calls for, if a test says which codes the satellite has
+abbrev pub character_of : (ℕ → Bool) → Tracking → ℕ
+character_of has tracking = lock_mark (has_slip tracking) (has_half tracking) (has_rise tracking) (phase_mark has tracking)
 
 -- ---- rows
 
--- the satellite has a row in the file
-unfoldable pub is_drawn : List TimeBin → ℕ → Bool
-is_drawn bins place = list_any (λ bin. (tracking_at place bin).seen) bins
+-- formula
+-- as in G05
+abbrev pub satellite_label : ℕ → List ℕ
+satellite_label satellite = 71 ∷ (48 + satellite / 10) ∷ (48 + satellite % 10) ∷ []
 
 -- formula
 -- as in G05|
@@ -61,7 +55,8 @@ row_head satellite = 71 ∷ (48 + satellite / 10) ∷ (48 + satellite % 10) ∷ 
 
 -- formula
 unfoldable pub satellite_row : List TimeBin → ℕ → List ℕ
-satellite_row bins place = row_head (place + 1) ++ map (λ bin. character_of (tracking_at place bin)) bins ++ codes "|\n"
+satellite_row bins place =
+    row_head (place + 1) ++ map (λ bin. character_of (has_code bins place) (tracking_at place bin)) bins ++ codes "|\n"
 
 abbrev pub row_if_drawn : List TimeBin → ℕ → List ℕ
 row_if_drawn bins place = if is_drawn bins place then satellite_row bins place else []
@@ -96,14 +91,17 @@ unfoldable pub axis_row : Scale → ℕ → List ℕ
 axis_row s step = codes "    " ++ map (λ c. axis_mark (tick_at s step c)) (range_with_len 0 s.bins) ++ 10 ∷ []
 
 -- formula
--- the tick in a bin has a label, if there is room for one
-abbrev pub has_label : Scale → ℕ → ℕ → Bool
-has_label s step c = nat_le (c + 10) s.bins && is_some (tick_at s step c)
+-- the tick in a bin has a label, if it fits into a picture of this width, whose bins begin after four
+-- characters
+abbrev pub has_label : Scale → ℕ → ℕ → ℕ → Bool
+has_label s width step c = nat_le (c + label_length step + 4) width && is_some (tick_at s step c)
 
 -- formula
--- a label in one of the nine bins before ends in this bin or after it
-abbrev pub is_covered : Scale → ℕ → ℕ → Bool
-is_covered s step c = list_any (has_label s step) (range_with_len (c - 9) (min c 9))
+-- a label in one of the bins before, as many as it has characters behind its first, ends in this bin or
+-- after it
+abbrev pub is_covered : Scale → ℕ → ℕ → ℕ → Bool
+is_covered s width step c =
+    list_any (has_label s width step) (range_with_len (c - (label_length step - 1)) (min c (label_length step - 1)))
 
 abbrev pub label_text : ℕ → Option ℕ → List ℕ
 label_text step None = []
@@ -111,13 +109,51 @@ label_text step (Some t) = tick_label step t
 
 -- formula
 -- what a bin gives to the row of labels
-abbrev pub label_part : Scale → ℕ → ℕ → List ℕ
-label_part s step c =
-    if has_label s step c then label_text step (tick_at s step c) else (if is_covered s step c then [] else codes " ")
+abbrev pub label_part : Scale → ℕ → ℕ → ℕ → List ℕ
+label_part s width step c =
+    if has_label s width step c then label_text step (tick_at s step c)
+    else (if is_covered s width step c then [] else codes " ")
 
 -- formula
-unfoldable pub label_row : Scale → ℕ → List ℕ
-label_row s step = codes "    " ++ flat_map (label_part s step) (range_with_len 0 s.bins) ++ 10 ∷ []
+unfoldable pub label_row : Scale → ℕ → ℕ → List ℕ
+label_row s width step = codes "    " ++ flat_map (label_part s width step) (range_with_len 0 s.bins) ++ 10 ∷ []
+
+-- ---- codes that satellites have nowhere
+
+-- formula
+-- how many satellites stand in a line behind a code: each takes four characters, and what is before them nine
+abbrev pub never_in_line : ℕ → ℕ
+never_in_line width = (width - 9) / 4
+
+-- how many satellites before a place have the code at a place nowhere
+unfoldable pub never_before : List TimeBin → ℕ → ℕ → ℕ
+never_before bins at place = count_by (is_never bins at) (range_with_len 0 place)
+
+-- formula
+-- the end of a line, unless none has begun
+abbrev pub line_end : ℕ → List ℕ
+line_end n = if n == 0 then [] else 10 ∷ []
+
+-- formula
+-- what stands before a satellite, as in never 2W: if it is the first of a line, after so many satellites
+abbrev pub never_start : Code → ℕ → ℕ → List ℕ
+never_start code each n = if n % each == 0 then line_end n ++ codes "never " ++ name_of code ++ codes ":" else []
+
+-- formula
+abbrev pub never_part : List TimeBin → Code → ℕ → ℕ → ℕ → List ℕ
+never_part bins code at each place =
+    if is_never bins at place then never_start code each (never_before bins at place) ++ 32 ∷ satellite_label (place + 1) else []
+
+-- formula
+-- the satellites that have the code at a place nowhere, so many in a line
+unfoldable pub never_lines : List TimeBin → ℕ → ℕ → Code → List ℕ
+never_lines bins each at code =
+    flat_map (never_part bins code at each) (range_with_len 0 32) ++ line_end (never_before bins at 32)
+
+-- the codes from a place on
+abbrev pub all_never_lines : List TimeBin → ℕ → ℕ → List Code → List ℕ
+all_never_lines bins each at [] = []
+all_never_lines bins each at (c ∷ cs) = never_lines bins each at c ++ all_never_lines bins each (at + 1) cs
 
 -- ---- the picture
 
@@ -127,9 +163,9 @@ abbrev pub named_count_line : List ℕ → ℕ → List ℕ
 named_count_line words n = words ++ decimal n ++ 10 ∷ []
 
 -- formula
--- words and a moment
+-- words and a moment, as in from 2024-05-17 12:00:00.000 GPS time
 abbrev pub moment_line : List ℕ → ℕ → List ℕ
-moment_line words t = words ++ civil_text (reading_of t) ++ 10 ∷ []
+moment_line words t = words ++ civil_text (reading_of t) ++ codes " GPS time\n"
 
 -- how many satellites before a place are drawn
 unfoldable pub drawn_before : List TimeBin → ℕ → ℕ
@@ -147,21 +183,27 @@ text_heading marker s =
 
 -- formula
 -- the numbers in the heading of a picture
-unfoldable pub number_lines : Scale → ℕ → ℕ → ℕ → ℕ → List ℕ
-number_lines s records satellites slips missing =
-    interval_line s.interval ++ codes "column " ++ seconds_text s.bin_ms ++ 10 ∷ []
+unfoldable pub number_lines : Scale → ℕ → ℕ → ℕ → ℕ → ℕ → List ℕ
+number_lines s records satellites slips rises missing =
+    interval_lines s.interval s.bin_ms
     ++ named_count_line (codes "records ") records ++ named_count_line (codes "satellites ") satellites
-    ++ named_count_line (codes "slips ") slips ++ named_count_line (codes "missing ") missing
+    ++ named_count_line (codes "slips ") slips ++ named_count_line (codes "rises ") rises ++ named_count_line (codes "missing ") missing
 
-unfoldable pub time_rows : Scale → List ℕ
-time_rows s = axis_row s (text_tick_step s) ++ label_row s (text_tick_step s)
+unfoldable pub time_rows : Scale → ℕ → List ℕ
+time_rows s width = axis_row s (text_tick_step s) ++ label_row s width (text_tick_step s)
 
--- the picture of a file with records: its marker, its scale, the numbers of its records, slips and
--- missing epochs, and what its bins show
-unfoldable pub text_picture : List ℕ → Scale → ℕ → ℕ → ℕ → List TimeBin → List Bool → List ℕ
-text_picture marker s records slips missing bins gaps =
-    text_heading marker s ++ number_lines s records (satellites_in bins) slips missing
-    ++ satellite_rows bins ++ gap_row gaps ++ time_rows s
+-- formula
+-- what stands below the heading of a picture of this width: what the bins show, and what the signs mean
+unfoldable pub text_body : List Code → Scale → ℕ → List TimeBin → List Bool → List ℕ
+text_body listed s width bins gaps =
+    satellite_rows bins ++ gap_row gaps ++ time_rows s width ++ all_never_lines bins (never_in_line width) 0 listed ++ SIGNS.now
+
+-- the picture of a file with records: its marker, its codes, its scale, its width, the numbers of its
+-- records, slips, rises and missing epochs, and what its bins show
+unfoldable pub text_picture : List ℕ → List Code → Scale → ℕ → ℕ → ℕ → ℕ → ℕ → List TimeBin → List Bool → List ℕ
+text_picture marker listed s width records slips rises missing bins gaps =
+    text_heading marker s ++ number_lines s records (satellites_in bins) slips rises missing
+    ++ text_body listed s width bins gaps
 
 -- formula
 -- the picture of a file without records

@@ -1,5 +1,5 @@
 -- Ticks along the time of a picture (this project's rule): at whole seconds, minutes, hours or days.
-use Rattle.std.specs.Prelude.{ℕ, ◌+◌, ◌-◌, ◌*◌, ◌/◌, nat_le, nat_lt, List, [], ◌∷◌, ◌++◌, codes, Option, None, Some, unwrap_or, min, if◌then◌else◌}
+use Rattle.std.specs.Prelude.{ℕ, ◌+◌, ◌-◌, ◌*◌, ◌/◌, nat_le, nat_lt, List, [], ◌∷◌, Option, None, Some, unwrap_or, min, if◌then◌else◌}
 use Rattle.std.specs.List.{find}
 use Rattle.rtk_rinex.specs.Reading.{reading_of}
 use Rattle.rtk_obs.specs.CivilText.{date_text, clock_text}
@@ -28,7 +28,11 @@ abbrev pub tick_at : Scale → ℕ → ℕ → Option ℕ
 tick_at s step c = if nat_le (bin_start s c) (last_whole s step c) then Some (last_whole s step c) else None
 
 -- formula
--- what stands at a tick, in 10 characters: its time of day, or its date if ticks are a day apart or
--- more
+-- what stands at a tick: its time of day, or its date if ticks are a day apart or more
 unfoldable pub tick_label : ℕ → ℕ → List ℕ
-tick_label step t = if nat_lt step 86_400_000 then clock_text (reading_of t) ++ codes "  " else date_text (reading_of t)
+tick_label step t = if nat_lt step 86_400_000 then clock_text (reading_of t) else date_text (reading_of t)
+
+-- formula
+-- how many characters that has: as 12:00:00, or as 2024-05-17
+abbrev pub label_length : ℕ → ℕ
+label_length step = if nat_lt step 86_400_000 then 8 else 10

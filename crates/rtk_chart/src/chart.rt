@@ -14,8 +14,9 @@ use std::alloc::{AllocError, Global};
 // How many characters of a row are no bins: three of the label, and two bars, as in G05|5555|.
 const FRAME: u16 = 5;
 
-/// The picture of a table in characters: a heading, and a row for each satellite, with a character for
-/// each bin of time. Rows are at most so many characters wide.
+/// The picture of a table in characters: a heading, a row for each satellite, with a character for each
+/// bin of time, the codes that satellites have nowhere, and what the signs mean. Rows are at most so many
+/// characters wide.
 pub fn chart_text(alloc: Global, table: &Table<'_>, width: u16) -> Result<Vec<u8>, AllocError>
     requires { IsInRange 40 400 width }
     // Fails only if memory is refused: tests/system/calls, row chart_text.
@@ -24,19 +25,20 @@ pub fn chart_text(alloc: Global, table: &Table<'_>, width: u16) -> Result<Vec<u8
     let heading = table.heading();
     let survey = survey_records(alloc, table, heading.first)?;
     let marker = heading.head.marker();
-    let Some(last) = survey.last else {
+    let codes = heading.head.codes();
+    let Some(last) = survey.steps.last() else {
         let text = text_of_none(alloc, marker)?;
         return Ok(text);
     };
     let interval = survey.steps.interval();
     let scale = Scale::new(heading.first, last, interval, u64::from(width - FRAME));
     let grid = fill_grid(alloc, table, &scale, heading.first)?;
-    let text = text_picture(alloc, marker, &scale, &survey, &grid)?;
+    let text = text_picture(alloc, marker, codes, &scale, width, &survey, &grid)?;
     Ok(text)
 }
 
-/// The picture of a table in SVG: a band for each satellite, and in it a row for slips, for half
-/// cycles, for each code and for the least strength, in 1440 bins of time at most.
+/// The picture of a table in SVG: a band for each satellite, and in it a bar for each code with its least
+/// strength, slips, rises and half cycles, in 1440 bins of time at most.
 pub fn chart_svg(alloc: Global, table: &Table<'_>) -> Result<Vec<u8>, AllocError>
     // Fails only if memory is refused: tests/system/calls, row chart_svg.
     ensures { IfOk result (λ svg. ShowsTableInSvg table.now.text svg.items) }
@@ -45,7 +47,7 @@ pub fn chart_svg(alloc: Global, table: &Table<'_>) -> Result<Vec<u8>, AllocError
     let survey = survey_records(alloc, table, heading.first)?;
     let marker = heading.head.marker();
     let codes = heading.head.codes();
-    let Some(last) = survey.last else {
+    let Some(last) = survey.steps.last() else {
         let svg = svg_of_none(alloc, marker)?;
         return Ok(svg);
     };

@@ -1,17 +1,20 @@
 //! The bins of a picture with what their epochs call for.
 
-ghost use Rattle.std.specs.Prelude.{◌≡◌, ◌&&◌, nat_le, Some, List, [], ◌∷◌, length, IfOk};
+ghost use Rattle.std.specs.Prelude.{◌≡◌, ◌<◌, ◌&&◌, nat_le, ℕ, Some, List, [], ◌∷◌, length, get_or, IfOk};
 ghost use Rattle.rtk_rinex.specs.Reading.{IsMoment};
 ghost use Rattle.rtk_rinex.specs.Record.{EpochTableView};
-ghost use Rattle.rtk_chart.specs.Interval.{missing_before};
+ghost use Rattle.rtk_tracking.specs.Interval.{missing_before};
 ghost use Rattle.rtk_chart.specs.Scale.{IsScale};
+ghost use Rattle.rtk_tracking.specs.Passes.{longest_gap};
 ghost use Rattle.rtk_chart.specs.Grid.{bins_of, has_missing_before};
-ghost use Rattle.rtk_chart.specs.Steps.Standing.{AddsMarks, CountsMissing, StandsForGrid};
+ghost use Rattle.rtk_chart.specs.Steps.Standing.{AddsMarks, CountsMissing, StandForPasses, StandsForGrid};
+ghost use Rattle.rtk_chart.specs.Steps.Shown.{bin_of};
 
 use crate::scale::Scale;
 use crate::time_bin::TimeBin;
 use rtk_obs::GpsMs;
 use rtk_rinex::EpochTable;
+use rtk_tracking::{Pass, longest_gap_ms, missing_between, observed_in};
 use std::alloc::{AllocError, Global};
 
 /// The bins with what was read, and the epochs that are missing.
@@ -21,8 +24,12 @@ pub(crate) struct Grid {
     /// Whether an epoch is missing in each bin.
     pub(crate) gaps: Vec<bool>,
     pub(crate) missing: u64,
+    pub(crate) slips: u64,
+    pub(crate) rises: u64,
     /// The moment of the record that was read last.
     pub(crate) last: Option<GpsMs>,
+    /// The satellites 1 to 32.
+    pub(crate) passes: [Pass; 32],
 }
 
 // Marks the bins from one to another, both with it.
@@ -34,14 +41,6 @@ fn mark(gaps: &mut Vec<bool>, from: u64, to: u64)
             gaps[bin] = true;
         }
     }
-}
-
-// How many epochs are missing between two moments.
-fn missing_between(scale: &Scale, before: u64, moment: u64) -> u64
-    requires { IsScale scale.now }
-    ensures { result ≡ missing_before scale.now.unit (Some before) moment }
-{
-    moment.saturating_sub(before).saturating_sub(1) / scale.unit
 }
 
 // Marks the bins of the epochs that are missing between two moments, which are so many.
@@ -59,16 +58,32 @@ fn mark_missing(gaps: &mut Vec<bool>, scale: &Scale, before: u64, moment: u64, m
     }
 }
 
-// Notes an epoch in its bin.
-fn note_in_bin(bins: &mut Vec<TimeBin>, scale: &Scale, epoch: &EpochTable)
-    requires { IsScale scale.now }
+// Adds what an epoch calls for to the bin of its moment.
+fn note_in_bin(bins: &mut Vec<TimeBin>, scale: &Scale, moment: u64, called: &TimeBin)
+    requires good { IsScale scale.now }
+    requires moment { IsMoment moment }
     ensures size { length bins.new.items ≡ length bins.old.items }
-    ensures noted { (es : List EpochTableView) → bins.old.items ≡ bins_of scale.now es
-        → bins.new.items ≡ bins_of scale.now (epoch.now ∷ es) }
+    ensures noted { (e : EpochTableView) (es : List EpochTableView) → moment ≡ e.time
+        → called.now ≡ bin_of (longest_gap scale.now.interval) es e
+        → bins.old.items ≡ bins_of scale.now es → bins.new.items ≡ bins_of scale.now (e ∷ es) }
 {
-    let place = scale.bin_at(epoch.time().ms()) as usize;
+    let place = scale.bin_at(moment) as usize;
     if place < bins.len() {
-        bins[place].note_epoch(epoch);
+        bins[place].add(called);
+    }
+}
+
+// Notes an epoch in the pass of each satellite.
+fn note_passes(passes: &mut [Pass; 32], gap_ms: u64, epoch: &EpochTable)
+    ensures { (es : List EpochTableView) → StandForPasses passes.old gap_ms es
+        → StandForPasses passes.new gap_ms (epoch.now ∷ es) }
+{
+    let rows = epoch.rows();
+    let time_ms = epoch.time().ms();
+    for place in 0u8..32 {
+        let mut pass = passes[usize::from(place)];
+        pass.note(gap_ms, time_ms, observed_in(rows, place + 1));
+        passes[usize::from(place)] = pass;
     }
 }
 
@@ -83,7 +98,10 @@ impl Grid {
             bins: vec![in alloc; TimeBin::new(); scale.bins as usize]?,
             gaps: vec![in alloc; false; scale.bins as usize]?,
             missing: 0,
+            slips: 0,
+            rises: 0,
             last: None,
+            passes: [Pass::new(); 32],
         })
     }
 
@@ -91,18 +109,22 @@ impl Grid {
     fn count_missing(&mut self, scale: &Scale, epoch: &EpochTable)
         requires { IsScale scale.now }
         ensures bins { self.new.bins ≡ self.old.bins }
+        ensures passes { self.new.passes ≡ self.old.passes }
+        ensures slips { self.new.slips ≡ self.old.slips }
+        ensures rises { self.new.rises ≡ self.old.rises }
         ensures size { length self.new.gaps.items ≡ length self.old.gaps.items }
         ensures missing { CountsMissing self.old self.new scale.now epoch.now }
     {
         let moment = epoch.time();
         if let Some(last) = self.last {
-            let missing = missing_between(scale, last.ms(), moment.ms());
+            let missing = missing_between(scale.unit, last.ms(), moment.ms());
             self.missing = self.missing.saturating_add(missing);
             mark_missing(&mut self.gaps, scale, last.ms(), moment.ms(), missing);
         }
     }
 
-    /// Notes one more record in its bin, and the epochs that are missing before it.
+    /// Notes one more record: its marks in its bin, its slips and rises, the passes of its satellites, and
+    /// the epochs that are missing before it.
     pub(crate) fn place_record(&mut self, scale: &Scale, epoch: &EpochTable)
         requires { IsScale scale.now }
         ensures bins { length self.new.bins.items ≡ length self.old.bins.items }
@@ -110,8 +132,13 @@ impl Grid {
         ensures grid { (es : List EpochTableView) → StandsForGrid self.old scale.now es
             → StandsForGrid self.new scale.now (epoch.now ∷ es) }
     {
+        let gap_ms = longest_gap_ms(scale.interval);
+        let called = TimeBin::of(&self.passes, gap_ms, epoch);
         self.count_missing(scale, epoch);
-        note_in_bin(&mut self.bins, scale, epoch);
+        self.slips = self.slips.saturating_add(called.slips());
+        self.rises = self.rises.saturating_add(called.rises());
+        note_in_bin(&mut self.bins, scale, epoch.time().ms(), &called);
+        note_passes(&mut self.passes, gap_ms, epoch);
         self.last = Some(epoch.time());
     }
 }

@@ -1,8 +1,8 @@
 //! Laws of the definitions of a picture: how long and how wide a bin is, what it shows of its
 //! epochs, where epochs are missing, and what a heading tells.
 
-ghost use Rattle.rtk_chart.specs.Laws.{BinsAreFew, ShorterBinsAreTooMany, ScalesFillRoom, RowsHaveAllBins, BinsFillBands, MissingMarksAreEpochs};
-ghost use Rattle.rtk_chart.specs.MarkLaws.{SatellitesShowEpochs, GapsAreMissing, IntervalIsMostFrequent, MissingAreOfSteps, SlipsAreDigits};
+ghost use Rattle.rtk_chart.specs.Laws.{BinsAreFew, ShorterBinsAreTooMany, ScalesFillRoom, RowsHaveAllBins, ColumnsFillWidth, MissingMarksAreEpochs};
+ghost use Rattle.rtk_chart.specs.MarkLaws.{CodesShowEpochs, SatellitesShowEpochs, CodesAreOfEpochs, GapsAreMissing, IntervalIsMostFrequent, MissingAreOfSteps, SlipsAndRisesAreDigits};
 ghost use Rattle.rtk_chart.specs.HeadingLaws.{TablesHaveNumbers, TextHasHeading, EqualTextHeadings, SvgHasHeading, EqualSvgHeadings};
 
 use rtk_rinex::one_reading;
@@ -15,12 +15,12 @@ pub fn bins_are_least()
 {}
 
 /// The bins of a picture fill its room. They are as short as leaves room, and each record has its
-/// bin. In characters, a row has one character for each bin. In SVG, a bin is as wide as leaves room
-/// for all.
+/// bin. In characters, a row has one character for each bin. In SVG, the
+/// columns of the bins fill the width.
 pub fn bins_fill_room()
     ensures scale { ScalesFillRoom }
     ensures rows { RowsHaveAllBins }
-    ensures bands { BinsFillBands }
+    ensures bands { ColumnsFillWidth }
 {}
 
 /// A bin has a mark between two records exactly if an epoch is missing in it: one a whole number of
@@ -29,19 +29,22 @@ pub fn missing_marks_are_epochs()
     ensures { MissingMarksAreEpochs }
 {}
 
-/// A bin shows of a satellite what the epochs in it have, however many they are, and has the mark
-/// of missing epochs exactly if one is missing in it.
+/// A bin has of each code of each satellite the marks that the epochs in it call for, however many they
+/// are, and no others. A satellite has a code in some bin exactly if it has its phase in some epoch. A bin
+/// has the mark of missing epochs exactly if one is missing in it.
 pub fn marks_are_of_epochs()
+    ensures marks { CodesShowEpochs }
     ensures satellites { SatellitesShowEpochs }
+    ensures codes { CodesAreOfEpochs }
     ensures gaps { GapsAreMissing }
 {}
 
 /// The interval is the step that came most often, and of two alike the lesser one. Missing epochs are
-/// counted step by step, and slips digit by digit.
+/// counted step by step, and slips and rises digit by digit: each digit with bit 0 is one of the two.
 pub fn counts_are_of_epochs()
     ensures interval { IntervalIsMostFrequent }
     ensures missing { MissingAreOfSteps }
-    ensures slips { SlipsAreDigits }
+    ensures slips { SlipsAndRisesAreDigits }
 {}
 
 /// A file with records has its numbers at the scale of each of its pictures: each record has its bin,
@@ -51,8 +54,8 @@ pub fn files_have_numbers()
 {}
 
 /// A picture in characters begins with its heading. Two files with equal headings have the same marker
-/// and the same numbers, up to 2^64: first and last moment, interval, length of a bin, records,
-/// satellites, slips and missing epochs.
+/// and the same numbers, up to 2^64: first and last moment, interval and length of a bin if there is an
+/// interval, records, satellites, slips, rises and missing epochs.
 pub fn text_headings_tell_numbers()
     ensures stands { TextHasHeading }
     ensures equal { EqualTextHeadings }

@@ -1,82 +1,61 @@
-//! The layers of a band.
+//! The layers of a code's bar.
 
-ghost use Rattle.std.specs.Prelude.{◌≡◌, ◌<◌, ◌++◌, Bool, map, IfOk};
-ghost use Rattle.rtk_chart.specs.TextPicture.{tracking_at};
-ghost use Rattle.rtk_chart.specs.Layers.{shows, coverage_at, is_level};
+ghost use Rattle.std.specs.Prelude.{◌≡◌, ◌<◌, ◌++◌, map, IfOk};
+ghost use Rattle.rtk_chart.specs.Grid.{tracking_at, marks_at};
+ghost use Rattle.rtk_chart.specs.Layers.{shows};
 
+use crate::code_marks::CodeMarks;
+use crate::signs::marks_at;
 use crate::time_bin::TimeBin;
-use crate::tracking::{Coverage, Tracking};
 use std::alloc::{AllocError, Global};
 
-/// What of a satellite's tracking is drawn.
+/// What of a code's marks is drawn.
 #[derive(Clone, Copy)]
 pub(crate) enum Layer {
-    /// The phase of the code at this place stands in all epochs of the bin.
-    Whole { code: usize },
-    /// The phase of the code at this place stands in some epochs and not in all.
-    Part { code: usize },
-    /// The least strength digit.
+    /// The phase.
+    Phase,
+    /// The phase, with this least strength digit, 0 for none.
     Level { level: u8 },
-    /// A slip.
+    /// The phase is missing in some epochs of the bin, which may be all.
+    Missing,
+    /// The phase is missing in some epochs, and not in all.
+    Part,
+    /// The phase is missing in all epochs.
+    Absent,
     Slip,
-    /// A half cycle.
+    Rise,
     Half,
 }
 
-// The place is the place of a code; in `flags` it is the place of a satellite.
-fn coverage_at(tracking: &Tracking, place: usize) -> Coverage
-    ensures { result ≡ coverage_at place tracking.now }
-{
-    if place < 16 {
-        tracking.phases[place]
-    } else {
-        Coverage {
-            some: false,
-            lacks: false,
-        }
-    }
-}
-
-fn is_level(level: u8, least: Option<u8>) -> bool
-    ensures { result ≡ is_level level least }
-{
-    match least {
-        Some(least) => least == level,
-        None => false,
-    }
-}
-
-fn shows(layer: Layer, tracking: &Tracking) -> bool
-    ensures { result ≡ shows layer tracking.now }
+fn shows(layer: Layer, marks: CodeMarks) -> bool
+    ensures { result ≡ shows layer marks }
 {
     match layer {
-        Layer::Whole { code } => {
-            let coverage = coverage_at(tracking, code);
-            coverage.some && !coverage.lacks
-        }
-        Layer::Part { code } => {
-            let coverage = coverage_at(tracking, code);
-            coverage.some && coverage.lacks
-        }
-        Layer::Level { level } => is_level(level, tracking.least),
-        Layer::Slip => tracking.slip,
-        Layer::Half => tracking.half,
+        Layer::Phase => marks.phase,
+        Layer::Level { level } => marks.phase && marks.least.unwrap_or(0) == level,
+        Layer::Missing => marks.missing,
+        Layer::Part => marks.phase && marks.missing,
+        Layer::Absent => marks.missing && !marks.phase,
+        Layer::Slip => marks.slip,
+        Layer::Rise => marks.rise,
+        Layer::Half => marks.half,
     }
 }
 
-/// Which bins have a layer of the satellite at this place.
+/// In which bins a layer of the code at one place of the satellite at another is drawn.
 pub(crate) fn flags(
     alloc: Global,
     bins: &[TimeBin],
     place: usize,
+    code: usize,
     layer: Layer,
 ) -> Result<Vec<bool>, AllocError>
     requires { place < 32 }
-    ensures { IfOk result (λ flags. flags.items ≡ map (λ bin. shows layer (tracking_at place bin)) bins.now) }
+    ensures { IfOk result (λ flags. flags.items ≡ map (λ bin. shows layer (marks_at code (tracking_at place bin))) bins.now) }
 {
     let mut flags = Vec::new(alloc);
     for bin in bins {
-        flags.push(shows(layer, &bin.satellites[place]))?;
+        flags.push(shows(layer, marks_at(&bin.satellites[place], code)))?;
     }
     Ok(flags)
 }

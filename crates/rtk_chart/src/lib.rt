@@ -1,5 +1,5 @@
-//! A picture of an observation file: its satellites in bands along its time, with each slip, half
-//! cycle, missing phase and missing epoch. Its time is divided into bins, and each bin is drawn as a
+//! A picture of an observation file: its satellites in bands along its time, with each slip, rise, half
+//! cycle, missing code and missing epoch. Its time is divided into bins, and each bin is drawn as a
 //! column.
 //!
 //! Its tests: tests/values/src/chart.rt.in and chart/.
@@ -33,20 +33,26 @@
 #![tactic(auto)]
 
 mod chart;
+mod code_marks;
 mod grid;
 mod laws;
 mod layer;
+mod never;
 mod observations;
 mod passes;
 mod scale;
-mod steps;
+mod signs;
 mod survey;
+mod svg_axis;
 mod svg_bands;
+mod svg_codes;
 mod svg_layers;
 mod svg_path;
 mod svg_picture;
+mod svg_steps;
 mod svg_text;
 mod text_picture;
+mod text_time;
 mod ticks;
 mod time_bin;
 mod time_text;

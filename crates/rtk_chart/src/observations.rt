@@ -1,21 +1,10 @@
 //! What an epoch shows of a satellite.
 
-ghost use Rattle.std.specs.Prelude.{◌≡◌, ◌+◌, ℕ, count_by};
-ghost use Rattle.rtk_chart.specs.Epochs.{observed_in, shows_phase, is_seen, has_slip, has_half, lesser, least_level, level_of, slips_of, capped};
+ghost use Rattle.std.specs.Prelude.{◌≡◌};
+ghost use Rattle.rtk_tracking.specs.Passes.{has_phase};
+ghost use Rattle.rtk_chart.specs.Epochs.{is_seen, shown_at, lesser, level_of};
 
-use rtk_rinex::{Observed, SatelliteRow};
-
-/// What the codes of a satellite show, by the rows of an epoch; nothing if it has no row.
-pub(crate) fn observed_in(rows: &[SatelliteRow], satellite: u8) -> &[Observed]
-    ensures { result.now ≡ observed_in satellite rows.now }
-{
-    for row in rows {
-        if row.satellite == satellite {
-            return row.observed.as_slice();
-        }
-    }
-    &[]
-}
+use rtk_rinex::Observed;
 
 /// The satellite has a row.
 pub(crate) fn is_seen(observed: &[Observed]) -> bool
@@ -24,30 +13,23 @@ pub(crate) fn is_seen(observed: &[Observed]) -> bool
     !observed.is_empty()
 }
 
-/// The phase of the code at this place stands.
-pub(crate) fn shows_phase(observed: &[Observed], place: usize) -> bool
-    ensures { result ≡ shows_phase place observed.now }
+/// The satellite has a phase.
+pub(crate) fn has_phase(observed: &[Observed]) -> bool
+    ensures { result ≡ has_phase observed.now }
 {
-    place < observed.len() && observed[place].phase_millicycles.is_some()
+    observed.iter().any(|o| o.phase_millicycles.is_some())
 }
 
-/// A phase has slipped.
-pub(crate) fn has_slip(observed: &[Observed]) -> bool
-    ensures { result ≡ has_slip observed.now }
+/// What the code at this place shows.
+pub(crate) fn shown_at(observed: &[Observed], code: usize) -> Observed
+    ensures { result ≡ shown_at code observed.now }
 {
-    observed.iter().any(|o| o.slip)
+    observed.get(code).copied().unwrap_or_default()
 }
 
-/// A phase has an open half-cycle ambiguity.
-pub(crate) fn has_half(observed: &[Observed]) -> bool
-    ensures { result ≡ has_half observed.now }
-{
-    observed.iter().any(|o| o.half)
-}
-
-// The signal strength digit of a strength, which `digit_of_strength` in record_text.rt of rtk_rinex
-// writes.
-fn level_of(strength_millidbhz: Option<u32>) -> Option<u8>
+/// The signal strength digit of a strength, which `digit_of_strength` in record_text.rt of rtk_rinex
+/// writes.
+pub(crate) fn level_of(strength_millidbhz: Option<u32>) -> Option<u8>
     ensures { result ≡ level_of strength_millidbhz }
 {
     match strength_millidbhz {
@@ -65,33 +47,4 @@ pub(crate) fn lesser(one: Option<u8>, other: Option<u8>) -> Option<u8>
         (Some(one), None) => Some(one),
         (None, other) => other,
     }
-}
-
-/// The least strength digit.
-pub(crate) fn least_level(observed: &[Observed]) -> Option<u8>
-    ensures { result ≡ least_level observed.now }
-{
-    let mut least = None;
-    for shown in observed {
-        least = lesser(least, level_of(shown.strength_millidbhz));
-    }
-    least
-}
-
-// How many phases of a row have slipped.
-fn slips_of_row(observed: &[Observed]) -> usize
-    ensures { result ≡ count_by (λ o. o.slip) observed.now }
-{
-    observed.iter().filter(|o| o.slip).count()
-}
-
-/// A count of slips and those of the rows of an epoch.
-pub(crate) fn with_slips(slips: u64, rows: &[SatelliteRow]) -> u64
-    ensures { (before : ℕ) → slips ≡ capped before → result ≡ capped (before + slips_of rows.now) }
-{
-    let mut slips = slips;
-    for row in rows {
-        slips = slips.saturating_add(slips_of_row(row.observed.as_slice()) as u64);
-    }
-    slips
 }

@@ -1,7 +1,7 @@
 //! Two passes over the records of a table, from the first to the last.
 //!
-//! The first pass finds their number, steps and slips, which give the bins. The second one notes each
-//! record in its bin.
+//! The first pass finds their number and steps, which give the bins. The second one notes each record in
+//! its bin.
 
 ghost use Rattle.std.specs.Prelude.{◌≡◌, length, IfOk};
 ghost use Rattle.rtk_chart.specs.Scale.{IsScale};

@@ -1,6 +1,6 @@
 //! The time bins of a picture. A bin is a whole number of intervals long.
 
-ghost use Rattle.std.specs.Prelude.{◌≡◌, ◌≤◌, ◌<◌, ℕ};
+ghost use Rattle.std.specs.Prelude.{◌≡◌, ◌≤◌, ◌<◌, ◌^◌, ℕ};
 ghost use Rattle.std.specs.Int.{IsInRange};
 ghost use Rattle.rtk_chart.specs.Scale.{scale_of, IsScale, bin_at, bin_start, unit_of};
 
@@ -43,23 +43,25 @@ impl Scale {
     {
         let unit = unit_of(interval);
         let span = last.ms().saturating_sub(first.ms());
-        let bin_ms = (span / (allowed * unit) + 1) * unit;
+        let reach = span + (unit - 1) / 2;
+        let bin_ms = (reach / (allowed * unit) + 1) * unit;
         Scale {
             first,
             last,
             interval,
             unit,
             bin_ms,
-            bins: span / bin_ms + 1,
+            bins: reach / bin_ms + 1,
         }
     }
 
-    /// The bin of a moment.
+    /// The bin of a moment: an epoch goes to the bin of the nearest interval.
     pub(crate) fn bin_at(&self, moment: u64) -> u64
-        requires { IsScale self.now }
+        requires good { IsScale self.now }
+        requires moment { moment < 2 ^ 62 }
         ensures { result ≡ bin_at self.now moment }
     {
-        moment.saturating_sub(self.first.ms()) / self.bin_ms
+        (moment.saturating_sub(self.first.ms()) + (self.unit - 1) / 2) / self.bin_ms
     }
 
     /// The moment at which a bin begins.
@@ -69,6 +71,6 @@ impl Scale {
         ensures value { result ≡ bin_start self.now bin }
         ensures bound { result ≤ 3_818_015_999_999 }
     {
-        self.first.ms() + bin * self.bin_ms
+        (self.first.ms() + bin * self.bin_ms).saturating_sub((self.unit - 1) / 2)
     }
 }

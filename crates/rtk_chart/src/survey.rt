@@ -1,23 +1,18 @@
-//! A first look at the records of a file: how many, their steps, and their slips.
+//! A first look at the records of a file: how many, and the steps between them.
 
 ghost use Rattle.std.specs.Prelude.{◌≡◌, List, [], ◌∷◌, OnOk};
 ghost use Rattle.rtk_rinex.specs.Record.{EpochTableView};
 ghost use Rattle.rtk_chart.specs.Steps.Standing.{StandsForSurvey};
 
-use crate::observations::with_slips;
-use crate::steps::Steps;
-use rtk_obs::GpsMs;
 use rtk_rinex::EpochTable;
+use rtk_tracking::StepCounts;
 use std::alloc::{AllocError, Global};
 
 /// What is known of the records that were looked at.
 #[derive(Drop)]
 pub(crate) struct Survey {
     pub(crate) records: u64,
-    pub(crate) slips: u64,
-    /// The moment of the last one.
-    pub(crate) last: Option<GpsMs>,
-    pub(crate) steps: Steps,
+    pub(crate) steps: StepCounts,
 }
 
 impl Survey {
@@ -27,9 +22,7 @@ impl Survey {
     {
         Survey {
             records: 0,
-            slips: 0,
-            last: None,
-            steps: Steps::new(alloc),
+            steps: StepCounts::new(alloc),
         }
     }
 
@@ -37,13 +30,8 @@ impl Survey {
     pub(crate) fn count_record(&mut self, epoch: &EpochTable) -> Result<(), AllocError>
         ensures { OnOk result ((es : List EpochTableView) → StandsForSurvey self.old es → StandsForSurvey self.new (epoch.now ∷ es)) }
     {
-        let time = epoch.time();
-        if let Some(last) = self.last {
-            self.steps.add_step(time.ms().saturating_sub(last.ms()))?;
-        }
+        self.steps.note_epoch(epoch)?;
         self.records = self.records.saturating_add(1);
-        self.slips = with_slips(self.slips, epoch.rows());
-        self.last = Some(time);
         Ok(())
     }
 }

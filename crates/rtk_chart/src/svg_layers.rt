@@ -1,131 +1,173 @@
-//! The layers of a satellite in an SVG picture.
+//! The bar of a code of a satellite in an SVG picture: its strength, where it is missing, and its marks.
 
-ghost use Rattle.std.specs.Prelude.{◌≡◌, ◌≤◌, ◌<◌, ◌*◌, ◌++◌, length, IfOk, OnOk};
-ghost use Rattle.rtk_chart.specs.SvgPicture.{layer_flags, path_start, runs_layer, strokes_path, code_layers, codes_layers, level_layers, count_of_flags};
+ghost use Rattle.std.specs.Prelude.{◌≡◌, ◌≤◌, ◌<◌, ◌++◌, length, count_by, IfOk, OnOk};
+ghost use Rattle.std.specs.List.{list_any};
+ghost use Rattle.rtk_chart.specs.SvgPicture.{columns_of, path_start, runs_path, runs_layer, marks_path, marks_layer, level_paths, missing_paths, lock_paths};
 
 use crate::layer::{Layer, flags};
-use crate::svg_path::{put_runs, put_strokes};
-use crate::svg_text::put_between;
+use crate::svg_path::{put_marks, put_runs};
 use crate::time_bin::TimeBin;
-use rtk_obs::Code;
 use std::alloc::{AllocError, Global};
 
-fn put_path_start(text: &mut Vec<u8>, class: &[u8], top: u64) -> Result<(), AllocError>
-    ensures { OnOk result (text.new.items ≡ text.old.items ++ path_start class.now top) }
+fn is_any(flags: &[bool]) -> bool
+    ensures { result ≡ list_any (λ b. b) flags.now }
+{
+    flags.iter().any(|flag| *flag)
+}
+
+// How many bins are flagged.
+fn count_of(flags: &[bool]) -> u64
+    ensures { result ≡ count_by (λ b. b) flags.now }
+{
+    flags.iter().filter(|flag| **flag).count() as u64
+}
+
+/// In how many bins a layer of a code of a satellite is drawn.
+pub(crate) fn columns_of(
+    alloc: Global,
+    bins: &[TimeBin],
+    place: usize,
+    code: usize,
+    layer: Layer,
+) -> Result<u64, AllocError>
+    requires { place < 32 }
+    ensures { IfOk result (λ count. count ≡ columns_of bins.now place code layer) }
+{
+    let flags = flags(alloc, bins, place, code, layer)?;
+    Ok(count_of(flags.as_slice()))
+}
+
+fn put_path_start(text: &mut Vec<u8>, class: &[u8]) -> Result<(), AllocError>
+    ensures { OnOk result (text.new.items ≡ text.old.items ++ path_start class.now) }
 {
     text.extend_from_slice(b"<path class='")?;
     text.extend_from_slice(class)?;
-    put_between(text, b"' transform='translate(0 ", top, b")' d='")
-}
-
-// Appends a layer as lines over its bins.
-fn put_runs_layer(
-    alloc: Global,
-    text: &mut Vec<u8>,
-    bin_width: u64,
-    bins: &[TimeBin],
-    place: usize,
-    layer: Layer,
-    class: &[u8],
-    top: u64,
-) -> Result<(), AllocError>
-    requires place { place < 32 }
-    requires bin_width { length bins.now * bin_width ≤ 1440 }
-    ensures { OnOk result (text.new.items ≡ text.old.items ++ runs_layer bin_width bins.now place layer class.now top) }
-{
-    let flags = flags(alloc, bins, place, layer)?;
-    put_path_start(text, class, top)?;
-    put_runs(text, bin_width, flags.as_slice())?;
-    text.extend_from_slice(b"'/>\n")?;
+    text.extend_from_slice(b"' d='")?;
     Ok(())
 }
 
-/// Appends a path of strokes in the bins that are flagged.
-pub(crate) fn put_strokes_path(
+// Appends a path of forms over the bins that are flagged.
+fn put_runs_path(
     text: &mut Vec<u8>,
-    bin_width: u64,
+    class: &[u8],
+    begin: &[u8],
+    end: &[u8],
     flags: &[bool],
-    class: &[u8],
-    top: u64,
 ) -> Result<(), AllocError>
-    requires { length flags.now * bin_width ≤ 1440 }
-    ensures { OnOk result (text.new.items ≡ text.old.items ++ strokes_path bin_width flags.now class.now top) }
+    requires { length flags.now ≤ 1440 }
+    ensures { OnOk result (text.new.items ≡ text.old.items ++ runs_path class.now begin.now end.now flags.now) }
 {
-    put_path_start(text, class, top)?;
-    put_strokes(text, bin_width, flags)?;
+    put_path_start(text, class)?;
+    put_runs(text, begin, end, flags)?;
     text.extend_from_slice(b"'/>\n")?;
     Ok(())
 }
 
-fn put_code(
-    alloc: Global,
+/// Appends a path of forms over the bins that are flagged, if there are any.
+pub(crate) fn put_runs_layer(
     text: &mut Vec<u8>,
-    bin_width: u64,
-    bins: &[TimeBin],
-    place: usize,
-    at: usize,
-    code: Code,
+    class: &[u8],
+    begin: &[u8],
+    end: &[u8],
+    flags: &[bool],
 ) -> Result<(), AllocError>
-    requires place { place < 32 }
-    requires bin_width { length bins.now * bin_width ≤ 1440 }
-    requires few { at < 16 }
-    ensures { OnOk result (text.new.items ≡ text.old.items ++ code_layers bin_width bins.now place at code) }
+    requires { length flags.now ≤ 1440 }
+    ensures { OnOk result (text.new.items ≡ text.old.items ++ runs_layer class.now begin.now end.now flags.now) }
 {
-    let line = 8 * at as u64;
-    put_between(text, b"<text class='code' x='-4' y='", line + 25, b"'>")?;
-    text.extend_from_slice(&code.name())?;
-    text.extend_from_slice(b"</text>\n")?;
-    let whole = Layer::Whole { code: at };
-    put_runs_layer(alloc, text, bin_width, bins, place, whole, b"w", line + 22)?;
-    let part = flags(alloc, bins, place, Layer::Part { code: at })?;
-    put_strokes_path(text, bin_width, part.as_slice(), b"p", line + 19)?;
-    Ok(())
-}
-
-/// Appends the layers of the codes.
-pub(crate) fn put_codes(
-    alloc: Global,
-    text: &mut Vec<u8>,
-    bin_width: u64,
-    bins: &[TimeBin],
-    place: usize,
-    codes: &[Code],
-) -> Result<(), AllocError>
-    requires place { place < 32 }
-    requires bin_width { length bins.now * bin_width ≤ 1440 }
-    requires few { length codes.now ≤ 16 }
-    ensures { OnOk result (text.new.items ≡ text.old.items ++ codes_layers bin_width bins.now place 0 codes.now) }
-{
-    for (at, code) in codes.iter().enumerate() {
-        put_code(alloc, text, bin_width, bins, place, at, *code)?;
+    if is_any(flags) {
+        put_runs_path(text, class, begin, end, flags)?;
     }
     Ok(())
 }
 
-/// Appends the layers of the strength digits.
+// Appends a path of a form in the bins that are flagged.
+fn put_marks_path(
+    text: &mut Vec<u8>,
+    class: &[u8],
+    form: &[u8],
+    flags: &[bool],
+) -> Result<(), AllocError>
+    requires { length flags.now ≤ 1440 }
+    ensures { OnOk result (text.new.items ≡ text.old.items ++ marks_path class.now form.now flags.now) }
+{
+    put_path_start(text, class)?;
+    put_marks(text, form, flags)?;
+    text.extend_from_slice(b"'/>\n")?;
+    Ok(())
+}
+
+// Appends a path of a form in the bins that are flagged, if there are any.
+fn put_marks_layer(
+    text: &mut Vec<u8>,
+    class: &[u8],
+    form: &[u8],
+    flags: &[bool],
+) -> Result<(), AllocError>
+    requires { length flags.now ≤ 1440 }
+    ensures { OnOk result (text.new.items ≡ text.old.items ++ marks_layer class.now form.now flags.now) }
+{
+    if is_any(flags) {
+        put_marks_path(text, class, form, flags)?;
+    }
+    Ok(())
+}
+
+/// Appends the bar of a code, with its strength.
 pub(crate) fn put_levels(
     alloc: Global,
     text: &mut Vec<u8>,
-    bin_width: u64,
     bins: &[TimeBin],
     place: usize,
-    top: u64,
+    code: usize,
 ) -> Result<(), AllocError>
     requires place { place < 32 }
-    requires bin_width { length bins.now * bin_width ≤ 1440 }
-    ensures { OnOk result (text.new.items ≡ text.old.items ++ level_layers bin_width bins.now place top) }
+    requires few { length bins.now ≤ 1440 }
+    ensures { OnOk result (text.new.items ≡ text.old.items ++ level_paths bins.now place code) }
 {
-    for level in 1u8..10 {
+    for level in 0u8..10 {
         let class = [b'l', b'0' + level];
-        let layer = Layer::Level { level };
-        put_runs_layer(alloc, text, bin_width, bins, place, layer, &class, top)?;
+        let flags = flags(alloc, bins, place, code, Layer::Level { level })?;
+        put_runs_layer(text, &class, b" 10", b"", flags.as_slice())?;
     }
     Ok(())
 }
 
-/// How many bins are flagged.
-pub(crate) fn count_of(flags: &[bool]) -> u64
-    ensures { result ≡ count_of_flags flags.now }
+/// Appends the boxes of a bar where the code is missing.
+pub(crate) fn put_missing(
+    alloc: Global,
+    text: &mut Vec<u8>,
+    bins: &[TimeBin],
+    place: usize,
+    code: usize,
+) -> Result<(), AllocError>
+    requires place { place < 32 }
+    requires few { length bins.now ≤ 1440 }
+    ensures { OnOk result (text.new.items ≡ text.old.items ++ missing_paths bins.now place code) }
 {
-    flags.iter().filter(|flag| **flag).count() as u64
+    let part = flags(alloc, bins, place, code, Layer::Part)?;
+    let absent = flags(alloc, bins, place, code, Layer::Absent)?;
+    put_runs_layer(text, b"p", b" 10v-6", b"v6z", part.as_slice())?;
+    put_runs_layer(text, b"m", b" 16v-12", b"v12z", absent.as_slice())?;
+    Ok(())
+}
+
+/// Appends the rises, slips and half cycles of a bar.
+pub(crate) fn put_locks(
+    alloc: Global,
+    text: &mut Vec<u8>,
+    bins: &[TimeBin],
+    place: usize,
+    code: usize,
+) -> Result<(), AllocError>
+    requires place { place < 32 }
+    requires few { length bins.now ≤ 1440 }
+    ensures { OnOk result (text.new.items ≡ text.old.items ++ lock_paths bins.now place code) }
+{
+    let rises = flags(alloc, bins, place, code, Layer::Rise)?;
+    let slips = flags(alloc, bins, place, code, Layer::Slip)?;
+    let halves = flags(alloc, bins, place, code, Layer::Half)?;
+    put_marks_layer(text, b"r", b" 5l9 5l-9 5z", rises.as_slice())?;
+    put_marks_layer(text, b"s", b" 20l-7-21h14z", slips.as_slice())?;
+    put_marks_layer(text, b"h", b" 8l6 6l-6 6l-6-6z", halves.as_slice())?;
+    Ok(())
 }

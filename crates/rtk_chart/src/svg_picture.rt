@@ -6,9 +6,10 @@ ghost use Rattle.rtk_chart.specs.SvgPicture.{interval_text, svg_span, svg_number
 ghost use Rattle.rtk_chart.specs.Steps.Pictures.{svg_of_grid};
 
 use crate::grid::Grid;
-use crate::scale::{MOST_BINS, Scale};
+use crate::scale::Scale;
 use crate::survey::Survey;
-use crate::svg_bands::{TOP, band_height, put_bands, put_gaps, put_ticks};
+use crate::svg_axis::{put_gaps, put_satellites, put_ticks};
+use crate::svg_bands::{TOP, band_height, put_bands};
 use crate::svg_text::{put_between, put_xml};
 use crate::text_picture::drawn_before;
 use crate::time_text::put_seconds;
@@ -16,44 +17,67 @@ use rtk_obs::{Code, civil, put_civil};
 use std::alloc::{AllocError, Global};
 
 // constant
-/// The colours, which the colour-blind tell apart (Okabe and Ito), on white and on black. Those on black
-/// come first: LibreOffice takes them on white too, and then the later ones are shown.
+/// The colours, near those of Okabe and Ito, which the colour-blind tell apart, on white and on black; each
+/// mark has a form of its own too. Those on black come first: LibreOffice takes them on white too, and then
+/// the later ones are shown.
 pub(crate) const STYLE: &[u8] = b"<style>\
 @media (prefers-color-scheme:dark){\
-.page{fill:#111!important}text{fill:#ddd!important}.w{stroke:#56b4e9!important}\
-.l1,.l2,.l3,.l4,.l5,.l6,.l7,.l8,.l9{stroke:#ddd!important}}\
-.page{fill:#fff}\
-text{font-family:sans-serif;font-size:12px;fill:#222}\
-.marker{font-size:18px;font-weight:bold}\
-.name,.code{text-anchor:end}.code{font-size:8px}.tick{text-anchor:middle}\
-path{fill:none;stroke-width:4}\
-.w{stroke:#0072b2;stroke-width:6}.p{stroke:#e69f00}\
-.s,.g{stroke:#d55e00}.h{stroke:#cc79a7}\
-.l1,.l2,.l3,.l4,.l5,.l6,.l7,.l8,.l9{stroke:#222;stroke-width:6}\
-.l1{stroke-opacity:.1}.l2{stroke-opacity:.2}.l3{stroke-opacity:.3}\
-.l4{stroke-opacity:.4}.l5{stroke-opacity:.5}.l6{stroke-opacity:.6}\
-.l7{stroke-opacity:.7}.l8{stroke-opacity:.8}\
-.t{stroke:#888;stroke-width:1;stroke-opacity:.4}\
+.page{fill:#111!important}.b1{fill:#242424!important}text{fill:#ddd!important}\
+.l0,.l1,.l2,.l3,.l4,.l5,.l6,.l7,.l8,.l9{stroke:#56b4e9!important}\
+.n{fill:#56b4e9!important}.p,.m,.h{fill:#111!important}\
+.r{fill:#ddd!important}.r,.s{stroke:#111!important}}\
+.page{fill:#fff}.b0{fill:none}.b1{fill:#f0f0f0}\
+text{font-family:sans-serif;font-size:22px;fill:#222}\
+.marker{font-size:32px;font-weight:bold}.name{font-size:26px}\
+.name,.code{text-anchor:end}.code,.never{font-size:18px}.tick{text-anchor:middle}\
+path{fill:none}\
+.l0,.l1,.l2,.l3,.l4,.l5,.l6,.l7,.l8,.l9{stroke:#00588a;stroke-width:14}\
+.l0{stroke-opacity:.12}.l1{stroke-opacity:.2}.l2{stroke-opacity:.3}.l3{stroke-opacity:.4}.l4{stroke-opacity:.5}\
+.l5{stroke-opacity:.6}.l6{stroke-opacity:.7}.l7{stroke-opacity:.8}.l8{stroke-opacity:.9}\
+.p,.m{fill:#fff;stroke:#e69f00;stroke-width:2}\
+.s{fill:#d55e00;stroke:#fff;stroke-width:2}.r{fill:#444;stroke:#fff}\
+.h{fill:#fff;stroke:#b04c85;stroke-width:2}\
+.g{stroke:#d55e00;stroke-width:14}\
+.n{fill:#00588a;fill-opacity:.4}\
+.t{stroke:#888;stroke-opacity:.5}\
 </style>\n";
 
 // constant
-/// What the colours mean.
-pub(crate) const LEGEND: &[u8] = b"<path class='s' d='M2 8v6'/><text x='10' y='15'>slip</text>\
-<path class='h' d='M52 8v6'/><text x='60' y='15'>half cycle</text>\
-<path class='w' d='M142 11h20'/><text x='168' y='15'>phase in all epochs of a column</text>\
-<path class='p' d='M372 8v6'/><text x='380' y='15'>in some</text>\
-<path class='l3' d='M452 11h10'/><path class='l6' d='M462 11h10'/><path class='l9' d='M472 11h10'/>\
-<text x='488' y='15'>least strength, from weak to strong</text>\
-<path class='g' d='M712 8v6'/><text x='720' y='15'>missing epochs</text>\n";
+/// The name of the time, what the forms mean, and the strengths of the shades.
+pub(crate) const LEGEND: &[u8] = b"<text y='16'>GPS time</text>\
+<g transform='translate(0 38)'><path class='s' d='M8 20l-7-21h14z'/><text x='22' y='18'>slip</text></g>\
+<g transform='translate(100 38)'><path class='r' d='M4 5l9 5l-9 5z'/><text x='22' y='18'>rise</text></g>\
+<g transform='translate(200 38)'><path class='h' d='M8 8l6 6l-6 6l-6-6z'/><text x='22' y='18'>half cycle</text></g>\
+<g transform='translate(360 38)'><path class='l8' d='M0 10H30'/><text x='40' y='18'>phase in all epochs</text></g>\
+<g transform='translate(640 38)'><path class='l8' d='M0 10H30'/><path class='p' d='M0 10v-6H30v6z'/><text x='40' y='18'>in some</text></g>\
+<g transform='translate(790 38)'><path class='m' d='M0 16v-12H30v12z'/><text x='40' y='18'>code missing</text></g>\
+<g transform='translate(1020 38)'><path class='g' d='M0 10H8'/><text x='18' y='18'>epochs missing</text></g>\
+<text y='94'>least strength, dB-Hz</text>\
+<path class='l0' d='M270 87h36'/><text x='312' y='94'>none</text>\
+<path class='l1' d='M380 87h36'/><text x='422' y='94'>&lt;12</text>\
+<path class='l2' d='M490 87h36'/><text x='532' y='94'>12</text>\
+<path class='l3' d='M600 87h36'/><text x='642' y='94'>18</text>\
+<path class='l4' d='M710 87h36'/><text x='752' y='94'>24</text>\
+<path class='l5' d='M820 87h36'/><text x='862' y='94'>30</text>\
+<path class='l6' d='M930 87h36'/><text x='972' y='94'>36</text>\
+<path class='l7' d='M1040 87h36'/><text x='1082' y='94'>42</text>\
+<path class='l8' d='M1150 87h36'/><text x='1192' y='94'>48</text>\
+<path class='l9' d='M1260 87h36'/><text x='1302' y='94'>54</text>\n";
 
-fn put_interval_words(text: &mut Vec<u8>, interval: Option<u64>) -> Result<(), AllocError>
-    ensures { OnOk result (text.new.items ≡ text.old.items ++ interval_text interval) }
+fn put_interval_words(
+    text: &mut Vec<u8>,
+    interval: Option<u64>,
+    bin_ms: u64,
+) -> Result<(), AllocError>
+    ensures { OnOk result (text.new.items ≡ text.old.items ++ interval_text interval bin_ms) }
 {
     let Some(ms) = interval else {
-        return text.extend_from_slice(b"no interval");
+        return Ok(());
     };
-    text.extend_from_slice(b"interval ")?;
+    text.extend_from_slice(b", interval ")?;
     put_seconds(text, ms)?;
+    text.extend_from_slice(b" s, column ")?;
+    put_seconds(text, bin_ms)?;
     text.extend_from_slice(b" s")
 }
 
@@ -61,15 +85,12 @@ fn put_span(text: &mut Vec<u8>, scale: &Scale) -> Result<(), AllocError>
     requires { IsScale scale.now }
     ensures { OnOk result (text.new.items ≡ text.old.items ++ svg_span scale.now) }
 {
-    text.extend_from_slice(b"<text x='90' y='52'>")?;
+    text.extend_from_slice(b"<text x='110' y='72'>")?;
     put_civil(text, civil(scale.first))?;
     text.extend_from_slice(b" to ")?;
     put_civil(text, civil(scale.last))?;
-    text.extend_from_slice(b", ")?;
-    put_interval_words(text, scale.interval)?;
-    text.extend_from_slice(b", column ")?;
-    put_seconds(text, scale.bin_ms)?;
-    text.extend_from_slice(b" s</text>\n")?;
+    put_interval_words(text, scale.interval, scale.bin_ms)?;
+    text.extend_from_slice(b"</text>\n")?;
     Ok(())
 }
 
@@ -78,18 +99,20 @@ fn put_counts(
     records: u64,
     satellites: u64,
     slips: u64,
+    rises: u64,
     missing: u64,
 ) -> Result<(), AllocError>
-    ensures { OnOk result (text.new.items ≡ text.old.items ++ svg_numbers records satellites slips missing) }
+    ensures { OnOk result (text.new.items ≡ text.old.items ++ svg_numbers records satellites slips rises missing) }
 {
     put_between(
         text,
-        b"<text x='90' y='70'>records ",
+        b"<text x='110' y='98'>records ",
         records,
         b", satellites ",
     )?;
     put_between(text, b"", satellites, b", slips ")?;
-    put_between(text, b"", slips, b", missing epochs ")?;
+    put_between(text, b"", slips, b", rises ")?;
+    put_between(text, b"", rises, b", missing epochs ")?;
     put_between(text, b"", missing, b"</text>\n")?;
     Ok(())
 }
@@ -99,7 +122,7 @@ fn put_start(text: &mut Vec<u8>, marker: &[u8], height: u64) -> Result<(), Alloc
 {
     put_between(
         text,
-        b"<svg xmlns='http://www.w3.org/2000/svg' viewBox='0 0 1560 ",
+        b"<svg xmlns='http://www.w3.org/2000/svg' viewBox='0 0 1620 ",
         height,
         b"'>\n<title>",
     )?;
@@ -108,9 +131,9 @@ fn put_start(text: &mut Vec<u8>, marker: &[u8], height: u64) -> Result<(), Alloc
     text.extend_from_slice(STYLE)?;
     put_between(
         text,
-        b"<rect class='page' width='1560' height='",
+        b"<rect class='page' width='1620' height='",
         height,
-        b"'/>\n<text class='marker' x='90' y='30'>",
+        b"'/>\n<text class='marker' x='110' y='42'>",
     )?;
     put_xml(text, marker)?;
     text.extend_from_slice(b"</text>\n")?;
@@ -120,7 +143,7 @@ fn put_start(text: &mut Vec<u8>, marker: &[u8], height: u64) -> Result<(), Alloc
 fn put_legend(text: &mut Vec<u8>, top: u64) -> Result<(), AllocError>
     ensures { OnOk result (text.new.items ≡ text.old.items ++ svg_legend top) }
 {
-    put_between(text, b"<g transform='translate(90 ", top, b")'>\n")?;
+    put_between(text, b"<g transform='translate(110 ", top, b")'>\n")?;
     text.extend_from_slice(LEGEND)?;
     text.extend_from_slice(b"</g>\n")?;
     Ok(())
@@ -143,11 +166,11 @@ fn put_body(
     ensures { OnOk result (text.new.items
         ≡ text.old.items ++ svg_body codes.now scale.now grid.now.bins.items grid.now.gaps.items end) }
 {
-    let bin_width = MOST_BINS / scale.bins;
-    put_ticks(text, scale, bin_width, end + 24)?;
-    put_bands(alloc, text, bin_width, codes, grid.bins.as_slice())?;
-    put_gaps(text, bin_width, end, grid.gaps.as_slice())?;
-    put_legend(text, end + 48)?;
+    put_bands(alloc, text, codes, grid.bins.as_slice())?;
+    put_gaps(text, end, grid.gaps.as_slice())?;
+    put_satellites(text, end + 26, grid.bins.as_slice())?;
+    put_ticks(text, scale, end + 72)?;
+    put_legend(text, end + 104)?;
     text.extend_from_slice(b"</svg>\n")?;
     Ok(())
 }
@@ -180,13 +203,14 @@ pub(crate) fn svg_picture(
     let satellites = drawn_before(grid.bins.as_slice(), 32);
     let end = bands_end(codes, satellites);
     let mut text = Vec::new(alloc);
-    put_start(&mut text, marker, end + 100)?;
+    put_start(&mut text, marker, end + 230)?;
     put_span(&mut text, scale)?;
     put_counts(
         &mut text,
         survey.records,
         satellites,
-        survey.slips,
+        grid.slips,
+        grid.rises,
         grid.missing,
     )?;
     put_body(alloc, &mut text, codes, scale, grid, end)?;
@@ -198,7 +222,7 @@ pub(crate) fn svg_of_none(alloc: Global, marker: &[u8]) -> Result<Vec<u8>, Alloc
     ensures { IfOk result (λ text. text.items ≡ svg_of_none marker.now) }
 {
     let mut text = Vec::new(alloc);
-    put_start(&mut text, marker, 100)?;
-    text.extend_from_slice(b"<text x='90' y='52'>no records</text>\n</svg>\n")?;
+    put_start(&mut text, marker, 110)?;
+    text.extend_from_slice(b"<text x='110' y='72'>no records</text>\n</svg>\n")?;
     Ok(text)
 }

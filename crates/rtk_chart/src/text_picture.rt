@@ -1,40 +1,31 @@
-//! A picture in characters. The picture in SVG uses `is_drawn` and `drawn_before` too.
+//! A picture in characters.
 
-ghost use Rattle.std.specs.Prelude.{◌≡◌, ◌≤◌, ◌<◌, ◌++◌, List, ℕ, count_by, OnOk, IfOk};
-ghost use Rattle.std.specs.List.{range_with_len, list_any};
-ghost use Rattle.rtk_chart.specs.Grid.{tracking_in};
+ghost use Rattle.std.specs.Prelude.{◌≡◌, ◌≤◌, ◌<◌, ◌++◌, ℕ, Bool, OnOk, IfOk};
+ghost use Rattle.rtk_tracking.specs.Standing.{AreMarked};
 ghost use Rattle.rtk_chart.specs.Scale.{IsScale};
-ghost use Rattle.rtk_chart.specs.Ticks.{tick_at};
-ghost use Rattle.rtk_chart.specs.TextPicture.{tracking_at, is_partial, is_tracked, strength_mark, phase_mark, character_of, is_drawn, row_head, satellite_row, row_if_drawn, satellite_rows, gap_mark, gap_row, axis_mark, axis_row, text_tick_step, has_label, is_covered, label_text, label_part, label_row, named_count_line, moment_line, time_rows, text_heading, drawn_before, text_of_none};
-ghost use Rattle.rtk_chart.specs.Steps.Pictures.{numbers_of_grid, text_of_grid};
+ghost use Rattle.rtk_chart.specs.TextPicture.{strength_mark, phase_mark, character_of, satellite_row, row_if_drawn, satellite_rows, drawn_before, gap_mark, gap_row, named_count_line, moment_line, text_heading, text_of_none};
+ghost use Rattle.rtk_chart.specs.Steps.Pictures.{body_of_grid, numbers_of_grid, text_of_grid};
 
 use crate::grid::Grid;
+use crate::never::{never_in_line, put_never};
 use crate::scale::Scale;
+use crate::signs::{
+    codes_had, has_half, has_rise, has_slip, is_drawn, is_missing, is_tracked, least_level,
+};
 use crate::survey::Survey;
-use crate::ticks::{put_tick_label, tick_at, tick_step};
+use crate::text_time::put_time;
 use crate::time_bin::TimeBin;
-use crate::time_text::{put_interval, put_seconds};
+use crate::time_text::put_interval;
 use crate::tracking::Tracking;
 use rtk_message::put_named;
-use rtk_obs::{GpsMs, civil, put_civil};
+use rtk_obs::{Code, GpsMs, civil, put_civil};
 use std::alloc::{AllocError, Global};
 
-// Some phase stands in some epochs of a bin and not in all.
-fn is_partial(tracking: &Tracking) -> bool
-    ensures { result ≡ is_partial tracking.now }
-{
-    tracking
-        .phases
-        .iter()
-        .any(|coverage| coverage.some && coverage.lacks)
-}
-
-// Some phase stands in some epochs of a bin.
-fn is_tracked(tracking: &Tracking) -> bool
-    ensures { result ≡ is_tracked tracking.now }
-{
-    tracking.phases.iter().any(|coverage| coverage.some)
-}
+// constant
+/// What the signs mean.
+pub(crate) const SIGNS: &[u8] = b"S slip  R rise  H half cycle  B S and H\n\
+- code missing  x epochs missing\n\
+1-9 strength, 5 is 30-35 dB-Hz  . none\n";
 
 fn strength_mark(least: Option<u8>, tracked: bool) -> u8
     ensures { result ≡ strength_mark least tracked }
@@ -46,39 +37,27 @@ fn strength_mark(least: Option<u8>, tracked: bool) -> u8
     }
 }
 
-// The character of a satellite without a slip or a half cycle.
-fn phase_mark(tracking: &Tracking) -> u8
-    ensures { result ≡ phase_mark tracking.now }
+// The character of a satellite without a slip, a half cycle or a rise; it has these codes somewhere.
+fn phase_mark(had: &[bool; 16], tracking: &Tracking) -> u8
+    ensures { (has : ℕ → Bool) → AreMarked had.now has → result ≡ phase_mark has tracking.now }
 {
-    if is_partial(tracking) {
+    if is_missing(had, tracking) {
         return b'-';
     }
-    strength_mark(tracking.least, is_tracked(tracking))
+    strength_mark(least_level(tracking), is_tracked(tracking))
 }
 
-// The character of a satellite in a bin.
-fn character_of(tracking: &Tracking) -> u8
-    ensures { result ≡ character_of tracking.now }
+// The character of a satellite in a bin, which has these codes somewhere.
+fn character_of(had: &[bool; 16], tracking: &Tracking) -> u8
+    ensures { (has : ℕ → Bool) → AreMarked had.now has → result ≡ character_of has tracking.now }
 {
-    match (tracking.slip, tracking.half) {
+    match (has_slip(tracking), has_half(tracking)) {
         (true, true) => b'B',
         (true, false) => b'S',
         (false, true) => b'H',
-        (false, false) => phase_mark(tracking),
+        (false, false) if has_rise(tracking) => b'R',
+        (false, false) => phase_mark(had, tracking),
     }
-}
-
-// The satellite at this place has a row in the file.
-pub(crate) fn is_drawn(bins: &[TimeBin], place: usize) -> bool
-    requires { place < 32 }
-    ensures { result ≡ is_drawn bins.now place }
-{
-    for bin in bins {
-        if bin.satellites[place].seen {
-            return true;
-        }
-    }
-    false
 }
 
 /// How many satellites before this place have a row in the file.
@@ -101,9 +80,10 @@ fn put_row(text: &mut Vec<u8>, bins: &[TimeBin], place: usize) -> Result<(), All
     ensures { OnOk result (text.new.items ≡ text.old.items ++ satellite_row bins.now place) }
 {
     let satellite = place as u8 + 1;
+    let had = codes_had(bins, place);
     text.extend_from_slice(&[b'G', b'0' + satellite / 10, b'0' + satellite % 10, b'|'])?;
     for bin in bins {
-        text.push(character_of(&bin.satellites[place]))?;
+        text.push(character_of(&had, bin.satellite(place)))?;
     }
     text.extend_from_slice(b"|\n")?;
     Ok(())
@@ -145,87 +125,6 @@ fn put_gap_row(text: &mut Vec<u8>, gaps: &[bool]) -> Result<(), AllocError>
     Ok(())
 }
 
-fn axis_mark(tick: Option<GpsMs>) -> u8
-    ensures { result ≡ axis_mark tick }
-{
-    if tick.is_some() { b'+' } else { b'-' }
-}
-
-fn put_axis(text: &mut Vec<u8>, scale: &Scale, step: u64) -> Result<(), AllocError>
-    requires good { IsScale scale.now }
-    requires step { 0 < step }
-    ensures { OnOk result (text.new.items ≡ text.old.items ++ axis_row scale.now step) }
-{
-    text.extend_from_slice(b"    ")?;
-    for bin in 0..scale.bins {
-        text.push(axis_mark(tick_at(scale, step, bin)))?;
-    }
-    text.push(b'\n')?;
-    Ok(())
-}
-
-// The tick in a bin has a label.
-fn has_label(scale: &Scale, step: u64, bin: u64) -> bool
-    requires good { IsScale scale.now }
-    requires step { 0 < step }
-    requires within { bin < scale.now.bins }
-    ensures { result ≡ has_label scale.now step bin }
-{
-    bin + 10 <= scale.bins && tick_at(scale, step, bin).is_some()
-}
-
-// A label before this bin ends in it or after it.
-fn is_covered(scale: &Scale, step: u64, bin: u64) -> bool
-    requires good { IsScale scale.now }
-    requires step { 0 < step }
-    requires within { bin < scale.now.bins }
-    ensures { result ≡ is_covered scale.now step bin }
-{
-    for before in bin.saturating_sub(9)..bin {
-        if has_label(scale, step, before) {
-            return true;
-        }
-    }
-    false
-}
-
-fn put_label_text(text: &mut Vec<u8>, step: u64, tick: Option<GpsMs>) -> Result<(), AllocError>
-    ensures { OnOk result (text.new.items ≡ text.old.items ++ label_text step tick) }
-{
-    match tick {
-        Some(moment) => put_tick_label(text, step, moment),
-        None => Ok(()),
-    }
-}
-
-fn put_label_part(text: &mut Vec<u8>, scale: &Scale, step: u64, bin: u64) -> Result<(), AllocError>
-    requires good { IsScale scale.now }
-    requires step { 0 < step }
-    requires within { bin < scale.now.bins }
-    ensures { OnOk result (text.new.items ≡ text.old.items ++ label_part scale.now step bin) }
-{
-    if has_label(scale, step, bin) {
-        return put_label_text(text, step, tick_at(scale, step, bin));
-    }
-    if !is_covered(scale, step, bin) {
-        text.extend_from_slice(b" ")?;
-    }
-    Ok(())
-}
-
-fn put_labels(text: &mut Vec<u8>, scale: &Scale, step: u64) -> Result<(), AllocError>
-    requires good { IsScale scale.now }
-    requires step { 0 < step }
-    ensures { OnOk result (text.new.items ≡ text.old.items ++ label_row scale.now step) }
-{
-    text.extend_from_slice(b"    ")?;
-    for bin in 0..scale.bins {
-        put_label_part(text, scale, step, bin)?;
-    }
-    text.push(b'\n')?;
-    Ok(())
-}
-
 fn put_line(text: &mut Vec<u8>, words: &[u8], number: u64) -> Result<(), AllocError>
     ensures { OnOk result (text.new.items ≡ text.old.items ++ named_count_line words.now number) }
 {
@@ -239,7 +138,7 @@ fn put_moment_line(text: &mut Vec<u8>, words: &[u8], moment: GpsMs) -> Result<()
 {
     text.extend_from_slice(words)?;
     put_civil(text, civil(moment))?;
-    text.push(b'\n')?;
+    text.extend_from_slice(b" GPS time\n")?;
     Ok(())
 }
 
@@ -263,44 +162,53 @@ fn put_numbers(
 ) -> Result<(), AllocError>
     ensures { OnOk result (text.new.items ≡ text.old.items ++ numbers_of_grid scale.now survey.now grid.now) }
 {
-    put_interval(text, scale.interval)?;
-    text.extend_from_slice(b"column ")?;
-    put_seconds(text, scale.bin_ms)?;
-    text.push(b'\n')?;
+    put_interval(text, scale.interval, scale.bin_ms)?;
     put_line(text, b"records ", survey.records)?;
     put_line(text, b"satellites ", drawn_before(grid.bins.as_slice(), 32))?;
-    put_line(text, b"slips ", survey.slips)?;
+    put_line(text, b"slips ", grid.slips)?;
+    put_line(text, b"rises ", grid.rises)?;
     put_line(text, b"missing ", grid.missing)?;
     Ok(())
 }
 
-fn put_time(text: &mut Vec<u8>, scale: &Scale) -> Result<(), AllocError>
-    requires { IsScale scale.now }
-    ensures { OnOk result (text.new.items ≡ text.old.items ++ time_rows scale.now) }
+// What stands below the heading.
+fn put_body(
+    text: &mut Vec<u8>,
+    codes: &[Code],
+    scale: &Scale,
+    width: u16,
+    grid: &Grid,
+) -> Result<(), AllocError>
+    requires good { IsScale scale.now }
+    requires width { 40 ≤ width }
+    ensures { OnOk result (text.new.items ≡ text.old.items ++ body_of_grid codes.now scale.now width grid.now) }
 {
-    let step = tick_step(12 * scale.bin_ms);
-    put_axis(text, scale, step)?;
-    put_labels(text, scale, step)?;
+    put_rows(text, grid.bins.as_slice())?;
+    put_gap_row(text, grid.gaps.as_slice())?;
+    put_time(text, scale, width)?;
+    put_never(text, grid.bins.as_slice(), never_in_line(width), codes)?;
+    text.extend_from_slice(SIGNS)?;
     Ok(())
 }
 
-/// The picture of a file with records.
+/// The picture of a file with records, so many characters wide.
 pub(crate) fn text_picture(
     alloc: Global,
     marker: &[u8],
+    codes: &[Code],
     scale: &Scale,
+    width: u16,
     survey: &Survey,
     grid: &Grid,
 ) -> Result<Vec<u8>, AllocError>
     requires good { IsScale scale.now }
-    ensures { IfOk result (λ text. text.items ≡ text_of_grid marker.now scale.now survey.now grid.now) }
+    requires width { 40 ≤ width }
+    ensures { IfOk result (λ text. text.items ≡ text_of_grid marker.now codes.now scale.now width survey.now grid.now) }
 {
     let mut text = Vec::new(alloc);
     put_heading(&mut text, marker, scale)?;
     put_numbers(&mut text, scale, survey, grid)?;
-    put_rows(&mut text, grid.bins.as_slice())?;
-    put_gap_row(&mut text, grid.gaps.as_slice())?;
-    put_time(&mut text, scale)?;
+    put_body(&mut text, codes, scale, width, grid)?;
     Ok(text)
 }
 

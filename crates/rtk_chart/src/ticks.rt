@@ -3,7 +3,7 @@
 ghost use Rattle.std.specs.Prelude.{◌≡◌, ◌≤◌, ◌<◌, ◌*◌, ◌++◌, nat_le, OnOk};
 ghost use Rattle.std.specs.List.{find};
 ghost use Rattle.rtk_chart.specs.Scale.{IsScale, longest_bin};
-ghost use Rattle.rtk_chart.specs.Ticks.{tick_steps, tick_step, tick_at, tick_label};
+ghost use Rattle.rtk_chart.specs.Ticks.{tick_steps, tick_step, tick_at, tick_label, label_length};
 
 use crate::scale::Scale;
 use rtk_obs::{GpsMs, civil, put_clock, put_date};
@@ -45,7 +45,7 @@ fn listed_step(least: u64) -> Option<u64>
 /// The step between ticks that are so far apart at least.
 pub(crate) fn tick_step(least: u64) -> u64
     requires some { 0 < least }
-    requires few { least ≤ 101 * longest_bin }
+    requires few { least ≤ 145 * longest_bin }
     ensures value { result ≡ tick_step least }
     ensures positive { 0 < result }
 {
@@ -76,9 +76,17 @@ pub(crate) fn put_tick_label(text: &mut Vec<u8>, step: u64, moment: GpsMs) -> Re
 {
     if step < DAY_MS {
         put_clock(text, civil(moment))?;
-        text.extend_from_slice(b"  ")?;
     } else {
         put_date(text, civil(moment))?;
     }
     Ok(())
+}
+
+/// How many characters stand at a tick.
+pub(crate) fn label_length(step: u64) -> u64
+    ensures value { result ≡ label_length step }
+    ensures some { 0 < result }
+    ensures few { result ≤ 10 }
+{
+    if step < DAY_MS { 8 } else { 10 }
 }

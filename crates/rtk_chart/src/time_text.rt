@@ -1,7 +1,7 @@
 //! Lengths of time as text.
 
 ghost use Rattle.std.specs.Prelude.{◌≡◌, ◌++◌, OnOk};
-ghost use Rattle.rtk_chart.specs.Heading.{seconds_text, interval_line};
+ghost use Rattle.rtk_chart.specs.Heading.{seconds_text, interval_lines};
 
 use rtk_message::put_number;
 use rtk_obs::three_digits;
@@ -17,16 +17,22 @@ pub(crate) fn put_seconds(text: &mut Vec<u8>, ms: u64) -> Result<(), AllocError>
     text.extend_from_slice(&three_digits((ms % 1000) as u16))
 }
 
-/// Appends the line of an interval.
-#[tactic(auto, unfolding(crate::specs::Heading::interval_line))]
-pub(crate) fn put_interval(text: &mut Vec<u8>, interval: Option<u64>) -> Result<(), AllocError>
-    ensures { OnOk result (text.new.items ≡ text.old.items ++ interval_line interval) }
+/// Appends the lines of an interval and the length of a bin.
+#[tactic(auto, unfolding(crate::specs::Heading::interval_lines))]
+pub(crate) fn put_interval(
+    text: &mut Vec<u8>,
+    interval: Option<u64>,
+    bin_ms: u64,
+) -> Result<(), AllocError>
+    ensures { OnOk result (text.new.items ≡ text.old.items ++ interval_lines interval bin_ms) }
 {
     let Some(ms) = interval else {
-        return text.extend_from_slice(b"interval -\n");
+        return Ok(());
     };
     text.extend_from_slice(b"interval ")?;
     put_seconds(text, ms)?;
+    text.extend_from_slice(b"\ncolumn ")?;
+    put_seconds(text, bin_ms)?;
     text.push(b'\n')?;
     Ok(())
 }

@@ -1,76 +1,120 @@
 //! How a satellite was tracked in the epochs of a bin.
 
-ghost use Rattle.std.specs.Prelude.{◌≡◌, ◌||◌, not, List, [], ◌∷◌};
-ghost use Rattle.rtk_rinex.specs.declared.epoch_table.Observed.{Observed};
-ghost use Rattle.rtk_chart.specs.Grid.{coverages_of, tracking_in};
+ghost use Rattle.std.specs.Prelude.{◌≡◌, ◌≤◌, ◌<◌, List, map, count_by};
+ghost use Rattle.std.specs.List.{range_with_len};
+ghost use Rattle.rtk_tracking.specs.Passes.{Sighting, has_phase};
+ghost use Rattle.rtk_tracking.specs.Standing.{StandsForPass};
+ghost use Rattle.rtk_chart.specs.Epochs.{is_seen};
+ghost use Rattle.rtk_chart.specs.Grid.{no_tracking};
+ghost use Rattle.rtk_chart.specs.Steps.Shown.{called_at, both_codes, both_trackings, tracking_of};
 
-use crate::observations::{has_half, has_slip, is_seen, least_level, lesser, shows_phase};
+use crate::code_marks::CodeMarks;
+use crate::observations::{has_phase, is_seen, shown_at};
 use rtk_rinex::Observed;
+use rtk_tracking::Pass;
 
-/// Whether the phase of a code stands in some of the epochs, and is missing in some of them.
-#[derive(Clone, Copy)]
-pub(crate) struct Coverage {
-    pub(crate) some: bool,
-    pub(crate) lacks: bool,
-}
-
-/// A satellite: the phases of its codes, whether it has a row, a slip, a half cycle, and its least
-/// strength digit.
+/// A satellite: the marks of its codes by their places, and whether it has a row.
 #[derive(Clone, Copy)]
 pub(crate) struct Tracking {
-    pub(crate) phases: [Coverage; 16],
+    pub(crate) codes: [CodeMarks; 16],
     pub(crate) seen: bool,
-    pub(crate) slip: bool,
-    pub(crate) half: bool,
-    pub(crate) least: Option<u8>,
 }
 
-impl Coverage {
-    // Notes that the phase stands in one more epoch, or is missing in it.
-    fn note_phase(&mut self, stands: bool)
-        ensures { self.new ≡ record { some = stands || self.old.some; lacks = not stands || self.old.lacks } }
-    {
-        self.some = stands || self.some;
-        self.lacks = !stands || self.lacks;
-    }
-}
-
-// Notes which phases stand in one more epoch.
-fn note_phases(phases: &mut [Coverage; 16], observed: &[Observed])
-    ensures { (epochs : List (List Observed)) → phases.old ≡ coverages_of epochs → phases.new ≡ coverages_of (observed.now ∷ epochs) }
+// What an epoch calls for of the code at this place; those that are known had a phase earlier in the pass.
+fn called_at(observed: &[Observed], tracked: bool, known: &[bool; 16], code: usize) -> CodeMarks
+    requires tracked { tracked ≡ has_phase observed.now }
+    requires code { code < 16 }
+    ensures { result ≡ called_at observed.now known.now code }
 {
-    for place in 0..16 {
-        let mut coverage = phases[place];
-        coverage.note_phase(shows_phase(observed, place));
-        phases[place] = coverage;
+    CodeMarks::of(shown_at(observed, code), tracked, known[code])
+}
+
+// What an epoch calls for of each code.
+fn called_for(observed: &[Observed], known: &[bool; 16]) -> [CodeMarks; 16]
+    ensures { result ≡ map (called_at observed.now known.now) (range_with_len 0 16) }
+{
+    let tracked = has_phase(observed);
+    let mut codes = [CodeMarks::new(); 16];
+    for code in 0..16 {
+        codes[code] = called_at(observed, tracked, known, code);
+    }
+    codes
+}
+
+// Adds the marks of one more epoch.
+fn add_codes(codes: &mut [CodeMarks; 16], more: &[CodeMarks; 16])
+    ensures { codes.new ≡ map (both_codes more.now codes.old) (range_with_len 0 16) }
+{
+    for code in 0..16 {
+        let mut marks = codes[code];
+        marks.add(more[code]);
+        codes[code] = marks;
     }
 }
 
 impl Tracking {
     /// No epoch came.
     pub(crate) fn new() -> Tracking
-        ensures { result ≡ tracking_in [] }
+        ensures { result ≡ no_tracking }
     {
         Tracking {
-            phases: [Coverage {
-                some: false,
-                lacks: false,
-            }; 16],
+            codes: [CodeMarks::new(); 16],
             seen: false,
-            slip: false,
-            half: false,
-            least: None,
         }
     }
 
-    /// Notes what the satellite has in one more epoch.
-    pub(crate) fn note_observed(&mut self, observed: &[Observed])
-        ensures { (epochs : List (List Observed)) → self.old ≡ tracking_in epochs → self.new ≡ tracking_in (observed.now ∷ epochs) }
+    // What an epoch calls for; the codes that are known had a phase earlier in the pass.
+    fn of(observed: &[Observed], known: &[bool; 16]) -> Tracking
+        ensures codes { result.codes ≡ map (called_at observed.now known.now) (range_with_len 0 16) }
+        ensures seen { result.seen ≡ is_seen observed.now }
     {
-        note_phases(&mut self.phases, observed);
-        self.seen = is_seen(observed) || self.seen;
-        self.slip = has_slip(observed) || self.slip;
-        self.half = has_half(observed) || self.half;
-        self.least = lesser(least_level(observed), self.least);
+        Tracking {
+            codes: called_for(observed, known),
+            seen: is_seen(observed),
+        }
+    }
+
+    /// What an epoch calls for, after what came before it.
+    pub(crate) fn of_epoch(
+        pass: &Pass,
+        gap_ms: u64,
+        time_ms: u64,
+        observed: &[Observed],
+    ) -> Tracking
+        ensures { (before : List Sighting) → StandsForPass pass.now gap_ms before
+            → result ≡ tracking_of gap_ms before (record { time = time_ms; observed = observed.now }) }
+    {
+        if !is_seen(observed) {
+            return Tracking::new();
+        }
+        let known = pass.known(gap_ms, time_ms, observed);
+        Tracking::of(observed, &known)
+    }
+
+    /// Adds what one more epoch calls for.
+    pub(crate) fn add(&mut self, more: &Tracking)
+        ensures { self.new ≡ both_trackings more.now self.old }
+    {
+        let has_row = more.seen;
+        if has_row {
+            add_codes(&mut self.codes, &more.codes);
+            self.seen = true;
+        }
+    }
+
+    /// How many codes have a slip.
+    pub(crate) fn slips(&self) -> u64
+        ensures value { result ≡ count_by (λ m. m.slip) self.now.codes }
+        ensures few { result ≤ 16 }
+    {
+        self.codes.iter().filter(|marks| marks.slip).count() as u64
+    }
+
+    /// How many codes have a rise.
+    pub(crate) fn rises(&self) -> u64
+        ensures value { result ≡ count_by (λ m. m.rise) self.now.codes }
+        ensures few { result ≤ 16 }
+    {
+        self.codes.iter().filter(|marks| marks.rise).count() as u64
     }
 }

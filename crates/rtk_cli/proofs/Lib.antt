@@ -1,5 +1,6 @@
 mod CodeListLemmas
 mod LinkLemmas
 mod MomentTextLemmas
+mod ReadLemmas
 mod RefusedLemmas
 mod StepLemmas

@@ -13,7 +13,7 @@ use Rattle.rtk_convert.specs.declared.setup.SetupFault.{SetupFault}
 use Rattle.rtk_convert.specs.declared.setup.SetupFault.TheVariants.{Station as BadStation, Near as BadNear, Window as BadWindow}
 use Rattle.rtk_args.specs.declared.options.ConvertOptions.{ConvertOptions}
 use Rattle.rtk_cli.specs.declared.words.BadWords.{BadWords}
-use Rattle.rtk_cli.specs.declared.words.BadWords.TheVariants.{Near, Made, Codes, Marker, Links, From, Until}
+use Rattle.rtk_cli.specs.declared.words.BadWords.TheVariants.{Near, Made, Codes, Marker, Links, From, Until, Field}
 use Rattle.rtk_cli.specs.declared.words.WordsFault.{WordsFault}
 use Rattle.rtk_cli.specs.declared.words.WordsFault.TheVariants.{Clap, Bad, OutOfMemory}
 use Rattle.rtk_cli.specs.Steps.CodeList.{Lists}
@@ -51,6 +51,7 @@ codes-refused o names text same times (Bad Marker) none memory = let no : Bad Ma
 codes-refused o names text same times (Bad Links) none memory = let no : Bad Links ≡ OutOfMemory = memory (λ e. cc) in cc
 codes-refused o names text same times (Bad From) none memory = let no : Bad From ≡ OutOfMemory = memory (λ e. cc) in cc
 codes-refused o names text same times (Bad Until) none memory = let no : Bad Until ≡ OutOfMemory = memory (λ e. cc) in cc
+codes-refused o names text same times (Bad (Field fault)) none memory = let no : Bad (Field fault) ≡ OutOfMemory = memory (λ e. cc) in cc
 codes-refused o names text same times OutOfMemory none memory = tt
 
 -- the words give a good head

@@ -1,4 +1,6 @@
 pub mod Converting
 pub mod ConvertsBytes
+pub mod FindsText
+pub mod JoinedLinks
 pub mod Words
 pub mod Steps

@@ -4,3 +4,4 @@ pub mod Links
 pub mod MomentText
 pub mod ConvertWords
 pub mod CutWords
+pub mod LabelWords

@@ -5,8 +5,10 @@ use Rattle.rtk_convert.specs.Converter.{IsLinkCount}
 use Rattle.rtk_convert.specs.Setup.{SetupView, IsStation, IsWindow}
 use Rattle.rtk_cut.specs.declared.part.Part.{Part}
 use Rattle.rtk_cut.specs.Cut.{IsStepOrNone}
+use Rattle.rtk_label.specs.Labelled.{LabelView}
 use Rattle.rtk_args.specs.declared.request.Task.{Task}
 use Rattle.rtk_args.specs.Requests.{IsTask}
+use Rattle.rtk_cli.specs.declared.words.AutoWords.{AutoWords}
 use Rattle.rtk_cli.specs.declared.words.WordsFault.{WordsFault}
 use Rattle.rtk_cli.specs.declared.words.WordsFault.TheVariants.{Clap, Bad, OutOfMemory}
 
@@ -22,7 +24,7 @@ AreLinkNames links = IsLinkCount (length links) × (count_by is_stdin links ≤ 
 
 -- what the words ask for
 abbrev pub JobView : Type 0
-JobView = Task SetupView Part
+JobView = Task SetupView Part AutoWords LabelView
 
 -- formula
 -- a conversion is of a station, a window and links within their limits; so is the width of a picture

@@ -66,14 +66,15 @@ pub(crate) fn convert_job<'a>(
     }
 }
 
-fn words_fault(line: BadWords) -> WordsFault
+/// The fault of words that clap takes.
+pub(crate) fn words_fault(line: BadWords) -> WordsFault
     ensures { result ≡ Bad line }
 {
     WordsFault::Bad { line }
 }
 
-// The MSM that the option says.
-fn kind_of(msm: MsmOption) -> MsmKind
+/// The MSM that the option says.
+pub(crate) fn kind_of(msm: MsmOption) -> MsmKind
     ensures { number_of_kind result ≡ 1070 + number_of_msm msm }
 {
     match msm {

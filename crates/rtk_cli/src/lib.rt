@@ -16,19 +16,28 @@
 //! Its tests: tests/values/src/cli.rt.in and cli/, and tests/program
 #![tactic(auto)]
 
+mod auto_converting;
+mod auto_looking;
+mod auto_reading;
+mod auto_refusing;
+mod auto_running;
+mod auto_words;
 mod code_list;
 mod convert_words;
 mod converting;
 mod cut_words;
 mod jobs;
+mod label_words;
 mod moment_text;
 mod refusing;
 mod running;
 mod words;
 
+pub use auto_converting::convert_joined;
+pub use auto_reading::find_through;
 pub use converting::{Converted, conversion_status, convert_through};
 pub use jobs::job;
 pub use rtk_commands::{CHECK_LIMIT, SHOW_LIMIT, check_file, show, show_line};
 pub use rtk_streams::ToolFault;
 pub use running::run_program;
-pub use words::{BadWords, Job, WordsFault};
+pub use words::{AutoWords, BadWords, Job, WordsFault};

@@ -5,15 +5,19 @@ ghost use Rattle.std.specs.Prelude.{◌≤◌};
 ghost use Rattle.rtk_streams.specs.declared.exit_status.TheConstants.{NOT_VALID};
 ghost use Rattle.rtk_cli.specs.Words.{IsWithinLimits};
 
+use crate::auto_running::auto_captures;
 use crate::converting::convert_links;
 use crate::jobs::job;
 use crate::refusing::refuse_words;
 use crate::words::Job;
-use rtk_commands::{chart_named, check_named, cut_named, show_named, summarize_named};
+use rtk_commands::{
+    chart_named, check_named, cut_named, label_named, quality_named, show_named, summarize_named,
+};
 use rtk_streams::{ToolFault, fail};
 use std::env::Env;
 use std::fs::Files;
 use std::io::{ErrorKind, Write};
+use std::time::Clock;
 
 // The words after the name of the program. A word that is no text (UTF-8) can't be read.
 fn words_of<R: Env + AllocGlobal>(rt: &R) -> Result<Vec<String>, ToolFault> {
@@ -32,7 +36,7 @@ fn words_of<R: Env + AllocGlobal>(rt: &R) -> Result<Vec<String>, ToolFault> {
 
 // Each command by a call of its own: the check of a function that also reads the words takes minutes.
 // No command is inlined: the stack has the values of one command alone.
-fn run_job<R: Files + Input + Print + Eprint + AllocGlobal, W: Write + Drop>(
+fn run_job<R: Env + Clock + Files + Input + Print + Eprint + AllocGlobal, W: Write + Drop>(
     rt: &R,
     report: W,
     job: Job<'_>,
@@ -41,16 +45,21 @@ fn run_job<R: Files + Input + Print + Eprint + AllocGlobal, W: Write + Drop>(
     ensures { result ≤ NOT_VALID }
 {
     match job {
+        Job::Auto { options, captures } => {
+            auto_captures(rt, report, &options, captures.as_slice())
+        }
         Job::Convert { setup, links } => convert_links(rt, report, setup, links.as_slice()),
         Job::Show { hex, file } => show_named(rt, hex, file),
         Job::Check { file } => check_named(rt, file),
         Job::Summary { file } => summarize_named(rt, file),
         Job::Chart { width, file } => chart_named(rt, width, file),
+        Job::Quality { json, file } => quality_named(rt, json, file),
         Job::Cut { part, file } => cut_named(rt, part, file),
+        Job::Label { label, file } => label_named(rt, &label, file),
     }
 }
 
-fn run_words<R: Files + Input + Print + Eprint + AllocGlobal, W: Write + Drop>(
+fn run_words<R: Env + Clock + Files + Input + Print + Eprint + AllocGlobal, W: Write + Drop>(
     rt: &R,
     report: W,
     words: &[&str],
@@ -65,9 +74,9 @@ fn run_words<R: Files + Input + Print + Eprint + AllocGlobal, W: Write + Drop>(
 
 /// Runs the program, and answers its exit status: 0 if the work is done, 1 if an input or an output
 /// failed or memory was refused, 2 if the words are refused, and 3 if `check` says no, also of a file
-/// that is to be drawn or cut. The report
+/// that is to be drawn, cut or labelled, or if captures don't tell enough for `auto`. The report
 /// of a conversion goes to `report`, which is standard error.
-pub fn run_program<R: Env + Files + Input + Print + Eprint + AllocGlobal, W: Write + Drop>(
+pub fn run_program<R: Env + Clock + Files + Input + Print + Eprint + AllocGlobal, W: Write + Drop>(
     rt: &R,
     report: W,
 ) -> u8

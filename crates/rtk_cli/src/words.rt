@@ -1,15 +1,48 @@
 //! What the words of a command line ask for, and why a command is not done.
 
 use rtk_args::Task;
+use rtk_auto::{Wanted, Ways};
 use rtk_convert::Setup;
 use rtk_cut::Part;
+use rtk_label::{Label, LabelFault};
+use rtk_obs::GpsMs;
 use thiserror::Error;
 
-/// What the words ask for: the station, the reference, the file's head and the window of a conversion,
-/// and its 1 to 16 links, standard input once at most; the span and the step of a part.
-pub type Job<'a> = Task<'a, Setup, Part>;
+/// What the words of `auto` say.
+#[derive(Drop)]
+pub struct AutoWords<'a> {
+    /// The values of the conversion.
+    pub wanted: Wanted<'a>,
+    /// The moment at which the file is made; `None` is the present.
+    pub made: Option<GpsMs>,
+    /// The captures, the file and the report.
+    pub ways: Ways<'a>,
+}
 
-/// Why words that clap takes give no conversion, or no part: the first cause that holds, in this
+/// What the words ask for: what `auto` is to find; the station, the reference, the file's head and the
+/// window of a conversion, and its 1 to 16 links, standard input once at most; the span and the step
+/// of a part; the fields of a label.
+pub type Job<'a> = Task<'a, Setup, Part, AutoWords<'a>, Label>;
+
+// The option that fills the field of a fault.
+fn option_of(fault: LabelFault) -> &'static str {
+    match fault {
+        LabelFault::RunBy => "run-by",
+        LabelFault::MarkerNumber => "marker-number",
+        LabelFault::Observer => "observer",
+        LabelFault::Agency => "agency",
+        LabelFault::ReceiverNumber => "receiver-number",
+        LabelFault::ReceiverType => "receiver-type",
+        LabelFault::ReceiverVersion => "receiver-version",
+        LabelFault::AntennaNumber => "antenna-number",
+        LabelFault::AntennaType => "antenna-type",
+        LabelFault::DeltaHeight => "delta-height",
+        LabelFault::DeltaEast => "delta-east",
+        LabelFault::DeltaNorth => "delta-north",
+    }
+}
+
+/// Why words that clap takes give no conversion, no part or no label: the first cause that holds, in this
 /// order; but that no time is dated near the reference is found last. Displayed, it is the fault
 /// line of the program.
 #[derive(Clone, Copy, Debug, PartialEq, Eq, Error)]
@@ -39,6 +72,9 @@ pub enum BadWords {
     /// begin.
     #[error("bad --until")]
     Until,
+    /// A field of a label does not fit its columns.
+    #[error("bad --{}", option_of(*.0))]
+    Field(LabelFault),
 }
 
 /// Why the words give no job.
@@ -52,7 +88,7 @@ pub enum WordsFault {
         /// The exit status of the program.
         status: u8,
     },
-    /// Words that clap takes give no conversion, or no part (status 2).
+    /// Words that clap takes give no conversion, no part or no label (status 2).
     Bad {
         /// The fault line.
         line: BadWords,

@@ -1,5 +1,5 @@
 -- What a cut says of its writer, once all that was gathered is out.
-use Rattle.std.proofs.Common.{◌≡◌, ◌≢◌, ◌⊎◌, ◌≤◌, inl, inr, ℕ, Bool, true, false, List, length, Option, None, Some, Result, Ok, Err, IfOk, IfErr, OnOk, IsOk, IfSome, IsErrOf, refl, sym, ap, ◌∙◌, take_all, arith}
+use Rattle.std.proofs.Common.{◌≡◌, ◌≢◌, ◌⊎◌, ◌≤◌, inl, inr, ℕ, Bool, true, false, List, length, Option, None, Some, Result, Ok, Err, IfOk, IfErr, OnOk, IsOk, IfSome, IsErrOf, refl, sym, ◌∙◌}
 use Rattle.std.proofs.lemmas.Result.{IfOk-at_ok}
 use Rattle.std.specs.Io.Buffered.{writer_contents}
 use Rattle.std.specs.declared.io.buffered.BufWriter.{BufWriter}
@@ -9,12 +9,6 @@ use Rattle.rtk_streams.specs.declared.fault.ToolFault.TheVariants.{Input, TooLon
 use Rattle.rtk_streams.specs.Input.{GivesText}
 use Rattle.rtk_streams.specs.Passed.{given_of, IsLeft, taken_of}
 use Rattle.rtk_streams.specs.declared.resuming.Resumed.{Resumed}
-use Rattle.rtk_frame.specs.Stream.{with_more}
-use Rattle.rtk_frame.proofs.PublicLaws.{with_more-nil}
-use Rattle.rtk_rinex.specs.Table.{table_text}
-use Rattle.rtk_cut.specs.declared.part.Part.{Part}
-use Rattle.rtk_cut.specs.Cut.{cut_of}
-use Rattle.rtk_cut.specs.CutWriting.{WritesPart, WritesFirstOfPart}
 use Rattle.rtk_streams.proofs.PublicLaws.{all_text, done_through, lands}
 
 -- what a writer holds behind the sink of a cut, and what is gathered
@@ -54,37 +48,34 @@ through_if_out had held number at from to first last before after out done work 
 no_fault : {T : Type 0} (x : T) (fault : ToolFault) → Ok x ≢ Err fault
 no_fault x fault e = cc
 
--- of a part nothing may be out
-none_cut : (part : Part) (had held out : Option (List ℕ)) → out ≡ held → IfSome had (λ text. WritesFirstOfPart text part held out)
-none_cut part None held out same = tt
-none_cut part (Some text) held out same = λ t is here. (0, omega arith, same ∙ sym (with_more-nil held))
+-- nothing may be out
+none_out : (First : List ℕ → Option (List ℕ) → Option (List ℕ) → Type 0) (had held out : Option (List ℕ)) → ((text : List ℕ) (o : Option (List ℕ)) → First text o o) → out ≡ held
+    → IfSome had (λ text. First text held out)
+none_out First None held out none same = tt
+none_out First (Some text) held out none same = rw same (none text held)
 
--- all of a part is a first part of it
-pub whole_is_part : (text written : List ℕ) (part : Part) (before after : Option (List ℕ)) → text ≡ written → WritesPart written part before after → WritesFirstOfPart text part before after
-whole_is_part text written part before after same all = λ t is here.
-    let bytes : List ℕ = table_text (cut_of part t) in
-    (length bytes, omega arith, all t is (sym same ∙ here) ∙ ap (with_more before) (sym (take_all (length bytes) bytes (omega arith))))
-
-part_at_end : (part : Part) (had held : ℕ → Option (List ℕ)) (number at from to limit : ℕ) (first last before after all : Option (List ℕ))
+part_at_end : (First : List ℕ → Option (List ℕ) → Option (List ℕ) → Type 0) (had held : ℕ → Option (List ℕ)) (number at from to limit : ℕ) (first last before after all : Option (List ℕ))
     → number ≡ 0 → ((n : ℕ) → held n ≡ held 0) → Keeps (had 0) first → Keeps (held 0) before → taken_of (held to) all ≡ taken_of (held to) after → IsLeft (had at) last true
-    → GivesText (given_of number (had number) first) (given_of at (had at) last) (λ text. (length text ≤ limit) × WritesFirstOfPart text part (taken_of (held from) before) (taken_of (held to) after))
-    → IfSome (had 0) (λ text. WritesFirstOfPart text part (held 0) (taken_of (held 0) all))
-part_at_end part had held number at from to limit first last before after all zero one kept kept' same left (text, gave, (short, some)) =
-    all_text had number at first last (λ text. WritesFirstOfPart text part (held 0) (taken_of (held 0) all)) zero kept left
-    (text, gave, lands held from to before after all (WritesFirstOfPart text part) one kept' same some)
+    → GivesText (given_of number (had number) first) (given_of at (had at) last) (λ text. (length text ≤ limit) × First text (taken_of (held from) before) (taken_of (held to) after))
+    → IfSome (had 0) (λ text. First text (held 0) (taken_of (held 0) all))
+part_at_end First had held number at from to limit first last before after all zero one kept kept' same left (text, gave, (short, some)) =
+    all_text had number at first last (λ text. First text (held 0) (taken_of (held 0) all)) zero kept left
+    (text, gave, lands held from to before after all (First text) one kept' same some)
 
-pub part_if_out : (part : Part) (had held : ℕ → Option (List ℕ)) (number at from to limit : ℕ) (first last before after out : Option (List ℕ)) (ended : Bool)
+-- what is out of a text, where nothing or a first part was written
+pub part_if_out : (First : List ℕ → Option (List ℕ) → Option (List ℕ) → Type 0) (had held : ℕ → Option (List ℕ)) (number at from to limit : ℕ) (first last before after out : Option (List ℕ)) (ended : Bool)
+    → ((text : List ℕ) (o : Option (List ℕ)) → First text o o)
     → number ≡ 0 → ((n : ℕ) → held n ≡ held 0) → Keeps (had 0) first → Keeps (held 0) before
     → ((unwritten : List ℕ) × (taken_of (held to) (append_known out unwritten) ≡ taken_of (held to) after))
     → (taken_of (held to) after ≡ taken_of (held from) before)
-    ⊎ (((ended ≡ true) × IsLeft (had at) last true) × GivesText (given_of number (had number) first) (given_of at (had at) last) (λ text. (length text ≤ limit) × WritesFirstOfPart text part (taken_of (held from) before) (taken_of (held to) after)))
-    → (unwritten : List ℕ) × IfSome (had 0) (λ text. WritesFirstOfPart text part (held 0) (taken_of (held 0) (append_known out unwritten)))
-part_if_out part had held number at from to limit first last before after out ended zero one kept kept' (unwritten, same) taken =
+    ⊎ (((ended ≡ true) × IsLeft (had at) last true) × GivesText (given_of number (had number) first) (given_of at (had at) last) (λ text. (length text ≤ limit) × First text (taken_of (held from) before) (taken_of (held to) after)))
+    → (unwritten : List ℕ) × IfSome (had 0) (λ text. First text (held 0) (taken_of (held 0) (append_known out unwritten)))
+part_if_out First had held number at from to limit first last before after out ended none zero one kept kept' (unwritten, same) taken =
     let all : Option (List ℕ) = append_known out unwritten in (
       unwritten,
       elim taken [
-        | inl none ↦ none_cut part (had 0) (held 0) (taken_of (held 0) all) (lands held from to before after all (λ x y. y ≡ x) one kept' same none)
-        | inr whole ↦ part_at_end part had held number at from to limit first last before after all zero one kept kept' same whole.0.1 whole.1
+        | inl nothing ↦ none_out First (had 0) (held 0) (taken_of (held 0) all) none (lands held from to before after all (λ x y. y ≡ x) one kept' same nothing)
+        | inr whole ↦ part_at_end First had held number at from to limit first last before after all zero one kept kept' same whole.0.1 whole.1
       ],
     )
 

@@ -1,7 +1,13 @@
+mod AfterFrontLemmas
+mod ChartLemmas
 mod CheckLineLemmas
 mod CutLemmas
+mod LabelLemmas
+mod LabelledPartLemmas
 mod LawLemmas
 mod MemoryLemmas
+mod QualityLemmas
 mod ShowThroughLemmas
 mod ShownLemmas
+mod WithLabelLemmas
 mod WrittenLemmas

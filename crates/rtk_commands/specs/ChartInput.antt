@@ -2,11 +2,10 @@
 use Rattle.std.specs.Prelude.{◌≡◌, ℕ, ◌≤◌, List, length, Option, None, Some}
 use Rattle.std.specs.Int.{IsInRange}
 use Rattle.rtk_frame.specs.Stream.{with_more, TakesPart}
-use Rattle.rtk_rinex.specs.CheckTable.{IsFault, IsWithoutTable}
 use Rattle.rtk_rinex.specs.declared.check_fault.CheckFault.{CheckFault}
 use Rattle.rtk_chart.specs.Chart.{ShowsTable, ShowsTableInSvg}
 use Rattle.rtk_commands.specs.declared.checking.TheConstants.{CHECK_LIMIT}
-use Rattle.rtk_commands.specs.CheckedInput.{IsTextOfSomeTable}
+use Rattle.rtk_commands.specs.WithLabel.{HoldsWithoutLabel, IsRefused}
 
 -- constant
 -- the width of a picture in characters (this project's rule)
@@ -26,11 +25,19 @@ WritesPicture width file before after = (picture : List ℕ) × IsPicture width 
 abbrev pub WritesPartOfPicture : Option ℕ → List ℕ → Option (List ℕ) → Option (List ℕ) → Type 0
 WritesPartOfPicture width file before after = (picture : List ℕ) × IsPicture width file picture × TakesPart before after picture
 
--- the text is the text of a well-formed table, and a picture of it was written; or it is the text of
--- none, this is its first fault, and nothing was written
+-- a picture of the table was taken whose text with some label this is
+abbrev pub ChartsTable : Option ℕ → List ℕ → Option (List ℕ) → Option (List ℕ) → Type 0
+ChartsTable width text before after = HoldsWithoutLabel (λ file. WritesPicture width file before after) text
+
+-- or a first part of it
+abbrev pub ChartsPartOfTable : Option ℕ → List ℕ → Option (List ℕ) → Option (List ℕ) → Type 0
+ChartsPartOfTable width text before after = HoldsWithoutLabel (λ file. WritesPartOfPicture width file before after) text
+
+-- the text is that of a table with some label, perhaps a blank one, and a picture of the table was
+-- written; or this is the first fault of the text, and nothing was written
 abbrev pub ChartsOrRefuses : Option ℕ → List ℕ → Option CheckFault → Option (List ℕ) → Option (List ℕ) → Type 0
-ChartsOrRefuses width text None before after = IsTextOfSomeTable text × WritesPicture width text before after
-ChartsOrRefuses width text (Some fault) before after = IsFault text fault × IsWithoutTable text × (after ≡ before)
+ChartsOrRefuses width text None before after = ChartsTable width text before after
+ChartsOrRefuses width text (Some fault) before after = IsRefused text fault × (after ≡ before)
 
 -- a text is drawn or refused: it is short enough, and that was done
 abbrev pub ChartsText : Option ℕ → Option CheckFault → List ℕ → Option (List ℕ) → Option (List ℕ) → Type 0
@@ -38,4 +45,4 @@ ChartsText width refusal text before after = (length text ≤ CHECK_LIMIT) × Ch
 
 -- or a first part of its picture was taken
 abbrev pub ChartsPartOf : Option ℕ → List ℕ → Option (List ℕ) → Option (List ℕ) → Type 0
-ChartsPartOf width text before after = (length text ≤ CHECK_LIMIT) × WritesPartOfPicture width text before after
+ChartsPartOf width text before after = (length text ≤ CHECK_LIMIT) × ChartsPartOfTable width text before after

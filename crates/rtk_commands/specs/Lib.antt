@@ -1,10 +1,14 @@
+pub mod AfterFront
 pub mod ChartInput
 pub mod CheckInput
 pub mod CheckLaws
 pub mod CheckedInput
 pub mod CutInput
 pub mod Hex
+pub mod LabelInput
+pub mod QualityInput
 pub mod Show
 pub mod Shown
 pub mod Summarized
+pub mod WithLabel
 pub mod WrittenLaws

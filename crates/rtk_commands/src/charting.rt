@@ -6,14 +6,15 @@ ghost use Rattle.std.specs.Option.{ForSome};
 ghost use Rattle.rtk_frame.specs.Stream.{CountRises};
 ghost use Rattle.rtk_streams.specs.Input.{GivesText, ReadsWhole};
 ghost use Rattle.rtk_streams.specs.Outcome.{IsOutcome};
-ghost use Rattle.rtk_commands.specs.ChartInput.{IsWidth, IsPicture, WritesPicture, WritesPartOfPicture, ChartsText, ChartsPartOf};
+ghost use Rattle.rtk_commands.specs.ChartInput.{IsWidth, IsPicture, WritesPicture, WritesPartOfPicture, ChartsOrRefuses, ChartsPartOfTable, ChartsText, ChartsPartOf};
 ghost use Rattle.rtk_streams.specs.declared.exit_status.TheConstants.{NOT_VALID};
 ghost use Rattle.rtk_streams.specs.declared.fault.ToolFault.TheVariants.{OutOfMemory, Output};
 
 use crate::checking::CHECK_LIMIT;
+use crate::with_label::table_with_label;
 use rtk_chart::{chart_svg, chart_text};
 use rtk_frame::{Sink, Source, write_all};
-use rtk_rinex::{CheckFault, Table, check};
+use rtk_rinex::{CheckFault, Table};
 use rtk_streams::{
     Before, DONE, NOT_VALID, Reads, ToolFault, Writes, fail, fail_to_open, open_input, read_whole,
     standard_output,
@@ -58,8 +59,34 @@ fn chart_table<W: Sink>(
     Ok(())
 }
 
-// Reads an input whole, and writes a picture of it if `check` accepts it: in characters, if a width
-// is given, else in SVG. Else answers the fault that `check` finds, and writes nothing.
+// Writes a picture of a text, without the label that it has, if `check` accepts it without this; it is
+// taken from it in its place. Else answers why not, and writes nothing.
+fn chart_unlabelled<W: Sink>(
+    alloc: Global,
+    text: &mut [u8],
+    width: Option<u16>,
+    out: &mut W,
+) -> Result<Option<CheckFault>, ToolFault>
+    requires { ForSome width IsWidth }
+    ensures told { IfOk result (λ refusal. ChartsOrRefuses width text.old refusal (W.taken out.old) (W.taken out.new)) }
+    ensures output { IsErrOf result Output → CountRises (W.failures out.old) (W.failures out.new) }
+    ensures no_failed_write { result ≢ Err Output → W.failures out.new ≡ W.failures out.old }
+    ensures part { IsErrOf result Output → ChartsPartOfTable width text.old (W.taken out.old) (W.taken out.new) }
+    ensures nothing { IfErr result (λ fault. fault ≢ Output → W.taken out.new ≡ W.taken out.old) }
+    ensures faults { IfErr result (λ fault. (fault ≡ OutOfMemory) ⊎ (fault ≡ Output)) }
+{
+    match table_with_label(text) {
+        Ok(file) => match chart_table(alloc, &file.table, width, out) {
+            Ok(()) => Ok(None),
+            Err(fault) => Err(fault),
+        },
+        Err(fault) => Ok(Some(fault)),
+    }
+}
+
+// Reads an input whole, and writes a picture of it if `check` accepts it without its label: in
+// characters, if a width is given, else in SVG. Else answers the fault that `check` finds, and writes
+// nothing.
 //
 // The picture is whole before a byte of it is written, so after each fault but a failed write
 // nothing is out.
@@ -81,14 +108,8 @@ fn chart_input<R: Source, W: Sink>(
         ChartsPartOf width text (W.taken out.old) (W.taken out.new)) }
     ensures nothing { IfErr result (λ fault. fault ≢ Output → W.taken out.new ≡ W.taken out.old) }
 {
-    let text = read_whole(alloc, reader, CHECK_LIMIT)?;
-    match check(text.as_slice()) {
-        Ok(table) => {
-            chart_table(alloc, &table, width, out)?;
-            Ok(None)
-        }
-        Err(fault) => Ok(Some(fault)),
-    }
+    let mut text = read_whole(alloc, reader, CHECK_LIMIT)?;
+    chart_unlabelled(alloc, text.as_mut_slice(), width, out)
 }
 
 // `chart_input` over the reader and the writer of number 0, by what `K` knows of them.

@@ -1,4 +1,4 @@
-//! The commands that convert nothing: `show`, `summary`, `check`, `chart` and `cut`.
+//! The commands that convert nothing: `show`, `summary`, `check`, `chart`, `quality`, `cut` and `label`.
 //!
 //! Each command is one file of four layers, each of which calls the one before it. In that of `show`:
 //!
@@ -7,7 +7,8 @@
 //! - `show_through` does so without that type, for any reader and writer;
 //! - `show_named` opens the file of a name, writes to standard output and answers the exit status.
 //!
-//! In place of `show` the others have `summarize`, `check_file`, `chart_input` and `cut_input`.
+//! In place of `show` the others have `summarize`, `check_file`, `chart_input`, `assess_input` and
+//! `cut_input`.
 //!
 //! ```rust
 //! use rtk_commands::check_file;
@@ -26,18 +27,24 @@
 //! Its tests: tests/values/src/commands.rt.in and commands/, and tests/program
 #![tactic(auto)]
 
+mod after_front;
+mod assessing;
 mod charting;
 mod checking;
 mod cutting;
 mod hex_input;
+mod labelling;
 pub mod laws;
 mod payload_line;
 mod showing;
 mod summarizing;
+mod with_label;
 
+pub use assessing::{quality_named, quality_through};
 pub use charting::{chart_named, chart_through};
 pub use checking::{CHECK_LIMIT, check_file, check_named, check_through};
-pub use cutting::{Cut, cut_named, cut_through};
+pub use cutting::{Cut, CutAnswer, cut_named, cut_through};
+pub use labelling::{LabelRefusal, Labelled, label_named, label_through};
 pub use payload_line::show_line;
 pub use showing::{SHOW_LIMIT, show, show_bytes, show_named, show_through};
 pub use summarizing::{summarize_named, summarize_through, summary_status};

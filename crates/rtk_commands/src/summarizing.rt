@@ -18,28 +18,30 @@ use std::fs::Files;
 use std::io::{Read, Write};
 use std::marker::Brand;
 
-// Summarizes what a capture gives, by a billion reads at most.
+// Summarizes what the capture of this name gives, by a billion reads at most.
 fn summarize<R: Source, W: Sink>(
     alloc: Global,
+    name: &[u8],
     capture: &mut R,
     out: &mut W,
 ) -> Result<(), SummaryFault>
-    ensures summary { OnOk result (Summarizes (R.given capture.old) (R.given capture.new) (W.taken out.old) (W.taken out.new)) }
+    ensures summary { OnOk result (Summarizes name.now (R.given capture.old) (R.given capture.new) (W.taken out.old) (W.taken out.new)) }
     ensures to_the_end { OnOk result (R.is_at_end capture.new) }
     ensures nothing { IfErr result (λ fault.
         fault ≢ SummaryFault.Write → W.taken out.new ≡ W.taken out.old) }
     ensures part { IsErrOf result SummaryFault.Write
-        → SummarizesInPart (R.given capture.old) (R.given capture.new) (W.taken out.old) (W.taken out.new) }
+        → SummarizesInPart name.now (R.given capture.old) (R.given capture.new) (W.taken out.old) (W.taken out.new) }
     ensures reads { R.calls capture.new ≤ R.calls capture.old + most_reads }
     ensures endless { IsErrOf result SummaryFault.Endless
         → HasRisenBy (R.calls capture.old) (R.calls capture.new) most_reads }
 {
-    rtk_summary::summarize(alloc, capture, out, MOST_READS)
+    rtk_summary::summarize(alloc, name, capture, out, MOST_READS)
 }
 
 // The same over the reader and the writer of number 0, by what `K` knows of them.
 fn summarize_by<R: Read + Drop, W: Write + Drop, K: Before>(
     alloc: Global,
+    name: &[u8],
     reader: R,
     out: W,
 ) -> (W, Result<(), SummaryFault>)
@@ -47,37 +49,38 @@ fn summarize_by<R: Read + Drop, W: Write + Drop, K: Before>(
     requires held { Keeps (K.held 0) (W.contents out) }
     requires one { (n : ℕ) → K.held n ≡ K.held 0 }
     ensures summary { OnOk result.1 (IfSome (K.had 0) (λ text.
-        SummarizesText text (K.held 0) (taken_of (K.held 0) (W.contents result.0)))) }
+        SummarizesText name.now text (K.held 0) (taken_of (K.held 0) (W.contents result.0)))) }
     ensures nothing { IfErr result.1 (λ fault.
         fault ≢ SummaryFault.Write → taken_of (K.held 0) (W.contents result.0) ≡ K.held 0) }
     ensures part { IsErrOf result.1 SummaryFault.Write → IfSome (K.had 0) (λ text.
-        SummarizesPartOf text (K.held 0) (taken_of (K.held 0) (W.contents result.0))) }
+        SummarizesPartOf name.now text (K.held 0) (taken_of (K.held 0) (W.contents result.0))) }
 {
     let mut source: Reads<R, K> = Reads::over(reader, 0);
     let mut target: Writes<W, K> = Writes::over(out, 0);
-    let done = summarize(alloc, &mut source, &mut target);
+    let done = summarize(alloc, name, &mut source, &mut target);
     let writer = target.into_inner();
     (writer, done)
 }
 
-/// Summarizes what a reader has, to a writer that is handed back. What is said holds if the bytes of
+/// Summarizes what a reader has, to a writer that is handed back; the lines name its file. What is said holds if the bytes of
 /// the reader and of the writer are known; the program summarizes files by the same call.
 pub fn summarize_through<R: Read + Drop, W: Write + Drop>(
     alloc: Global,
+    name: &[u8],
     reader: R,
     out: W,
 ) -> (W, Result<(), SummaryFault>)
     // Done: the summary of all that the reader had stands after what the writer held.
     ensures summary { OnOk result.1 (IfSome (R.remaining reader) (λ text.
-        SummarizesText text (W.contents out) (taken_of (W.contents out) (W.contents result.0)))) }
+        SummarizesText name.now text (W.contents out) (taken_of (W.contents out) (W.contents result.0)))) }
 
     // Not done: nothing is out, but a first part after a failed write.
     ensures nothing { IfErr result.1 (λ fault.
         fault ≢ SummaryFault.Write → taken_of (W.contents out) (W.contents result.0) ≡ W.contents out) }
     ensures part { IsErrOf result.1 SummaryFault.Write → IfSome (R.remaining reader) (λ text.
-        SummarizesPartOf text (W.contents out) (taken_of (W.contents out) (W.contents result.0))) }
+        SummarizesPartOf name.now text (W.contents out) (taken_of (W.contents out) (W.contents result.0))) }
 {
-    summarize_by::<R, W, Brand>(alloc, reader, out)
+    summarize_by::<R, W, Brand>(alloc, name, reader, out)
 }
 
 /// The exit status of a summary, by its answer; the fault line goes to standard error.
@@ -102,6 +105,6 @@ pub fn summarize_named<R: Files + Input + Print + Eprint + AllocGlobal>(rt: &R, 
     let Some(capture) = open_input(rt, name) else {
         return fail_to_open(rt, name);
     };
-    let (_out, done) = summarize_through(rt.alloc(), capture, standard_output(rt));
+    let (_out, done) = summarize_through(rt.alloc(), name.as_bytes(), capture, standard_output(rt));
     summary_status(rt, done)
 }

@@ -10,8 +10,8 @@ use Rattle.rtk_rinex.specs.Header.{HeadView, PositionView, position_view, header
 use Rattle.rtk_rinex.specs.Record.{EpochTableView, record_text}
 use Rattle.rtk_rinex.specs.Table.{WellFormedTable, table_text}
 use Rattle.rtk_cut.specs.declared.part_writer.PartWriter.{PartWriter}
-use Rattle.rtk_cut.specs.declared.part.Part.{Part}
-use Rattle.rtk_cut.specs.Cut.{step_ms, is_on_step, is_in_span, cut_epoch, kept_after, table_with}
+use Rattle.rtk_cut.specs.declared.part.Choice.{Choice}
+use Rattle.rtk_cut.specs.Cut.{step_of, is_on_step, is_chosen, cut_epoch, kept_after, table_with}
 use Rattle.rtk_cut.specs.Steps.PartRecords.{header_unless, text_or_new}
 use Rattle.rtk_cut.specs.Steps.PartFile.{still_to_write, WritesUpTo, ComesNext}
 use Rattle.rtk_cut.proofs.ThinnedLemmas.{thinned-on, thinned-off}
@@ -45,44 +45,62 @@ part-after first before after done text whole is wrote part =
 
 -- ---- epochs
 
-kept-on : (part : Part) (earlier : List EpochTableView) (e : EpochTableView) (left : List EpochTableView) → is_on_step (step_ms part.every) e ≡ true
-    → kept_after part earlier (e ∷ left) ≡ cond (is_in_span part.from part.until e) (cut_epoch (step_ms part.every) earlier e ∷ kept_after part (e ∷ earlier) left) (kept_after part (e ∷ earlier) left)
-kept-on part earlier e left on = ap (λ es. filter (is_in_span part.from part.until) es) (thinned-on (step_ms part.every) earlier e left on)
+kept-on : (part : Choice) (earlier : List EpochTableView) (e : EpochTableView) (left : List EpochTableView) → is_on_step (step_of part) e ≡ true
+    → kept_after part earlier (e ∷ left) ≡ cond (is_chosen part e) (cut_epoch (step_of part) earlier e ∷ kept_after part (e ∷ earlier) left) (kept_after part (e ∷ earlier) left)
+kept-on part earlier e left on = ap (λ es. filter (is_chosen part) es) (thinned-on (step_of part) earlier e left on)
 
-kept-in : (part : Part) (earlier : List EpochTableView) (e : EpochTableView) (left : List EpochTableView) → is_on_step (step_ms part.every) e ≡ true → is_in_span part.from part.until e ≡ true
-    → kept_after part earlier (e ∷ left) ≡ cut_epoch (step_ms part.every) earlier e ∷ kept_after part (e ∷ earlier) left
+kept-in : (part : Choice) (earlier : List EpochTableView) (e : EpochTableView) (left : List EpochTableView) → is_on_step (step_of part) e ≡ true → is_chosen part e ≡ true
+    → kept_after part earlier (e ∷ left) ≡ cut_epoch (step_of part) earlier e ∷ kept_after part (e ∷ earlier) left
 kept-in part earlier e left on spans =
-    kept-on part earlier e left on ∙ ap (λ b. cond b (cut_epoch (step_ms part.every) earlier e ∷ kept_after part (e ∷ earlier) left) (kept_after part (e ∷ earlier) left)) spans
+    kept-on part earlier e left on ∙ ap (λ b. cond b (cut_epoch (step_of part) earlier e ∷ kept_after part (e ∷ earlier) left) (kept_after part (e ∷ earlier) left)) spans
 
-same-left : (part : Part) (t : WellFormedTable) (b : Bool) (earlier earlier' left left' : List EpochTableView) → kept_after part earlier left ≡ kept_after part earlier' left'
+same-left : (part : Choice) (t : WellFormedTable) (b : Bool) (earlier earlier' left left' : List EpochTableView) → kept_after part earlier left ≡ kept_after part earlier' left'
     → still_to_write part t b earlier left ≡ still_to_write part t b earlier' left'
 same-left part t true earlier earlier' left left' same = ap (λ es. flat_map record_text es) same
-same-left part t false earlier earlier' left left' same = ap (λ es. table_text (table_with part t es)) same
+same-left part t false earlier earlier' left left' same = ap (λ es. table_text (table_with part.from t es)) same
 
 -- an epoch off the step has no record
-pub left-off : (part : Part) (t : WellFormedTable) (b : Bool) (earlier : List EpochTableView) (e : EpochTableView) (left : List EpochTableView) → is_on_step (step_ms part.every) e ≡ false
+pub left-off : (part : Choice) (t : WellFormedTable) (b : Bool) (earlier : List EpochTableView) (e : EpochTableView) (left : List EpochTableView) → is_on_step (step_of part) e ≡ false
     → still_to_write part t b earlier (e ∷ left) ≡ still_to_write part t b (e ∷ earlier) left
 left-off part t b earlier e left off =
-    same-left part t b earlier (e ∷ earlier) (e ∷ left) left (ap (λ es. filter (is_in_span part.from part.until) es) (thinned-off (step_ms part.every) earlier e left off))
+    same-left part t b earlier (e ∷ earlier) (e ∷ left) left (ap (λ es. filter (is_chosen part) es) (thinned-off (step_of part) earlier e left off))
 
 -- nor has one outside the span
-pub left-outside : (part : Part) (t : WellFormedTable) (b : Bool) (earlier : List EpochTableView) (e : EpochTableView) (left : List EpochTableView) → is_on_step (step_ms part.every) e ≡ true
-    → is_in_span part.from part.until e ≡ false → still_to_write part t b earlier (e ∷ left) ≡ still_to_write part t b (e ∷ earlier) left
+pub left-outside : (part : Choice) (t : WellFormedTable) (b : Bool) (earlier : List EpochTableView) (e : EpochTableView) (left : List EpochTableView) → is_on_step (step_of part) e ≡ true
+    → is_chosen part e ≡ false → still_to_write part t b earlier (e ∷ left) ≡ still_to_write part t b (e ∷ earlier) left
 left-outside part t b earlier e left on outside =
     same-left part t b earlier (e ∷ earlier) (e ∷ left) left
-    (kept-on part earlier e left on ∙ ap (λ b. cond b (cut_epoch (step_ms part.every) earlier e ∷ kept_after part (e ∷ earlier) left) (kept_after part (e ∷ earlier) left)) outside)
+    (kept-on part earlier e left on ∙ ap (λ b. cond b (cut_epoch (step_of part) earlier e ∷ kept_after part (e ∷ earlier) left) (kept_after part (e ∷ earlier) left)) outside)
 
 -- an epoch on the step and in the span has one, and the header comes before the first
-pub left-in : (part : Part) (t : WellFormedTable) (b : Bool) (earlier : List EpochTableView) (e : EpochTableView) (left : List EpochTableView) → is_on_step (step_ms part.every) e ≡ true
-    → is_in_span part.from part.until e ≡ true
-    → still_to_write part t b earlier (e ∷ left) ≡ (header_unless b t.head t.site e.time ++ record_text (cut_epoch (step_ms part.every) earlier e)) ++ still_to_write part t true (e ∷ earlier) left
+pub left-in : (part : Choice) (t : WellFormedTable) (b : Bool) (earlier : List EpochTableView) (e : EpochTableView) (left : List EpochTableView) → is_on_step (step_of part) e ≡ true
+    → is_chosen part e ≡ true
+    → still_to_write part t b earlier (e ∷ left) ≡ (header_unless b t.head t.site e.time ++ record_text (cut_epoch (step_of part) earlier e)) ++ still_to_write part t true (e ∷ earlier) left
 left-in part t true earlier e left on spans = ap (λ es. flat_map record_text es) (kept-in part earlier e left on spans)
 left-in part t false earlier e left on spans =
-    ap (λ es. table_text (table_with part t es)) (kept-in part earlier e left on spans)
-    ∙ sym (append_assoc (header_text t.head t.site e.time) (record_text (cut_epoch (step_ms part.every) earlier e)) (flat_map record_text (kept_after part (e ∷ earlier) left)))
+    ap (λ es. table_text (table_with part.from t es)) (kept-in part earlier e left on spans)
+    ∙ sym (append_assoc (header_text t.head t.site e.time) (record_text (cut_epoch (step_of part) earlier e)) (flat_map record_text (kept_after part (e ∷ earlier) left)))
+
+-- how many records an epoch has
+pub count-off : (choice : Choice) (earlier : List EpochTableView) (e : EpochTableView) (left : List EpochTableView) → is_on_step (step_of choice) e ≡ false
+    → length (kept_after choice earlier (e ∷ left)) ≡ 0 + length (kept_after choice (e ∷ earlier) left)
+count-off choice earlier e left off =
+    ap (λ (es : List EpochTableView). length (filter (is_chosen choice) es)) (thinned-off (step_of choice) earlier e left off) ∙ omega arith
+
+pub count-outside : (choice : Choice) (earlier : List EpochTableView) (e : EpochTableView) (left : List EpochTableView) → is_on_step (step_of choice) e ≡ true
+    → is_chosen choice e ≡ false → length (kept_after choice earlier (e ∷ left)) ≡ 0 + length (kept_after choice (e ∷ earlier) left)
+count-outside choice earlier e left on outside =
+    ap (λ (es : List EpochTableView). length es)
+    (kept-on choice earlier e left on ∙ ap (λ b. cond b (cut_epoch (step_of choice) earlier e ∷ kept_after choice (e ∷ earlier) left) (kept_after choice (e ∷ earlier) left)) outside)
+    ∙ omega arith
+
+pub count-in : (choice : Choice) (earlier : List EpochTableView) (e : EpochTableView) (left : List EpochTableView) → is_on_step (step_of choice) e ≡ true
+    → is_chosen choice e ≡ true → length (kept_after choice earlier (e ∷ left)) ≡ 1 + length (kept_after choice (e ∷ earlier) left)
+count-in choice earlier e left on inside =
+    ap (λ (es : List EpochTableView). length es) (kept-in choice earlier e left on inside) ∙ omega arith
 
 -- at the end only the header of a part without records is left
-pub left-end : (part : Part) (t : WellFormedTable) (b : Bool) (earlier : List EpochTableView) → still_to_write part t b earlier [] ≡ header_unless b t.head t.site (unwrap_or part.from t.first) ++ []
+pub left-end : (part : Choice) (t : WellFormedTable) (b : Bool) (earlier : List EpochTableView) → still_to_write part t b earlier [] ≡ header_unless b t.head t.site (unwrap_or part.from t.first) ++ []
 left-end part t true earlier = refl
 left-end part t false earlier = refl
 
@@ -93,15 +111,15 @@ text-shown false text e shown same is = is ∙ ap record_text (sym (same refl))
 
 -- what is written of an epoch that is on the step and in the span, by the parts of the header
 pub record-written : (c : PartWriter) (t : WellFormedTable) (earlier left : List EpochTableView) (e shown : EpochTableView) (changed : Bool) (text : List ℕ) → ComesNext c t earlier e text
-    → is_on_step (step_ms c.part.every) e ≡ true → is_in_span c.part.from c.part.until e ≡ true → shown ≡ cut_epoch (step_ms c.part.every) earlier e → (changed ≡ false → shown ≡ e)
-    → still_to_write c.part t c.is_header_out earlier (e ∷ left)
-    ≡ (header_unless c.is_header_out c.heading.head (position_view c.heading.position) shown.time ++ text_or_new changed text shown) ++ still_to_write c.part t true (e ∷ earlier) left
+    → is_on_step (step_of c.choice) e ≡ true → is_chosen c.choice e ≡ true → shown ≡ cut_epoch (step_of c.choice) earlier e → (changed ≡ false → shown ≡ e)
+    → still_to_write c.choice t c.is_header_out earlier (e ∷ left)
+    ≡ (header_unless c.is_header_out c.heading.head (position_view c.heading.position) shown.time ++ text_or_new changed text shown) ++ still_to_write c.choice t true (e ∷ earlier) left
 record-written c t earlier left e shown changed text next on spans is same =
-    let rest : List ℕ = still_to_write c.part t true (e ∷ earlier) left in
-    let new : EpochTableView = cut_epoch (step_ms c.part.every) earlier e in
+    let rest : List ℕ = still_to_write c.choice t true (e ∷ earlier) left in
+    let new : EpochTableView = cut_epoch (step_of c.choice) earlier e in
     let own : List ℕ = text_or_new changed text shown in
     let time : ℕ = shown.time in
-    left-in c.part t c.is_header_out earlier e left on spans
+    left-in c.choice t c.is_header_out earlier e left on spans
     ∙ sym (ap (λ (h : HeadView). (header_unless c.is_header_out h (position_view c.heading.position) time ++ own) ++ rest) next.heading.0
     ∙ ap (λ (s : PositionView). (header_unless c.is_header_out t.head s time ++ own) ++ rest) next.heading.1
     ∙ ap (λ (x : EpochTableView). (header_unless c.is_header_out t.head t.site x.time ++ own) ++ rest) is

@@ -7,14 +7,14 @@ use Rattle.rtk_rinex.specs.declared.epoch_table.Observed.{Observed}
 use Rattle.rtk_rinex.specs.declared.epoch_table.SatelliteRow.{SatelliteRow}
 use Rattle.rtk_rinex.specs.Record.{EpochTableView}
 use Rattle.rtk_rinex.specs.Table.{IsTableRow, IsTableEpoch}
-use Rattle.rtk_cut.specs.Cut.{is_on_step, code_at, has_phase_of, has_slip_of, since_phase, has_slipped_since, with_slip, row_with_slips, cut_epoch}
+use Rattle.rtk_cut.specs.Cut.{Step, is_on_step, code_at, has_phase_of, has_slip_of, since_phase, has_slipped_since, with_slip, row_with_slips, cut_epoch}
 use Rattle.rtk_cut.specs.Steps.Pending.{mark_of, MarksBecome, StandsForSlips, row_has_slip, row_has_phase, row_with_marks, epoch_with_marks}
 use Rattle.rtk_cut.proofs.TestLemmas.{map-agree, map-agree_below}
 use Rattle.rtk_cut.proofs.RowLemmas.{only-row, rows-no_slip, rows-within}
 
 -- ---- an epoch more
 
-since-if : (step s c : ℕ) (e : EpochTableView) (earlier : List EpochTableView) (on phase : Bool) → is_on_step step e ≡ on → has_phase_of s c e ≡ phase
+since-if : (step : Step) (s c : ℕ) (e : EpochTableView) (earlier : List EpochTableView) (on phase : Bool) → is_on_step step e ≡ on → has_phase_of s c e ≡ phase
     → since_phase step s c (e ∷ earlier) ≡ cond (not (on && phase)) (e ∷ since_phase step s c earlier) []
 since-if step s c e earlier on phase is_on has =
     take_while-cons (λ x. not (is_on_step step x && has_phase_of s c x)) e earlier
@@ -22,11 +22,11 @@ since-if step s c e earlier on phase is_on has =
     ∙ ap (λ b. cond (not (on && b)) (e ∷ since_phase step s c earlier) []) has
 
 -- after an epoch off the step its slips are marked too
-pub since-off : (step s c : ℕ) (e : EpochTableView) (earlier : List EpochTableView) → is_on_step step e ≡ false
+pub since-off : (step : Step) (s c : ℕ) (e : EpochTableView) (earlier : List EpochTableView) → is_on_step step e ≡ false
     → list_any (has_slip_of s c) (since_phase step s c (e ∷ earlier)) ≡ (has_slip_of s c e || list_any (has_slip_of s c) (since_phase step s c earlier))
 since-off step s c e earlier off = ap (λ es. list_any (has_slip_of s c) es) (since-if step s c e earlier false (has_phase_of s c e) off refl)
 
-on-if : (phase slip old : Bool) (step s c : ℕ) (e : EpochTableView) (earlier : List EpochTableView) → is_on_step step e ≡ true → has_phase_of s c e ≡ phase → has_slip_of s c e ≡ slip → (phase ≡ false → slip ≡ false)
+on-if : (phase slip old : Bool) (step : Step) (s c : ℕ) (e : EpochTableView) (earlier : List EpochTableView) → is_on_step step e ≡ true → has_phase_of s c e ≡ phase → has_slip_of s c e ≡ slip → (phase ≡ false → slip ≡ false)
     → list_any (has_slip_of s c) (since_phase step s c earlier) ≡ old
     → list_any (has_slip_of s c) (since_phase step s c (e ∷ earlier)) ≡ (not phase && old)
 on-if true slip old step s c e earlier on has has_slip none was = ap (λ es. list_any (has_slip_of s c) es) (since-if step s c e earlier true true on has)
@@ -35,19 +35,19 @@ on-if false slip old step s c e earlier on has has_slip none was =
     ∙ ap (λ b. b || list_any (has_slip_of s c) (since_phase step s c earlier)) (has_slip ∙ none refl) ∙ was
 
 -- after an epoch on the step the marks of its phases are gone
-pub since-on : (n step s c : ℕ) (e : EpochTableView) (earlier : List EpochTableView) → All (IsTableRow n) e.rows → is_on_step step e ≡ true
+pub since-on : (n : ℕ) (step : Step) (s c : ℕ) (e : EpochTableView) (earlier : List EpochTableView) → All (IsTableRow n) e.rows → is_on_step step e ≡ true
     → list_any (has_slip_of s c) (since_phase step s c (e ∷ earlier)) ≡ (not (has_phase_of s c e) && list_any (has_slip_of s c) (since_phase step s c earlier))
 since-on n step s c e earlier good on =
     on-if (has_phase_of s c e) (has_slip_of s c e) (list_any (has_slip_of s c) (since_phase step s c earlier)) step s c e earlier on refl refl (rows-no_slip n s c e.rows good) refl
 
-pub noted : (marks marks' : List Bool) (step : ℕ) (earlier : List EpochTableView) (e : EpochTableView) → is_on_step step e ≡ false → StandsForSlips marks step earlier → length marks' ≡ 528
+pub noted : (marks marks' : List Bool) (step : Step) (earlier : List EpochTableView) (e : EpochTableView) → is_on_step step e ≡ false → StandsForSlips marks step earlier → length marks' ≡ 528
     → MarksBecome marks' (λ s c. list_any (row_has_slip s c) e.rows || mark_of marks s c) → StandsForSlips marks' step (e ∷ earlier)
 noted marks marks' step earlier e off stands size marked = record {
   size = size;
   marked = λ s c satellite code. marked s c satellite code ∙ ap (λ b. list_any (row_has_slip s c) e.rows || b) (stands.marked s c satellite code) ∙ sym (since-off step s c e earlier off);
 }
 
-pub shown : (n : ℕ) (marks marks' : List Bool) (step : ℕ) (earlier : List EpochTableView) (e : EpochTableView) → IsTableEpoch n e → is_on_step step e ≡ true → StandsForSlips marks step earlier → length marks' ≡ 528
+pub shown : (n : ℕ) (marks marks' : List Bool) (step : Step) (earlier : List EpochTableView) (e : EpochTableView) → IsTableEpoch n e → is_on_step step e ≡ true → StandsForSlips marks step earlier → length marks' ≡ 528
     → MarksBecome marks' (λ s c. not (list_any (row_has_phase s c) e.rows && ltb c n) && mark_of marks s c) → StandsForSlips marks' step (e ∷ earlier)
 shown n marks marks' step earlier e good on stands size marked = record {
   size = size;
@@ -59,7 +59,7 @@ shown n marks marks' step earlier e good on stands size marked = record {
 
 -- ---- what an epoch shows
 
-row-shown : (n : ℕ) (marks : List Bool) (step : ℕ) (earlier : List EpochTableView) (e : EpochTableView) → n ≤ 16 → IsTableEpoch n e → StandsForSlips marks step earlier
+row-shown : (n : ℕ) (marks : List Bool) (step : Step) (earlier : List EpochTableView) (e : EpochTableView) → n ≤ 16 → IsTableEpoch n e → StandsForSlips marks step earlier
     → (k : ℕ) (d : SatelliteRow) → k < length e.rows
     → row_with_marks marks n (get_or e.rows k d) ≡ row_with_slips (λ c. has_slipped_since step (get_or e.rows k d).satellite c e earlier) (get_or e.rows k d)
 row-shown n marks step earlier e few good stands k d lt =
@@ -77,7 +77,7 @@ row-shown n marks step earlier e few good stands k d lt =
     ap (λ (os : List Observed). record { satellite = r.satellite; observed = record { items = os } })
     (codes ∙ ap (λ (m : ℕ). map (λ c. with_slip (has_slipped_since step r.satellite c e earlier) (code_at c r)) (range_with_len 0 m)) (sym wide))
 
-pub epoch-shown : (n : ℕ) (marks : List Bool) (step : ℕ) (earlier : List EpochTableView) (e : EpochTableView) → n ≤ 16 → IsTableEpoch n e → StandsForSlips marks step earlier
+pub epoch-shown : (n : ℕ) (marks : List Bool) (step : Step) (earlier : List EpochTableView) (e : EpochTableView) → n ≤ 16 → IsTableEpoch n e → StandsForSlips marks step earlier
     → epoch_with_marks marks n e ≡ cut_epoch step earlier e
 epoch-shown n marks step earlier e few good stands =
     ap (λ (rows : List SatelliteRow). record { time = e.time; rows = rows })

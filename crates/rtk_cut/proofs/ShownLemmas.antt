@@ -10,7 +10,7 @@ use Rattle.rtk_rinex.specs.declared.epoch_table.Observed.{Observed}
 use Rattle.rtk_rinex.specs.declared.epoch_table.SatelliteRow.{SatelliteRow}
 use Rattle.rtk_rinex.specs.Record.{EpochTableView}
 use Rattle.rtk_rinex.specs.Table.{IsObserved, IsTableRow, IsTableEpoch}
-use Rattle.rtk_cut.specs.Cut.{no_observation, code_at, has_phase_of, has_slip_of, has_slipped_since, with_slip, row_with_slips, cut_epoch}
+use Rattle.rtk_cut.specs.Cut.{Step, no_observation, code_at, has_phase_of, has_slip_of, has_slipped_since, with_slip, row_with_slips, cut_epoch}
 use Rattle.rtk_cut.specs.CutLaws.{Observes, ShowsPhase, ShowsSlip, without_slip, row_without_slips, without_slips}
 use Rattle.rtk_cut.proofs.AnyLemmas.{any-weaker, any-where, any-map, any-unmap}
 use Rattle.rtk_cut.proofs.CodeLemmas.{codes-good, codes-own, code-past}
@@ -68,7 +68,7 @@ row-shows slips c r o got =
     ∙ ap (λ (x : Observed). Some x) (get_or-map-range_with_len f 0 n c c no_observation within (omega arith))
     ∙ ap (λ (x : Observed). Some (with_slip (slips c) x)) (get_or_from_slice_get r.observed.items c o no_observation got)
 
-pub cut-shows : (step s c : ℕ) (earlier : List EpochTableView) (o : Observed) (e : EpochTableView) → Observes s c o e → Observes s c (with_slip (has_slipped_since step s c e earlier) o) (cut_epoch step earlier e)
+pub cut-shows : (step : Step) (s c : ℕ) (earlier : List EpochTableView) (o : Observed) (e : EpochTableView) → Observes s c o e → Observes s c (with_slip (has_slipped_since step s c e earlier) o) (cut_epoch step earlier e)
 cut-shows step s c earlier o e a =
     let slipped : ℕ → ℕ → Bool = λ s c. has_slipped_since step s c e earlier in
     any-map (λ r. (r.satellite ≡ s) × (slice_get r.observed.items c ≡ Some (with_slip (slipped s c) o))) (λ (r : SatelliteRow). row_with_slips (slipped r.satellite) r) e.rows
@@ -76,7 +76,7 @@ cut-shows step s c earlier o e a =
     (λ r. (r.satellite ≡ s) × (slice_get (row_with_slips (slipped r.satellite) r).observed.items c ≡ Some (with_slip (slipped s c) o))) e.rows
     (λ r is. (is.0, row-shows (slipped r.satellite) c r o is.1 ∙ ap (λ (n : ℕ). Some (with_slip (slipped n c) o)) is.0)) a)
 
-pub cut-shown : (step s c : ℕ) (earlier : List EpochTableView) (g : Observed) (e : EpochTableView) → Observes s c g (cut_epoch step earlier e)
+pub cut-shown : (step : Step) (s c : ℕ) (earlier : List EpochTableView) (g : Observed) (e : EpochTableView) → Observes s c g (cut_epoch step earlier e)
     → (o : Observed) × Observes s c o e × (g ≡ with_slip (has_slipped_since step s c e earlier) o)
 cut-shown step s c earlier g e a =
     let slipped : ℕ → ℕ → Bool = λ s c. has_slipped_since step s c e earlier in
@@ -121,7 +121,7 @@ map-kept w f [] same = refl
 map-kept w f (x ∷ xs) same = ap (λ y. y ∷ map w (map f xs)) (same x) ∙ ap (λ ys. w x ∷ ys) (map-kept w f xs same)
 
 -- all but the slips stays
-pub cut-kept : (step : ℕ) (earlier : List EpochTableView) (e : EpochTableView) → without_slips (cut_epoch step earlier e) ≡ without_slips e
+pub cut-kept : (step : Step) (earlier : List EpochTableView) (e : EpochTableView) → without_slips (cut_epoch step earlier e) ≡ without_slips e
 cut-kept step earlier e =
     let slipped : ℕ → ℕ → Bool = λ s c. has_slipped_since step s c e earlier in
     ap (λ (rows : List SatelliteRow). record { time = e.time; rows = rows })

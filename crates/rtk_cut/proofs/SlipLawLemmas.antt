@@ -1,10 +1,10 @@
 -- The laws on which records, slips and values a part has.
-use Rattle.std.proofs.Common.{◌≡◌, ◌<◌, ◌≤◌, ◌*◌, ◌%◌, ◌/◌, ◌+◌, ℕ, Bool, true, false, not, ◌&&◌, ltb, cond, inl, inr, Option, Some, None, List, [], ◌∷◌, ◌++◌, length, take, drop, refl, sym, ap, subst, ◌∙◌, arith}
+use Rattle.std.proofs.Common.{◌≡◌, ◌<◌, ◌≤◌, ◌*◌, ◌%◌, ◌/◌, ◌+◌, ◌-◌, ℕ, Bool, true, false, not, ◌&&◌, ltb, cond, inl, inr, Option, Some, None, List, [], ◌∷◌, ◌++◌, length, take, drop, refl, sym, ap, subst, ◌∙◌, arith}
 use Rattle.std.specs.Prelude.{All, Any, IfSome, is_some, take_while}
 use Rattle.std.specs.List.{list_any, prefix_len}
-use Rattle.std.proofs.Math.Nat.{mul-mod_left}
+use Rattle.std.proofs.Math.Nat.{mod-le, mul-add-mod_self_right}
 use Rattle.std.proofs.lemmas.Nat.{div-add-mod'}
-use Rattle.std.proofs.lemmas.Bool.{lt-ltb, le-ltb, ltb-true, ltb-false, eq-eqb, eqb-true, and_parts, and_from, not-true, or_left, or_right, true_from_ne_false, both_ways}
+use Rattle.std.proofs.lemmas.Bool.{lt-ltb, le-ltb, ltb-true, ltb-false, leb-true, le-leb, and_parts, and_from, not-true, or_left, or_right, true_from_ne_false, both_ways}
 use Rattle.std.proofs.lemmas.List.{get_or-take, take-append-drop}
 use Rattle.std.proofs.lemmas.List.Elements.{All-nil, All-cons, All-weaker, All-filter, filter_passes}
 use Rattle.std.proofs.lemmas.List.Folds.{Any-from_list_any, length-prefix_len}
@@ -13,8 +13,9 @@ use Rattle.rtk_rinex.specs.declared.epoch_table.Observed.{Observed}
 use Rattle.rtk_rinex.specs.Record.{EpochTableView}
 use Rattle.rtk_rinex.specs.Table.{IsTableEpoch}
 use Rattle.rtk_cut.specs.declared.part.Part.{Part}
-use Rattle.rtk_cut.specs.Cut.{step_ms, is_on_step, is_at_or_after, is_earlier_than, is_in_span, has_phase_of, has_slip_of, since_phase, has_slipped_since, with_slip, cut_epoch, thinned_after, kept_after, first_of_part, cut_of}
-use Rattle.rtk_cut.specs.CutLaws.{IsWholeSteps, IsAskedFor, RecordsAreAskedFor, Observes, ShowsPhase, ShowsSlip, HasSlipToShow, SlipsAreKept, SlipsAreFound, without_slips, OthersStay, PartsAreWritten}
+use Rattle.rtk_cut.specs.declared.part.Choice.{Choice}
+use Rattle.rtk_cut.specs.Cut.{near_of, choice_of, Step, step_of, is_near_step, is_on_step, is_at_or_after, is_earlier_than, is_chosen, has_phase_of, has_slip_of, since_phase, has_slipped_since, with_slip, cut_epoch, thinned_after, kept_after, first_of_part, cut_of}
+use Rattle.rtk_cut.specs.CutLaws.{IsNearSteps, IsAskedFor, RecordsAreAskedFor, Observes, ShowsPhase, ShowsSlip, HasSlipToShow, SlipsAreKept, SlipsAreFound, without_slips, OthersStay, PartsAreWritten}
 use Rattle.rtk_cut.proofs.AnyLemmas.{any-here, any-weaker, any-where, any-left, any-middle, any-split, any-none, any-append, any-splits, any-if, any-filter, any-while, onto, onto-append, onto-long, onto-parts, all-onto, any-onto}
 use Rattle.rtk_cut.proofs.CodeLemmas.{no-slip}
 use Rattle.rtk_cut.proofs.ShownLemmas.{shows-phase, phase-shown, shows-slip, slip-shown, observes-good, cut-shows, cut-shown, slip-with_phase, slip-without_phase, cut-kept}
@@ -23,20 +24,27 @@ use Rattle.rtk_cut.proofs.LawLemmas.{parts-are_tables}
 
 -- ---- which moments are asked for
 
-whole-steps : (every : Option ℕ) (e : EpochTableView) → is_on_step (step_ms every) e ≡ true → IsWholeSteps every e.time
-whole-steps None e on = tt
-whole-steps (Some every) e on =
+whole-steps : (near : ℕ) (every : Option ℕ) (t : ℕ) → is_near_step near every t ≡ true → IsNearSteps near every t
+whole-steps near None t on = tt
+whole-steps near (Some every) t on =
     let m : ℕ = every * 1000 in
-    let rest : e.time % m ≡ 0 = eqb-true (e.time % m) 0 on in
-    let whole : e.time / m * m + e.time % m ≡ e.time = div-add-mod' e.time m in
-    let left : e.time / m * m + 0 ≡ e.time = ap (λ (r : ℕ). e.time / m * m + r) (sym rest) ∙ whole in
-    (e.time / m, omega (arith, left))
+    let rest : (t + near) % m ≤ 2 * near = leb-true ((t + near) % m) (2 * near) on in
+    let whole : (t + near) / m * m + (t + near) % m ≡ t + near = div-add-mod' (t + near) m in
+    ((t + near) / m, omega (arith, whole), omega (arith, rest, whole))
 
-on-step : (every : Option ℕ) (e : EpochTableView) → IsWholeSteps every e.time → is_on_step (step_ms every) e ≡ true
-on-step None e whole = eq-eqb (e.time % 1) 0 (omega arith)
-on-step (Some every) e whole =
+on-step : (near : ℕ) (every : Option ℕ) (t : ℕ) → IsNearSteps near every t → is_near_step near every t ≡ true
+on-step near None t whole = refl
+on-step near (Some every) t whole =
     let m : ℕ = every * 1000 in
-    eq-eqb (e.time % m) 0 (ap (λ (t : ℕ). t % m) whole.1 ∙ mul-mod_left whole.0 m)
+    let n : ℕ = whole.0 in
+    let d : ℕ = (t + near) - n * m in
+    let first : n * m ≤ t + near = whole.1 in
+    let last : t ≤ n * m + near = whole.2 in
+    let is : n * m + d ≡ t + near = omega (arith, first) in
+    let same : (t + near) % m ≡ d % m = ap (λ (x : ℕ). x % m) (sym is) ∙ mul-add-mod_self_right n m d in
+    let small : d % m ≤ d = mod-le d m in
+    let few : (t + near) % m ≤ 2 * near = omega (arith, same, small, is, last) in
+    le-leb ((t + near) % m) (2 * near) few
 
 past-first : (from : Option ℕ) (t : ℕ) → is_at_or_after from t ≡ true → IfSome from (λ first. first ≤ t)
 past-first None t is = tt
@@ -54,22 +62,22 @@ past-before : (until : Option ℕ) (t : ℕ) → IfSome until (λ past. t < past
 past-before None t is = refl
 past-before (Some past) t is = lt-ltb t past is
 
-asked-for : (part : Part) (e : EpochTableView) → is_on_step (step_ms part.every) e ≡ true → is_in_span part.from part.until e ≡ true → IsAskedFor part e.time
-asked-for part e on inside =
-    let both = and_parts (is_at_or_after part.from e.time) (is_earlier_than part.until e.time) inside in
-    record { steps = whole-steps part.every e on; from = past-first part.from e.time both.0; until = before-past part.until e.time both.1 }
+asked-for : (near : ℕ) (part : Part) (e : EpochTableView) → is_on_step (step_of (choice_of part near)) e ≡ true → is_chosen (choice_of part near) e ≡ true → IsAskedFor near part e.time
+asked-for near part e on inside =
+    let both = and_parts (is_at_or_after part.from (e.time + near)) (is_earlier_than part.until (e.time + near)) inside in
+    record { steps = whole-steps near part.every e.time on; from = past-first part.from (e.time + near) both.0; until = before-past part.until (e.time + near) both.1 }
 
-asked-in : (part : Part) (e : EpochTableView) (time : ℕ) → IsAskedFor part time → e.time ≡ time → is_in_span part.from part.until e ≡ true
-asked-in part e time asked same =
-    ap (λ (t : ℕ). is_at_or_after part.from t && is_earlier_than part.until t) same
-    ∙ and_from (is_at_or_after part.from time) (is_earlier_than part.until time) (first-past part.from time asked.from) (past-before part.until time asked.until)
+asked-in : (near : ℕ) (part : Part) (e : EpochTableView) (time : ℕ) → IsAskedFor near part time → e.time ≡ time → is_chosen (choice_of part near) e ≡ true
+asked-in near part e time asked same =
+    ap (λ (t : ℕ). is_at_or_after part.from (t + near) && is_earlier_than part.until (t + near)) same
+    ∙ and_from (is_at_or_after part.from (time + near)) (is_earlier_than part.until (time + near)) (first-past part.from (time + near) asked.from) (past-before part.until (time + near) asked.until)
 
-asked-on : (part : Part) (e : EpochTableView) (time : ℕ) → IsAskedFor part time → e.time ≡ time → is_on_step (step_ms part.every) e ≡ true
-asked-on part e time asked same = on-step part.every e (subst (λ (t : ℕ). IsWholeSteps part.every t) (sym same) asked.steps)
+asked-on : (near : ℕ) (part : Part) (e : EpochTableView) (time : ℕ) → IsAskedFor near part time → e.time ≡ time → is_on_step (step_of (choice_of part near)) e ≡ true
+asked-on near part e time asked same = on-step near part.every e.time (subst (λ (t : ℕ). IsNearSteps near part.every t) (sym same) asked.steps)
 
 -- ---- an epoch on the step is an epoch of the file
 
-record IsFrom (step : ℕ) (earlier es : List EpochTableView) (g : EpochTableView) : Type 0 where
+record IsFrom (step : Step) (earlier es : List EpochTableView) (g : EpochTableView) : Type 0 where
   before : List EpochTableView
   own : EpochTableView
   after : List EpochTableView
@@ -81,17 +89,17 @@ all-if-on : (P : EpochTableView → Type 0) (b : Bool) (e : EpochTableView) (es 
 all-if-on P true e es here rest = All-cons P e es (here refl) rest
 all-if-on P false e es here rest = rest
 
-further : (step : ℕ) (earlier : List EpochTableView) (e : EpochTableView) (es : List EpochTableView) (g : EpochTableView) → IsFrom step (e ∷ earlier) es g → IsFrom step earlier (e ∷ es) g
+further : (step : Step) (earlier : List EpochTableView) (e : EpochTableView) (es : List EpochTableView) (g : EpochTableView) → IsFrom step (e ∷ earlier) es g → IsFrom step earlier (e ∷ es) g
 further step earlier e es g f = record { before = e ∷ f.before; own = f.own; after = f.after; are = ap (λ xs. e ∷ xs) f.are; on = f.on; is = f.is }
 
-thinned-from : (step : ℕ) (earlier es : List EpochTableView) → All (IsFrom step earlier es) (thinned_after step earlier es)
+thinned-from : (step : Step) (earlier es : List EpochTableView) → All (IsFrom step earlier es) (thinned_after step earlier es)
 thinned-from step earlier [] = All-nil (IsFrom step earlier [])
 thinned-from step earlier (e ∷ es) =
     let rest = thinned_after step (e ∷ earlier) es in
     all-if-on (IsFrom step earlier (e ∷ es)) (is_on_step step e) (cut_epoch step earlier e) rest (λ on. record { before = []; own = e; after = es; are = refl; on = on; is = refl })
     (All-weaker (IsFrom step (e ∷ earlier) es) (IsFrom step earlier (e ∷ es)) (λ g f. further step earlier e es g f) rest (thinned-from step (e ∷ earlier) es))
 
-thinned-has : (P : EpochTableView → Type 0) (step : ℕ) (earlier before : List EpochTableView) (e : EpochTableView) (after : List EpochTableView) → is_on_step step e ≡ true
+thinned-has : (P : EpochTableView → Type 0) (step : Step) (earlier before : List EpochTableView) (e : EpochTableView) (after : List EpochTableView) → is_on_step step e ≡ true
     → P (cut_epoch step (onto before earlier) e) → Any P (thinned_after step earlier (before ++ e ∷ after))
 thinned-has P step earlier [] e after on p =
     subst (λ (es : List EpochTableView). Any P es) (sym (thinned-on step earlier e after on)) (any-here P (cut_epoch step earlier e) (thinned_after step (e ∷ earlier) after) p)
@@ -99,42 +107,45 @@ thinned-has P step earlier (x ∷ before) e after on p =
     any-if P (is_on_step step x) (cut_epoch step earlier x) (thinned_after step (x ∷ earlier) (before ++ e ∷ after)) (thinned-has P step (x ∷ earlier) before e after on p)
 
 -- an epoch of the part
-kept-from : (part : Part) (es : List EpochTableView)
-    → All (λ g. IsFrom (step_ms part.every) [] es g × (is_in_span part.from part.until g ≡ true)) (kept_after part [] es)
+kept-from : (part : Choice) (es : List EpochTableView)
+    → All (λ g. IsFrom (step_of part) [] es g × (is_chosen part g ≡ true)) (kept_after part [] es)
 kept-from part es =
-    let step : ℕ = step_ms part.every in
-    let test : EpochTableView → Bool = is_in_span part.from part.until in
+    let step : Step = step_of part in
+    let test : EpochTableView → Bool = is_chosen part in
     let from = All-filter test (IsFrom step [] es) (thinned_after step [] es) (thinned-from step [] es) in
     let inside = filter_passes test (thinned_after step [] es) in
     λ k d lt. (from k d lt, inside k d lt)
 
-kept-has : (P : EpochTableView → Type 0) (part : Part) (time : ℕ) (es before : List EpochTableView) (e : EpochTableView) (after : List EpochTableView) → es ≡ before ++ e ∷ after → IsAskedFor part time → e.time ≡ time
-    → ((g : EpochTableView) → P g → g.time ≡ time) → P (cut_epoch (step_ms part.every) (onto before []) e) → Any P (kept_after part [] es)
-kept-has P part time es before e after are asked same at p =
-    let step : ℕ = step_ms part.every in
-    any-filter P (is_in_span part.from part.until) (thinned_after step [] es) (λ g q. asked-in part g time asked (at g q))
-    (subst (λ (xs : List EpochTableView). Any P (thinned_after step [] xs)) (sym are) (thinned-has P step [] before e after (asked-on part e time asked same) p))
+kept-has : (P : EpochTableView → Type 0) (near : ℕ) (asking : Part) (time : ℕ) (es before : List EpochTableView) (e : EpochTableView) (after : List EpochTableView) → es ≡ before ++ e ∷ after → IsAskedFor near asking time → e.time ≡ time
+    → ((g : EpochTableView) → P g → g.time ≡ time) → P (cut_epoch (step_of (choice_of asking near)) (onto before []) e) → Any P (kept_after (choice_of asking near) [] es)
+kept-has P near asking time es before e after are asked same at p =
+    let part : Choice = choice_of asking near in
+    let step : Step = step_of part in
+    any-filter P (is_chosen part) (thinned_after step [] es) (λ g q. asked-in near asking g time asked (at g q))
+    (subst (λ (xs : List EpochTableView). Any P (thinned_after step [] xs)) (sym are) (thinned-has P step [] before e after (asked-on near asking e time asked same) p))
 
 pub records-are_asked_for : RecordsAreAskedFor
-records-are_asked_for part t = λ time. (
+records-are_asked_for asking t = λ time. (
   λ any.
-      let step : ℕ = step_ms part.every in
-      let a = any-where (λ g. IsFrom step [] t.epochs g × (is_in_span part.from part.until g ≡ true)) (λ g. g.time ≡ time) (kept_after part [] t.epochs) (kept-from part t.epochs) any in
+      let near : ℕ = near_of t in
+      let part : Choice = choice_of asking near in
+      let step : Step = step_of part in
+      let a = any-where (λ g. IsFrom step [] t.epochs g × (is_chosen part g ≡ true)) (λ g. g.time ≡ time) (kept_after part [] t.epochs) (kept-from part t.epochs) any in
       let f : IsFrom step [] t.epochs a.0 = a.1.0 in
       let own : f.own.time ≡ a.0.time = sym (ap (λ (x : EpochTableView). x.time) f.is) in
-      let inside : is_in_span part.from part.until f.own ≡ true = ap (λ (n : ℕ). is_at_or_after part.from n && is_earlier_than part.until n) own ∙ a.1.1 in (
+      let inside : is_chosen part f.own ≡ true = ap (λ (n : ℕ). is_at_or_after part.from (n + near) && is_earlier_than part.until (n + near)) own ∙ a.1.1 in (
         subst (λ (es : List EpochTableView). Any (λ e. e.time ≡ time) es) (sym f.are) (any-middle (λ (e : EpochTableView). e.time ≡ time) f.before f.own f.after (own ∙ a.2)),
-        subst (λ (n : ℕ). IsAskedFor part n) (own ∙ a.2) (asked-for part f.own f.on inside),
+        subst (λ (n : ℕ). IsAskedFor near asking n) (own ∙ a.2) (asked-for near asking f.own f.on inside),
       ),
   λ both.
       let s = any-splits (λ (e : EpochTableView). e.time ≡ time) t.epochs both.0 in
-      kept-has (λ g. g.time ≡ time) part time t.epochs s.0 s.1 s.2 s.3 both.1 s.4 (λ g same. same) s.4,
+      kept-has (λ g. g.time ≡ time) (near_of t) asking time t.epochs s.0 s.1 s.2 s.3 both.1 s.4 (λ g same. same) s.4,
 )
 
 -- ---- slips
 
 -- the epochs in which the phase is not shown on the step
-abbrev is_unseen : ℕ → ℕ → ℕ → EpochTableView → Bool
+abbrev is_unseen : Step → ℕ → ℕ → EpochTableView → Bool
 is_unseen step s c e = not (is_on_step step e && has_phase_of s c e)
 
 unseen-passes : (on phase : Bool) → (on ≡ true → phase ≡ true → ⊥) → not (on && phase) ≡ true
@@ -146,10 +157,10 @@ passes-unseen : (on phase : Bool) → not (on && phase) ≡ true → on ≡ true
 passes-unseen on phase passed is_on has = both_ways (on && phase) (not-true (on && phase) passed) (and_from on phase is_on has)
 
 -- a slip that is to be shown has been since the phase
-is-slipped : (every : Option ℕ) (s c : ℕ) (start gap : List EpochTableView) (f : EpochTableView) → All (λ e. IsWholeSteps every e.time → ShowsPhase s c e → ⊥) gap → Any (ShowsSlip s c) (gap ++ f ∷ [])
-    → has_slipped_since (step_ms every) s c f (onto (start ++ gap) []) ≡ true
-is-slipped every s c start gap f unseen slip =
-    let step : ℕ = step_ms every in
+is-slipped : (near : ℕ) (every : Option ℕ) (s c : ℕ) (start gap : List EpochTableView) (f : EpochTableView) → All (λ e. IsNearSteps near every e.time → ShowsPhase s c e → ⊥) gap → Any (ShowsSlip s c) (gap ++ f ∷ [])
+    → has_slipped_since (record { every = every; near = near }) s c f (onto (start ++ gap) []) ≡ true
+is-slipped near every s c start gap f unseen slip =
+    let step : Step = record { every = every; near = near } in
     let test : EpochTableView → Bool = is_unseen step s c in
     let earlier : List EpochTableView = onto (start ++ gap) [] in
     let since : Bool = list_any (has_slip_of s c) (since_phase step s c earlier) in
@@ -157,8 +168,8 @@ is-slipped every s c start gap f unseen slip =
       | inl before ↦
           let passes : All (λ e. test e ≡ true) (onto gap []) =
           all-onto (λ e. test e ≡ true) gap []
-          (All-weaker (λ e. IsWholeSteps every e.time → ShowsPhase s c e → ⊥) (λ e. test e ≡ true)
-          (λ e never. unseen-passes (is_on_step step e) (has_phase_of s c e) (λ on has. never (whole-steps every e on) (shows-phase s c e has))) gap unseen)
+          (All-weaker (λ e. IsNearSteps near every e.time → ShowsPhase s c e → ⊥) (λ e. test e ≡ true)
+          (λ e never. unseen-passes (is_on_step step e) (has_phase_of s c e) (λ on has. never (whole-steps near every e.time on) (shows-phase s c e has))) gap unseen)
           (All-nil (λ e. test e ≡ true)) in
           let slips : Any (λ e. has_slip_of s c e ≡ true) (onto gap []) =
           any-onto (λ e. has_slip_of s c e ≡ true) gap [] (any-weaker (ShowsSlip s c) (λ e. has_slip_of s c e ≡ true) gap (λ e shows. slip-shown s c e shows) before) in
@@ -173,27 +184,28 @@ is-slipped every s c start gap f unseen slip =
     ]
 
 pub slips-are_kept : SlipsAreKept
-slips-are_kept part t = λ s c time asked due.
-    let step : ℕ = step_ms part.every in
+slips-are_kept asking t = λ s c time asked due.
+    let near : ℕ = near_of t in
+    let step : Step = step_of (choice_of asking near) in
     let before : List EpochTableView = due.start ++ due.gap in
     let f : EpochTableView = due.shows in
     let slipped : Bool = has_slipped_since step s c f (onto before []) in
     let o : Observed = due.phase.0 in
     let shown : ShowsSlip s c (cut_epoch step (onto before []) f) =
-    (with_slip slipped o, cut-shows step s c (onto before []) o f due.phase.1, slip-with_phase slipped o due.phase.2 ∙ is-slipped part.every s c due.start due.gap f due.unseen due.slip) in
-    kept-has (λ g. (g.time ≡ time) × ShowsSlip s c g) part time t.epochs before f due.rest due.are asked due.at (λ g is. is.0) (due.at, shown)
+    (with_slip slipped o, cut-shows step s c (onto before []) o f due.phase.1, slip-with_phase slipped o due.phase.2 ∙ is-slipped near asking.every s c due.start due.gap f due.unseen due.slip) in
+    kept-has (λ g. (g.time ≡ time) × ShowsSlip s c g) near asking time t.epochs before f due.rest due.are asked due.at (λ g is. is.0) (due.at, shown)
 
 -- the epochs since the phase are a gap in which it is not shown on the step
-pub record HasGap (every : Option ℕ) (s c : ℕ) (before : List EpochTableView) (f : EpochTableView) : Type 0 where
+pub record HasGap (near : ℕ) (every : Option ℕ) (s c : ℕ) (before : List EpochTableView) (f : EpochTableView) : Type 0 where
   pub start : List EpochTableView
   pub gap : List EpochTableView
   pub are : before ≡ start ++ gap
-  pub unseen : All (λ e. IsWholeSteps every e.time → ShowsPhase s c e → ⊥) gap
+  pub unseen : All (λ e. IsNearSteps near every e.time → ShowsPhase s c e → ⊥) gap
   pub slip : Any (ShowsSlip s c) (gap ++ f ∷ [])
 
-has-gap : (every : Option ℕ) (s c : ℕ) (before : List EpochTableView) (f : EpochTableView) → has_slipped_since (step_ms every) s c f (onto before []) ≡ true → HasGap every s c before f
-has-gap every s c before f slipped =
-    let step : ℕ = step_ms every in
+has-gap : (near : ℕ) (every : Option ℕ) (s c : ℕ) (before : List EpochTableView) (f : EpochTableView) → has_slipped_since (record { every = every; near = near }) s c f (onto before []) ≡ true → HasGap near every s c before f
+has-gap near every s c before f slipped =
+    let step : Step = record { every = every; near = near } in
     let test : EpochTableView → Bool = is_unseen step s c in
     let earlier : List EpochTableView = onto before [] in
     let n : ℕ = prefix_len test earlier in
@@ -209,10 +221,10 @@ has-gap every s c before f slipped =
       start = onto vs [];
       gap = onto us [];
       are = onto-parts before us vs (sym (take-append-drop n earlier));
-      unseen = all-onto (λ e. IsWholeSteps every e.time → ShowsPhase s c e → ⊥) us []
-          (All-weaker (λ e. test e ≡ true) (λ e. IsWholeSteps every e.time → ShowsPhase s c e → ⊥)
-          (λ e passed whole shows. passes-unseen (is_on_step step e) (has_phase_of s c e) passed (on-step every e whole) (phase-shown s c e shows)) us passes)
-          (All-nil (λ e. IsWholeSteps every e.time → ShowsPhase s c e → ⊥));
+      unseen = all-onto (λ e. IsNearSteps near every e.time → ShowsPhase s c e → ⊥) us []
+          (All-weaker (λ e. test e ≡ true) (λ e. IsNearSteps near every e.time → ShowsPhase s c e → ⊥)
+          (λ e passed whole shows. passes-unseen (is_on_step step e) (has_phase_of s c e) passed (on-step near every e.time whole) (phase-shown s c e shows)) us passes)
+          (All-nil (λ e. IsNearSteps near every e.time → ShowsPhase s c e → ⊥));
       slip = elim (any-split (λ e. has_slip_of s c e ≡ true) f us any) [
         | inl here ↦ any-middle (ShowsSlip s c) (onto us []) f [] (shows-slip s c f here)
         | inr there ↦
@@ -222,10 +234,12 @@ has-gap every s c before f slipped =
     }
 
 pub slips-are_found : SlipsAreFound
-slips-are_found part t good = λ s c.
-    let step : ℕ = step_ms part.every in
+slips-are_found asking t good = λ s c.
+    let near : ℕ = near_of t in
+    let part : Choice = choice_of asking near in
+    let step : Step = step_of part in
     let n : ℕ = length t.head.listed in
-    All-weaker (λ g. IsFrom step [] t.epochs g × (is_in_span part.from part.until g ≡ true)) (λ g. ShowsSlip s c g → HasSlipToShow part.every s c t.epochs g.time)
+    All-weaker (λ g. IsFrom step [] t.epochs g × (is_chosen part g ≡ true)) (λ g. ShowsSlip s c g → HasSlipToShow near asking.every s c t.epochs g.time)
     (λ g kept shows.
     let f : IsFrom step [] t.epochs g = kept.0 in
     let slipped : Bool = has_slipped_since step s c f.own (onto f.before []) in
@@ -238,7 +252,7 @@ slips-are_found part t good = λ s c.
     let phase : is_some o.phase_millicycles ≡ true =
     true_from_ne_false (is_some o.phase_millicycles)
     (λ none. both_ways o.slip (no-slip o (observes-good n s c o f.own fine b.1) none) (sym (slip-without_phase slipped o none) ∙ slip)) in
-    let gap = has-gap part.every s c f.before f.own (sym (slip-with_phase slipped o phase) ∙ slip) in
+    let gap = has-gap near asking.every s c f.before f.own (sym (slip-with_phase slipped o phase) ∙ slip) in
     record {
       start = gap.start;
       gap = gap.gap;
@@ -254,15 +268,15 @@ slips-are_found part t good = λ s c.
 -- ---- the others
 
 pub others-stay : OthersStay
-others-stay part t = record {
+others-stay asking t = let part : Choice = choice_of asking (near_of t) in record {
   head = refl;
   site = refl;
   without_record = λ none. ap (λ (es : List EpochTableView). first_of_part part.from t.first es) none;
-  epochs = All-weaker (λ g. IsFrom (step_ms part.every) [] t.epochs g × (is_in_span part.from part.until g ≡ true)) (λ g. Any (λ e. without_slips g ≡ without_slips e) t.epochs)
+  epochs = All-weaker (λ g. IsFrom (step_of part) [] t.epochs g × (is_chosen part g ≡ true)) (λ g. Any (λ e. without_slips g ≡ without_slips e) t.epochs)
       (λ g kept.
-      let f : IsFrom (step_ms part.every) [] t.epochs g = kept.0 in
+      let f : IsFrom (step_of part) [] t.epochs g = kept.0 in
       subst (λ (es : List EpochTableView). Any (λ e. without_slips g ≡ without_slips e) es) (sym f.are)
-      (any-middle (λ e. without_slips g ≡ without_slips e) f.before f.own f.after (ap without_slips f.is ∙ cut-kept (step_ms part.every) (onto f.before []) f.own)))
+      (any-middle (λ e. without_slips g ≡ without_slips e) f.before f.own f.after (ap without_slips f.is ∙ cut-kept (step_of part) (onto f.before []) f.own)))
       (kept_after part [] t.epochs) (kept-from part t.epochs);
 }
 

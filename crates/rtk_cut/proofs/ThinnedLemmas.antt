@@ -9,7 +9,7 @@ use Rattle.std.proofs.lemmas.List.Kept.{AllPairs-cons}
 use Rattle.rtk_rinex.specs.declared.epoch_table.SatelliteRow.{SatelliteRow}
 use Rattle.rtk_rinex.specs.Record.{EpochTableView}
 use Rattle.rtk_rinex.specs.Table.{IsTableRow, IsTableEpoch}
-use Rattle.rtk_cut.specs.Cut.{is_on_step, code_at, has_phase_of, has_slip_of, since_phase, has_slipped_since, row_with_slips, cut_epoch, thinned_after}
+use Rattle.rtk_cut.specs.Cut.{Step, is_on_step, code_at, has_phase_of, has_slip_of, since_phase, has_slipped_since, row_with_slips, cut_epoch, thinned_after}
 use Rattle.rtk_cut.proofs.TestLemmas.{or-nothing, pairs-head, pairs-tail}
 use Rattle.rtk_cut.proofs.CodeLemmas.{row-good, row-own}
 use Rattle.rtk_cut.proofs.RowLemmas.{Rise, only-row}
@@ -18,7 +18,7 @@ use Rattle.rtk_cut.proofs.PendingLemmas.{since-on}
 
 -- ---- an epoch of the part is an epoch of a file
 
-cut-rise : (step : ℕ) (earlier : List EpochTableView) (e : EpochTableView) → Rise e.rows → Rise (cut_epoch step earlier e).rows
+cut-rise : (step : Step) (earlier : List EpochTableView) (e : EpochTableView) → Rise e.rows → Rise (cut_epoch step earlier e).rows
 cut-rise step earlier e rise i j d low high =
     let f : SatelliteRow → SatelliteRow = λ r. row_with_slips (λ c. has_slipped_since step r.satellite c e earlier) r in
     let long : length (map f e.rows) ≡ length e.rows = length-map e.rows f in
@@ -31,7 +31,7 @@ some-mapped : (f : SatelliteRow → SatelliteRow) (rows : List SatelliteRow) →
 some-mapped f [] some none = some refl
 some-mapped f (r ∷ rows) some none = cc
 
-pub cut-good : (n step : ℕ) (earlier : List EpochTableView) (e : EpochTableView) → IsTableEpoch n e → IsTableEpoch n (cut_epoch step earlier e)
+pub cut-good : (n : ℕ) (step : Step) (earlier : List EpochTableView) (e : EpochTableView) → IsTableEpoch n e → IsTableEpoch n (cut_epoch step earlier e)
 cut-good n step earlier e good =
     let f : SatelliteRow → SatelliteRow = λ r. row_with_slips (λ c. has_slipped_since step r.satellite c e earlier) r in
     record {
@@ -43,11 +43,11 @@ cut-good n step earlier e good =
 
 -- ---- the epochs on the step
 
-pub thinned-on : (step : ℕ) (earlier : List EpochTableView) (e : EpochTableView) (es : List EpochTableView) → is_on_step step e ≡ true
+pub thinned-on : (step : Step) (earlier : List EpochTableView) (e : EpochTableView) (es : List EpochTableView) → is_on_step step e ≡ true
     → thinned_after step earlier (e ∷ es) ≡ cut_epoch step earlier e ∷ thinned_after step (e ∷ earlier) es
 thinned-on step earlier e es on = ap (λ b. cond b (cut_epoch step earlier e ∷ thinned_after step (e ∷ earlier) es) (thinned_after step (e ∷ earlier) es)) on
 
-pub thinned-off : (step : ℕ) (earlier : List EpochTableView) (e : EpochTableView) (es : List EpochTableView) → is_on_step step e ≡ false
+pub thinned-off : (step : Step) (earlier : List EpochTableView) (e : EpochTableView) (es : List EpochTableView) → is_on_step step e ≡ false
     → thinned_after step earlier (e ∷ es) ≡ thinned_after step (e ∷ earlier) es
 thinned-off step earlier e es off = ap (λ b. cond b (cut_epoch step earlier e ∷ thinned_after step (e ∷ earlier) es) (thinned_after step (e ∷ earlier) es)) off
 
@@ -56,7 +56,7 @@ all-if P true e es here rest = All-cons P e es here rest
 all-if P false e es here rest = rest
 
 -- what no slip changes stays true of them
-pub thinned-all : (P Q : EpochTableView → Type 0) (step : ℕ) → ((earlier : List EpochTableView) (e : EpochTableView) → P e → Q (cut_epoch step earlier e))
+pub thinned-all : (P Q : EpochTableView → Type 0) (step : Step) → ((earlier : List EpochTableView) (e : EpochTableView) → P e → Q (cut_epoch step earlier e))
     → (earlier es : List EpochTableView) → All P es → All Q (thinned_after step earlier es)
 thinned-all P Q step kept earlier [] all = All-nil Q
 thinned-all P Q step kept earlier (e ∷ es) all =
@@ -66,7 +66,7 @@ rise-if : (b : Bool) (e : EpochTableView) (es : List EpochTableView) → All (λ
 rise-if true e es above rest = AllPairs-cons (λ (a : EpochTableView) (b : EpochTableView). a.time < b.time) e es above rest
 rise-if false e es above rest = rest
 
-pub thinned-rise : (step : ℕ) (earlier es : List EpochTableView) → TimesRise es → TimesRise (thinned_after step earlier es)
+pub thinned-rise : (step : Step) (earlier es : List EpochTableView) → TimesRise es → TimesRise (thinned_after step earlier es)
 thinned-rise step earlier [] rise = rise
 thinned-rise step earlier (e ∷ es) rise =
     let R = λ (a : EpochTableView) (b : EpochTableView). a.time < b.time in
@@ -76,7 +76,7 @@ thinned-rise step earlier (e ∷ es) rise =
 
 -- ---- a step on which all epochs are
 
-abbrev pub IsOn : ℕ → EpochTableView → Type 0
+abbrev pub IsOn : Step → EpochTableView → Type 0
 IsOn step e = is_on_step step e ≡ true
 
 none-and : (a b : Bool) → b ≡ false → (not a && b) ≡ false
@@ -84,7 +84,7 @@ none-and true b none = refl
 none-and false b none = none
 
 -- no slip is left of epochs that are all on the step
-pub none-since : (n step s c : ℕ) (earlier : List EpochTableView) → All (IsTableEpoch n) earlier → All (IsOn step) earlier → list_any (has_slip_of s c) (since_phase step s c earlier) ≡ false
+pub none-since : (n : ℕ) (step : Step) (s c : ℕ) (earlier : List EpochTableView) → All (IsTableEpoch n) earlier → All (IsOn step) earlier → list_any (has_slip_of s c) (since_phase step s c earlier) ≡ false
 none-since n step s c [] good on = refl
 none-since n step s c (e ∷ earlier) good on =
     since-on n step s c e earlier (All-head (IsTableEpoch n) e earlier good).rows (All-head (IsOn step) e earlier on)
@@ -92,7 +92,7 @@ none-since n step s c (e ∷ earlier) good on =
     (none-since n step s c earlier (All-tail (IsTableEpoch n) e earlier good) (All-tail (IsOn step) e earlier on))
 
 -- so each epoch shows its own slips
-pub cut-own : (n step : ℕ) (earlier : List EpochTableView) (e : EpochTableView) → IsTableEpoch n e → All (IsTableEpoch n) earlier → All (IsOn step) earlier → cut_epoch step earlier e ≡ e
+pub cut-own : (n : ℕ) (step : Step) (earlier : List EpochTableView) (e : EpochTableView) → IsTableEpoch n e → All (IsTableEpoch n) earlier → All (IsOn step) earlier → cut_epoch step earlier e ≡ e
 cut-own n step earlier e good before on =
     ap (λ (rows : List SatelliteRow). record { time = e.time; rows = rows })
     (map_fixed (λ r. row_with_slips (λ c. has_slipped_since step r.satellite c e earlier) r) e.rows (λ k d lt.
@@ -101,7 +101,7 @@ cut-own n step earlier e good before on =
     ap (λ b. has_slip_of r.satellite c e || b) (none-since n step r.satellite c earlier before on)
     ∙ or-nothing (has_slip_of r.satellite c e) ∙ only-row (λ x. (code_at c x).slip) e.rows k d good.rise lt)))
 
-pub thinned-own : (n step : ℕ) (earlier es : List EpochTableView) → All (IsTableEpoch n) es → All (IsOn step) es → All (IsTableEpoch n) earlier → All (IsOn step) earlier → thinned_after step earlier es ≡ es
+pub thinned-own : (n : ℕ) (step : Step) (earlier es : List EpochTableView) → All (IsTableEpoch n) es → All (IsOn step) es → All (IsTableEpoch n) earlier → All (IsOn step) earlier → thinned_after step earlier es ≡ es
 thinned-own n step earlier [] good on before on_before = refl
 thinned-own n step earlier (e ∷ es) good on before on_before =
     let here = All-head (IsTableEpoch n) e es good in

@@ -1,5 +1,5 @@
 -- Laws on parts of files.
-use Rattle.std.specs.Prelude.{◌≡◌, ◌<◌, ◌≤◌, ℕ, ◌*◌, false, List, [], ◌∷◌, ◌++◌, map, slice_get, All, Any, Option, None, Some, IfSome, IsSome, unwrap_or, IsTrue, ◌↔◌}
+use Rattle.std.specs.Prelude.{◌≡◌, ◌<◌, ◌≤◌, ℕ, ◌+◌, ◌*◌, false, List, [], ◌∷◌, ◌++◌, map, slice_get, All, Any, Option, None, Some, IfSome, IsSome, unwrap_or, IsTrue, ◌↔◌}
 use Rattle.std.specs.List.{filter}
 use Rattle.rtk_frame.specs.Stream.{with_more, TakesPart}
 use Rattle.rtk_rinex.specs.declared.epoch_table.Observed.{Observed}
@@ -8,7 +8,7 @@ use Rattle.rtk_rinex.specs.Reading.{IsMoment}
 use Rattle.rtk_rinex.specs.Record.{EpochTableView}
 use Rattle.rtk_rinex.specs.Table.{WellFormedTable, IsWellFormedTable, table_text}
 use Rattle.rtk_cut.specs.declared.part.Part.{Part}
-use Rattle.rtk_cut.specs.Cut.{step_ms, is_on_step, is_in_span, cut_of}
+use Rattle.rtk_cut.specs.Cut.{near_of, is_near_step, is_in_span, cut_of}
 use Rattle.rtk_cut.specs.CutWriting.{WritesPart, WritesFirstOfPart}
 
 -- a moment, if there is one
@@ -32,7 +32,8 @@ PartsAreTables = (part : Part) (t : WellFormedTable) → IsMomentOrNone part.fro
 -- without a step the records are the file's own
 abbrev pub RecordsAreOwn : Type 0
 RecordsAreOwn =
-    (from until : Option ℕ) (t : WellFormedTable) → IsWellFormedTable t → (cut_of (part_of from until None) t).epochs ≡ filter (is_in_span from until) t.epochs
+    (from until : Option ℕ) (t : WellFormedTable) → IsWellFormedTable t
+    → (cut_of (part_of from until None) t).epochs ≡ filter (is_in_span (near_of t) from until) t.epochs
 
 -- the records of two spans that meet are those of the span of both
 abbrev pub SpansJoin : Type 0
@@ -43,25 +44,27 @@ SpansJoin =
 -- a step on which all records are gives the file itself
 abbrev pub OwnStepGivesFile : Type 0
 OwnStepGivesFile =
-    (every : Option ℕ) (t : WellFormedTable) → IsWellFormedTable t → All (λ e. IsTrue (is_on_step (step_ms every) e)) t.epochs → cut_of (part_of None None every) t ≡ t
+    (every : Option ℕ) (t : WellFormedTable) → IsWellFormedTable t → All (λ e. IsTrue (is_near_step (near_of t) every e.time)) t.epochs
+    → cut_of (part_of None None every) t ≡ t
 
 -- ---- which records, slips and values a part has, in words that its definition does not use: a
 -- mistake in the definition shows here
 
--- a moment is a whole number of steps in s after 1980-01-06
-abbrev pub IsWholeSteps : Option ℕ → ℕ → Type 0
-IsWholeSteps None t = Unit {0}
-IsWholeSteps (Some every) t = (n : ℕ) × (t ≡ n * (every * 1000))
+-- a moment is near enough to a whole number of steps in s after 1980-01-06
+abbrev pub IsNearSteps : ℕ → Option ℕ → ℕ → Type 0
+IsNearSteps near None t = Unit {0}
+IsNearSteps near (Some every) t = (n : ℕ) × (n * (every * 1000) ≤ t + near) × (t ≤ n * (every * 1000) + near)
 
 -- a part has the record of this moment, if the file has one
-pub record IsAskedFor (part : Part) (t : ℕ) : Type 0 where
-  pub steps : IsWholeSteps part.every t
-  pub from : IfSome part.from (λ first. first ≤ t)
-  pub until : IfSome part.until (λ past. t < past)
+pub record IsAskedFor (near : ℕ) (part : Part) (t : ℕ) : Type 0 where
+  pub steps : IsNearSteps near part.every t
+  pub from : IfSome part.from (λ first. first ≤ t + near)
+  pub until : IfSome part.until (λ past. t + near < past)
 
 -- a part has the records of the file that are asked for, and no others
 abbrev pub HasRecordsAskedFor : Part → WellFormedTable → WellFormedTable → Type 0
-HasRecordsAskedFor part t u = (time : ℕ) → Any (λ g. g.time ≡ time) u.epochs ↔ (Any (λ e. e.time ≡ time) t.epochs × IsAskedFor part time)
+HasRecordsAskedFor part t u =
+    (time : ℕ) → Any (λ g. g.time ≡ time) u.epochs ↔ (Any (λ e. e.time ≡ time) t.epochs × IsAskedFor (near_of t) part time)
 
 -- the record has this observation of the satellite and of the code at this place
 abbrev pub Observes : ℕ → ℕ → Observed → EpochTableView → Type 0
@@ -75,7 +78,7 @@ ShowsSlip s c e = (o : Observed) × Observes s c o e × IsTrue o.slip
 
 -- the record of this moment shows the phase, and has a slip of it to show: its own, or one of the
 -- records of a gap before it, where none on the step shows the phase; the gap may have any length
-pub record HasSlipToShow (every : Option ℕ) (s c : ℕ) (epochs : List EpochTableView) (time : ℕ) : Type 0 where
+pub record HasSlipToShow (near : ℕ) (every : Option ℕ) (s c : ℕ) (epochs : List EpochTableView) (time : ℕ) : Type 0 where
   pub start : List EpochTableView
   pub gap : List EpochTableView
   pub shows : EpochTableView
@@ -83,16 +86,18 @@ pub record HasSlipToShow (every : Option ℕ) (s c : ℕ) (epochs : List EpochTa
   pub are : epochs ≡ (start ++ gap) ++ shows ∷ rest
   pub at : shows.time ≡ time
   pub phase : ShowsPhase s c shows
-  pub unseen : All (λ e. IsWholeSteps every e.time → ShowsPhase s c e → ⊥) gap
+  pub unseen : All (λ e. IsNearSteps near every e.time → ShowsPhase s c e → ⊥) gap
   pub slip : Any (ShowsSlip s c) (gap ++ shows ∷ [])
 
 -- no slip is lost: the part shows it
 abbrev pub KeepsSlips : Part → WellFormedTable → WellFormedTable → Type 0
-KeepsSlips part t u = (s c time : ℕ) → IsAskedFor part time → HasSlipToShow part.every s c t.epochs time → Any (λ g. (g.time ≡ time) × ShowsSlip s c g) u.epochs
+KeepsSlips part t u =
+    (s c time : ℕ) → IsAskedFor (near_of t) part time → HasSlipToShow (near_of t) part.every s c t.epochs time
+    → Any (λ g. (g.time ≡ time) × ShowsSlip s c g) u.epochs
 
 -- and none is invented
 abbrev pub HasSlipsOf : Part → WellFormedTable → WellFormedTable → Type 0
-HasSlipsOf part t u = (s c : ℕ) → All (λ g. ShowsSlip s c g → HasSlipToShow part.every s c t.epochs g.time) u.epochs
+HasSlipsOf part t u = (s c : ℕ) → All (λ g. ShowsSlip s c g → HasSlipToShow (near_of t) part.every s c t.epochs g.time) u.epochs
 
 abbrev pub without_slip : Observed → Observed
 without_slip o = record o { slip = false }

@@ -38,6 +38,7 @@
 
 #![tactic(auto)]
 
+mod counts;
 mod fault;
 mod laws;
 mod part;
@@ -46,6 +47,7 @@ mod part_records;
 mod part_writer;
 mod slips;
 
+pub use counts::CutCounts;
 pub use fault::CutFault;
 pub use laws::{
     others_stay, own_step_gives_file, parts_are_tables, parts_are_written, records_are_asked_for,

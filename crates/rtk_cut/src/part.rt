@@ -1,7 +1,7 @@
 //! Which part of a file is written.
 
-ghost use Rattle.std.specs.Prelude.{◌≡◌, ◌≤◌, ◌&&◌};
-ghost use Rattle.rtk_cut.specs.Cut.{IsStepOrNone, step_ms, is_at_or_after, is_earlier_than};
+ghost use Rattle.std.specs.Prelude.{◌≡◌, ◌≤◌, ◌+◌, ◌&&◌};
+ghost use Rattle.rtk_cut.specs.Cut.{IsStepOrNone, choice_of, is_near_step, is_at_or_after, is_earlier_than};
 
 use rtk_obs::GpsMs;
 
@@ -17,29 +17,55 @@ pub struct Part {
     pub every: Option<u32>,
 }
 
-impl Part {
-    /// The step in ms.
-    pub(crate) fn step_ms(&self) -> u64
-        requires step { IsStepOrNone self.now.every }
-        ensures value { result ≡ step_ms self.now.every }
-        ensures some { 1 ≤ result }
+/// Which records of a file are written: a part, and how far in ms a record may lie from a moment and
+/// still counts as being there, since the clocks of some receivers are not steered.
+#[derive(Clone, Copy)]
+pub(crate) struct Choice {
+    pub(crate) from: Option<GpsMs>,
+    pub(crate) until: Option<GpsMs>,
+    pub(crate) every: Option<u32>,
+    pub(crate) near_ms: u64,
+}
+
+impl Choice {
+    /// A part, and how near is near enough.
+    pub(crate) fn new(part: Part, near_ms: u64) -> Choice
+        ensures { result ≡ choice_of part near_ms }
     {
-        match self.every {
-            Some(every) => u64::from(every) * 1000,
-            None => 1,
+        Choice {
+            from: part.from,
+            until: part.until,
+            every: part.every,
+            near_ms,
         }
     }
 
-    /// Is a moment in the span?
-    pub(crate) fn spans(&self, time: GpsMs) -> bool
-        ensures { result ≡ (is_at_or_after self.now.from time && is_earlier_than self.now.until time) }
+    /// Is a moment on the step, or near enough?
+    pub(crate) fn has(&self, time: GpsMs) -> bool
+        requires step { IsStepOrNone self.now.every }
+        requires near { self.now.near_ms ≤ 25 }
+        ensures { result ≡ is_near_step self.now.near_ms self.now.every time }
     {
+        match self.every {
+            Some(every) => (time.ms() + self.near_ms) % (u64::from(every) * 1000)
+                <= 2 * self.near_ms,
+            None => true,
+        }
+    }
+
+    /// Is a moment in the span? It counts as so much later as is near enough.
+    pub(crate) fn spans(&self, time: GpsMs) -> bool
+        requires near { self.now.near_ms ≤ 25 }
+        ensures { result ≡ (is_at_or_after self.now.from (time + self.now.near_ms)
+            && is_earlier_than self.now.until (time + self.now.near_ms)) }
+    {
+        let later = time.ms() + self.near_ms;
         let is_at_or_after = match self.from {
-            Some(from) => time.ms() >= from.ms(),
+            Some(from) => later >= from.ms(),
             None => true,
         };
         let is_earlier = match self.until {
-            Some(until) => time.ms() < until.ms(),
+            Some(until) => later < until.ms(),
             None => true,
         };
         is_at_or_after && is_earlier

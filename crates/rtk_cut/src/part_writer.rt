@@ -2,14 +2,16 @@
 //!
 //! A record that shows no slip but its own is written as the text that was read, and else anew.
 
-ghost use Rattle.std.specs.Prelude.{◌≡◌, ◌≢◌, ◌≤◌, true, Err, OnOk, IfOk, IsErrOf, length};
+ghost use Rattle.std.specs.Prelude.{◌≡◌, ◌+◌, ℕ, ◌≢◌, ◌≤◌, true, Err, OnOk, IfOk, IsErrOf, length};
 ghost use Rattle.rtk_frame.specs.Stream.{CountRises};
-ghost use Rattle.rtk_cut.specs.Cut.{IsStepOrNone, is_on_step, step_ms};
-ghost use Rattle.rtk_cut.specs.Steps.PartFile.{IsFresh, TakesEpoch, TakesEpochInPart, TakesEnd, TakesEndInPart};
+ghost use Rattle.rtk_tracking.specs.Epochs.{capped};
+ghost use Rattle.rtk_cut.specs.Cut.{IsStepOrNone, is_on_step, step_of};
+ghost use Rattle.rtk_cut.specs.Steps.PartFile.{IsFresh, CountsWritten, TakesEpoch, TakesEpochInPart, TakesEnd, TakesEndInPart};
 ghost use Rattle.rtk_cut.specs.declared.fault.CutFault.TheVariants.{Write};
 
+use crate::counts::{CutCounts, one_more};
 use crate::fault::CutFault;
-use crate::part::Part;
+use crate::part::Choice;
 use crate::part_records::{put_after_header, put_record};
 use crate::slips::Slips;
 use rtk_frame::Sink;
@@ -22,12 +24,13 @@ use std::alloc::{AllocError, Global};
 pub(crate) struct PartWriter {
     /// The file's own.
     pub(crate) heading: Heading,
-    pub(crate) part: Part,
+    pub(crate) choice: Choice,
     pub(crate) slips: Slips,
     /// Room for what an epoch shows in the part. It is large, so it lies on the heap.
     pub(crate) table: Box<EpochTable>,
     /// The header is out.
     pub(crate) is_header_out: bool,
+    pub(crate) counts: CutCounts,
 }
 
 /// A table without a row. This function alone needs the stack for one, which is gone when it
@@ -39,16 +42,24 @@ pub(crate) fn new_table(alloc: Global, start: GpsMs) -> Result<Box<EpochTable>, 
 
 impl PartWriter {
     /// No epoch was taken.
-    pub(crate) fn new(alloc: Global, heading: Heading, part: Part) -> Result<PartWriter, AllocError>
-        ensures { IfOk result (λ writer. IsFresh writer heading part) }
+    pub(crate) fn new(
+        alloc: Global,
+        heading: Heading,
+        choice: Choice,
+    ) -> Result<PartWriter, AllocError>
+        ensures { IfOk result (λ writer. IsFresh writer heading choice) }
     {
         let table = new_table(alloc, heading.first)?;
         Ok(PartWriter {
             heading,
-            part,
+            choice,
             slips: Slips::new(),
             table,
             is_header_out: false,
+            counts: CutCounts {
+                records: 0,
+                written: 0,
+            },
         })
     }
 
@@ -60,9 +71,12 @@ impl PartWriter {
         text: &[u8],
         out: &mut W,
     ) -> Result<(), CutFault>
-        requires on { is_on_step (step_ms self.old.part.every) epoch.now ≡ true }
+        requires near { self.old.choice.near_ms ≤ 25 }
+        requires on { is_on_step (step_of self.old.choice) epoch.now ≡ true }
         ensures heading { self.new.heading ≡ self.old.heading }
-        ensures same_part { self.new.part ≡ self.old.part }
+        ensures same_choice { self.new.choice ≡ self.old.choice }
+        ensures records { self.new.counts.records ≡ self.old.counts.records }
+        ensures written { OnOk result (CountsWritten self.old self.new epoch.now) }
         ensures all { OnOk result (TakesEpoch self.old self.new epoch.now text.now (W.taken out.old) (W.taken out.new)) }
         ensures part { TakesEpochInPart self.old epoch.now text.now (W.taken out.old) (W.taken out.new) }
         ensures write_failed { IsErrOf result Write → CountRises (W.failures out.old) (W.failures out.new) }
@@ -70,7 +84,7 @@ impl PartWriter {
     {
         let code_count = self.heading.head.codes().len();
         let is_changed = self.slips.show(epoch, code_count, &mut self.table);
-        if !self.part.spans(epoch.time()) {
+        if !self.choice.spans(epoch.time()) {
             return Ok(());
         }
         put_record(
@@ -83,6 +97,7 @@ impl PartWriter {
             out,
         )?;
         self.is_header_out = true;
+        self.counts.written = one_more(self.counts.written);
         Ok(())
     }
 
@@ -94,15 +109,19 @@ impl PartWriter {
         text: &[u8],
         out: &mut W,
     ) -> Result<(), CutFault>
-        requires step { IsStepOrNone self.old.part.every }
+        requires step { IsStepOrNone self.old.choice.every }
+        requires near { self.old.choice.near_ms ≤ 25 }
         ensures heading { self.new.heading ≡ self.old.heading }
-        ensures same_part { self.new.part ≡ self.old.part }
+        ensures same_choice { self.new.choice ≡ self.old.choice }
+        ensures records { OnOk result ((n : ℕ) → self.old.counts.records ≡ capped n → self.new.counts.records ≡ capped (n + 1)) }
+        ensures written { OnOk result (CountsWritten self.old self.new epoch.now) }
         ensures all { OnOk result (TakesEpoch self.old self.new epoch.now text.now (W.taken out.old) (W.taken out.new)) }
         ensures part { TakesEpochInPart self.old epoch.now text.now (W.taken out.old) (W.taken out.new) }
         ensures write_failed { IsErrOf result Write → CountRises (W.failures out.old) (W.failures out.new) }
         ensures no_failed_write { result ≢ Err Write → W.failures out.new ≡ W.failures out.old }
     {
-        if epoch.time().ms() % self.part.step_ms() == 0 {
+        self.counts.records = one_more(self.counts.records);
+        if self.choice.has(epoch.time()) {
             return self.write_next_on_step(alloc, epoch, text, out);
         }
         self.slips.note(epoch);
@@ -116,7 +135,7 @@ impl PartWriter {
         ensures write_failed { IsErrOf result Write → CountRises (W.failures out.old) (W.failures out.new) }
         ensures no_failed_write { result ≢ Err Write → W.failures out.new ≡ W.failures out.old }
     {
-        let first = self.part.from.unwrap_or(self.heading.first);
+        let first = self.choice.from.unwrap_or(self.heading.first);
         put_after_header(alloc, &self.heading, self.is_header_out, first, &[], out)
     }
 }

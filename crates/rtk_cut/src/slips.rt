@@ -8,7 +8,7 @@ ghost use Rattle.std.specs.Prelude.{◌≡◌, ℕ, ◌+◌, ◌*◌, ◌<◌, �
 ghost use Rattle.std.specs.List.{list_any};
 ghost use Rattle.rtk_rinex.specs.Record.{EpochTableView, IsSatelliteRow, HasWidth};
 ghost use Rattle.rtk_rinex.specs.Table.{IsTableEpoch};
-ghost use Rattle.rtk_cut.specs.Cut.{is_on_step, code_at, no_observation, with_slip, cut_epoch};
+ghost use Rattle.rtk_cut.specs.Cut.{Step, is_on_step, code_at, no_observation, with_slip, cut_epoch};
 ghost use Rattle.rtk_cut.specs.Steps.Pending.{mark_of, MarksAt, MarksBecome, StandsForSlips, NotesSlips, ShowsSlipsIn, ClearsSlips, row_has_slip, row_has_phase, codes_with_marks, row_with_marks};
 
 use rtk_rinex::{EpochTable, Observed, SatelliteRow};
@@ -139,7 +139,7 @@ fn show_in_rows(
 impl Slips {
     /// There is no earlier epoch.
     pub(crate) fn new() -> Slips
-        ensures { (step : ℕ) → StandsForSlips result.marks step [] }
+        ensures { (step : Step) → StandsForSlips result.marks step [] }
     {
         Slips {
             marks: [false; 528],

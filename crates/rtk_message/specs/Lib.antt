@@ -17,4 +17,5 @@ pub mod AnyFaultCode
 pub mod AnyDecoded
 pub mod FaultCode
 pub mod Equality
+pub mod ShellText
 pub mod Steps

@@ -70,4 +70,4 @@ pub use msm::Msm;
 pub use msm_kind::MsmKind;
 pub use msm1074::{Msm1074, MsmHeader};
 pub use obs1004::{Obs1004, Satellite, Satellites};
-pub use text::{put_any_fault, put_fault, put_named, put_number};
+pub use text::{put_any_fault, put_fault, put_named, put_number, put_sh_quoted};

@@ -1,10 +1,12 @@
-//! Numbers and faults as text, which the crates above put into their lines.
+//! Numbers, faults and names of files as text, which the crates above put into their lines.
 //!
 //! If memory is refused, a first part of what is put may stand there.
 
-ghost use Rattle.std.specs.Prelude.{◌≡◌, ◌++◌, codes, decimal, OnOk};
+ghost use Rattle.std.specs.Prelude.{◌≡◌, ◌++◌, codes, decimal, flat_map, OnOk};
+ghost use Rattle.std.specs.List.{list_all};
 ghost use Rattle.rtk_message.specs.AnyFaultCode.{any_fault_text};
 ghost use Rattle.rtk_message.specs.FaultCode.{fault_text, number_text};
+ghost use Rattle.rtk_message.specs.ShellText as shell;
 
 use crate::any_fault::AnyFault;
 use crate::fault::DecodeFault;
@@ -51,5 +53,94 @@ fn put_cause(line: &mut Vec<u8>, code: &str, number: Option<u16>) -> Result<(), 
         Some(number) => put_named(line, b" ", u64::from(number))?,
         None => line.extend_from_slice(b" -")?,
     }
+    Ok(())
+}
+
+fn is_alphanumeric(byte: u8) -> bool
+    ensures { result ≡ shell.is_alphanumeric byte }
+{
+    b'0' <= byte && byte <= b'9' || b'A' <= byte && byte <= b'Z' || b'a' <= byte && byte <= b'z'
+}
+
+// One of % + , - . /.
+fn is_plain_mark(byte: u8) -> bool
+    ensures { result ≡ shell.is_plain_mark byte }
+{
+    byte == b'%' || byte == b'+' || b',' <= byte && byte <= b'/'
+}
+
+// One of : = @ _.
+fn is_other_mark(byte: u8) -> bool
+    ensures { result ≡ shell.is_other_mark byte }
+{
+    byte == b':' || byte == b'=' || byte == b'@' || byte == b'_'
+}
+
+// Is it a byte of a word that sh takes as it stands?
+fn is_plain(byte: u8) -> bool
+    ensures { result ≡ shell.is_plain byte }
+{
+    is_alphanumeric(byte) || is_plain_mark(byte) || is_other_mark(byte)
+}
+
+fn are_plain(name: &[u8]) -> bool
+    ensures { result ≡ list_all shell.is_plain name.now }
+{
+    name.iter().all(|byte| is_plain(*byte))
+}
+
+fn put_quoted_byte(line: &mut Vec<u8>, byte: u8) -> Result<(), AllocError>
+    ensures { OnOk result (line.new.items ≡ line.old.items ++ shell.quoted_byte byte) }
+{
+    if byte == b'\'' {
+        return line.extend_from_slice(b"'\\''");
+    }
+    line.push(byte)?;
+    Ok(())
+}
+
+fn put_quoted_bytes(line: &mut Vec<u8>, name: &[u8]) -> Result<(), AllocError>
+    ensures { OnOk result (line.new.items ≡ line.old.items ++ flat_map shell.quoted_byte name.now) }
+{
+    for byte in name {
+        put_quoted_byte(line, *byte)?;
+    }
+    Ok(())
+}
+
+fn put_quoted(line: &mut Vec<u8>, name: &[u8]) -> Result<(), AllocError>
+    ensures { OnOk result (line.new.items ≡ line.old.items ++ shell.quoted name.now) }
+{
+    line.push(b'\'')?;
+    put_quoted_bytes(line, name)?;
+    line.push(b'\'')?;
+    Ok(())
+}
+
+fn put_quoted_if_needed(line: &mut Vec<u8>, name: &[u8]) -> Result<(), AllocError>
+    ensures { OnOk result (line.new.items ≡ line.old.items ++ shell.quoted_if_needed name.now) }
+{
+    if !name.is_empty() && are_plain(name) {
+        line.extend_from_slice(name)
+    } else {
+        put_quoted(line, name)
+    }
+}
+
+fn put_folder_before(line: &mut Vec<u8>, name: &[u8]) -> Result<(), AllocError>
+    ensures { OnOk result (line.new.items ≡ line.old.items ++ shell.folder_before name.now) }
+{
+    if !name.is_empty() && name[0] == b'-' {
+        line.extend_from_slice(b"./")?;
+    }
+    Ok(())
+}
+
+/// Appends the name of a file as sh takes it, so that a command with it can be pasted.
+pub fn put_sh_quoted(line: &mut Vec<u8>, name: &[u8]) -> Result<(), AllocError>
+    ensures { OnOk result (line.new.items ≡ line.old.items ++ shell.sh_quoted name.now) }
+{
+    put_folder_before(line, name)?;
+    put_quoted_if_needed(line, name)?;
     Ok(())
 }

@@ -1,6 +1,9 @@
 pub mod CaptureBytes
 pub mod Input
+pub mod Joined
+pub mod Later
 pub mod Outcome
 pub mod Passed
+pub mod Quiet
 pub mod Steps
 pub mod StreamViews

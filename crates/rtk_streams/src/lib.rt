@@ -16,20 +16,32 @@
 #![tactic(auto)]
 
 mod before;
+mod beside;
 mod exit_status;
 mod fault;
 mod files;
+mod identity;
 mod input;
+mod joined;
+mod later;
 pub mod laws;
 mod links;
+mod present_time;
+mod quiet;
 mod resuming;
 
 pub use before::Before;
+pub use beside::{Beside, OutputFault, can_get_name, let_go, make_beside, name_whole};
 pub use exit_status::{DONE, FAILED, NOT_VALID, REFUSED, fail, fail_to_end, fail_to_open};
 pub use fault::ToolFault;
 pub use files::{
     Capture, GATHERED, MOST_READS, Reads, STDIN, Writes, open_input, sink, standard_output,
 };
+pub use identity::{FileIdentity, Named, standard_output_file, what_is_named};
 pub use input::{read_through, read_whole};
+pub use joined::Joined;
+pub use later::{Later, LaterFile};
 pub use links::{Link, OpenFault, fail_to_open_links, has_standard_input, open_links};
+pub use present_time::{PresentFault, present};
+pub use quiet::Quiet;
 pub use resuming::Resumed;

@@ -1,5 +1,5 @@
 -- What a summary counts, and the parts that stand in it.
-use Rattle.std.proofs.Common.{◌≡◌, ◌<◌, ◌+◌, ◌-◌, ◌==◌, ℕ, suc, Bool, false, cond, List, [], ◌∷◌, ◌++◌, length, codes, refl, sym, ap, subst, ◌∙◌, append_assoc, Result, Ok, Err, ne_eqb, arith}
+use Rattle.std.proofs.Common.{◌≡◌, ◌<◌, ◌+◌, ◌==◌, ℕ, suc, Bool, false, ◌&&◌, not, cond, List, [], ◌∷◌, ◌++◌, length, take, codes, refl, sym, ap, subst, ◌∙◌, append_assoc, Result, Ok, Err, ne_eqb, arith}
 use Rattle.std.specs.Prelude.{flat_map}
 use Rattle.std.specs.List.{AllByRecursion, count_by, sum_by}
 use Rattle.std.proofs.Math.Path.{fun_ext}
@@ -14,13 +14,15 @@ use Rattle.rtk_message.specs.declared.msm_kind.MsmKind.{MsmKind}
 use Rattle.rtk_message.specs.declared.msm_kind.MsmKind.TheVariants.{Msm4, Msm5, Msm6, Msm7}
 use Rattle.rtk_message.specs.AnyDecoded.{number_of}
 use Rattle.rtk_message.specs.MsmForm.{number_of_kind}
-use Rattle.rtk_summary.specs.Counting.{shown_count, count_of}
+use Rattle.rtk_summary.specs.Counting.{count_of}
 use Rattle.rtk_summary.specs.CountingLaws.{EachFrameIsCounted, EachMessageIsCounted, StandsIn, PartsStand, StationsStand, ProposalsStand, UntakenStand}
+use Rattle.rtk_summary.specs.DatesTold.{dates_in, station_dates, has_date, proposed_date}
 use Rattle.rtk_summary.specs.NumberLaws.{IsHeld}
 use Rattle.rtk_summary.specs.Proposal.{epochs_in, times_with_value, epochs_with_value, entries_with}
 use Rattle.rtk_summary.specs.ReadFrames.{ReadFrame, ReadsFrames, read_frame, with_message, with_fault, bytes_in, messages_in, faults_in, messages_from}
-use Rattle.rtk_summary.specs.Summary.{all_numbers, station_lines, lines_if_any, stations_text, unread_lines, summary_text}
-use Rattle.rtk_summary.specs.SummaryText.{number_line, counted_line, numbered_line, time_lines, signal_lines, proposal_lines, codes_text, nothing_line, untaken_numbers}
+use Rattle.rtk_summary.specs.Summary.{all_numbers, size_lines, station_lines, lines_if_any, stations_text, weeks_text, unread_lines, summary_text}
+use Rattle.rtk_summary.specs.SummaryText.{number_line, counted_line, numbered_line, time_lines, date_lines, look_line, near_text, signal_lines, proposal_lines, codes_text, nothing_line, untaken_numbers}
+use Rattle.rtk_summary.specs.declared.dates_told.StationDates.{StationDates}
 use Rattle.rtk_summary.specs.Tracing.{is_numbered, is_other, is_short, is_outside_week, is_no_number, is_too_many_cells, times_of_week, entries_in, has_satellite, has_code}
 use Rattle.rtk_summary.proofs.SummaryTellingLemmas.{each-weaker, of-all}
 
@@ -117,26 +119,27 @@ each-stands f (n ∷ ns) =
 
 pub parts-stand : PartsStand
 unfolding summary_text
-parts-stand size fs =
-    let head : List ℕ =
-    number_line (codes "bytes ") (shown_count size)
-    ++ number_line (codes "outside-frames ") (shown_count size - shown_count (bytes_in fs))
-    ++ number_line (codes "frames ") (shown_count (length fs)) in
-    let stations : List ℕ = stations_text (messages_in fs) in
+parts-stand name bytes fs =
+    let head : List ℕ = size_lines (length bytes) fs ++ look_line (length fs) (take 512 bytes) in
+    let stations : List ℕ = stations_text name (messages_in fs) (dates_in fs) in
+    let weeks : List ℕ = weeks_text (dates_in fs) in
     let unread : List ℕ = unread_lines (faults_in fs) in
-    let last : List ℕ = nothing_line (codes_text (has_code (entries_in (messages_in fs)))) in
-    ((head, unread ++ last, append_assoc (head ++ stations) unread last), (head ++ stations, last, refl))
+    let last : List ℕ = nothing_line (codes_text (has_code (entries_in (messages_in fs)))) in (
+      (head, weeks ++ unread ++ last, append_assoc (head ++ stations ++ weeks) unread last ∙ append_assoc (head ++ stations) weeks (unread ++ last) ∙ ap (λ (t : List ℕ). (head ++ stations) ++ t) (sym (append_assoc weeks unread last))),
+      (head ++ stations, unread ++ last, append_assoc (head ++ stations ++ weeks) unread last),
+      (head ++ stations ++ weeks, last, refl),
+    )
 
-lines-if-some : (n : ℕ) (ms : List AnyMessage) → 0 < length ms → lines_if_any n ms ≡ station_lines n ms
-lines-if-some n ms some =
+lines-if-some : (name : List ℕ) (n : ℕ) (ms : List AnyMessage) (d : StationDates) → 0 < length ms → lines_if_any name n ms d ≡ station_lines name n ms d
+lines-if-some name n ms d some =
     let above : (length ms == 0) ≡ false = ne_eqb (length ms) 0 (λ none. omega (arith, none, some)) in
-    ap (λ (b : Bool). cond b [] (station_lines n ms)) above
+    ap (λ (b : Bool). cond (b && not (has_date d)) [] (station_lines name n ms d)) above
 
 pub stations-stand : StationsStand
 unfolding stations_text
-stations-stand ms n within some =
-    let f : ℕ → List ℕ = λ s. lines_if_any s (messages_from s ms) in
-    subst (λ (part : List ℕ). StandsIn part (flat_map f all_numbers)) (lines-if-some n (messages_from n ms) some)
+stations-stand name ms ds n within some =
+    let f : ℕ → List ℕ = λ s. lines_if_any name s (messages_from s ms) (station_dates s ds) in
+    subst (λ (part : List ℕ). StandsIn part (flat_map f all_numbers)) (lines-if-some name n (messages_from n ms) (station_dates n ds) some)
     (of-all (λ k. StandsIn (f k) (flat_map f all_numbers)) (each-stands f all_numbers) n within)
 
 epochs-are : (ms : List AnyMessage) → ((kind : MsmKind) → IsHeld (epochs_in (times_with_value kind ms))) → ◌≡◌ {A = MsmKind → ℕ} (λ kind. epochs_with_value kind ms) (λ kind. epochs_in (times_with_value kind ms))
@@ -144,8 +147,8 @@ epochs-are ms held = fun_ext (λ kind. let few = held kind in omega (arith, few)
 
 pub proposals-stand : ProposalsStand
 unfolding station_lines
-proposals-stand station ms held =
-    let proposal : (MsmKind → ℕ) → List ℕ = λ epochs. proposal_lines station epochs (λ kind. has_code (entries_with kind ms)) in
+proposals-stand name station ms d held =
+    let proposal : (MsmKind → ℕ) → List ℕ = λ epochs. proposal_lines name (near_text (proposed_date d)) station epochs (λ kind. has_code (entries_with kind ms)) in
     let count : List ℕ → ℕ → List ℕ = λ words n. counted_line words (count_of (is_numbered n) ms) in
     let lines : List ℕ =
     number_line (codes "station ") station
@@ -157,9 +160,10 @@ proposals-stand station ms held =
     ++ count (codes " message 1076 ") 1076
     ++ count (codes " message 1077 ") 1077
     ++ time_lines (times_of_week ms)
+    ++ date_lines d
     ++ signal_lines (has_satellite (entries_in ms)) (has_code (entries_in ms)) in
-    let whole = append-nil (station_lines station ms) in
-    subst (λ (epochs : MsmKind → ℕ). StandsIn (proposal epochs) (station_lines station ms)) (epochs-are ms held) (lines, [], sym whole)
+    let whole = append-nil (station_lines name station ms d) in
+    subst (λ (epochs : MsmKind → ℕ). StandsIn (proposal epochs) (station_lines name station ms d)) (epochs-are ms held) (lines, [], sym whole)
 
 pub untaken-stand : UntakenStand
 unfolding unread_lines

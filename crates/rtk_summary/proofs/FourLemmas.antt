@@ -12,7 +12,7 @@ use Rattle.rtk_message.specs.MsmForm.{number_of_kind}
 use Rattle.rtk_obs.specs.declared.code.Code.{Code}
 use Rattle.rtk_summary.specs.Counting.{shown_count}
 use Rattle.rtk_summary.specs.Proposal.{entry_has_value, gives_value, epochs_in, epochs_with_value, is_taken_with, entries_with, better_of, proposed, is_of_four}
-use Rattle.rtk_summary.specs.SummaryText.{codes_text, counted_line, second_frequency_line, next_line, other_msm_lines, proposal_lines}
+use Rattle.rtk_summary.specs.SummaryText.{codes_text, counted_line, second_frequency_line, next_lines, other_msm_lines, proposal_lines}
 use Rattle.rtk_summary.specs.Tracing.{entries_of_message, entries_in, has_code, times_of_week}
 use Rattle.rtk_summary.proofs.NamedLemmas.{stays}
 
@@ -52,10 +52,10 @@ no-lines : (epochs : MsmKind → ℕ) → epochs Msm5 ≡ 0 → epochs Msm6 ≡ 
 unfolding other_msm_lines
 no-lines epochs five six seven = rw (five, six, seven) refl
 
-pub four-name-none : (station : ℕ) (ms : List AnyMessage) → list_all is_of_four ms ≡ true
-    → proposal_lines station (λ kind. epochs_with_value kind ms) (λ kind. has_code (entries_with kind ms)) ≡ second_frequency_line (has_code (entries_in ms)) ++ next_line station Msm4 (codes_text (has_code (entries_in ms)))
+pub four-name-none : (name near : List ℕ) (station : ℕ) (ms : List AnyMessage) → list_all is_of_four ms ≡ true
+    → proposal_lines name near station (λ kind. epochs_with_value kind ms) (λ kind. has_code (entries_with kind ms)) ≡ second_frequency_line (has_code (entries_in ms)) ++ next_lines name near station Msm4 (codes_text (has_code (entries_in ms)))
 unfolding proposal_lines
-four-name-none station ms are =
+four-name-none name near station ms are =
     let epochs : MsmKind → ℕ = λ kind. epochs_with_value kind ms in
     let code : MsmKind → Code → Bool = λ kind. has_code (entries_with kind ms) in
     let five : epochs Msm5 ≡ 0 = no-epochs Msm5 ms refl are in
@@ -64,10 +64,10 @@ four-name-none station ms are =
     let none : proposed epochs ≡ Msm4 =
     stays epochs (better_of epochs (better_of epochs Msm4 Msm5) Msm6) Msm7 seven
     ∙ stays epochs (better_of epochs Msm4 Msm5) Msm6 six ∙ stays epochs Msm4 Msm5 five in
-    let shown : List AnyMessage → List ℕ = λ xs. second_frequency_line (has_code (entries_in xs)) ++ next_line station Msm4 (codes_text (has_code (entries_in xs))) in
-    let named : proposal_lines station epochs code ≡ second_frequency_line (code Msm4) ++ other_msm_lines epochs Msm4 ++ next_line station Msm4 (codes_text (code Msm4)) =
-    ap (λ (k : MsmKind). second_frequency_line (code k) ++ other_msm_lines epochs k ++ next_line station k (codes_text (code k))) none in
-    let next : List ℕ = next_line station Msm4 (codes_text (code Msm4)) in
+    let shown : List AnyMessage → List ℕ = λ xs. second_frequency_line (has_code (entries_in xs)) ++ next_lines name near station Msm4 (codes_text (has_code (entries_in xs))) in
+    let named : proposal_lines name near station epochs code ≡ second_frequency_line (code Msm4) ++ other_msm_lines epochs Msm4 ++ next_lines name near station Msm4 (codes_text (code Msm4)) =
+    ap (λ (k : MsmKind). second_frequency_line (code k) ++ other_msm_lines epochs k ++ next_lines name near station k (codes_text (code k))) none in
+    let next : List ℕ = next_lines name near station Msm4 (codes_text (code Msm4)) in
     let second : List ℕ = second_frequency_line (code Msm4) in
     let alone : second ++ other_msm_lines epochs Msm4 ++ next ≡ second ++ next =
     ap (λ (t : List ℕ). second ++ t ++ next) (no-lines epochs five six seven) ∙ ap (λ (t : List ℕ). t ++ next) (append-nil second) in

@@ -1,5 +1,5 @@
--- The frames that a scanner finds, one after another, and the summary that takes them.
-use Rattle.std.proofs.Common.{◌≡◌, ◌≤◌, ◌<◌, ◌+◌, ◌-◌, ℕ, List, [], ◌∷◌, ◌++◌, Some, length, take, drop, refl, ap, subst, ◌∙◌, arith}
+-- The frames that a scanner finds, one after another, and what follows them.
+use Rattle.std.proofs.Common.{◌≡◌, ◌≤◌, ◌<◌, ◌+◌, ◌-◌, ℕ, List, [], ◌∷◌, ◌++◌, Some, length, take, drop, refl, sym, ap, subst, ◌∙◌, arith}
 use Rattle.std.proofs.lemmas.Grind.{common_steps}
 use Rattle.std.specs.Borrow.{Bor}
 use Rattle.rtk_frame.specs.Frames.{final_frames, frames, payloads, pending}
@@ -7,24 +7,43 @@ use Rattle.rtk_frame.specs.Scanner.{FedAnswer, RestAnswer}
 use Rattle.rtk_frame.specs.ScannerView.{ScannerView}
 use Rattle.rtk_frame.specs.declared.scanner.Answer.TheVariants.{Found, Hungry}
 use Rattle.rtk_frame.proofs.PublicLaws.{after_found, first_payloads}
-use Rattle.rtk_summary.specs.ReadFrames.{ReadFrame, ReadsFrames}
-use Rattle.rtk_summary.specs.Steps.Standing.{CountsFrames}
-use Rattle.rtk_summary.specs.declared.summary.Summary.{Summary}
+use Rattle.rtk_summary.specs.Following.{FollowsAll}
+use Rattle.rtk_summary.specs.ReadFrames.{ReadFrame, ReadsFrames, read_frame}
+use Rattle.rtk_summary.specs.Steps.Followed.{Follows}
 
--- ---- the summary
+-- ---- what follows them
 
-pub counts-none : (s : Summary) → CountsFrames s [] s
-counts-none s = λ before stands. (before, refl, stands)
+-- frames that are taken after others
+pub all-append : {S : Type 0} (takes : S → ReadFrame → S → Type 0) (a b c : S) (fs gs : List ReadFrame) → FollowsAll takes a fs b → FollowsAll takes b gs c → FollowsAll takes a (gs ++ fs) c
+all-append takes a b c fs [] some none = subst (λ s. FollowsAll takes a fs s) (sym none) some
+all-append takes a b c fs (g ∷ gs) some more = (more.0, all-append takes a b more.0 fs gs some more.1, more.2)
 
-pub counts-first : (a b c : Summary) (p : List ℕ) (ps : List (List ℕ)) → CountsFrames a (p ∷ []) b → CountsFrames b ps c → CountsFrames a (p ∷ ps) c
-counts-first a b c p ps one rest = λ before stands.
-    let first = one before stands in
-    let others = rest first.0 first.2 in
-    (others.0, (first.1.0, first.1.1, subst (λ (fs : List ReadFrame). ReadsFrames ps fs others.0) first.1.2 others.1), others.2)
+-- frames that come behind earlier ones
+pub reads-behind : (ps : List (List ℕ)) (before after earlier : List ReadFrame) → ReadsFrames ps before after → ReadsFrames ps (before ++ earlier) (after ++ earlier)
+reads-behind [] before after earlier none = ap (λ (fs : List ReadFrame). fs ++ earlier) none
+reads-behind (p ∷ ps) before after earlier some = (some.0, some.1, reads-behind ps (read_frame p some.0 ∷ before) after earlier some.2)
+
+pub follows-none : {S : Type 0} (takes : S → ReadFrame → S → Type 0) (s : S) → Follows takes s [] s
+follows-none takes s = ([], refl, refl)
+
+pub follows-first : {S : Type 0} (takes : S → ReadFrame → S → Type 0) (a b c : S) (p : List ℕ) (ps : List (List ℕ)) → Follows takes a (p ∷ []) b → Follows takes b ps c → Follows takes a (p ∷ ps) c
+follows-first takes a b c p ps one rest = (
+  rest.0 ++ one.0,
+  (
+    one.1.0,
+    one.1.1,
+    subst (λ (fs : List ReadFrame). ReadsFrames ps fs (rest.0 ++ one.0)) one.1.2 (reads-behind ps [] rest.0 one.0 rest.1),
+  ),
+  all-append takes a b c one.0 rest.0 one.2 rest.2,
+)
+
+-- if these payloads are followed from here on, then those are from the start on
+abbrev pub FollowsOn : {S : Type 0} → (S → ReadFrame → S → Type 0) → S → List (List ℕ) → S → List (List ℕ) → Type 0
+FollowsOn {S} takes here left start all = (end : S) → Follows takes here left end → Follows takes start all end
 
 -- ---- the scanner's answers
 
-rest-is : (at : ℕ) (p : List ℕ) → take (length p - at) (drop at p) ≡ drop at p
+pub rest-is : (at : ℕ) (p : List ℕ) → take (length p - at) (drop at p) ≡ drop at p
 rest-is at p = grind (arith, common_steps)
 
 -- of a piece p from a place on, after the pending bytes s1, the next frame was found: s2 is

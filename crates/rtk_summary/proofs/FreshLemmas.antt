@@ -1,7 +1,7 @@
 -- What a summary holds before the first frame.
 use Rattle.std.proofs.Common.{◌≡◌, ◌<◌, ℕ, List, [], length, get_or, replicate, sym, ap, subst, ◌∙◌, arith}
 use Rattle.std.proofs.lemmas.List.{get_or-replicate, length-replicate}
-use Rattle.rtk_summary.specs.Steps.Standing.{StandsForMessages, StandForStations}
+use Rattle.rtk_summary.specs.Standing.{StandsForMessages, StandForStations}
 use Rattle.rtk_summary.specs.declared.station.Station.{Station}
 
 pub as-many : {X : Type 0} (xs : List X) (k : ℕ) (x : X) → xs ≡ replicate k x → length xs ≡ k

@@ -1,5 +1,8 @@
 pub mod AlikeLemmas
+pub mod CountedLemmas
 pub mod CountingLemmas
+pub mod CutLemmas
+pub mod DateLemmas
 pub mod FourLemmas
 pub mod FrameLemmas
 pub mod FreshLemmas

@@ -1,19 +1,20 @@
 -- The lines of what a summary holds.
-use Rattle.std.proofs.Common.{◌≡◌, ◌<◌, ◌+◌, ◌/◌, ◌%◌, ◌==◌, ℕ, suc, Bool, true, false, cond, List, [], ◌∷◌, ◌++◌, length, get_or, drop, decimal, refl, sym, ap, ◌∙◌, append_assoc, drop-cons, lit<, arith}
-use Rattle.std.proofs.Math.Dec.{eqb-suc-zero}
+use Rattle.std.proofs.Common.{◌≡◌, ◌<◌, ◌+◌, ◌/◌, ◌%◌, ◌==◌, ℕ, suc, Bool, true, false, ◌&&◌, not, cond, List, [], ◌∷◌, ◌++◌, length, get_or, drop, decimal, refl, sym, ap, ◌∙◌, append_assoc, drop-cons, lit<, arith}
 use Rattle.std.specs.Prelude.{flat_map, filter, codes}
 use Rattle.std.specs.List.{range_with_len}
 use Rattle.rtk_obs.specs.declared.code.Code.{Code}
 use Rattle.rtk_obs.specs.Code.{name_of, place_of, all_codes}
 use Rattle.rtk_message.specs.declared.msm_kind.MsmKind.{MsmKind}
 use Rattle.rtk_message.specs.declared.any_message.AnyMessage.{AnyMessage}
-use Rattle.rtk_summary.specs.Counting.{shown_count, count_of}
+use Rattle.rtk_summary.specs.Counting.{count_of}
+use Rattle.rtk_summary.specs.DatesTold.{has_date, proposed_date}
 use Rattle.rtk_summary.specs.Proposal.{epochs_with_value, entries_with}
 use Rattle.rtk_summary.specs.Summary.{all_numbers, station_lines, lines_if_any}
-use Rattle.rtk_summary.specs.SummaryText.{number_line, counted_line, numbered_line, list_line, time_lines, untaken_numbers, listed_satellite, satellites_text, joined_names, codes_text, msm_option, next_line, signal_lines, proposal_lines}
-use Rattle.rtk_summary.specs.Steps.Standing.{StandsForEntries, StandsForMessages, StandForMsm, epochs_held, codes_held}
+use Rattle.rtk_summary.specs.SummaryText.{number_line, counted_line, numbered_line, list_line, time_lines, date_lines, near_text, untaken_numbers, listed_satellite, satellites_text, joined_names, codes_text, words_text, auto_line, next_lines, signal_lines, proposal_lines}
+use Rattle.rtk_summary.specs.Standing.{StandsForEntries, StandsForMessages, StandForMsm, epochs_held, codes_held}
 use Rattle.rtk_summary.specs.Steps.Tables.{counts_text, untaken_text, counts_held}
 use Rattle.rtk_summary.specs.Tracing.{is_numbered, entries_in, has_satellite, has_code, times_of_week}
+use Rattle.rtk_summary.specs.declared.dates_told.StationDates.{StationDates}
 use Rattle.rtk_summary.specs.declared.msm_parts.MsmParts.{MsmParts}
 use Rattle.rtk_summary.specs.declared.signals.Signals.{Signals}
 use Rattle.rtk_summary.specs.declared.station.Station.{Station}
@@ -78,10 +79,27 @@ code-passed marked text separator i d whole within marks so_far =
     let first : filter marked (drop i all_codes) ≡ rest = ap (λ cs. filter marked cs) (code-first i d within) ∙ ap (λ b. cond b (c ∷ rest) rest) marks in
     ap (λ cs. text ++ joined_names separator cs) (sym first) ∙ so_far
 
-pub next-line-is : (station : ℕ) (named : MsmKind) (names : List ℕ) → (length names ≡ 0 → ⊥)
-    → next_line station named names ≡ codes " next rtcm2rinex convert --station " ++ decimal station ++ codes " --near GPS-TIME-WITHIN-HALF-A-WEEK --made UTC-NOW --marker NAME --codes" ++ names ++ msm_option named ++ codes " CAPTURE\n"
-next-line-is station named [] some = absurd (some refl)
-next-line-is station named (x ∷ xs) some = refl
+-- a code that has a value is kept
+pub code-kept : (marked : Code → Bool) (codes : List Code) (i : ℕ) (d : Code) (whole : List Code) → i < 16 → marked (get_or all_codes i d) ≡ true
+    → codes ++ filter marked (drop i all_codes) ≡ whole → (codes ++ get_or all_codes i d ∷ []) ++ filter marked (drop (i + 1) all_codes) ≡ whole
+code-kept marked codes i d whole within marks so_far =
+    let c = get_or all_codes i d in
+    let rest = filter marked (drop (i + 1) all_codes) in
+    let first : filter marked (drop i all_codes) ≡ c ∷ rest = ap (λ cs. filter marked cs) (code-first i d within) ∙ ap (λ b. cond b (c ∷ rest) rest) marks in
+    append_assoc codes (c ∷ []) rest ∙ ap (λ cs. codes ++ cs) (sym first) ∙ so_far
+
+pub code-left : (marked : Code → Bool) (codes : List Code) (i : ℕ) (d : Code) (whole : List Code) → i < 16 → marked (get_or all_codes i d) ≡ false
+    → codes ++ filter marked (drop i all_codes) ≡ whole → codes ++ filter marked (drop (i + 1) all_codes) ≡ whole
+code-left marked codes i d whole within marks so_far =
+    let c = get_or all_codes i d in
+    let rest = filter marked (drop (i + 1) all_codes) in
+    let first : filter marked (drop i all_codes) ≡ rest = ap (λ cs. filter marked cs) (code-first i d within) ∙ ap (λ b. cond b (c ∷ rest) rest) marks in
+    ap (λ cs. codes ++ cs) (sym first) ∙ so_far
+
+pub next-lines-are : (name near : List ℕ) (station : ℕ) (named : MsmKind) (names : List ℕ) → (length names ≡ 0 → ⊥)
+    → next_lines name near station named names ≡ codes " next rtcm2rinex convert --station " ++ decimal station ++ codes " --near " ++ near ++ words_text name station named names ++ auto_line name station
+next-lines-are name near station named [] some = absurd (some refl)
+next-lines-are name near station named (x ∷ xs) some = refl
 
 pub codes-are : (s : Signals) (ms : List AnyMessage) → StandsForEntries s (entries_in ms) → codes_text (λ c. get_or s.codes.marks (place_of c) false) ≡ codes_text (has_code (entries_in ms))
 codes-are s ms stands = ap (λ (t : Code → Bool). codes_text t) (codes-marked s.codes (entries_in ms) stands.codes)
@@ -104,26 +122,24 @@ signals-are s ms stands =
 
 -- ---- a station
 
-pub proposal-is : (number : ℕ) (p : MsmParts) (ms : List AnyMessage) → StandForMsm p ms
-    → proposal_lines number (epochs_held p) (codes_held p) ≡ proposal_lines number (λ kind. epochs_with_value kind ms) (λ kind. has_code (entries_with kind ms))
-proposal-is number p ms stand =
-    ap (λ (e : MsmKind → ℕ). proposal_lines number e (codes_held p)) (epochs-are p ms stand)
-    ∙ ap (λ (t : MsmKind → Code → Bool). proposal_lines number (λ kind. epochs_with_value kind ms) t) (codes-held-are p ms stand)
+pub proposal-is : (name near : List ℕ) (number : ℕ) (p : MsmParts) (ms : List AnyMessage) → StandForMsm p ms
+    → proposal_lines name near number (epochs_held p) (codes_held p) ≡ proposal_lines name near number (λ kind. epochs_with_value kind ms) (λ kind. has_code (entries_with kind ms))
+proposal-is name near number p ms stand =
+    ap (λ (e : MsmKind → ℕ). proposal_lines name near number e (codes_held p)) (epochs-are p ms stand)
+    ∙ ap (λ (t : MsmKind → Code → Bool). proposal_lines name near number (λ kind. epochs_with_value kind ms) t) (codes-held-are p ms stand)
 
-any-lines : (number : ℕ) (ms : List AnyMessage) → (length ms ≡ 0 → ⊥) → lines_if_any number ms ≡ station_lines number ms
-any-lines number [] some = absurd (some refl)
-any-lines number (m ∷ ms) some =
-    let none : (length (m ∷ ms) == 0) ≡ false = eqb-suc-zero (length ms) in
-    ap (λ (b : Bool). cond b [] (station_lines number (m ∷ ms))) none
+any-lines : (name : List ℕ) (number : ℕ) (ms : List AnyMessage) (d : StationDates) → ((length ms == 0) && not (has_date d)) ≡ false → lines_if_any name number ms d ≡ station_lines name number ms d
+any-lines name number ms d some = ap (λ (b : Bool). cond b [] (station_lines name number ms d)) some
 
 -- what is put of a station that holds this much
-abbrev pub lines_held : ℕ → Station → List ℕ → List ℕ
-lines_held number s times =
+abbrev pub lines_held : List ℕ → ℕ → Station → StationDates → List ℕ → List ℕ
+lines_held name number s d times =
     number_line (codes "station ") number
     ++ counts_held s
     ++ time_lines times
+    ++ date_lines d
     ++ signal_lines (λ n. get_or s.signals.satellites n false) (λ c. get_or s.signals.codes.marks (place_of c) false)
-    ++ proposal_lines number (epochs_held s.msm) (codes_held s.msm)
+    ++ proposal_lines name (near_text (proposed_date d)) number (epochs_held s.msm) (codes_held s.msm)
 
 -- the lines of these counts
 counts_of : ℕ → ℕ → ℕ → ℕ → ℕ → ℕ → ℕ → List ℕ
@@ -157,17 +173,18 @@ counts-agree s ms stands =
     s.obs_1004 s.arp_1005 s.arp_1006 s.msm.msm4.messages s.msm.msm5.messages s.msm.msm6.messages s.msm.msm7.messages
     (sym k.obs_1004) (sym k.arp_1005) (sym k.arp_1006) (sym m.msm4.messages) (sym m.msm5.messages) (sym m.msm6.messages) (sym m.msm7.messages)
 
-regroup : (n a b c d e f g t s p : List ℕ) → n ++ a ++ b ++ c ++ d ++ e ++ f ++ g ++ t ++ s ++ p ≡ n ++ (a ++ b ++ c ++ d ++ e ++ f ++ g) ++ t ++ s ++ p
-regroup n a b c d e f g t s p = simp append_assoc
+regroup : (n a b c d e f g t w s p : List ℕ) → n ++ a ++ b ++ c ++ d ++ e ++ f ++ g ++ t ++ w ++ s ++ p ≡ n ++ (a ++ b ++ c ++ d ++ e ++ f ++ g) ++ t ++ w ++ s ++ p
+regroup n a b c d e f g t w s p = simp append_assoc
 
-grouped : (number : ℕ) (ms : List AnyMessage) → station_lines number ms
+grouped : (name : List ℕ) (number : ℕ) (ms : List AnyMessage) (d : StationDates) → station_lines name number ms d
     ≡ number_line (codes "station ") number
     ++ counts_of (count_of (is_numbered 1004) ms) (count_of (is_numbered 1005) ms) (count_of (is_numbered 1006) ms) (count_of (is_numbered 1074) ms) (count_of (is_numbered 1075) ms) (count_of (is_numbered 1076) ms) (count_of (is_numbered 1077) ms)
     ++ time_lines (times_of_week ms)
+    ++ date_lines d
     ++ signal_lines (has_satellite (entries_in ms)) (has_code (entries_in ms))
-    ++ proposal_lines number (λ kind. epochs_with_value kind ms) (λ kind. has_code (entries_with kind ms))
+    ++ proposal_lines name (near_text (proposed_date d)) number (λ kind. epochs_with_value kind ms) (λ kind. has_code (entries_with kind ms))
 unfolding station_lines counts_of
-grouped number ms =
+grouped name number ms d =
     regroup (number_line (codes "station ") number)
     (counted_line (codes " message 1004 ") (count_of (is_numbered 1004) ms))
     (counted_line (codes " message 1005 ") (count_of (is_numbered 1005) ms))
@@ -177,19 +194,22 @@ grouped number ms =
     (counted_line (codes " message 1076 ") (count_of (is_numbered 1076) ms))
     (counted_line (codes " message 1077 ") (count_of (is_numbered 1077) ms))
     (time_lines (times_of_week ms))
+    (date_lines d)
     (signal_lines (has_satellite (entries_in ms)) (has_code (entries_in ms)))
-    (proposal_lines number (λ kind. epochs_with_value kind ms) (λ kind. has_code (entries_with kind ms)))
+    (proposal_lines name (near_text (proposed_date d)) number (λ kind. epochs_with_value kind ms) (λ kind. has_code (entries_with kind ms)))
 
-pub station-lines-are : (number : ℕ) (s : Station) (ms : List AnyMessage) → StandsForMessages s ms → (s.messages ≡ 0 → ⊥)
-    → lines_if_any number ms ≡ lines_held number s (times_of_week ms)
-station-lines-are number s ms stands some =
+pub station-lines-are : (name : List ℕ) (number : ℕ) (s : Station) (d : StationDates) (ms : List AnyMessage) → StandsForMessages s ms → ((length ms == 0) && not (has_date d)) ≡ false
+    → lines_if_any name number ms d ≡ lines_held name number s d (times_of_week ms)
+station-lines-are name number s d ms stands some =
     let head : List ℕ = number_line (codes "station ") number in
     let times : List ℕ = time_lines (times_of_week ms) in
+    let dates : List ℕ = date_lines d in
+    let near : List ℕ = near_text (proposed_date d) in
     let signals : List ℕ = signal_lines (has_satellite (entries_in ms)) (has_code (entries_in ms)) in
-    let proposal : List ℕ = proposal_lines number (λ kind. epochs_with_value kind ms) (λ kind. has_code (entries_with kind ms)) in
+    let proposal : List ℕ = proposal_lines name near number (λ kind. epochs_with_value kind ms) (λ kind. has_code (entries_with kind ms)) in
     let signals' : List ℕ = signal_lines (λ n. get_or s.signals.satellites n false) (λ c. get_or s.signals.codes.marks (place_of c) false) in
-    any-lines number ms (λ none. some (stands.counts.messages ∙ ap shown_count none))
-    ∙ grouped number ms
-    ∙ ap (λ (t : List ℕ). head ++ t ++ times ++ signals ++ proposal) (counts-agree s ms stands)
-    ∙ ap (λ (t : List ℕ). head ++ counts_held s ++ times ++ t ++ proposal) (sym (signals-are s.signals ms stands.signals))
-    ∙ ap (λ (t : List ℕ). head ++ counts_held s ++ times ++ signals' ++ t) (sym (proposal-is number s.msm ms stands.msm))
+    any-lines name number ms d some
+    ∙ grouped name number ms d
+    ∙ ap (λ (t : List ℕ). head ++ t ++ times ++ dates ++ signals ++ proposal) (counts-agree s ms stands)
+    ∙ ap (λ (t : List ℕ). head ++ counts_held s ++ times ++ dates ++ t ++ proposal) (sym (signals-are s.signals ms stands.signals))
+    ∙ ap (λ (t : List ℕ). head ++ counts_held s ++ times ++ dates ++ signals' ++ t) (sym (proposal-is name near number s.msm ms stands.msm))

@@ -16,7 +16,7 @@ use Rattle.rtk_obs.specs.declared.code.Code.TheVariants.{C2P, C2W}
 use Rattle.rtk_summary.specs.Counting.{shown_count}
 use Rattle.rtk_summary.specs.NumberLaws.{IsHeld, NumberLineTells, CountedLineTells, NumberedLineTells, TimesAreAlike, TimeLinesTell, ProposalLinesTell, EpochsAreCounted}
 use Rattle.rtk_summary.specs.Proposal.{proposed}
-use Rattle.rtk_summary.specs.SummaryText.{number_line, counted_line, numbered_line, time_line, time_lines, second_frequency_line, other_msm_lines, msm_option, next_line, proposal_lines, codes_text}
+use Rattle.rtk_summary.specs.SummaryText.{number_line, counted_line, numbered_line, time_line, time_lines, second_frequency_line, other_msm_lines, words_text, auto_line, next_lines, proposal_lines, codes_text}
 use Rattle.rtk_summary.specs.Tracing.{oldest_time, newest_time, change_from, changes_in}
 use Rattle.rtk_message.proofs.PublicLaws.{number-then}
 use Rattle.rtk_summary.proofs.HeadLemmas.{AreApart, apart, IsNotHeaded, not-headed-table, line-then, some-then, lines_by_number, words_of, NumbersRise, table-then, opened}
@@ -82,11 +82,11 @@ times-regrouped : (w a b v s : List ℕ) → ((w ++ a ++ (32 ∷ []) ++ b ++ 10 
 times-regrouped w a b v s = simp append_assoc
 
 -- the lines of some times
-some-times : (first last changes : ℕ) (s : List ℕ) → (time_line (Some first) (Some last) ++ number_line (codes " epoch-changes ") changes) ++ s
-    ≡ codes " time-of-week " ++ (decimal first ++ 32 ∷ (decimal last ++ 10 ∷ (number_line (codes " epoch-changes ") changes ++ s)))
-some-times first last changes s = times-regrouped (codes " time-of-week ") (decimal first) (decimal last) (number_line (codes " epoch-changes ") changes) s
+some-times : (first last changes : ℕ) (s : List ℕ) → (time_line (Some first) (Some last) ++ number_line (codes " changes-of-time ") changes) ++ s
+    ≡ codes " time-of-week " ++ (decimal first ++ 32 ∷ (decimal last ++ 10 ∷ (number_line (codes " changes-of-time ") changes ++ s)))
+some-times first last changes s = times-regrouped (codes " time-of-week ") (decimal first) (decimal last) (number_line (codes " changes-of-time ") changes) s
 
-no-times : (s : List ℕ) → time_lines [] ++ s ≡ codes " time-of-week " ++ (45 ∷ 10 ∷ (number_line (codes " epoch-changes ") 0 ++ s))
+no-times : (s : List ℕ) → time_lines [] ++ s ≡ codes " time-of-week " ++ (45 ∷ 10 ∷ (number_line (codes " changes-of-time ") 0 ++ s))
 no-times s = refl
 
 change-one : (before : Option ℕ) (t : ℕ) → change_from before t ≤ 1
@@ -122,11 +122,11 @@ times-then (b ∷ ts) (u ∷ us) s t held fits few less same =
     let o : ℕ = unwrap_or (oldest_time us) u in
     let m : ℕ = shown_count (changes_in (b ∷ ts)) in
     let n : ℕ = shown_count (changes_in (u ∷ us)) in
-    let first = number-then a o 32 (decimal b ++ 10 ∷ (number_line (codes " epoch-changes ") m ++ s)) (decimal u ++ 10 ∷ (number_line (codes " epoch-changes ") n ++ t))
+    let first = number-then a o 32 (decimal b ++ 10 ∷ (number_line (codes " changes-of-time ") m ++ s)) (decimal u ++ 10 ∷ (number_line (codes " changes-of-time ") n ++ t))
     (oldest-held ts b held.0 held.1) (oldest-held us u fits.0 fits.1) (λ digit. omega (arith, digit))
     (append_cancel_left (codes " time-of-week ") _ _ (sym (some-times a b m s) ∙ same ∙ some-times o u n t)) in
-    let last = number-then b u 10 (number_line (codes " epoch-changes ") m ++ s) (number_line (codes " epoch-changes ") n ++ t) held.0 fits.0 (λ digit. omega (arith, digit)) first.1 in
-    let changes = line-then (codes " epoch-changes ") m n s t (omega arith) (omega arith) last.1 in
+    let last = number-then b u 10 (number_line (codes " changes-of-time ") m ++ s) (number_line (codes " changes-of-time ") n ++ t) held.0 fits.0 (λ digit. omega (arith, digit)) first.1 in
+    let changes = line-then (codes " changes-of-time ") m n s t (omega arith) (omega arith) last.1 in
     let here = changes-few (b ∷ ts) in
     let there = changes-few (u ∷ us) in
     (record { first = ap Some first.0; last = ap Some last.0; changes = omega (arith, changes.0, here, there, few, less) }, changes.1)
@@ -136,11 +136,11 @@ times-tell ts us held fits few less same =
     (times-then ts us [] [] held fits few less (append-nil (time_lines ts) ∙ same ∙ sym (append-nil (time_lines us)))).0
 
 pub not-headed-times : (w ts s : List ℕ) → AreApart w (codes " time-of-week ") → IsNotHeaded w (time_lines ts ++ s)
-not-headed-times w [] s other = λ rest is. other rest (45 ∷ 10 ∷ (number_line (codes " epoch-changes ") 0 ++ s)) (sym is ∙ no-times s)
+not-headed-times w [] s other = λ rest is. other rest (45 ∷ 10 ∷ (number_line (codes " changes-of-time ") 0 ++ s)) (sym is ∙ no-times s)
 not-headed-times w (b ∷ ts) s other =
     let a : ℕ = unwrap_or (oldest_time ts) b in
     let m : ℕ = shown_count (changes_in (b ∷ ts)) in
-    λ rest is. other rest (decimal a ++ 32 ∷ (decimal b ++ 10 ∷ (number_line (codes " epoch-changes ") m ++ s))) (sym is ∙ some-times a b m s)
+    λ rest is. other rest (decimal a ++ 32 ∷ (decimal b ++ 10 ∷ (number_line (codes " changes-of-time ") m ++ s))) (sym is ∙ some-times a b m s)
 
 -- ---- a proposal
 
@@ -204,23 +204,25 @@ each-kind epochs others Msm7 Msm5 all other = all.1.0
 each-kind epochs others Msm7 Msm6 all other = all.1.1.0
 each-kind epochs others Msm7 Msm7 all other = absurd (other refl)
 
-not-headed-next : (w : List ℕ) (station : ℕ) (named : MsmKind) (names : List ℕ) → AreApart w (codes " next ") → IsNotHeaded w [] → IsNotHeaded w (next_line station named names)
-not-headed-next w station named [] other end = end
-not-headed-next w station named (x ∷ xs) other end = λ rest is. other rest _ (sym is)
+not-headed-next : (w name near : List ℕ) (station : ℕ) (named : MsmKind) (names : List ℕ) → AreApart w (codes " next ") → IsNotHeaded w [] → IsNotHeaded w (next_lines name near station named names)
+not-headed-next w name near station named [] other end = end
+not-headed-next w name near station named (x ∷ xs) other end = λ rest is. other rest _ (sym is)
 
-next-regrouped : (a d b n o c : List ℕ) → a ++ d ++ b ++ n ++ o ++ c ≡ a ++ (d ++ (b ++ (n ++ (o ++ c))))
-next-regrouped a d b n o c = simp append_assoc
+next-regrouped : (a d b n w o : List ℕ) → a ++ d ++ b ++ n ++ w ++ o ≡ a ++ (d ++ (b ++ (n ++ (w ++ o))))
+next-regrouped a d b n w o = simp append_assoc
 
-next-opened : (station : ℕ) (named : MsmKind) (x : ℕ) (xs : List ℕ) → next_line station named (x ∷ xs)
-    ≡ codes " next rtcm2rinex convert --station " ++ (decimal station ++ (codes " --near GPS-TIME-WITHIN-HALF-A-WEEK --made UTC-NOW --marker NAME --codes" ++ ((x ∷ xs) ++ (msm_option named ++ codes " CAPTURE\n"))))
-next-opened station named x xs =
-    next-regrouped (codes " next rtcm2rinex convert --station ") (decimal station) (codes " --near GPS-TIME-WITHIN-HALF-A-WEEK --made UTC-NOW --marker NAME --codes") (x ∷ xs) (msm_option named) (codes " CAPTURE\n")
+next-opened : (name near : List ℕ) (station : ℕ) (named : MsmKind) (x : ℕ) (xs : List ℕ) → next_lines name near station named (x ∷ xs)
+    ≡ codes " next rtcm2rinex convert --station " ++ (decimal station ++ (codes " --near " ++ (near ++ (words_text name station named (x ∷ xs) ++ auto_line name station))))
+next-opened name near station named x xs =
+    next-regrouped (codes " next rtcm2rinex convert --station ") (decimal station) (codes " --near ") near (words_text name station named (x ∷ xs)) (auto_line name station)
 
-next-tells : (station other : ℕ) (named : MsmKind) (names others : List ℕ) → IsHeld station → IsHeld other → next_line station named names ≡ next_line other named others → names ≢ [] → station ≡ other
-next-tells station other named [] others held fits same some = absurd (some refl)
-next-tells station other named (x ∷ xs) [] held fits same some = cc
-next-tells station other named (x ∷ xs) (y ∷ ys) held fits same some =
-    (number-then station other 32 _ _ held fits (λ digit. omega (arith, digit)) (append_cancel_left (codes " next rtcm2rinex convert --station ") _ _ (sym (next-opened station named x xs) ∙ same ∙ next-opened other named y ys))).0
+next-tells : (name near other_name other_near : List ℕ) (station other : ℕ) (named : MsmKind) (names others : List ℕ) → IsHeld station → IsHeld other
+    → next_lines name near station named names ≡ next_lines other_name other_near other named others → names ≢ [] → station ≡ other
+next-tells name near other_name other_near station other named [] others held fits same some = absurd (some refl)
+next-tells name near other_name other_near station other named (x ∷ xs) [] held fits same some = cc
+next-tells name near other_name other_near station other named (x ∷ xs) (y ∷ ys) held fits same some =
+    (number-then station other 32 _ _ held fits (λ digit. omega (arith, digit))
+    (append_cancel_left (codes " next rtcm2rinex convert --station ") _ _ (sym (next-opened name near station named x xs) ∙ same ∙ next-opened other_name other_near other named y ys))).0
 
 -- a line that may be left out
 line-or-none : (b c : Bool) (words s t : List ℕ) → IsNotHeaded words s → IsNotHeaded words t → cond b words [] ++ s ≡ cond c words [] ++ t → s ≡ t
@@ -231,34 +233,34 @@ line-or-none false false words s t here there same = same
 
 pub proposal-tells : ProposalLinesTell
 unfolding proposal_lines
-proposal-tells station other epochs others code test held fits few less named same =
+proposal-tells name names_there near far station other epochs others code test held fits few less named same =
     let kind : MsmKind = proposed epochs in
     let names : List ℕ = codes_text (code kind) in
     let named_there : List ℕ = codes_text (test kind) in
     let f : ℕ → ℕ = λ n. epochs (kind_at n) in
     let g : ℕ → ℕ = λ n. others (kind_at n) in
-    let left : List ℕ = next_line station kind names in
-    let right : List ℕ = next_line other kind named_there in
+    let left : List ℕ = next_lines name near station kind names in
+    let right : List ℕ = next_lines names_there far other kind named_there in
     let lines : List ℕ = lines_by_number (codes " other-msm ") f (numbers_but kind) in
     let more : List ℕ = lines_by_number (codes " other-msm ") g (numbers_but kind) in
-    let here : proposal_lines station epochs code ≡ second_frequency_line (code kind) ++ (lines ++ left) =
+    let here : proposal_lines name near station epochs code ≡ second_frequency_line (code kind) ++ (lines ++ left) =
     ap (λ (t : List ℕ). second_frequency_line (code kind) ++ t ++ left) (others-are epochs kind) ∙ append_assoc (second_frequency_line (code kind)) lines left in
-    let there : proposal_lines other others test ≡ second_frequency_line (test kind) ++ (more ++ right) =
-    ap (λ (k : MsmKind). second_frequency_line (test k) ++ other_msm_lines others k ++ next_line other k (codes_text (test k))) (sym named)
+    let there : proposal_lines names_there far other others test ≡ second_frequency_line (test kind) ++ (more ++ right) =
+    ap (λ (k : MsmKind). second_frequency_line (test k) ++ other_msm_lines others k ++ next_lines names_there far other k (codes_text (test k))) (sym named)
     ∙ ap (λ (t : List ℕ). second_frequency_line (test kind) ++ t ++ right) (others-are others kind) ∙ append_assoc (second_frequency_line (test kind)) more right in
     let second : List ℕ = codes " second-frequency 2P\n" in
     let second-next = apart second (codes " next ") refl in
     let second-msm = apart second (codes " other-msm ") refl in
     let behind = line-or-none (code kind C2P && not (code kind C2W)) (test kind C2P && not (test kind C2W)) second (lines ++ left) (more ++ right)
-    (not-headed-table second (codes " other-msm ") f (numbers_but kind) left second-msm (not-headed-next second station kind names second-next (λ rest is. cc)))
-    (not-headed-table second (codes " other-msm ") g (numbers_but kind) right second-msm (not-headed-next second other kind named_there second-next (λ rest is. cc)))
+    (not-headed-table second (codes " other-msm ") f (numbers_but kind) left second-msm (not-headed-next second name near station kind names second-next (λ rest is. cc)))
+    (not-headed-table second (codes " other-msm ") g (numbers_but kind) right second-msm (not-headed-next second names_there far other kind named_there second-next (λ rest is. cc)))
     (sym here ∙ same ∙ there) in
     let msm-next = apart (codes " other-msm ") (codes " next ") refl in
     let told = table-then (codes " other-msm ") f g (numbers_but kind) left right (numbers-rise kind) (λ n. few (kind_at n)) (λ n. less (kind_at n))
-    (not-headed-next (codes " other-msm ") station kind names msm-next (λ rest is. cc)) (not-headed-next (codes " other-msm ") other kind named_there msm-next (λ rest is. cc)) behind in
+    (not-headed-next (codes " other-msm ") name near station kind names msm-next (λ rest is. cc)) (not-headed-next (codes " other-msm ") names_there far other kind named_there msm-next (λ rest is. cc)) behind in
     record {
       epochs_are = λ k different. each-kind epochs others kind k told.0 different;
-      station_is = λ some. next-tells station other kind names named_there held fits told.1 some;
+      station_is = λ some. next-tells name near names_there far station other kind names named_there held fits told.1 some;
     }
 
 pub epochs-counted : EpochsAreCounted

@@ -13,7 +13,7 @@ use Rattle.rtk_obs.proofs.PublicLaws.{place_bound}
 use Rattle.rtk_summary.specs.Counting.{shown_count, count_of}
 use Rattle.rtk_summary.specs.Proposal.{epochs_with_value, entries_with, gives_value, times_with_value, is_taken_with}
 use Rattle.rtk_summary.specs.Tracing.{has_code, times_of_week, entries_of_message, entries_in}
-use Rattle.rtk_summary.specs.Steps.Standing.{one_if, StandsForCodes, StandsForMsm, StandForMsm, msm_part, epochs_held, codes_held}
+use Rattle.rtk_summary.specs.Standing.{one_if, StandsForCodes, StandsForMsm, StandForMsm, msm_part, epochs_held, codes_held}
 use Rattle.rtk_summary.specs.declared.epochs.Epochs.{Epochs}
 use Rattle.rtk_summary.specs.declared.msm_parts.MsmParts.{MsmParts}
 use Rattle.rtk_summary.specs.declared.signals.Codes.{Codes}

@@ -4,7 +4,7 @@ use Rattle.std.proofs.lemmas.Bool.{cases_eq}
 use Rattle.std.specs.List.{list_any}
 use Rattle.std.proofs.lemmas.List.Folds.{list_any-append, list_any_more}
 use Rattle.rtk_obs.specs.declared.cell.CellEntry.{CellEntry}
-use Rattle.rtk_summary.specs.Steps.Standing.{StandsForCodes, StandsForEntries}
+use Rattle.rtk_summary.specs.Standing.{StandsForCodes, StandsForEntries}
 use Rattle.rtk_summary.specs.Tracing.{gives_satellite, gives_place}
 use Rattle.rtk_summary.specs.declared.signals.Codes.{Codes}
 use Rattle.rtk_summary.specs.declared.signals.Signals.{Signals}

@@ -5,7 +5,7 @@ use Rattle.std.proofs.lemmas.List.{length-set}
 use Rattle.rtk_message.specs.declared.any_message.AnyMessage.{AnyMessage}
 use Rattle.rtk_message.specs.AnyDecoded.{station_of}
 use Rattle.rtk_summary.specs.ReadFrames.{messages_from, is_of_station}
-use Rattle.rtk_summary.specs.Steps.Standing.{StandsForMessages, StandForStations}
+use Rattle.rtk_summary.specs.Standing.{StandsForMessages, StandForStations}
 use Rattle.rtk_summary.specs.declared.station.Station.{Station}
 
 -- a message of a station is one of its messages, and one of another is none

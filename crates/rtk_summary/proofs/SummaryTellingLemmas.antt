@@ -1,5 +1,5 @@
 -- The lines of a station, of what is not read, and the whole summary tell their counts.
-use Rattle.std.proofs.Common.{◌≡◌, ◌≤◌, ◌<◌, ◌+◌, ◌-◌, ◌^◌, ◌==◌, ℕ, zero, suc, Bool, true, List, [], ◌∷◌, ◌++◌, length, codes, decimal, Option, None, Some, refl, sym, ap, ◌∙◌, append_assoc, inl, inr, arith}
+use Rattle.std.proofs.Common.{◌≡◌, ◌≤◌, ◌<◌, ◌+◌, ◌-◌, ◌^◌, ◌==◌, ℕ, zero, suc, Bool, true, List, [], ◌∷◌, ◌++◌, length, take, codes, decimal, Option, None, Some, refl, sym, ap, ◌∙◌, append_assoc, inl, inr, arith}
 use Rattle.std.specs.Fmt.{digits}
 use Rattle.std.specs.List.{AllByRecursion, count_by, range_with_len, cons_option}
 use Rattle.std.proofs.lemmas.Bool.{cases_Bool, eqb-true, eqb-false}
@@ -12,8 +12,10 @@ use Rattle.rtk_summary.specs.Counting.{shown_count, count_of}
 use Rattle.rtk_summary.specs.NumberLaws.{SummaryTellsFrames, StationLinesTell, UnreadLinesTell}
 use Rattle.rtk_summary.specs.Proposal.{epochs_with_value, entries_with}
 use Rattle.rtk_summary.specs.ReadFrames.{ReadFrame, bytes_in, messages_in, faults_in}
-use Rattle.rtk_summary.specs.Summary.{all_numbers, station_lines, stations_text, unread_lines, summary_text}
-use Rattle.rtk_summary.specs.SummaryText.{number_line, counted_line, numbered_line, time_lines, signal_lines, proposal_lines, codes_text, nothing_line, untaken_numbers}
+use Rattle.rtk_summary.specs.DatesTold.{dates_in, proposed_date}
+use Rattle.rtk_summary.specs.Summary.{all_numbers, station_lines, stations_text, weeks_text, unread_lines, summary_text}
+use Rattle.rtk_summary.specs.declared.dates_told.StationDates.{StationDates}
+use Rattle.rtk_summary.specs.SummaryText.{number_line, counted_line, numbered_line, time_lines, date_lines, look_line, near_text, signal_lines, proposal_lines, codes_text, nothing_line, untaken_numbers}
 use Rattle.rtk_summary.specs.Tracing.{is_numbered, is_other, is_short, is_outside_week, is_no_number, is_too_many_cells, times_of_week, entries_in, has_satellite, has_code}
 use Rattle.rtk_summary.proofs.HeadLemmas.{differ, apart, IsNotHeaded, not-headed-line, not-headed-table, line-then, counted-then, lines_by_number, NumbersRise, FirstIsAbove, table-then}
 use Rattle.rtk_summary.proofs.LineTellingLemmas.{times-then, not-headed-times}
@@ -44,9 +46,9 @@ times-few (m ∷ ms) =
     omega (arith, few, one)
 
 -- the lines of a station in their groups
-grouped : (n a b c d e f g t s p : List ℕ) → n ++ a ++ b ++ c ++ d ++ e ++ f ++ g ++ t ++ s ++ p
-    ≡ n ++ ((a ++ (b ++ (c ++ (d ++ (e ++ (f ++ (g ++ []))))))) ++ (t ++ (s ++ p)))
-grouped n a b c d e f g t s p = simp append_assoc
+grouped : (n a b c d e f g t w s p : List ℕ) → n ++ a ++ b ++ c ++ d ++ e ++ f ++ g ++ t ++ w ++ s ++ p
+    ≡ n ++ ((a ++ (b ++ (c ++ (d ++ (e ++ (f ++ (g ++ []))))))) ++ (t ++ (w ++ s ++ p)))
+grouped n a b c d e f g t w s p = simp append_assoc
 
 seven-same : (a b c d e f g a' b' c' d' e' f' g' : List ℕ) → a ≡ a' → b ≡ b' → c ≡ c' → d ≡ d' → e ≡ e' → f ≡ f' → g ≡ g'
     → a ++ (b ++ (c ++ (d ++ (e ++ (f ++ (g ++ [])))))) ≡ a' ++ (b' ++ (c' ++ (d' ++ (e' ++ (f' ++ (g' ++ []))))))
@@ -109,40 +111,40 @@ messages-rise =
     (omega arith, omega arith, (omega arith, omega arith, (omega arith, omega arith, (omega arith, omega arith, (omega arith, omega arith, (omega arith, omega arith, (omega arith, tt, tt)))))))
 
 -- what stands behind the times
-behind_times : ℕ → List AnyMessage → List ℕ
-behind_times station ms =
-    signal_lines (has_satellite (entries_in ms)) (has_code (entries_in ms))
-    ++ proposal_lines station (λ kind. epochs_with_value kind ms) (λ kind. has_code (entries_with kind ms))
+behind_times : List ℕ → ℕ → List AnyMessage → StationDates → List ℕ
+behind_times name station ms d =
+    date_lines d ++ signal_lines (has_satellite (entries_in ms)) (has_code (entries_in ms))
+    ++ proposal_lines name (near_text (proposed_date d)) station (λ kind. epochs_with_value kind ms) (λ kind. has_code (entries_with kind ms))
 
-station-is : (station : ℕ) (ms : List AnyMessage) → station_lines station ms
+station-is : (name : List ℕ) (station : ℕ) (ms : List AnyMessage) (d : StationDates) → station_lines name station ms d
     ≡ number_line (codes "station ") station
     ++ (lines_by_number (codes " message ") (λ n. count_of (is_numbered n) ms) (1004 ∷ 1005 ∷ 1006 ∷ 1074 ∷ 1075 ∷ 1076 ∷ 1077 ∷ [])
-    ++ (time_lines (times_of_week ms) ++ behind_times station ms))
+    ++ (time_lines (times_of_week ms) ++ behind_times name station ms d))
 unfolding station_lines behind_times
-station-is station ms =
+station-is name station ms d =
     let count : ℕ → ℕ = λ n. count_of (is_numbered n) ms in
     let line : List ℕ → ℕ → List ℕ = λ words n. counted_line words (count n) in
     grouped (number_line (codes "station ") station)
     (line (codes " message 1004 ") 1004) (line (codes " message 1005 ") 1005) (line (codes " message 1006 ") 1006) (line (codes " message 1074 ") 1074) (line (codes " message 1075 ") 1075) (line (codes " message 1076 ") 1076) (line (codes " message 1077 ") 1077)
-    (time_lines (times_of_week ms)) (signal_lines (has_satellite (entries_in ms)) (has_code (entries_in ms)))
-    (proposal_lines station (λ kind. epochs_with_value kind ms) (λ kind. has_code (entries_with kind ms)))
-    ∙ ap (λ (lines : List ℕ). number_line (codes "station ") station ++ (lines ++ (time_lines (times_of_week ms) ++ behind_times station ms))) (messages-are count)
+    (time_lines (times_of_week ms)) (date_lines d) (signal_lines (has_satellite (entries_in ms)) (has_code (entries_in ms)))
+    (proposal_lines name (near_text (proposed_date d)) station (λ kind. epochs_with_value kind ms) (λ kind. has_code (entries_with kind ms)))
+    ∙ ap (λ (lines : List ℕ). number_line (codes "station ") station ++ (lines ++ (time_lines (times_of_week ms) ++ behind_times name station ms d))) (messages-are count)
 
 pub station-tells : StationLinesTell
-station-tells station other ms ns held fits few less times alike same =
+station-tells name names station other ms ns d e held fits few less times alike same =
     let numbers : List ℕ = 1004 ∷ 1005 ∷ 1006 ∷ 1074 ∷ 1075 ∷ 1076 ∷ 1077 ∷ [] in
     let f : ℕ → ℕ = λ n. count_of (is_numbered n) ms in
     let g : ℕ → ℕ = λ n. count_of (is_numbered n) ns in
-    let left : List ℕ = time_lines (times_of_week ms) ++ behind_times station ms in
-    let right : List ℕ = time_lines (times_of_week ns) ++ behind_times other ns in
+    let left : List ℕ = time_lines (times_of_week ms) ++ behind_times name station ms d in
+    let right : List ℕ = time_lines (times_of_week ns) ++ behind_times names other ns e in
     let number = line-then (codes "station ") station other (lines_by_number (codes " message ") f numbers ++ left) (lines_by_number (codes " message ") g numbers ++ right) held fits
-    (sym (station-is station ms) ∙ same ∙ station-is other ns) in
+    (sym (station-is name station ms d) ∙ same ∙ station-is names other ns e) in
     let words = apart (codes " message ") (codes " time-of-week ") refl in
     let counts = table-then (codes " message ") f g numbers left right messages-rise (λ n. omega arith) (λ n. omega arith)
-    (not-headed-times (codes " message ") (times_of_week ms) (behind_times station ms) words) (not-headed-times (codes " message ") (times_of_week ns) (behind_times other ns) words) number.1 in
+    (not-headed-times (codes " message ") (times_of_week ms) (behind_times name station ms d) words) (not-headed-times (codes " message ") (times_of_week ns) (behind_times names other ns e) words) number.1 in
     let here = times-few ms in
     let there = times-few ns in
-    let shown = times-then (times_of_week ms) (times_of_week ns) (behind_times station ms) (behind_times other ns) times alike (omega (arith, here, few)) (omega (arith, there, less)) counts.1 in
+    let shown = times-then (times_of_week ms) (times_of_week ns) (behind_times name station ms d) (behind_times names other ns e) times alike (omega (arith, here, few)) (omega (arith, there, less)) counts.1 in
     record {
       number = number.0;
       counts = each-weaker (λ n. f n ≡ g n) (λ n. count_by (is_numbered n) ms ≡ count_by (is_numbered n) ns) numbers
@@ -274,38 +276,42 @@ unread-tells fs gs few less same =
 -- ---- the whole
 
 -- what stands behind the three numbers of the frames
-behind_frames : List ReadFrame → List ℕ
-behind_frames fs = stations_text (messages_in fs) ++ unread_lines (faults_in fs) ++ nothing_line (codes_text (has_code (entries_in (messages_in fs))))
+behind_frames : List ℕ → List ℕ → List ReadFrame → List ℕ
+behind_frames name bytes fs =
+    look_line (length fs) (take 512 bytes)
+    ++ stations_text name (messages_in fs) (dates_in fs) ++ weeks_text (dates_in fs) ++ unread_lines (faults_in fs) ++ nothing_line (codes_text (has_code (entries_in (messages_in fs))))
 
 frames-few : (fs : List ReadFrame) → length fs ≤ bytes_in fs
 frames-few [] = omega arith
 frames-few (f ∷ before) = let few = frames-few before in omega (arith, few)
 
-whole-grouped : (a b c s u n : List ℕ) → a ++ b ++ c ++ s ++ u ++ n ≡ a ++ (b ++ (c ++ (s ++ u ++ n)))
-whole-grouped a b c s u n = simp append_assoc
+whole-grouped : (a b c l s w u n : List ℕ) → (a ++ b ++ c) ++ l ++ s ++ w ++ u ++ n ≡ a ++ (b ++ (c ++ (l ++ s ++ w ++ u ++ n)))
+whole-grouped a b c l s w u n = simp append_assoc
 
 outside : ℕ → List ReadFrame → ℕ
 outside size fs = shown_count size - shown_count (bytes_in fs)
 
-whole-is : (size : ℕ) (fs : List ReadFrame) → summary_text size fs
-    ≡ number_line (codes "bytes ") (shown_count size)
-    ++ (number_line (codes "outside-frames ") (outside size fs) ++ (number_line (codes "frames ") (shown_count (length fs)) ++ behind_frames fs))
+whole-is : (name bytes : List ℕ) (fs : List ReadFrame) → summary_text name bytes fs
+    ≡ number_line (codes "bytes ") (shown_count (length bytes))
+    ++ (number_line (codes "outside-frames ") (outside (length bytes) fs) ++ (number_line (codes "frames ") (shown_count (length fs)) ++ behind_frames name bytes fs))
 unfolding summary_text behind_frames outside
-whole-is size fs =
-    whole-grouped (number_line (codes "bytes ") (shown_count size)) (number_line (codes "outside-frames ") (outside size fs)) (number_line (codes "frames ") (shown_count (length fs)))
-    (stations_text (messages_in fs)) (unread_lines (faults_in fs)) (nothing_line (codes_text (has_code (entries_in (messages_in fs)))))
+whole-is name bytes fs =
+    whole-grouped (number_line (codes "bytes ") (shown_count (length bytes))) (number_line (codes "outside-frames ") (outside (length bytes) fs)) (number_line (codes "frames ") (shown_count (length fs)))
+    (look_line (length fs) (take 512 bytes)) (stations_text name (messages_in fs) (dates_in fs)) (weeks_text (dates_in fs)) (unread_lines (faults_in fs)) (nothing_line (codes_text (has_code (entries_in (messages_in fs)))))
 
 pub summary-tells : SummaryTellsFrames
 unfolding outside
-summary-tells size other fs gs held fits within inside same =
-    let frames : List ReadFrame → List ℕ = λ hs. number_line (codes "frames ") (shown_count (length hs)) ++ behind_frames hs in
-    let bytes = line-then (codes "bytes ") (shown_count size) (shown_count other)
-    (number_line (codes "outside-frames ") (outside size fs) ++ frames fs) (number_line (codes "outside-frames ") (outside other gs) ++ frames gs) (omega arith) (omega arith)
-    (sym (whole-is size fs) ∙ same ∙ whole-is other gs) in
-    let rest = line-then (codes "outside-frames ") (outside size fs) (outside other gs) (frames fs) (frames gs) (omega arith) (omega arith) bytes.1 in
-    let count = line-then (codes "frames ") (shown_count (length fs)) (shown_count (length gs)) (behind_frames fs) (behind_frames gs) (omega arith) (omega arith) rest.1 in
+summary-tells name names text other fs gs held fits within inside same =
+    let size : ℕ = length text in
+    let sizes_there : ℕ = length other in
+    let frames : List ℕ → List ℕ → List ReadFrame → List ℕ = λ n b hs. number_line (codes "frames ") (shown_count (length hs)) ++ behind_frames n b hs in
+    let bytes = line-then (codes "bytes ") (shown_count size) (shown_count sizes_there)
+    (number_line (codes "outside-frames ") (outside size fs) ++ frames name text fs) (number_line (codes "outside-frames ") (outside sizes_there gs) ++ frames names other gs) (omega arith) (omega arith)
+    (sym (whole-is name text fs) ∙ same ∙ whole-is names other gs) in
+    let rest = line-then (codes "outside-frames ") (outside size fs) (outside sizes_there gs) (frames name text fs) (frames names other gs) (omega arith) (omega arith) bytes.1 in
+    let count = line-then (codes "frames ") (shown_count (length fs)) (shown_count (length gs)) (behind_frames name text fs) (behind_frames names other gs) (omega arith) (omega arith) rest.1 in
     let few = frames-few fs in
     let less = frames-few gs in
-    let sizes : size ≡ other = omega (arith, bytes.0, held, fits) in
+    let sizes : size ≡ sizes_there = omega (arith, bytes.0, held, fits) in
     let in_frames : bytes_in fs ≡ bytes_in gs = omega (arith, rest.0, held, fits, within, inside, sizes) in
     record { bytes = sizes; framed = in_frames; frames = omega (arith, count.0, few, less, within, inside, held, fits) }

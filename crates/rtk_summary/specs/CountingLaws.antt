@@ -3,15 +3,18 @@
 use Rattle.std.specs.Prelude.{◌≡◌, ◌≢◌, ◌<◌, ◌+◌, ℕ, List, [], ◌∷◌, ◌++◌, length, codes}
 use Rattle.std.specs.List.{AllByRecursion, count_by, sum_by}
 use Rattle.rtk_frame.specs.Frames.{frames, payloads}
+use Rattle.rtk_dates.specs.declared.date_message.DateMessage.{DateMessage}
 use Rattle.rtk_message.specs.declared.any_message.AnyMessage.{AnyMessage}
 use Rattle.rtk_message.specs.declared.any_fault.AnyFault.{AnyFault}
 use Rattle.rtk_message.specs.declared.msm_kind.MsmKind.{MsmKind}
+use Rattle.rtk_summary.specs.DatesTold.{dates_in, station_dates, proposed_date}
 use Rattle.rtk_summary.specs.NumberLaws.{IsHeld}
 use Rattle.rtk_summary.specs.Proposal.{epochs_in, times_with_value, entries_with}
 use Rattle.rtk_summary.specs.ReadFrames.{ReadFrame, bytes_in, messages_in, faults_in, messages_from}
-use Rattle.rtk_summary.specs.Summary.{station_lines, stations_text, unread_lines, summary_text, AreFramesOf}
-use Rattle.rtk_summary.specs.SummaryText.{numbered_line, proposal_lines, untaken_numbers}
+use Rattle.rtk_summary.specs.Summary.{station_lines, stations_text, weeks_text, unread_lines, summary_text, AreFramesOf}
+use Rattle.rtk_summary.specs.SummaryText.{numbered_line, near_text, proposal_lines, untaken_numbers}
 use Rattle.rtk_summary.specs.Tracing.{is_numbered, is_other, times_of_week, changes_in, entries_in, has_code}
+use Rattle.rtk_summary.specs.declared.dates_told.StationDates.{StationDates}
 
 -- ---- what is counted
 
@@ -64,24 +67,24 @@ EpochsAreChanges = (t : ℕ) (before : List ℕ) → epochs_in (t ∷ before) �
 abbrev pub StandsIn : List ℕ → List ℕ → Type 0
 StandsIn part text = (before : List ℕ) × (after : List ℕ) × (text ≡ before ++ part ++ after)
 
--- in a summary the lines of all stations and of what is not read
+-- in a summary the lines of all stations, of all weeks and of what is not read
 abbrev pub PartsStand : Type 0
 PartsStand =
-    (size : ℕ) (fs : List ReadFrame) → StandsIn (stations_text (messages_in fs)) (summary_text size fs)
-    × StandsIn (unread_lines (faults_in fs)) (summary_text size fs)
+    (name text : List ℕ) (fs : List ReadFrame) → StandsIn (stations_text name (messages_in fs) (dates_in fs)) (summary_text name text fs)
+    × StandsIn (weeks_text (dates_in fs)) (summary_text name text fs) × StandsIn (unread_lines (faults_in fs)) (summary_text name text fs)
 
 -- in the lines of all stations those of each station of which a message came
 abbrev pub StationsStand : Type 0
 StationsStand =
-    (ms : List AnyMessage) (n : ℕ) → n < 4096 → 0 < length (messages_from n ms)
-    → StandsIn (station_lines n (messages_from n ms)) (stations_text ms)
+    (name : List ℕ) (ms : List AnyMessage) (ds : List DateMessage) (n : ℕ) → n < 4096 → 0 < length (messages_from n ms)
+    → StandsIn (station_lines name n (messages_from n ms) (station_dates n ds)) (stations_text name ms ds)
 
 -- in the lines of a station its command, by the numbers of epochs
 abbrev pub ProposalsStand : Type 0
 ProposalsStand =
-    (station : ℕ) (ms : List AnyMessage) → ((kind : MsmKind) → IsHeld (epochs_in (times_with_value kind ms)))
-    → StandsIn (proposal_lines station (λ kind. epochs_in (times_with_value kind ms)) (λ kind. has_code (entries_with kind ms)))
-    (station_lines station ms)
+    (name : List ℕ) (station : ℕ) (ms : List AnyMessage) (d : StationDates) → ((kind : MsmKind) → IsHeld (epochs_in (times_with_value kind ms)))
+    → StandsIn (proposal_lines name (near_text (proposed_date d)) station (λ kind. epochs_in (times_with_value kind ms)) (λ kind. has_code (entries_with kind ms)))
+    (station_lines name station ms d)
 
 -- in the lines of what is not read those of GPS observations, by the numbers of their messages
 abbrev pub UntakenStand : Type 0

@@ -1,8 +1,13 @@
 pub mod Counting
 pub mod CountingLaws
+pub mod DatesTold
+pub mod Following
+pub mod Look
 pub mod NumberLaws
 pub mod Proposal
 pub mod ReadFrames
+pub mod Standing
+pub mod StandingDates
 pub mod Steps
 pub mod Summary
 pub mod SummaryText

@@ -12,6 +12,7 @@ use Rattle.rtk_summary.specs.ReadFrames.{ReadFrame, bytes_in}
 use Rattle.rtk_summary.specs.Summary.{station_lines, unread_lines, summary_text}
 use Rattle.rtk_summary.specs.SummaryText.{number_line, counted_line, numbered_line, time_lines, codes_text, proposal_lines}
 use Rattle.rtk_summary.specs.Tracing.{is_numbered, is_other, is_short, is_outside_week, is_no_number, is_too_many_cells, times_of_week, oldest_time, newest_time, changes_in}
+use Rattle.rtk_summary.specs.declared.dates_told.StationDates.{StationDates}
 
 -- a u64 holds the number
 abbrev pub IsHeld : ℕ → Type 0
@@ -50,9 +51,9 @@ pub record ProposalsAreAlike (station : ℕ) (epochs : MsmKind → ℕ) (names :
 
 abbrev pub ProposalLinesTell : Type 0
 ProposalLinesTell =
-    (station other : ℕ) (epochs others : MsmKind → ℕ) (code test : MsmKind → Code → Bool) → IsHeld station → IsHeld other
+    (name names near far : List ℕ) (station other : ℕ) (epochs others : MsmKind → ℕ) (code test : MsmKind → Code → Bool) → IsHeld station → IsHeld other
     → ((kind : MsmKind) → IsHeld (epochs kind)) → ((kind : MsmKind) → IsHeld (others kind)) → proposed epochs ≡ proposed others
-    → proposal_lines station epochs code ≡ proposal_lines other others test
+    → proposal_lines name near station epochs code ≡ proposal_lines names far other others test
     → ProposalsAreAlike station epochs (codes_text (code (proposed epochs))) other others
 
 -- a number of epochs is how many there are
@@ -72,8 +73,9 @@ pub record CapturesAreAlike (size : ℕ) (fs : List ReadFrame) (other : ℕ) (gs
 
 abbrev pub SummaryTellsFrames : Type 0
 SummaryTellsFrames =
-    (size other : ℕ) (fs gs : List ReadFrame) → IsHeld size → IsHeld other → bytes_in fs ≤ size → bytes_in gs ≤ other
-    → summary_text size fs ≡ summary_text other gs → CapturesAreAlike size fs other gs
+    (name names text other : List ℕ) (fs gs : List ReadFrame) → IsHeld (length text) → IsHeld (length other)
+    → bytes_in fs ≤ length text → bytes_in gs ≤ length other
+    → summary_text name text fs ≡ summary_text names other gs → CapturesAreAlike (length text) fs (length other) gs
 
 -- the messages of two stations are as many of each number, with the same first and last time and as
 -- many changes of the epoch
@@ -84,9 +86,10 @@ pub record StationsAreAlike (station : ℕ) (ms : List AnyMessage) (other : ℕ)
 
 abbrev pub StationLinesTell : Type 0
 StationLinesTell =
-    (station other : ℕ) (ms ns : List AnyMessage) → IsHeld station → IsHeld other → IsHeld (length ms) → IsHeld (length ns)
+    (name names : List ℕ) (station other : ℕ) (ms ns : List AnyMessage) (d e : StationDates)
+    → IsHeld station → IsHeld other → IsHeld (length ms) → IsHeld (length ns)
     → AllByRecursion IsHeld (times_of_week ms) → AllByRecursion IsHeld (times_of_week ns)
-    → station_lines station ms ≡ station_lines other ns → StationsAreAlike station ms other ns
+    → station_lines name station ms d ≡ station_lines names other ns e → StationsAreAlike station ms other ns
 
 -- of each fault there are as many, for each number of a message
 pub record FaultsAreAlike (fs gs : List AnyFault) : Type 0 where

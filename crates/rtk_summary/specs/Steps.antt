@@ -1,3 +1,4 @@
 -- Definitions that only private clauses use.
-pub mod Standing
+pub mod Followed
+pub mod ReadAll
 pub mod Tables

@@ -2,15 +2,23 @@
 -- after a blank.
 use Rattle.std.specs.Prelude.{ℕ, ◌+◌, ◌/◌, ◌%◌, ◌==◌, Bool, not, ◌&&◌, List, [], ◌∷◌, ◌++◌, filter, flat_map, codes, decimal, Option, None, Some, if◌then◌else◌}
 use Rattle.std.specs.List.{range_with_len}
+use Rattle.rtk_dates.specs.Telling.{moment_of}
+use Rattle.rtk_dates.specs.declared.date_message.UtcDate.{UtcDate}
+use Rattle.rtk_message.specs.ShellText.{sh_quoted}
 use Rattle.rtk_message.specs.declared.msm_kind.MsmKind.{MsmKind}
 use Rattle.rtk_message.specs.declared.msm_kind.MsmKind.TheVariants.{Msm4, Msm5, Msm6, Msm7}
 use Rattle.rtk_message.specs.MsmForm.{number_of_kind}
 use Rattle.rtk_obs.specs.declared.code.Code.{Code}
 use Rattle.rtk_obs.specs.declared.code.Code.TheVariants.{C2P, C2W}
+use Rattle.rtk_obs.specs.CivilText.{last_digits, date_text, clock_text}
 use Rattle.rtk_obs.specs.Code.{name_of, all_codes}
+use Rattle.rtk_rinex.specs.Reading.{reading_of}
 use Rattle.rtk_summary.specs.Counting.{shown_count}
+use Rattle.rtk_summary.specs.Look.{look_of, look_name}
 use Rattle.rtk_summary.specs.Proposal.{proposed}
 use Rattle.rtk_summary.specs.Tracing.{newest_time, oldest_time, changes_in}
+use Rattle.rtk_summary.specs.declared.dates_told.DateCount.{DateCount}
+use Rattle.rtk_summary.specs.declared.dates_told.StationDates.{StationDates}
 
 -- formula
 -- words and a number
@@ -51,7 +59,38 @@ time_line (Some first) (Some last) = codes " time-of-week " ++ decimal first ++ 
 abbrev pub time_lines : List ℕ → List ℕ
 time_lines ts =
     time_line (oldest_time ts) (newest_time ts)
-    ++ number_line (codes " epoch-changes ") (shown_count (changes_in ts))
+    ++ number_line (codes " changes-of-time ") (shown_count (changes_in ts))
+
+-- ---- dates
+
+-- formula
+-- a date and a time of day, as in 2011-03-01T05:56:37
+abbrev pub date_time_text : UtcDate → List ℕ
+date_time_text d = date_text (reading_of (moment_of d)) ++ codes "T" ++ clock_text (reading_of (moment_of d))
+
+-- formula
+-- the first date that messages of this number tell, and how many messages do; without one there is none
+abbrev pub first_date_line : ℕ → ℕ → Option UtcDate → List ℕ
+first_date_line number count None = []
+first_date_line number count (Some d) = number_line (codes " date " ++ date_time_text d ++ codes " " ++ decimal number ++ codes " ") count
+
+abbrev pub date_line : ℕ → DateCount → List ℕ
+date_line number c = first_date_line number c.count c.first
+
+-- formula
+-- the lines of the dates of a station
+abbrev pub date_lines : StationDates → List ℕ
+date_lines d = date_line 1013 d.of_1013 ++ date_line 1029 d.of_1029
+
+-- formula
+-- a week modulo 1,024, and how many 1019 name it
+abbrev pub week_line : ℕ → ℕ → List ℕ
+week_line week n = counted_line (codes "week " ++ decimal week ++ codes " 1019 ") n
+
+-- formula
+-- what a file without a frame looks like, by its first bytes
+abbrev pub look_line : ℕ → List ℕ → List ℕ
+look_line frames head = if frames == 0 then codes "looks-like " ++ look_name (look_of head) ++ 10 ∷ [] else []
 
 -- ---- satellites and codes, by the tests which of them have a value
 
@@ -90,7 +129,7 @@ unfoldable pub signal_lines : (ℕ → Bool) → (Code → Bool) → List ℕ
 signal_lines satellite code =
     list_line (codes " satellites") (satellites_text satellite) ++ list_line (codes " codes") (codes_text code)
 
--- ---- the command that converts a station, by how many epochs of each MSM have a value, and by the
+-- ---- the commands that convert a station, by how many epochs of each MSM have a value, and by the
 -- codes that `convert` takes with each
 
 -- formula
@@ -114,20 +153,38 @@ msm_option Msm6 = codes " --msm 6"
 msm_option Msm7 = codes " --msm 7"
 
 -- formula
--- the command that converts the station with this MSM, with a word in capitals for what a capture
--- does not tell; without codes there is none
-abbrev pub next_line : ℕ → MsmKind → List ℕ → List ℕ
-next_line station named [] = []
-next_line station named (x ∷ xs) =
-    codes " next rtcm2rinex convert --station " ++ decimal station
-    ++ codes " --near GPS-TIME-WITHIN-HALF-A-WEEK --made UTC-NOW --marker NAME --codes" ++ (x ∷ xs) ++ msm_option named ++ codes " CAPTURE\n"
+-- the moment near which the command converts; words in capitals if the capture does not tell it
+abbrev pub near_text : Option UtcDate → List ℕ
+near_text None = codes "GPS-TIME-WITHIN-HALF-A-WEEK"
+near_text (Some d) = date_time_text d
 
 -- formula
--- the command, and before it its second frequency and the MSM that it leaves out
-unfoldable pub proposal_lines : ℕ → (MsmKind → ℕ) → (MsmKind → Code → Bool) → List ℕ
-proposal_lines station epochs code =
+-- the words of the command behind its moment
+abbrev pub words_text : List ℕ → ℕ → MsmKind → List ℕ → List ℕ
+words_text name station named names =
+    codes " --made \"$(date -u +%FT%T)\" --marker " ++ last_digits 4 station
+    ++ codes " --codes" ++ names ++ msm_option named ++ codes " " ++ sh_quoted name ++ 10 ∷ []
+
+-- formula
+-- the command that finds the other options by itself
+abbrev pub auto_line : List ℕ → ℕ → List ℕ
+auto_line name station =
+    codes " auto rtcm2rinex auto --station " ++ decimal station ++ codes " -o " ++ last_digits 4 station ++ codes ".rnx " ++ sh_quoted name ++ 10 ∷ []
+
+-- formula
+-- the command that converts the station in the file of this name with this MSM, near this moment, and
+-- the one that finds its options; without codes there is none
+abbrev pub next_lines : List ℕ → List ℕ → ℕ → MsmKind → List ℕ → List ℕ
+next_lines name near station named [] = []
+next_lines name near station named (x ∷ xs) =
+    codes " next rtcm2rinex convert --station " ++ decimal station ++ codes " --near " ++ near ++ words_text name station named (x ∷ xs) ++ auto_line name station
+
+-- formula
+-- the commands, and before them the second frequency and the MSM that they leave out
+unfoldable pub proposal_lines : List ℕ → List ℕ → ℕ → (MsmKind → ℕ) → (MsmKind → Code → Bool) → List ℕ
+proposal_lines name near station epochs code =
     second_frequency_line (code (proposed epochs)) ++ other_msm_lines epochs (proposed epochs)
-    ++ next_line station (proposed epochs) (codes_text (code (proposed epochs)))
+    ++ next_lines name near station (proposed epochs) (codes_text (code (proposed epochs)))
 
 -- formula
 -- no station has a code

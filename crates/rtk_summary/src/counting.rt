@@ -2,7 +2,7 @@
 
 ghost use Rattle.std.specs.Prelude.{◌≡◌, ◌+◌};
 ghost use Rattle.rtk_summary.specs.Counting.{shown_count};
-ghost use Rattle.rtk_summary.specs.Steps.Standing.{one_if};
+ghost use Rattle.rtk_summary.specs.Standing.{one_if};
 
 /// One more, if this is counted.
 pub(crate) fn count_if(count: u64, is_counted: bool) -> u64

@@ -2,7 +2,7 @@
 
 ghost use Rattle.std.specs.Prelude.{◌≡◌, List, ℕ, [], ◌∷◌};
 ghost use Rattle.rtk_summary.specs.Proposal.{begins_epoch};
-ghost use Rattle.rtk_summary.specs.Steps.Standing.{epochs_so_far};
+ghost use Rattle.rtk_summary.specs.Standing.{epochs_so_far};
 
 /// How many epochs there are, and the time of week of the last one, in ms.
 #[derive(Clone, Copy)]

@@ -12,7 +12,7 @@ ghost use Rattle.rtk_message.specs.declared.msm_kind.MsmKind.TheVariants.{Msm4};
 ghost use Rattle.rtk_summary.specs.CountingLaws.{EachFrameIsCounted, EachMessageIsCounted, FramesAreTakenAlike, MessagesAreTakenAlike, ChangesAddUp, OtherTimeIsChange, EpochsAreChanges, PartsStand, StationsStand, ProposalsStand, UntakenStand};
 ghost use Rattle.rtk_summary.specs.NumberLaws.{NumberLineTells, CountedLineTells, NumberedLineTells, TimeLinesTell, ProposalLinesTell, EpochsAreCounted, SummaryTellsFrames, StationLinesTell, UnreadLinesTell};
 ghost use Rattle.rtk_summary.specs.Proposal.{is_of_four, epochs_with_value, entries_with, proposed};
-ghost use Rattle.rtk_summary.specs.SummaryText.{codes_text, second_frequency_line, next_line, proposal_lines};
+ghost use Rattle.rtk_summary.specs.SummaryText.{codes_text, second_frequency_line, next_lines, proposal_lines};
 ghost use Rattle.rtk_summary.specs.Tracing.{entries_in, has_code};
 
 /// No MSM has more epochs with a value than the one that is named, and none greater has as many. If
@@ -28,9 +28,9 @@ pub fn most_epochs_are_named()
 /// the codes of all cells. The line of its second frequency goes by these codes, and no line tells of
 /// another MSM.
 pub fn four_need_no_option()
-    ensures { (station : ℕ) (ms : List AnyMessage) → IsTrue (list_all is_of_four ms)
-        → proposal_lines station (λ kind. epochs_with_value kind ms) (λ kind. has_code (entries_with kind ms))
-        ≡ second_frequency_line (has_code (entries_in ms)) ++ next_line station Msm4 (codes_text (has_code (entries_in ms))) }
+    ensures { (name near : List ℕ) (station : ℕ) (ms : List AnyMessage) → IsTrue (list_all is_of_four ms)
+        → proposal_lines name near station (λ kind. epochs_with_value kind ms) (λ kind. has_code (entries_with kind ms))
+        ≡ second_frequency_line (has_code (entries_in ms)) ++ next_lines name near station Msm4 (codes_text (has_code (entries_in ms))) }
 {}
 
 /// Equal lines of a summary tell equal numbers: no number stops short of what a u64 holds. The lines of

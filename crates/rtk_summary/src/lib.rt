@@ -12,7 +12,7 @@
 //! fn example(alloc: Global) -> Result<bool, AllocError> {
 //!     let mut capture = MemSource::new(alloc, b"no frame", 512, After::End)?;
 //!     let mut out = MemSink::new(alloc, 65_536, 4_096)?;
-//!     match summarize(alloc, &mut capture, &mut out, 100) {
+//!     match summarize(alloc, b"a.rtcm", &mut capture, &mut out, 100) {
 //!         Ok(()) => Ok(out.bytes().starts_with(b"bytes 8\noutside-frames 8\n")),
 //!         Err(_) => Ok(false),
 //!     }
@@ -22,12 +22,22 @@
 #![tactic(auto)]
 
 mod capture;
+mod chosen;
 mod counting;
+mod date_lines;
+mod dated_summary;
+mod dates_told;
 mod epochs;
 mod fault;
+mod follower;
 mod laws;
+mod line;
 mod lines;
+mod look;
 mod msm_parts;
+mod proposal_lines;
+mod reading;
+mod signal_lines;
 mod signals;
 mod station;
 mod summary;
@@ -36,7 +46,12 @@ mod unread;
 
 pub use capture::summarize;
 pub use fault::SummaryFault;
+pub use follower::Follower;
 pub use laws::{
     all_are_taken_alike, each_frame_is_counted, four_need_no_option, lines_tell_numbers,
     most_epochs_are_named, parts_stand_in_a_summary, summaries_tell_counts,
 };
+pub use look::{Look, look_of};
+pub use reading::{CaptureRead, read_capture};
+pub use signals::{has_value, have_value};
+pub use summary::Summary;

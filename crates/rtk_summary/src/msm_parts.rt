@@ -4,7 +4,7 @@ ghost use Rattle.std.specs.Prelude.{◌≡◌, List, [], ◌∷◌};
 ghost use Rattle.rtk_message.specs.declared.any_message.AnyMessage.{AnyMessage};
 ghost use Rattle.rtk_message.specs.declared.msm_kind.MsmKind.TheVariants.{Msm4, Msm5, Msm6, Msm7};
 ghost use Rattle.rtk_summary.specs.Proposal.{gives_value, times_with_value, entries_with, better_of, proposed};
-ghost use Rattle.rtk_summary.specs.Steps.Standing.{epochs_so_far, StandsForCodes, StandsForMsm, StandForMsm, msm_part, epochs_held};
+ghost use Rattle.rtk_summary.specs.Standing.{epochs_so_far, StandsForCodes, StandsForMsm, StandForMsm, msm_part, epochs_held};
 ghost use Rattle.rtk_summary.specs.Tracing.{times_of_week, entries_of_message};
 
 use crate::counting::count_if;

@@ -4,7 +4,7 @@ ghost use Rattle.std.specs.Prelude.{◌≡◌, ◌<◌, ◌==◌, ◌&&◌, ◌|
 ghost use Rattle.std.specs.List.{list_any};
 ghost use Rattle.rtk_obs.specs.declared.cell.CellEntry.{CellEntry};
 ghost use Rattle.rtk_summary.specs.Proposal.{entry_has_value};
-ghost use Rattle.rtk_summary.specs.Steps.Standing.{StandsForCodes, StandsForEntries};
+ghost use Rattle.rtk_summary.specs.Standing.{StandsForCodes, StandsForEntries};
 ghost use Rattle.rtk_summary.specs.Tracing.{has_value};
 
 use rtk_obs::{Cell, CellEntry};
@@ -24,7 +24,8 @@ pub(crate) struct Signals {
     pub(crate) codes: Codes,
 }
 
-fn has_value(cell: &Cell) -> bool
+/// A cell has a range, a phase or a strength.
+pub fn has_value(cell: &Cell) -> bool
     ensures { result ≡ has_value cell.now }
 {
     cell.range_mm.is_some() || cell.phase_millicycles.is_some() || cell.strength_millidbhz.is_some()
@@ -42,7 +43,7 @@ fn mark(marks: &mut [bool], place: usize, has_value: bool)
 }
 
 /// Some cell has a value.
-pub(crate) fn have_value(entries: &[CellEntry]) -> bool
+pub fn have_value(entries: &[CellEntry]) -> bool
     ensures { result ≡ list_any entry_has_value entries.now }
 {
     entries.iter().any(|entry| has_value(&entry.cell))

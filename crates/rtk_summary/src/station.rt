@@ -2,17 +2,16 @@
 
 ghost use Rattle.std.specs.Prelude.{◌≡◌, List, [], ◌∷◌};
 ghost use Rattle.rtk_message.specs.declared.any_message.AnyMessage.{AnyMessage};
-ghost use Rattle.rtk_message.specs.AnyDecoded.{IsValid, number_of};
-ghost use Rattle.rtk_summary.specs.Steps.Standing.{times_of, StandsForMessages, CountsMessages};
+ghost use Rattle.rtk_message.specs.AnyDecoded.{number_of};
+ghost use Rattle.rtk_summary.specs.Standing.{times_of, StandsForMessages, CountsMessages};
 ghost use Rattle.rtk_summary.specs.Tracing.{times_of_week, entries_of_message};
 
 use crate::counting::count_if;
 use crate::msm_parts::MsmParts;
 use crate::signals::Signals;
 use crate::times_of_week::Times;
-use arrayvec::ArrayVec;
 use rtk_message::AnyMessage;
-use rtk_obs::{CellEntry, put_cells_msm, put_cells_of};
+use rtk_obs::CellEntry;
 
 /// The messages of a station: how many, of which numbers, their times and their signals.
 #[derive(Clone, Copy)]
@@ -24,17 +23,6 @@ pub(crate) struct Station {
     pub(crate) times: Times,
     pub(crate) signals: Signals,
     pub(crate) msm: MsmParts,
-}
-
-/// Puts the cells of a message over a list.
-pub(crate) fn put_entries(message: &AnyMessage, found: &mut ArrayVec<CellEntry, 64>)
-    requires { IsValid message.now }
-    ensures { found.new.items ≡ entries_of_message message.now }
-{
-    match message {
-        AnyMessage::Message(message) => put_cells_of(message, found),
-        AnyMessage::Msm(message) => put_cells_msm(message, found),
-    }
 }
 
 // Notes the time of week of a message, if it has one.

@@ -1,7 +1,7 @@
 //! The times of week of a station's observation messages.
 
 ghost use Rattle.std.specs.Prelude.{◌≡◌, List, ℕ, [], ◌∷◌};
-ghost use Rattle.rtk_summary.specs.Steps.Standing.{times_of};
+ghost use Rattle.rtk_summary.specs.Standing.{times_of};
 ghost use Rattle.rtk_summary.specs.Tracing.{change_from};
 
 /// The first time and the last one, in ms, and how many differ from the one before.

@@ -3,7 +3,7 @@
 ghost use Rattle.std.specs.Prelude.{◌≡◌, ◌<◌, ◌+◌, ◌==◌, ℕ, List, [], ◌∷◌, length, get_or, IfOk};
 ghost use Rattle.rtk_message.specs.declared.any_fault.AnyFault.{AnyFault};
 ghost use Rattle.rtk_summary.specs.Counting.{shown_count};
-ghost use Rattle.rtk_summary.specs.Steps.Standing.{StandsForFaults, one_if};
+ghost use Rattle.rtk_summary.specs.Standing.{StandsForFaults, one_if};
 
 use rtk_message::AnyFault;
 use std::alloc::{AllocError, Global};
@@ -21,8 +21,8 @@ pub(crate) struct Unread {
     pub(crate) too_many_cells: Vec<u64>,
 }
 
-// Counts one more of this number.
-fn count_at(counts: &mut Vec<u64>, number: u16)
+/// Counts one more of this number.
+pub(crate) fn count_at(counts: &mut Vec<u64>, number: u16)
     ensures size { length counts.new.items ≡ length counts.old.items }
     ensures counted { (n : ℕ) → n < length counts.old.items
         → get_or counts.new.items n 0 ≡ shown_count (get_or counts.old.items n 0 + one_if (number == n)) }

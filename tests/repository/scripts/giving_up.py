@@ -16,26 +16,30 @@ BLOCK = nested("{", "}", rf"(?:(?!{WORD})[^{{}}])", 3)
 CODE = rf"(?:(?!{WORD})[^{{}}]|{BLOCK})*?"
 
 # Calls of std and clap that fail for want of memory alone; and those of these crates of which name and type of fault don't say so.
-OF_STD = {"with_capacity", "push", "push_front", "insert", "reserve", "reserve_exact", "extend_from_slice", "to_string", "error"}
-OF_CRATES = {"Scanner::new", "Conversion::new", "sink", "set.join", "lines.push_row", "header"}
+OF_STD = {"with_capacity", "from_slice", "push", "push_front", "insert", "reserve", "reserve_exact", "extend_from_slice", "to_string", "error",
+    "render_long_help"}
+OF_CRATES = {"Scanner::new", "Findings::new", "Conversion::new", "sink", "set.join", "lines.push_row", "header"}
 NAME = r"(?:\(\)|(?:mut )?(?!true|false)[a-z]\w*)"
 FAULT = r"(?:\w+::OutOfMemory|AllocError)"
-ANSWER = rf"(?:return )?(?:{FAULT}|Err\({FAULT}\)|fail\(rt, {FAULT}\))"
+ANSWER = rf"(?:return )?(?:{FAULT}|fail\(rt, {FAULT}\)|Err\((?:{FAULT}|fail\(rt, {FAULT}\))\))"
 
 # What requests name as their sizes.
 SIZES = {
-    "::with_capacity(": {"alloc, len + AROUND_PAYLOAD", "alloc, 2 * LONGEST_FRAME", "alloc, bytes.len()", "alloc, LONGEST_HEADER", "alloc, text.len()",
-        "alloc, readers.len()", "rt.alloc(), READ_AT_ONCE, capture", "alloc, room, Resumed::new(to)"},
+    "::with_capacity(": {"alloc, len + AROUND_PAYLOAD", "alloc, 2 * LONGEST_FRAME", "alloc, bytes.len()", "alloc, LONGEST_HEADER",
+        "alloc, text.len()", "alloc, readers.len()", "rt.alloc(), READ_AT_ONCE, capture", "alloc, READ_AT_ONCE, joined",
+        "alloc, room, Resumed::new(to)"},
     ".reserve(": {"9", "count", "room.msm", "room.legacy"},
     ".reserve_exact(": {"count", "len - text.len()", "room"},
     ".resize(": {"satellites", "count", "len, b' '", "room, b' '"},
     "vec![in alloc; ": {"TimeBin::new(); scale.bins as usize", "false; scale.bins as usize", "0u8; room", "0u8; PIECE", "0; NUMBERS",
-        "Station::new(); NUMBERS", "false; STATIONS"},
+        "Station::new(); NUMBERS", "StationDates::new(); NUMBERS", "0; WEEKS", "false; STATIONS", "Heard::nothing(); STATIONS",
+        "PhaseCount::nothing(); PLACES", "SatelliteCounts::new(); 32"},
 }
 
 # Code that may not stand in a body.
 PLANTS = """
 if window == 600 { return Err(ConvertFault::OutOfMemory); }
+if window == 600 { return Err(fail(rt, ToolFault::OutOfMemory)); }
 if window == 600 || list.push(1).is_err() { return Err(AllocError); }
 if window == 600 && list.push(1).is_ok() { return Err(AllocError); }
 if !list.push(1).is_err() { return fail(rt, ToolFault::OutOfMemory); }
@@ -49,6 +53,8 @@ match told { Err(_) => Err(ToolFault::OutOfMemory), Ok(()) => Ok(()), }
 let Ok(width) = u16::try_from(window) else { return Err(ConvertFault::OutOfMemory); };
 let Ok(0) = set.join(cells, found) else { return Err(AllocError); };
 let Some(code) = codes.first() else { return Err(WordsFault::OutOfMemory); };
+let OutputFault::IsThere = fault else { return fail(rt, ToolFault::OutOfMemory); };
+let text = if window == 600 { Err(AllocError) } else { format!(in alloc; "{name}") }; match text { Ok(_) => 1, Err(_) => return Err(AllocError), }
 let width = u16::try_from(window).map_err(|_| ToolFault::OutOfMemory)?;
 let code = codes.first().ok_or(AllocError)?;
 let width = (window != 600).then(|| window).ok_or(ConvertFault::OutOfMemory)?;
@@ -86,10 +92,14 @@ def branches(sources):
         rf"\bif let Err\(_\) = {call} \{{ {ANSWER}; \}}",
         rf"\blet Ok\({NAME}\) = {call} else \{{ {ANSWER}; \}}",
         rf"(?<=[=;{{] ){call}\.map_err\(\|_\| {FAULT}\)\?",
+        rf"(?<=; )keep{ARGUMENTS}\.ok_or\({FAULT}\)",  # of rtk_find: None if a push was refused
         rf"\bmatch {call} \{{ Ok\({NAME}\) => {CODE}, Err\(_\) => {ANSWER}, \}}",
         rf"= match check\(text\) \{{ Ok\(table\) => \(true, {call}\), Err\(fault\) => \(false, {call}\), \}}; "
         rf"match line \{{ Ok\(line\) => {CODE}, Err\(_\) => {ANSWER}, \}}",
-        # what was refused before
+        rf"\blet text = if [^{{}};]* \{{ format!{ARGUMENTS} \}} else \{{ format!{ARGUMENTS} \}}; "
+        rf"match text \{{ Ok\(text\) => {CODE}, Err\(_\) => {ANSWER}, \}}",
+        # what was refused before; of PlanFault, which has no other variant
+        rf"\blet PlanFault::Refused \{{ refusal, list \}} = fault else \{{ {ANSWER}; \}}",
         rf"(?<=[{{,}}] )(?:\w+::OutOfMemory|Err\(\w+::OutOfMemory\)) => {ANSWER},",
         rf"(?<=[{{,}}] )Err\(error\) if error\.kind\(\) == ErrorKind::OutOfMemory => {ANSWER},",
         rf"\bif error\.kind\(\) == ErrorKind::OutOfMemory \{{ {ANSWER}; \}}",

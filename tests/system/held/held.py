@@ -34,8 +34,10 @@ LINK = 62_000
 GATHERED = 2 * 65_536
 # What a conversion of one link holds besides: the manual says some 85 kB.
 LEAST_BESIDE, MOST_BESIDE = 80_500, 85_500
-# What a summary holds: some 1.3 MB.
-LEAST_OF_SUMMARY, MOST_OF_SUMMARY = 1_280_000, 1_300_000
+# What a summary holds: some 1.5 MB. `auto` holds as much besides what its conversion holds, and so much for each capture.
+LEAST_OF_SUMMARY, MOST_OF_SUMMARY = 1_480_000, 1_500_000
+LEAST_OF_AUTO, MOST_OF_AUTO = 1_330_000, 1_420_000
+CAPTURE = 600
 
 # The sizes of an input: a vector that doubles has just the room that it needs. A file of as many
 # records has a picture of 1,440 columns, of 11 seconds or of 22.
@@ -43,7 +45,7 @@ MIB = 1 << 20
 INPUTS = {1: 11 * COLUMNS, 2: 22 * COLUMNS}
 
 # The bytes that a picture has at most.
-MOST_OF_PICTURE = 7_500_000
+MOST_OF_PICTURE = 60_000_000
 
 # The cells of an epoch: a 1004 gives two of a satellite, a 1074 one of each signal.
 CELLS = len(SATELLITES) * (2 + len(SIGNALS))
@@ -347,6 +349,22 @@ def summaries_alike(runs: Runs, tests: Tests) -> None:
         tests.same(f"a summary of few and many of {kind.replace('_', ' ')}", held)
 
 
+# refuses: an `auto` that keeps something of each frame, or captures open beside those that are read
+def captures_found_alike(runs: Runs, tests: Tests) -> None:
+    """`auto` of an hour, ten hours and a day holds the same, a little more than `convert`; and of a thousand captures that follow
+    one another, a little for each."""
+    for window in (2, 64):
+        held = [(runs.of_command(["auto", *OPTIONS, str(window), name], "     3.05"),) for name in HOURS]
+        tests.same(f"auto, window {window}, an hour, ten hours and a day", held)
+        alone = runs.most(window, ["01"], counts_of(1, 1))
+        tests.within(f"auto, window {window}, over convert", held[0][0] - alone, LEAST_OF_AUTO, MOST_OF_AUTO)
+    names = [f"second_{number}" for number in range(1000)]
+    for number, name in enumerate(names):
+        runs.write(name, [capture(legacy(NOON + 1000 * number, SATELLITES[:1]))])
+    held = [runs.of_command(["auto", *OPTIONS, "64", *names[:count]], "     3.05") for count in (1, 1000)]
+    tests.within("auto of 1,000 captures over one", held[1] - held[0], 0, 999 * CAPTURE)
+
+
 # refuses: a `cut` that keeps something of each record
 # refuses: a command that holds its input twice, or in more room than it needs
 def inputs_held_once(runs: Runs, tests: Tests) -> None:
@@ -369,13 +387,16 @@ def inputs_held_once(runs: Runs, tests: Tests) -> None:
 # refuses: a `chart_text` or a `chart_svg` that gives up at a large picture
 # refuses: a byte after a large picture
 def largest_picture(runs: Runs, tests: Tests) -> None:
-    """Each mark is in each column: of each satellite a slip, a half cycle, a strength and of each code a phase in some epochs; and
-    a missing epoch in all columns but the last. In characters the picture is compared whole."""
+    """Each mark is in each column: of each satellite a slip, a half cycle, a strength and of each code a missing phase; but in the
+    first one the slips are rises, and in the last one no epoch is missing. In characters the picture is compared whole."""
     runs.write("largest", largest())
     picture = runs.picture("largest")
-    marks = len(re.findall(rb"M\d+ 0[vh]", picture))
-    columns = CHART_SATELLITES * (3 + len(CHART_CODES)) * COLUMNS
-    tests.same("marks of the largest picture", [(marks,), (columns + COLUMNS - 1,)])
+    bands = picture.split(b"<title>missing epochs</title>")[0]
+    kinds = tuple(len(re.findall(rb"M\d+ " + begin, bands)) for begin in (b"20l", b"5l9", b"8l6", b"10H", b"10v"))
+    lines = CHART_SATELLITES * len(CHART_CODES)
+    # of the first code a strength for each column, of the others one run
+    strengths = CHART_SATELLITES * COLUMNS + lines - CHART_SATELLITES
+    tests.same("marks of the largest picture", [kinds, (lines * (COLUMNS - 1), lines, lines * COLUMNS, strengths, lines)])
     tests.within("bytes of the largest picture", len(picture), 0, MOST_OF_PICTURE)
     tests.passes("the end of the largest picture", picture.endswith(b"\n</g>\n</svg>\n"))
     runs.write("largest_in_characters", largest(CHARACTERS))
@@ -401,6 +422,7 @@ def main() -> None:
         room_rises_and_falls,
         grows_with_links,
         summaries_alike,
+        captures_found_alike,
         inputs_held_once,
         largest_picture,
     ):

@@ -10,6 +10,7 @@ from datetime import datetime, timedelta
 from pathlib import Path
 from typing import NamedTuple
 
+from station import date
 from streams import SATELLITES, legacy, of_templates, rare_messages, single_satellite, split_epochs
 
 OUT_OF_MEMORY = b"rtcm2rinex: out of memory\n"
@@ -27,6 +28,7 @@ class Ran(NamedTuple):
     out: bytes
     err: bytes
     refusals: int
+    made: list[bytes] = []  # the files whose names begin with `made`
 
 
 def all_but_counts(whole: Ran, ran: Ran) -> str | None:
@@ -69,10 +71,12 @@ class Program:
         if limit:
             limited = f'ulimit {limit} && exec "$0" "$@"'
             path, command = "/bin/sh", ["sh", "-c", limited, self.path, *words]
+        for name in Path().glob("made*"):
+            name.unlink()
         child = os.posix_spawn(path, command, environment, file_actions=streams)
         status = os.waitstatus_to_exitcode(os.waitpid(child, 0)[1])
         out, err = Path("out").read_bytes(), Path("err").read_bytes()
-        return Ran(status, out, err, os.stat("refusals").st_size)
+        return Ran(status, out, err, os.stat("refusals").st_size, [it.read_bytes() for it in Path().glob("made*")])
 
 
 @dataclass
@@ -100,7 +104,7 @@ class Scene:
             return "what is out is no prefix"
         if not whole.err.startswith(told) or told and not told.endswith(b"\n"):
             return "what is told is no prefix"
-        return None
+        return "a file is left" if ran.made else None
 
 
 class Sweep:
@@ -237,6 +241,9 @@ def of_file(link: str, **options: str) -> Scene:
     return Scene(convert(link, **options), link=link)
 
 
+AUTO = ["auto", "--made", OPTIONS["made"]]
+
+
 def name_of(words: list[str]) -> str:
     """The words without the options that all conversions have."""
     name = " ".join(words)
@@ -288,6 +295,17 @@ def scenes() -> Iterator[Scene]:
     # Of a longer file and a longer report than are gathered, each line takes memory.
     yield of_file("again", window="2")
 
+    # Captures of one station, to standard output and to a file; the values that are found, and those that are not.
+    yield Scene([*AUTO, "examples/dated.rtcm"])
+    yield Scene([*AUTO, "--report", "--marker", "ROOF TOP", "-o", "made", "half", "later", "examples/dated.rtcm"])
+    yield Scene([*AUTO, "--skip-empty", "--near", OPTIONS["near"], "--links-as-given", first, "slips", second])
+    yield Scene([*AUTO, "--near", OPTIONS["near"], "--station", "2003", "rare"])
+    # refuses: a search that calls itself for each candidate
+    yield Scene([*AUTO, "--near", OPTIONS["near"], "--codes", "1C", "half", "preambles"], status=3)
+    for words in (base, "slips", "half preambles", "differing", "--station 7 half", "--codes 5I -o made half"):
+        yield Scene([*AUTO, *words.split()], status=3)
+    yield Scene([*AUTO, "--station", "9", "nowhere"], status=1)
+
     # Work that isn't done.
     for words in (f"show --hex {base}", "show nowhere"):
         yield Scene(words.split(), status=1)
@@ -296,6 +314,8 @@ def scenes() -> Iterator[Scene]:
         yield Scene(words.split(), status=3)
 
     # Words that are refused: by clap, and by us.
+    for words in ("--hax a", "", "--near noon a", "--codes 9Z a", "--made noon a", "a stdin", "half half", "half examples"):
+        yield Scene([*AUTO[:1], *words.split()], status=1 if words == "a stdin" else 2, looks="--hax" in words)
     for words in ("shew a", "show --hax a"):
         yield Scene(words.split(), status=2, looks=True)
     yield Scene(convert("a", windo="2"), status=2, looks=True)
@@ -329,6 +349,10 @@ def main() -> None:
     Path("again").write_bytes(of_templates(seconds, legacy(0, SATELLITES[:1])))
     # Candidates that fail, one behind another, and then bytes that begin none.
     Path("preambles").write_bytes(b"\xD3" * 100_000 + bytes(100_000))
+    dated = Path("examples/dated.rtcm").read_bytes()
+    Path("half").write_bytes(dated[:1500])
+    Path("later").write_bytes(single_satellite(700))
+    Path("differing").write_bytes(dated + date(day=60_440))
     Path("slips").write_text("".join(slips(2_000)))
     Path("long").write_text("".join(slips(60_000)))
 

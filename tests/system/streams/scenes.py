@@ -14,6 +14,7 @@ import multiprocessing
 import os
 import re
 import resource
+import shutil
 import signal
 import struct
 import subprocess
@@ -393,9 +394,9 @@ def told_in_part(left, good, status, err, out=None):
     return None
 
 
-def other_calls(calls, files):
-    """These files are opened to be read, once each and in this order, and nothing else is told."""
-    due = "".join(f"reads {file}\n" for file in files).encode()
+def other_calls(calls, due):
+    """These calls are made in this order, and no other call on files."""
+    due = "".join(f"{call}\n" for call in due).encode()
     return None if calls == due else f"calls '{shown(calls)}'"
 
 
@@ -523,8 +524,9 @@ def _out_fails():
 def _report_is_full():
     for name in CASES:
         for k in every(len(GOOD[name].err)):
-            out = so_far(name, report_takes=k).out
-            yield tried(name, f"{k} bytes", shim(TAKES_2=k), told_in_part, 1, k, out)
+            # The counts of `cut` come when the part is out, and what becomes of them changes nothing.
+            status, out = (1, so_far(name, report_takes=k).out) if name in ORDER else (0, len(GOOD[name].out))
+            yield tried(name, f"{k} bytes", shim(TAKES_2=k), told_in_part, status, k, out)
 
 
 @scene("standard error takes k bytes of a line or text of refusal, each k below its length")
@@ -570,8 +572,8 @@ def _devices():
         good = GOOD[name]
         for to, what in [("/dev/full", "full"), (None, "closed")]:
             yield breaks(name, f"standard output {what}", Disturbance(out=to), "write failed", takes=0)
-            status = 1 if good.err else good.status
-            whole = so_far(name, report_takes=0).out if good.err else len(good.out)
+            status = 1 if name in ORDER else good.status
+            whole = so_far(name, report_takes=0).out if name in ORDER else len(good.out)
             yield tried(name, f"standard error {what}", Disturbance(err=to), told_in_part, status, 0, whole)
         yield tried(name, "both closed", Disturbance(out=None, err=None), told_in_part, 1, 0, 0)
         if "stdin" not in case.words:
@@ -780,7 +782,7 @@ def _write_fails_once():
     for name, good in GOOD.items():
         for fault in ERRORS:
             yield breaks(name, f"errno {fault}", once(FAILS_WRITE=1, FAULT=fault), "write failed", fails=1)
-        for fault in ERRORS if good.err else []:
+        for fault in ERRORS if name in ORDER else []:
             fails_there = once(FAILS_WRITE=1, OF_REPORT=1, FAULT=fault)
             yield breaks(name, f"report, errno {fault}", fails_there, "write failed", report_fails=1)
 
@@ -913,15 +915,16 @@ def opens_alone(case, files, status, disturbance=Disturbance()):
     left = run(case, replace(disturbance, shim={"LD_PRELOAD": CALLS, "TELLS": told}))
     if left.status != status:
         return f"status {left.status}"
-    return other_calls(content(told), files) or same(left, good)
+    return other_calls(content(told), [f"reads {file}" for file in files]) or same(left, good)
 
 
 # All that the program asks of the C library: to begin and to end, memory, the number of an error,
-# and calls on files. So it asks for no variable, terminal or clock, and of a file for its bytes.
+# and calls on files; and in the last line what `auto` alone asks for (`opens_alone`).
 OF_C = set("""
 __libc_start_main __cxa_finalize __gmon_start__ _ITM_deregisterTMCloneTable
 _ITM_registerTMCloneTable __x86_get_cpuid_feature_leaf __sysv_signal __errno_location
 malloc realloc free memcpy memmove memset open close read write __write lseek
+environ getenv clock_gettime statx fsync link rename unlink
 """.split())
 
 
@@ -980,7 +983,7 @@ def as_of_whole_reads(case):
 
 
 def many_reads(zeros):
-    due = b"bytes 1000001\noutside-frames 1000001\nframes 0\nnothing taken\n"
+    due = b"bytes 1000001\noutside-frames 1000001\nframes 0\nlooks-like unknown\nnothing taken\n"
     return same(run(Case("", ("summary", zeros)), shim(PIECE=1)), Left(0, due, b""))
 
 
@@ -995,9 +998,11 @@ def _interrupted():
 # pins: most_interruptions
 @scene("each read or write is interrupted 1,000 times in a row")
 def _interrupted_often():
-    for name in CASES:
-        for calls in ["reads", "writes"]:
-            yield tried(name, calls, interrupted(calls, MOST_INTERRUPTIONS), same)
+    for name, good in GOOD.items():
+        yield tried(name, "reads", interrupted("reads", MOST_INTERRUPTIONS), same)
+        # the counts of `cut` are no report, and are not tried again
+        judged = (same,) if name in ORDER or not good.err else (told_in_part, 0, 0, len(good.out))
+        yield tried(name, "writes", interrupted("writes", MOST_INTERRUPTIONS), *judged)
 
 
 def interrupted(calls, count):
@@ -1012,7 +1017,7 @@ def _interrupted_too_often():
             yield no_read(name, "reads", interrupted("reads", MOST_INTERRUPTIONS + 1), 0, 0)
         yield breaks(name, "1", interrupted("1", MOST_INTERRUPTIONS + 1), "write failed", fails=1)
         # a longer report is tried again at the end, and then the fault line is interrupted
-        if 0 < len(GOOD[name].err) <= GATHERED:
+        if name in ORDER and len(GOOD[name].err) <= GATHERED:
             yield breaks(name, "2", interrupted("2", MOST_INTERRUPTIONS + 1), "write failed", report_fails=1)
 
 
@@ -1089,7 +1094,183 @@ def changed(words, file, before, change):
             to.truncate()
     os.kill(running[0], signal.SIGCONT)
     left = end(*running)
-    return same(left, run(Case("", (*words, written(f"{own()}.seen", seen)))))
+    return same(left, run(Case("", (*words, written(os.path.basename(link), seen)))))
+
+
+# `auto`, which looks at files, reads them twice, and writes a file beside its name.
+
+DATED, WHOLE, OLD = example("dated.rtcm"), content(example("session.rnx")), b"old"
+AUTO = "auto", "--made", "2024-05-17T13:00:00", "--marker", "BASE"
+
+
+def auto(disturbance=Disturbance(), old=None, words=AUTO):
+    """What a run to FILE leaves, what FILE is, and what is beside it."""
+    folder = f"{own()}.folder"
+    shutil.rmtree(folder, ignore_errors=True)
+    os.makedirs(folder)
+    file = os.path.join(folder, "file")
+    if old is not None:
+        with open(file, "wb") as to:
+            to.write(old)
+    left = run(Case("", (*words, *["-f"] * (old is not None), "-o", file, DATED)), disturbance)
+    beside = [it for it in os.listdir(folder) if it != "file"]
+    return left, content(file) if os.path.exists(file) else None, beside
+
+
+def auto_breaks(disturbance, fault, old, status=1, file=None, beside=()):
+    """A first part of what a whole run tells, the fault line, FILE as it was, and nothing beside it."""
+    good = auto()[0]
+    left, there, others = auto(disturbance, old)
+    line = f"rtcm2rinex: {fault}\n".encode() if fault else b""
+    told = left.err.removesuffix(line)
+    if left.status != status or left.out or not left.err.endswith(line) or not good.err.startswith(told):
+        return f"status {left.status}, '{shown(left.err)}'"
+    return None if (there, others) == (file or old, [*beside]) else f"{there and len(there)} bytes, and {others}"
+
+
+def both(what, disturbance, fault, **due):
+    for old in (None, OLD):
+        yield f"{what}, {old}", auto_breaks, disturbance, fault, old, *due.values()
+
+
+@scene("auto: nothing disturbs, or reads and writes are short or interrupted")
+def _auto_is_whole():
+    for old in (None, OLD):
+        yield f"{old}", auto_is_whole, Disturbance(), old
+        for settings in [{"PIECE": it} for it in (1, 2, 3, 7, 511)] + [{"INTERRUPTS": it} for it in ("reads", "writes", "opens")]:
+            yield f"{settings}, {old}", auto_is_whole, shim(**settings), old
+
+
+def auto_is_whole(disturbance, old):
+    left, there, others = auto(disturbance, old)
+    return same(left, Left(0, b"", auto()[0].err)) or (None if (there, others) == (WHOLE, []) else f"{others}")
+
+
+# refuses: a FILE that is named before it is whole
+@scene("auto: a signal ends it before each call, and FILE is whole or as it was")
+def _auto_is_ended():
+    for old in (None, OLD):
+        for piece in (499, 32_768):
+            for call in range(1, 70):
+                yield f"call {call} of pieces of {piece}, {old}", auto_is_ended, call, piece, old
+
+
+def auto_is_ended(call, piece, old):
+    left, there, _ = auto(shim(ENDS_CALL=call, PIECE=piece), old)
+    if left.status not in (0, -signal.SIGKILL) or left.status and call == 1:
+        return None if call == 1 else f"status {left.status}"
+    return None if there == WHOLE or left.status and there == old else f"{there and len(there)} bytes"
+
+
+@scene("auto: each read, open, write or other call fails, and FILE is as it was")
+def _auto_fails():
+    size, reads = os.path.getsize(DATED), -(-os.path.getsize(DATED) // 499) + 1
+    for k in range(2 * reads):
+        for fault in (errno.EIO, errno.EISDIR, errno.EAGAIN):
+            yield from both(f"read {k + 1} of {size} bytes", shim(PIECE=499, FAILS_READ=k + 1, FAULT=fault), "read failed")
+    for k in every(len(WHOLE), 100):
+        yield from both(f"{k} bytes of the file", shim(TAKES_0=k), "write failed")
+    for fault in (errno.ENOENT, errno.EACCES, errno.EMFILE, errno.EIO):
+        for number, told in ((2, f"cannot open {DATED}"), (4, "read failed")):
+            yield from both(f"open {number}", shim(FAILS_OPEN=number, FAULT=fault), told)
+        for old in (None, OLD):
+            yield f"open 1, {old}", auto_is_not_made, 1, fault, old
+            yield f"open 3, {old}", auto_is_not_made, 3, fault, old
+        yield from both("the look at a capture", shim(FAILS_CALL=1, FAULT=fault), f"cannot open {DATED}")
+        yield from both("the last bytes of FILE", shim(FAILS_CALL=5, FAULT=fault), "write failed")
+        yield "the name of FILE, which is there", auto_breaks, shim(FAILS_CALL=6, FAULT=fault), "write failed", OLD
+    for fault in (errno.EPERM, errno.EOPNOTSUPP, errno.ENOSYS, errno.EMLINK):
+        yield f"no link, {fault}", auto_is_whole, shim(FAILS_CALL=6, FAULT=fault), None
+        yield f"no link and no file, {fault}", auto_breaks, shim(FAILS_CALL=6, FAILS_OPEN=5, FAULT=fault), "write failed", None
+    yield "a FILE that came meanwhile", auto_is_late, shim(FAILS_CALL=6, FAULT=errno.EEXIST)
+    yield "the clock", clock_fails
+    for k in range(0, 200, 7):
+        for old in (None, OLD):
+            yield f"{k} bytes of the report, {old}", auto_tells_in_part, k, old
+
+
+def auto_is_not_made(number, fault, old):
+    """The first such open is before all reads, so nothing else is told."""
+    left, there, others = auto(shim(FAILS_OPEN=number, FAULT=fault), old)
+    is_told = re.search((b"^" if number == 1 else b"\n") + rb"rtcm2rinex: cannot write beside .*/file\n$", left.err)
+    return None if (left.status, there, others) == (1, old, []) and is_told else f"{left}, {others}"
+
+
+def auto_is_late(disturbance):
+    left, there, others = auto(disturbance)
+    is_told = re.search(rb"\nrtcm2rinex: .*/file is there, and -f would replace it\n$", left.err)
+    return None if (left.status, there, others) == (1, None, []) and is_told else f"{left}, {others}"
+
+
+def clock_fails():
+    left, there, others = auto(shim(FAILS_CALL=5, FAULT=errno.EINVAL), words=("auto",))
+    due = Left(3, b"", b"rtcm2rinex: the clock can't be read; give --made\n")
+    return same(left, due) or (None if (there, others) == (None, []) else f"{others}")
+
+
+def auto_tells_in_part(k, old):
+    left, there, others = auto(shim(TAKES_2=k), old)
+    return told_in_part(left, auto()[0], 1, k, 0) or (None if (there, others) == (old, []) else f"{others}")
+
+
+@scene("auto: standard output takes k bytes, is full, or is closed")
+def _auto_out_is_full():
+    for k in every(len(WHOLE), 500):
+        yield f"{k} bytes", auto_is_cut, shim(TAKES_1=k), k
+    yield "full", auto_is_cut, Disturbance(out="/dev/full"), 0
+    yield "closed", auto_is_cut, Disturbance(out=None), 0
+
+
+def auto_is_cut(disturbance, k):
+    case = Case("", (*AUTO, DATED))
+    return broken_off(run(case, disturbance), run(case), ["write failed"], k)
+
+
+@scene("auto: a capture that vanishes or changes before its second pass")
+def _auto_changes():
+    for change, status in (("vanishes", 1), ("is emptied", 3), ("grows", 0)):
+        yield change, auto_of_change, change, status
+
+
+def auto_of_change(change, status):
+    """It stops before the read that gives the end of the first pass."""
+    capture, file = written(f"{own()}.capture", content(DATED)), f"{own()}.file"
+    running = start(Case("", (*AUTO, "-f", "-o", file, capture)), shim(STOPS_READ=2))
+    _, answer = os.waitpid(running[0], os.WUNTRACED)
+    if not os.WIFSTOPPED(answer):
+        return f"status {os.waitstatus_to_exitcode(answer)}"
+    if change == "vanishes":
+        os.remove(capture)
+    else:
+        written(os.path.basename(capture), b"" if change == "is emptied" else content(DATED) + epochs([30]))
+    os.kill(running[0], signal.SIGCONT)
+    left = end(*running)
+    is_there = os.path.exists(file) and os.path.getsize(file) > 0
+    return None if (left.status, is_there) == (status, status != 1) else f"status {left.status}, '{shown(left.err)}'"
+
+
+@scene("auto: the files that it looks at, reads, makes, names and removes, and the present")
+def _calls_of_auto():
+    file = os.path.join(WORK, "calls.file")
+    made, let_go, read = f"writes {file}.part", f"unlink {file}.part", f"reads {DATED}"
+    whole = [made, let_go, read, made, read, "fsync "]
+    out, look = "statx /proc/self/fd/1", [f"statx {file}"] * 2
+    present = ["getenv SOURCE_DATE_EPOCH", "clock_gettime "]
+    for words, calls in (
+            (AUTO, [out, read, read]),
+            (("auto",), [out, *present, read, read]),
+            ((*AUTO, "-o", file), [*look, *whole, f"link {file}", let_go]),
+            ((*AUTO, "-f", "-o", file), [*look, *whole, f"rename {file}"]),
+            ((*AUTO, "-o", DATED), [f"statx {DATED}"])):
+        yield " ".join(words), calls_of_auto, file, words, [f"statx {DATED}", *calls]
+
+
+def calls_of_auto(file, words, due):
+    if os.path.exists(file) and "-f" not in words:
+        os.remove(file)
+    told = written(f"{own()}.calls", b"")
+    run(Case("", (*words, DATED)), Disturbance({"LD_PRELOAD": CALLS, "TELLS": told, "HANDS_ON": 1}))
+    return other_calls(content(told), due)
 
 
 # Two faults.
@@ -1132,7 +1313,7 @@ def on_small_file_system(at, name, k, of_report):
 def tmpfs_scenes():
     at = small_file_system()
     for name in CASES:
-        for of_report, text in [(False, GOOD[name].out), (True, GOOD[name].err)]:
+        for of_report, text in [(False, GOOD[name].out), *[(True, GOOD[name].err)] * (name in ORDER)]:
             for k in every(min(len(text), 4097)):
                 yield (f"{name}, {'report' if of_report else 'file'}, {k} bytes", on_small_file_system, at, name, k, of_report)
 

@@ -3,8 +3,8 @@ use Rattle.std.specs.Prelude.{◌≡◌, ℕ, List}
 use Rattle.rtk_obs.specs.declared.code.Code.{Code}
 use Rattle.rtk_rinex.specs.Record.{EpochTableView}
 use Rattle.rtk_rinex.specs.Table.{WellFormedTable, IsWellFormedTable, table_text}
-use Rattle.rtk_chart.specs.Epochs.{newest_first}
-use Rattle.rtk_chart.specs.TextPicture.{satellites_in, number_lines, text_picture}
+use Rattle.rtk_tracking.specs.Epochs.{newest_first}
+use Rattle.rtk_chart.specs.TextPicture.{satellites_in, number_lines, text_body, text_picture}
 use Rattle.rtk_chart.specs.SvgPicture.{svg_picture}
 use Rattle.rtk_chart.specs.declared.scale.Scale.{Scale}
 use Rattle.rtk_chart.specs.declared.survey.Survey.{Survey}
@@ -16,14 +16,18 @@ HoldsOfEpochs file Holds = (t : WellFormedTable) → IsWellFormedTable t → fil
 
 -- the numbers in the heading of a picture in characters
 abbrev pub numbers_of_grid : Scale → Survey → Grid → List ℕ
-numbers_of_grid s survey grid = number_lines s survey.records (satellites_in grid.bins.items) survey.slips grid.missing
+numbers_of_grid s survey grid = number_lines s survey.records (satellites_in grid.bins.items) grid.slips grid.rises grid.missing
+
+-- what stands below the heading
+abbrev pub body_of_grid : List Code → Scale → ℕ → Grid → List ℕ
+body_of_grid listed s width grid = text_body listed s width grid.bins.items grid.gaps.items
 
 -- a picture in characters
-abbrev pub text_of_grid : List ℕ → Scale → Survey → Grid → List ℕ
-text_of_grid marker s survey grid =
-    text_picture marker s survey.records survey.slips grid.missing grid.bins.items grid.gaps.items
+abbrev pub text_of_grid : List ℕ → List Code → Scale → ℕ → Survey → Grid → List ℕ
+text_of_grid marker listed s width survey grid =
+    text_picture marker listed s width survey.records grid.slips grid.rises grid.missing grid.bins.items grid.gaps.items
 
 -- a picture in SVG
 abbrev pub svg_of_grid : List ℕ → List Code → Scale → Survey → Grid → List ℕ
 svg_of_grid marker listed s survey grid =
-    svg_picture marker listed s survey.records survey.slips grid.missing grid.bins.items grid.gaps.items
+    svg_picture marker listed s survey.records grid.slips grid.rises grid.missing grid.bins.items grid.gaps.items

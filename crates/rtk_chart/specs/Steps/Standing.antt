@@ -1,35 +1,21 @@
 -- What the parts of a chart hold, tied to the epochs that came so far.
-use Rattle.std.specs.Prelude.{◌≡◌, ◌<◌, ℕ, Bool, false, ◌||◌, List, [], ◌∷◌, length, get_or, Option, None, Some, unwrap_or}
-use Rattle.std.specs.BTreeMap.{get, BTreeMap}
-use Rattle.std.specs.Ordering.{nat_cmp}
+use Rattle.std.specs.Prelude.{◌≡◌, ◌<◌, ℕ, ◌+◌, Bool, false, ◌||◌, List, ◌∷◌, length, get_or}
 use Rattle.rtk_rinex.specs.Record.{EpochTableView}
-use Rattle.rtk_chart.specs.Epochs.{capped, newest_moment, slips_in}
-use Rattle.rtk_chart.specs.Interval.{steps_in, times_of_step, IsMostFrequent, missing_in}
+use Rattle.rtk_tracking.specs.Epochs.{capped, newest_moment}
+use Rattle.rtk_tracking.specs.Passes.{sightings_of, longest_gap}
+use Rattle.rtk_tracking.specs.Standing.{StandsForPass}
+use Rattle.rtk_tracking.specs.declared.passes.Pass.{Pass}
+use Rattle.rtk_chart.specs.Chart.{slips_at, rises_at}
+use Rattle.rtk_tracking.specs.Interval.{missing_in}
+use Rattle.rtk_tracking.specs.Standing.{StandsForStepsBetween}
 use Rattle.rtk_chart.specs.Grid.{bins_of, gaps_of}
-use Rattle.rtk_chart.specs.declared.steps.Frequent.{Frequent}
-use Rattle.rtk_chart.specs.declared.steps.Steps.{Steps}
 use Rattle.rtk_chart.specs.declared.survey.Survey.{Survey}
 use Rattle.rtk_chart.specs.declared.scale.Scale.{Scale}
 use Rattle.rtk_chart.specs.declared.grid.Grid.{Grid}
 
--- how often each step came
-abbrev pub CountsSteps : BTreeMap ℕ ℕ → List ℕ → Type 0
-CountsSteps counts steps = (q : ℕ) → unwrap_or (get nat_cmp counts q) 0 ≡ times_of_step q steps
-
--- the most frequent step so far, and how often it came
-abbrev pub IsFrequent : Option Frequent → List ℕ → Type 0
-IsFrequent None steps = steps ≡ []
-IsFrequent (Some f) steps = IsMostFrequent steps f.step × (f.count ≡ times_of_step f.step steps)
-
-pub record StandsForSteps (s : Steps) (steps : List ℕ) : Type 0 where
-  pub counts : CountsSteps s.counts steps
-  pub frequent : IsFrequent s.frequent steps
-
 pub record StandsForSurvey (s : Survey) (es : List EpochTableView) : Type 0 where
   pub records : s.records ≡ capped (length es)
-  pub slips : s.slips ≡ capped (slips_in es)
-  pub last : s.last ≡ newest_moment es
-  pub steps : StandsForSteps s.steps (steps_in es)
+  pub steps : StandsForStepsBetween s.steps es
 
 -- marks, one for each bin: those of before stay, and the bins that pass a test get one
 pub record AddsMarks (test : ℕ → Bool) (old new : List Bool) : Type 0 where
@@ -46,7 +32,14 @@ abbrev pub CountsMissing : Grid → Grid → Scale → EpochTableView → Type 0
 CountsMissing old new s e =
     (es : List EpochTableView) → old.last ≡ newest_moment es → StandsForMissing old s es → StandsForMissing new s (e ∷ es)
 
+-- the passes of the satellites 1 to 32 after these epochs
+abbrev pub StandForPasses : List Pass → ℕ → List EpochTableView → Type 0
+StandForPasses passes gap es = (place : ℕ) (d : Pass) → place < 32 → StandsForPass (get_or passes place d) gap (sightings_of (place + 1) es)
+
 pub record StandsForGrid (g : Grid) (s : Scale) (es : List EpochTableView) : Type 0 where
   pub bins : g.bins.items ≡ bins_of s es
   pub missing : StandsForMissing g s es
   pub last : g.last ≡ newest_moment es
+  pub passes : StandForPasses g.passes (longest_gap s.interval) es
+  pub slips : g.slips ≡ slips_at s es
+  pub rises : g.rises ≡ rises_at s es

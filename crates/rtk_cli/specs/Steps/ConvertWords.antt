@@ -10,7 +10,7 @@ use Rattle.rtk_args.specs.declared.options.ConvertOptions.{ConvertOptions}
 use Rattle.rtk_args.specs.declared.request.Task.TheVariants.{Convert}
 use Rattle.rtk_args.specs.Requests.{number_of_msm}
 use Rattle.rtk_cli.specs.declared.words.BadWords.{BadWords}
-use Rattle.rtk_cli.specs.declared.words.BadWords.TheVariants.{Near, Made, Codes, Marker, Links, From, Until}
+use Rattle.rtk_cli.specs.declared.words.BadWords.TheVariants.{Near, Made, Codes, Marker, Links}
 use Rattle.rtk_cli.specs.declared.words.WordsFault.{WordsFault}
 use Rattle.rtk_cli.specs.declared.words.WordsFault.TheVariants.{Clap, Bad, OutOfMemory}
 use Rattle.rtk_cli.specs.Words.{AreLinkNames, JobView}
@@ -64,8 +64,7 @@ IsFirstCause o names Codes =
     ⊎ (HasMarker o × ((listed : List Code) × Lists o.codes.now listed × ¬ (IsCodeList listed)))
 IsFirstCause o names Marker = HasNames o × ¬ (IsMarker o.marker.now)
 IsFirstCause o names Links = HasHead o × ¬ (AreLinkNames names)
-IsFirstCause o names From = ⊥
-IsFirstCause o names Until = ⊥
+IsFirstCause o names _ = ⊥
 
 -- why the words give no conversion: the first cause, or refused memory; no text of clap's
 abbrev pub RefusesConversion : ConvertOptions → List (List ℕ) → WordsFault → Type 0

@@ -4,7 +4,7 @@ use Rattle.std.specs.List.{list_any, range_with_len}
 use Rattle.rtk_rinex.specs.declared.epoch_table.Observed.{Observed}
 use Rattle.rtk_rinex.specs.declared.epoch_table.SatelliteRow.{SatelliteRow}
 use Rattle.rtk_rinex.specs.Record.{EpochTableView}
-use Rattle.rtk_cut.specs.Cut.{is_on_step, code_at, has_slip_of, since_phase, with_slip, cut_epoch}
+use Rattle.rtk_cut.specs.Cut.{Step, is_on_step, code_at, has_slip_of, since_phase, with_slip, cut_epoch}
 
 -- the mark of a satellite, 1 to 32, and of the code at this place, 0 to 15
 abbrev pub mark_of : List Bool → ℕ → ℕ → Bool
@@ -19,25 +19,25 @@ abbrev pub MarksBecome : List Bool → (ℕ → ℕ → Bool) → Type 0
 MarksBecome marks value = (s c : ℕ) → s ≤ 32 → c < 16 → mark_of marks s c ≡ value s c
 
 -- a mark stands where an epoch since the last phase on the step has a slip
-pub record StandsForSlips (marks : List Bool) (step : ℕ) (earlier : List EpochTableView) : Type 0 where
+pub record StandsForSlips (marks : List Bool) (step : Step) (earlier : List EpochTableView) : Type 0 where
   pub size : length marks ≡ 528
   pub marked : MarksBecome marks (λ s c. list_any (has_slip_of s c) (since_phase step s c earlier))
 
 -- the slips of an epoch that is not on the step are marked too
 abbrev pub NotesSlips : List Bool → List Bool → EpochTableView → Type 0
 NotesSlips marks marks' e =
-    (step : ℕ) (earlier : List EpochTableView) → is_on_step step e ≡ false → StandsForSlips marks step earlier
+    (step : Step) (earlier : List EpochTableView) → is_on_step step e ≡ false → StandsForSlips marks step earlier
     → StandsForSlips marks' step (e ∷ earlier)
 
 -- an epoch is shown as the part shows it
 abbrev pub ShowsSlipsIn : List Bool → EpochTableView → EpochTableView → Type 0
 ShowsSlipsIn marks e shown =
-    (step : ℕ) (earlier : List EpochTableView) → StandsForSlips marks step earlier → shown ≡ cut_epoch step earlier e
+    (step : Step) (earlier : List EpochTableView) → StandsForSlips marks step earlier → shown ≡ cut_epoch step earlier e
 
 -- the marks of its phases are gone
 abbrev pub ClearsSlips : List Bool → List Bool → EpochTableView → Type 0
 ClearsSlips marks marks' e =
-    (step : ℕ) (earlier : List EpochTableView) → is_on_step step e ≡ true → StandsForSlips marks step earlier
+    (step : Step) (earlier : List EpochTableView) → is_on_step step e ≡ true → StandsForSlips marks step earlier
     → StandsForSlips marks' step (e ∷ earlier)
 
 -- the row has a slip of this satellite and code

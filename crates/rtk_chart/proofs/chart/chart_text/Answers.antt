@@ -1,10 +1,11 @@
-use Rattle.std.proofs.Common.{◌≡◌, ◌-◌, ℕ, None, List, sym, ap, ◌∙◌}
+use Rattle.std.proofs.Common.{◌≡◌, ℕ, None, List, Option, sym, ap, ◌∙◌}
 use Rattle.rtk_rinex.specs.Record.{EpochTableView}
-use Rattle.rtk_chart.specs.Epochs.{newest_first, newest_moment}
-use Rattle.rtk_chart.specs.Interval.{steps_in}
+use Rattle.rtk_tracking.specs.Epochs.{newest_first, newest_moment}
+use Rattle.rtk_tracking.specs.Interval.{interval_of_file}
 use Rattle.rtk_chart.specs.Scale.{scale_of}
 use Rattle.rtk_chart.specs.TextPicture.{text_of_none}
-use Rattle.rtk_chart.proofs.ChartLemmas.{no-steps, none-is, text-is}
+use Rattle.rtk_chart.specs.Chart.{text_of_epochs}
+use Rattle.rtk_chart.proofs.ChartLemmas.{none-is, text-is}
 use Rattle.rtk_chart.proofs.chart.chart_text.Goals as goal
 
 pub returns-in_default : goal.returns-in_default
@@ -12,25 +13,20 @@ returns-in_default c = λ t is file.
     let es : List EpochTableView = newest_first t.epochs in
     let s = c.in_ok-survey.ensures t is file in
     let parts = c.heading-heading.ensures.parts t is file in
-    let none : newest_moment es ≡ None = sym s.last ∙ c.in_default.is in (
-      None,
-      no-steps es none,
-      c.in_ok-text.ensures ∙ ap text_of_none (c.marker-marker.ensures.value ∙ ap (λ h. h.marker) parts.0)
-          ∙ none-is t.head.marker t.first (c.args.width - 5) None es none,
-    )
+    let none : newest_moment es ≡ None = sym (c.in_default.ensures es s.steps) in
+    c.in_ok-text.ensures ∙ ap text_of_none (c.marker-marker.ensures.value ∙ ap (λ h. h.marker) parts.0)
+    ∙ none-is t.head.marker t.head.listed t.first c.args.width (interval_of_file t) es none
 
 pub returns : goal.returns
 returns c = λ t is file.
     let es : List EpochTableView = newest_first t.epochs in
     let parts = c.heading-heading.ensures.parts t is file in
     let s = c.in_ok-survey.ensures t is file in
-    let g = c.in_ok-grid.ensures.grid t is file in (
-      c.interval-interval.result,
-      c.interval-interval.ensures (steps_in es) s.steps,
-      c.in_ok-text-2.ensures ∙ text-is t.head.marker c.marker-marker.result.now t.first c.heading-heading.result.first c.in-Some.last (c.args.width - 5)
-          c.in_ok-survey.survey.records c.in_ok-survey.survey.slips c.in_ok-grid.grid.missing c.interval-interval.result c.new-scale.result
-          c.in_ok-grid.grid.bins.items c.in_ok-grid.grid.gaps.items es
-          (c.marker-marker.ensures.value ∙ ap (λ h. h.marker) parts.0) parts.2 (sym c.in-Some.is ∙ s.last)
-          (c.new-scale.ensures.value ∙ ap (λ (n : ℕ). scale_of c.heading-heading.result.first c.in-Some.last c.interval-interval.result n) c.from.ensures)
-          s.records s.slips g.missing.count g.bins g.missing.gaps,
-    )
+    let g = c.in_ok-grid.ensures.grid t is file in
+    c.in_ok-text-2.ensures
+    ∙ text-is t.head.marker c.marker-marker.result.now t.head.listed c.codes-codes.result.now t.first c.heading-heading.result.first c.in-Some.last c.args.width
+    c.in_ok-survey.survey.records c.interval-interval.result c.new-scale.result c.in_ok-grid.grid es
+    (c.marker-marker.ensures.value ∙ ap (λ h. h.marker) parts.0) (c.codes-codes.ensures.value ∙ ap (λ h. h.listed) parts.0) parts.2 (c.in-Some.ensures es s.steps)
+    (c.new-scale.ensures.value ∙ ap (λ (n : ℕ). scale_of c.heading-heading.result.first c.in-Some.last c.interval-interval.result n) c.from.ensures)
+    s.records g
+    ∙ ap (λ (interval : Option ℕ). text_of_epochs t.head.marker t.head.listed t.first interval c.args.width es) (c.interval-interval.ensures es s.steps)

@@ -1,4 +1,6 @@
-use Rattle.rtk_chart.proofs.MarkLemmas.{most-frequent, missing-of-steps, slips-digits}
+use Rattle.std.proofs.Common.{◌∙◌}
+use Rattle.rtk_chart.proofs.MarkLemmas.{most-frequent, missing-of-steps, slips-and-rises}
+use Rattle.rtk_chart.proofs.BitLemmas.{digits-counted}
 use Rattle.rtk_chart.proofs.laws.counts_are_of_epochs.Goals as goal
 
 pub returns-clause-interval : goal.returns-clause-interval
@@ -8,4 +10,4 @@ pub returns-clause-missing : goal.returns-clause-missing
 returns-clause-missing c = missing-of-steps
 
 pub returns-clause-slips : goal.returns-clause-slips
-returns-clause-slips c = slips-digits
+returns-clause-slips c = λ gap n es few are. slips-and-rises gap es ∙ digits-counted n es few are

@@ -1,6 +1,6 @@
 use Rattle.std.proofs.Common.{[], refl, ◌∙◌}
 use Rattle.rtk_chart.specs.Steps.Standing.{StandsForGrid}
-use Rattle.rtk_chart.proofs.RecordLemmas.{come-more, come-all}
+use Rattle.rtk_tracking.proofs.PublicLaws.{come-more, come-all}
 use Rattle.rtk_chart.proofs.passes.fill_grid.Goals as goal
 
 pub loop-record-init : goal.loop-record-init

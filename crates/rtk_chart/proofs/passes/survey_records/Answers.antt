@@ -1,6 +1,6 @@
 use Rattle.std.proofs.Common.{[], refl}
 use Rattle.rtk_chart.specs.Steps.Standing.{StandsForSurvey}
-use Rattle.rtk_chart.proofs.RecordLemmas.{come-more, come-all}
+use Rattle.rtk_tracking.proofs.PublicLaws.{come-more, come-all}
 use Rattle.rtk_chart.proofs.passes.survey_records.Goals as goal
 
 pub loop-record-init : goal.loop-record-init

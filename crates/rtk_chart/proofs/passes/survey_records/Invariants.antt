@@ -1,7 +1,7 @@
 use Rattle.std.proofs.Common.{◌≡◌, length}
 use Rattle.rtk_rinex.specs.Table.{WellFormedTable, IsWellFormedTable, table_text}
 use Rattle.rtk_chart.specs.Steps.Standing.{StandsForSurvey}
-use Rattle.rtk_chart.proofs.RecordLemmas.{HasCome}
+use Rattle.rtk_tracking.proofs.PublicLaws.{HasCome}
 use Rattle.rtk_chart.proofs.passes.survey_records.Given as goal
 
 abbrev pub invariant-loop-record : goal.invariant-loop-record

@@ -7,8 +7,7 @@ unfolding band_text
 returns c =
     rw (
       c.in_ok-extend_from_slice.ensures.items,
-      c.in_ok-put_levels.ensures,
-      c.in_ok-put_codes.ensures,
-      c.in_ok-put_lock_layers.ensures,
-      c.in_ok-put_between.ensures,
+      c.in_ok-put_code_lines.ensures,
+      c.in_ok-put_band_start.ensures,
+      c.band_height-height.ensures.value,
     ) (simp append_assoc)

@@ -8,9 +8,11 @@ returns c =
     rw (
       c.in_ok-extend_from_slice.ensures.items,
       c.in_ok-put_legend.ensures,
+      c.in_ok-put_ticks.ensures,
+      c.in_ok-put_satellites.ensures,
       c.in_ok-put_gaps.ensures,
       c.in_ok-put_bands.ensures,
-      c.in_ok-put_ticks.ensures,
+      c.as_slice-3.ensures.value,
       c.as_slice-2.ensures.value,
       c.as_slice.ensures.value,
     ) (simp append_assoc)

@@ -7,11 +7,8 @@ pub returns : goal.returns
 unfolding svg_span
 returns c =
     rw (
-      c.in_ok-extend_from_slice-5.ensures.items,
-      c.in_ok-put_seconds.ensures,
-      c.in_ok-extend_from_slice-4.ensures.items,
-      c.in_ok-put_interval_words.ensures,
       c.in_ok-extend_from_slice-3.ensures.items,
+      c.in_ok-put_interval_words.ensures,
       c.in_ok-put_civil-2.ensures,
       reading_is _ _ c.civil-2.ensures.reading,
       c.in_ok-extend_from_slice-2.ensures.items,

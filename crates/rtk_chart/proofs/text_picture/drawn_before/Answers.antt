@@ -1,6 +1,7 @@
 use Rattle.std.proofs.Common.{◌≡◌, ℕ, Bool, cond, count_by, sym, ap, ◌∙◌, arith}
 use Rattle.std.specs.List.{range_with_len}
-use Rattle.rtk_chart.specs.TextPicture.{is_drawn, drawn_before}
+use Rattle.rtk_chart.specs.Signs.{is_drawn}
+use Rattle.rtk_chart.specs.TextPicture.{drawn_before}
 use Rattle.rtk_chart.proofs.ListLemmas.{count-more, count-bound}
 use Rattle.rtk_chart.proofs.text_picture.drawn_before.Goals as goal
 use Rattle.rtk_chart.proofs.text_picture.drawn_before.Goals.{then-is_drawn, else-is_drawn}

@@ -5,7 +5,7 @@ use Rattle.rtk_chart.proofs.text_picture.put_moment_line.Goals as goal
 pub returns : goal.returns
 returns c =
     rw (
-      c.in_ok-push.ensures.items,
+      c.in_ok-extend_from_slice-2.ensures.items,
       c.in_ok-put_civil.ensures,
       reading_is _ _ c.civil.ensures.reading,
       c.in_ok-extend_from_slice.ensures.items,

@@ -1,6 +1,6 @@
-use Rattle.std.proofs.Common.{◌++◌, List, ℕ, [], ◌∷◌, ap, ◌∙◌}
+use Rattle.std.proofs.Common.{◌++◌, List, ℕ, ap, ◌∙◌}
 use Rattle.std.specs.Prelude.{codes}
-use Rattle.rtk_chart.specs.Heading.{interval_line, seconds_text}
+use Rattle.rtk_chart.specs.Heading.{interval_lines}
 use Rattle.rtk_chart.specs.TextPicture.{number_lines, named_count_line, satellites_in}
 use Rattle.rtk_chart.specs.declared.time_bin.TimeBin.{TimeBin}
 use Rattle.rtk_chart.proofs.ListLemmas.{and-then}
@@ -11,24 +11,19 @@ unfolding number_lines
 returns c =
     let l0 : List ℕ = c.args.text.now.items in
     let l1 : List ℕ = c.put_interval.new.text.items in
-    let l2 : List ℕ = c.extend_from_slice.new.self.items in
-    let l3 : List ℕ = c.put_seconds.new.text.items in
-    let l4 : List ℕ = c.push.new.self.items in
-    let l5 : List ℕ = c.put_line.new.text.items in
-    let l6 : List ℕ = c.put_line-2.new.text.items in
-    let l7 : List ℕ = c.put_line-3.new.text.items in
-    let l8 : List ℕ = c.put_line-4.new.text.items in
+    let l2 : List ℕ = c.put_line.new.text.items in
+    let l3 : List ℕ = c.put_line-2.new.text.items in
+    let l4 : List ℕ = c.put_line-3.new.text.items in
+    let l5 : List ℕ = c.put_line-4.new.text.items in
+    let l6 : List ℕ = c.put_line-5.new.text.items in
     let satellites : List TimeBin → List ℕ = λ bins. named_count_line (codes "satellites ") (satellites_in bins) in
-    and-then l0 l7 l8 _ (named_count_line (codes "missing ") c.args.grid.now.missing)
-    (and-then l0 l6 l7 _ (named_count_line (codes "slips ") c.args.survey.now.slips)
-    (and-then l0 l5 l6 _ (satellites c.args.grid.now.bins.items)
-    (and-then l0 l4 l5 _ (named_count_line (codes "records ") c.args.survey.now.records)
-    (and-then l0 l3 l4 _ (10 ∷ [])
-    (and-then l0 l2 l3 _ (seconds_text c.args.scale.now.bin_ms)
-    (and-then l0 l1 l2 (interval_line c.args.scale.now.interval) (codes "column ") c.in_ok-put_interval.ensures c.in_ok-extend_from_slice.ensures.items)
-    c.in_ok-put_seconds.ensures)
-    c.in_ok-push.ensures.items)
-    c.in_ok-put_line.ensures)
-    (c.in_ok-put_line-2.ensures ∙ ap (λ (n : ℕ). l5 ++ named_count_line (codes "satellites ") n) c.drawn_before.ensures.value ∙ ap (λ (bins : List TimeBin). l5 ++ satellites bins) c.as_slice.ensures.value))
+    and-then l0 l5 l6 _ (named_count_line (codes "missing ") c.args.grid.now.missing)
+    (and-then l0 l4 l5 _ (named_count_line (codes "rises ") c.args.grid.now.rises)
+    (and-then l0 l3 l4 _ (named_count_line (codes "slips ") c.args.grid.now.slips)
+    (and-then l0 l2 l3 _ (satellites c.args.grid.now.bins.items)
+    (and-then l0 l1 l2 (interval_lines c.args.scale.now.interval c.args.scale.now.bin_ms) (named_count_line (codes "records ") c.args.survey.now.records)
+    c.in_ok-put_interval.ensures c.in_ok-put_line.ensures)
+    (c.in_ok-put_line-2.ensures ∙ ap (λ (n : ℕ). l2 ++ named_count_line (codes "satellites ") n) c.drawn_before.ensures.value ∙ ap (λ (bins : List TimeBin). l2 ++ satellites bins) c.as_slice.ensures.value))
     c.in_ok-put_line-3.ensures)
-    c.in_ok-put_line-4.ensures
+    c.in_ok-put_line-4.ensures)
+    c.in_ok-put_line-5.ensures

@@ -6,11 +6,7 @@ pub returns : goal.returns
 unfolding text_picture
 returns c =
     rw (
-      c.in_ok-put_time.ensures,
-      c.in_ok-put_gap_row.ensures,
-      c.as_slice-2.ensures.value,
-      c.in_ok-put_rows.ensures,
-      c.as_slice.ensures.value,
+      c.in_ok-put_body.ensures,
       c.in_ok-put_numbers.ensures,
       c.in_ok-put_heading.ensures,
       c.new-text.ensures.items,

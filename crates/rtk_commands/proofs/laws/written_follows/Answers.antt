@@ -1,4 +1,4 @@
-use Rattle.rtk_commands.proofs.WrittenLemmas.{line-follows, picture-follows, part-follows}
+use Rattle.rtk_commands.proofs.WrittenLemmas.{line-follows, picture-follows, part-follows, label-follows}
 use Rattle.rtk_commands.proofs.laws.written_follows.Goals as goal
 
 pub returns-clause-line : goal.returns-clause-line
@@ -9,3 +9,6 @@ returns-clause-picture c = picture-follows
 
 pub returns-clause-part : goal.returns-clause-part
 returns-clause-part c = part-follows
+
+pub returns-clause-label : goal.returns-clause-label
+returns-clause-label c = label-follows

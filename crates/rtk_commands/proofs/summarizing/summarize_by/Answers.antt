@@ -6,7 +6,7 @@ use Rattle.rtk_commands.proofs.summarizing.summarize_by.Goals as goal
 
 pub returns : goal.returns
 returns g c = record {
-  summary = summary_through g.K.Before.had g.K.Before.held
+  summary = summary_through c.args.name.now g.K.Before.had g.K.Before.held
       c.over-source.result.number c.summarize-done.new.capture.number c.over-target.result.number c.summarize-done.new.out.number
       (g.R.Read.remaining c.over-source.result.inner) (g.R.Read.remaining c.summarize-done.new.capture.inner)
       (g.W.Write.contents c.over-target.result.inner) (g.W.Write.contents c.summarize-done.new.out.inner) (g.W.Write.contents c.into_inner-writer.result)
@@ -19,7 +19,7 @@ returns g c = record {
       c.summarize-done.result (λ fault. fault ≢ Write)
       c.requires.one (rw c.over-target.ensures.inner c.requires.held) (rw c.into_inner-writer.ensures)
       c.summarize-done.ensures.nothing;
-  part = summary_part_through g.K.Before.had g.K.Before.held
+  part = summary_part_through c.args.name.now g.K.Before.had g.K.Before.held
       c.over-source.result.number c.summarize-done.new.capture.number c.over-target.result.number c.summarize-done.new.out.number
       (g.R.Read.remaining c.over-source.result.inner) (g.R.Read.remaining c.summarize-done.new.capture.inner)
       (g.W.Write.contents c.over-target.result.inner) (g.W.Write.contents c.summarize-done.new.out.inner) (g.W.Write.contents c.into_inner-writer.result)

@@ -1,7 +1,7 @@
 use Rattle.std.proofs.Common.{◌≡◌, List, true, false, sym, subst}
 use Rattle.rtk_obs.specs.declared.cell.CellEntry.{CellEntry}
 use Rattle.rtk_summary.specs.Proposal.{is_taken_with, entries_with}
-use Rattle.rtk_summary.specs.Steps.Standing.{StandsForCodes}
+use Rattle.rtk_summary.specs.Standing.{StandsForCodes}
 use Rattle.rtk_summary.specs.Tracing.{entries_of_message}
 use Rattle.rtk_summary.proofs.MsmLemmas.{entries-taken, entries-left}
 use Rattle.rtk_summary.proofs.msm_parts.join_codes.Goals as goal

@@ -1,7 +1,7 @@
 use Rattle.std.proofs.Common.{List, ℕ, sym, ap, ◌∙◌}
 use Rattle.std.specs.Prelude.{filter}
 use Rattle.rtk_summary.specs.Proposal.{gives_value}
-use Rattle.rtk_summary.specs.Steps.Standing.{epochs_so_far}
+use Rattle.rtk_summary.specs.Standing.{epochs_so_far}
 use Rattle.rtk_summary.proofs.MsmLemmas.{times-with, times-without}
 use Rattle.rtk_summary.proofs.msm_parts.note_epoch.Goals as goal
 

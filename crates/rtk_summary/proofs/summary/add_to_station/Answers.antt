@@ -1,5 +1,5 @@
 use Rattle.std.proofs.Common.{sym, subst, ◌∙◌, arith}
-use Rattle.rtk_summary.specs.Steps.Standing.{StandsForMessages}
+use Rattle.rtk_summary.specs.Standing.{StandsForMessages}
 use Rattle.rtk_summary.specs.declared.station.Station.{Station}
 use Rattle.rtk_summary.proofs.StationLemmas.{station-more}
 use Rattle.rtk_summary.proofs.summary.add_to_station.Goals as goal

@@ -1,6 +1,6 @@
 use Rattle.std.proofs.Common.{◌≡◌, ◌+◌, Some, None, refl, sym, ap, ◌∙◌, arith}
-use Rattle.rtk_chart.specs.Epochs.{capped}
-use Rattle.rtk_chart.specs.Interval.{missing_before, missing_in}
+use Rattle.rtk_tracking.specs.Epochs.{capped}
+use Rattle.rtk_tracking.specs.Interval.{missing_before, missing_in}
 use Rattle.rtk_chart.proofs.GridLemmas.{gaps-more, missing-more}
 use Rattle.rtk_chart.proofs.grid.Grid.count_missing.Goals as goal
 

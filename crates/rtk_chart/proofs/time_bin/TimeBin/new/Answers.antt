@@ -1,5 +1,4 @@
 use Rattle.std.proofs.Common.{replicate, ap}
-use Rattle.rtk_chart.specs.Grid.{trackings_of}
 use Rattle.rtk_chart.specs.declared.tracking.Tracking.{Tracking}
 use Rattle.rtk_chart.specs.declared.time_bin.TimeBin.{TimeBin}
 use Rattle.rtk_chart.proofs.time_bin.TimeBin.new.Goals as goal
@@ -9,5 +8,4 @@ abbrev all_alike : Tracking → TimeBin
 all_alike tracking = record { satellites = replicate 32 tracking }
 
 pub returns : goal.returns
-unfolding trackings_of
 returns c = ap all_alike c.new.ensures

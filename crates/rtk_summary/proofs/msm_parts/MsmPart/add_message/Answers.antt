@@ -2,7 +2,7 @@ use Rattle.std.proofs.Common.{◌+◌, ◌==◌, ◌∙◌, ℕ, ap}
 use Rattle.rtk_message.specs.AnyDecoded.{number_of}
 use Rattle.rtk_message.specs.MsmForm.{number_of_kind}
 use Rattle.rtk_summary.specs.Counting.{shown_count}
-use Rattle.rtk_summary.specs.Steps.Standing.{one_if}
+use Rattle.rtk_summary.specs.Standing.{one_if}
 use Rattle.rtk_summary.specs.Tracing.{is_numbered}
 use Rattle.rtk_summary.proofs.MsmLemmas.{counted}
 use Rattle.rtk_summary.proofs.msm_parts.MsmPart.add_message.Goals as goal

@@ -2,7 +2,7 @@ use Rattle.std.proofs.Common.{◌≡◌, ◌++◌, ◌∙◌, [], List, take, su
 use Rattle.std.proofs.lemmas.Grind.{common_steps}
 use Rattle.std.proofs.lemmas.List.{append-nil}
 use Rattle.rtk_obs.specs.declared.cell.CellEntry.{CellEntry}
-use Rattle.rtk_summary.specs.Steps.Standing.{StandsForCodes}
+use Rattle.rtk_summary.specs.Standing.{StandsForCodes}
 use Rattle.rtk_summary.proofs.SignalLemmas.{codes-more}
 use Rattle.rtk_summary.proofs.signals.Codes.of.Goals as goal
 

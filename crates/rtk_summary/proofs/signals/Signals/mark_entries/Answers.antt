@@ -1,7 +1,7 @@
 use Rattle.std.proofs.Common.{◌≡◌, ◌++◌, List, take, subst, arith}
 use Rattle.std.proofs.lemmas.Grind.{common_steps}
 use Rattle.rtk_obs.specs.declared.cell.CellEntry.{CellEntry}
-use Rattle.rtk_summary.specs.Steps.Standing.{StandsForEntries}
+use Rattle.rtk_summary.specs.Standing.{StandsForEntries}
 use Rattle.rtk_summary.proofs.SignalLemmas.{entries-more}
 use Rattle.rtk_summary.proofs.signals.Signals.mark_entries.Goals as goal
 

@@ -1,6 +1,6 @@
 use Rattle.std.proofs.Common.{List, ◌++◌, take}
 use Rattle.rtk_obs.specs.declared.cell.CellEntry.{CellEntry}
-use Rattle.rtk_summary.specs.Steps.Standing.{StandsForEntries}
+use Rattle.rtk_summary.specs.Standing.{StandsForEntries}
 use Rattle.rtk_summary.proofs.signals.Signals.mark_entries.Given as goal
 
 abbrev pub invariant-loop-entry : goal.invariant-loop-entry

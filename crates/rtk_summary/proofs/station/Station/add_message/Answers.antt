@@ -1,6 +1,6 @@
 use Rattle.std.proofs.Common.{◌++◌, List, ◌∙◌, sym, subst}
 use Rattle.rtk_obs.specs.declared.cell.CellEntry.{CellEntry}
-use Rattle.rtk_summary.specs.Steps.Standing.{StandsForEntries, StandForMsm}
+use Rattle.rtk_summary.specs.Standing.{StandsForEntries, StandForMsm}
 use Rattle.rtk_summary.specs.Tracing.{entries_in}
 use Rattle.rtk_summary.specs.declared.msm_parts.MsmParts.{MsmParts}
 use Rattle.rtk_summary.specs.declared.signals.Signals.{Signals}

@@ -1,0 +1,128 @@
+//! The words of `label`: its command as clap reads it, and what its options say.
+
+ghost use Rattle.std.specs.Prelude.{IfSome};
+ghost use Rattle.rtk_args.specs.Requests.{IsRequest};
+
+use crate::arguments::{file_arg, flag_arg, option_arg};
+use crate::help_texts;
+use crate::label_options::LabelOptions;
+use crate::request::Request;
+use clap::{Arg, ArgAction, ArgGroup, ArgMatches, Command};
+use std::alloc::{AllocError, Global};
+
+/// The options that fill a field: the name, what follows it, and what the field is.
+const FIELDS: [(&str, &str, &str); 12] = [
+    (
+        "run-by",
+        "TEXT",
+        "Who runs the program, up to 20 characters",
+    ),
+    (
+        "marker-number",
+        "TEXT",
+        "The marker's number, up to 20 characters",
+    ),
+    ("observer", "TEXT", "The observer, up to 20 characters"),
+    ("agency", "TEXT", "The agency, up to 40 characters"),
+    (
+        "receiver-number",
+        "TEXT",
+        "The receiver's serial number, up to 20 characters",
+    ),
+    (
+        "receiver-type",
+        "TEXT",
+        "The receiver's type, up to 20 characters",
+    ),
+    (
+        "receiver-version",
+        "TEXT",
+        "The receiver's firmware, up to 20 characters",
+    ),
+    (
+        "antenna-number",
+        "TEXT",
+        "The antenna's serial number, up to 20 characters",
+    ),
+    (
+        "antenna-type",
+        "TEXT",
+        "The antenna's type, and from the 17th character on its radome",
+    ),
+    (
+        "delta-height",
+        "METRES",
+        "The antenna's height above the marker, as +1.5000, if the file tells none",
+    ),
+    (
+        "delta-east",
+        "METRES",
+        "How far east of the marker the antenna stands, as -0.0120",
+    ),
+    (
+        "delta-north",
+        "METRES",
+        "How far north of the marker the antenna stands, as +0.0000",
+    ),
+];
+
+// All fields are blank: no other option may stand beside it.
+fn blank_arg<'a>(alloc: Global) -> Result<Arg<'a>, AllocError> {
+    let help = "No field: the file is again as convert wrote it";
+    let mut blank = flag_arg(alloc, "blank", help).action(ArgAction::SetTrue);
+    for (name, _, _) in FIELDS {
+        blank = blank.conflicts_with(name)?;
+    }
+    Ok(blank)
+}
+
+// One of the options must be given.
+fn label_group<'a>(alloc: Global) -> Result<ArgGroup<'a>, AllocError> {
+    let mut group = ArgGroup::new(alloc, "FIELDS").required(true).multiple(true);
+    for (name, _, _) in FIELDS {
+        group = group.arg(name)?;
+    }
+    group.arg("blank")
+}
+
+fn with_fields<'a>(alloc: Global, command: Command<'a>) -> Result<Command<'a>, AllocError> {
+    let mut command = command;
+    for (name, value, help) in FIELDS {
+        let field = option_arg(alloc, name, value, help).allow_hyphen_values(true);
+        command = command.arg(field)?;
+    }
+    Ok(command)
+}
+
+/// The command.
+pub(crate) fn label_command<'a>(alloc: Global) -> Result<Command<'a>, AllocError> {
+    let command = Command::new(alloc, "label")
+        .about("Writes a file with more fields in its header")
+        .after_long_help(help_texts::LABEL)
+        .arg(file_arg(alloc, "The file, or stdin for standard input"))?;
+    with_fields(alloc, command)?
+        .arg(blank_arg(alloc)?)?
+        .group(label_group(alloc)?)
+}
+
+/// What its words ask for.
+pub(crate) fn label_request<'a>(matches: &ArgMatches<'a>) -> Option<Request<'a>>
+    ensures { IfSome result IsRequest }
+{
+    let file = matches.get_str("FILE")?;
+    let label = LabelOptions {
+        run_by: matches.get_str("run-by"),
+        marker_number: matches.get_str("marker-number"),
+        observer: matches.get_str("observer"),
+        agency: matches.get_str("agency"),
+        receiver_number: matches.get_str("receiver-number"),
+        receiver_type: matches.get_str("receiver-type"),
+        receiver_version: matches.get_str("receiver-version"),
+        antenna_number: matches.get_str("antenna-number"),
+        antenna_type: matches.get_str("antenna-type"),
+        delta_height: matches.get_str("delta-height"),
+        delta_east: matches.get_str("delta-east"),
+        delta_north: matches.get_str("delta-north"),
+    };
+    Some(Request::Label { label, file })
+}

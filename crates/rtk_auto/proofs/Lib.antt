@@ -1,0 +1,2 @@
+mod PutLemmas
+mod WalkLemmas

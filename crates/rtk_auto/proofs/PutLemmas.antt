@@ -1,0 +1,8 @@
+-- What is put part by part is put whole.
+use Rattle.std.proofs.Common.{◌≡◌, ℕ, List, ◌++◌, ap, ◌∙◌, append_assoc}
+
+pub three-parts : (old a b c : List ℕ) → ((old ++ a) ++ b) ++ c ≡ old ++ ((a ++ b) ++ c)
+three-parts old a b c = ap (λ l. l ++ c) (append_assoc old a b) ∙ append_assoc old (a ++ b) c
+
+pub four-parts : (old a b c d : List ℕ) → (((old ++ a) ++ b) ++ c) ++ d ≡ old ++ (((a ++ b) ++ c) ++ d)
+four-parts old a b c d = ap (λ l. l ++ d) (three-parts old a b c) ∙ append_assoc old ((a ++ b) ++ c) d

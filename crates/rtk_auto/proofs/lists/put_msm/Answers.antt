@@ -1,0 +1,10 @@
+use Rattle.std.proofs.Common.{◌≡◌, ◌≢◌, ◌++◌, ℕ, sym, ap, ◌∙◌, ne_eqb, arith, rules}
+use Rattle.rtk_message.specs.MsmForm.{number_of_kind}
+use Rattle.rtk_auto.proofs.lists.put_msm.Goals as goal
+
+pub returns : goal.returns
+returns c = λ fs stands.
+    let other : number_of_kind c.args.msm ≢ number_of_kind c.args.taken = λ same. c.if-number.false (c.number.ensures ∙ same ∙ sym c.number-2.ensures) in
+    let number = ne_eqb (number_of_kind c.args.msm) (number_of_kind c.args.taken) other in
+    let count = c.messages_of-count.ensures fs stands in
+    rw number (rw (← count) (rw (← c.number-3.ensures) c.put_count_line.ensures))

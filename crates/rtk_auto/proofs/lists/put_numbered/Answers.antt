@@ -1,0 +1,19 @@
+use Rattle.std.proofs.Common.{◌≡◌, ◌+◌, ◌-◌, ◌++◌, ℕ, List, sym, ap, ◌∙◌, append_assoc, arith}
+use Rattle.rtk_summary.specs.ReadFrames.{faults_in}
+use Rattle.rtk_auto.specs.Lists.{count_line_of, unread_line, unread_lines_from}
+use Rattle.rtk_auto.proofs.WalkLemmas.{numbered-step}
+use Rattle.rtk_auto.proofs.lists.put_numbered.Goals as goal
+
+pub loop-at-preserved : goal.loop-at-preserved
+loop-at-preserved c = λ fs stands.
+    let words = c.args.words.now in
+    let a : ℕ = c.args.first + c.loop-at.at in
+    let b : ℕ = c.args.first + (c.loop-at.at + 1) in
+    let k : ℕ = c.args.count - (c.loop-at.at + 1) in
+    let more : c.args.count - c.loop-at.at ≡ k + 1 = omega (arith, c.loop-at-test.true) in
+    let rest : List ℕ = unread_lines_from words (faults_in fs) b k in
+    let had = c.loop-at.lines.items in
+    let line = c.in_ok-put_count_line.ensures ∙ ap (λ (n : ℕ). had ++ count_line_of words a n) (c.others_of.ensures fs stands) in
+    ap (λ (xs : List ℕ). xs ++ rest) line ∙ append_assoc had (unread_line words (faults_in fs) a) rest
+    ∙ ap (λ (xs : List ℕ). had ++ xs) (sym (numbered-step words (faults_in fs) a b (c.args.count - c.loop-at.at) k more (omega arith)))
+    ∙ c.loop-at.invariant fs stands

@@ -1,0 +1,17 @@
+use Rattle.std.proofs.Common.{◌++◌, ap, ◌∙◌, codes}
+use Rattle.rtk_summary.specs.ReadFrames.{faults_in}
+use Rattle.rtk_auto.specs.Lists.{unread_lines_from, unread_glonass_to_sbas}
+use Rattle.rtk_auto.proofs.PutLemmas.{four-parts}
+use Rattle.rtk_auto.proofs.lists.put_unread_glonass_to_sbas.Goals as goal
+
+pub returns : goal.returns
+unfolding unread_glonass_to_sbas
+returns c = λ fs stands.
+    let a = unread_lines_from (codes " untaken GLONASS ") (faults_in fs) 1009 4 in
+    let b = unread_lines_from (codes " untaken GLONASS ") (faults_in fs) 1081 7 in
+    let d = unread_lines_from (codes " untaken Galileo ") (faults_in fs) 1091 7 in
+    let e = unread_lines_from (codes " untaken SBAS ") (faults_in fs) 1101 7 in
+    c.in_ok-put_numbered-4.ensures fs stands
+    ∙ ap (λ l. l ++ e) (c.in_ok-put_numbered-3.ensures fs stands
+    ∙ ap (λ l. l ++ d) (c.in_ok-put_numbered-2.ensures fs stands ∙ ap (λ l. l ++ b) (c.in_ok-put_numbered.ensures fs stands)))
+    ∙ four-parts c.args.lines.now.items a b d e

@@ -1,0 +1,124 @@
+-- Why captures have no plan: what holds of them and of the words if a refusal comes (this project's rule).
+use Rattle.std.specs.Prelude.{◌≡◌, ◌≢◌, ◌<◌, ◌≤◌, ℕ, Bool, true, false, ◌⊎◌, nat_lt, ⊤, List, [], length, map, Option, None, Some}
+use Rattle.std.specs.List.{list_any}
+use Rattle.rtk_obs.specs.Dating.{IsReference}
+use Rattle.rtk_obs.specs.declared.time.TheConstants.{LAST_MS}
+use Rattle.rtk_rinex.specs.Header.{HeadView, IsHeadView}
+use Rattle.rtk_summary.specs.ReadFrames.{ReadFrame}
+use Rattle.rtk_summary.specs.Standing.{StandsForFrames}
+use Rattle.rtk_dates.specs.Placing.{second_of}
+use Rattle.rtk_dates.specs.declared.placing.Placed.{Placed}
+use Rattle.rtk_find.specs.ChosenStation.{IsMarked, AreSeveralMarked}
+use Rattle.rtk_find.specs.Dating.{least_of_captures, placed_if_any, reach_after}
+use Rattle.rtk_find.specs.declared.capture_found.CaptureFound.{CaptureFound}
+use Rattle.rtk_find.specs.declared.dating.Base.{Base}
+use Rattle.rtk_find.specs.declared.finding.Findings.{Findings}
+use Rattle.rtk_auto.specs.Kept.{empty_captures}
+use Rattle.rtk_auto.specs.Linking.{AreLinksOf, some_are_far}
+use Rattle.rtk_auto.specs.Plan.{IsChosenStation, msm_chosen, codes_chosen, marker_chosen, IsBaseOf, IsReachOf, some_out_of_reach}
+use Rattle.rtk_auto.specs.declared.refusal.PlanFault.{PlanFault}
+use Rattle.rtk_auto.specs.declared.refusal.PlanFault.TheVariants.{Refused, OutOfMemory}
+use Rattle.rtk_auto.specs.declared.refusal.Refusal.{Refusal}
+use Rattle.rtk_auto.specs.declared.refusal.Refusal.TheVariants.{NoFrame, NoObservation, NoStation, SeveralStations, Empty, DatesDiffer, OutsideDates, NoDate, TooLong, NoCode, TooManyLinks, PositionsDiffer}
+use Rattle.rtk_auto.specs.declared.wanted.Wanted.{Wanted}
+
+-- a refusal has this cause; refused memory has none
+abbrev pub IfRefused : (Refusal → Type 0) → PlanFault → Type 0
+IfRefused IsCause (Refused refusal list) = IsCause refusal
+IfRefused IsCause OutOfMemory = ⊤
+
+-- ---- the station, by the marks of those with observations
+
+abbrev pub IsStationCause : List Bool → Option ℕ → Refusal → Type 0
+IsStationCause marks named NoObservation = (n : ℕ) → ¬ (IsMarked marks n)
+IsStationCause marks named (NoStation station) = (named ≡ Some station) × ¬ (IsMarked marks station)
+IsStationCause marks named SeveralStations = (named ≡ None) × AreSeveralMarked marks
+IsStationCause marks named other = ⊥
+
+-- ---- captures that have nothing of it
+
+abbrev pub IsEmptyCause : ℕ → List CaptureFound → Bool → Refusal → Type 0
+IsEmptyCause station cs skip_empty (Empty n) = (n ≡ station) × (skip_empty ≡ false) × (empty_captures station cs ≢ [])
+IsEmptyCause station cs skip_empty other = ⊥
+
+-- ---- their dates
+
+-- messages of the capture that count tell several first epochs
+abbrev pub has_several_dates : CaptureFound → Bool
+has_several_dates c = nat_lt 1 c.dates
+
+-- the moment near which they would be dated can't be a reference, or an epoch is after the last moment
+abbrev pub IsOutside : Placed → Type 0
+IsOutside reach = ¬ (IsReference (second_of reach.first)) ⊎ ((LAST_MS < reach.from) ⊎ (LAST_MS < reach.until))
+
+-- captures that are dated near a base
+abbrev pub IsReachCause : Base → List CaptureFound → Refusal → Type 0
+IsReachCause base cs NoObservation = reach_after None (map (placed_if_any base) cs) ≡ None
+IsReachCause base cs OutsideDates = (reach : Placed) × IsReachOf base cs reach × IsOutside reach
+IsReachCause base cs TooLong =
+    (reach : Placed) × IsReachOf base cs reach × (some_out_of_reach (second_of reach.first) cs (map (placed_if_any base) cs) ≡ true)
+IsReachCause base cs other = ⊥
+
+-- captures that are dated near this moment, or by what they tell
+abbrev pub IsDatingCause : Option ℕ → List CaptureFound → Refusal → Type 0
+IsDatingCause given cs DatesDiffer = (given ≡ None) × (list_any has_several_dates cs ≡ true)
+IsDatingCause given cs NoDate = (given ≡ None) × (least_of_captures None cs ≡ None)
+IsDatingCause given cs refusal = (base : Base) × IsBaseOf given cs base × IsReachCause base cs refusal
+
+-- ---- the values of the conversion of a station
+
+-- the head of the file of these frames
+abbrev pub head_chosen : Wanted → ℕ → ℕ → List ReadFrame → HeadView
+head_chosen w made station fs = record {
+  marker = marker_chosen w.marker station;
+  listed = codes_chosen w.codes fs station (msm_chosen w.msm fs station);
+  made = made;
+}
+
+-- no code is found; or the words name a bad marker or bad codes, or the time of making is no whole second
+abbrev pub HasBadHead : Findings → Wanted → ℕ → ℕ → Type 0
+HasBadHead f w made station = (fs : List ReadFrame) → StandsForFrames f.summary fs → ¬ (IsHeadView (head_chosen w made station fs))
+
+abbrev pub IsSetupCause : Findings → Wanted → ℕ → ℕ → ℕ → Refusal → Type 0
+IsSetupCause f w made station near NoCode = HasBadHead f w made station
+IsSetupCause f w made station near OutsideDates = ¬ (IsReference near)
+IsSetupCause f w made station near other = ⊥
+
+-- ---- the links
+
+-- at most 16, and no two of them far from one another, unless they are as given
+pub record AreGoodLinks (as_given : Bool) (cs : List CaptureFound) (links : List (List ℕ)) : Type 0 where
+  pub few : length links ≤ 16
+  pub together : as_given ≡ false → some_are_far cs links ≡ false
+
+abbrev pub IsLinksCause : Bool → List CaptureFound → List (List ℕ) → Refusal → Type 0
+IsLinksCause as_given cs links TooManyLinks = 16 < length links
+IsLinksCause as_given cs links PositionsDiffer = (as_given ≡ false) × (some_are_far cs links ≡ true)
+IsLinksCause as_given cs links other = ⊥
+
+-- ---- all of them
+
+abbrev pub IsPlanLinksCause : Findings → Wanted → Bool → Refusal → Type 0
+IsPlanLinksCause f w as_given refusal =
+    (station : ℕ) × IsChosenStation f.observing.items w.station station
+    × ((links : List (List ℕ)) × AreLinksOf as_given w.near station f.captures.items links × IsLinksCause as_given f.captures.items links refusal)
+
+-- why there is no plan of a conversion of the captures in which this was found, by these words and at
+-- this time of making; captures that have nothing of the station are left out or not, and links are as
+-- given or found
+abbrev pub IsCauseOf : Findings → Wanted → ℕ → Bool → Bool → Refusal → Type 0
+IsCauseOf f w made skip_empty as_given NoFrame = (fs : List ReadFrame) → StandsForFrames f.summary fs → fs ≡ []
+IsCauseOf f w made skip_empty as_given NoObservation =
+    IsStationCause f.observing.items w.station NoObservation ⊎ IsDatingCause w.near f.captures.items NoObservation
+IsCauseOf f w made skip_empty as_given (NoStation station) = IsStationCause f.observing.items w.station (NoStation station)
+IsCauseOf f w made skip_empty as_given SeveralStations = IsStationCause f.observing.items w.station SeveralStations
+IsCauseOf f w made skip_empty as_given (Empty station) =
+    IsChosenStation f.observing.items w.station station × IsEmptyCause station f.captures.items skip_empty (Empty station)
+IsCauseOf f w made skip_empty as_given DatesDiffer = IsDatingCause w.near f.captures.items DatesDiffer
+IsCauseOf f w made skip_empty as_given OutsideDates = IsDatingCause w.near f.captures.items OutsideDates
+IsCauseOf f w made skip_empty as_given NoDate = IsDatingCause w.near f.captures.items NoDate
+IsCauseOf f w made skip_empty as_given TooLong = IsDatingCause w.near f.captures.items TooLong
+IsCauseOf f w made skip_empty as_given NoCode =
+    (station : ℕ) × IsChosenStation f.observing.items w.station station × HasBadHead f w made station
+IsCauseOf f w made skip_empty as_given TooManyLinks = IsPlanLinksCause f w as_given TooManyLinks
+IsCauseOf f w made skip_empty as_given PositionsDiffer = IsPlanLinksCause f w as_given PositionsDiffer

@@ -1,0 +1,75 @@
+-- How the captures of the station are grouped in links (this project's rule). A link is the list of the
+-- places of its captures.
+use Rattle.std.specs.Prelude.{◌≡◌, ℕ, ◌==◌, Bool, true, false, not, List, [], ◌∷◌, length, map, filter, Option, None, Some, if◌then◌else◌}
+use Rattle.std.specs.List.{list_any, range_with_len}
+use Rattle.std.specs.declared.vec.Vec.{Vec}
+use Rattle.rtk_dates.specs.declared.placing.Placed.{Placed}
+use Rattle.rtk_find.specs.Joining.{in_order, links_of}
+use Rattle.rtk_find.specs.Points.{are_far, point_of_link}
+use Rattle.rtk_find.specs.declared.capture_found.CaptureFound.{CaptureFound}
+use Rattle.rtk_find.specs.declared.heard.ReferencePoint.{ReferencePoint}
+use Rattle.rtk_find.specs.declared.joining.Ordered.{Ordered}
+use Rattle.rtk_auto.specs.Kept.{has_something_at, kept_captures}
+use Rattle.rtk_auto.specs.Plan.{ArePlaced}
+
+-- links as lists of places
+abbrev pub places_of : {A : Type 0} → List (Vec ℕ A) → List (List ℕ)
+places_of links = map (λ link. link.items) links
+
+-- ---- captures that follow one another are joined
+
+-- captures that have something of the station
+abbrev pub kept_in_order : ℕ → List CaptureFound → List Ordered → List Ordered
+kept_in_order station cs os = filter (λ o. has_something_at station cs o.given) os
+
+-- the captures of one link, in the order in which they are taken; `numbers` has the link of each capture
+abbrev pub captures_of_link : ℕ → List Ordered → List ℕ → List ℕ
+captures_of_link link [] numbers = []
+captures_of_link link (o ∷ os) [] = []
+captures_of_link link (o ∷ os) (n ∷ ns) =
+    if n == link then o.given ∷ captures_of_link link os ns else captures_of_link link os ns
+
+abbrev pub is_nonempty : List ℕ → Bool
+is_nonempty places = not (length places == 0)
+
+-- the links 0, 1 and so on to which captures go
+abbrev pub joined_links : List Ordered → List (List ℕ)
+joined_links os = filter is_nonempty (map (λ link. captures_of_link link os (links_of os)) (range_with_len 0 (length os)))
+
+-- the links of captures with these dated epochs
+abbrev pub links_found : ℕ → List CaptureFound → List (Option Placed) → List (List ℕ)
+links_found station cs placed = joined_links (kept_in_order station cs (in_order placed))
+
+-- ---- each capture is a link
+
+abbrev pub one_place : ℕ → List ℕ
+one_place place = place ∷ []
+
+abbrev pub links_as_given : ℕ → List CaptureFound → List (List ℕ)
+links_as_given station cs = map one_place (kept_captures station cs)
+
+-- ---- the links of a plan
+
+-- the links of captures that are dated near this moment, or by what they tell; or each capture is a link
+abbrev pub AreLinksOf : Bool → Option ℕ → ℕ → List CaptureFound → List (List ℕ) → Type 0
+AreLinksOf true given station cs links = links ≡ links_as_given station cs
+AreLinksOf false given station cs links = (placed : List (Option Placed)) × ArePlaced given cs placed × (links ≡ links_found station cs placed)
+
+-- ---- the positions of links
+
+-- two positions, if both are known, are more than 100 m apart
+abbrev pub are_points_apart : Option ReferencePoint → Option ReferencePoint → Bool
+are_points_apart None b = false
+are_points_apart (Some a) None = false
+are_points_apart (Some a) (Some b) = are_far a b
+
+-- one of these positions is far from one of those
+abbrev pub some_apart : List (Option ReferencePoint) → List (Option ReferencePoint) → Bool
+some_apart points others = list_any (λ p. list_any (are_points_apart p) others) points
+
+abbrev pub points_of : List CaptureFound → List (List ℕ) → List (Option ReferencePoint)
+points_of cs links = map (point_of_link cs) links
+
+-- two links are far from one another
+abbrev pub some_are_far : List CaptureFound → List (List ℕ) → Bool
+some_are_far cs links = some_apart (points_of cs links) (points_of cs links)

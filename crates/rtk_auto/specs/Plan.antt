@@ -1,0 +1,82 @@
+-- What a conversion is told, by what was found and what words say (this project's rule).
+use Rattle.std.specs.Prelude.{◌≡◌, ℕ, Bool, false, ◌||◌, List, [], ◌∷◌, filter, map, Option, None, Some}
+use Rattle.std.specs.Borrow.{Bor}
+use Rattle.std.specs.declared.vec.Vec.{Vec}
+use Rattle.rtk_message.specs.declared.msm_kind.MsmKind.{MsmKind}
+use Rattle.rtk_obs.specs.declared.code.Code.{Code}
+use Rattle.rtk_obs.specs.Code.{all_codes}
+use Rattle.rtk_obs.specs.CivilText.{last_digits}
+use Rattle.rtk_convert.specs.Setup.{SetupView}
+use Rattle.rtk_summary.specs.Proposal.{epochs_with_value, entries_with, proposed}
+use Rattle.rtk_summary.specs.ReadFrames.{ReadFrame, messages_in, messages_from}
+use Rattle.rtk_summary.specs.Standing.{StandsForFrames}
+use Rattle.rtk_summary.specs.Tracing.{has_code}
+use Rattle.rtk_dates.specs.Placing.{second_of}
+use Rattle.rtk_dates.specs.declared.placing.Placed.{Placed}
+use Rattle.rtk_find.specs.ChosenStation.{IsMarked, IsOnlyMarked}
+use Rattle.rtk_find.specs.Dating.{least_of_captures, placed_if_any, reach_after, is_out_of_reach}
+use Rattle.rtk_find.specs.declared.capture_found.CaptureFound.{CaptureFound}
+use Rattle.rtk_find.specs.declared.dating.Base.{Base}
+use Rattle.rtk_find.specs.declared.dating.Base.TheVariants.{Given, Told}
+use Rattle.rtk_find.specs.declared.finding.Findings.{Findings}
+use Rattle.rtk_auto.specs.declared.wanted.Wanted.{Wanted}
+
+-- the station that is named, if it has observations; else the only one that has
+abbrev pub IsChosenStation : List Bool → Option ℕ → ℕ → Type 0
+IsChosenStation marks None station = IsOnlyMarked marks station
+IsChosenStation marks (Some named) station = (station ≡ named) × IsMarked marks station
+
+-- the MSM that is named; else the one of which the station has most epochs with a value
+abbrev pub msm_chosen : Option MsmKind → List ReadFrame → ℕ → MsmKind
+msm_chosen None fs station = proposed (λ kind. epochs_with_value kind (messages_from station (messages_in fs)))
+msm_chosen (Some named) fs station = named
+
+-- the codes that are named; else all of which the station has a value
+abbrev pub codes_chosen : {A : Type 0} → Option (Vec Code A) → List ReadFrame → ℕ → MsmKind → List Code
+codes_chosen None fs station msm = filter (has_code (entries_with msm (messages_from station (messages_in fs)))) all_codes
+codes_chosen (Some named) fs station msm = named.items
+
+-- formula
+-- the marker that is named; else the station's number in four digits
+abbrev pub marker_chosen : Option (Bor (List ℕ)) → ℕ → List ℕ
+marker_chosen None station = last_digits 4 station
+marker_chosen (Some named) station = named.now
+
+-- the moment near which captures are dated: the one that is given; else the least first epoch that they tell
+abbrev pub IsBaseOf : Option ℕ → List CaptureFound → Base → Type 0
+IsBaseOf None cs base = (least : ℕ) × (least_of_captures None cs ≡ Some least) × (base ≡ Told least)
+IsBaseOf (Some near) cs base = base ≡ Given near
+
+-- the epochs of captures that are dated near a base have this reach
+abbrev pub IsReachOf : Base → List CaptureFound → Placed → Type 0
+IsReachOf base cs reach = reach_after None (map (placed_if_any base) cs) ≡ Some reach
+
+-- the epochs of captures that are dated so, one for each capture
+abbrev pub ArePlaced : Option ℕ → List CaptureFound → List (Option Placed) → Type 0
+ArePlaced given cs placed = (base : Base) × IsBaseOf given cs base × (placed ≡ map (placed_if_any base) cs)
+
+-- a conversion near this moment would date an epoch of some capture otherwise
+abbrev pub some_out_of_reach : ℕ → List CaptureFound → List (Option Placed) → Bool
+some_out_of_reach near [] placed = false
+some_out_of_reach near (c ∷ cs) [] = false
+some_out_of_reach near (c ∷ cs) (p ∷ ps) = is_out_of_reach near c p || some_out_of_reach near cs ps
+
+-- a conversion near this moment dates all epochs of the captures as they are dated here
+abbrev pub IsInReach : Option ℕ → List CaptureFound → ℕ → Type 0
+IsInReach given cs near = (placed : List (Option Placed)) × ArePlaced given cs placed × (some_out_of_reach near cs placed ≡ false)
+
+-- formula
+-- the whole second of the least first epoch of the captures
+abbrev pub IsNearOf : Option ℕ → List CaptureFound → ℕ → Type 0
+IsNearOf given cs near = (base : Base) × IsBaseOf given cs base × ((reach : Placed) × IsReachOf base cs reach × (near ≡ second_of reach.first))
+
+-- the setup of a conversion of the captures in which this was found, by these words and at this time of
+-- making: each value is named or found
+pub record IsSetupFor (f : Findings) (w : Wanted) (made : ℕ) (s : SetupView) : Type 0 where
+  pub station : IsChosenStation f.observing.items w.station s.station
+  pub msm : (fs : List ReadFrame) → StandsForFrames f.summary fs → s.msm ≡ msm_chosen w.msm fs s.station
+  pub listed : (fs : List ReadFrame) → StandsForFrames f.summary fs → s.head.listed ≡ codes_chosen w.codes fs s.station s.msm
+  pub marker : s.head.marker ≡ marker_chosen w.marker s.station
+  pub made_at : s.head.made ≡ made
+  pub window : s.window ≡ w.window
+  pub near_by : IsNearOf w.near f.captures.items s.near

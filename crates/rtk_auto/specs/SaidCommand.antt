@@ -1,0 +1,108 @@
+-- The command of `convert` that does what `auto` does, as sh takes it (this project's rule).
+use Rattle.std.specs.Prelude.{ℕ, ◌+◌, ◌==◌, Bool, nat_lt, List, [], ◌∷◌, ◌++◌, length, flat_map, codes, decimal, if◌then◌else◌}
+use Rattle.std.specs.Borrow.{Bor}
+use Rattle.std.specs.List.{list_any}
+use Rattle.std.specs.declared.vec.Vec.{Vec}
+use Rattle.rtk_message.specs.ShellText.{sh_quoted}
+use Rattle.rtk_obs.specs.CivilText.{date_text, clock_text}
+use Rattle.rtk_rinex.specs.Header.{HeadView}
+use Rattle.rtk_rinex.specs.Reading.{reading_of}
+use Rattle.rtk_summary.specs.SummaryText.{joined_names, msm_option}
+use Rattle.rtk_convert.specs.Setup.{SetupView}
+
+-- formula
+-- a moment as an option writes it, its milliseconds dropped: 2024-05-17T12:00:00
+unfoldable pub time_text : ℕ → List ℕ
+time_text t = date_text (reading_of t) ++ codes "T" ++ clock_text (reading_of t)
+
+-- formula
+-- a word that is no name of a file: its leading hyphens stay in front
+abbrev pub word_text : List ℕ → List ℕ
+word_text [] = sh_quoted []
+word_text (x ∷ xs) = if x == 45 then 45 ∷ word_text xs else sh_quoted (x ∷ xs)
+
+-- formula
+-- the command with the station and the reference
+unfoldable pub station_words : SetupView → List ℕ
+station_words s = codes "rtcm2rinex convert --station " ++ decimal s.station ++ codes " --near " ++ time_text s.near
+
+-- formula
+-- the time of making and the marker
+unfoldable pub marker_words : HeadView → List ℕ
+marker_words h = codes " --made " ++ time_text h.made ++ codes " --marker " ++ word_text h.marker
+
+-- formula
+-- the codes, the MSM and the window
+unfoldable pub value_words : SetupView → List ℕ
+value_words s = codes " --codes" ++ joined_names 32 s.head.listed ++ msm_option s.msm ++ codes " --window " ++ decimal s.window
+
+-- formula
+-- the command with its options
+unfoldable pub convert_words : SetupView → List ℕ
+convert_words s = station_words s ++ marker_words s.head ++ value_words s
+
+-- formula
+-- names of files, each after a blank
+abbrev pub name_after_blank : Bor (List ℕ) → List ℕ
+name_after_blank name = 32 ∷ sh_quoted name.now
+
+abbrev pub names_text : List (Bor (List ℕ)) → List ℕ
+names_text names = flat_map name_after_blank names
+
+-- formula
+-- files one after another
+abbrev pub cat_words : List (Bor (List ℕ)) → List ℕ
+cat_words names = codes "cat" ++ names_text names
+
+-- formula
+-- the file of the link of this number, from 1, if several captures are joined to it
+abbrev pub joined_name : ℕ → List ℕ
+joined_name number = codes "joined/" ++ decimal number ++ codes ".rtcm"
+
+-- formula
+-- the captures of a link are joined into a file; a link of one capture is this capture
+abbrev pub join_line : ℕ → List (Bor (List ℕ)) → List ℕ
+join_line number names =
+    if nat_lt (length names) 2 then [] else cat_words names ++ codes " >" ++ joined_name number ++ codes " &&\n"
+
+abbrev pub join_lines : {A : Type 0} → ℕ → List (Vec (Bor (List ℕ)) A) → List ℕ
+join_lines number [] = []
+join_lines number (link ∷ links) = join_line number link.items ++ join_lines (number + 1) links
+
+-- formula
+-- the file of a link
+abbrev pub link_word : ℕ → List (Bor (List ℕ)) → List ℕ
+link_word number names = if nat_lt (length names) 2 then names_text names else 32 ∷ joined_name number
+
+abbrev pub link_words : {A : Type 0} → ℕ → List (Vec (Bor (List ℕ)) A) → List ℕ
+link_words number [] = []
+link_words number (link ∷ links) = link_word number link.items ++ link_words (number + 1) links
+
+abbrev pub is_joined : {A : Type 0} → Vec (Bor (List ℕ)) A → Bool
+is_joined link = nat_lt 1 (length link.items)
+
+abbrev pub has_joined : {A : Type 0} → List (Vec (Bor (List ℕ)) A) → Bool
+has_joined {A} links = list_any (is_joined {A = A}) links
+
+-- formula
+-- a new folder for the files of links, if captures are joined: no file that is there is written over
+abbrev pub folder_line : {A : Type 0} → List (Vec (Bor (List ℕ)) A) → List ℕ
+folder_line links = if has_joined links then codes "mkdir joined &&\n" else []
+
+-- formula
+-- the lines of several links: first the captures of each are joined
+abbrev pub several_links_text : {A : Type 0} → List ℕ → List (Vec (Bor (List ℕ)) A) → List ℕ
+several_links_text words links = folder_line links ++ join_lines 1 links ++ words ++ link_words 1 links ++ 10 ∷ []
+
+-- formula
+-- the captures of one link go through standard input
+abbrev pub one_link_text : List ℕ → List (Bor (List ℕ)) → List ℕ
+one_link_text words names = cat_words names ++ codes " | " ++ words ++ codes " stdin\n"
+
+-- formula
+-- the command of links, each of them the names of its captures in their order
+abbrev pub command_text : {A : Type 0} → List ℕ → List (Vec (Bor (List ℕ)) A) → List ℕ
+command_text {A} words [] = several_links_text {A = A} words []
+command_text words (link ∷ []) =
+    if nat_lt 1 (length link.items) then one_link_text words link.items else several_links_text words (link ∷ [])
+command_text words (link ∷ other ∷ links) = several_links_text words (link ∷ other ∷ links)

@@ -1,0 +1,150 @@
+//! The dates of the captures that are converted.
+
+ghost use Rattle.std.specs.Prelude.{◌≡◌, ◌<◌, false, map, IfOk, IfErr};
+ghost use Rattle.std.specs.List.{list_any};
+ghost use Rattle.rtk_auto.specs.Causes.{IfRefused, IsReachCause, IsDatingCause, has_several_dates};
+ghost use Rattle.rtk_auto.specs.Plan.{IsBaseOf, IsReachOf, IsNearOf, ArePlaced, some_out_of_reach};
+ghost use Rattle.rtk_find.specs.Dating.{placed_if_any};
+ghost use Rattle.rtk_obs.specs.declared.time.TheConstants.{LAST_MS};
+ghost use Rattle.rtk_dates.specs.Placing.{second_of};
+ghost use Rattle.rtk_dates.specs.declared.placing.Placed.{Placed};
+
+use crate::captured::Captured;
+use crate::refusal::{PlanFault, Refusal, refused};
+use crate::span_line::{DateSource, DatedSpan};
+use rtk_dates::{DateMessage, Placed};
+use rtk_find::{
+    Base, CaptureFound, is_out_of_reach, least_told, near_of, place_captures, reach_of,
+};
+use rtk_obs::GpsMs;
+use std::alloc::Global;
+
+/// The epochs of captures with their dates.
+#[derive(Drop)]
+pub(crate) struct Dating {
+    pub(crate) placed: Vec<Option<Placed>>,
+    /// The moment near which a conversion dates them.
+    pub(crate) near: GpsMs,
+    pub(crate) span: DatedSpan,
+}
+
+fn have_differing_dates(captures: &[CaptureFound]) -> bool
+    ensures { result ≡ list_any has_several_dates captures.now }
+{
+    captures.iter().any(|capture| capture.dates > 1)
+}
+
+// The moment near which the captures are dated.
+fn base(
+    alloc: Global,
+    captured: &Captured<'_, '_, '_>,
+    captures: &[CaptureFound],
+    near: Option<GpsMs>,
+) -> Result<Base, PlanFault>
+    ensures base { IfOk result (IsBaseOf near captures.now) }
+    ensures refused { IfErr result (IfRefused (IsDatingCause near captures.now)) }
+{
+    if let Some(near) = near {
+        return Ok(Base::Given(near));
+    }
+    if have_differing_dates(captures) {
+        return refused(Refusal::DatesDiffer, captured.list_dates(alloc)?);
+    }
+    match least_told(captures) {
+        Some(least) => Ok(Base::Told(least)),
+        None => refused(Refusal::NoDate, Vec::new(alloc)),
+    }
+}
+
+// By what a message dates this station.
+fn source_of_message(message: DateMessage, station: u16) -> DateSource {
+    match message {
+        DateMessage::Utc(date) if date.station == station => DateSource::Station(date.number),
+        DateMessage::Utc(date) => DateSource::OtherStation(date.number, date.station),
+        DateMessage::Ephemeris(_) => DateSource::Ephemerides,
+    }
+}
+
+// By what the captures are dated: the message that told the least first epoch.
+fn source_of(captures: &[CaptureFound], base: Base, station: u16) -> DateSource {
+    let Base::Told(least) = base else {
+        return DateSource::Words;
+    };
+    for capture in captures {
+        if let Some(told) = capture.told {
+            if told.first == least.ms() {
+                return source_of_message(told.message, station);
+            }
+        }
+    }
+    DateSource::Words
+}
+
+// The moment, if it can be written.
+fn moment(alloc: Global, ms: u64) -> Result<GpsMs, PlanFault>
+    ensures value { IfOk result (λ t. t ≡ ms) }
+    ensures refused { IfErr result (IfRefused (λ refusal. (refusal ≡ Refusal.OutsideDates) × (LAST_MS < ms))) }
+{
+    match GpsMs::new(ms) {
+        Some(moment) => Ok(moment),
+        None => refused(Refusal::OutsideDates, Vec::new(alloc)),
+    }
+}
+
+// Is an epoch of a capture not dated by a conversion near this moment as it is here?
+fn are_out_of_reach(near: GpsMs, captures: &[CaptureFound], placed: &[Option<Placed>]) -> bool
+    ensures { result ≡ some_out_of_reach near captures.now placed.now }
+{
+    let count = captures.len().min(placed.len());
+    for at in 0..count {
+        if is_out_of_reach(near, &captures[at], placed[at]) {
+            return true;
+        }
+    }
+    false
+}
+
+// The epochs of captures that are dated so.
+fn dating_by(
+    alloc: Global,
+    captures: &[CaptureFound],
+    base: Base,
+    station: u16,
+) -> Result<Dating, PlanFault>
+    ensures near { IfOk result (λ d. (reach : Placed) × IsReachOf base captures.now reach × (d.near ≡ second_of reach.first)) }
+    ensures placed { IfOk result (λ d. d.placed.items ≡ map (placed_if_any base) captures.now) }
+    ensures in_reach { IfOk result (λ d. some_out_of_reach d.near captures.now d.placed.items ≡ false) }
+    ensures refused { IfErr result (IfRefused (IsReachCause base captures.now)) }
+{
+    let placed = place_captures(alloc, &base, captures)?;
+    let Some(reach) = reach_of(placed.as_slice()) else {
+        return refused(Refusal::NoObservation, Vec::new(alloc));
+    };
+    let near = moment(alloc, near_of(&reach))?;
+    if are_out_of_reach(near, captures, placed.as_slice()) {
+        return refused(Refusal::TooLong, Vec::new(alloc));
+    }
+    let span = DatedSpan {
+        from: moment(alloc, reach.from)?,
+        until: moment(alloc, reach.until)?,
+        source: source_of(captures, base, station),
+    };
+    Ok(Dating { placed, near, span })
+}
+
+/// The dates of the captures that are converted: as they tell them, or near a moment that is given.
+pub(crate) fn date_captures(
+    alloc: Global,
+    captured: &Captured<'_, '_, '_>,
+    near: Option<GpsMs>,
+    station: u16,
+) -> Result<Dating, PlanFault>
+    ensures near { IfOk result (λ d. IsNearOf near captured.now.findings.now.captures.items d.near) }
+    ensures placed { IfOk result (λ d. ArePlaced near captured.now.findings.now.captures.items d.placed.items) }
+    ensures in_reach { IfOk result (λ d. some_out_of_reach d.near captured.now.findings.now.captures.items d.placed.items ≡ false) }
+    ensures refused { IfErr result (IfRefused (IsDatingCause near captured.now.findings.now.captures.items)) }
+{
+    let captures = captured.captures();
+    let base = base(alloc, captured, captures, near)?;
+    dating_by(alloc, captures, base, station)
+}

@@ -1,0 +1,131 @@
+//! What a person should know of a conversion that is done.
+
+ghost use Rattle.std.specs.Prelude.{◌≡◌, ◌++◌, OnOk};
+ghost use Rattle.rtk_auto.specs.KnownLines as spec;
+
+use crate::captured::Captured;
+use crate::lists::{put_capture_line, put_msms, put_name_line, put_unread};
+use crate::planning::Plan;
+use rtk_convert::{Counts, Setup};
+use rtk_message::put_named;
+use std::alloc::{AllocError, Global};
+
+// Appends the codes that have few phases.
+fn put_few_phases(
+    lines: &mut Vec<u8>,
+    captured: &Captured<'_, '_, '_>,
+    setup: &Setup,
+) -> Result<(), AllocError> {
+    for code in setup.head().codes() {
+        if captured.findings.phases.has_few_phases(setup.msm(), *code) {
+            lines.extend_from_slice(b" few-phases ")?;
+            lines.extend_from_slice(&code.name())?;
+            lines.extend_from_slice(
+                b": its satellites have more than twice as many in another code\n",
+            )?;
+        }
+    }
+    Ok(())
+}
+
+// Appends how many messages were late.
+#[tactic(auto, unfolding(crate::specs::KnownLines::late_count_line))]
+fn put_late(lines: &mut Vec<u8>, late: u64, window: usize) -> Result<(), AllocError>
+    ensures { OnOk result (lines.new.items ≡ lines.old.items ++ spec.late_count_line late window) }
+{
+    if late == 0 {
+        return Ok(());
+    }
+    put_named(lines, b" late ", late)?;
+    put_named(lines, b": messages after ", window as u64)?;
+    lines.extend_from_slice(b" newer epochs are left out\n")
+}
+
+// Appends the captures that are left out.
+fn put_skipped(
+    lines: &mut Vec<u8>,
+    captured: &Captured<'_, '_, '_>,
+    skipped: &[usize],
+) -> Result<(), AllocError> {
+    for place in skipped {
+        if let Some(capture) = captured.findings.captures.get(*place) {
+            put_capture_line(lines, b" skipped ", captured.name(*place), capture)?;
+        }
+    }
+    Ok(())
+}
+
+// Appends the captures without an epoch of the station, and those whose epochs fall.
+fn put_epochs(
+    lines: &mut Vec<u8>,
+    captured: &Captured<'_, '_, '_>,
+    links: &[Vec<usize>],
+) -> Result<(), AllocError> {
+    for link in links {
+        for place in link {
+            put_epochs_of(lines, captured, *place)?;
+        }
+    }
+    Ok(())
+}
+
+fn put_epochs_of(
+    lines: &mut Vec<u8>,
+    captured: &Captured<'_, '_, '_>,
+    place: usize,
+) -> Result<(), AllocError> {
+    let Some(capture) = captured.findings.captures.get(place) else {
+        return Ok(());
+    };
+    match capture.span {
+        None => put_name_line(lines, b" no-epoch ", captured.name(place)),
+        Some(span) if span.falls => { put_name_line(lines, b" time-falls ", captured.name(place)) }
+        Some(_) => Ok(()),
+    }
+}
+
+/// What a person should know of a conversion, but for late messages, which are known only once it is
+/// done.
+#[derive(Drop)]
+pub struct Known {
+    /// The lines before that of late messages.
+    first: Vec<u8>,
+    /// The lines after it.
+    last: Vec<u8>,
+    /// How many epochs are kept open.
+    window: usize,
+}
+
+/// What a person should know of a conversion, a line each, only where it is so: codes with few phases;
+/// captures that are left out, that have no epoch or whose time falls; and observations that are not
+/// taken.
+pub fn what_is_known(
+    alloc: Global,
+    captured: &Captured<'_, '_, '_>,
+    plan: &Plan,
+) -> Result<Known, AllocError> {
+    let setup = &plan.setup;
+    let summary = &captured.findings.summary;
+    let mut first = Vec::new(alloc);
+    put_few_phases(&mut first, captured, setup)?;
+    let mut last = Vec::new(alloc);
+    put_skipped(&mut last, captured, plan.skipped.as_slice())?;
+    put_epochs(&mut last, captured, plan.links.as_slice())?;
+    put_msms(&mut last, summary, setup.station(), setup.msm())?;
+    put_unread(&mut last, summary)?;
+    Ok(Known {
+        first,
+        last,
+        window: setup.window(),
+    })
+}
+
+/// Appends what a person should know of a conversion that is done, with its late messages.
+#[tactic(auto, unfolding(crate::specs::KnownLines::known_lines))]
+pub fn put_known(lines: &mut Vec<u8>, known: &Known, counts: &Counts) -> Result<(), AllocError>
+    ensures { OnOk result (lines.new.items ≡ lines.old.items ++ spec.known_lines known.now counts.now.late) }
+{
+    lines.extend_from_slice(known.first.as_slice())?;
+    put_late(lines, counts.late, known.window)?;
+    lines.extend_from_slice(known.last.as_slice())
+}

@@ -1,0 +1,257 @@
+//! The lines that list what a refusal or a warning speaks of, each after a blank.
+//!
+//! If memory is refused, a first part of what is put may stand there.
+
+ghost use Rattle.std.specs.Prelude.{◌≡◌, ◌<◌, ◌≤◌, ◌+◌, ◌++◌, List, OnOk};
+ghost use Rattle.rtk_summary.specs.ReadFrames.{ReadFrame, faults_in, messages_in, messages_from};
+ghost use Rattle.rtk_summary.specs.Standing.{StandsForFrames};
+ghost use Rattle.rtk_auto.specs.Lists as spec;
+
+use crate::said_command::put_time;
+use crate::span_line::put_message;
+use rtk_dates::Told;
+use rtk_find::{CaptureFound, ReferencePoint};
+use rtk_message::{MsmKind, put_named, put_number, put_sh_quoted};
+use rtk_obs::GpsMs;
+use rtk_summary::{Look, Summary};
+use std::alloc::AllocError;
+
+/// A first epoch that a capture tells, beside another one.
+#[derive(Clone, Copy, Debug, PartialEq, Eq)]
+pub struct DifferingDate {
+    /// The place of the capture.
+    pub capture: usize,
+    pub told: Told,
+}
+
+// Appends a line feed.
+fn end_line(lines: &mut Vec<u8>) -> Result<(), AllocError>
+    ensures { OnOk result (lines.new.items ≡ lines.old.items ++ spec.line_end) }
+{
+    lines.push(b'\n')?;
+    Ok(())
+}
+
+// Appends words and the name of a capture.
+fn put_words_and_name(lines: &mut Vec<u8>, words: &[u8], name: &str) -> Result<(), AllocError>
+    ensures { OnOk result (lines.new.items ≡ lines.old.items ++ spec.words_and_name words.now name.now) }
+{
+    lines.extend_from_slice(words)?;
+    put_sh_quoted(lines, name.as_bytes())
+}
+
+/// Appends a line of words and the name of a capture.
+pub(crate) fn put_name_line(lines: &mut Vec<u8>, words: &[u8], name: &str) -> Result<(), AllocError>
+    ensures { OnOk result (lines.new.items ≡ lines.old.items ++ spec.name_line words.now name.now) }
+{
+    put_words_and_name(lines, words, name)?;
+    end_line(lines)
+}
+
+// What a capture without a frame looks like.
+fn put_look(lines: &mut Vec<u8>, look: Option<Look>) -> Result<(), AllocError>
+    ensures { OnOk result (lines.new.items ≡ lines.old.items ++ spec.look_text look) }
+{
+    match look {
+        None | Some(Look::Unknown) => Ok(()),
+        Some(Look::Empty) => lines.extend_from_slice(b" is empty"),
+        Some(look) => {
+            lines.extend_from_slice(b" looks like ")?;
+            lines.extend_from_slice(look.name())
+        }
+    }
+}
+
+/// Appends the line of a capture, after these words, with what it looks like if it has no frame.
+pub(crate) fn put_capture_line(
+    lines: &mut Vec<u8>,
+    words: &[u8],
+    name: &str,
+    capture: &CaptureFound,
+) -> Result<(), AllocError>
+    ensures { OnOk result (lines.new.items ≡ lines.old.items ++ spec.capture_line words.now name.now capture.now.look) }
+{
+    put_words_and_name(lines, words, name)?;
+    put_look(lines, capture.look)?;
+    end_line(lines)
+}
+
+/// Appends a line of words, a message number and its count; a count of 0 has no line.
+pub(crate) fn put_count_line(
+    lines: &mut Vec<u8>,
+    words: &[u8],
+    number: u16,
+    count: u64,
+) -> Result<(), AllocError>
+    ensures { OnOk result (lines.new.items ≡ lines.old.items ++ spec.count_line_of words.now number count) }
+{
+    if count == 0 {
+        return Ok(());
+    }
+    put_named(lines, words, u64::from(number))?;
+    put_named(lines, b" ", count)?;
+    end_line(lines)
+}
+
+// Appends a line for each number of messages that are not read, of so many numbers from a first one.
+fn put_numbered(
+    lines: &mut Vec<u8>,
+    summary: &Summary,
+    words: &[u8],
+    first: u16,
+    count: u16,
+) -> Result<(), AllocError>
+    requires { first + count ≤ 4096 }
+    ensures { (fs : List ReadFrame) → StandsForFrames summary.now fs
+        → OnOk result (lines.new.items ≡ lines.old.items ++ spec.unread_lines_from words.now (faults_in fs) first count) }
+{
+    for at in 0..count {
+        let number = first + at;
+        put_count_line(lines, words, number, summary.others_of(number))?;
+    }
+    Ok(())
+}
+
+// Appends the lines of GPS observations that are not read.
+fn put_unread_gps(lines: &mut Vec<u8>, summary: &Summary) -> Result<(), AllocError>
+    ensures { (fs : List ReadFrame) → StandsForFrames summary.now fs
+        → OnOk result (lines.new.items ≡ lines.old.items ++ spec.unread_gps (faults_in fs)) }
+{
+    put_numbered(lines, summary, b" untaken GPS ", 1001, 3)?;
+    put_numbered(lines, summary, b" untaken GPS ", 1071, 3)?;
+    Ok(())
+}
+
+// Appends the lines of observations of GLONASS, Galileo and SBAS.
+fn put_unread_glonass_to_sbas(lines: &mut Vec<u8>, summary: &Summary) -> Result<(), AllocError>
+    ensures { (fs : List ReadFrame) → StandsForFrames summary.now fs
+        → OnOk result (lines.new.items ≡ lines.old.items ++ spec.unread_glonass_to_sbas (faults_in fs)) }
+{
+    put_numbered(lines, summary, b" untaken GLONASS ", 1009, 4)?;
+    put_numbered(lines, summary, b" untaken GLONASS ", 1081, 7)?;
+    put_numbered(lines, summary, b" untaken Galileo ", 1091, 7)?;
+    put_numbered(lines, summary, b" untaken SBAS ", 1101, 7)?;
+    Ok(())
+}
+
+// Appends the lines of observations of QZSS, BeiDou and NavIC.
+fn put_unread_qzss_to_navic(lines: &mut Vec<u8>, summary: &Summary) -> Result<(), AllocError>
+    ensures { (fs : List ReadFrame) → StandsForFrames summary.now fs
+        → OnOk result (lines.new.items ≡ lines.old.items ++ spec.unread_qzss_to_navic (faults_in fs)) }
+{
+    put_numbered(lines, summary, b" untaken QZSS ", 1111, 7)?;
+    put_numbered(lines, summary, b" untaken BeiDou ", 1121, 7)?;
+    put_numbered(lines, summary, b" untaken NavIC ", 1131, 7)?;
+    Ok(())
+}
+
+/// Appends the lines of observations that are not read: of GPS and of other systems.
+pub(crate) fn put_unread(lines: &mut Vec<u8>, summary: &Summary) -> Result<(), AllocError>
+    ensures { (fs : List ReadFrame) → StandsForFrames summary.now fs
+        → OnOk result (lines.new.items ≡ lines.old.items ++ spec.all_unread (faults_in fs)) }
+{
+    put_unread_gps(lines, summary)?;
+    put_unread_glonass_to_sbas(lines, summary)?;
+    put_unread_qzss_to_navic(lines, summary)?;
+    Ok(())
+}
+
+// Appends the line of an MSM that is not taken, if there is a message of it.
+fn put_msm(
+    lines: &mut Vec<u8>,
+    summary: &Summary,
+    station: u16,
+    taken: MsmKind,
+    msm: MsmKind,
+) -> Result<(), AllocError>
+    requires { station < 4096 }
+    ensures { (fs : List ReadFrame) → StandsForFrames summary.now fs
+        → OnOk result (lines.new.items ≡ lines.old.items ++ spec.msm_line taken (messages_from station (messages_in fs)) msm) }
+{
+    if msm.number() == taken.number() {
+        return Ok(());
+    }
+    let count = summary.messages_of(station, msm);
+    put_count_line(lines, b" untaken GPS ", msm.number(), count)
+}
+
+/// Appends the lines of the MSM of a station that are not taken.
+pub(crate) fn put_msms(
+    lines: &mut Vec<u8>,
+    summary: &Summary,
+    station: u16,
+    taken: MsmKind,
+) -> Result<(), AllocError>
+    requires { station < 4096 }
+    ensures { (fs : List ReadFrame) → StandsForFrames summary.now fs
+        → OnOk result (lines.new.items ≡ lines.old.items ++ spec.msm_lines taken (messages_from station (messages_in fs))) }
+{
+    put_msm(lines, summary, station, taken, MsmKind::Msm4)?;
+    put_msm(lines, summary, station, taken, MsmKind::Msm5)?;
+    put_msm(lines, summary, station, taken, MsmKind::Msm6)?;
+    put_msm(lines, summary, station, taken, MsmKind::Msm7)?;
+    Ok(())
+}
+
+// Appends the line of a station, if it has a mark.
+fn put_station(lines: &mut Vec<u8>, station: usize, marked: bool) -> Result<(), AllocError>
+    ensures { OnOk result (lines.new.items ≡ lines.old.items ++ spec.marked_line station marked) }
+{
+    if !marked {
+        return Ok(());
+    }
+    put_named(lines, b" station ", station as u64)?;
+    end_line(lines)
+}
+
+/// Appends the lines of the stations that have a mark.
+pub(crate) fn put_stations(lines: &mut Vec<u8>, marks: &[bool]) -> Result<(), AllocError>
+    ensures { OnOk result (lines.new.items ≡ lines.old.items ++ spec.marked_lines 0 marks.now) }
+{
+    for (station, marked) in marks.iter().enumerate() {
+        put_station(lines, station, *marked)?;
+    }
+    Ok(())
+}
+
+/// Appends the line of a first epoch that a capture tells.
+pub(crate) fn put_date_line(
+    lines: &mut Vec<u8>,
+    told: &Told,
+    name: &str,
+) -> Result<(), AllocError> {
+    let Some(first) = GpsMs::new(told.first) else {
+        return Ok(());
+    };
+    lines.push(b' ')?;
+    put_time(lines, first)?;
+    put_message(lines, told.message)?;
+    put_name_line(lines, b" in ", name)
+}
+
+// Appends a coordinate, whose unit is 0.0001 m, in metres.
+fn put_coordinate(lines: &mut Vec<u8>, value: i64) -> Result<(), AllocError> {
+    lines.push(b' ')?;
+    if value < 0 {
+        lines.push(b'-')?;
+    }
+    let value = value.unsigned_abs();
+    put_number(lines, value / 10_000)?;
+    put_named(lines, b".", value / 1_000 % 10)?;
+    put_number(lines, value / 100 % 10)?;
+    put_number(lines, value / 10 % 10)?;
+    put_number(lines, value % 10)
+}
+
+/// Appends the line of the position that a capture tells, in metres.
+pub(crate) fn put_position_line(
+    lines: &mut Vec<u8>,
+    point: &ReferencePoint,
+    name: &str,
+) -> Result<(), AllocError> {
+    lines.extend_from_slice(b" position")?;
+    put_coordinate(lines, point.x)?;
+    put_coordinate(lines, point.y)?;
+    put_coordinate(lines, point.z)?;
+    put_name_line(lines, b" in ", name)
+}

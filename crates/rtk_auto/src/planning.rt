@@ -1,0 +1,275 @@
+//! What a conversion of captures is told, from what they tell and what words say.
+
+ghost use Rattle.std.specs.Prelude.{◌≡◌, ◌<◌, ℕ, List, Some, [], true, false, length, IfOk, IfErr};
+ghost use Rattle.rtk_obs.specs.CivilText.{last_digits};
+ghost use Rattle.rtk_rinex.specs.Header.{IsHeadView};
+ghost use Rattle.rtk_summary.specs.ReadFrames.{ReadFrame};
+ghost use Rattle.rtk_summary.specs.Standing.{StandsForFrames};
+ghost use Rattle.rtk_find.specs.Captures.{StandsForCaptures};
+ghost use Rattle.rtk_find.specs.ChosenStation.{IsMarked};
+ghost use Rattle.rtk_auto.specs.Causes.{IfRefused, IsStationCause, IsEmptyCause, IsSetupCause, AreGoodLinks, IsLinksCause, IsCauseOf};
+ghost use Rattle.rtk_auto.specs.Kept.{empty_captures};
+ghost use Rattle.rtk_auto.specs.Linking.{places_of, AreLinksOf};
+ghost use Rattle.rtk_auto.specs.Plan.{IsChosenStation, msm_chosen, codes_chosen, marker_chosen, IsNearOf, ArePlaced, IsInReach, IsSetupFor};
+
+use crate::captured::Captured;
+use crate::dating::{Dating, date_captures};
+use crate::kept::empty_captures;
+use crate::linking::{links_as_given, links_found};
+use crate::refusal::{PlanFault, Refusal, refused};
+use crate::span_line::DatedSpan;
+use crate::wanted::Wanted;
+use rtk_convert::Setup;
+use rtk_find::{StationFound, only_station};
+use rtk_message::MsmKind;
+use rtk_obs::{Code, GpsMs};
+use rtk_rinex::Head;
+use rtk_summary::Summary;
+use std::alloc::Global;
+
+/// What a conversion of captures is told.
+#[derive(Drop)]
+pub struct Plan {
+    pub setup: Setup,
+    /// The epochs of the station.
+    pub span: DatedSpan,
+    /// The captures of each link, in order, by their places as they were given.
+    pub links: Vec<Vec<usize>>,
+    /// The places of the captures that are left out.
+    pub skipped: Vec<usize>,
+}
+
+fn is_marked(marks: &[bool], station: u16) -> bool
+    ensures marked { result ≡ true → IsMarked marks.now station }
+    ensures unmarked { result ≡ false → ¬ (IsMarked marks.now station) }
+{
+    let place = usize::from(station);
+    place < marks.len() && marks[place]
+}
+
+// The station that is named, if it has observations.
+fn named_station(
+    alloc: Global,
+    captured: &Captured<'_, '_, '_>,
+    station: u16,
+) -> Result<u16, PlanFault>
+    requires { length captured.now.findings.now.observing.items ≡ 4096 }
+    ensures chosen { IfOk result (IsChosenStation captured.now.findings.now.observing.items (Some station)) }
+    ensures refused { IfErr result (IfRefused (IsStationCause captured.now.findings.now.observing.items (Some station))) }
+{
+    let marks = captured.findings.observing.as_slice();
+    if is_marked(marks, station) {
+        return Ok(station);
+    }
+    match only_station(marks) {
+        StationFound::None => refused(Refusal::NoObservation, captured.list_unread(alloc)?),
+        _ => refused(
+            Refusal::NoStation { station },
+            captured.list_stations(alloc)?,
+        ),
+    }
+}
+
+// The station that is converted.
+fn station_to_convert(
+    alloc: Global,
+    captured: &Captured<'_, '_, '_>,
+    named: Option<u16>,
+) -> Result<u16, PlanFault>
+    requires { length captured.now.findings.now.observing.items ≡ 4096 }
+    ensures chosen { IfOk result (IsChosenStation captured.now.findings.now.observing.items named) }
+    ensures bound { IfOk result (λ n. n < 4096) }
+    ensures refused { IfErr result (IfRefused (IsStationCause captured.now.findings.now.observing.items named)) }
+{
+    if let Some(station) = named {
+        return named_station(alloc, captured, station);
+    }
+    match only_station(captured.findings.observing.as_slice()) {
+        StationFound::One(station) => Ok(station),
+        StationFound::Several => {
+            refused(Refusal::SeveralStations, captured.list_stations(alloc)?)
+        }
+        StationFound::None => refused(Refusal::NoObservation, captured.list_unread(alloc)?),
+    }
+}
+
+// The captures that have nothing of the station; there may be none, unless they are to be left out.
+fn captures_to_skip(
+    alloc: Global,
+    captured: &Captured<'_, '_, '_>,
+    station: u16,
+    skip_empty: bool,
+) -> Result<Vec<usize>, PlanFault>
+    ensures skipped { IfOk result (λ places. places.items ≡ empty_captures station captured.now.findings.now.captures.items) }
+    ensures none { IfOk result (λ places. skip_empty ≡ false → places.items ≡ []) }
+    ensures refused { IfErr result (IfRefused (IsEmptyCause station captured.now.findings.now.captures.items skip_empty)) }
+{
+    let empty = empty_captures(alloc, station, captured.captures())?;
+    if !skip_empty && !empty.is_empty() {
+        return refused(
+            Refusal::Empty { station },
+            captured.list_empty(alloc, station)?,
+        );
+    }
+    Ok(empty)
+}
+
+// The codes that are converted.
+fn codes_to_convert(
+    alloc: Global,
+    captured: &Captured<'_, '_, '_>,
+    station: u16,
+    msm: MsmKind,
+    wanted: &Option<Vec<Code>>,
+) -> Result<Vec<Code>, PlanFault>
+    requires { station < 4096 }
+    ensures codes { (fs : List ReadFrame) → StandsForFrames captured.now.findings.now.summary fs
+        → IfOk result (λ codes. codes.items ≡ codes_chosen wanted.now fs station msm) }
+    ensures refused { IfErr result (IfRefused (λ refusal. (refusal ≡ Refusal.NoCode)
+        × ((fs : List ReadFrame) → StandsForFrames captured.now.findings.now.summary fs → codes_chosen wanted.now fs station msm ≡ []))) }
+{
+    if let Some(codes) = wanted {
+        return Ok(Vec::from_slice(alloc, codes.as_slice())?);
+    }
+    let codes = captured.findings.summary.codes_of(alloc, station, msm)?;
+    if codes.is_empty() {
+        return refused(Refusal::NoCode, Vec::new(alloc));
+    }
+    Ok(codes)
+}
+
+// The four digits of a station's number.
+fn marker_of(station: u16) -> [u8; 4]
+    ensures { result ≡ last_digits 4 station }
+{
+    let digit = |number: u16| b'0' + (number % 10) as u8;
+    [
+        digit(station / 10 / 10 / 10),
+        digit(station / 10 / 10),
+        digit(station / 10),
+        digit(station),
+    ]
+}
+
+// The head of the file.
+fn head_of(
+    alloc: Global,
+    station: u16,
+    marker: Option<&str>,
+    codes: &[Code],
+    made: GpsMs,
+) -> Result<Head, PlanFault>
+    ensures good { IfOk result IsHeadView }
+    ensures head { IfOk result (λ head. head ≡ record { marker = marker_chosen marker.entry station; listed = codes.now; made = made }) }
+    ensures refused { IfErr result (IfRefused (λ refusal. (refusal ≡ Refusal.NoCode)
+        × ¬ (IsHeadView (record { marker = marker_chosen marker.entry station; listed = codes.now; made = made })))) }
+{
+    let digits = marker_of(station);
+    let marker = match marker {
+        Some(marker) => marker.as_bytes(),
+        None => digits.as_slice(),
+    };
+    match Head::new(marker, codes, made) {
+        Ok(head) => Ok(head),
+        Err(_fault) => refused(Refusal::NoCode, Vec::new(alloc)),
+    }
+}
+
+// The MSM that is converted.
+fn msm_to_convert(summary: &Summary, wanted: Option<MsmKind>, station: u16) -> MsmKind
+    requires { station < 4096 }
+    ensures { (fs : List ReadFrame) → StandsForFrames summary.now fs → result ≡ msm_chosen wanted fs station }
+{
+    match wanted {
+        Some(msm) => msm,
+        None => summary.msm_of(station),
+    }
+}
+
+// What the conversion of a station near this moment is told.
+fn setup_near(
+    alloc: Global,
+    captured: &Captured<'_, '_, '_>,
+    wanted: &Wanted<'_>,
+    made: GpsMs,
+    station: u16,
+    near: GpsMs,
+) -> Result<Setup, PlanFault>
+    requires bound { station < 4096 }
+    requires chosen { IsChosenStation captured.now.findings.now.observing.items wanted.now.station station }
+    requires near { IsNearOf wanted.now.near captured.now.findings.now.captures.items near }
+    ensures setup { IfOk result (IsSetupFor captured.now.findings.now wanted.now made) }
+    ensures station { IfOk result (λ setup. (setup.station ≡ station) × (setup.near ≡ near)) }
+    ensures refused { IfErr result (IfRefused (IsSetupCause captured.now.findings.now wanted.now made station near)) }
+{
+    let msm = msm_to_convert(&captured.findings.summary, wanted.msm, station);
+    let codes = codes_to_convert(alloc, captured, station, msm, &wanted.codes)?;
+    let head = head_of(alloc, station, wanted.marker, codes.as_slice(), made)?;
+    match Setup::new(station, near, head, usize::from(wanted.window)) {
+        Ok(setup) => Ok(setup.with_msm(msm)),
+        Err(_fault) => refused(Refusal::OutsideDates, Vec::new(alloc)),
+    }
+}
+
+// The links of the captures.
+fn links_to_convert(
+    alloc: Global,
+    captured: &Captured<'_, '_, '_>,
+    station: u16,
+    near: Option<GpsMs>,
+    dating: &Dating,
+    as_given: bool,
+) -> Result<Vec<Vec<usize>>, PlanFault>
+    requires { ArePlaced near captured.now.findings.now.captures.items dating.now.placed.items }
+    ensures links { IfOk result (λ links. AreLinksOf as_given near station captured.now.findings.now.captures.items (places_of links.items)) }
+    ensures good { IfOk result (λ links. AreGoodLinks as_given captured.now.findings.now.captures.items (places_of links.items)) }
+    ensures refused { IfErr result (IfRefused (λ refusal. (links : List (List ℕ))
+        × AreLinksOf as_given near station captured.now.findings.now.captures.items links
+        × IsLinksCause as_given captured.now.findings.now.captures.items links refusal)) }
+{
+    if as_given {
+        links_as_given(alloc, captured, station)
+    } else {
+        links_found(alloc, captured, station, dating.placed.as_slice())
+    }
+}
+
+/// What a conversion of the captures that were read is told, or why they have no plan: the first cause
+/// that holds. Its file is made at this moment.
+pub fn plan_of(
+    alloc: Global,
+    captured: &Captured<'_, '_, '_>,
+    wanted: &Wanted<'_>,
+    made: GpsMs,
+    skip_empty: bool,
+    as_given: bool,
+) -> Result<Plan, PlanFault>
+    requires { (fs : List ReadFrame) × StandsForCaptures made fs captured.now.findings.now }
+    // What a plan has.
+    ensures setup { IfOk result (λ plan. IsSetupFor captured.now.findings.now wanted.now made plan.setup) }
+    ensures in_reach { IfOk result (λ plan. IsInReach wanted.now.near captured.now.findings.now.captures.items plan.setup.near) }
+    ensures links { IfOk result (λ plan. AreLinksOf as_given wanted.now.near plan.setup.station
+        captured.now.findings.now.captures.items (places_of plan.links.items)) }
+    ensures good_links { IfOk result (λ plan. AreGoodLinks as_given captured.now.findings.now.captures.items (places_of plan.links.items)) }
+    ensures skipped { IfOk result (λ plan. plan.skipped.items
+        ≡ empty_captures plan.setup.station captured.now.findings.now.captures.items) }
+    ensures none_skipped { IfOk result (λ plan. skip_empty ≡ false → plan.skipped.items ≡ []) }
+
+    // A refusal comes only with its cause.
+    ensures refused { IfErr result (IfRefused (IsCauseOf captured.now.findings.now wanted.now made skip_empty as_given)) }
+{
+    if captured.findings.summary.frames() == 0 {
+        return refused(Refusal::NoFrame, captured.list_all(alloc)?);
+    }
+    let station = station_to_convert(alloc, captured, wanted.station)?;
+    let skipped = captures_to_skip(alloc, captured, station, skip_empty)?;
+    let dating = date_captures(alloc, captured, wanted.near, station)?;
+    let setup = setup_near(alloc, captured, wanted, made, station, dating.near)?;
+    let links = links_to_convert(alloc, captured, station, wanted.near, &dating, as_given)?;
+    Ok(Plan {
+        setup,
+        span: dating.span,
+        links,
+        skipped,
+    })
+}

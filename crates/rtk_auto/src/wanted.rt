@@ -1,0 +1,39 @@
+//! What the words of `auto` say.
+
+ghost use Rattle.std.specs.Option.{ForSome};
+ghost use Rattle.rtk_convert.specs.Setup.{IsStation, IsWindow};
+
+use rtk_message::MsmKind;
+use rtk_obs::{Code, GpsMs};
+
+/// What the words say of the values of a conversion. `None` is to be found in the captures.
+#[derive(Drop)]
+pub struct Wanted<'a> {
+    pub station: Option<u16>,
+    pub msm: Option<MsmKind>,
+    pub codes: Option<Vec<Code>>,
+    /// The reference near which times of week are dated.
+    pub near: Option<GpsMs>,
+    /// The marker's name; if there is none, the station's number stands for it.
+    pub marker: Option<&'a str>,
+    /// How many epochs are kept open.
+    pub window: u16,
+
+    ghost station_fits: { ForSome station IsStation },
+    ghost window_fits: { IsWindow window },
+}
+
+/// What the words say of the captures, of the file and of the report.
+#[derive(Clone, Copy, Debug, PartialEq, Eq)]
+pub struct Ways<'a> {
+    /// The name of the file that is written; `None` is standard output.
+    pub output: Option<&'a str>,
+    /// A file of that name is replaced.
+    pub force: bool,
+    /// Captures in which nothing of the station was found are left out.
+    pub skip_empty: bool,
+    /// Each capture is a link, and positions are not compared.
+    pub links_as_given: bool,
+    /// The report is shown.
+    pub report: bool,
+}

@@ -1,0 +1,66 @@
+//! The marks of a code of a satellite.
+
+ghost use Rattle.std.specs.Prelude.{◌≡◌};
+ghost use Rattle.rtk_chart.specs.Grid.{no_marks};
+ghost use Rattle.rtk_chart.specs.Steps.Shown.{called_for, both_marks};
+
+use crate::observations::{lesser, level_of};
+use rtk_rinex::Observed;
+
+/// What the epochs of a bin call for.
+#[derive(Clone, Copy)]
+pub(crate) struct CodeMarks {
+    /// The phase stands.
+    pub(crate) phase: bool,
+    /// The phase is missing where another phase of the satellite stands.
+    pub(crate) missing: bool,
+    pub(crate) slip: bool,
+    pub(crate) rise: bool,
+    pub(crate) half: bool,
+    /// The least strength digit.
+    pub(crate) least: Option<u8>,
+}
+
+impl CodeMarks {
+    /// No epoch came.
+    pub(crate) fn new() -> CodeMarks
+        ensures { result ≡ no_marks }
+    {
+        CodeMarks {
+            phase: false,
+            missing: false,
+            slip: false,
+            rise: false,
+            half: false,
+            least: None,
+        }
+    }
+
+    /// What an epoch calls for: the satellite has a phase or none, and the code had one earlier in the
+    /// pass or had none.
+    pub(crate) fn of(observed: Observed, has_phase: bool, known: bool) -> CodeMarks
+        ensures { result ≡ called_for observed has_phase known }
+    {
+        let phase = observed.phase_millicycles.is_some();
+        CodeMarks {
+            phase,
+            missing: has_phase && !phase,
+            slip: observed.slip && known,
+            rise: observed.slip && !known,
+            half: observed.half,
+            least: level_of(observed.strength_millidbhz),
+        }
+    }
+
+    /// Adds the marks of one more epoch.
+    pub(crate) fn add(&mut self, more: CodeMarks)
+        ensures { self.new ≡ both_marks more self.old }
+    {
+        self.phase = more.phase || self.phase;
+        self.missing = more.missing || self.missing;
+        self.slip = more.slip || self.slip;
+        self.rise = more.rise || self.rise;
+        self.half = more.half || self.half;
+        self.least = lesser(more.least, self.least);
+    }
+}

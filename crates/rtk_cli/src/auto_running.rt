@@ -1,0 +1,332 @@
+//! The command `auto`: it reads the captures, finds what their conversion is told, converts them, and
+//! says how it went.
+
+ghost use Rattle.std.specs.Prelude.{◌≡◌, ◌≤◌, List, IfOk, IfErr, IsOk, IsTrue};
+ghost use Rattle.rtk_convert.specs.Failure.{IsRunFault};
+ghost use Rattle.rtk_summary.specs.ReadFrames.{ReadFrame};
+ghost use Rattle.rtk_find.specs.Captures.{StandsForCaptures};
+ghost use Rattle.rtk_streams.specs.declared.exit_status.TheConstants.{NOT_VALID};
+
+use crate::auto_converting::convert_joined;
+use crate::auto_looking::{look_at_files, made_at};
+use crate::auto_reading::{Told, read_captures};
+use crate::auto_refusing::fail_output;
+use crate::converting::{Converted, conversion_status};
+use crate::words::AutoWords;
+use rtk_auto::{
+    Captured, Known, Plan, PlanFault, Ways, plan_of, put_command, put_counts, put_known, put_span,
+    what_is_known,
+};
+use rtk_convert::{Counts, Setup};
+use rtk_obs::GpsMs;
+use rtk_streams::{
+    DONE, Later, NOT_VALID, Quiet, ToolFault, fail, let_go, make_beside, name_whole,
+};
+use std::alloc::{AllocError, Global};
+use std::env::Env;
+use std::fs::Files;
+use std::io;
+use std::io::Write;
+use std::time::Clock;
+
+// Writes lines to standard error.
+fn tell<R: Eprint, W: Write>(rt: &R, report: &mut W, lines: &[u8]) -> Result<(), u8>
+    ensures { IfErr result (λ status. status ≤ NOT_VALID) }
+{
+    match report.write_all(lines) {
+        Ok(()) => Ok(()),
+        Err(_) => Err(fail(rt, ToolFault::Output)),
+    }
+}
+
+// Says why the captures have no plan.
+fn fail_plan<R: Eprint, W: Write>(rt: &R, report: &mut W, fault: PlanFault) -> u8
+    ensures { result ≤ NOT_VALID }
+{
+    let PlanFault::Refused { refusal, list } = fault else {
+        return fail(rt, ToolFault::OutOfMemory);
+    };
+    let _told = eprintln!(rt; "rtcm2rinex: {refusal}");
+    let _listed = report.write_all(list.as_slice());
+    NOT_VALID
+}
+
+// The names of the captures of each link.
+fn names_of_links<'a>(
+    alloc: Global,
+    links: &[Vec<usize>],
+    names: &[&'a str],
+) -> Result<Vec<Vec<&'a str>>, AllocError> {
+    let mut all = Vec::new(alloc);
+    for link in links {
+        let mut captures = Vec::new(alloc);
+        for place in link {
+            captures.push(names.get(*place).copied().unwrap_or(""))?;
+        }
+        all.push(captures)?;
+    }
+    Ok(all)
+}
+
+// The files of the captures of all links, one after another.
+fn files_of<'a, R: Files>(
+    alloc: Global,
+    rt: &'a R,
+    links: &[Vec<&'a str>],
+) -> Result<Vec<Later<'a, R>>, AllocError> {
+    let mut files = Vec::new(alloc);
+    for link in links {
+        for name in link {
+            files.push(Later::new(rt, *name))?;
+        }
+    }
+    Ok(files)
+}
+
+// Values in groups as large as the links.
+fn grouped<T: Drop>(
+    alloc: Global,
+    values: Vec<T>,
+    links: &[Vec<&str>],
+) -> Result<Vec<Vec<T>>, AllocError> {
+    let mut groups = Vec::new(alloc);
+    let mut rest = values.into_iter();
+    for link in links {
+        let mut group = Vec::new(alloc);
+        for _name in link {
+            if let Some(value) = rest.next() {
+                group.push(value)?;
+            }
+        }
+        groups.push(group)?;
+    }
+    Ok(groups)
+}
+
+// The files of the captures of each link.
+fn files_of_links<'a, R: Files>(
+    alloc: Global,
+    rt: &'a R,
+    links: &[Vec<&'a str>],
+) -> Result<Vec<Vec<Later<'a, R>>>, AllocError> {
+    let files = files_of(alloc, rt, links)?;
+    grouped(alloc, files, links)
+}
+
+// What is said after the conversion: the counts, unless the report has them, and what a person should
+// know.
+fn said_after(
+    alloc: Global,
+    counts: &Counts,
+    known: &Known,
+    is_reported: bool,
+) -> Result<Vec<u8>, AllocError> {
+    let mut lines = Vec::new(alloc);
+    if !is_reported {
+        put_counts(&mut lines, counts)?;
+    }
+    put_known(&mut lines, known, counts)?;
+    Ok(lines)
+}
+
+// The exit status of a conversion that is done.
+fn done_status<R: Eprint>(rt: &R, counts: &Counts) -> u8
+    ensures no_epoch { counts.now.epochs ≡ 0 → result ≡ NOT_VALID }
+    ensures bound { result ≤ NOT_VALID }
+{
+    if counts.epochs == 0 {
+        let _told = eprintln!(rt; "rtcm2rinex: no record came; the file is a header alone");
+        return NOT_VALID;
+    }
+    DONE
+}
+
+/// What is known of a conversion before it begins.
+#[derive(Drop)]
+struct Work<'a> {
+    setup: Setup,
+    /// The names of the captures of each link.
+    links: Vec<Vec<&'a str>>,
+    known: Known,
+}
+
+// Converts to a writer, which is handed back with the counts, and says how it went.
+fn convert_to<R: Files + Eprint + AllocGlobal, O: Write + Drop, W: Write + Drop>(
+    rt: &R,
+    work: Work<'_>,
+    out: O,
+    report: W,
+    is_reported: bool,
+) -> Result<(O, Counts), u8>
+    ensures { IfErr result (λ status. status ≤ NOT_VALID) }
+{
+    let Ok(files) = files_of_links(rt.alloc(), rt, work.links.as_slice()) else {
+        return Err(fail(rt, ToolFault::OutOfMemory));
+    };
+    let report = Quiet::new(report, !is_reported);
+    let converted = match convert_joined(rt.alloc(), work.setup, files, out, report) {
+        Ok(converted) => converted,
+        Err(fault) => return Err(fail(rt, fault)),
+    };
+    finish(rt, converted, &work.known, is_reported)
+}
+
+// Says how a conversion went.
+fn finish<R: Eprint + AllocGlobal, O: Write + Drop, W: Write + Drop>(
+    rt: &R,
+    converted: Converted<O, Quiet<W>>,
+    known: &Known,
+    is_reported: bool,
+) -> Result<(O, Counts), u8>
+    requires { IfErr converted.done IsRunFault }
+    ensures whole { IsOk result → IsOk converted.done × IsTrue converted.is_out }
+    ensures status { IfErr result (λ status. status ≤ NOT_VALID) }
+{
+    let counts = match converted.done {
+        Ok(counts) if converted.is_out => counts,
+        done => return Err(conversion_status(rt, done, converted.is_out)),
+    };
+    let Ok(lines) = said_after(rt.alloc(), &counts, known, is_reported) else {
+        return Err(fail(rt, ToolFault::OutOfMemory));
+    };
+    let mut report = converted.report.into_inner();
+    tell(rt, &mut report, lines.as_slice())?;
+    Ok((converted.out, counts))
+}
+
+// Converts to a file beside this name, which gets the name once it is whole.
+#[inline(never)]
+fn convert_to_file<R: Files + Eprint + AllocGlobal, W: Write + Drop>(
+    rt: &R,
+    work: Work<'_>,
+    report: W,
+    name: &str,
+    ways: &Ways<'_>,
+) -> u8
+    ensures { result ≤ NOT_VALID }
+{
+    let beside = match make_beside(rt, name) {
+        Ok(beside) => beside,
+        Err(fault) => return fail_output(rt, name, fault),
+    };
+    let (file, counts) = match convert_to(rt, work, beside.file, report, ways.report) {
+        Ok(done) => done,
+        Err(status) => {
+            let_go(rt, beside.name.as_str());
+            return status;
+        }
+    };
+    match name_whole(rt, file, beside.name.as_str(), name, ways.force) {
+        Ok(()) => done_status(rt, &counts),
+        Err(fault) => fail_output(rt, name, fault),
+    }
+}
+
+// Converts to standard output.
+#[inline(never)]
+fn convert_to_output<R: Files + Print + Eprint + AllocGlobal, W: Write + Drop>(
+    rt: &R,
+    work: Work<'_>,
+    report: W,
+    ways: &Ways<'_>,
+) -> u8
+    ensures { result ≤ NOT_VALID }
+{
+    match convert_to(rt, work, io::writer(rt), report, ways.report) {
+        Ok((_out, counts)) => done_status(rt, &counts),
+        Err(status) => status,
+    }
+}
+
+// The conversion of a plan, once it is said what it is.
+fn work_of<'a>(
+    alloc: Global,
+    captured: &Captured<'_, '_, '_>,
+    names: &[&'a str],
+    plan: Plan,
+    lines: &mut Vec<u8>,
+) -> Result<Work<'a>, AllocError> {
+    let links = names_of_links(alloc, plan.links.as_slice(), names)?;
+    put_span(lines, &plan.span)?;
+    put_command(lines, &plan.setup, links.as_slice())?;
+    let known = what_is_known(alloc, captured, &plan)?;
+    Ok(Work {
+        setup: plan.setup,
+        links,
+        known,
+    })
+}
+
+// The conversion of captures that were read, once it is said what it is.
+fn begin_told<'a, R: Eprint + AllocGlobal, W: Write>(
+    rt: &R,
+    report: &mut W,
+    words: &AutoWords<'_>,
+    names: &[&'a str],
+    told: &Told,
+    made: GpsMs,
+) -> Result<Work<'a>, u8>
+    requires { (fs : List ReadFrame) × StandsForCaptures made fs told.now.findings }
+    ensures { IfErr result (λ status. status ≤ NOT_VALID) }
+{
+    let captured = Captured {
+        findings: &told.findings,
+        names,
+        differing: told.differing.as_slice(),
+    };
+    let ways = &words.ways;
+    let plan = plan_of(
+        rt.alloc(),
+        &captured,
+        &words.wanted,
+        made,
+        ways.skip_empty,
+        ways.links_as_given,
+    );
+    let plan = match plan {
+        Ok(plan) => plan,
+        Err(fault) => return Err(fail_plan(rt, report, fault)),
+    };
+    let mut lines = Vec::new(rt.alloc());
+    let Ok(work) = work_of(rt.alloc(), &captured, names, plan, &mut lines) else {
+        return Err(fail(rt, ToolFault::OutOfMemory));
+    };
+    tell(rt, report, lines.as_slice())?;
+    Ok(work)
+}
+
+// Looks at the files, reads the captures, finds what their conversion is told, and says it. What was
+// read is let go here, before the conversion begins.
+#[inline(never)]
+fn begin<'a, R: Env + Clock + Files + Input + Eprint + AllocGlobal, W: Write>(
+    rt: &R,
+    report: &mut W,
+    words: &AutoWords<'_>,
+    names: &[&'a str],
+) -> Result<Work<'a>, u8>
+    ensures { IfErr result (λ status. status ≤ NOT_VALID) }
+{
+    look_at_files(rt, names, words.ways.output, words.ways.force)?;
+    let made = made_at(rt, words.made)?;
+    let told = read_captures(rt, made, words.wanted.station, names)?;
+    begin_told(rt, report, words, names, &told, made)
+}
+
+/// Converts captures of one station; what the conversion is told is found in them.
+#[inline(never)]
+pub(crate) fn auto_captures<
+    R: Env + Clock + Files + Input + Print + Eprint + AllocGlobal,
+    W: Write + Drop,
+>(rt: &R, report: W, words: &AutoWords<'_>, names: &[&str]) -> u8
+    ensures { result ≤ NOT_VALID }
+{
+    let mut report = report;
+    let work = match begin(rt, &mut report, words, names) {
+        Ok(work) => work,
+        Err(status) => return status,
+    };
+    match words.ways.output {
+        Some(name) => convert_to_file(rt, work, report, name, &words.ways),
+        None => convert_to_output(rt, work, report, &words.ways),
+    }
+}

@@ -1,0 +1,34 @@
+//! A text that `check` accepts without the label that it has, perhaps a blank one.
+
+ghost use Rattle.std.specs.Prelude.{◌≡◌, ℕ, length, IfOk, IfErr};
+ghost use Rattle.rtk_commands.specs.WithLabel.{IsPartedTable, IsRefused};
+
+use rtk_label::{Label, unlabel};
+use rtk_rinex::{CheckFault, Table, check};
+
+/// A file without its label, and the label.
+#[derive(Drop)]
+pub(crate) struct LabelledTable<'a> {
+    pub(crate) label: Label,
+    pub(crate) table: Table<'a>,
+}
+
+/// The table of a text, whose label is taken from it in its place. Else the first fault, with the
+/// number of the line in the text as it was.
+pub(crate) fn table_with_label<'a>(text: &'a mut [u8]) -> Result<LabelledTable<'a>, CheckFault>
+    ensures parted { IfOk result (λ read. IsPartedTable text.old read.table.text read.label) }
+    ensures refused { IfErr result (IsRefused text.old) }
+{
+    let unlabelled = unlabel(text);
+    let (_, plain) = text.split_at(unlabelled.from);
+    match check(plain) {
+        Ok(table) => Ok(LabelledTable {
+            label: unlabelled.label,
+            table,
+        }),
+        Err(fault) => Err(CheckFault {
+            line: unlabelled.line(fault.line),
+            cause: fault.cause,
+        }),
+    }
+}

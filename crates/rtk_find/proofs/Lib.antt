@@ -1,0 +1,7 @@
+pub mod FoundLemmas
+pub mod HeardLemmas
+pub mod LinkLemmas
+pub mod MarkLemmas
+pub mod PhaseLemmas
+pub mod PointLemmas
+pub mod StationLemmas

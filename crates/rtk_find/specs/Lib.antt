@@ -1,0 +1,9 @@
+pub mod Captures
+pub mod ChosenStation
+pub mod Dating
+pub mod Finding
+pub mod Heard
+pub mod Joining
+pub mod Phases
+pub mod Points
+pub mod Steps

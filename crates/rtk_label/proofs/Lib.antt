@@ -1,0 +1,14 @@
+mod PieceLemmas
+mod ChoiceLemmas
+mod TrimLemmas
+mod FieldLemmas
+mod OffsetLemmas
+mod LineLemmas
+mod FrontLemmas
+mod GlueLemmas
+mod NumberLemmas
+mod PlainLemmas
+mod TableLemmas
+mod PartedLemmas
+mod WriteLemmas
+mod LawLemmas

@@ -1,0 +1,6 @@
+pub mod Fields
+pub mod Labelled
+pub mod LabelFault
+pub mod LabelLaws
+pub mod LabelWriting
+pub mod Steps

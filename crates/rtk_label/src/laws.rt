@@ -1,0 +1,32 @@
+//! Laws over the definition of a header with fields.
+//!
+//! Each function here does nothing but call laws. Its contract is the law, and a caller that calls it
+//! may cite it.
+
+ghost use Rattle.rtk_label.specs.LabelLaws.{BlankIsFile, FrontIsChanged, LabelsAreTold, RecordsStay};
+
+use rtk_rinex::text_of_a_table;
+
+/// With a blank label the text is that of the file itself.
+pub fn blank_is_file()
+    ensures { BlankIsFile }
+{}
+
+/// A labelled text has one label and one table: a blank label in place of the label gives the file
+/// back.
+pub fn labels_are_told()
+    ensures { LabelsAreTold }
+{
+    text_of_a_table();
+}
+
+/// A label changes the first nine lines alone, and these are alike in all files of one head and one
+/// position.
+pub fn front_is_changed()
+    ensures { FrontIsChanged }
+{}
+
+/// Every byte after the header stays.
+pub fn records_stay()
+    ensures { RecordsStay }
+{}

@@ -1,0 +1,59 @@
+//! The fields of a header that no message of the stream tells: an observation file with them, and
+//! without them again.
+//!
+//! ```rust
+//! use rtk_frame::MemSink;
+//! use rtk_label::{Label, LabelParts, is_for, unlabel, write_labelled};
+//! use rtk_obs::{Code, GpsMs, Position};
+//! use rtk_rinex::{Head, check, header};
+//! use std::alloc::{AllocError, Global};
+//!
+//! // A file with an agency is no file of `check`, until the label is taken from it.
+//! fn example(alloc: Global) -> Result<bool, AllocError> {
+//!     let Some(noon) = GpsMs::new(1_399_982_400_000) else {
+//!         return Ok(false);
+//!     };
+//!     let Ok(head) = Head::new(b"BASE", &[Code::C1C], noon) else {
+//!         return Ok(false);
+//!     };
+//!     let Some(position) = Position::new(0, 0, 0, 0) else {
+//!         return Ok(false);
+//!     };
+//!     let file = header(alloc, &head, &position, noon)?;
+//!     let Ok(table) = check(file.as_slice()) else {
+//!         return Ok(false);
+//!     };
+//!     let parts = LabelParts {
+//!         agency: b"NONE",
+//!         ..LabelParts::blank()
+//!     };
+//!     let Ok(label) = Label::new(&parts) else {
+//!         return Ok(false);
+//!     };
+//!     let mut out = MemSink::new(alloc, 65_536, 4_096)?;
+//!     if !is_for(&label, &table) || write_labelled(&label, &table, &mut out).is_err() {
+//!         return Ok(false);
+//!     }
+//!     let mut text = Vec::new(alloc);
+//!     text.extend_from_slice(out.bytes())?;
+//!     let unlabelled = unlabel(text.as_mut_slice());
+//!     Ok(text.as_slice().split_at(unlabelled.from).1 == file.as_slice())
+//! }
+//! ```
+#![tactic(auto)]
+
+mod columns;
+mod fields;
+mod front;
+mod label;
+mod label_fault;
+mod labelled_file;
+mod laws;
+mod unlabelled;
+
+pub use columns::PLAIN_FRONT;
+pub use label::{Label, LabelParts};
+pub use label_fault::LabelFault;
+pub use labelled_file::{is_for, write_front, write_labelled};
+pub use laws::{blank_is_file, front_is_changed, labels_are_told, records_stay};
+pub use unlabelled::{Unlabelled, unlabel};

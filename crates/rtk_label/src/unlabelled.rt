@@ -1,0 +1,132 @@
+//! A text that is parted into a label and a plain text.
+//!
+//! The parts are read from their columns, and these become blank where they show a field. What no
+//! label fills stays as it is, so that `check` finds the first wrong line.
+
+ghost use Rattle.std.specs.Prelude.{◌≡◌, ◌+◌, ◌^◌, ◌<◌, ◌≤◌, ◌++◌, length, drop};
+ghost use Rattle.rtk_label.specs.Fields.{IsField, marker_number_line};
+ghost use Rattle.rtk_label.specs.LabelWriting.{IsParted, line_in_text};
+ghost use Rattle.rtk_label.specs.Steps.Shown.{IsNumberIn, IsLabelIn};
+
+use crate::columns::{FRONT, put_number_line};
+use crate::fields::{Field, columns_at, is_same, read_field, read_offset};
+use crate::front::plain;
+use crate::label::Label;
+use arrayvec::ArrayVec;
+
+/// The bytes of three lines.
+const THREE_LINES: usize = 243;
+
+/// The label of a text, and where its plain text begins.
+#[derive(Drop)]
+pub struct Unlabelled {
+    pub label: Label,
+    /// The number of bytes before the plain text: 81 if the text had a line of the marker's number,
+    /// else none.
+    pub from: usize,
+}
+
+impl Unlabelled {
+    /// The number of a line of the plain text in the text that was parted.
+    pub fn line(&self, line: usize) -> usize
+        ensures { line + 1 < 2 ^ 64 → result ≡ line_in_text self.now.from line }
+    {
+        if self.from == 0 || line <= 3 {
+            line
+        } else {
+            line.saturating_add(1)
+        }
+    }
+}
+
+// The marker's number whose line this is; a blank one if it is the line of none.
+fn read_number(line: &[u8]) -> Field
+    requires { length line.now ≡ 81 }
+    ensures { IsNumberIn line.now result.items }
+{
+    let number = read_field(columns_at(line, 0, 20));
+    let mut written = ArrayVec::new();
+    put_number_line(&mut written, number.as_slice());
+    if !is_same(written.as_slice(), line) {
+        return ArrayVec::new();
+    }
+    number
+}
+
+// The label that three lines, a marker's number and six lines show.
+fn read_label(top: &[u8], number: Field, middle: &[u8]) -> Label
+    requires top { length top.now ≡ 243 }
+    requires number { IsField 20 number.items }
+    requires middle { length middle.now ≡ 486 }
+    ensures { IsLabelIn top.now number.items middle.now result }
+{
+    Label {
+        run_by: read_field(columns_at(top, 101, 20)),
+        marker_number: number,
+        observer: read_field(columns_at(middle, 81, 20)),
+        agency: read_field(columns_at(middle, 101, 40)),
+        receiver_number: read_field(columns_at(middle, 162, 20)),
+        receiver_type: read_field(columns_at(middle, 182, 20)),
+        receiver_version: read_field(columns_at(middle, 202, 20)),
+        antenna_number: read_field(columns_at(middle, 243, 20)),
+        antenna_type: read_field(columns_at(middle, 263, 20)),
+        height: read_offset(columns_at(middle, 405, 14)),
+        east: read_offset(columns_at(middle, 419, 14)),
+        north: read_offset(columns_at(middle, 433, 14)),
+    }
+}
+
+// The bytes of the line of a marker's number, which is absent if there is none.
+fn line_len(number: &[u8]) -> usize
+    ensures blank { length number.now ≡ 0 → result ≡ 0 }
+    ensures filled { 0 < length number.now → result ≡ 81 }
+{
+    if number.len() == 0 { 0 } else { 81 }
+}
+
+// What is read of a text: its label, where its plain text begins, and the first nine lines of this.
+#[derive(Drop)]
+struct Reading {
+    unlabelled: Unlabelled,
+    front: ArrayVec<u8, FRONT>,
+}
+
+fn read(text: &[u8]) -> Reading
+    requires { 810 ≤ length text.now }
+    ensures parted { IsParted text.now (result.front.items ++ drop (result.unlabelled.from + 729) text.now) result.unlabelled.label }
+    ensures from { result.unlabelled.from ≡ length (marker_number_line result.unlabelled.label.marker_number) }
+    ensures line { result.unlabelled.from ≤ 81 }
+    ensures len { length result.front.items ≡ 729 }
+{
+    let number = read_number(columns_at(text, THREE_LINES, 81));
+    let from = line_len(number.as_slice());
+    let top = columns_at(text, 0, THREE_LINES);
+    let middle = columns_at(text, from + THREE_LINES, 486);
+    let label = read_label(top, number, middle);
+    let front = plain(&label, top, middle);
+    Reading {
+        unlabelled: Unlabelled { label, from },
+        front,
+    }
+}
+
+/// Parts a text in its place: what is left from `from` on is the plain text. No byte after the tenth
+/// line is moved.
+pub fn unlabel(text: &mut [u8]) -> Unlabelled
+    ensures len { length text.new ≡ length text.old }
+    ensures rest { drop 810 text.new ≡ drop 810 text.old }
+    ensures from { result.from ≡ length (marker_number_line result.label.marker_number) }
+    ensures within { result.from ≤ length text.new }
+    ensures parted { IsParted text.old (drop result.from text.new) result.label }
+{
+    if text.len() < 810 {
+        return Unlabelled {
+            label: Label::blank(),
+            from: 0,
+        };
+    }
+    let reading = read(text);
+    let from = reading.unlabelled.from;
+    text[from..from + 729].copy_from_slice(reading.front.as_slice());
+    reading.unlabelled
+}

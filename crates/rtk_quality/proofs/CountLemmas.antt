@@ -1,0 +1,129 @@
+-- The counts of codes and passes, an epoch more.
+use Rattle.std.proofs.Common.{◌≡◌, ◌&&◌, not, cond, ℕ, zero, suc, Bool, true, false, List, [], ◌∷◌, Option, None, Some, refl, sym, ap, ◌⊎◌, inl, inr, ◌∙◌}
+use Rattle.std.proofs.lemmas.Bool.{cases_Bool, both_ways, and_from}
+use Rattle.rtk_obs.specs.declared.time.Civil.{Civil}
+use Rattle.rtk_rinex.specs.Reading.{reading_of}
+use Rattle.rtk_rinex.specs.declared.epoch_table.Observed.{Observed}
+use Rattle.rtk_tracking.specs.Passes.{Sighting, has_phase, has_bit_0, last_phase, is_away, begins_pass, is_known, is_slip}
+use Rattle.rtk_quality.specs.Counts.{plus, Noted, shown_at, noted_of, counts_of}
+use Rattle.rtk_quality.specs.SatellitePasses.{phases_in, slips_at, longer, passes_of, epochs_since_phase, epochs_in_passes}
+use Rattle.rtk_quality.specs.Standing.{newest_pass, with_epoch}
+use Rattle.rtk_quality.specs.declared.satellite_counts.PassCounts.{PassCounts}
+use Rattle.rtk_quality.specs.declared.code_counts.CodeCounts.{CodeCounts}
+
+-- a code, an epoch more
+pub code-more : (gap place : ℕ) (before : List Sighting) (s : Sighting) (os : List Observed) (o : Observed) (known : Bool) (old new : CodeCounts)
+    → os ≡ s.observed → o ≡ shown_at place os → known ≡ is_known gap place before s → old ≡ counts_of (noted_of gap place before)
+    → ((ns : List Noted) → old ≡ counts_of ns → new ≡ counts_of (record { observed = o; known = known } ∷ ns))
+    → new ≡ counts_of (noted_of gap place (s ∷ before))
+code-more gap place before s os o known old new same is marked was took =
+    let rest : List Noted = noted_of gap place before in
+    took rest was
+    ∙ ap (λ (x : Observed). counts_of (record { observed = x; known = known } ∷ rest)) (is ∙ ap (λ (xs : List Observed). shown_at place xs) same)
+    ∙ ap (λ (b : Bool). counts_of (record { observed = shown_at place s.observed; known = b } ∷ rest)) marked
+
+-- bit 0 of a digit
+pub bit-at : (place : ℕ) (os : List Observed) → has_bit_0 place os ≡ (shown_at place os).slip
+bit-at place [] = refl
+bit-at zero (o ∷ os) = refl
+bit-at (suc place) (o ∷ os) = bit-at place os
+
+pub slip-is : (gap place : ℕ) (before : List Sighting) (s : Sighting) (os : List Observed) (o : Observed) (known : Bool)
+    → os ≡ s.observed → o ≡ shown_at place os → known ≡ is_known gap place before s → (o.slip && known) ≡ is_slip gap place before s
+slip-is gap place before s os o known same is marked =
+    ap (λ (x : Observed). x.slip && known) (is ∙ ap (λ (xs : List Observed). shown_at place xs) same)
+    ∙ ap (λ (b : Bool). b && known) (sym (bit-at place s.observed))
+    ∙ ap (λ (b : Bool). has_bit_0 place s.observed && b) marked
+
+-- ---- passes
+
+away-none : (gap t : ℕ) (last : Option ℕ) → last ≡ None → is_away gap last t ≡ true
+away-none gap t last none = ap (λ (o : Option ℕ). is_away gap o t) none
+
+some-or-none : (last : Option ℕ) → (last ≡ None) ⊎ ((t : ℕ) × (last ≡ Some t))
+some-or-none None = inl refl
+some-or-none (Some t) = inr (t, refl)
+
+-- a satellite that is not away has had a phase
+had-last : (gap : ℕ) (before : List Sighting) (s : Sighting) → has_phase s.observed ≡ true → begins_pass gap before s ≡ false → (t : ℕ) × (last_phase before ≡ Some t)
+had-last gap before s has goes_on =
+    elim (some-or-none (last_phase before)) [
+      | inl none ↦ absurd (both_ways (begins_pass gap before s) goes_on (and_from (has_phase s.observed) (is_away gap (last_phase before) s.time) has (away-none gap s.time (last_phase before) none)))
+      | inr some ↦ some
+    ]
+
+pub begun-passes : (gap : ℕ) (before : List Sighting) (s : Sighting) → has_phase s.observed ≡ true → begins_pass gap before s ≡ true
+    → passes_of gap (s ∷ before) ≡ record { from = reading_of s.time; until = reading_of s.time; phases = phases_in s.observed; slips = slips_at gap before s } ∷ passes_of gap before
+begun-passes gap before s has begins =
+    let begun : List PassCounts = record { from = reading_of s.time; until = reading_of s.time; phases = phases_in s.observed; slips = slips_at gap before s } ∷ passes_of gap before in
+    let on : List PassCounts = longer s (slips_at gap before s) (passes_of gap before) in
+    ap (λ (b : Bool). cond (not b) (passes_of gap before) (cond (begins_pass gap before s) begun on)) has ∙ ap (λ (b : Bool). cond b begun on) begins
+
+pub longer-passes : (gap : ℕ) (before : List Sighting) (s : Sighting) → has_phase s.observed ≡ true → begins_pass gap before s ≡ false
+    → passes_of gap (s ∷ before) ≡ longer s (slips_at gap before s) (passes_of gap before)
+longer-passes gap before s has goes_on =
+    let begun : List PassCounts = record { from = reading_of s.time; until = reading_of s.time; phases = phases_in s.observed; slips = slips_at gap before s } ∷ passes_of gap before in
+    let on : List PassCounts = longer s (slips_at gap before s) (passes_of gap before) in
+    ap (λ (b : Bool). cond (not b) (passes_of gap before) (cond (begins_pass gap before s) begun on)) has ∙ ap (λ (b : Bool). cond b begun on) goes_on
+
+pub same-passes : (gap : ℕ) (before : List Sighting) (s : Sighting) → has_phase s.observed ≡ false → passes_of gap (s ∷ before) ≡ passes_of gap before
+same-passes gap before s none =
+    let begun : List PassCounts = record { from = reading_of s.time; until = reading_of s.time; phases = phases_in s.observed; slips = slips_at gap before s } ∷ passes_of gap before in
+    let on : List PassCounts = longer s (slips_at gap before s) (passes_of gap before) in
+    ap (λ (b : Bool). cond (not b) (passes_of gap before) (cond (begins_pass gap before s) begun on)) none
+
+-- a satellite with a phase has a pass
+pub has-pass : (gap : ℕ) (before : List Sighting) (t : ℕ) → last_phase before ≡ Some t → (p : PassCounts) × (ps : List PassCounts) × (passes_of gap before ≡ p ∷ ps)
+has-pass gap [] t had = absurd (cc)
+has-pass gap (s ∷ before) t had =
+    elim (cases_Bool (has_phase s.observed)) [
+      | inr none ↦
+          let rest = has-pass gap before t (sym (ap (λ (b : Bool). cond b (Some s.time) (last_phase before)) none) ∙ had) in
+          (rest.0, rest.1, same-passes gap before s none ∙ rest.2)
+      | inl has ↦
+          elim (cases_Bool (begins_pass gap before s)) [
+            | inl begins ↦ (record { from = reading_of s.time; until = reading_of s.time; phases = phases_in s.observed; slips = slips_at gap before s }, passes_of gap before, begun-passes gap before s has begins)
+            | inr goes_on ↦
+                let last = had-last gap before s has goes_on in
+                let rest = has-pass gap before last.0 last.1 in (
+                  record { from = rest.0.from; until = reading_of s.time; phases = plus rest.0.phases (phases_in s.observed); slips = plus rest.0.slips (slips_at gap before s) },
+                  rest.1,
+                  longer-passes gap before s has goes_on ∙ ap (λ (ps : List PassCounts). longer s (slips_at gap before s) ps) rest.2,
+                )
+          ]
+    ]
+
+begun-is : (last : Option PassCounts) (reading : Civil) (phases slips : ℕ) → with_epoch last true reading phases slips ≡ record { from = reading; until = reading; phases = phases; slips = slips }
+begun-is None reading phases slips = refl
+begun-is (Some p) reading phases slips = refl
+
+-- the last pass, an epoch more
+pub last-more : (gap : ℕ) (before : List Sighting) (s : Sighting) (last : Option PassCounts) → last ≡ newest_pass (passes_of gap before) → has_phase s.observed ≡ true
+    → Some (with_epoch last (begins_pass gap before s) (reading_of s.time) (phases_in s.observed) (slips_at gap before s)) ≡ newest_pass (passes_of gap (s ∷ before))
+last-more gap before s last was has =
+    let phases : ℕ = phases_in s.observed in
+    let slips : ℕ = slips_at gap before s in
+    elim (cases_Bool (begins_pass gap before s)) [
+      | inl begins ↦
+          ap (λ (b : Bool). Some (with_epoch last b (reading_of s.time) phases slips)) begins ∙ ap Some (begun-is last (reading_of s.time) phases slips)
+          ∙ sym (ap newest_pass (begun-passes gap before s has begins))
+      | inr goes_on ↦
+          let seen = had-last gap before s has goes_on in
+          let had = has-pass gap before seen.0 seen.1 in
+          ap (λ (b : Bool). Some (with_epoch last b (reading_of s.time) phases slips)) goes_on
+          ∙ ap (λ (o : Option PassCounts). Some (with_epoch o false (reading_of s.time) phases slips)) (was ∙ ap newest_pass had.2)
+          ∙ sym (ap newest_pass (longer-passes gap before s has goes_on ∙ ap (λ (ps : List PassCounts). longer s slips ps) had.2))
+    ]
+
+-- the epochs in passes, an epoch more
+pub within-more : (gap : ℕ) (before : List Sighting) (s : Sighting) → has_phase s.observed ≡ true
+    → epochs_in_passes gap (s ∷ before) ≡ plus (epochs_in_passes gap before) (cond (begins_pass gap before s) 1 (plus (epochs_since_phase before) 1))
+within-more gap before s has =
+    let one : ℕ = plus (epochs_in_passes gap before) 1 in
+    let more : ℕ = plus (epochs_in_passes gap before) (plus (epochs_since_phase before) 1) in
+    ap (λ (b : Bool). cond (not b) (epochs_in_passes gap before) (cond (begins_pass gap before s) one more)) has
+    ∙ cond-inside (begins_pass gap before s) (epochs_in_passes gap before) 1 (plus (epochs_since_phase before) 1)
+  where
+    cond-inside : (b : Bool) (a x y : ℕ) → cond b (plus a x) (plus a y) ≡ plus a (cond b x y)
+    cond-inside true a x y = refl
+    cond-inside false a x y = refl

@@ -1,0 +1,235 @@
+-- The satellites of a file and their passes, an epoch more.
+use Rattle.std.proofs.Common.{◌≡◌, ◌≢◌, ◌<◌, ◌≤◌, ◌+◌, ◌==◌, ◌&&◌, ◌||◌, ◌++◌, cond, ℕ, Bool, false, List, [], ◌∷◌, length, set, get_or, replicate, reverse, map, count_by, Option, None, Some, refl, sym, ap, subst, inl, inr, ◌∙◌, get_or-set_same, get_or-set_other, length-set, arith}
+use Rattle.std.specs.List.{range_with_len, list_any, fold}
+use Rattle.std.proofs.lemmas.Bool.{cases_Bool, cases_eq, eq-eqb, ne_eqb}
+use Rattle.std.proofs.lemmas.List.{append-nil, get_or-replicate, length-replicate}
+use Rattle.std.proofs.lemmas.List.FromFn.{get_or-map-range_with_len}
+use Rattle.std.proofs.lemmas.List.Sums.{fold-append, sum_by_push}
+use Rattle.std.proofs.lemmas.Grind.{reverse_onto}
+use Rattle.rtk_rinex.specs.Record.{EpochTableView}
+use Rattle.rtk_rinex.specs.declared.epoch_table.Observed.{Observed}
+use Rattle.rtk_rinex.specs.declared.epoch_table.SatelliteRow.{SatelliteRow}
+use Rattle.rtk_tracking.specs.Passes.{Sighting, sightings_of, has_phase, last_phase, is_away, begins_pass}
+use Rattle.rtk_tracking.specs.Epochs.{observed_in}
+use Rattle.rtk_quality.specs.Counts.{noted_of, counts_of, code_counts_of}
+use Rattle.rtk_quality.specs.SatellitePasses.{slips_at, longer, passes_of, epochs_in_passes}
+use Rattle.rtk_quality.specs.Quality.{numbers_of, is_in_file, with_satellite, no_numbers}
+use Rattle.rtk_quality.specs.Standing.{newest_pass, older_passes, StandsForSatellite, StandsForEnded, StandForSatellites, ended_of, with_ended, HasEnded, StandForEnded}
+use Rattle.rtk_quality.specs.declared.satellite_counts.PassCounts.{PassCounts}
+use Rattle.rtk_quality.specs.declared.satellite_counts.SatelliteCounts.{SatelliteCounts}
+use Rattle.rtk_quality.specs.declared.code_counts.CodeCounts.{CodeCounts}
+use Rattle.rtk_quality.specs.declared.code_numbers.CodeNumbers.{CodeNumbers}
+use Rattle.rtk_quality.specs.declared.file_counts.EndedPass.{EndedPass}
+use Rattle.rtk_quality.proofs.ListLemmas.{range-more}
+use Rattle.rtk_quality.proofs.CountLemmas.{same-passes, begun-passes, longer-passes}
+
+-- ---- satellites
+
+-- the satellites before a place have an epoch more
+pub record AreUpTo (n : ℕ) (xs : List SatelliteCounts) (gap : ℕ) (e : EpochTableView) (es : List EpochTableView) : Type 0 where
+  pub size : length xs ≡ 32
+  pub new : (place : ℕ) (d : SatelliteCounts) → place < n → StandsForSatellite (get_or xs place d) gap (sightings_of (place + 1) (e ∷ es))
+  pub old : (place : ℕ) (d : SatelliteCounts) → n ≤ place → place < 32 → StandsForSatellite (get_or xs place d) gap (sightings_of (place + 1) es)
+
+pub none-yet : (xs : List SatelliteCounts) (gap : ℕ) (e : EpochTableView) (es : List EpochTableView) → StandForSatellites xs gap es → AreUpTo 0 xs gap e es
+none-yet xs gap e es are = record {
+  size = are.size;
+  new = λ place d below. absurd (omega arith);
+  old = λ place d above within. are.each place d within;
+}
+
+pub all-now : (n : ℕ) (xs : List SatelliteCounts) (gap : ℕ) (e : EpochTableView) (es : List EpochTableView) → n ≡ 32 → AreUpTo n xs gap e es → StandForSatellites xs gap (e ∷ es)
+all-now n xs gap e es end are = record {
+  size = are.size;
+  each = λ place d within.
+      let below : place < n = omega arith in
+      are.new place d below;
+}
+
+pub one-more : (n i : ℕ) (xs : List SatelliteCounts) (y : SatelliteCounts) (gap : ℕ) (e : EpochTableView) (es : List EpochTableView) → i ≡ n → n < 32
+    → AreUpTo n xs gap e es → StandsForSatellite y gap (sightings_of (n + 1) (e ∷ es)) → AreUpTo (n + 1) (set xs i y) gap e es
+one-more n i xs y gap e es at within are stands =
+    subst (λ (j : ℕ). AreUpTo (n + 1) (set xs j y) gap e es) (sym at) (record {
+      size = length-set xs n y ∙ are.size;
+      new = λ place d below.
+          elim (cases_eq place n) [
+            | inl same ↦
+                let inside : n < length xs = let size = are.size in omega (arith, size) in
+                subst (λ (k : ℕ). StandsForSatellite (get_or (set xs n y) k d) gap (sightings_of (k + 1) (e ∷ es))) (sym same)
+                (subst (λ (z : SatelliteCounts). StandsForSatellite z gap (sightings_of (n + 1) (e ∷ es))) (sym (get_or-set_same xs n y d inside)) stands)
+            | inr other ↦
+                let earlier : place < n = omega arith in
+                subst (λ (z : SatelliteCounts). StandsForSatellite z gap (sightings_of (place + 1) (e ∷ es))) (sym (get_or-set_other xs n place y d other)) (are.new place d earlier)
+          ];
+      old = λ place d above inside.
+          let other : place ≢ n = λ same. absurd (omega arith) in
+          let later : n ≤ place = omega arith in
+          subst (λ (z : SatelliteCounts). StandsForSatellite z gap (sightings_of (place + 1) es)) (sym (get_or-set_other xs n place y d other)) (are.old place d later inside);
+    })
+
+pub fresh-satellites : (xs : List SatelliteCounts) (one : SatelliteCounts) (gap : ℕ) → xs ≡ replicate 32 one → ((gap : ℕ) → StandsForSatellite one gap []) → StandForSatellites xs gap []
+fresh-satellites xs one gap are fresh = record {
+  size = ap (λ (ys : List SatelliteCounts). length ys) are ∙ length-replicate 32 one;
+  each = λ place d within.
+      subst (λ (z : SatelliteCounts). StandsForSatellite z gap []) (sym (ap (λ (ys : List SatelliteCounts). get_or ys place d) are ∙ get_or-replicate 32 place one d within)) (fresh gap);
+}
+
+-- ---- passes that ended
+
+abbrev pub list_of : Option PassCounts → List PassCounts
+list_of None = []
+list_of (Some p) = p ∷ []
+
+-- all passes: the older ones, and the newest one
+pub older-and-newest : (ps : List PassCounts) → reverse ps ≡ reverse (older_passes ps) ++ list_of (newest_pass ps)
+older-and-newest [] = refl
+older-and-newest (p ∷ ps) = reverse_onto ps p []
+
+older-longer : (s : Sighting) (slips : ℕ) (ps : List PassCounts) → older_passes (longer s slips ps) ≡ older_passes ps
+older-longer s slips [] = refl
+older-longer s slips (p ∷ ps) = refl
+
+-- the passes that ended, an epoch more
+older-more : (gap : ℕ) (before : List Sighting) (s : Sighting)
+    → reverse (older_passes (passes_of gap (s ∷ before)))
+    ≡ reverse (older_passes (passes_of gap before)) ++ list_of (cond (begins_pass gap before s) (newest_pass (passes_of gap before)) None)
+older-more gap before s =
+    let ps : List PassCounts = passes_of gap before in
+    let same : (b : Bool) → b ≡ false → reverse (older_passes ps) ≡ reverse (older_passes ps) ++ list_of (cond b (newest_pass ps) None) =
+    λ b no. sym (append-nil (reverse (older_passes ps))) ∙ sym (ap (λ (x : Bool). reverse (older_passes ps) ++ list_of (cond x (newest_pass ps) None)) no) in
+    elim (cases_Bool (has_phase s.observed)) [
+      | inr none ↦
+          ap (λ (qs : List PassCounts). reverse (older_passes qs)) (same-passes gap before s none)
+          ∙ same (begins_pass gap before s) (ap (λ (b : Bool). b && is_away gap (last_phase before) s.time) none)
+      | inl has ↦
+          elim (cases_Bool (begins_pass gap before s)) [
+            | inl begins ↦
+                ap (λ (qs : List PassCounts). reverse (older_passes qs)) (begun-passes gap before s has begins) ∙ older-and-newest ps
+                ∙ sym (ap (λ (b : Bool). reverse (older_passes ps) ++ list_of (cond b (newest_pass ps) None)) begins)
+            | inr goes_on ↦
+                ap (λ (qs : List PassCounts). reverse (older_passes qs)) (longer-passes gap before s has goes_on)
+                ∙ ap (λ (qs : List PassCounts). reverse qs) (older-longer s (slips_at gap before s) ps)
+                ∙ same (begins_pass gap before s) goes_on
+          ]
+    ]
+
+pub ended-append : (k : ℕ) (xs ys : List EndedPass) → ended_of k (xs ++ ys) ≡ ended_of k xs ++ ended_of k ys
+ended-append k [] ys = refl
+ended-append k (x ∷ xs) ys =
+    elim (cases_Bool (x.satellite == k)) [
+      | inl own ↦
+          ap (λ (b : Bool). cond b (x.pass ∷ ended_of k (xs ++ ys)) (ended_of k (xs ++ ys))) own ∙ ap (λ (ps : List PassCounts). x.pass ∷ ps) (ended-append k xs ys)
+          ∙ sym (ap (λ (b : Bool). cond b (x.pass ∷ ended_of k xs) (ended_of k xs) ++ ended_of k ys) own)
+      | inr other ↦
+          ap (λ (b : Bool). cond b (x.pass ∷ ended_of k (xs ++ ys)) (ended_of k (xs ++ ys))) other ∙ ended-append k xs ys
+          ∙ sym (ap (λ (b : Bool). cond b (x.pass ∷ ended_of k xs) (ended_of k xs) ++ ended_of k ys) other)
+    ]
+
+pub ended-own : (k satellite : ℕ) (p : PassCounts) → satellite ≡ k → ended_of k (record { satellite = satellite; pass = p } ∷ []) ≡ p ∷ []
+ended-own k satellite p same = ap (λ (b : Bool). cond b (p ∷ []) []) (eq-eqb satellite k same)
+
+pub ended-none : (k satellite : ℕ) (p : PassCounts) → satellite ≢ k → ended_of k (record { satellite = satellite; pass = p } ∷ []) ≡ []
+ended-none k satellite p other = ap (λ (b : Bool). cond b (p ∷ []) []) (ne_eqb satellite k other)
+
+with-own : (k : ℕ) (ended : List EndedPass) (pass : Option PassCounts) → ended_of k (with_ended ended k pass) ≡ ended_of k ended ++ list_of pass
+with-own k ended None = sym (append-nil (ended_of k ended))
+with-own k ended (Some p) =
+    ended-append k ended (record { satellite = k; pass = p } ∷ []) ∙ ap (λ (ps : List PassCounts). ended_of k ended ++ ps) (ended-own k k p refl)
+
+with-other : (k satellite : ℕ) (ended : List EndedPass) (pass : Option PassCounts) → satellite ≢ k → ended_of k (with_ended ended satellite pass) ≡ ended_of k ended
+with-other k satellite ended None other = refl
+with-other k satellite ended (Some p) other =
+    ended-append k ended (record { satellite = satellite; pass = p } ∷ []) ∙ ap (λ (ps : List PassCounts). ended_of k ended ++ ps) (ended-none k satellite p other)
+    ∙ append-nil (ended_of k ended)
+
+-- the passes of satellites before a place have an epoch more
+pub record EndedUpTo (n : ℕ) (ended : List EndedPass) (gap : ℕ) (e : EpochTableView) (es : List EpochTableView) : Type 0 where
+  pub new : (place : ℕ) → place < n → HasEnded ended gap (sightings_of (place + 1) (e ∷ es)) (place + 1)
+  pub old : (place : ℕ) → n ≤ place → place < 32 → HasEnded ended gap (sightings_of (place + 1) es) (place + 1)
+
+pub none-ended : (ended : List EndedPass) (gap : ℕ) (e : EpochTableView) (es : List EpochTableView) → StandForEnded ended gap es → EndedUpTo 0 ended gap e es
+none-ended ended gap e es are = record {
+  new = λ place below. absurd (omega arith);
+  old = λ place above within. are place within;
+}
+
+pub all-ended : (n : ℕ) (ended : List EndedPass) (gap : ℕ) (e : EpochTableView) (es : List EpochTableView) → n ≡ 32 → EndedUpTo n ended gap e es → StandForEnded ended gap (e ∷ es)
+all-ended n ended gap e es end are = λ place within.
+    let below : place < n = omega arith in
+    are.new place below
+
+pub one-ended : (n satellite : ℕ) (old new : List EndedPass) (pass : Option PassCounts) (gap : ℕ) (e : EpochTableView) (es : List EpochTableView) → satellite ≡ n + 1 → n < 32
+    → EndedUpTo n old gap e es → new ≡ with_ended old satellite pass
+    → StandsForEnded pass gap (sightings_of (n + 1) es) (record { time = e.time; observed = observed_in (n + 1) e.rows })
+    → EndedUpTo (n + 1) new gap e es
+one-ended n satellite old new pass gap e es at within are took stands =
+    let is : new ≡ with_ended old (n + 1) pass = took ∙ ap (λ (k : ℕ). with_ended old k pass) at in
+    record {
+      new = λ place below.
+          elim (cases_eq place n) [
+            | inl same ↦
+                subst (λ (k : ℕ). HasEnded new gap (sightings_of (k + 1) (e ∷ es)) (k + 1)) (sym same)
+                (ap (λ (xs : List EndedPass). ended_of (n + 1) xs) is ∙ with-own (n + 1) old pass
+                ∙ ap (λ (ps : List PassCounts). ps ++ list_of pass) (are.old n (omega arith) within)
+                ∙ ap (λ (p : Option PassCounts). reverse (older_passes (passes_of gap (sightings_of (n + 1) es))) ++ list_of p) stands
+                ∙ sym (older-more gap (sightings_of (n + 1) es) (record { time = e.time; observed = observed_in (n + 1) e.rows })))
+            | inr other ↦
+                let apart : n + 1 ≢ place + 1 = λ alike. absurd (omega arith) in
+                let earlier : place < n = omega arith in
+                ap (λ (xs : List EndedPass). ended_of (place + 1) xs) is ∙ with-other (place + 1) (n + 1) old pass apart ∙ are.new place earlier
+          ];
+      old = λ place above inside.
+          let apart : n + 1 ≢ place + 1 = λ alike. absurd (omega arith) in
+          let later : n ≤ place = omega arith in
+          ap (λ (xs : List EndedPass). ended_of (place + 1) xs) is ∙ with-other (place + 1) (n + 1) old pass apart ∙ are.old place later inside;
+    }
+
+-- ---- what comes of a satellite
+
+abbrev sighting : ℕ → List Observed → Sighting
+sighting t os = record { time = t; observed = os }
+
+pub sighting-is : (k t : ℕ) (os : List Observed) (rows : List SatelliteRow) (e : EpochTableView) → t ≡ e.time → os ≡ observed_in k rows → rows ≡ e.rows
+    → sighting t os ≡ sighting e.time (observed_in k e.rows)
+sighting-is k t os rows e at is same =
+    ap (λ (x : ℕ). sighting x os) at ∙ ap (λ (xs : List Observed). sighting e.time xs) (is ∙ ap (λ (rs : List SatelliteRow). observed_in k rs) same)
+
+-- ---- over all satellites
+
+pub totals-more : (gap : ℕ) (es : List EpochTableView) (place i : ℕ) (old own new : CodeNumbers)
+    → old ≡ fold (λ total satellite. with_satellite total (numbers_of gap (sightings_of satellite es) place)) no_numbers (range_with_len 1 i)
+    → own ≡ numbers_of gap (sightings_of (i + 1) es) place → new ≡ with_satellite old own
+    → new ≡ fold (λ total satellite. with_satellite total (numbers_of gap (sightings_of satellite es) place)) no_numbers (range_with_len 1 (i + 1))
+totals-more gap es place i old own new was is took =
+    let f : CodeNumbers → ℕ → CodeNumbers = λ total satellite. with_satellite total (numbers_of gap (sightings_of satellite es) place) in
+    let next : i + 1 ≡ 1 + i = omega arith in
+    took ∙ ap (λ (n : CodeNumbers). with_satellite n own) was ∙ ap (λ (n : CodeNumbers). with_satellite (fold f no_numbers (range_with_len 1 i)) n) is
+    ∙ ap (λ (k : ℕ). f (fold f no_numbers (range_with_len 1 i)) k) next
+    ∙ sym (ap (λ (ks : List ℕ). fold f no_numbers ks) (range-more 1 i) ∙ fold-append f no_numbers (range_with_len 1 i) ((1 + i) ∷ []))
+
+pub count-next : (p : ℕ → Bool) (a n : ℕ) → count_by p (range_with_len a (n + 1)) ≡ count_by p (range_with_len a n) + cond (p (a + n)) 1 0
+count-next p a n = ap (λ t. count_by p t) (range-more a n) ∙ sum_by_push (λ x. cond (p x) 1 0) (range_with_len a n) (a + n)
+
+pub any-map : {X Y : Type 0} (p : Y → Bool) (f : X → Y) (xs : List X) → list_any p (map f xs) ≡ list_any (λ x. p (f x)) xs
+any-map p f [] = refl
+any-map p f (x ∷ xs) = ap (λ b. p (f x) || b) (any-map p f xs)
+
+-- ---- the numbers of a code
+
+pub numbers-are : (gap place : ℕ) (before : List Sighting) (codes : List CodeCounts) (d counts : CodeCounts) (possible : ℕ) → place < 16 → codes ≡ code_counts_of gap before
+    → counts ≡ get_or codes place d → possible ≡ epochs_in_passes gap before → record { counts = counts; possible = possible } ≡ numbers_of gap before place
+unfolding code_counts_of
+numbers-are gap place before codes d counts possible within are at in_passes =
+    let here : 0 + place ≡ place = omega arith in
+    let is : counts ≡ counts_of (noted_of gap place before) =
+    at ∙ ap (λ (cs : List CodeCounts). get_or cs place d) are ∙ get_or-map-range_with_len (λ (k : ℕ). counts_of (noted_of gap k before)) 0 16 place place d within here in
+    ap (λ (c : CodeCounts). numbers_with c possible) is ∙ ap (λ (n : ℕ). numbers_with (counts_of (noted_of gap place before)) n) in_passes
+  where
+    numbers_with : CodeCounts → ℕ → CodeNumbers
+    numbers_with c n = record { counts = c; possible = n }
+
+pub in-file-is : (gap : ℕ) (before : List Sighting) (codes : List CodeCounts) → codes ≡ code_counts_of gap before → list_any (λ c. c.seen) codes ≡ is_in_file gap before
+unfolding code_counts_of is_in_file
+in-file-is gap before codes are =
+    ap (λ (cs : List CodeCounts). list_any (λ (c : CodeCounts). c.seen) cs) are
+    ∙ any-map (λ (c : CodeCounts). c.seen) (λ (place : ℕ). counts_of (noted_of gap place before)) (range_with_len 0 16)

@@ -1,0 +1,13 @@
+use Rattle.std.proofs.Common.{◌+◌, List, ap}
+use Rattle.rtk_quality.specs.Standing.{ended_of}
+use Rattle.rtk_quality.specs.declared.file_counts.EndedPass.{EndedPass}
+use Rattle.rtk_quality.proofs.FileLemmas.{fresh-satellites}
+use Rattle.rtk_quality.proofs.file_counts.FileCounts.new.Goals as goal
+
+pub returns-clause-counts : goal.returns-clause-counts
+returns-clause-counts c = λ gap unit.
+    record {
+      records = c.new.ensures unit;
+      satellites = fresh-satellites c.in_ok-vec.field-0.items c.new-2.result gap (c.in_ok-vec.ensures.items_if_clones_equal (λ y same. same)) c.new-2.ensures;
+      ended = λ place within. ap (λ (xs : List EndedPass). ended_of (place + 1) xs) c.new-3.ensures.items;
+    }

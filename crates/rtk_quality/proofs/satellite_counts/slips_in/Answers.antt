@@ -1,0 +1,37 @@
+use Rattle.std.proofs.Common.{◌≡◌, ℕ, Bool, cond, count_by, sym, ap, ◌∙◌, arith}
+use Rattle.std.specs.List.{range_with_len}
+use Rattle.rtk_tracking.specs.Passes.{is_slip}
+use Rattle.rtk_quality.proofs.ListLemmas.{count-more}
+use Rattle.rtk_quality.proofs.satellite_counts.slips_in.Goals as goal
+use Rattle.rtk_quality.proofs.satellite_counts.slips_in.Goals.{then-is_slip, else-is_slip}
+
+-- 1 for a test that holds
+abbrev once : Bool → ℕ
+once b = cond b 1 0
+
+pub loop-place-preserved : goal.loop-place-preserved
+loop-place-preserved c = elim c.if-is_slip.branch [
+  | then-is_slip w ↦ record {
+    few = let was = c.loop-place.invariant.few in let now = w.slips-is in omega (arith, was, now);
+    many = λ gap before s same marked.
+        let more = count-more (λ (place : ℕ). is_slip gap place before s) c.loop-place.place in
+        let is = c.loop-place.invariant.many gap before s same marked in
+        let one : once (is_slip gap c.loop-place.place before s) ≡ 1 = ap once (sym (c.is_slip.ensures gap before s same marked) ∙ w.if-is_slip.true) in
+        let now = w.slips-is in
+        omega (arith, more, is, one, now);
+  }
+  | else-is_slip w ↦ record {
+    few = let was = c.loop-place.invariant.few in let now = w.slips-is in omega (arith, was, now);
+    many = λ gap before s same marked.
+        let more = count-more (λ (place : ℕ). is_slip gap place before s) c.loop-place.place in
+        let is = c.loop-place.invariant.many gap before s same marked in
+        let none : once (is_slip gap c.loop-place.place before s) ≡ 0 = ap once (sym (c.is_slip.ensures gap before s same marked) ∙ w.if-is_slip.false) in
+        let now = w.slips-is in
+        omega (arith, more, is, none, now);
+  }
+]
+
+pub returns : goal.returns
+returns c = λ gap before s same marked.
+    let end : c.loop-place.place ≡ 16 = omega (arith, c.loop-place.auto.place-end, c.loop-place-test.false) in
+    c.loop-place.invariant.many gap before s same marked ∙ ap (λ (k : ℕ). count_by (λ place. is_slip gap place before s) (range_with_len 0 k)) end

@@ -1,0 +1,12 @@
+use Rattle.std.proofs.Common.{◌≡◌, ◌++◌, ℕ, List, drop}
+use Rattle.rtk_rinex.specs.Record.{EpochTableView}
+use Rattle.rtk_quality.specs.Quality.{totals_of}
+use Rattle.rtk_quality.specs.QualityText.{code_line, each_code}
+use Rattle.rtk_quality.specs.Standing.{StandForSatellites}
+use Rattle.rtk_quality.proofs.sections.put_codes.Given as goal
+
+abbrev pub invariant-loop-at : goal.invariant-loop-at
+invariant-loop-at l =
+    (gap : ℕ) (es : List EpochTableView) → StandForSatellites l.satellites gap es
+    → l.fn.text.items ++ each_code (λ place code. code_line l.form code (totals_of gap es place)) 0 l.codes
+    ≡ l.text.items ++ each_code (λ place code. code_line l.form code (totals_of gap es place)) l.at (drop l.at l.codes)

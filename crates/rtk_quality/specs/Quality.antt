@@ -1,0 +1,55 @@
+-- The numbers of satellites and of codes (this project's rule). What came is listed newest first.
+use Rattle.std.specs.Prelude.{ℕ, Bool, true, List, [], count_by, if◌then◌else◌}
+use Rattle.std.specs.List.{list_any, fold, range_with_len}
+use Rattle.rtk_rinex.specs.Record.{EpochTableView}
+use Rattle.rtk_tracking.specs.Passes.{Sighting, sightings_of}
+use Rattle.rtk_quality.specs.Counts.{plus, noted_of, counts_of, lesser, greater}
+use Rattle.rtk_quality.specs.SatellitePasses.{epochs_in_passes}
+use Rattle.rtk_quality.specs.declared.code_counts.CodeCounts.{CodeCounts}
+use Rattle.rtk_quality.specs.declared.code_numbers.CodeNumbers.{CodeNumbers}
+
+-- formula
+-- the numbers of the code of a satellite at a place: its counts, and how many phases could be there
+abbrev pub numbers_of : ℕ → List Sighting → ℕ → CodeNumbers
+numbers_of gap before place = record { counts = counts_of (noted_of gap place before); possible = epochs_in_passes gap before }
+
+-- the satellite has a code somewhere in the file
+unfoldable pub is_in_file : ℕ → List Sighting → Bool
+is_in_file gap before = list_any (λ place. (counts_of (noted_of gap place before)).seen) (range_with_len 0 16)
+
+-- formula
+-- how many satellites the file has
+unfoldable pub satellites_in : ℕ → List EpochTableView → ℕ
+satellites_in gap es = count_by (λ satellite. is_in_file gap (sightings_of satellite es)) (range_with_len 1 32)
+
+-- two counts together
+abbrev pub together : CodeCounts → CodeCounts → CodeCounts
+together a b =
+    record {
+      seen = true;
+      phases = plus a.phases b.phases;
+      ranges = plus a.ranges b.ranges;
+      slips = plus a.slips b.slips;
+      rises = plus a.rises b.rises;
+      halves = plus a.halves b.halves;
+      strengths = plus a.strengths b.strengths;
+      strength_sum = plus a.strength_sum b.strength_sum;
+      least = lesser a.least b.least;
+      greatest = greater a.greatest b.greatest;
+    }
+
+abbrev pub no_numbers : CodeNumbers
+no_numbers = record { counts = counts_of []; possible = 0 }
+
+-- the numbers of a code with those of one more satellite, if it has the code
+abbrev pub with_satellite : CodeNumbers → CodeNumbers → CodeNumbers
+with_satellite total own =
+    if own.counts.seen
+    then record { counts = together total.counts own.counts; possible = plus total.possible own.possible }
+    else total
+
+-- formula
+-- the numbers of the code at a place over all satellites that have it
+unfoldable pub totals_of : ℕ → List EpochTableView → ℕ → CodeNumbers
+totals_of gap es place =
+    fold (λ total satellite. with_satellite total (numbers_of gap (sightings_of satellite es) place)) no_numbers (range_with_len 1 32)

@@ -1,0 +1,181 @@
+-- The text of the numbers of a file, in both forms (this project's rule).
+use Rattle.std.specs.Prelude.{◌≡◌, ℕ, ◌+◌, List, [], ◌∷◌, ◌++◌, reverse, flat_map, codes, Option, Some, if◌then◌else◌}
+use Rattle.std.specs.List.{range_with_len}
+use Rattle.rtk_obs.specs.declared.code.Code.{Code}
+use Rattle.rtk_obs.specs.Code.{name_of}
+use Rattle.rtk_obs.specs.CivilText.{last_digits}
+use Rattle.rtk_obs.specs.declared.time.Civil.{Civil}
+use Rattle.rtk_rinex.specs.Reading.{reading_of}
+use Rattle.rtk_rinex.specs.Record.{EpochTableView}
+use Rattle.rtk_rinex.specs.Table.{WellFormedTable, IsWellFormedTable, table_text}
+use Rattle.rtk_tracking.specs.Epochs.{newest_first}
+use Rattle.rtk_tracking.specs.Interval.{interval_of_file}
+use Rattle.rtk_tracking.specs.Passes.{Sighting, sightings_of, longest_gap}
+use Rattle.rtk_quality.specs.Counts.{percent_tenths, phases_per_slip, mean_hundredths, mean_tenths}
+use Rattle.rtk_quality.specs.SatellitePasses.{passes_of}
+use Rattle.rtk_quality.specs.Records.{unit_of, record_counts_of}
+use Rattle.rtk_quality.specs.Quality.{numbers_of, totals_of, is_in_file, satellites_in}
+use Rattle.rtk_quality.specs.Forms.{in_form, value_text, moment_text, name_text, start_text, end_text, json_text}
+use Rattle.rtk_quality.specs.declared.form.Form.{Form}
+use Rattle.rtk_quality.specs.declared.form.Decimals.TheVariants.{Whole, Tenths, Hundredths, Thousandths}
+use Rattle.rtk_quality.specs.declared.sections.Section.{Section}
+use Rattle.rtk_quality.specs.declared.sections.Section.TheVariants.{Codes, Never, Passes}
+use Rattle.rtk_quality.specs.declared.code_counts.CodeCounts.{CodeCounts}
+use Rattle.rtk_quality.specs.declared.code_numbers.CodeNumbers.{CodeNumbers}
+use Rattle.rtk_quality.specs.declared.record_counts.RecordCounts.{RecordCounts}
+use Rattle.rtk_quality.specs.declared.satellite_counts.PassCounts.{PassCounts}
+
+-- ---- one line
+
+-- formula
+-- phases, and of how many that could be there; ranges without a phase; slips, rises, half cycles; phases
+-- for each slip
+unfoldable pub phases_text : Form → CodeNumbers → List ℕ
+phases_text form n =
+    value_text form (codes " phases ") (codes ",\"phases\":") Whole (Some n.counts.phases)
+    ++ value_text form (codes " of ") (codes ",\"possible\":") Whole (Some n.possible)
+    ++ value_text form (codes " percent ") (codes ",\"percent_tenths\":") Tenths (percent_tenths n.counts.phases n.possible)
+    ++ value_text form (codes " ranges-only ") (codes ",\"ranges_only\":") Whole (Some n.counts.ranges)
+    ++ value_text form (codes " slips ") (codes ",\"slips\":") Whole (Some n.counts.slips)
+    ++ value_text form (codes " rises ") (codes ",\"rises\":") Whole (Some n.counts.rises)
+    ++ value_text form (codes " half-cycles ") (codes ",\"half_cycles\":") Whole (Some n.counts.halves)
+    ++ value_text form (codes " phases-per-slip ") (codes ",\"phases_per_slip\":") Whole (phases_per_slip n.counts.phases n.counts.slips)
+
+-- formula
+-- strengths in dB-Hz: the least one, their mean, and the greatest one
+unfoldable pub strengths_text : Form → CodeCounts → List ℕ
+strengths_text form c =
+    value_text form (codes " least-strength ") (codes ",\"least_strength_millidbhz\":") Thousandths c.least
+    ++ value_text form (codes " mean-strength ") (codes ",\"mean_strength_centidbhz\":") Hundredths (mean_hundredths c.strength_sum c.strengths)
+    ++ value_text form (codes " greatest-strength ") (codes ",\"greatest_strength_millidbhz\":") Thousandths c.greatest
+
+-- the numbers of a code, up to the end of their line
+unfoldable pub numbers_text : Form → CodeNumbers → List ℕ
+numbers_text form n = phases_text form n ++ strengths_text form n.counts ++ end_text form
+
+-- a code of the file
+unfoldable pub code_name : Form → Code → List ℕ
+code_name form code = name_text form (codes ",\"code\":\"") (name_of code)
+
+-- formula
+-- a satellite, as in G05
+unfoldable pub satellite_name : Form → ℕ → List ℕ
+satellite_name form satellite = name_text form (codes ",\"satellite\":\"") (71 ∷ last_digits 2 satellite)
+
+-- the line of a code over all satellites that have it
+unfoldable pub code_line : Form → Code → CodeNumbers → List ℕ
+code_line form code n = start_text form (codes "code") ++ code_name form code ++ numbers_text form n
+
+-- the line of a code that a satellite has
+unfoldable pub satellite_line : Form → ℕ → Code → CodeNumbers → List ℕ
+satellite_line form satellite code n =
+    start_text form (codes "satellite") ++ satellite_name form satellite ++ code_name form code ++ numbers_text form n
+
+-- the line of a code of the file that a satellite has nowhere
+unfoldable pub never_line : Form → ℕ → Code → List ℕ
+never_line form satellite code =
+    start_text form (codes "never") ++ satellite_name form satellite ++ code_name form code ++ end_text form
+
+-- the line of a pass
+unfoldable pub pass_line : Form → ℕ → PassCounts → List ℕ
+pass_line form satellite p =
+    start_text form (codes "pass") ++ satellite_name form satellite
+    ++ moment_text form (codes " from ") (codes ",\"from\":") p.from ++ moment_text form (codes " until ") (codes ",\"until\":") p.until
+    ++ value_text form (codes " phases ") (codes ",\"phases\":") Whole (Some p.phases)
+    ++ value_text form (codes " slips ") (codes ",\"slips\":") Whole (Some p.slips) ++ end_text form
+
+-- ---- the lines of codes and satellites
+
+-- lines of codes by their places
+abbrev pub each_code : (ℕ → Code → List ℕ) → ℕ → List Code → List ℕ
+each_code line at [] = []
+each_code line at (c ∷ cs) = line at c ++ each_code line (at + 1) cs
+
+-- what a section has of a code of a satellite: its line if the satellite has it somewhere; that it is
+-- nowhere
+abbrev pub code_in : Form → Section → ℕ → Code → CodeNumbers → List ℕ
+code_in form Codes satellite code n = if n.counts.seen then satellite_line form satellite code n else []
+code_in form Never satellite code n = if n.counts.seen then [] else never_line form satellite code
+code_in form Passes satellite code n = []
+
+-- formula
+-- what a section has of a satellite: its codes; the codes that it has nowhere, if it has any; its passes,
+-- from the first to the last
+abbrev pub part_of : Form → Section → List Code → ℕ → List Sighting → ℕ → List ℕ
+part_of form Codes listed gap before satellite = each_code (λ place code. code_in form Codes satellite code (numbers_of gap before place)) 0 listed
+part_of form Never listed gap before satellite =
+    if is_in_file gap before
+    then each_code (λ place code. code_in form Never satellite code (numbers_of gap before place)) 0 listed
+    else []
+part_of form Passes listed gap before satellite = flat_map (pass_line form satellite) (reverse (passes_of gap before))
+
+-- a section has each satellite
+unfoldable pub section_text : Form → Section → List Code → ℕ → List EpochTableView → List ℕ
+section_text form section listed gap es =
+    flat_map (λ satellite. part_of form section listed gap (sightings_of satellite es) satellite) (range_with_len 1 32)
+
+-- ---- the document
+
+-- the marker
+unfoldable pub marker_text : Form → List ℕ → List ℕ
+marker_text form marker =
+    in_form form (codes "marker " ++ marker) (codes "[{\"line\":\"file\",\"marker\":\"" ++ json_text marker ++ codes "\"")
+
+-- formula
+-- the span, the interval in seconds, and the epochs that are there and missing
+unfoldable pub span_text : Form → Civil → Civil → Option ℕ → RecordCounts → List ℕ
+span_text form from until interval r =
+    moment_text form (codes "\nfrom ") (codes ",\"from\":") from
+    ++ moment_text form (codes "\nuntil ") (codes ",\"until\":") until
+    ++ value_text form (codes "\ninterval ") (codes ",\"interval_ms\":") Thousandths interval
+    ++ value_text form (codes "\nrecords ") (codes ",\"records\":") Whole (Some r.records)
+    ++ value_text form (codes "\nmissing ") (codes ",\"missing\":") Whole (Some r.missing)
+
+-- formula
+-- the satellites of the file, and how many an epoch has: at least, in the mean, and at most
+unfoldable pub satellites_text : Form → ℕ → RecordCounts → List ℕ
+satellites_text form satellites r =
+    value_text form (codes "\nsatellites ") (codes ",\"satellites\":") Whole (Some satellites)
+    ++ value_text form (codes "\nleast-satellites ") (codes ",\"least_satellites\":") Whole r.least_rows
+    ++ value_text form (codes "\nmean-satellites ") (codes ",\"mean_satellites_tenths\":") Tenths (mean_tenths r.rows r.records)
+    ++ value_text form (codes "\ngreatest-satellites ") (codes ",\"greatest_satellites\":") Whole r.most_rows
+
+-- the lines of the whole file
+unfoldable pub heading_text : Form → List ℕ → Civil → Civil → Option ℕ → ℕ → RecordCounts → List ℕ
+heading_text form marker from until interval satellites r =
+    marker_text form marker ++ span_text form from until interval r ++ satellites_text form satellites r ++ end_text form
+
+-- the end of the document
+abbrev pub close_text : Form → List ℕ
+close_text form = in_form form [] (codes "\n]\n")
+
+-- formula
+-- the numbers of a file of this marker, these codes, and these moments of its first and its last record
+unfoldable pub quality_text : Form → List ℕ → List Code → ℕ → ℕ → Option ℕ → ℕ → List EpochTableView → List ℕ
+quality_text form marker listed first last interval gap es =
+    heading_text form marker (reading_of first) (reading_of last) interval (satellites_in gap es)
+    (record_counts_of (unit_of interval) es)
+    ++ each_code (λ place code. code_line form code (totals_of gap es place)) 0 listed
+    ++ section_text form Codes listed gap es ++ section_text form Never listed gap es ++ section_text form Passes listed gap es
+    ++ close_text form
+
+-- a file without records has no other numbers
+unfoldable pub text_of_none : Form → List ℕ → List ℕ
+text_of_none form marker =
+    marker_text form marker ++ value_text form (codes "\nrecords ") (codes ",\"records\":") Whole (Some 0) ++ end_text form ++ close_text form
+
+-- formula
+-- the numbers of a file with this interval
+abbrev pub text_of_epochs : Form → List ℕ → List Code → ℕ → Option ℕ → List EpochTableView → List ℕ
+text_of_epochs form marker listed first interval [] = text_of_none form marker
+text_of_epochs form marker listed first interval (e ∷ before) =
+    quality_text form marker listed first e.time interval (longest_gap interval) (e ∷ before)
+
+-- formula
+-- the numbers of a table
+abbrev pub quality_of : Form → WellFormedTable → List ℕ
+quality_of form t = text_of_epochs form t.head.marker t.head.listed t.first (interval_of_file t) (newest_first t.epochs)
+
+-- a text tells the numbers of each table whose text the file is; by one_table there is one
+abbrev pub TellsQuality : Form → List ℕ → List ℕ → Type 0
+TellsQuality form file text = (t : WellFormedTable) → IsWellFormedTable t → file ≡ table_text t → text ≡ quality_of form t

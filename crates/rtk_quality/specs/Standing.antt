@@ -1,0 +1,80 @@
+-- What the counts hold, tied to what came.
+use Rattle.std.specs.Prelude.{◌≡◌, ◌<◌, ℕ, ◌+◌, ◌==◌, Bool, true, false, List, [], ◌∷◌, ◌++◌, length, reverse, get_or, Option, None, Some, if◌then◌else◌}
+use Rattle.rtk_obs.specs.declared.time.Civil.{Civil}
+use Rattle.rtk_rinex.specs.Record.{EpochTableView}
+use Rattle.rtk_rinex.specs.Table.{WellFormedTable, IsWellFormedTable, table_text}
+use Rattle.rtk_tracking.specs.Epochs.{newest_first}
+use Rattle.rtk_tracking.specs.Passes.{Sighting, sightings_of, begins_pass}
+use Rattle.rtk_tracking.specs.Standing.{StandsForPass}
+use Rattle.rtk_quality.specs.Counts.{plus, code_counts_of}
+use Rattle.rtk_quality.specs.SatellitePasses.{passes_of, epochs_since_phase, epochs_in_passes}
+use Rattle.rtk_quality.specs.Records.{record_counts_of}
+use Rattle.rtk_quality.specs.declared.satellite_counts.PassCounts.{PassCounts}
+use Rattle.rtk_quality.specs.declared.satellite_counts.SatelliteCounts.{SatelliteCounts}
+use Rattle.rtk_quality.specs.declared.file_counts.EndedPass.{EndedPass}
+use Rattle.rtk_quality.specs.declared.file_counts.FileCounts.{FileCounts}
+
+-- ---- a satellite
+
+-- the newest pass
+abbrev pub newest_pass : List PassCounts → Option PassCounts
+newest_pass [] = None
+newest_pass (p ∷ ps) = Some p
+
+-- the passes before the newest one
+abbrev pub older_passes : List PassCounts → List PassCounts
+older_passes [] = []
+older_passes (p ∷ ps) = ps
+
+-- the last pass with an epoch more, or a pass that begins with it
+abbrev pub with_epoch : Option PassCounts → Bool → Civil → ℕ → ℕ → PassCounts
+with_epoch (Some p) false reading phases slips =
+    record { from = p.from; until = reading; phases = plus p.phases phases; slips = plus p.slips slips }
+with_epoch (Some p) true reading phases slips = record { from = reading; until = reading; phases = phases; slips = slips }
+with_epoch None begins reading phases slips = record { from = reading; until = reading; phases = phases; slips = slips }
+
+-- a satellite after what came of it
+pub record StandsForSatellite (s : SatelliteCounts) (gap : ℕ) (before : List Sighting) : Type 0 where
+  pub pass : StandsForPass s.pass gap before
+  pub codes : s.codes ≡ code_counts_of gap before
+  pub in_passes : s.in_passes ≡ epochs_in_passes gap before
+  pub since_phase : s.since_phase ≡ epochs_since_phase before
+  pub last : s.last ≡ newest_pass (passes_of gap before)
+
+-- the pass that ends when another one begins
+abbrev pub StandsForEnded : Option PassCounts → ℕ → List Sighting → Sighting → Type 0
+StandsForEnded ended gap before s = ended ≡ (if begins_pass gap before s then newest_pass (passes_of gap before) else None)
+
+-- ---- a file
+
+-- the satellites 1 to 32
+pub record StandForSatellites (satellites : List SatelliteCounts) (gap : ℕ) (es : List EpochTableView) : Type 0 where
+  pub size : length satellites ≡ 32
+  pub each : (place : ℕ) (d : SatelliteCounts) → place < 32 → StandsForSatellite (get_or satellites place d) gap (sightings_of (place + 1) es)
+
+-- the passes of a satellite among those that ended
+abbrev pub ended_of : ℕ → List EndedPass → List PassCounts
+ended_of satellite [] = []
+ended_of satellite (e ∷ ended) = if e.satellite == satellite then e.pass ∷ ended_of satellite ended else ended_of satellite ended
+
+-- a pass of a satellite more, if one ended
+abbrev pub with_ended : List EndedPass → ℕ → Option PassCounts → List EndedPass
+with_ended ended satellite None = ended
+with_ended ended satellite (Some p) = ended ++ record { satellite = satellite; pass = p } ∷ []
+
+-- all passes but the newest one ended
+abbrev pub HasEnded : List EndedPass → ℕ → List Sighting → ℕ → Type 0
+HasEnded ended gap before satellite = ended_of satellite ended ≡ reverse (older_passes (passes_of gap before))
+
+-- the passes that ended, of the satellites 1 to 32
+abbrev pub StandForEnded : List EndedPass → ℕ → List EpochTableView → Type 0
+StandForEnded ended gap es = (place : ℕ) → place < 32 → HasEnded ended gap (sightings_of (place + 1) es) (place + 1)
+
+pub record StandsForFile (f : FileCounts) (gap unit : ℕ) (es : List EpochTableView) : Type 0 where
+  pub records : f.records ≡ record_counts_of unit es
+  pub satellites : StandForSatellites f.satellites.items gap es
+  pub ended : StandForEnded f.ended.items gap es
+
+-- this holds of the epochs, newest first, of each table whose text the file is
+abbrev pub HoldsOfEpochs : List ℕ → (List EpochTableView → Type 0) → Type 0
+HoldsOfEpochs file Holds = (t : WellFormedTable) → IsWellFormedTable t → file ≡ table_text t → Holds (newest_first t.epochs)

@@ -1,0 +1,106 @@
+//! The numbers of a code: its counts, of how many phases that could be there, and fractions of them.
+
+ghost use Rattle.std.specs.Prelude.{◌≡◌, ◌<◌, ◌^◌};
+ghost use Rattle.rtk_tracking.specs.Epochs.{capped};
+ghost use Rattle.rtk_quality.specs.Counts.{rounded_fraction, percent_tenths, phases_per_slip, mean_hundredths, mean_tenths};
+ghost use Rattle.rtk_quality.specs.Quality.{together, no_numbers, with_satellite};
+
+use crate::code_counts::CodeCounts;
+use crate::extremes::{greater, lesser};
+
+/// The counts of a code, and how many phases could be there.
+#[derive(Clone, Copy)]
+pub(crate) struct CodeNumbers {
+    pub(crate) counts: CodeCounts,
+    pub(crate) possible: u64,
+}
+
+// The counts of two satellites together.
+fn together(one: &CodeCounts, other: &CodeCounts) -> CodeCounts
+    ensures { result ≡ together one.now other.now }
+{
+    CodeCounts {
+        seen: true,
+        phases: one.phases.saturating_add(other.phases),
+        ranges: one.ranges.saturating_add(other.ranges),
+        slips: one.slips.saturating_add(other.slips),
+        rises: one.rises.saturating_add(other.rises),
+        halves: one.halves.saturating_add(other.halves),
+        strengths: one.strengths.saturating_add(other.strengths),
+        strength_sum: one.strength_sum.saturating_add(other.strength_sum),
+        least: lesser(one.least, other.least),
+        greatest: greater(one.greatest, other.greatest),
+    }
+}
+
+impl CodeNumbers {
+    /// No satellite has the code.
+    pub(crate) fn none() -> CodeNumbers
+        ensures { result ≡ no_numbers }
+    {
+        CodeNumbers {
+            counts: CodeCounts::new(),
+            possible: 0,
+        }
+    }
+
+    /// Adds the numbers of one more satellite, if it has the code.
+    pub(crate) fn add_satellite(&mut self, own: &CodeNumbers)
+        ensures { self.new ≡ with_satellite self.old own.now }
+    {
+        if own.counts.seen {
+            self.counts = together(&self.counts, &own.counts);
+            self.possible = self.possible.saturating_add(own.possible);
+        }
+    }
+}
+
+// A fraction as a whole number: of two alike near, the greater one.
+fn rounded(number: u128, divisor: u128) -> u64
+    requires positive { 0 < divisor }
+    requires small { number < 2 ^ 96 }
+    requires small_divisor { divisor < 2 ^ 96 }
+    ensures { result ≡ capped (rounded_fraction number divisor) }
+{
+    ((2 * number + divisor) / (2 * divisor)).min(u128::from(u64::MAX)) as u64
+}
+
+/// How many of those that could be there are there, in tenths of a percent.
+pub(crate) fn percent_tenths(number: u64, possible: u64) -> Option<u64>
+    ensures { result ≡ percent_tenths number possible }
+{
+    if possible == 0 {
+        return None;
+    }
+    Some(rounded(1000 * u128::from(number), u128::from(possible)))
+}
+
+/// How many phases there are for each slip.
+pub(crate) fn phases_per_slip(phases: u64, slips: u64) -> Option<u64>
+    ensures { result ≡ phases_per_slip phases slips }
+{
+    if slips == 0 {
+        return None;
+    }
+    Some(rounded(u128::from(phases), u128::from(slips)))
+}
+
+/// The mean of so many strengths in hundredths of a dB-Hz; their sum is in thousandths.
+pub(crate) fn mean_hundredths(sum: u64, count: u64) -> Option<u64>
+    ensures { result ≡ mean_hundredths sum count }
+{
+    if count == 0 {
+        return None;
+    }
+    Some(rounded(u128::from(sum), 10 * u128::from(count)))
+}
+
+/// How many satellites an epoch has in the mean, in tenths, by those of all records together.
+pub(crate) fn mean_tenths(rows: u64, records: u64) -> Option<u64>
+    ensures { result ≡ mean_tenths rows records }
+{
+    if records == 0 {
+        return None;
+    }
+    Some(rounded(10 * u128::from(rows), u128::from(records)))
+}

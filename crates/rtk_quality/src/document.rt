@@ -1,0 +1,105 @@
+//! The numbers of a table.
+
+ghost use Rattle.std.specs.Prelude.{◌≡◌, ◌≤◌, ℕ, List, length, ◌++◌, IfOk, OnOk};
+ghost use Rattle.rtk_rinex.specs.Record.{EpochTableView};
+ghost use Rattle.rtk_quality.specs.Records.{unit_of};
+ghost use Rattle.rtk_quality.specs.QualityText.{close_text, quality_text, text_of_none, TellsQuality};
+ghost use Rattle.rtk_quality.specs.Standing.{StandsForFile};
+
+use crate::entries::put_count;
+use crate::file_counts::{FileCounts, count_file, satellites_in};
+use crate::form::{Form, put_end};
+use crate::heading::{put_heading, put_marker};
+use crate::sections::{Section, put_codes, put_section};
+use rtk_obs::{Code, GpsMs, civil};
+use rtk_rinex::Table;
+use rtk_tracking::interval;
+use std::alloc::{AllocError, Global};
+
+fn put_close(text: &mut Vec<u8>, form: Form) -> Result<(), AllocError>
+    ensures { OnOk result (text.new.items ≡ text.old.items ++ close_text form) }
+{
+    match form {
+        Form::Lines => Ok(()),
+        Form::Json => text.extend_from_slice(b"\n]\n"),
+    }
+}
+
+// The numbers of a file without records.
+#[tactic(auto, unfolding(crate::specs::QualityText::text_of_none))]
+fn text_of_none(alloc: Global, form: Form, marker: &[u8]) -> Result<Vec<u8>, AllocError>
+    ensures { IfOk result (λ text. text.items ≡ text_of_none form marker.now) }
+{
+    let mut text = Vec::new(alloc);
+    put_marker(&mut text, form, marker)?;
+    put_count(&mut text, form, b"\nrecords ", b",\"records\":", 0)?;
+    put_end(&mut text, form)?;
+    put_close(&mut text, form)?;
+    Ok(text)
+}
+
+// The numbers of a file with records.
+fn text_of(
+    alloc: Global,
+    form: Form,
+    marker: &[u8],
+    codes: &[Code],
+    first: GpsMs,
+    last: GpsMs,
+    interval: Option<u64>,
+    counts: &FileCounts,
+) -> Result<Vec<u8>, AllocError>
+    requires few { length codes.now ≤ 16 }
+    requires size { length counts.now.satellites.items ≡ 32 }
+    ensures { IfOk result (λ text. (gap : ℕ) (es : List EpochTableView) → StandsForFile counts.now gap (unit_of interval) es
+        → text.items ≡ quality_text form marker.now codes.now first last interval gap es) }
+{
+    let satellites = counts.satellites.as_slice();
+    let ended = counts.ended.as_slice();
+    let seen = satellites_in(satellites) as u64;
+    let from = civil(first);
+    let until = civil(last);
+    let mut text = Vec::new(alloc);
+    put_heading(
+        &mut text,
+        form,
+        marker,
+        from,
+        until,
+        interval,
+        seen,
+        &counts.records,
+    )?;
+    put_codes(&mut text, form, codes, satellites)?;
+    put_section(&mut text, form, Section::Codes, codes, satellites, ended)?;
+    put_section(&mut text, form, Section::Never, codes, satellites, ended)?;
+    put_section(&mut text, form, Section::Passes, codes, satellites, ended)?;
+    put_close(&mut text, form)?;
+    Ok(text)
+}
+
+/// The numbers of a table as text: as lines, each of which begins with a keyword, or as one JSON document
+/// with whole numbers in the units that its keys name.
+///
+/// It tells nothing of multipath.
+pub fn quality(alloc: Global, form: Form, table: &Table<'_>) -> Result<Vec<u8>, AllocError>
+    // Fails only if memory is refused: tests/system/calls, row quality.
+    ensures { IfOk result (λ text. TellsQuality form table.now.text text.items) }
+{
+    let heading = table.heading();
+    let marker = heading.head.marker();
+    let codes = heading.head.codes();
+    let interval = interval(alloc, table)?;
+    let counts = count_file(alloc, table, interval)?;
+    match counts.records.last {
+        Some(last) => {
+            let first = heading.first;
+            let text = text_of(alloc, form, marker, codes, first, last, interval, &counts)?;
+            Ok(text)
+        }
+        None => {
+            let text = text_of_none(alloc, form, marker)?;
+            Ok(text)
+        }
+    }
+}

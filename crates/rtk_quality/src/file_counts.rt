@@ -1,0 +1,150 @@
+//! The counts of a file, record by record.
+
+ghost use Rattle.std.specs.Prelude.{◌≡◌, ◌<◌, ℕ, List, [], ◌∷◌, ◌++◌, length, Option, IfOk, OnOk};
+ghost use Rattle.std.specs.List.{range_with_len};
+ghost use Rattle.rtk_rinex.specs.Record.{EpochTableView};
+ghost use Rattle.rtk_tracking.specs.Passes.{longest_gap};
+ghost use Rattle.rtk_quality.specs.Records.{unit_of};
+ghost use Rattle.rtk_quality.specs.Quality.{totals_of, satellites_in};
+ghost use Rattle.rtk_quality.specs.Standing.{with_ended, StandForSatellites, StandForEnded, StandsForFile, HoldsOfEpochs};
+
+use crate::code_numbers::CodeNumbers;
+use crate::record_counts::{RecordCounts, unit_ms};
+use crate::satellite_counts::{PassCounts, SatelliteCounts};
+use rtk_rinex::{EpochTable, Table};
+use rtk_tracking::{longest_gap_ms, observed_in};
+use std::alloc::{AllocError, Global};
+
+/// A pass that ended, and its satellite.
+#[derive(Clone, Copy)]
+pub(crate) struct EndedPass {
+    pub(crate) satellite: u8,
+    pub(crate) pass: PassCounts,
+}
+
+/// What came of a file.
+#[derive(Drop)]
+pub(crate) struct FileCounts {
+    pub(crate) records: RecordCounts,
+    /// The satellites 1 to 32.
+    pub(crate) satellites: Vec<SatelliteCounts>,
+    /// The passes that ended, in the order in which others began.
+    pub(crate) ended: Vec<EndedPass>,
+}
+
+// Adds a pass of a satellite, if one ended.
+fn add_ended(
+    ended: &mut Vec<EndedPass>,
+    satellite: u8,
+    pass: Option<PassCounts>,
+) -> Result<(), AllocError>
+    ensures { OnOk result (ended.new.items ≡ with_ended ended.old.items satellite pass) }
+{
+    match pass {
+        Some(pass) => {
+            ended.push(EndedPass { satellite, pass })?;
+            Ok(())
+        }
+        None => Ok(()),
+    }
+}
+
+// Counts one more epoch of each satellite.
+fn note_satellites(
+    satellites: &mut Vec<SatelliteCounts>,
+    ended: &mut Vec<EndedPass>,
+    gap_ms: u64,
+    epoch: &EpochTable,
+) -> Result<(), AllocError>
+    requires { length satellites.old.items ≡ 32 }
+    ensures size { OnOk result (length satellites.new.items ≡ 32) }
+    ensures satellites { OnOk result ((es : List EpochTableView) → StandForSatellites satellites.old.items gap_ms es
+        → StandForSatellites satellites.new.items gap_ms (epoch.now ∷ es)) }
+    ensures ended { OnOk result ((es : List EpochTableView) → StandForSatellites satellites.old.items gap_ms es
+        → StandForEnded ended.old.items gap_ms es → StandForEnded ended.new.items gap_ms (epoch.now ∷ es)) }
+{
+    for place in 0..32 {
+        let satellite = place as u8 + 1;
+        let observed = observed_in(epoch.rows(), satellite);
+        let pass = satellites[place].note(gap_ms, epoch.time(), observed);
+        add_ended(ended, satellite, pass)?;
+    }
+    Ok(())
+}
+
+/// The numbers of the code at this place over all satellites that have it.
+pub(crate) fn totals_of(satellites: &[SatelliteCounts], place: usize) -> CodeNumbers
+    requires { place < 16 }
+    ensures { (gap : ℕ) (es : List EpochTableView) → StandForSatellites satellites.now gap es → result ≡ totals_of gap es place }
+{
+    let mut totals = CodeNumbers::none();
+    for satellite in satellites {
+        totals.add_satellite(&satellite.numbers(place));
+    }
+    totals
+}
+
+/// How many satellites the file has.
+pub(crate) fn satellites_in(satellites: &[SatelliteCounts]) -> usize
+    ensures { (gap : ℕ) (es : List EpochTableView) → StandForSatellites satellites.now gap es → result ≡ satellites_in gap es }
+{
+    let mut seen = 0;
+    for satellite in satellites {
+        if satellite.is_in_file() {
+            seen += 1;
+        }
+    }
+    seen
+}
+
+impl FileCounts {
+    /// Nothing came.
+    pub(crate) fn new(alloc: Global) -> Result<FileCounts, AllocError>
+        ensures size { IfOk result (λ counts. length counts.satellites.items ≡ 32) }
+        ensures counts { IfOk result (λ counts. (gap : ℕ) (unit : ℕ) → StandsForFile counts gap unit []) }
+    {
+        Ok(FileCounts {
+            records: RecordCounts::new(),
+            satellites: vec![in alloc; SatelliteCounts::new(); 32]?,
+            ended: Vec::new(alloc),
+        })
+    }
+
+    /// Counts one more record.
+    pub(crate) fn note_epoch(
+        &mut self,
+        gap_ms: u64,
+        unit_ms: u64,
+        epoch: &EpochTable,
+    ) -> Result<(), AllocError>
+        requires unit { 0 < unit_ms }
+        requires size { length self.old.satellites.items ≡ 32 }
+        ensures size { OnOk result (length self.new.satellites.items ≡ 32) }
+        ensures counts { OnOk result ((es : List EpochTableView) → StandsForFile self.old gap_ms unit_ms es
+            → StandsForFile self.new gap_ms unit_ms (epoch.now ∷ es)) }
+    {
+        self.records.note_record(unit_ms, epoch);
+        note_satellites(&mut self.satellites, &mut self.ended, gap_ms, epoch)?;
+        Ok(())
+    }
+}
+
+/// Counts all records of a table with this interval.
+pub(crate) fn count_file(
+    alloc: Global,
+    table: &Table<'_>,
+    interval: Option<u64>,
+) -> Result<FileCounts, AllocError>
+    ensures size { IfOk result (λ counts. length counts.satellites.items ≡ 32) }
+    ensures counts { IfOk result (λ counts. HoldsOfEpochs table.now.text (StandsForFile counts (longest_gap interval) (unit_of interval))) }
+{
+    let gap_ms = longest_gap_ms(interval);
+    let unit_ms = unit_ms(interval);
+    let mut counts = FileCounts::new(alloc)?;
+    let mut epoch = EpochTable::new(table.heading().first);
+    let mut records = table.records();
+    while let Some(_record) = records.next(&mut epoch) {
+        counts.note_epoch(gap_ms, unit_ms, &epoch)?;
+    }
+    Ok(counts)
+}

@@ -1,0 +1,122 @@
+//! The lines of the whole file.
+
+ghost use Rattle.std.specs.Prelude.{◌≡◌, ◌++◌, OnOk};
+ghost use Rattle.rtk_quality.specs.QualityText.{marker_text, span_text, satellites_text, heading_text};
+
+use crate::code_numbers::mean_tenths;
+use crate::entries::put_count;
+use crate::form::{Decimals, Form, put_end, put_json_text, put_moment, put_narrow, put_value};
+use crate::record_counts::RecordCounts;
+use rtk_obs::Civil;
+use std::alloc::AllocError;
+
+/// Appends the marker.
+#[tactic(auto, unfolding(crate::specs::QualityText::marker_text))]
+pub(crate) fn put_marker(text: &mut Vec<u8>, form: Form, marker: &[u8]) -> Result<(), AllocError>
+    ensures { OnOk result (text.new.items ≡ text.old.items ++ marker_text form marker.now) }
+{
+    match form {
+        Form::Lines => {
+            text.extend_from_slice(b"marker ")?;
+            text.extend_from_slice(marker)
+        }
+        Form::Json => {
+            text.extend_from_slice(b"[{\"line\":\"file\",\"marker\":\"")?;
+            put_json_text(text, marker)?;
+            text.extend_from_slice(b"\"")?;
+            Ok(())
+        }
+    }
+}
+
+// Appends the span, the interval, and the epochs that are there and missing.
+#[tactic(auto, unfolding(crate::specs::QualityText::span_text))]
+fn put_span(
+    text: &mut Vec<u8>,
+    form: Form,
+    from: Civil,
+    until: Civil,
+    interval: Option<u64>,
+    records: &RecordCounts,
+) -> Result<(), AllocError>
+    ensures { OnOk result (text.new.items ≡ text.old.items ++ span_text form from until interval records.now) }
+{
+    put_moment(text, form, b"\nfrom ", b",\"from\":", from)?;
+    put_moment(text, form, b"\nuntil ", b",\"until\":", until)?;
+    put_value(
+        text,
+        form,
+        b"\ninterval ",
+        b",\"interval_ms\":",
+        Decimals::Thousandths,
+        interval,
+    )?;
+    put_count(text, form, b"\nrecords ", b",\"records\":", records.records)?;
+    put_count(text, form, b"\nmissing ", b",\"missing\":", records.missing)?;
+    Ok(())
+}
+
+// Appends the satellites of the file, and how many an epoch has.
+#[tactic(auto, unfolding(crate::specs::QualityText::satellites_text))]
+fn put_satellites(
+    text: &mut Vec<u8>,
+    form: Form,
+    satellites: u64,
+    records: &RecordCounts,
+) -> Result<(), AllocError>
+    ensures { OnOk result (text.new.items ≡ text.old.items ++ satellites_text form satellites records.now) }
+{
+    put_count(
+        text,
+        form,
+        b"\nsatellites ",
+        b",\"satellites\":",
+        satellites,
+    )?;
+    put_narrow(
+        text,
+        form,
+        b"\nleast-satellites ",
+        b",\"least_satellites\":",
+        Decimals::Whole,
+        records.least_rows,
+    )?;
+    let mean = mean_tenths(records.rows, records.records);
+    put_value(
+        text,
+        form,
+        b"\nmean-satellites ",
+        b",\"mean_satellites_tenths\":",
+        Decimals::Tenths,
+        mean,
+    )?;
+    put_narrow(
+        text,
+        form,
+        b"\ngreatest-satellites ",
+        b",\"greatest_satellites\":",
+        Decimals::Whole,
+        records.most_rows,
+    )?;
+    Ok(())
+}
+
+/// Appends the lines of the whole file.
+#[tactic(auto, unfolding(crate::specs::QualityText::heading_text))]
+pub(crate) fn put_heading(
+    text: &mut Vec<u8>,
+    form: Form,
+    marker: &[u8],
+    from: Civil,
+    until: Civil,
+    interval: Option<u64>,
+    satellites: u64,
+    records: &RecordCounts,
+) -> Result<(), AllocError>
+    ensures { OnOk result (text.new.items ≡ text.old.items ++ heading_text form marker.now from until interval satellites records.now) }
+{
+    put_marker(text, form, marker)?;
+    put_span(text, form, from, until, interval, records)?;
+    put_satellites(text, form, satellites, records)?;
+    put_end(text, form)
+}

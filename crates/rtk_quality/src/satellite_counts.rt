@@ -1,0 +1,218 @@
+//! The counts of a satellite: its codes, and its passes.
+
+ghost use Rattle.std.specs.Prelude.{◌≡◌, ◌<◌, ℕ, List, [], ◌∷◌, None, Some, if◌then◌else◌};
+ghost use Rattle.std.specs.List.{list_any};
+ghost use Rattle.rtk_tracking.specs.Passes.{Sighting, has_phase, is_known, is_slip};
+ghost use Rattle.rtk_tracking.specs.Standing.{AreMarked};
+ghost use Rattle.rtk_quality.specs.Counts.{plus, shown_at, code_counts_of};
+ghost use Rattle.rtk_quality.specs.Quality.{numbers_of, is_in_file};
+ghost use Rattle.rtk_quality.specs.SatellitePasses.{phases_in, slips_at};
+ghost use Rattle.rtk_quality.specs.Standing.{with_epoch, StandsForSatellite, StandsForEnded};
+
+use crate::code_counts::CodeCounts;
+use crate::code_numbers::CodeNumbers;
+use rtk_obs::{Civil, GpsMs, civil};
+use rtk_rinex::Observed;
+use rtk_tracking::Pass;
+
+/// A pass of a satellite: the moments of its first and its last phase, and its phases and slips.
+#[derive(Clone, Copy)]
+pub(crate) struct PassCounts {
+    pub(crate) from: Civil,
+    pub(crate) until: Civil,
+    pub(crate) phases: u64,
+    pub(crate) slips: u64,
+}
+
+/// A satellite so far.
+#[derive(Clone, Copy)]
+pub(crate) struct SatelliteCounts {
+    pub(crate) pass: Pass,
+    pub(crate) codes: [CodeCounts; 16],
+    /// The epochs from the first to the last phase of each pass.
+    pub(crate) in_passes: u64,
+    /// The epochs since the last phase.
+    pub(crate) since_phase: u64,
+    /// The last pass.
+    pub(crate) last: Option<PassCounts>,
+}
+
+// What the code at this place shows.
+fn shown_at(observed: &[Observed], place: usize) -> Observed
+    ensures { result ≡ shown_at place observed.now }
+{
+    observed.get(place).copied().unwrap_or_default()
+}
+
+// Counts one more epoch of each code.
+fn note_codes(codes: &mut [CodeCounts; 16], observed: &[Observed], known: &[bool; 16])
+    ensures { (gap : ℕ) (before : List Sighting) (s : Sighting) → observed.now ≡ s.observed
+        → AreMarked known.now (λ place. is_known gap place before s)
+        → codes.old ≡ code_counts_of gap before → codes.new ≡ code_counts_of gap (s ∷ before) }
+{
+    for place in 0..16 {
+        let mut counts = codes[place];
+        counts.note(&shown_at(observed, place), known[place]);
+        codes[place] = counts;
+    }
+}
+
+// Some code was seen.
+fn has_seen(codes: &[CodeCounts; 16]) -> bool
+    ensures { result ≡ list_any (λ counts. counts.seen) codes.now }
+{
+    codes.iter().any(|counts| counts.seen)
+}
+
+// How many phases an epoch has.
+fn phases_in(observed: &[Observed]) -> u64
+    ensures { result ≡ phases_in observed.now }
+{
+    observed
+        .iter()
+        .filter(|o| o.phase_millicycles.is_some())
+        .count() as u64
+}
+
+// Some code has a phase.
+fn has_phase(observed: &[Observed]) -> bool
+    ensures { result ≡ has_phase observed.now }
+{
+    observed.iter().any(|o| o.phase_millicycles.is_some())
+}
+
+// The code at this place has slipped: it had a phase earlier in the pass.
+fn is_slip(observed: &[Observed], known: &[bool; 16], place: usize) -> bool
+    requires { place < 16 }
+    ensures { (gap : ℕ) (before : List Sighting) (s : Sighting) → observed.now ≡ s.observed
+        → AreMarked known.now (λ place. is_known gap place before s) → result ≡ is_slip gap place before s }
+{
+    shown_at(observed, place).slip && known[place]
+}
+
+// How many slips an epoch has, of codes that had a phase earlier in the pass.
+fn slips_in(observed: &[Observed], known: &[bool; 16]) -> u64
+    ensures { (gap : ℕ) (before : List Sighting) (s : Sighting) → observed.now ≡ s.observed
+        → AreMarked known.now (λ place. is_known gap place before s) → result ≡ slips_at gap before s }
+{
+    let mut slips = 0;
+    for place in 0..16 {
+        if is_slip(observed, known, place) {
+            slips += 1;
+        }
+    }
+    slips
+}
+
+// The last pass with an epoch more, or a pass that begins with it.
+fn with_epoch(
+    last: Option<PassCounts>,
+    begins: bool,
+    reading: Civil,
+    phases: u64,
+    slips: u64,
+) -> PassCounts
+    ensures { result ≡ with_epoch last begins reading phases slips }
+{
+    match last {
+        Some(pass) if !begins => PassCounts {
+            from: pass.from,
+            until: reading,
+            phases: pass.phases.saturating_add(phases),
+            slips: pass.slips.saturating_add(slips),
+        },
+        _ => PassCounts {
+            from: reading,
+            until: reading,
+            phases,
+            slips,
+        },
+    }
+}
+
+impl SatelliteCounts {
+    /// Nothing came.
+    pub(crate) fn new() -> SatelliteCounts
+        ensures { (gap : ℕ) → StandsForSatellite result gap [] }
+    {
+        SatelliteCounts {
+            pass: Pass::new(),
+            codes: [CodeCounts::new(); 16],
+            in_passes: 0,
+            since_phase: 0,
+            last: None,
+        }
+    }
+
+    /// The numbers of the code at this place.
+    pub(crate) fn numbers(&self, place: usize) -> CodeNumbers
+        requires { place < 16 }
+        ensures { (gap : ℕ) (before : List Sighting) → StandsForSatellite self.now gap before → result ≡ numbers_of gap before place }
+    {
+        CodeNumbers {
+            counts: self.codes[place],
+            possible: self.in_passes,
+        }
+    }
+
+    /// Has the satellite a code?
+    pub(crate) fn is_in_file(&self) -> bool
+        ensures { (gap : ℕ) (before : List Sighting) → StandsForSatellite self.now gap before → result ≡ is_in_file gap before }
+    {
+        has_seen(&self.codes)
+    }
+
+    // Notes an epoch with a phase: it goes on with the last pass, or begins one, and then the answer is
+    // the pass before it.
+    fn note_phases(
+        &mut self,
+        begins: bool,
+        reading: Civil,
+        phases: u64,
+        slips: u64,
+    ) -> Option<PassCounts>
+        ensures pass { self.new.pass ≡ self.old.pass }
+        ensures codes { self.new.codes ≡ self.old.codes }
+        ensures in_passes { self.new.in_passes ≡ plus self.old.in_passes (if begins then 1 else plus self.old.since_phase 1) }
+        ensures since_phase { self.new.since_phase ≡ 0 }
+        ensures last { self.new.last ≡ Some (with_epoch self.old.last begins reading phases slips) }
+        ensures ended { result ≡ (if begins then self.old.last else None) }
+    {
+        let had = self.last;
+        self.last = Some(with_epoch(had, begins, reading, phases, slips));
+        let since_phase = self.since_phase;
+        self.since_phase = 0;
+        if begins {
+            self.in_passes = self.in_passes.saturating_add(1);
+            return had;
+        }
+        self.in_passes = self.in_passes.saturating_add(since_phase.saturating_add(1));
+        None
+    }
+
+    /// Notes one more epoch: what the codes of the satellite show, nothing if it has no row. If a pass
+    /// begins, the answer is the one before it.
+    pub(crate) fn note(
+        &mut self,
+        gap_ms: u64,
+        time: GpsMs,
+        observed: &[Observed],
+    ) -> Option<PassCounts>
+        ensures stands { (before : List Sighting) → StandsForSatellite self.old gap_ms before
+            → StandsForSatellite self.new gap_ms (record { time = time; observed = observed.now } ∷ before) }
+        ensures ended { (before : List Sighting) → StandsForSatellite self.old gap_ms before
+            → StandsForEnded result gap_ms before (record { time = time; observed = observed.now }) }
+    {
+        let time_ms = time.ms();
+        let begins = self.pass.begins(gap_ms, time_ms, observed);
+        let known = self.pass.known(gap_ms, time_ms, observed);
+        note_codes(&mut self.codes, observed, &known);
+        self.pass.note(gap_ms, time_ms, observed);
+        if !has_phase(observed) {
+            self.since_phase = self.since_phase.saturating_add(1);
+            return None;
+        }
+        let slips = slips_in(observed, &known);
+        self.note_phases(begins, civil(time), phases_in(observed), slips)
+    }
+}

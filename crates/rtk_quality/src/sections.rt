@@ -1,0 +1,165 @@
+//! The lines of all codes and satellites.
+
+ghost use Rattle.std.specs.Prelude.{◌≡◌, ◌<◌, ◌≤◌, ℕ, ◌+◌, List, ◌++◌, length, reverse, flat_map, OnOk};
+ghost use Rattle.rtk_rinex.specs.Record.{EpochTableView};
+ghost use Rattle.rtk_tracking.specs.Passes.{Sighting};
+ghost use Rattle.rtk_quality.specs.Quality.{numbers_of, totals_of};
+ghost use Rattle.rtk_quality.specs.SatellitePasses.{passes_of};
+ghost use Rattle.rtk_quality.specs.QualityText.{code_line, pass_line, each_code, code_in, part_of, section_text};
+ghost use Rattle.rtk_quality.specs.Standing.{ended_of, StandsForSatellite, HasEnded, StandForSatellites, StandForEnded};
+
+use crate::code_numbers::CodeNumbers;
+use crate::entries::{put_code_line, put_never_line, put_pass_line, put_satellite_line};
+use crate::file_counts::{EndedPass, totals_of};
+use crate::form::Form;
+use crate::satellite_counts::SatelliteCounts;
+use rtk_obs::Code;
+use std::alloc::AllocError;
+
+/// What a section has of each satellite.
+#[derive(Clone, Copy)]
+pub(crate) enum Section {
+    /// The codes that it has.
+    Codes,
+    /// The codes of the file that it has nowhere.
+    Never,
+    /// Its passes.
+    Passes,
+}
+
+/// Appends the lines of codes over all satellites that have them.
+pub(crate) fn put_codes(
+    text: &mut Vec<u8>,
+    form: Form,
+    codes: &[Code],
+    satellites: &[SatelliteCounts],
+) -> Result<(), AllocError>
+    requires { length codes.now ≤ 16 }
+    ensures { OnOk result ((gap : ℕ) (es : List EpochTableView) → StandForSatellites satellites.now gap es
+        → text.new.items ≡ text.old.items ++ each_code (λ place code. code_line form code (totals_of gap es place)) 0 codes.now) }
+{
+    for (at, code) in codes.iter().enumerate() {
+        put_code_line(text, form, *code, &totals_of(satellites, at))?;
+    }
+    Ok(())
+}
+
+// Appends what a section has of a code of a satellite.
+fn put_code_in(
+    text: &mut Vec<u8>,
+    form: Form,
+    section: Section,
+    satellite: u8,
+    code: Code,
+    numbers: &CodeNumbers,
+) -> Result<(), AllocError>
+    ensures { OnOk result (text.new.items ≡ text.old.items ++ code_in form section satellite code numbers.now) }
+{
+    match section {
+        Section::Codes if numbers.counts.seen => {
+            put_satellite_line(text, form, satellite, code, numbers)
+        }
+        Section::Never if !numbers.counts.seen => put_never_line(text, form, satellite, code),
+        _ => Ok(()),
+    }
+}
+
+// Appends what a section has of the codes of a satellite.
+fn put_codes_in(
+    text: &mut Vec<u8>,
+    form: Form,
+    section: Section,
+    codes: &[Code],
+    satellite: u8,
+    counts: &SatelliteCounts,
+) -> Result<(), AllocError>
+    requires { length codes.now ≤ 16 }
+    ensures { OnOk result ((gap : ℕ) (before : List Sighting) → StandsForSatellite counts.now gap before
+        → text.new.items ≡ text.old.items ++ each_code (λ place code. code_in form section satellite code (numbers_of gap before place)) 0 codes.now) }
+{
+    for (at, code) in codes.iter().enumerate() {
+        put_code_in(text, form, section, satellite, *code, &counts.numbers(at))?;
+    }
+    Ok(())
+}
+
+// Appends the passes of a satellite that ended.
+fn put_ended(
+    text: &mut Vec<u8>,
+    form: Form,
+    satellite: u8,
+    ended: &[EndedPass],
+) -> Result<(), AllocError>
+    ensures { OnOk result (text.new.items ≡ text.old.items ++ flat_map (pass_line form satellite) (ended_of satellite ended.now)) }
+{
+    for one in ended {
+        if one.satellite == satellite {
+            put_pass_line(text, form, satellite, &one.pass)?;
+        }
+    }
+    Ok(())
+}
+
+// Appends the passes of a satellite, from the first to the last.
+fn put_passes(
+    text: &mut Vec<u8>,
+    form: Form,
+    satellite: u8,
+    counts: &SatelliteCounts,
+    ended: &[EndedPass],
+) -> Result<(), AllocError>
+    ensures { OnOk result ((gap : ℕ) (before : List Sighting) → StandsForSatellite counts.now gap before → HasEnded ended.now gap before satellite
+        → text.new.items ≡ text.old.items ++ flat_map (pass_line form satellite) (reverse (passes_of gap before))) }
+{
+    put_ended(text, form, satellite, ended)?;
+    match counts.last {
+        Some(pass) => {
+            put_pass_line(text, form, satellite, &pass)?;
+            Ok(())
+        }
+        None => Ok(()),
+    }
+}
+
+// Appends what a section has of a satellite.
+fn put_part(
+    text: &mut Vec<u8>,
+    form: Form,
+    section: Section,
+    codes: &[Code],
+    satellite: u8,
+    counts: &SatelliteCounts,
+    ended: &[EndedPass],
+) -> Result<(), AllocError>
+    requires { length codes.now ≤ 16 }
+    ensures { OnOk result ((gap : ℕ) (before : List Sighting) → StandsForSatellite counts.now gap before → HasEnded ended.now gap before satellite
+        → text.new.items ≡ text.old.items ++ part_of form section codes.now gap before satellite) }
+{
+    match section {
+        Section::Codes => put_codes_in(text, form, section, codes, satellite, counts),
+        Section::Never if !counts.is_in_file() => Ok(()),
+        Section::Never => put_codes_in(text, form, section, codes, satellite, counts),
+        Section::Passes => put_passes(text, form, satellite, counts, ended),
+    }
+}
+
+/// Appends a section: what it has of each satellite.
+pub(crate) fn put_section(
+    text: &mut Vec<u8>,
+    form: Form,
+    section: Section,
+    codes: &[Code],
+    satellites: &[SatelliteCounts],
+    ended: &[EndedPass],
+) -> Result<(), AllocError>
+    requires few { length codes.now ≤ 16 }
+    requires size { length satellites.now ≡ 32 }
+    ensures { OnOk result ((gap : ℕ) (es : List EpochTableView) → StandForSatellites satellites.now gap es → StandForEnded ended.now gap es
+        → text.new.items ≡ text.old.items ++ section_text form section codes.now gap es) }
+{
+    for (place, counts) in satellites.iter().enumerate() {
+        let satellite = place as u8 + 1;
+        put_part(text, form, section, codes, satellite, counts, ended)?;
+    }
+    Ok(())
+}

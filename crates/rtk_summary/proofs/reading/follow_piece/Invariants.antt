@@ -1,0 +1,17 @@
+use Rattle.std.proofs.Common.{◌≡◌, ◌≤◌, ◌+◌, ◌-◌, false, ◌++◌, length, drop}
+use Rattle.rtk_frame.specs.Frames.{final_frames, payloads, pending}
+use Rattle.rtk_summary.proofs.FrameLemmas.{FollowsOn}
+use Rattle.rtk_summary.proofs.reading.follow_piece.Given as goal
+
+-- with the frames of what is left all are followed
+abbrev pub invariant-frames : goal.invariant-frames
+invariant-frames g l = record {
+  within : l.at ≤ length l.piece;
+  is_open : l.scanner.ended ≡ false;
+  waiting : pending (l.fn.scanner.pending ++ l.piece) ≡ pending (l.scanner.pending ++ drop l.at l.piece);
+  followed : FollowsOn g.F.Follower.takes l.follower (payloads (final_frames (l.scanner.pending ++ drop l.at l.piece)))
+      l.fn.follower (payloads (final_frames (l.fn.scanner.pending ++ l.piece)));
+}
+
+abbrev pub decreases-frames : goal.decreases-frames
+decreases-frames g l = length l.scanner.pending + (length l.piece - l.at)

@@ -1,0 +1,16 @@
+use Rattle.std.proofs.Common.{ℕ, List, length, sym, ap, subst, ◌∙◌, arith}
+use Rattle.rtk_summary.specs.Proposal.{epochs_with_value, proposed}
+use Rattle.rtk_summary.specs.ReadFrames.{messages_in, messages_from}
+use Rattle.rtk_summary.specs.Standing.{StandForStations}
+use Rattle.rtk_summary.specs.declared.station.Station.{Station}
+use Rattle.rtk_summary.proofs.summary.Summary.msm_of.Goals as goal
+
+pub returns-then-place-stations : goal.returns-then-place-stations
+returns-then-place-stations c = λ fs stands.
+    c.msm_at.ensures (messages_in fs) (subst (λ (xs : List Station). StandForStations xs (messages_in fs)) (sym c.as_slice-stations.ensures.value) stands.stations)
+    ∙ ap (λ (n : ℕ). proposed (λ kind. epochs_with_value kind (messages_from n (messages_in fs)))) c.from-place.ensures
+
+pub returns-else-place-stations : goal.returns-else-place-stations
+returns-else-place-stations c = λ fs stands.
+    let size = ap (λ (xs : List Station). length xs) c.as_slice-stations.ensures.value ∙ stands.stations_size in
+    absurd (omega (arith, size, c.requires, c.from-place.ensures, c.if-place-stations.false))

@@ -1,0 +1,4 @@
+-- Facts that proofs of other crates cite.
+
+-- records that come one after another, and what stands for them
+pub use Rattle.rtk_tracking.proofs.RecordLemmas.{HasCome, come-more, come-all}

@@ -1,0 +1,25 @@
+//! What an epoch shows of a satellite.
+
+ghost use Rattle.std.specs.Prelude.{◌≡◌, ◌+◌, ℕ};
+ghost use Rattle.rtk_tracking.specs.Epochs.{observed_in, shows_phase};
+
+use rtk_rinex::{Observed, SatelliteRow};
+
+/// What the codes of a satellite show, by the rows of an epoch; nothing if it has no row.
+pub fn observed_in(rows: &[SatelliteRow], satellite: u8) -> &[Observed]
+    ensures { result.now ≡ observed_in satellite rows.now }
+{
+    for row in rows {
+        if row.satellite == satellite {
+            return row.observed.as_slice();
+        }
+    }
+    &[]
+}
+
+/// The phase of the code at this place stands.
+pub fn shows_phase(observed: &[Observed], place: usize) -> bool
+    ensures { result ≡ shows_phase place observed.now }
+{
+    place < observed.len() && observed[place].phase_millicycles.is_some()
+}

@@ -1,0 +1,363 @@
+"""The slow model: what captures of a station tell that their conversion wants to be told.
+
+All messages of a capture are read first. A date is then carried from the epoch that it tells to the first one, epoch by epoch;
+a conversion's file is looked at by no rule here.
+
+    python3 finding.py NOW CAPTURE..     what is found, for a person; NOW is 2024-05-17T12:00:00
+"""
+
+from __future__ import annotations
+
+import sys
+from collections import Counter
+from itertools import chain as chain_of
+from itertools import combinations, groupby
+from math import dist
+from pathlib import Path
+from typing import NamedTuple
+
+from messages import CODES, Refusal, cells_of, frames_of, read_message
+from model import civil, moment
+from wire import MSMS, WEEK_MS, BitReader, Fields, Message, table
+
+DAY_MS = 86_400_000
+HALF_WEEK_MS = WEEK_MS // 2
+FIRST_DAY = 44_244  # the Modified Julian Day of 1980-01-06
+FIRST_NEAR, LAST_NEAR = moment("1980-01-13T00:00:00"), moment("2099-12-31T23:59:59") + 999
+MOST_LINKS = 16
+METRES_100 = 1_000_000  # in 0.0001 m
+
+# ---------------------------------------------------------------- messages with a date
+
+SYSTEM_PARAMETERS = table("number:u12 station:u12 day:u16 second:u17 announced:u5 leap_seconds:u8")
+ANNOUNCED = table("message:u12 synchronous:u1 interval:u16")
+TEXT = table("number:u12 station:u12 day:u16 second:u17 characters:u7 code_units:u8")
+EPHEMERIS = table(
+    "number:u12 satellite:u6 week:u10 accuracy:u4 code_on_l2:u2 idot:i14 iode:u8 toc:u16 af2:i8 af1:i16 af0:i22 iodc:u10"
+    " crs:i16 delta_n:i16 m0:i32 cuc:i16 e:u32 cus:i16 root_a:u32 toe:u16 cic:i16 omega0:i32 cis:i16 i0:i32 crc:i16 omega:i32"
+    " omega_dot:i24 tgd:i8 health:u6 l2p_flag:u1 fit:u1"
+)
+
+
+def date_of(payload: bytes) -> Fields | None:
+    """The fields of a 1013, 1029 or 1019; None for another message, and for one that is cut short."""
+    bits = BitReader(payload)
+    try:
+        match BitReader(payload).take(12):
+            case 1013:
+                fields = bits.take_row(SYSTEM_PARAMETERS)
+                for _ in range(fields["announced"]):
+                    bits.take_row(ANNOUNCED)
+            case 1029:
+                fields = bits.take_row(TEXT)
+                for _ in range(fields["code_units"]):
+                    bits.take(8)
+            case 1019:
+                fields = bits.take_row(EPHEMERIS)
+            case _:
+                return None
+    except EOFError:
+        return None
+    return fields
+
+
+def told_moment(now: int, fields: Fields, tow: int) -> int | None:
+    """The moment with this time of week that such a message tells; None if it is passed over."""
+    if "week" in fields:
+        return moment_of_week(now, fields["week"], 16_000 * fields["toe"], tow)
+    day, second = fields["day"], fields["second"]
+    if day < FIRST_DAY + 7 or second > 86_400 or day > FIRST_DAY + now // DAY_MS + 1:
+        return None
+    at = DAY_MS * (day - FIRST_DAY) + 1000 * second
+    # within half a week, and of two alike the later
+    [told] = [it for it in moments_around(at, tow) if -HALF_WEEK_MS < it - at <= HALF_WEEK_MS]
+    return told
+
+
+def moment_of_week(now: int, week: int, toe: int, tow: int) -> int | None:
+    """In the latest week of this number modulo 1,024 that is not after now's; None if the reference time is of another week."""
+    if abs(toe - tow) > HALF_WEEK_MS:
+        return None
+    weeks = [it for it in range(week, now // WEEK_MS + 1, 1024)]
+    return WEEK_MS * weeks[-1] + tow if weeks else None
+
+
+def moments_around(at: int, tow: int) -> list[int]:
+    """The moments with a time of week in the week of another moment and in the weeks beside it."""
+    return [WEEK_MS * (at // WEEK_MS + week) + tow for week in (-1, 0, 1)]
+
+
+def dated(near: int, tow: int) -> int:
+    """The date of a time of week: within half a week, and of two alike the earlier."""
+    [date] = [it for it in moments_around(near, tow) if -HALF_WEEK_MS <= it - near < HALF_WEEK_MS]
+    return date
+
+
+# ---------------------------------------------------------------- one capture
+
+
+class Capture(NamedTuple):
+    """The messages of a capture in their order: each one that is read, or the fields of one with a date."""
+
+    read: list[Message | Fields]
+    frames: int
+
+    @classmethod
+    def of(cls, text: bytes) -> Capture:
+        read: list[Message | Fields] = []
+        frames = frames_of(text)
+        for frame in frames:
+            message = read_message(frame.payload, MSMS)
+            date = date_of(frame.payload)
+            if not isinstance(message, Refusal):
+                read.append(message)
+            elif date is not None:
+                read.append(date)
+        return cls(read, len(frames))
+
+    def messages(self) -> list[Message]:
+        return [it for it in self.read if isinstance(it, Message)]
+
+    def observing(self) -> list[int]:
+        """The stations with observations, in the order in which they come."""
+        return [it.header["station"] for it in self.messages() if has_observation(it)]
+
+    def of_station(self, station: int) -> list[Message]:
+        return [it for it in self.messages() if it.header["station"] == station]
+
+    def point(self, station: int) -> list[tuple[int, ...]]:
+        """The position of the station's first 1005 or 1006, if there is one."""
+        return [tuple(it.header[axis] for axis in "xyz") for it in self.of_station(station) if "x" in it.header][:1]
+
+    def times(self, station: int) -> list[int]:
+        """The times of week of the station's messages that have an observation."""
+        return [it.header["tow"] for it in self.messages() if is_observation_of(station, it)]
+
+
+def has_observation(message: Message) -> bool:
+    """A range, a phase or a strength."""
+    return "tow" in message.header and bool(codes_in(message))
+
+
+def is_observation_of(station: int, message: Message | Fields) -> bool:
+    return isinstance(message, Message) and message.header["station"] == station and has_observation(message)
+
+
+def codes_in(message: Message) -> set[str]:
+    """The codes that have a value."""
+    if "tow" not in message.header:
+        return set()
+    return {
+        code for _, code, cell in cells_of(message) if (cell.range, cell.phase, cell.strength) != (None, None, None)
+    }
+
+
+class Told(NamedTuple):
+    """What a message tells: the moment of the first epoch."""
+
+    first: int
+    fields: Fields
+
+
+WAITING = 64  # how many messages before the first epoch are looked at
+
+
+def tellings(now: int, capture: Capture, station: int) -> list[Told]:
+    """What each message tells. Its date is that of the last epoch before it, or else of the first one."""
+    times = capture.times(station)
+    told, epochs, waited = [], 0, 0
+    for entry in capture.read:
+        epochs += is_observation_of(station, entry)
+        if isinstance(entry, Message) or not times:
+            continue
+        waited += epochs == 0
+        if epochs == 0 and waited > WAITING:
+            continue
+        at = max(epochs - 1, 0)
+        date = told_moment(now, entry, times[at])
+        first = None if date is None else date_of_first(times[: at + 1], date)
+        if first is not None and FIRST_NEAR <= first <= LAST_NEAR:
+            told.append(Told(first, entry))
+    return told
+
+
+def date_of_first(times: list[int], last: int) -> int | None:
+    """The moment of the first of these epochs, if the last one is at this moment: back from epoch to epoch. None if an epoch
+    lies more than a week from the first, since that capture must be given in parts."""
+    moments = [last]
+    for before in times[-2::-1]:
+        near = moments[-1]
+        [at] = [it for it in moments_around(near, before) if dated(it, near % WEEK_MS) == near]
+        moments.append(at)
+    return moments[-1]
+
+
+def counting(told: list[Told], station: int) -> list[Told]:
+    """Those of the station by 1013 and 1029; if there are none, those by 1019; if none, those of other stations."""
+    own = [it for it in told if it.fields.get("station") == station]
+    weeks = [it for it in told if "week" in it.fields]
+    others = [it for it in told if "station" in it.fields and it not in own]
+    return own or weeks or others
+
+
+def chain(first: int, times: list[int]) -> list[int]:
+    """The moments of epochs, each dated near the one before it."""
+    moments = [first]
+    for tow in times[1:]:
+        moments.append(dated(moments[-1], tow))
+    return moments
+
+
+# ---------------------------------------------------------------- all captures
+
+
+class Stopped(Exception):
+    """Why nothing can be converted: the cause, and what belongs to it."""
+
+    def __init__(self, cause: str, *about: object) -> None:
+        super().__init__(cause, *about)
+        self.cause, self.about = cause, about
+
+
+class Found(NamedTuple):
+    """What a conversion of captures is told."""
+
+    station: int
+    msm: int  # its number
+    codes: list[str]
+    near: int
+    by: Fields | None  # the message that told the date
+    links: list[list[int]]  # the captures of each, by their places
+    epochs: list[list[int]]  # the moments of the station's epochs, by capture
+    without: list[int]  # captures without an epoch of the station
+    skipped: list[int]  # captures without a message of it
+    few: list[str]  # codes with few phases
+
+
+def station_of(captures: list[Capture], named: int | None) -> int:
+    stations = {it for capture in captures for it in capture.observing()}
+    if not stations:
+        raise Stopped("no observation")
+    if named not in (None, *stations):
+        raise Stopped("no such station", *sorted(stations))
+    if named is None and len(stations) > 1:
+        raise Stopped("several stations", *sorted(stations))
+    return stations.pop() if named is None else named
+
+
+def msm_of(messages: list[Message]) -> int:
+    """The MSM with most epochs with a value, of two alike the greater; 1074 if there is none."""
+    times = {
+        number: [it.header["tow"] for it in messages if it.header["number"] == number and codes_in(it)] for number in MSMS
+    }
+    epochs = {number: len(list(groupby(of))) for number, of in times.items()}
+    if not any(epochs.values()):
+        return 1074
+    return max(MSMS, key=lambda number: (epochs[number], number))
+
+
+def first_told(now: int, captures: list[Capture], station: int) -> dict[int, Told]:
+    """By capture the first epoch that is told."""
+    firsts: dict[int, Told] = {}
+    for place, capture in enumerate(captures):
+        told = counting(tellings(now, capture, station), station)
+        different = {it.first: it for it in told[::-1]}
+        if len(different) > 1:
+            raise Stopped("dates differ", place, *sorted(different))
+        if told:
+            firsts[place] = told[0]
+    return firsts
+
+
+def few_phases(taken: list[Message], codes: list[str]) -> list[str]:
+    """The codes that have fewer than half of the phases that their satellites have in the code that has most. Of a 1004 and an
+    MSM of one epoch the phases of a code are counted once."""
+    cells = [(it.header["number"], satellite, code, cell) for it in taken if "tow" in it.header for satellite, code, cell in cells_of(it)]
+    shown = {(satellite, code) for _, satellite, code, cell in cells if (cell.range, cell.phase, cell.strength) != (None, None, None)}
+    by_number = Counter((number, satellite, code) for number, satellite, code, cell in cells if cell.phase is not None)
+    phases: dict[tuple[int, str], int] = {}
+    for (_, *of), count in by_number.items():
+        phases[*of] = max(phases.get((*of,), 0), count)
+
+    def count(code: str, other: str) -> int:
+        return sum(n for (satellite, it), n in phases.items() if it == other and (satellite, code) in shown)
+
+    return [code for code in codes if 2 * count(code, code) < max(count(code, other) for other in CODES)]
+
+
+def find(texts: list[bytes], now: int, station: int | None = None, near: int | None = None, as_given: bool = False,
+         skip_empty: bool = False) -> Found:
+    """What is found in these captures; `near` is the moment that is named, and `as_given` that each capture is a link."""
+    everything = [Capture.of(text) for text in texts]
+    if not any(it.frames for it in everything):
+        raise Stopped("no frame")
+    number = station_of(everything, station)
+    skipped = [at for at, it in enumerate(everything) if not it.of_station(number)]
+    if skipped and not skip_empty:
+        raise Stopped("nothing of the station", *skipped)
+    captures = [it for at, it in enumerate(everything) if at not in skipped]
+    messages = [it for capture in captures for it in capture.of_station(number)]
+    msm = msm_of(messages)
+    taken = [it for it in messages if it.header["number"] in (1004, msm)]
+    codes = [it for it in CODES if it in set().union(*map(codes_in, taken))]
+    times = [capture.times(number) for capture in captures]
+    told = {} if near is not None else first_told(now, captures, number)
+    if near is None and not told:
+        raise Stopped("no date")
+    base = near if near is not None else min(it.first for it in told.values())
+    firsts = [told[at].first if at in told else dated(base, of[0]) if of else None for at, of in enumerate(times)]
+    epochs = [[] if first is None else chain(first, of) for first, of in zip(firsts, times)]
+    near = min(first for first in firsts if first is not None) // 1000 * 1000
+    if any(not -HALF_WEEK_MS <= it - near < HALF_WEEK_MS for of in epochs for it in of):
+        raise Stopped("give them in parts")
+    if not FIRST_NEAR <= near <= LAST_NEAR:
+        raise Stopped("outside the dates")
+    by = min(told.values(), default=None, key=lambda it: it.first)
+    links = links_of(epochs, as_given)
+    if len(links) > MOST_LINKS:
+        raise Stopped("too many links", len(links))
+    points = [[point for at in link for point in captures[at].point(number)][:1] for link in links]
+    if not as_given and any(dist(a, b) > METRES_100 for a, b in combinations(chain_of(*points), 2)):
+        raise Stopped("positions differ")
+    places = [at for at in range(len(texts)) if at not in skipped]
+    return Found(
+        number, msm, codes, near, None if by is None else by.fields, [[places[at] for at in link] for link in links], epochs,
+        [places[at] for at, of in enumerate(epochs) if not of], skipped, few_phases(taken, codes),
+    )
+
+
+def links_of(epochs: list[list[int]], as_given: bool = False) -> list[list[int]]:
+    """The captures by links, each by its place: the earlier ones first, and each behind the first link that has ended when it
+    begins. Those without epochs come before all of the first link."""
+    if as_given:
+        return [[at] for at in range(len(epochs))]
+    order = sorted((min(of), max(of), at) for at, of in enumerate(epochs) if of)
+    links: list[list[int]] = []
+    ends: list[int] = []
+    for begin, end, at in order:
+        joined = next((link for link, last in enumerate(ends) if last <= begin), len(links))
+        if joined == len(links):
+            links.append([])
+            ends.append(end)
+        links[joined].append(at)
+        ends[joined] = end
+    without = [at for at, of in enumerate(epochs) if not of]
+    if links:
+        links[0][:0] = without
+    return links
+
+
+def main() -> None:
+    now, names = moment(sys.argv[1]), sys.argv[2:]
+    try:
+        found = find([Path(name).read_bytes() for name in names], now)
+    except Stopped as stopped:
+        about = [civil(it) if stopped.cause == "dates differ" and n else it for n, it in enumerate(stopped.about)]
+        sys.exit(f"{stopped.cause}: {' '.join(map(str, about))}")
+    by = found.by["number"] if found.by else "-"
+    print(f"station {found.station} msm {found.msm} codes {','.join(found.codes)} near {civil(found.near):%Y-%m-%dT%H:%M:%S}")
+    print(f"by {by} links {found.links} from {civil(min(map(min, filter(None, found.epochs))))}")
+
+
+if __name__ == "__main__":
+    main()

@@ -1,0 +1,198 @@
+"""The slow model of the numbers of a file: each number is counted on its own, over the text."""
+# pins: longest_gap, begins_pass, is_rise, is_slip, counts_of, passes_of, epochs_in_passes, percent_tenths, mean_hundredths
+
+from __future__ import annotations
+
+import json
+from collections import Counter
+from fractions import Fraction
+from typing import NamedTuple
+
+from parts import END, MS, START, records_of
+
+
+class Shown(NamedTuple):
+    """What a code shows in a record, by its columns."""
+
+    range: bool
+    phase: bool
+    digit: int
+    strength: int | None
+
+
+def shown_in(field: str) -> Shown:
+    strength = field[32:46].strip()
+    digit = int(field[30].strip() or 0)
+    return Shown(bool(field[:14].strip()), bool(field[16:30].strip()), digit, round(float(strength) * 1000) if strength else None)
+
+
+def interval_of(times: list[int]) -> int | None:
+    steps = Counter(b - a for a, b in zip(times, times[1:]))
+    return min(steps, key=lambda step: (-steps[step], step)) if steps else None
+
+
+def missing_in(times: list[int], interval: int | None) -> int:
+    """A step is the nearest whole number of intervals, a half counts down, and it is one at least."""
+    nearest = (max(1, -((interval - 2 * (b - a)) // (2 * interval))) for a, b in zip(times, times[1:])) if interval else ()
+    return sum(it - 1 for it in nearest)
+
+
+def passes_of(seen: list[tuple[int, int]], longest: int) -> list[list[tuple[int, int]]]:
+    """Records with a phase, by their number and time, in passes."""
+    passes: list[list[tuple[int, int]]] = []
+    for at, time in seen:
+        if not passes or time - passes[-1][-1][1] > longest:
+            passes.append([])
+        passes[-1].append((at, time))
+    return passes
+
+
+def whole(number: Fraction) -> int:
+    """The nearest whole number; of two alike the greater one."""
+    return (2 * number + 1) // 2
+
+
+def moment(time: int) -> str:
+    return f"{START + time * MS:%Y-%m-%d %H:%M:%S}.{time % 1000:03}"
+
+
+def point(number: int | None, digits: int) -> str:
+    if number is None:
+        return "-"
+    return f"{number // 10**digits}.{number % 10**digits:0{digits}}" if digits else str(number)
+
+
+class Field(NamedTuple):
+    """A number or a text of a line: its word there, its key in JSON, and the digits behind its point (a text has none)."""
+
+    word: str
+    key: str
+    value: int | str | None
+    digits: int | None = 0
+
+    def in_line(self) -> str:
+        shown = str(self.value) if self.digits is None else point(self.value, self.digits)
+        return f"{self.word} {shown}" if self.word else shown
+
+
+def counted(word: str, number: int | None) -> Field:
+    return Field(word, word.replace("-", "_"), number)
+
+
+def text(word: str, key: str, value: str) -> Field:
+    return Field(word, key, value, None)
+
+
+def numbers(rows: list[Shown], knows: list[bool], possible: int) -> list[Field]:
+    """The numbers of a code: what it shows, whether it had a phase before in the pass, and how many phases could be there."""
+    phases = sum(it.phase for it in rows)
+    slips = sum(it.digit & 1 and before for it, before in zip(rows, knows))
+    strengths = [it.strength for it in rows if it.strength is not None]
+    percent = whole(Fraction(1000 * phases, possible)) if possible else None
+    mean = whole(Fraction(sum(strengths), 10 * len(strengths))) if strengths else None
+    return [
+        counted("phases", phases),
+        Field("of", "possible", possible),
+        Field("percent", "percent_tenths", percent, 1),
+        counted("ranges-only", sum(it.range and not it.phase for it in rows)),
+        counted("slips", slips),
+        counted("rises", sum(it.digit & 1 for it in rows) - slips),
+        counted("half-cycles", sum(it.digit >> 1 for it in rows)),
+        counted("phases-per-slip", whole(Fraction(phases, slips)) if slips else None),
+        Field("least-strength", "least_strength_millidbhz", min(strengths, default=None), 3),
+        Field("mean-strength", "mean_strength_centidbhz", mean, 2),
+        Field("greatest-strength", "greatest_strength_millidbhz", max(strengths, default=None), 3),
+    ]
+
+
+class Satellite:
+    """A satellite: what its codes show in each record, and its passes."""
+
+    def __init__(self, name: str, records: list, times: list[int], codes: int, longest: int) -> None:
+        self.name = name
+        line = {at: it.lines[name][3:].ljust(48 * codes) for at, it in enumerate(records) if name in it.lines}
+        self.shown = {at: [shown_in(row[48 * c : 48 * c + 48]) for c in range(codes)] for at, row in line.items()}
+        self.passes = passes_of([(at, times[at]) for at, row in self.shown.items() if any(it.phase for it in row)], longest)
+        self.possible = sum(row[-1][0] - row[0][0] + 1 for row in self.passes)
+
+    def rows(self, code: int) -> list[Shown]:
+        return [row[code] for row in self.shown.values()]
+
+    def has(self, code: int) -> bool:
+        return any(it.range or it.phase or it.strength is not None for it in self.rows(code))
+
+    def knows(self, code: int) -> list[bool]:
+        """Whether the code had a phase earlier in the pass, for each record with the satellite."""
+        first = {}
+        for row in self.passes:
+            with_phase = [at for at, _ in row if self.shown[at][code].phase]
+            first.update({at: with_phase[0] < at for at, _ in row if with_phase})
+        return [first.get(at, False) for at in self.shown]
+
+
+def entries_of(file: str) -> tuple[list[Field], list[tuple[str, list[Field]]]]:
+    """The numbers of the whole file, and the lines after them, each with its keyword."""
+    header, body = file.split(END)
+    lines = header.splitlines()
+    codes = [it[1:] for it in "".join(line[6:60] for line in lines if "SYS / # / OBS TYPES" in line).split()[::3]]
+    marker = text("marker", "marker", lines[2][:60].rstrip())
+    records = records_of(body)
+    if not records:
+        return [marker, counted("records", 0)], []
+    times = [(it.time - START) // MS for it in records]
+    interval = interval_of(times)
+    names = sorted({name for it in records for name in it.lines})
+    satellites = [Satellite(name, records, times, len(codes), max(120_000, interval or 0)) for name in names]
+    seen = [it for it in satellites if any(it.has(c) for c in range(len(codes)))]
+    counts = [len(it.lines) for it in records]
+    heading = [
+        marker,
+        text("from", "from", moment(times[0])),
+        text("until", "until", moment(times[-1])),
+        Field("interval", "interval_ms", interval, 3),
+        counted("records", len(records)),
+        counted("missing", missing_in(times, interval)),
+        counted("satellites", len(seen)),
+        counted("least-satellites", min(counts)),
+        Field("mean-satellites", "mean_satellites_tenths", whole(Fraction(10 * sum(counts), len(records))), 1),
+        counted("greatest-satellites", max(counts)),
+    ]
+    out: list[tuple[str, list[Field]]] = []
+    for c, code in enumerate(codes):
+        having = [it for it in satellites if it.has(c)]
+        rows, knows = [row for it in having for row in it.rows(c)], [k for it in having for k in it.knows(c)]
+        out.append(("code", [text("", "code", code), *numbers(rows, knows, sum(it.possible for it in having))]))
+    for it in seen:
+        for c, code in enumerate(codes):
+            if it.has(c):
+                names_of_it = [text("", "satellite", it.name), text("", "code", code)]
+                out.append(("satellite", [*names_of_it, *numbers(it.rows(c), it.knows(c), it.possible)]))
+    out += [("never", [text("", "satellite", it.name), text("", "code", code)]) for it in seen for c, code in enumerate(codes) if not it.has(c)]
+    for it in satellites:
+        knows_of = {c: dict(zip(it.shown, it.knows(c))) for c in range(len(codes))}
+        for row in it.passes:
+            shown = [(c, at, it.shown[at][c]) for at, _ in row for c in range(len(codes))]
+            phases, slips = sum(one.phase for *_, one in shown), sum(one.digit & 1 and knows_of[c][at] for c, at, one in shown)
+            span = [text("from", "from", moment(row[0][1])), text("until", "until", moment(row[-1][1]))]
+            out.append(("pass", [text("", "satellite", it.name), *span, counted("phases", phases), counted("slips", slips)]))
+    return heading, out
+
+
+def quality(file: str) -> str:
+    """The numbers of a file as lines."""
+    heading, entries = entries_of(file)
+    lines = [it.in_line() for it in heading] + [" ".join([keyword, *(it.in_line() for it in fields)]) for keyword, fields in entries]
+    return "\n".join(lines) + "\n"
+
+
+def quality_in_json(file: str) -> str:
+    """The same as a JSON document: an object for the file, and one on each further line."""
+    heading, entries = entries_of(file)
+    objects = [{"line": keyword, **{it.key: it.value for it in fields}} for keyword, fields in [("file", heading), *entries]]
+    return "[" + ",\n".join(json.dumps(it, separators=(",", ":")) for it in objects) + "\n]\n"
+
+
+if __name__ == "__main__":
+    import sys
+
+    print(quality(open(sys.argv[1], encoding="ascii").read()), end="")

@@ -1,0 +1,258 @@
+#!/bin/sh
+# Runs `auto` as a user does, on captures that auto_captures.py makes and describes, and on examples. The program is $1.
+. "$(dirname "$(readlink -f "$0")")/common"
+examples=$root/examples
+made=2024-06-01T13:00:00
+python3 -B "$root/tests/program/auto_captures.py" || exit 1
+gzip -k one && ln -s one linked && ln one other_name && mkdir folder && mkfifo pipe && cp one 'a b' && cp one ./-5
+
+# auto WORD..: made at a known time
+auto() { run auto --made $made "$@"; }
+
+# unfinished: no file is there that was begun
+unfinished() { ls | grep '^file' >>err; rm -f file*; }
+
+# The words, the captures, or what they hold, are refused; no file is there then. A row: the status, the words, and what is said.
+while IFS='|' read -r want words lines; do
+    eval "auto -o file.rnx $words"
+    unfinished
+    # pins: words_and_name, look_text, count_line_of, unread_line, unread_gps, unread_glonass_to_sbas, unread_qzss_to_navic, all_unread, marked_line, number_and_station, date_message_text
+    expect "refused_$(echo "$words" | tr ' ' _)" "$want" '' "rtcm2rinex: $(printf '%b' "$lines")"
+done <<'ROWS'
+1|nowhere|cannot open nowhere
+1|one out.rnx|cannot open out.rnx; to write it, say -o out.rnx
+1|one 20240517.obs|cannot open 20240517.obs; to write it, say -o 20240517.obs
+1|one "new site.rnx"|cannot open 'new site.rnx'; to write it, say -o 'new site.rnx'
+1|one -- -1.obs|cannot open ./-1.obs; to write it, say -o ./-1.obs
+1|--marker NEW ROOF one|cannot open ROOF
+2|stdin|auto reads each capture twice, and stdin can't be
+2|one stdin|auto reads each capture twice, and stdin can't be
+2|folder|auto reads each capture twice, and folder is no regular file
+2|pipe|auto reads each capture twice, and pipe is no regular file
+2|one ./one|./one is named twice
+2|one linked|linked is named twice
+2|other_name later one|one is named twice
+2|"a b" "./a b"|'./a b' is named twice
+2|--near 2024-05-17 one|bad --near
+2|--near 2024-05-17T12:00:00Z one|bad --near
+2|--near "2024/05/17 12:00:00" one|bad --near
+2|--near 1980-01-12T23:59:59 one|bad --near
+2|--codes C1C,C2W one|bad --codes
+2|--codes 1c,2w one|bad --codes
+2|--codes "1C, 2W" one|bad --codes
+2|--marker ZÜRICH one|bad --marker
+3|one.gz|the captures have no frame of RTCM 3\n one.gz looks like gzip
+3|zip one.rnx text nmea empty|the captures have no frame of RTCM 3\n zip looks like zip\n one.rnx looks like RINEX\n text looks like hex-text\n nmea looks like NMEA\n empty is empty
+3|one one.gz empty stations|several stations have GPS observations; choose one by --station\n station 7\n station 2003
+3|one one.gz "a b" empty|captures have nothing of station 2003; --skip-empty leaves them out\n one.gz looks like gzip\n empty is empty
+3|unread|the captures have no GPS observations that are read\n untaken GPS 1001 1\n untaken GPS 1003 12\n untaken GPS 1072 1\n untaken GLONASS 1009 1\n untaken GLONASS 1012 1\n untaken GLONASS 1081 1\n untaken GLONASS 1087 1\n untaken Galileo 1091 1\n untaken Galileo 1097 1\n untaken SBAS 1101 1\n untaken SBAS 1107 1\n untaken QZSS 1111 1\n untaken QZSS 1117 1\n untaken BeiDou 1121 1\n untaken BeiDou 1127 1\n untaken NavIC 1131 1\n untaken NavIC 1137 1
+3|reserved|the captures have no GPS observations that are read
+3|no_value position|the captures have no GPS observations that are read
+3|--station 7 one|station 7 has no GPS observations that are read\n station 2003
+3|--station 7 foreign|station 7 has no GPS observations that are read\n station 2003
+3|differ|the captures tell dates that differ; choose one by --near\n 2024-05-17T12:00:00 by 1013 of station 2003 in differ\n 2024-05-10T12:00:00 by 1013 of station 2003 in differ
+3|weeks|the captures tell dates that differ; choose one by --near\n 2024-05-17T12:00:00 by 1019 in weeks\n 2024-05-10T12:00:00 by 1019 in weeks
+3|undated|the captures tell no date; give one, as in --near 2024-05-17T12:00:00
+3|passed_over|the captures tell no date; give one, as in --near 2024-05-17T12:00:00
+3|one next_week|the captures are longer than half a week; convert them in parts
+3|--codes 5X --msm 7 --near 2099-12-31T23:59:59 --skip-empty empty nmea|the captures have no frame of RTCM 3\n empty is empty\n nmea looks like NMEA
+3|same.*|more than 16 captures are of the same time, and 16 links are taken\n same.00\n same.01\n same.02\n same.03\n same.04\n same.05\n same.06\n same.07\n same.08\n same.09\n same.10\n same.11\n same.12\n same.13\n same.14\n same.15\n same.16
+3|here.0 here.2|the station stands at positions that differ; --links-as-given takes them for one\n position 1114104.5999 -4850729.7108 3975521.4643 in here.0\n position 1114204.6000 -4850729.7108 3975521.4643 in here.2
+ROWS
+auto -o folder one; expect an_output_that_is_a_folder 1 '' 'rtcm2rinex: folder is there, and -f would replace it'
+auto -f -o folder one; expect an_output_that_is_a_folder_and_force 1 '' 'rtcm2rinex: folder is no regular file'
+for value in x -1 '' 1e9; do
+    SOURCE_DATE_EPOCH=$value "$program" auto one >out 2>err; status=$?
+    expect "a_present_of_$value" 2 '' 'rtcm2rinex: SOURCE_DATE_EPOCH is no number of seconds'
+done
+SOURCE_DATE_EPOCH=315964799 "$program" auto one >out 2>err; status=$?
+expect a_present_before_1980 3 '' "rtcm2rinex: the clock can't be read; give --made"
+run auto
+expect no_capture 2 '' "$(error 'the following required arguments were not provided:
+  <CAPTURE>...' 'auto <CAPTURE>...')"
+for option in 'station 4096 4096 is not in 0..=4095' 'window 1 1 is not in 2..=4096' 'msm 8 8 is not in 4..=7'; do
+    set -- $option
+    auto "--$1" "$2" one; why=${option#* * }
+    expect "$1_of_$2" 2 '' "$(error "invalid value '$2' for '--$1 <N>': $why")"
+done
+
+# says SPAN COMMAND COUNTS LINE..: standard error of a run that is done
+says() {
+    printf ' from %s\n%s\n' "$1" "$2"
+    report $3
+    shift 3
+    [ $# -eq 0 ] || printf '%s\n' "$@"
+} >want_err
+
+# command NEAR [CODES [MORE]]
+command() { echo "rtcm2rinex convert --station 2003 --near $1 --made $made --marker 2003 --codes ${2:-1C,2W}${3:-} --window 4096"; }
+
+# as_said NAME FILE: the command that the last run said, as it is printed, writes this file
+mkdir bin && ln -s "$program" bin/rtcm2rinex
+as_said() {
+    grep -E '^(mkdir|cat|rtcm2rinex convert) ' err >said
+    (PATH=$work/bin:$PATH && . ./said) >again 2>again_err
+    same "$1_as_said" again "$2"
+}
+
+noon=2024-05-17T12:00:00
+two="$noon until 2024-05-17T12:00:01 by"
+one_command="$(command $noon)"
+says "$two 1013" "$one_command one" '3 1 0 0 2 0 0 0 2'
+auto one
+# pins: span_line, time_text, value_words, convert_words, command_text
+leaves one 0 one.rnx want_err; as_said one one.rnx
+cp want_err one.err
+auto -o file one; leaves one_to_a_file 0 /dev/null one.err; same one_in_its_file file one.rnx; rm file
+[ "$(ls | grep '^file')" ] && wrong nothing_beside_the_file "$(ls file*)" || right nothing_beside_the_file
+run auto --made 2024-05-17T13:00:00 --marker BASE "$examples/dated.rtcm"
+leaves the_dated_example 0 "$examples/session.rnx" err
+sed 's/^frames 54/frames 55/; s/^other 1/other 2/' "$examples/session.report" >want
+tail -n 9 err >counts; same counts_of_the_dated_example counts want
+
+# finds WORDS SPAN COMMAND COUNTS STATUS FILE [LINES]: what is found, of captures and words that are odd; the file is that of the
+# model, or else any, and the command that is said writes it too
+finds() {
+    eval "auto $1"
+    says "$2" "$3" "$4" ${7:+"$(printf '%b' "$7")"}
+    [ "$6" ] || cp out any
+    name=found_$(echo "$1" | tr ' ' _)
+    leaves "$name" "$5" "${6:-any}" want_err
+    as_said "$name" "${6:-any}"
+}
+counts='3 1 0 0 2 0 0 0 2'
+finds one.nmea "$two 1013" "$one_command one.nmea" "$counts" 0 one.rnx
+# pins: name_after_blank
+finds '"a b"' "$two 1013" "$one_command 'a b'" "$counts" 0 one.rnx
+finds '-- -5' "$two 1013" "$one_command ./-5" "$counts" 0 one.rnx
+finds '--station 2003 stations' "$two 1013" "$one_command stations" '4 1 0 1 2 0 0 0 2' 0 one.rnx
+finds foreign "$two 1013" "$one_command foreign" '5 2 0 1 2 0 0 0 2' 0 one.rnx
+# pins: marker_chosen, station_words, convert_words
+finds '--station 7 stations' "$noon until $noon by 1013 of station 2003" \
+    "$(echo "$one_command" | sed 's/2003/0007/g; s/station 0007/station 7/') stations" '4 1 0 2 1 0 0 0 1' 0 ''
+# pins: source_text, number_and_station
+finds by_other "$noon until $noon by 1013 of station 7" "$one_command by_other" '2 1 0 0 1 0 0 0 1' 0 ''
+# pins: weeks_ms, neighbours_text, week_text
+finds by_week "$noon until $noon by 1019 (or 2004-10-01, 2044-01-01)" "$one_command by_week" '2 1 0 0 1 0 0 0 1' 0 ''
+for row in '1981-01-01 1980-01-20 1999-09-05' '2024-06-01 2019-04-21 1999-09-05, 2038-12-05' '2100-12-31 2097-10-20 2078-03-06'; do
+    set -- $row
+    run auto --made "$1T00:00:00" early_week; head -n 1 err >told
+    echo " from $2T00:01:00 until $2T00:01:00 by 1019 (or $3${4+ $4})" >want
+    # pins: neighbours_text, weeks_ms
+    same "week_of_$1" told want
+done
+finds '--near 2024-06-18T12:00:00 one' "2024-06-21T12:00:00 until 2024-06-21T12:00:01 by --near" "$(command 2024-06-21T12:00:00) one" "$counts" 0 ''
+finds '--near 2024-05-11T12:00:00 differ' "2024-05-10T12:00:00 until 2024-05-10T12:00:01 by --near" "$(command 2024-05-10T12:00:00) differ" '5 3 0 0 2 0 0 0 2' 0 ''
+# pins: joined_bytes, cat_words, one_link_text
+finds 'later one' "$noon until 2024-05-17T12:00:03 by 1013" "cat one later | $one_command stdin" '5 1 0 0 4 0 0 0 4' 0 ''
+finds 'one position' "$two 1013" "cat position one | $one_command stdin" '4 1 0 0 3 0 0 0 2' 0 '' ' no-epoch position'
+# a capture that begins with another station, before the one that tells which station is converted
+finds 'positions one' "$two 1013" "cat positions one | $one_command stdin" '5 1 0 1 3 0 0 0 2' 0 '' ' no-epoch positions'
+# pins: IsNearOf
+finds falls "$noon until 2024-05-17T12:00:02 by 1013" "$(command 2024-05-17T12:00:01) falls" '4 1 0 0 3 0 0 0 3' 0 '' ' time-falls falls'
+finds few "$noon until 2024-05-17T12:00:03 by 1013" "$one_command few" '5 1 0 0 4 0 0 0 4' 0 '' \
+    ' few-phases 2W: its satellites have more than twice as many in another code'
+# pins: msm_line
+finds stray "$two 1013" "$one_command stray" '5 2 0 0 3 0 0 0 2' 0 '' ' untaken GPS 1077 1'
+finds '--msm 7 stray' "$two 1013" "$(command $noon 1C,2W ' --msm 7') stray" '5 3 0 0 2 0 0 0 1' 0 '' ' untaken GPS 1074 2'
+finds of_1077 "$two 1013" "$(command $noon 1C ' --msm 7') of_1077" "$counts" 0 ''
+finds '--msm 4 --codes 1C of_1077' "$two 1013" "$(command $noon 1C) of_1077" '3 3 0 0 0 0 0 0 0' 3 '' \
+    ' untaken GPS 1077 2\nrtcm2rinex: no record came; the file is a header alone'
+finds '--codes 5X one' "$two 1013" "$(command $noon 5X) one" '3 1 0 0 2 0 0 0 0' 3 '' \
+    'rtcm2rinex: no record came; the file is a header alone'
+finds '--skip-empty one.gz one empty zip' "$two 1013" "$one_command one" "$counts" 0 one.rnx \
+    ' skipped one.gz looks like gzip\n skipped empty is empty\n skipped zip looks like zip'
+finds '--skip-empty --station 7 one stations' "$noon until $noon by 1013 of station 2003" \
+    "$(echo "$one_command" | sed 's/2003/0007/g; s/station 0007/station 7/') stations" '4 1 0 2 1 0 0 0 1' 0 '' ' skipped one'
+# pins: word_text, marker_words
+finds '--marker "NEW ROOF" one' "$two 1013" "$(echo "$one_command" | sed "s/--marker 2003/--marker 'NEW ROOF'/") one" "$counts" 0 ''
+# pins: word_text, marker_words
+finds '--marker --x one' "$two 1013" "$(echo "$one_command" | sed "s/--marker 2003/--marker --x/") one" "$counts" 0 ''
+# pins: late_count_line, known_lines
+finds '--window 2 --near 2024-05-17T12:00:00 '"$examples/late.rtcm" "$noon until 2024-05-17T12:00:05 by --near" \
+    "$(command $noon | sed 's/4096/2/') $examples/late.rtcm" '6 0 0 0 5 0 0 1 5' 0 '' " late 1: messages after 2 newer epochs are left out\n time-falls $examples/late.rtcm"
+finds week_end "2024-05-18T23:59:50 until 2024-05-19T00:00:09 by 1013" "$(command 2024-05-18T23:59:50) week_end" '21 1 0 0 20 0 0 0 20' 0 week_end.rnx
+links='here.0 here.1' # 100 m apart
+finds "here.1 here.0" "$noon until 2024-05-17T12:00:10 by 1013" "$one_command $links" '8 2 0 0 5 0 1 0 4' 0 ''
+finds "--links-as-given here.2 here.0" "$noon until 2024-05-17T12:00:11 by 1013" "$one_command here.2 here.0" '8 2 0 0 5 0 1 0 4' 0 ''
+sed "s/^frames 8/link 2 conflict 1005 -\n&/" want_err >want; auto --report --links-as-given here.2 here.0; leaves report 0 any want
+finds "$(seq -s ' ' -f 'same.%02.0f' 0 15)" "$two 1013" "$one_command $(seq -s ' ' -f 'same.%02.0f' 0 15)" '48 16 0 0 32 0 0 0 2' 0 ''
+
+# A day of hours: in any order, with one that is compressed, and with hours that overlap by 30 s, which are two links.
+counts='2928 24 0 0 2881 23 0 0 2880'
+span='2024-05-17T00:00:00 until 2024-05-17T23:59:30 by 1013'
+day_command=$(command 2024-05-17T00:00:00)
+hours=$(seq -s ' ' -f 'day/%.0f' 0 23)
+for order in "$hours" "$(echo day/*)" "$(seq -s ' ' -f 'day/%.0f' 23 -1 0)" "$(seq -f 'day/%.0f' 0 23 | shuf --random-source="$program" | tr '\n' ' ')"; do
+    says "$span" "cat $hours | $day_command stdin" "$counts"
+    auto $order; leaves "a_day_in_the_order_of_$(echo "$order" | cut -c 1-20 | tr ' ' _)" 0 day.rnx want_err
+done
+as_said a_day day.rnx
+gzip -k day/7
+auto -o file $(echo "$hours" | sed 's|day/7|&.gz|'); unfinished
+expect a_day_with_an_hour_that_is_compressed 3 '' 'rtcm2rinex: captures have nothing of station 2003; --skip-empty leaves them out
+ day/7.gz looks like gzip'
+sed 's/^> 2024 05 17 07/#&/; /^#/,/^> 2024 05 17 08/{/^> 2024 05 17 08/!d}' day.rnx >want
+says "$span" "cat $(echo "$hours" | sed 's|day/7 ||') | $day_command stdin" '2806 23 0 0 2761 22 0 0 2760' ' skipped day/7.gz looks like gzip'
+auto --skip-empty $(echo "$hours" | sed 's|day/7|&.gz|'); leaves a_day_without_an_hour 0 want want_err
+even=$(seq -s ' ' -f 'overlapping/%.0f' 0 2 22) odd=$(seq -s ' ' -f 'overlapping/%.0f' 1 2 23)
+says '2024-05-17T00:00:00 until 2024-05-18T00:00:30 by 1013' "mkdir joined &&
+cat $even >joined/1.rtcm &&
+cat $odd >joined/2.rtcm &&
+$day_command joined/1.rtcm joined/2.rtcm" '2976 24 0 0 2883 69 0 0 2882'
+auto overlapping/*
+# pins: joined_name, join_line, link_word, folder_line, several_links_text
+leaves a_day_of_two_links 0 overlapping.rnx want_err
+as_said a_day_of_two_links overlapping.rnx
+
+# The present is the file's making: that of a variable, or of the clock.
+SOURCE_DATE_EPOCH=1717246800 "$program" auto one >out 2>err; status=$?; leaves a_present_of_a_variable 0 one.rnx one.err
+before=$(date -u +%Y%m%d%H%M%S); env -u SOURCE_DATE_EPOCH "$program" auto one >out 2>err; after=$(date -u +%Y%m%d%H%M%S)
+shown=$(sed -n '2s/.* \([0-9]*\) \([0-9]*\) UTC .*/\1\2/p' out)
+if [ "$before" -le "$shown" ] && [ "$shown" -le "$after" ]; then right a_present_of_the_clock; else wrong a_present_of_the_clock "$shown"; fi
+# A date counts from the day before on.
+run auto --made 2024-05-15T23:59:59 one; [ "$status" = 3 ] && right a_date_after_the_present || wrong a_date_after_the_present "$status"
+run auto --made 2024-05-16T00:00:00 one; [ "$status" = 0 ] && right a_date_of_tomorrow || wrong a_date_of_tomorrow "$status"
+
+# A FILE that is there stays, but with -f; an output that is a capture is never taken, by whatever name.
+echo old >file; echo old >want
+auto -o file one; expect a_file_that_is_there 1 '' 'rtcm2rinex: file is there, and -f would replace it'; same it_stays file want
+auto -f -o file one; leaves a_file_that_is_replaced 0 /dev/null one.err; same it_is_replaced file one.rnx; rm file
+cp one kept
+for name in one ./one linked other_name folder/../one; do
+    for force in '' -f; do
+        auto $force -o "$name" later one; expect "output_${name}_$force" 1 '' 'rtcm2rinex: the output is one of the captures'
+    done
+done
+for name in one linked other_name; do
+    "$program" auto --made $made later one >>"$name" 2>err; status=$?; : >out
+    expect "appended_to_$name" 1 '' 'rtcm2rinex: the output is one of the captures'
+done
+same the_capture_stays one kept
+ln -s nowhere dangling
+auto -o dangling one; expect an_output_that_is_a_link 1 '' 'rtcm2rinex: dangling is there, and -f would replace it'
+auto -f -o dangling one; expect an_output_that_is_a_link_and_force 1 '' 'rtcm2rinex: dangling is no regular file'
+# A file that another run began stays.
+echo begun >new.part; cp new.part want
+auto -o new one; leaves beside_another_run 0 /dev/null one.err; same its_file new one.rnx; same the_other_run new.part want
+[ "$(ls new*)" = "$(printf 'new\nnew.part')" ] && right no_file_more || wrong no_file_more "$(ls new*)"
+# No file is made there, which is seen before a capture is read: this one would be refused.
+auto -o nowhere/file one.gz; expect no_folder 1 '' 'rtcm2rinex: cannot write beside nowhere/file'
+auto -o 'no where/file' one; expect a_folder_with_a_blank 1 '' "rtcm2rinex: cannot write beside 'no where/file'"
+echo old >'a file'; auto -o 'a file' one; expect a_file_with_a_blank 1 '' "rtcm2rinex: 'a file' is there, and -f would replace it"
+head -n 2 one.err >lines
+# A full disk, and no standard error: nothing is left of FILE, and a FILE that is there stays.
+install
+{ cat lines; echo 'rtcm2rinex: write failed'; } >want
+for force in '' -f; do
+    limited 600 installed/bin/rtcm2rinex auto --made $made $force -o file one >out 2>err; status=$?
+    leaves "a_full_disk_$force" 1 /dev/null want
+    "$program" auto --made $made $force -o file one >out 2>&-; status=$?; : >err
+    leaves "closed_standard_error_$force" 1 /dev/null /dev/null
+    [ "$(cat file* 2>&1)" = "$([ "$force" ] && echo old || cat 'file*' 2>&1)" ] && right "no_part_$force" || wrong "no_part_$force" "$(ls)"
+    echo old >file
+done
+"$program" auto --made $made one >/dev/full 2>err; status=$?; : >out
+leaves a_full_output 1 /dev/null want
+
+ends 166

@@ -1,0 +1,96 @@
+"""Writes the captures of auto.sh into the folder that it is run in, and the files that the slow model writes of some of them."""
+
+import sys
+from pathlib import Path
+
+sys.path.insert(0, str(Path(__file__).resolve().parents[1] / "model"))
+
+import model  # noqa: E402
+from finding import EPHEMERIS  # noqa: E402
+from station import capture, date, frame_of_row, legacy_of, msm_of, point  # noqa: E402
+from wire import WEEK_MS, frame_of  # noqa: E402
+
+DAY = 5 * 86_400  # 2024-05-17 in its week, in s
+SATELLITE = {"l1_range": 5_000_000, "modulus_ambiguity": 70, "l1_cnr": 180, "l2_code": 3, "l2_cnr": 140, "l1_lock": 5, "l2_lock": 5}
+MADE = model.moment("2024-06-01T13:00:00")
+
+
+def epochs(*seconds, satellites=(5, 7), **fields):
+    """A 1004 of each second of the week."""
+    rows = [{**SATELLITE, "satellite": it} for it in satellites]
+    return b"".join(capture(legacy_of(1000 * it % WEEK_MS, rows, **fields)) for it in seconds)
+
+
+def week(number, second):
+    return frame_of_row(EPHEMERIS, number=1019, satellite=5, week=number, toe=second // 16)
+
+
+def place(x=0, **fields):
+    return capture(point(1005, x=11_141_045_999 + x, **fields))
+
+
+def cell_of(second, number):
+    return capture(msm_of(1000 * second, {5: (70, 0)}, {(5, 2): {"cnr": 40}}, number))
+
+
+NOON = DAY + 43_200
+ONE = date(43_200) + epochs(NOON, NOON + 1)
+BASE = (Path(__file__).resolve().parents[2] / "examples/base.rtcm").read_bytes()
+CAPTURES = {
+    "one": ONE,
+    "one.nmea": b"$GPGGA,120000,,,,,0*4A\r\n".join((b"", date(43_200), epochs(NOON), epochs(NOON + 1), b"")),
+    "nmea": b"$GPGGA,120000,,,,,0*4A\r\n",
+    "empty": b"",
+    "zip": b"PK\3\4",
+    "text": b"D30013 3ED7",
+    "position": place(),
+    "positions": place(1_000_001, station=7) + place(),
+    "undated": epochs(NOON),
+    "later": epochs(NOON + 2, NOON + 3),
+    "stations": ONE + epochs(NOON, station=7),
+    "foreign": ONE + place(station=7) + date(43_200, 60_000, 7),
+    "unread": b"".join(
+        frame_of((it << 4).to_bytes(2, "big"))
+        for it in (1001, *[1003] * 12, 1072, 1009, 1012, *range(1081, 1132, 10), *range(1087, 1138, 10))),
+    # numbers that no message has
+    "reserved": b"".join(frame_of((it << 4).to_bytes(2, "big")) for it in range(1080, 1139) if it % 10 in (8, 9, 0)),
+    "differ": ONE + date(43_202, 60_440) + week(10, NOON),
+    "weeks": week(2314 % 1024, NOON) + week(2313 % 1024, NOON) + epochs(NOON),
+    "by_week": week(2314 % 1024, NOON) + epochs(NOON),
+    "early_week": week(2, 0) + epochs(60),
+    "by_other": date(43_200, station=7) + epochs(NOON),
+    "passed_over": date(43_200, 60_500) + date(43_200, 40_000) + date(86_401) + week(10, 604_784) + epochs(10),
+    "stray": date(43_200) + epochs(NOON) + cell_of(NOON, 1077) + cell_of(NOON, 1074) + cell_of(NOON + 1, 1074),
+    "of_1077": date(43_200) + cell_of(NOON, 1077) + cell_of(NOON + 1, 1077),
+    "falls": date(43_200) + epochs(NOON + 1, NOON, NOON + 2),
+    "few": date(43_200) + epochs(NOON, satellites=(5, 7)) + b"".join(
+        capture(legacy_of(1000 * (NOON + it), [{**SATELLITE, "satellite": 5, "l2_range": -(1 << 13), "l2_offset": -(1 << 19)}]))
+        for it in range(1, 4)),
+    "week_end": date(86_390, 60_448) + epochs(*range(604_790, 604_810)),
+    "next_week": date(86_390, 60_456) + epochs(604_790 + 86_400),
+    "no_value": date(43_200) + capture(legacy_of(1000 * NOON, [])),
+    **{f"here.{it}": date(43_200 + it) + place(x) + epochs(NOON + it, NOON + it + 9) for it, x in ((0, 0), (1, 1_000_000), (2, 1_000_001))},
+    **{f"same.{it:02}": date(43_200) + epochs(NOON, NOON + 1, satellites=(it + 1,)) for it in range(17)},
+}
+for name, text in CAPTURES.items():
+    Path(name).write_bytes(text)
+
+# A day at 30 s by hours, and by hours that go on for a minute; what is written is that of the whole day.
+HOURS = [range(DAY + 3_600 * it, DAY + 3_600 * it + 3_600, 30) for it in range(24)]
+for folder, more in ("day", 0), ("overlapping", 60):
+    Path(folder).mkdir()
+    for hour, times in enumerate(HOURS):
+        text = place() + date(3_600 * hour) + epochs(*times, *range(times.stop, times.stop + more, 30))
+        Path(folder, f"{hour}").write_bytes(text)
+
+
+def written(name, text, near, codes, marker="2003", **more):
+    """The model's file of a capture."""
+    setup = model.Setup(2003, model.moment(near), MADE, marker, tuple(codes.split(",")), 4096, **more)
+    Path(f"{name}.rnx").write_text(model.convert(setup, [text])[0])
+
+
+written("day", place() + epochs(*(it for times in HOURS for it in times)), "2024-05-17T00:00:00", "1C,2W")
+written("overlapping", place() + epochs(*range(DAY, DAY + 86_460, 30)), "2024-05-17T00:00:00", "1C,2W")
+for name, near, codes in (("one", "2024-05-17T12:00:00", "1C,2W"), ("week_end", "2024-05-18T23:59:50", "1C,2W")):
+    written(name, CAPTURES[name], near, codes)
