@@ -17,52 +17,62 @@ use rtk_obs::{Code, civil, put_civil};
 use std::alloc::{AllocError, Global};
 
 // constant
-/// The colours, near those of Okabe and Ito, which the colour-blind tell apart, on white and on black; each
-/// mark has a form of its own too. Those on black come first: LibreOffice takes them on white too, and then
-/// the later ones are shown.
+/// The colours, near those of Okabe and Ito, which the colour-blind tell apart: on white, and on black. Slips are
+/// darker than each shade on white, and lighter on black, so they are seen in grey; each mark has a form of its own
+/// too. A picture up to 700 pixels wide has larger letters, and a time at each second tick.
+///
+/// All outlines of a path are painted before its first form is filled, or slips side by side hide one another.
+/// LibreOffice cannot do that. It takes all rules of an `@media` but its first, whatever the condition; so those on
+/// black and of a narrow picture stand before the others, which replace them, and the last `@media` is for it alone.
 pub(crate) const STYLE: &[u8] = b"<style>\
 @media (prefers-color-scheme:dark){\
 .page{fill:#111!important}.b1{fill:#242424!important}text{fill:#ddd!important}\
 .l0,.l1,.l2,.l3,.l4,.l5,.l6,.l7,.l8,.l9{stroke:#56b4e9!important}\
-.n{fill:#56b4e9!important}.p,.m,.h{fill:#111!important}\
-.r{fill:#ddd!important}.r,.s{stroke:#111!important}}\
+.n{fill:#56b4e9!important}.p,.m,.h{fill:#111!important}.p,.m{stroke:#e69f00!important}\
+.s{fill:#ffa35c!important}.g{stroke:#ffa35c!important}\
+.r{fill:#fff!important}.r,.s{stroke:#111!important}}\
+@media (max-width:700px){\
+text{font-size:30px!important}.tick{font-size:32px!important}.tick:nth-of-type(2n+1){display:none!important}\
+.marker{font-size:38px!important}.name{font-size:34px!important}\
+.code{font-size:19px!important}g>g>.code,.never{font-size:22px!important}}\
 .page{fill:#fff}.b0{fill:none}.b1{fill:#f0f0f0}\
-text{font-family:sans-serif;font-size:22px;fill:#222}\
-.marker{font-size:32px;font-weight:bold}.name{font-size:26px}\
-.name,.code{text-anchor:end}.code,.never{font-size:18px}.tick{text-anchor:middle}\
+text{font-family:sans-serif;font-size:24px;fill:#222}\
+.marker{font-size:32px;font-weight:bold}.name{font-size:30px}\
+.name,.code{text-anchor:end}.code,.never{font-size:19px}.tick{font-size:24px;text-anchor:middle}\
 path{fill:none}\
-.l0,.l1,.l2,.l3,.l4,.l5,.l6,.l7,.l8,.l9{stroke:#00588a;stroke-width:14}\
-.l0{stroke-opacity:.12}.l1{stroke-opacity:.2}.l2{stroke-opacity:.3}.l3{stroke-opacity:.4}.l4{stroke-opacity:.5}\
-.l5{stroke-opacity:.6}.l6{stroke-opacity:.7}.l7{stroke-opacity:.8}.l8{stroke-opacity:.9}\
-.p,.m{fill:#fff;stroke:#e69f00;stroke-width:2}\
-.s{fill:#d55e00;stroke:#fff;stroke-width:2}.r{fill:#444;stroke:#fff}\
+.l0,.l1,.l2,.l3,.l4,.l5,.l6,.l7,.l8,.l9{stroke:#0068a8;stroke-width:14}\
+.l0{stroke-opacity:.12}.l1{stroke-opacity:.2}.l2{stroke-opacity:.27}.l3{stroke-opacity:.35}.l4{stroke-opacity:.44}\
+.l5{stroke-opacity:.54}.l6{stroke-opacity:.65}.l7{stroke-opacity:.77}.l8{stroke-opacity:.89}\
+.p,.m{fill:#fff;stroke:#c47f00;stroke-width:2}\
+.s,.r{stroke:#fff;stroke-width:3;paint-order:stroke}.s{fill:#8a1c00}.r{fill:#222}\
 .h{fill:#fff;stroke:#b04c85;stroke-width:2}\
-.g{stroke:#d55e00;stroke-width:14}\
-.n{fill:#00588a;fill-opacity:.4}\
+.g{stroke:#8a1c00;stroke-width:14}\
+.n{fill:#0068a8;fill-opacity:.4}\
 .t{stroke:#888;stroke-opacity:.5}\
+@media not all{.page{}.s{stroke:#8a1c00}.r{stroke:none}}\
 </style>\n";
 
 // constant
 /// The name of the time, what the forms mean, and the strengths of the shades.
 pub(crate) const LEGEND: &[u8] = b"<text y='16'>GPS time</text>\
 <g transform='translate(0 38)'><path class='s' d='M8 20l-7-21h14z'/><text x='22' y='18'>slip</text></g>\
-<g transform='translate(100 38)'><path class='r' d='M4 5l9 5l-9 5z'/><text x='22' y='18'>rise</text></g>\
-<g transform='translate(200 38)'><path class='h' d='M8 8l6 6l-6 6l-6-6z'/><text x='22' y='18'>half cycle</text></g>\
-<g transform='translate(360 38)'><path class='l8' d='M0 10H30'/><text x='40' y='18'>phase in all epochs</text></g>\
-<g transform='translate(640 38)'><path class='l8' d='M0 10H30'/><path class='p' d='M0 10v-6H30v6z'/><text x='40' y='18'>in some</text></g>\
-<g transform='translate(790 38)'><path class='m' d='M0 16v-12H30v12z'/><text x='40' y='18'>code missing</text></g>\
-<g transform='translate(1020 38)'><path class='g' d='M0 10H8'/><text x='18' y='18'>epochs missing</text></g>\
+<g transform='translate(110 38)'><path class='r' d='M4 5l9 5l-9 5z'/><text x='22' y='18'>rise</text></g>\
+<g transform='translate(220 38)'><path class='h' d='M8 5l6 6l-6 6l-6-6z'/><text x='22' y='18'>half cycle</text></g>\
+<g transform='translate(410 38)'><path class='l8' d='M0 10H30'/><text x='40' y='18'>phase in all epochs</text></g>\
+<g transform='translate(760 38)'><path class='l8' d='M0 10H30'/><path class='p' d='M0 10v-6H30v6z'/><text x='40' y='18'>in some</text></g>\
+<g transform='translate(940 38)'><path class='m' d='M0 16v-12H30v12z'/><text x='40' y='18'>code missing</text></g>\
+<g transform='translate(1200 38)'><path class='g' d='M0 10H8'/><text x='18' y='18'>epochs missing</text></g>\
 <text y='94'>least strength, dB-Hz</text>\
-<path class='l0' d='M270 87h36'/><text x='312' y='94'>none</text>\
-<path class='l1' d='M380 87h36'/><text x='422' y='94'>&lt;12</text>\
-<path class='l2' d='M490 87h36'/><text x='532' y='94'>12</text>\
-<path class='l3' d='M600 87h36'/><text x='642' y='94'>18</text>\
-<path class='l4' d='M710 87h36'/><text x='752' y='94'>24</text>\
-<path class='l5' d='M820 87h36'/><text x='862' y='94'>30</text>\
-<path class='l6' d='M930 87h36'/><text x='972' y='94'>36</text>\
-<path class='l7' d='M1040 87h36'/><text x='1082' y='94'>42</text>\
-<path class='l8' d='M1150 87h36'/><text x='1192' y='94'>48</text>\
-<path class='l9' d='M1260 87h36'/><text x='1302' y='94'>54</text>\n";
+<path class='l0' d='M310 87h36'/><text x='352' y='94'>none</text>\
+<path class='l1' d='M430 87h36'/><text x='472' y='94'>&lt;12</text>\
+<path class='l2' d='M550 87h36'/><text x='592' y='94'>12</text>\
+<path class='l3' d='M660 87h36'/><text x='702' y='94'>18</text>\
+<path class='l4' d='M770 87h36'/><text x='812' y='94'>24</text>\
+<path class='l5' d='M880 87h36'/><text x='922' y='94'>30</text>\
+<path class='l6' d='M990 87h36'/><text x='1032' y='94'>36</text>\
+<path class='l7' d='M1100 87h36'/><text x='1142' y='94'>42</text>\
+<path class='l8' d='M1210 87h36'/><text x='1252' y='94'>48</text>\
+<path class='l9' d='M1320 87h36'/><text x='1362' y='94'>54</text>\n";
 
 fn put_interval_words(
     text: &mut Vec<u8>,

@@ -377,6 +377,10 @@ def inputs_held_once(runs: Runs, tests: Tests) -> None:
         ("cut --from 2024-06-17T00:00:00", "file", MIB),
         ("chart", "file", MIB),
         ("chart --text", "file", MIB),
+        ("quality", "file", MIB),
+        ("quality --json", "file", MIB),
+        ("label --blank", "file", MIB),
+        ("label --observer me", "file", MIB),
         ("show", "capture", MIB),
         ("show --hex", "hex", 2 * MIB + MIB // 2),
     ):

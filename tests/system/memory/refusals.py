@@ -273,6 +273,8 @@ def scenes() -> Iterator[Scene]:
         yield Scene(words.split())
     for words in ("check examples/base.rnx", "chart examples/marks.rnx", "chart --text examples/marks.rnx"):
         yield Scene(words.split())
+    for words in ("quality examples/marks.rnx", "quality --json examples/marks.rnx"):
+        yield Scene(words.split())
     yield Scene(["show", "--hex", "stdin"], given="examples/arp1005.hex")
     # refuses: a search for a place that calls itself, or a body that takes much of the stack for what few messages need
     for words in ("show rare", "summary rare"):
@@ -286,6 +288,8 @@ def scenes() -> Iterator[Scene]:
     # refuses: a `cut_input` that writes something else if memory is refused
     for words in ("--every 30 examples/slip.rnx", "--from 2024-05-17T12:00:30 examples/slip.rnx", "--every 30 slips"):
         yield Scene(["cut", *words.split()])
+    for words in ("--observer me examples/slip.rnx", "--blank slips"):
+        yield Scene(["label", *words.split()])
     yield of_file(base)
     yield of_file(late, window="2")
     yield Scene(convert("stdin", second, window="4"), given=first)
@@ -310,7 +314,7 @@ def scenes() -> Iterator[Scene]:
     for words in (f"show --hex {base}", "show nowhere"):
         yield Scene(words.split(), status=1)
     yield Scene(convert(base, "nowhere"), status=1)
-    for words in (f"check {base}", "check wrong", "chart wrong", f"cut --every 30 {base}"):
+    for words in (f"check {base}", "check wrong", "chart wrong", f"cut --every 30 {base}", "quality wrong", f"label --blank {base}"):
         yield Scene(words.split(), status=3)
 
     # Words that are refused: by clap, and by us.
@@ -319,7 +323,7 @@ def scenes() -> Iterator[Scene]:
     for words in ("shew a", "show --hax a"):
         yield Scene(words.split(), status=2, looks=True)
     yield Scene(convert("a", windo="2"), status=2, looks=True)
-    for words in ("", "show", "show a b", "show --hex --hex a", f"cut {base}", f"cut --until noon {base}"):
+    for words in ("", "show", "show a b", "show --hex --hex a", f"cut {base}", f"cut --until noon {base}", f"label {base}", f"label --delta-east 1 {base}"):
         yield Scene(words.split(), status=2)
     for near in ("noon", "1980-01-06T00:00:00"):
         yield Scene(convert("a", near=near), status=2)
@@ -332,7 +336,7 @@ def scenes() -> Iterator[Scene]:
 # refuses: a command that ends by a signal in little address space
 def scenes_of_space() -> Iterator[Scene]:
     """What holds a whole file."""
-    for words in ("check", "chart", "chart --text", "cut --every 30"):
+    for words in ("check", "chart", "chart --text", "cut --every 30", "quality", "label --blank"):
         yield Scene([*words.split(), "long"])
 
 

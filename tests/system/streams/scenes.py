@@ -21,6 +21,7 @@ import subprocess
 import sys
 from concurrent.futures import ThreadPoolExecutor
 from dataclasses import dataclass, field, replace
+from datetime import datetime, timedelta
 
 from wire import crc24q
 
@@ -35,7 +36,7 @@ NOTHING = os.devnull
 SECONDS = 60  # a run that takes longer does not end
 GATHERED = 65_536  # so many bytes of a file are gathered before a write
 READ_AT_ONCE = 32_768  # so many bytes of a link, or of an input of `summary`, are read at once
-READ_IN_PIECES = 4096  # so many bytes of an input of `show`, `check` or `cut` are read at once
+READ_IN_PIECES = 4096  # so many bytes of an input of `show` or of a command that takes a file are read at once
 FRAME = 46  # the bytes of a frame of late.rtcm, and of each one that is made of it
 COUNTS = 9  # the lines at the end of a report
 
@@ -164,18 +165,22 @@ def epochs(seconds):
     return b"".join(frames)
 
 
-def records(count):
-    """A file of so many records, one each second from the noon of the examples on: the record of base.rnx with other times."""
+def records(count, step=1):
+    """A file of so many records, one each `step` seconds from the noon of the examples on: the record of base.rnx with other
+    times."""
     header, epoch, line = content(example("base.rnx")).rpartition(b"> 2024 05 17 12 00  0.0000000")
     text = [header]
-    for second in range(count):
-        text += [f"> 2024 05 17 12 {second // 60:02} {second % 60:2}.0000000".encode(), line]
-    return written("records.rnx", b"".join(text))
+    for number in range(count):
+        time = datetime(2024, 5, 17, 12) + timedelta(seconds=number * step)
+        text += [f"> {time:%Y %m %d %H %M} {time.second:2}.0000000".encode(), line]
+    return written(f"records{step}.rnx", b"".join(text))
 
 
 OPTIONS = ("--station", "2003", "--near", "2024-05-17T12:00:00", "--made", "2024-05-17T13:00:00",
            "--marker", "BASE", "--codes", "1C,2W,5X")
 
+
+OF_FILES = ("check", "chart", "cut", "quality", "label")  # the commands that take a file of `convert`
 
 SAYS_NO = "check that says no"
 TWO_LINKS = "convert of two links"
@@ -183,7 +188,8 @@ BESIDE_A_FILE = "convert of standard input and a file"
 
 
 # Each command that takes one file.
-COMMANDS = [("show",), ("show", "--hex"), ("check",), ("summary",), ("chart",), ("chart", "--text"), ("cut", "--every", "1")]
+COMMANDS = [("show",), ("show", "--hex"), ("check",), ("summary",), ("chart",), ("chart", "--text"), ("cut", "--every", "1"),
+            ("quality",), ("quality", "--json"), ("label", "--blank")]
 
 
 def convert(name, *words, given=NOTHING):
@@ -223,6 +229,12 @@ def cases():
         Case("cut", ("cut", "--every", "30", example("slip.rnx"))),
         Case("cut of standard input", ("cut", "--every", "1", "stdin"), example("session.rnx")),
         Case("cut of a long file", ("cut", "--from", "2024-05-17T12:00:07", records(1500))),
+        Case("quality", ("quality", "--json", example("session.rnx"))),
+        # A pass ends with 121 s without a record, so each record is one.
+        Case("quality of many passes, from standard input", ("quality", "stdin"), records(800, 121)),
+        Case("label", ("label", "--observer", "me", example("slip.rnx"))),
+        Case("label of standard input", ("label", "--blank", "stdin"), example("session.rnx")),
+        Case("label of a long file", ("label", "--blank", records(1500))),
         convert(TWO_LINKS, *session),
         convert(BESIDE_A_FILE, "stdin", session[1], given=session[0]),
     ]
@@ -535,7 +547,8 @@ def _refusal_is_cut():
     for status, words in [(1, ("show", "nowhere")), (1, ("show", "--hex", example("base.rtcm"))),
                           (2, ("shew", "a")), (2, ("show", example("base.rtcm"), "--hax")),
                           (2, ("convert", *OPTIONS[:-1], "9Z", "a")),
-                          (3, ("chart", wrong)), (3, ("cut", "--every", "1", wrong))]:
+                          (2, ("label", example("base.rnx"))),
+                          *((3, (*words, wrong)) for words in [("chart",), ("cut", "--every", "1"), ("quality",), ("label", "--blank")])]:
         case = Case(" ".join(words), words)
         good = run(case)
         for k in range(len(good.err) + 1):
@@ -729,7 +742,7 @@ def size_of_inputs(case):
 
 def asked_for(words):
     """How many bytes a read of an input asks for."""
-    return READ_IN_PIECES if words[0] in ("show", "check", "chart", "cut") else READ_AT_ONCE
+    return READ_IN_PIECES if words[0] in ("show", *OF_FILES) else READ_AT_ONCE
 
 
 def short_piece(case):
@@ -895,7 +908,7 @@ def _calls_on_files():
         yield f"{name}, into a full disk", opens_alone, case, files, 1, Disturbance(out="/dev/full")
     for words in [*COMMANDS, ("convert", *OPTIONS)]:
         for file, status in [(nowhere, 1), (folder, 1), (wrong, 3)]:
-            if file != wrong or words[0] in ("check", "chart", "cut"):
+            if file != wrong or words[0] in OF_FILES:
                 yield " ".join((*words, file)), opens_alone, Case("", (*words, file)), [file], status
     for status, opened, words in [
             (1, [base, nowhere], ("convert", *OPTIONS, base, nowhere)),
@@ -1053,6 +1066,7 @@ def endless_pipe(words, text):
 def _link_changes():
     for words, file in [(("show",), "long.rtcm"), (("check",), "long.rnx"),
                         (("summary",), "long.rtcm"), (("cut", "--every", "2"), "long.rnx"),
+                        (("quality",), "long.rnx"), (("label", "--blank"), "long.rnx"),
                         (("convert", *OPTIONS, "--window", "2"), "long.rtcm")]:
         for before in [1, 2]:
             for change in CHANGES:
