@@ -72,8 +72,9 @@ class Difference:
 
     def __str__(self):
         told = [f"{theirs} {name}" + (f" (ours {ours})" if ours != theirs else "") for name, (ours, theirs) in
-            {"epochs": self.epochs, "values": self.values}.items()]
+            (("epochs", self.epochs), ("values", self.values))]
         equal, near, far = self.apart
         kinds = f" ({', '.join(sorted(self.types_apart))})" if far else ""
-        told.append(f"of {equal + near + far} values in both {near} differ by 0.001 and {far} by more{kinds}, {self.marks} marks of slips differ")
-        return "; ".join(told)
+        told.append(f"of {equal + near + far} values in both {near} differ by 0.001, {far} by more{kinds}")
+        told.append(f"and {self.marks} in the mark of a slip")
+        return ", ".join(told)

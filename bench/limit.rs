@@ -1,5 +1,6 @@
-// The job of `rtcm2rinex convert` for one link and for 1004 and 1074, by hand,
-// unverified and tuned: what the machine gives. bench/peers builds and runs it.
+// A converter without proofs and tuned by hand. It does what `rtcm2rinex convert`
+// does for one link of 1004 and 1074, and so marks how fast that can be.
+// bench/peers builds it and runs it with --splits.
 //   rustc --edition 2021 -C opt-level=3 limit.rs -o limit
 //
 //   limit read FILE [PIECE]        read the file only (PIECE bytes per read, 1 MiB)

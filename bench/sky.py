@@ -1,6 +1,6 @@
-"""What a station hears of satellites that rise and set, for captures of any length: ranges change smoothly, phases slip now
-and then, lock times grow. The same seed makes the same captures. Frames of a day take less than a minute, since what is packed
-here as whole rows and columns `payload_of` would pack field by field."""
+"""Captures of any length: what a station receives of satellites that rise and set. Ranges change smoothly, phases slip now and
+then, lock times grow. The same seed gives the same captures. Whole rows and columns are packed at once: `payload_of` packs field by
+field, and would take half an hour for a day."""
 
 from __future__ import annotations
 
