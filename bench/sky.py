@@ -1,6 +1,6 @@
 """Captures of any length: what a station receives of satellites that rise and set. Ranges change smoothly, phases slip now and
 then, lock times grow. The same seed gives the same captures. Whole rows and columns are packed at once: `payload_of` packs field by
-field, and would take half an hour for a day."""
+field, which takes several times as long."""
 
 from __future__ import annotations
 
