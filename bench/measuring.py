@@ -18,8 +18,8 @@ ROOT = Path(__file__).resolve().parent.parent
 
 # Each way to count instructions: the words before a command, and what its report, the file REPORT, says of it.
 COUNTERS = {
-    "perf": (["perf", "stat", "-x,", "-e", "instructions:u", "-o", "REPORT", "--"], r"(?m)^(\d+),[^,]*,instructions"),
-    "callgrind": (["valgrind", "--tool=callgrind", "--callgrind-out-file=/dev/null", "--log-file=REPORT"], r"Collected : (\d+)"),
+    "perf": ("perf stat -x, -e instructions:u -o REPORT --".split(), r"(?m)^(\d+),[^,]*,instructions"),
+    "callgrind": ("valgrind --tool=callgrind --vgdb=no --callgrind-out-file=/dev/null --log-file=REPORT".split(), r"Collected : (\d+)"),
 }
 SUBREAPER = 36  # PR_SET_CHILD_SUBREAPER: a process whose parent has ended becomes a child of this one
 
@@ -62,9 +62,10 @@ def machine():
 
 @contextmanager
 def scratch():
-    """A temporary folder, which is removed also where the script is ended."""
+    """A temporary folder, which is removed also where the script is ended; that of the commands too."""
     signal.signal(signal.SIGTERM, lambda *_: sys.exit(143))
     with tempfile.TemporaryDirectory() as name:
+        os.environ["TMPDIR"] = name
         yield Path(name)
 
 
