@@ -19,7 +19,8 @@ ROOT = Path(__file__).resolve().parent.parent
 # Each way to count instructions: the words before a command, and what its report, the file REPORT, says of it.
 COUNTERS = {
     "perf": ("perf stat -x, -e instructions:u -o REPORT --".split(), r"(?m)^(\d+),[^,]*,instructions"),
-    "callgrind": ("valgrind --tool=callgrind --vgdb=no --callgrind-out-file=/dev/null --log-file=REPORT".split(), r"Collected : (\d+)"),
+    "callgrind": ("valgrind --tool=callgrind --vgdb=no --callgrind-out-file=/dev/null --log-file=REPORT".split(),
+        r"Collected : (\d+)"),
 }
 SUBREAPER = 36  # PR_SET_CHILD_SUBREAPER: a process whose parent has ended becomes a child of this one
 
