@@ -1,14 +1,19 @@
 -- The counts of codes and passes, an epoch more.
-use Rattle.std.proofs.Common.{◌≡◌, ◌&&◌, not, cond, ℕ, zero, suc, Bool, true, false, List, [], ◌∷◌, Option, None, Some, refl, sym, ap, ◌⊎◌, inl, inr, ◌∙◌}
+use Rattle.std.proofs.Common.{◌≡◌, ◌≤◌, ◌+◌, ◌&&◌, not, length, arith, is_some, cond, ℕ, zero, suc, Bool, true, false, List, [], ◌∷◌, Option, None, Some, refl, sym, ap, ◌⊎◌, inl, inr, ◌∙◌}
+use Rattle.std.specs.List.{list_any}
 use Rattle.std.proofs.lemmas.Bool.{cases_Bool, both_ways, and_from}
+use Rattle.std.proofs.lemmas.List.{get_or_past}
+use Rattle.std.proofs.lemmas.List.FromFn.{fill_by_all, length-map-range_with_len, get_or-map-range_with_len}
 use Rattle.rtk_obs.specs.declared.time.Civil.{Civil}
 use Rattle.rtk_rinex.specs.Reading.{reading_of}
 use Rattle.rtk_rinex.specs.declared.epoch_table.Observed.{Observed}
 use Rattle.rtk_tracking.specs.Passes.{Sighting, has_phase, has_bit_0, last_phase, is_away, begins_pass, is_known, is_slip}
-use Rattle.rtk_quality.specs.Counts.{plus, Noted, shown_at, noted_of, counts_of}
+use Rattle.rtk_tracking.specs.Standing.{StandsForPass}
+use Rattle.rtk_quality.specs.Counts.{plus, Noted, nothing_observed, shown_at, is_observed, noted_of, tally, strength_total, least_strength, greatest_strength, counts_of, code_counts_of}
 use Rattle.rtk_quality.specs.SatellitePasses.{phases_in, slips_at, longer, passes_of, epochs_since_phase, epochs_in_passes}
-use Rattle.rtk_quality.specs.Standing.{newest_pass, with_epoch}
+use Rattle.rtk_quality.specs.Standing.{newest_pass, with_epoch, absent_at, StandsForSatellite}
 use Rattle.rtk_quality.specs.declared.satellite_counts.PassCounts.{PassCounts}
+use Rattle.rtk_quality.specs.declared.satellite_counts.SatelliteCounts.{SatelliteCounts}
 use Rattle.rtk_quality.specs.declared.code_counts.CodeCounts.{CodeCounts}
 
 -- a code, an epoch more
@@ -34,6 +39,74 @@ slip-is gap place before s os o known same is marked =
     ap (λ (x : Observed). x.slip && known) (is ∙ ap (λ (xs : List Observed). shown_at place xs) same)
     ∙ ap (λ (b : Bool). b && known) (sym (bit-at place s.observed))
     ∙ ap (λ (b : Bool). has_bit_0 place s.observed && b) marked
+
+-- ---- what is not observed
+
+abbrev counts_with : Bool → ℕ → ℕ → ℕ → ℕ → ℕ → ℕ → ℕ → Option ℕ → Option ℕ → CodeCounts
+counts_with seen a b c d e f g least greatest =
+    record { seen = seen; phases = a; ranges = b; slips = c; rises = d; halves = e; strengths = f; strength_sum = g; least = least; greatest = greatest }
+
+same-counts : (seen : Bool) (a b c d e f g a2 b2 c2 d2 e2 f2 g2 : ℕ) (least greatest : Option ℕ) → a ≡ a2 → b ≡ b2 → c ≡ c2 → d ≡ d2 → e ≡ e2 → f ≡ f2 → g ≡ g2
+    → counts_with seen a b c d e f g least greatest ≡ counts_with seen a2 b2 c2 d2 e2 f2 g2 least greatest
+same-counts seen a b c d e f g a2 b2 c2 d2 e2 f2 g2 least greatest ea eb ec ed ee ef eg = cc
+
+plus-none : (test : Noted → Bool) (ns : List Noted) → plus (tally test ns) 0 ≡ tally test ns
+plus-none test [] = refl
+plus-none test (n ∷ ns) = omega arith
+
+total-none : (ns : List Noted) → plus (strength_total ns) 0 ≡ strength_total ns
+total-none [] = refl
+total-none (n ∷ ns) = omega arith
+
+-- it changes no count
+pub nothing-more : (ns : List Noted) (known : Bool) → counts_of (record { observed = nothing_observed; known = known } ∷ ns) ≡ counts_of ns
+nothing-more ns known =
+    same-counts (list_any (λ n. is_observed n.observed) ns) _ _ _ _ _ _ _ _ _ _ _ _ _ _ (least_strength ns) (greatest_strength ns)
+    (plus-none (λ n. is_some n.observed.phase_millicycles) ns)
+    (plus-none (λ n. is_some n.observed.range_mm && not (is_some n.observed.phase_millicycles)) ns)
+    (plus-none (λ n. n.observed.slip && n.known) ns)
+    (plus-none (λ n. n.observed.slip && not n.known) ns)
+    (plus-none (λ n. n.observed.half) ns)
+    (plus-none (λ n. is_some n.observed.strength_millidbhz) ns)
+    (total-none ns)
+
+-- a code that an epoch does not show, an epoch more
+pub code-rest : (gap place : ℕ) (before : List Sighting) (s : Sighting) → length s.observed ≤ place
+    → counts_of (noted_of gap place (s ∷ before)) ≡ counts_of (noted_of gap place before)
+code-rest gap place before s past =
+    ap (λ (o : Observed). counts_of (record { observed = o; known = is_known gap place before s } ∷ noted_of gap place before)) (get_or_past s.observed place nothing_observed past)
+    ∙ nothing-more (noted_of gap place before) (is_known gap place before s)
+
+pub no-slip : (gap place : ℕ) (before : List Sighting) (s : Sighting) → length s.observed ≤ place → is_slip gap place before s ≡ false
+no-slip gap place before s past =
+    ap (λ (b : Bool). b && is_known gap place before s) (bit-at place s.observed ∙ ap (λ (o : Observed). o.slip) (get_or_past s.observed place nothing_observed past))
+
+-- the codes of a satellite without a row
+pub same-codes : (gap t : ℕ) (before : List Sighting) → code_counts_of gap (absent_at t ∷ before) ≡ code_counts_of gap before
+unfolding code_counts_of
+same-codes gap t before =
+    fill_by_all (λ (place : ℕ). counts_of (noted_of gap place before)) (code_counts_of gap (absent_at t ∷ before)) 16 (counts_of [])
+    (length-map-range_with_len (λ (place : ℕ). counts_of (noted_of gap place (absent_at t ∷ before))) 0 16) (λ k lt.
+    let here : 0 + k ≡ k = omega arith in
+    get_or-map-range_with_len (λ (place : ℕ). counts_of (noted_of gap place (absent_at t ∷ before))) 0 16 k k (counts_of []) lt here
+    ∙ code-rest gap k before (absent_at t) (omega arith))
+
+-- a satellite before the row of an epoch
+pub record IsBeforeRow (s : SatelliteCounts) (gap : ℕ) (before : List Sighting) : Type 0 where
+  pub pass : StandsForPass s.pass gap before
+  pub codes : s.codes ≡ code_counts_of gap before
+  pub in_passes : s.in_passes ≡ epochs_in_passes gap before
+  pub since_phase : s.since_phase ≡ plus (epochs_since_phase before) 1
+  pub last : s.last ≡ newest_pass (passes_of gap before)
+
+pub before-row : (s : SatelliteCounts) (gap t : ℕ) (before : List Sighting) → StandsForSatellite s gap (absent_at t ∷ before) → IsBeforeRow s gap before
+before-row s gap t before stands = record {
+  pass = record { last = stands.pass.last; had = stands.pass.had };
+  codes = stands.codes ∙ same-codes gap t before;
+  in_passes = stands.in_passes;
+  since_phase = stands.since_phase;
+  last = stands.last;
+}
 
 -- ---- passes
 

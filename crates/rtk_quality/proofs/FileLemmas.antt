@@ -90,7 +90,7 @@ older-longer s slips [] = refl
 older-longer s slips (p ∷ ps) = refl
 
 -- the passes that ended, an epoch more
-older-more : (gap : ℕ) (before : List Sighting) (s : Sighting)
+pub older-more : (gap : ℕ) (before : List Sighting) (s : Sighting)
     → reverse (older_passes (passes_of gap (s ∷ before)))
     ≡ reverse (older_passes (passes_of gap before)) ++ list_of (cond (begins_pass gap before s) (newest_pass (passes_of gap before)) None)
 older-more gap before s =
@@ -131,68 +131,16 @@ ended-own k satellite p same = ap (λ (b : Bool). cond b (p ∷ []) []) (eq-eqb 
 pub ended-none : (k satellite : ℕ) (p : PassCounts) → satellite ≢ k → ended_of k (record { satellite = satellite; pass = p } ∷ []) ≡ []
 ended-none k satellite p other = ap (λ (b : Bool). cond b (p ∷ []) []) (ne_eqb satellite k other)
 
-with-own : (k : ℕ) (ended : List EndedPass) (pass : Option PassCounts) → ended_of k (with_ended ended k pass) ≡ ended_of k ended ++ list_of pass
+pub with-own : (k : ℕ) (ended : List EndedPass) (pass : Option PassCounts) → ended_of k (with_ended ended k pass) ≡ ended_of k ended ++ list_of pass
 with-own k ended None = sym (append-nil (ended_of k ended))
 with-own k ended (Some p) =
     ended-append k ended (record { satellite = k; pass = p } ∷ []) ∙ ap (λ (ps : List PassCounts). ended_of k ended ++ ps) (ended-own k k p refl)
 
-with-other : (k satellite : ℕ) (ended : List EndedPass) (pass : Option PassCounts) → satellite ≢ k → ended_of k (with_ended ended satellite pass) ≡ ended_of k ended
+pub with-other : (k satellite : ℕ) (ended : List EndedPass) (pass : Option PassCounts) → satellite ≢ k → ended_of k (with_ended ended satellite pass) ≡ ended_of k ended
 with-other k satellite ended None other = refl
 with-other k satellite ended (Some p) other =
     ended-append k ended (record { satellite = satellite; pass = p } ∷ []) ∙ ap (λ (ps : List PassCounts). ended_of k ended ++ ps) (ended-none k satellite p other)
     ∙ append-nil (ended_of k ended)
-
--- the passes of satellites before a place have an epoch more
-pub record EndedUpTo (n : ℕ) (ended : List EndedPass) (gap : ℕ) (e : EpochTableView) (es : List EpochTableView) : Type 0 where
-  pub new : (place : ℕ) → place < n → HasEnded ended gap (sightings_of (place + 1) (e ∷ es)) (place + 1)
-  pub old : (place : ℕ) → n ≤ place → place < 32 → HasEnded ended gap (sightings_of (place + 1) es) (place + 1)
-
-pub none-ended : (ended : List EndedPass) (gap : ℕ) (e : EpochTableView) (es : List EpochTableView) → StandForEnded ended gap es → EndedUpTo 0 ended gap e es
-none-ended ended gap e es are = record {
-  new = λ place below. absurd (omega arith);
-  old = λ place above within. are place within;
-}
-
-pub all-ended : (n : ℕ) (ended : List EndedPass) (gap : ℕ) (e : EpochTableView) (es : List EpochTableView) → n ≡ 32 → EndedUpTo n ended gap e es → StandForEnded ended gap (e ∷ es)
-all-ended n ended gap e es end are = λ place within.
-    let below : place < n = omega arith in
-    are.new place below
-
-pub one-ended : (n satellite : ℕ) (old new : List EndedPass) (pass : Option PassCounts) (gap : ℕ) (e : EpochTableView) (es : List EpochTableView) → satellite ≡ n + 1 → n < 32
-    → EndedUpTo n old gap e es → new ≡ with_ended old satellite pass
-    → StandsForEnded pass gap (sightings_of (n + 1) es) (record { time = e.time; observed = observed_in (n + 1) e.rows })
-    → EndedUpTo (n + 1) new gap e es
-one-ended n satellite old new pass gap e es at within are took stands =
-    let is : new ≡ with_ended old (n + 1) pass = took ∙ ap (λ (k : ℕ). with_ended old k pass) at in
-    record {
-      new = λ place below.
-          elim (cases_eq place n) [
-            | inl same ↦
-                subst (λ (k : ℕ). HasEnded new gap (sightings_of (k + 1) (e ∷ es)) (k + 1)) (sym same)
-                (ap (λ (xs : List EndedPass). ended_of (n + 1) xs) is ∙ with-own (n + 1) old pass
-                ∙ ap (λ (ps : List PassCounts). ps ++ list_of pass) (are.old n (omega arith) within)
-                ∙ ap (λ (p : Option PassCounts). reverse (older_passes (passes_of gap (sightings_of (n + 1) es))) ++ list_of p) stands
-                ∙ sym (older-more gap (sightings_of (n + 1) es) (record { time = e.time; observed = observed_in (n + 1) e.rows })))
-            | inr other ↦
-                let apart : n + 1 ≢ place + 1 = λ alike. absurd (omega arith) in
-                let earlier : place < n = omega arith in
-                ap (λ (xs : List EndedPass). ended_of (place + 1) xs) is ∙ with-other (place + 1) (n + 1) old pass apart ∙ are.new place earlier
-          ];
-      old = λ place above inside.
-          let apart : n + 1 ≢ place + 1 = λ alike. absurd (omega arith) in
-          let later : n ≤ place = omega arith in
-          ap (λ (xs : List EndedPass). ended_of (place + 1) xs) is ∙ with-other (place + 1) (n + 1) old pass apart ∙ are.old place later inside;
-    }
-
--- ---- what comes of a satellite
-
-abbrev sighting : ℕ → List Observed → Sighting
-sighting t os = record { time = t; observed = os }
-
-pub sighting-is : (k t : ℕ) (os : List Observed) (rows : List SatelliteRow) (e : EpochTableView) → t ≡ e.time → os ≡ observed_in k rows → rows ≡ e.rows
-    → sighting t os ≡ sighting e.time (observed_in k e.rows)
-sighting-is k t os rows e at is same =
-    ap (λ (x : ℕ). sighting x os) at ∙ ap (λ (xs : List Observed). sighting e.time xs) (is ∙ ap (λ (rs : List SatelliteRow). observed_in k rs) same)
 
 -- ---- over all satellites
 

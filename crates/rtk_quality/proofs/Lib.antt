@@ -3,5 +3,6 @@ mod FileLemmas
 mod LawLemmas
 mod LineLemmas
 mod ListLemmas
+mod RowLemmas
 mod SectionLemmas
 mod TextLemmas

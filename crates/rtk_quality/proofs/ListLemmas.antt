@@ -91,6 +91,17 @@ up_to-all new old xs n d are =
     let here : 0 + k ≡ k = omega arith in
     ap (λ ys. get_or ys k d) are ∙ get_or-map-range_with_len (up_to n new old) 0 n k k d lt here ∙ ap (λ b. cond b (new k) (old k)) (lt-ltb k n lt))
 
+-- the new ones from the place on are the old ones
+pub up_to-rest : {X : Type 0} (new old : ℕ → X) (xs : List X) (n i : ℕ) (d : X) → xs ≡ map (up_to i new old) (range_with_len 0 n) → ((k : ℕ) → i ≤ k → k < n → old k ≡ new k)
+    → xs ≡ map new (range_with_len 0 n)
+up_to-rest new old xs n i d are same =
+    fill_by_all new xs n d (ap (λ ys. length ys) are ∙ length-map-range_with_len (up_to i new old) 0 n) (λ k lt.
+    let here : 0 + k ≡ k = omega arith in
+    ap (λ ys. get_or ys k d) are ∙ get_or-map-range_with_len (up_to i new old) 0 n k k d lt here ∙ elim (cases_lt k i) [
+      | inl below ↦ ap (λ b. cond b (new k) (old k)) (lt-ltb k i below)
+      | inr above ↦ ap (λ b. cond b (new k) (old k)) (le-ltb k i above) ∙ same k above lt
+    ])
+
 -- the item at the place is still the old one
 pub up_to-here : {X : Type 0} (new old : ℕ → X) (xs : List X) (n i j : ℕ) (d : X) → j ≡ i → i < n → xs ≡ map (up_to i new old) (range_with_len 0 n) → get_or xs j d ≡ old i
 up_to-here new old xs n i j d at within are =
@@ -161,3 +172,25 @@ count-bound p n =
     let most = count_by-le-length p (range_with_len 0 n) in
     let size = length-range_with_len 0 n in
     omega (arith, most, size)
+
+-- 1 for a test that holds
+abbrev once : Bool → ℕ
+once b = cond b 1 0
+
+-- numbers that don't pass are not counted
+pub count-rest : (p : ℕ → Bool) (m n : ℕ) → m ≤ n → ((k : ℕ) → m ≤ k → k < n → p k ≡ false) → count_by p (range_with_len 0 n) ≡ count_by p (range_with_len 0 m)
+count-rest p m zero le none =
+    let end : 0 ≡ m = omega (arith, le) in
+    ap (λ k. count_by p (range_with_len 0 k)) end
+count-rest p m (suc n) le none =
+    elim (cases_lt n m) [
+      | inl past ↦
+          let end : suc n ≡ m = omega (arith, le, past) in
+          ap (λ k. count_by p (range_with_len 0 k)) end
+      | inr within ↦
+          let next : suc n ≡ n + 1 = omega arith in
+          let more = count-more p n in
+          let last : once (p n) ≡ 0 = ap once (none n within (omega arith)) in
+          let so_far = count-rest p m n within (λ k from to. none k from (omega (arith, to))) in
+          ap (λ k. count_by p (range_with_len 0 k)) next ∙ omega (arith, more, last, so_far)
+    ]

@@ -33,6 +33,10 @@ with_epoch (Some p) false reading phases slips =
 with_epoch (Some p) true reading phases slips = record { from = reading; until = reading; phases = phases; slips = slips }
 with_epoch None begins reading phases slips = record { from = reading; until = reading; phases = phases; slips = slips }
 
+-- a satellite without a row in an epoch
+abbrev pub absent_at : ℕ → Sighting
+absent_at time = record { time = time; observed = [] }
+
 -- a satellite after what came of it
 pub record StandsForSatellite (s : SatelliteCounts) (gap : ℕ) (before : List Sighting) : Type 0 where
   pub pass : StandsForPass s.pass gap before
@@ -46,6 +50,10 @@ abbrev pub StandsForEnded : Option PassCounts → ℕ → List Sighting → Sigh
 StandsForEnded ended gap before s = ended ≡ (if begins_pass gap before s then newest_pass (passes_of gap before) else None)
 
 -- ---- a file
+
+-- an epoch of which no row came so far
+abbrev pub without_rows : ℕ → EpochTableView
+without_rows time = record { time = time; rows = [] }
 
 -- the satellites 1 to 32
 pub record StandForSatellites (satellites : List SatelliteCounts) (gap : ℕ) (es : List EpochTableView) : Type 0 where

@@ -6,13 +6,14 @@ ghost use Rattle.rtk_rinex.specs.Record.{EpochTableView};
 ghost use Rattle.rtk_tracking.specs.Passes.{longest_gap};
 ghost use Rattle.rtk_quality.specs.Records.{unit_of};
 ghost use Rattle.rtk_quality.specs.Quality.{totals_of, satellites_in};
-ghost use Rattle.rtk_quality.specs.Standing.{with_ended, StandForSatellites, StandForEnded, StandsForFile, HoldsOfEpochs};
+ghost use Rattle.rtk_quality.specs.Standing.{without_rows, with_ended, StandForSatellites, StandForEnded, StandsForFile, HoldsOfEpochs};
 
 use crate::code_numbers::CodeNumbers;
 use crate::record_counts::{RecordCounts, unit_ms};
 use crate::satellite_counts::{PassCounts, SatelliteCounts};
+use rtk_obs::civil;
 use rtk_rinex::{EpochTable, Table};
-use rtk_tracking::{longest_gap_ms, observed_in};
+use rtk_tracking::longest_gap_ms;
 use std::alloc::{AllocError, Global};
 
 /// A pass that ended, and its satellite.
@@ -49,8 +50,20 @@ fn add_ended(
     }
 }
 
-// Counts one more epoch of each satellite.
-fn note_satellites(
+// Counts one more epoch of each satellite, of which no row came so far.
+fn note_satellites(satellites: &mut Vec<SatelliteCounts>)
+    requires { length satellites.old.items ≡ 32 }
+    ensures size { length satellites.new.items ≡ 32 }
+    ensures satellites { (gap : ℕ) (time : ℕ) (es : List EpochTableView) → StandForSatellites satellites.old.items gap es
+        → StandForSatellites satellites.new.items gap (without_rows time ∷ es) }
+{
+    for place in 0..32 {
+        satellites[place].note_epoch();
+    }
+}
+
+// Counts the rows of that epoch.
+fn note_rows(
     satellites: &mut Vec<SatelliteCounts>,
     ended: &mut Vec<EndedPass>,
     gap_ms: u64,
@@ -58,16 +71,18 @@ fn note_satellites(
 ) -> Result<(), AllocError>
     requires { length satellites.old.items ≡ 32 }
     ensures size { OnOk result (length satellites.new.items ≡ 32) }
-    ensures satellites { OnOk result ((es : List EpochTableView) → StandForSatellites satellites.old.items gap_ms es
+    ensures satellites { OnOk result ((es : List EpochTableView) → StandForSatellites satellites.old.items gap_ms (without_rows epoch.now.time ∷ es)
         → StandForSatellites satellites.new.items gap_ms (epoch.now ∷ es)) }
-    ensures ended { OnOk result ((es : List EpochTableView) → StandForSatellites satellites.old.items gap_ms es
+    ensures ended { OnOk result ((es : List EpochTableView) → StandForSatellites satellites.old.items gap_ms (without_rows epoch.now.time ∷ es)
         → StandForEnded ended.old.items gap_ms es → StandForEnded ended.new.items gap_ms (epoch.now ∷ es)) }
 {
-    for place in 0..32 {
-        let satellite = place as u8 + 1;
-        let observed = observed_in(epoch.rows(), satellite);
-        let pass = satellites[place].note(gap_ms, epoch.time(), observed);
-        add_ended(ended, satellite, pass)?;
+    let time = epoch.time();
+    let reading = civil(time);
+    for row in epoch.rows() {
+        let place = usize::from(row.satellite) - 1;
+        let observed = row.observed.as_slice();
+        let pass = satellites[place].note_row(gap_ms, time, reading, observed);
+        add_ended(ended, row.satellite, pass)?;
     }
     Ok(())
 }
@@ -124,7 +139,8 @@ impl FileCounts {
             → StandsForFile self.new gap_ms unit_ms (epoch.now ∷ es)) }
     {
         self.records.note_record(unit_ms, epoch);
-        note_satellites(&mut self.satellites, &mut self.ended, gap_ms, epoch)?;
+        note_satellites(&mut self.satellites);
+        note_rows(&mut self.satellites, &mut self.ended, gap_ms, epoch)?;
         Ok(())
     }
 }

@@ -2,16 +2,17 @@
 
 ghost use Rattle.std.specs.Prelude.{◌≡◌, ◌<◌, ℕ, List, [], ◌∷◌, None, Some, if◌then◌else◌};
 ghost use Rattle.std.specs.List.{list_any};
+ghost use Rattle.rtk_rinex.specs.Reading.{reading_of};
 ghost use Rattle.rtk_tracking.specs.Passes.{Sighting, has_phase, is_known, is_slip};
 ghost use Rattle.rtk_tracking.specs.Standing.{AreMarked};
 ghost use Rattle.rtk_quality.specs.Counts.{plus, shown_at, code_counts_of};
 ghost use Rattle.rtk_quality.specs.Quality.{numbers_of, is_in_file};
 ghost use Rattle.rtk_quality.specs.SatellitePasses.{phases_in, slips_at};
-ghost use Rattle.rtk_quality.specs.Standing.{with_epoch, StandsForSatellite, StandsForEnded};
+ghost use Rattle.rtk_quality.specs.Standing.{with_epoch, absent_at, StandsForSatellite, StandsForEnded};
 
 use crate::code_counts::CodeCounts;
 use crate::code_numbers::CodeNumbers;
-use rtk_obs::{Civil, GpsMs, civil};
+use rtk_obs::{Civil, GpsMs};
 use rtk_rinex::Observed;
 use rtk_tracking::Pass;
 
@@ -44,16 +45,14 @@ fn shown_at(observed: &[Observed], place: usize) -> Observed
     observed.get(place).copied().unwrap_or_default()
 }
 
-// Counts one more epoch of each code.
+// Counts one more epoch of each code. What is not observed changes no count.
 fn note_codes(codes: &mut [CodeCounts; 16], observed: &[Observed], known: &[bool; 16])
     ensures { (gap : ℕ) (before : List Sighting) (s : Sighting) → observed.now ≡ s.observed
         → AreMarked known.now (λ place. is_known gap place before s)
         → codes.old ≡ code_counts_of gap before → codes.new ≡ code_counts_of gap (s ∷ before) }
 {
-    for place in 0..16 {
-        let mut counts = codes[place];
-        counts.note(&shown_at(observed, place), known[place]);
-        codes[place] = counts;
+    for place in 0..observed.len().min(16) {
+        codes[place].note(&observed[place], known[place]);
     }
 }
 
@@ -96,7 +95,7 @@ fn slips_in(observed: &[Observed], known: &[bool; 16]) -> u64
         → AreMarked known.now (λ place. is_known gap place before s) → result ≡ slips_at gap before s }
 {
     let mut slips = 0;
-    for place in 0..16 {
+    for place in 0..observed.len().min(16) {
         if is_slip(observed, known, place) {
             slips += 1;
         }
@@ -162,8 +161,8 @@ impl SatelliteCounts {
         has_seen(&self.codes)
     }
 
-    // Notes an epoch with a phase: it goes on with the last pass, or begins one, and then the answer is
-    // the pass before it.
+    // Notes that the epoch has a phase: it goes on with the last pass, or begins one, and then the answer
+    // is the pass before it.
     fn note_phases(
         &mut self,
         begins: bool,
@@ -173,7 +172,7 @@ impl SatelliteCounts {
     ) -> Option<PassCounts>
         ensures pass { self.new.pass ≡ self.old.pass }
         ensures codes { self.new.codes ≡ self.old.codes }
-        ensures in_passes { self.new.in_passes ≡ plus self.old.in_passes (if begins then 1 else plus self.old.since_phase 1) }
+        ensures in_passes { self.new.in_passes ≡ plus self.old.in_passes (if begins then 1 else self.old.since_phase) }
         ensures since_phase { self.new.since_phase ≡ 0 }
         ensures last { self.new.last ≡ Some (with_epoch self.old.last begins reading phases slips) }
         ensures ended { result ≡ (if begins then self.old.last else None) }
@@ -186,21 +185,31 @@ impl SatelliteCounts {
             self.in_passes = self.in_passes.saturating_add(1);
             return had;
         }
-        self.in_passes = self.in_passes.saturating_add(since_phase.saturating_add(1));
+        self.in_passes = self.in_passes.saturating_add(since_phase);
         None
     }
 
-    /// Notes one more epoch: what the codes of the satellite show, nothing if it has no row. If a pass
-    /// begins, the answer is the one before it.
-    pub(crate) fn note(
+    /// Notes one more epoch, of which no row came so far.
+    pub(crate) fn note_epoch(&mut self)
+        ensures { (gap : ℕ) (before : List Sighting) (time : ℕ) → StandsForSatellite self.old gap before
+            → StandsForSatellite self.new gap (absent_at time ∷ before) }
+    {
+        self.since_phase = self.since_phase.saturating_add(1);
+    }
+
+    /// Notes the row of that epoch: what the codes of the satellite show. If a pass begins, the answer is
+    /// the one before it.
+    pub(crate) fn note_row(
         &mut self,
         gap_ms: u64,
         time: GpsMs,
+        reading: Civil,
         observed: &[Observed],
     ) -> Option<PassCounts>
-        ensures stands { (before : List Sighting) → StandsForSatellite self.old gap_ms before
+        requires { reading ≡ reading_of time }
+        ensures stands { (before : List Sighting) → StandsForSatellite self.old gap_ms (absent_at time ∷ before)
             → StandsForSatellite self.new gap_ms (record { time = time; observed = observed.now } ∷ before) }
-        ensures ended { (before : List Sighting) → StandsForSatellite self.old gap_ms before
+        ensures ended { (before : List Sighting) → StandsForSatellite self.old gap_ms (absent_at time ∷ before)
             → StandsForEnded result gap_ms before (record { time = time; observed = observed.now }) }
     {
         let time_ms = time.ms();
@@ -209,10 +218,9 @@ impl SatelliteCounts {
         note_codes(&mut self.codes, observed, &known);
         self.pass.note(gap_ms, time_ms, observed);
         if !has_phase(observed) {
-            self.since_phase = self.since_phase.saturating_add(1);
             return None;
         }
         let slips = slips_in(observed, &known);
-        self.note_phases(begins, civil(time), phases_in(observed), slips)
+        self.note_phases(begins, reading, phases_in(observed), slips)
     }
 }

@@ -1,5 +1,5 @@
 -- What stands next in the text of records that are known to be good.
-use Rattle.std.proofs.Common.{◌≡◌, ◌≢◌, ℕ, ◌+◌, ◌-◌, ◌<◌, ◌≤◌, Option, Some, None, List, [], ◌∷◌, ◌++◌, length, take, flat_map, refl, sym, ◌∙◌, ap, arith, append_assoc, length-append, inl, inr}
+use Rattle.std.proofs.Common.{◌≡◌, ◌≢◌, ℕ, zero, suc, ◌+◌, ◌-◌, ◌<◌, ◌≤◌, Option, Some, None, List, [], ◌∷◌, ◌++◌, length, take, drop, flat_map, refl, sym, ◌∙◌, ap, arith, append_assoc, length-append, inl, inr}
 use Rattle.std.specs.Prelude.{All, AllPairs}
 use Rattle.std.specs.Int.{IsInRange}
 use mathlib.Core.Logic.{∥∥₁_map}
@@ -12,17 +12,17 @@ use Rattle.rtk_rinex.specs.Reading.{IsMoment, reading_of}
 use Rattle.rtk_rinex.specs.Header.{HeadView, PositionView, IsHeadView, header_text}
 use Rattle.rtk_rinex.specs.Record.{EpochTableView, IsSatelliteRow, epoch_line, satellite_line, record_text}
 use Rattle.rtk_rinex.specs.Table.{WellFormedTable, IsWellFormedTable, IsTableRow, IsTableEpoch, table_text}
-use Rattle.rtk_rinex.specs.Lines.{IsLine}
+use Rattle.rtk_rinex.specs.Lines.{HasNoEnd, IsLine}
 use Rattle.rtk_rinex.specs.CheckLine.{IsNextSatellite}
 use Rattle.rtk_rinex.specs.CheckText.{last_satellite, AreRows}
 use Rattle.rtk_rinex.specs.CheckTable.{HoldsTable}
-use Rattle.rtk_rinex.specs.Records.{RecordsView, AreLeft, IsRecordsView, IsNextOf}
+use Rattle.rtk_rinex.specs.Records.{RecordsView, AreLeft, IsRecordsView, IsNextOf, IsNextTimeOf}
 use Rattle.rtk_rinex.specs.Steps.HeaderRead.{IsOnlyHeader}
 use Rattle.rtk_rinex.specs.Steps.ReadRecords.{ReadsRows, BeginsWithRecord}
 use Rattle.rtk_rinex.proofs.DigitsLemmas.{take-exact}
 use Rattle.rtk_rinex.proofs.FieldLemmas.{none_of}
 use Rattle.rtk_rinex.proofs.CheckLemmas.{rows-all, rows-rise, record-lines, record-is}
-use Rattle.rtk_rinex.proofs.LineLemmas.{satellite_line-line, same_line}
+use Rattle.rtk_rinex.proofs.LineLemmas.{satellite_line-line, no_line, same_line}
 use Rattle.rtk_rinex.proofs.OneLemmas.{Below, pairs-head, pairs-tail, one_epoch_line, one_row, count-of, same_rows, epoch-front, epoch_line-of, one_record, some_text, row-next}
 use Rattle.rtk_rinex.proofs.TextLemmas.{epochs-after-header, rows_more}
 
@@ -241,3 +241,46 @@ records-of bytes rest h s first records lines good split only holds = (
   good.1.0.1,
   ∥∥₁_map holds (λ t. (t.table.epochs, (left-after bytes rest h s first t.table split only t.is_table t.text).1)),
 )
+
+-- ---- records whose values are not read
+
+-- the line that stands after so many rows is that of the next one
+pub line-skipped : (rows : List SatelliteRow) (k : ℕ) (line after bytes rest : List ℕ) → k < length rows → bytes ≡ flat_map satellite_line (drop k rows) ++ rest
+    → IsLine line → bytes ≡ line ++ after → after ≡ flat_map satellite_line (drop (k + 1) rows) ++ rest
+line-skipped [] k line after bytes rest less at is split = absurd (omega (arith, less))
+line-skipped (r ∷ rows) zero line after bytes rest less at is split =
+    (same_line line (satellite_line r) after (flat_map satellite_line rows ++ rest) is (satellite_line-line r)
+    (sym split ∙ at ∙ append_assoc (satellite_line r) (flat_map satellite_line rows) rest)).1
+line-skipped (r ∷ rows) (suc k) line after bytes rest less at is split =
+    let next : suc k + 1 ≡ suc (k + 1) = omega arith in
+    line-skipped rows k line after bytes rest (omega (arith, less)) at is split
+    ∙ ap (λ (m : ℕ). flat_map satellite_line (drop m (r ∷ rows)) ++ rest) (sym next)
+
+-- there is such a line
+pub row-there : (rows : List SatelliteRow) (k : ℕ) (bytes rest : List ℕ) → k < length rows → bytes ≡ flat_map satellite_line (drop k rows) ++ rest → HasNoEnd bytes → ⊥
+row-there [] k bytes rest less at none = omega (arith, less)
+row-there (r ∷ rows) zero bytes rest less at none =
+    no_line bytes (satellite_line r) (flat_map satellite_line rows ++ rest) none (satellite_line-line r) (at ∙ append_assoc (satellite_line r) (flat_map satellite_line rows) rest)
+row-there (r ∷ rows) (suc k) bytes rest less at none = row-there rows k bytes rest (omega (arith, less)) at none
+
+-- the record that begins a text: its moment, and the text after it
+abbrev pub SkipsRecord : List ℕ → ℕ → List ℕ → Type 0
+SkipsRecord bytes time rest = (n : ℕ) (e : EpochTableView) (after : List ℕ) → IsTableEpoch n e → bytes ≡ record_text e ++ after → (time ≡ e.time) × (rest ≡ after)
+
+pub time-read : (n t : ℕ) (bytes rest : List ℕ) (epochs : List EpochTableView) → SkipsRecord bytes t rest → length bytes ≢ 0 → AreLeft (view_of n bytes) epochs
+    → IsNextTimeOf epochs t (view_of n rest)
+time-read n t bytes rest [] skips some left = some (ap length left.text)
+time-read n t bytes rest (e ∷ epochs) skips some left =
+    let is = skips n e (flat_map record_text epochs) (All-head (IsTableEpoch n) e epochs left.are_epochs) left.text in
+    (is.0, record { are_epochs = All-tail (IsTableEpoch n) e epochs left.are_epochs; text = is.1 })
+
+pub others-skipped : (n t : ℕ) (bytes rest : List ℕ) → SkipsRecord bytes t rest → length bytes ≢ 0 → HasLeft n bytes → HasLeft n rest
+others-skipped n t bytes rest skips some ([], left) = absurd (some (ap length left.text))
+others-skipped n t bytes rest skips some (e ∷ epochs, left) = (epochs, (time-read n t bytes rest (e ∷ epochs) skips some left).1)
+
+pub less-left : (n t : ℕ) (bytes rest : List ℕ) → SkipsRecord bytes t rest → length bytes ≢ 0 → HasLeft n bytes → length rest < length bytes
+less-left n t bytes rest skips some ([], left) = absurd (some (ap length left.text))
+less-left n t bytes rest skips some (e ∷ epochs, left) =
+    let first = All-head (IsTableEpoch n) e epochs left.are_epochs in
+    let is = skips n e (flat_map record_text epochs) first left.text in
+    record-some n e bytes rest first (left.text ∙ ap (λ (xs : List ℕ). record_text e ++ xs) (sym is.1))

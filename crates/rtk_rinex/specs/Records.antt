@@ -23,3 +23,8 @@ IsRecordsView r = (r.code_count ≤ 16) × ∥ ((epochs : List EpochTableView) �
 abbrev pub IsNextOf : List EpochTableView → List ℕ → EpochTableView → RecordsView → Type 0
 IsNextOf [] text epoch left = ⊥
 IsNextOf (e ∷ epochs) text epoch left = (text ≡ record_text e) × (epoch ≡ e) × AreLeft left epochs
+
+-- this is the moment of the first of these epochs, and the others are left
+abbrev pub IsNextTimeOf : List EpochTableView → ℕ → RecordsView → Type 0
+IsNextTimeOf [] time left = ⊥
+IsNextTimeOf (e ∷ epochs) time left = (time ≡ e.time) × AreLeft left epochs

@@ -40,9 +40,9 @@ fn reading_in(line: &[u8], seconds: u64) -> Civil
     }
 }
 
-// The moment and count in the columns of an epoch line, read without a test of their form. If the
-// columns are an epoch line, they are the line of this moment and this count.
-fn stamp_in(columns: &[u8]) -> Option<EpochStamp>
+/// The moment and count in the columns of an epoch line, read without a test of their form. If the
+/// columns are an epoch line, they are the line of this moment and this count.
+pub(crate) fn stamp_in(columns: &[u8]) -> Option<EpochStamp>
     requires { length columns.now ≡ 35 }
     ensures { MatchOption result
         ((t n : ℕ) → IsMoment t → IsInRange 1 32 n → columns.now ≢ epoch_columns (reading_of t) n)

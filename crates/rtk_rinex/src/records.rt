@@ -3,17 +3,20 @@
 //! The invariant of `Records` says that the rest of the text is a sequence of good records, so
 //! reading cannot fail.
 
-ghost use Rattle.std.specs.Prelude.{◌≡◌, ℕ, ◌<◌, ◌≤◌, ◌++◌, [], List, length, flat_map, None, IfSome, MatchOption};
+ghost use Rattle.std.specs.Prelude.{◌≡◌, ◌≢◌, ℕ, ◌<◌, ◌≤◌, ◌++◌, [], List, length, flat_map, None, IfSome, MatchOption};
+ghost use Rattle.rtk_rinex.specs.declared.epoch_table.SatelliteRow.{SatelliteRow};
 ghost use Rattle.rtk_rinex.specs.Record.{EpochTableView, satellite_line, record_text};
 ghost use Rattle.rtk_rinex.specs.Table.{IsTableEpoch};
 ghost use Rattle.rtk_rinex.specs.CheckText.{AreRows};
-ghost use Rattle.rtk_rinex.specs.Steps.ReadRecords.{ReadsRows, BeginsWithRecord};
+ghost use Rattle.rtk_rinex.specs.Steps.ReadRecords.{ReadsRows, BeginsWithRows, BeginsWithRecord};
 ghost use Rattle.rtk_rinex.specs.Records.{IsRecordsView};
 
-use crate::epoch_line_check::read_epoch_line;
+use crate::columns::EPOCH_LINE;
+use crate::epoch_line_check::{read_epoch_line, stamp_in};
 use crate::epoch_table::{EpochTable, SatelliteRow};
 use crate::records_check::next_line;
 use crate::satellite_line_read::read_row;
+use rtk_obs::GpsMs;
 use std::marker::Model;
 
 /// The records of a file that are still to be read, as text. It takes no memory.
@@ -79,8 +82,39 @@ fn read_record<'a>(text: &'a [u8], code_count: usize, epoch: &mut EpochTable) ->
     read_rows(after, code_count, stamp.count, epoch)
 }
 
+// The text after `count` satellite lines.
+fn skip_rows<'a>(text: &'a [u8], count: usize) -> &'a [u8]
+    requires { ∥ BeginsWithRows count text.now ∥₁ }
+    ensures { (rows : List SatelliteRow) (rest : List ℕ) → length rows ≡ count → text.now ≡ flat_map satellite_line rows ++ rest
+        → result.now ≡ rest }
+{
+    let mut rest = text;
+    for _ in 0..count {
+        let Some((_, after)) = next_line(rest) else {
+            unreachable!();
+        };
+        rest = after;
+    }
+    rest
+}
+
+// The moment of the record that begins a text, and the text after the record, whose values are not read.
+fn skip_record<'a>(text: &'a [u8]) -> (GpsMs, &'a [u8])
+    requires { ∥ ((code_count : ℕ) × BeginsWithRecord code_count text.now) ∥₁ }
+    ensures { (code_count : ℕ) (e : EpochTableView) (rest : List ℕ) → IsTableEpoch code_count e → text.now ≡ record_text e ++ rest
+        → (result.0 ≡ e.time) × (result.1.now ≡ rest) }
+{
+    let Some((line, after)) = next_line(text) else {
+        unreachable!();
+    };
+    let Some(stamp) = stamp_in(line.split_at(EPOCH_LINE - 1).0) else {
+        unreachable!();
+    };
+    (stamp.time, skip_rows(after, stamp.count))
+}
+
 impl<'a> Records<'a> {
-    ghost use Rattle.rtk_rinex.specs.Records.{RecordsView, AreLeft, IsRecordsView, IsNextOf};
+    ghost use Rattle.rtk_rinex.specs.Records.{RecordsView, AreLeft, IsRecordsView, IsNextOf, IsNextTimeOf};
 
     /// The records that a text is, in a file of `code_count` codes.
     pub(crate) fn of_text(text: &'a [u8], code_count: usize) -> Records<'a>
@@ -115,5 +149,21 @@ impl<'a> Records<'a> {
         let (text, _) = self.rest.split_at(self.rest.len() - rest.len());
         self.rest = rest;
         Some(text)
+    }
+    /// Reads the moment of the next record, and goes on after the record, whose values are not read; after
+    /// the last one `None`.
+    pub fn next_time(&mut self) -> Option<GpsMs>
+        ensures next { (epochs : List EpochTableView) → AreLeft self.old epochs
+            → MatchOption result (epochs ≡ []) (λ time. IsNextTimeOf epochs time self.new) }
+        ensures end { MatchOption result ((self.old.text ≡ []) × (self.new ≡ self.old)) (λ time. self.old.text ≢ []) }
+        ensures less { IfSome result (λ time. length self.new.text < length self.old.text) }
+        ensures code_count { self.new.code_count ≡ self.old.code_count }
+    {
+        if self.rest.len() == 0 {
+            return None;
+        }
+        let (time, rest) = skip_record(self.rest);
+        self.rest = rest;
+        Some(time)
     }
 }

@@ -51,7 +51,7 @@ fn is_away(gap_ms: u64, last_ms: Option<u64>, time_ms: u64) -> bool
 fn add_phases(had: &mut [bool; 16], observed: &[Observed])
     ensures { AreMarked had.new (λ place. shows_phase place observed.now || get_or had.old place false) }
 {
-    for place in 0..16 {
+    for place in 0..observed.len().min(16) {
         had[place] = shows_phase(observed, place) || had[place];
     }
 }

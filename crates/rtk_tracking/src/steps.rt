@@ -114,16 +114,24 @@ impl StepCounts {
         }
     }
 
+    /// Counts the step to one more epoch, which is at this moment.
+    pub fn note_time(&mut self, time: GpsMs) -> Result<(), AllocError>
+        ensures { OnOk result ((es : List EpochTableView) (e : EpochTableView) → e.time ≡ time → StandsForStepsBetween self.old es
+            → StandsForStepsBetween self.new (e ∷ es)) }
+    {
+        if let Some(last) = self.last {
+            self.steps.add_step(time.ms().saturating_sub(last.ms()))?;
+        }
+        self.last = Some(time);
+        Ok(())
+    }
+
     /// Counts the step to one more epoch.
     pub fn note_epoch(&mut self, epoch: &EpochTable) -> Result<(), AllocError>
         ensures { OnOk result ((es : List EpochTableView) → StandsForStepsBetween self.old es
             → StandsForStepsBetween self.new (epoch.now ∷ es)) }
     {
-        let time = epoch.time();
-        if let Some(last) = self.last {
-            self.steps.add_step(time.ms().saturating_sub(last.ms()))?;
-        }
-        self.last = Some(time);
+        self.note_time(epoch.time())?;
         Ok(())
     }
 

@@ -17,6 +17,10 @@ pub record ReadsRows (n due : ℕ) (bytes rest : List ℕ) : Type 0 where
   pub count : length rows ≡ due
   pub text : bytes ≡ flat_map satellite_line rows ++ rest
 
+-- the lines of this many rows begin the text
+abbrev pub BeginsWithRows : ℕ → List ℕ → Type 0
+BeginsWithRows count bytes = (rows : List SatelliteRow) × (rest : List ℕ) × (length rows ≡ count) × (bytes ≡ flat_map satellite_line rows ++ rest)
+
 -- the record of some epoch begins the text
 abbrev pub BeginsWithRecord : ℕ → List ℕ → Type 0
 BeginsWithRecord n bytes = (e : EpochTableView) × (rest : List ℕ) × IsTableEpoch n e × (bytes ≡ record_text e ++ rest)

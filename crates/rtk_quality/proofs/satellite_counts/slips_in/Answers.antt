@@ -1,7 +1,8 @@
-use Rattle.std.proofs.Common.{◌≡◌, ℕ, Bool, cond, count_by, sym, ap, ◌∙◌, arith}
-use Rattle.std.specs.List.{range_with_len}
+use Rattle.std.proofs.Common.{◌≡◌, ◌≤◌, ℕ, Bool, List, cond, length, sym, ap, subst, ◌∙◌, arith}
+use Rattle.rtk_rinex.specs.declared.epoch_table.Observed.{Observed}
 use Rattle.rtk_tracking.specs.Passes.{is_slip}
-use Rattle.rtk_quality.proofs.ListLemmas.{count-more}
+use Rattle.rtk_quality.proofs.ListLemmas.{count-more, count-rest}
+use Rattle.rtk_quality.proofs.CountLemmas.{no-slip}
 use Rattle.rtk_quality.proofs.satellite_counts.slips_in.Goals as goal
 use Rattle.rtk_quality.proofs.satellite_counts.slips_in.Goals.{then-is_slip, else-is_slip}
 
@@ -33,5 +34,8 @@ loop-place-preserved c = elim c.if-is_slip.branch [
 
 pub returns : goal.returns
 returns c = λ gap before s same marked.
-    let end : c.loop-place.place ≡ 16 = omega (arith, c.loop-place.auto.place-end, c.loop-place-test.false) in
-    c.loop-place.invariant.many gap before s same marked ∙ ap (λ (k : ℕ). count_by (λ place. is_slip gap place before s) (range_with_len 0 k)) end
+    let few : c.loop-place.place ≤ 16 = omega (arith, c.loop-place.auto.place-end) in
+    c.loop-place.invariant.many gap before s same marked
+    ∙ sym (count-rest (λ place. is_slip gap place before s) c.loop-place.place 16 few (λ k above within.
+    let past : length c.args.observed.now ≤ k = omega (arith, above, within, c.loop-place-test.false) in
+    no-slip gap k before s (subst (λ (os : List Observed). length os ≤ k) same past)))

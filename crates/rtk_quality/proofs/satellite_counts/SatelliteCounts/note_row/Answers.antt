@@ -1,7 +1,6 @@
 use Rattle.std.proofs.Common.{◌≡◌, ◌∷◌, ℕ, Bool, true, false, cond, not, ◌&&◌, Option, Some, None, refl, sym, ap, subst, ◌∙◌}
 use Rattle.rtk_obs.specs.declared.time.Civil.{Civil}
 use Rattle.rtk_rinex.specs.Reading.{reading_of}
-use Rattle.rtk_rinex.proofs.PublicLaws.{reading_is}
 use Rattle.rtk_tracking.specs.Passes.{Sighting, has_phase, last_phase, is_away, begins_pass, is_known}
 use Rattle.rtk_tracking.specs.Standing.{AreMarked, StandsForPass}
 use Rattle.rtk_tracking.specs.declared.passes.Pass.{Pass}
@@ -9,11 +8,12 @@ use Rattle.rtk_quality.specs.Counts.{plus}
 use Rattle.rtk_quality.specs.SatellitePasses.{phases_in, slips_at, passes_of, epochs_since_phase, epochs_in_passes}
 use Rattle.rtk_quality.specs.Standing.{newest_pass, with_epoch}
 use Rattle.rtk_quality.specs.declared.satellite_counts.PassCounts.{PassCounts}
-use Rattle.rtk_quality.proofs.CountLemmas.{same-passes, last-more, within-more}
-use Rattle.rtk_quality.proofs.satellite_counts.SatelliteCounts.note.Goals as goal
+use Rattle.rtk_quality.proofs.CountLemmas.{before-row, same-passes, last-more, within-more}
+use Rattle.rtk_quality.proofs.satellite_counts.SatelliteCounts.note_row.Goals as goal
 
 pub returns-then-not-has_phase-clause-stands : goal.returns-then-not-has_phase-clause-stands
-returns-then-not-has_phase-clause-stands c = λ before stands.
+returns-then-not-has_phase-clause-stands c = λ before absent.
+    let stands = before-row c.args.self.now c.args.gap_ms c.args.time before absent in
     let gap : ℕ = c.args.gap_ms in
     let at : c.ms-time_ms.result ≡ c.args.time = c.ms-time_ms.ensures.value in
     let s : Sighting = record { time = c.args.time; observed = c.args.observed.now } in
@@ -25,19 +25,21 @@ returns-then-not-has_phase-clause-stands c = λ before stands.
       codes = c.note_codes.ensures gap before s refl marked stands.codes;
       in_passes = stands.in_passes ∙ sym (ap (λ (b : Bool). cond (not b) (epochs_in_passes gap before)
           (cond (begins_pass gap before s) (plus (epochs_in_passes gap before) 1) (plus (epochs_in_passes gap before) (plus (epochs_since_phase before) 1)))) none);
-      since_phase = c.saturating_add-self.ensures ∙ ap (λ (n : ℕ). plus n 1) stands.since_phase
+      since_phase = stands.since_phase
           ∙ sym (ap (λ (b : Bool). cond b 0 (plus (epochs_since_phase before) 1)) none);
       last = stands.last ∙ sym (ap newest_pass (same-passes gap before s none));
     }
 
 pub returns-then-not-has_phase-clause-ended : goal.returns-then-not-has_phase-clause-ended
-returns-then-not-has_phase-clause-ended c = λ before stands.
+returns-then-not-has_phase-clause-ended c = λ before absent.
+    let stands = before-row c.args.self.now c.args.gap_ms c.args.time before absent in
     let s : Sighting = record { time = c.args.time; observed = c.args.observed.now } in
     let none : has_phase s.observed ≡ false = sym c.has_phase.ensures ∙ c.if-not-has_phase.true in
     sym (ap (λ (b : Bool). cond (b && is_away c.args.gap_ms (last_phase before) s.time) (newest_pass (passes_of c.args.gap_ms before)) None) none)
 
 pub returns-clause-stands : goal.returns-clause-stands
-returns-clause-stands c = λ before stands.
+returns-clause-stands c = λ before absent.
+    let stands = before-row c.args.self.now c.args.gap_ms c.args.time before absent in
     let gap : ℕ = c.args.gap_ms in
     let at : c.ms-time_ms.result ≡ c.args.time = c.ms-time_ms.ensures.value in
     let s : Sighting = record { time = c.args.time; observed = c.args.observed.now } in
@@ -53,13 +55,13 @@ returns-clause-stands c = λ before stands.
           (subst (λ (t : ℕ). StandsForPass c.note.new.self gap (record { time = t; observed = c.args.observed.now } ∷ before)) at (c.note.ensures before stands.pass));
       codes = n.codes ∙ c.note_codes.ensures gap before s refl marked stands.codes;
       in_passes = n.in_passes
-          ∙ ap (λ (k : ℕ). plus k (cond c.begins-begins.result 1 (plus c.args.self.now.since_phase 1))) stands.in_passes
-          ∙ ap (λ (k : ℕ). plus (epochs_in_passes gap before) (cond c.begins-begins.result 1 (plus k 1))) stands.since_phase
+          ∙ ap (λ (k : ℕ). plus k (cond c.begins-begins.result 1 c.args.self.now.since_phase)) stands.in_passes
+          ∙ ap (λ (k : ℕ). plus (epochs_in_passes gap before) (cond c.begins-begins.result 1 k)) stands.since_phase
           ∙ ap (λ (b : Bool). plus (epochs_in_passes gap before) (cond b 1 (plus (epochs_since_phase before) 1))) begins
           ∙ sym (within-more gap before s has);
       since_phase = n.since_phase ∙ sym (ap (λ (b : Bool). cond b 0 (plus (epochs_since_phase before) 1)) has);
       last = n.last
-          ∙ ap (λ (r : Civil). Some (with_epoch c.args.self.now.last c.begins-begins.result r c.phases_in.result c.slips_in-slips.result)) (reading_is _ _ c.civil.ensures.reading)
+          ∙ ap (λ (r : Civil). Some (with_epoch c.args.self.now.last c.begins-begins.result r c.phases_in.result c.slips_in-slips.result)) c.requires
           ∙ ap (λ (b : Bool). Some (with_epoch c.args.self.now.last b (reading_of s.time) c.phases_in.result c.slips_in-slips.result)) begins
           ∙ ap (λ (k : ℕ). Some (with_epoch c.args.self.now.last (begins_pass gap before s) (reading_of s.time) k c.slips_in-slips.result)) c.phases_in.ensures
           ∙ ap (λ (k : ℕ). Some (with_epoch c.args.self.now.last (begins_pass gap before s) (reading_of s.time) (phases_in s.observed) k)) slips
@@ -67,7 +69,8 @@ returns-clause-stands c = λ before stands.
     }
 
 pub returns-clause-ended : goal.returns-clause-ended
-returns-clause-ended c = λ before stands.
+returns-clause-ended c = λ before absent.
+    let stands = before-row c.args.self.now c.args.gap_ms c.args.time before absent in
     let s : Sighting = record { time = c.args.time; observed = c.args.observed.now } in
     let begins : c.begins-begins.result ≡ begins_pass c.args.gap_ms before s =
     c.begins-begins.ensures before stands.pass ∙ ap (λ (t : ℕ). begins_pass c.args.gap_ms before (record { time = t; observed = c.args.observed.now })) c.ms-time_ms.ensures.value in

@@ -1,0 +1,149 @@
+-- An epoch row by row: what has come of each satellite.
+use Rattle.std.proofs.Common.{◌≡◌, ◌≢◌, ◌<◌, ◌≤◌, ◌+◌, ◌++◌, ◌==◌, cond, ℕ, suc, Bool, false, List, [], ◌∷◌, length, take, set, get_or, reverse, Option, refl, sym, ap, subst, inl, inr, ◌∙◌, get_or-set_same, get_or-set_other, length-set, arith}
+use Rattle.std.specs.Prelude.{AllPairs}
+use Rattle.std.proofs.lemmas.Bool.{cases_eq, eq-eqb, ne_eqb}
+use Rattle.std.proofs.lemmas.List.{get_or-take, take_more, length-take-le}
+use Rattle.rtk_rinex.specs.Record.{EpochTableView, IsEpochTableView}
+use Rattle.rtk_rinex.specs.declared.epoch_table.Observed.{Observed}
+use Rattle.rtk_rinex.specs.declared.epoch_table.SatelliteRow.{SatelliteRow}
+use Rattle.rtk_tracking.specs.Epochs.{observed_in}
+use Rattle.rtk_tracking.specs.Passes.{Sighting, sightings_of}
+use Rattle.rtk_quality.specs.SatellitePasses.{passes_of}
+use Rattle.rtk_quality.specs.Standing.{absent_at, older_passes, StandsForSatellite, StandsForEnded, StandForSatellites, ended_of, with_ended, HasEnded, StandForEnded}
+use Rattle.rtk_quality.specs.declared.satellite_counts.PassCounts.{PassCounts}
+use Rattle.rtk_quality.specs.declared.satellite_counts.SatelliteCounts.{SatelliteCounts}
+use Rattle.rtk_quality.specs.declared.file_counts.EndedPass.{EndedPass}
+use Rattle.rtk_quality.proofs.FileLemmas.{list_of, older-more, with-own, with-other}
+
+-- an epoch with its first rows
+abbrev pub first_rows : EpochTableView → ℕ → EpochTableView
+first_rows e i = record { time = e.time; rows = take i e.rows }
+
+pub all-rows : (e : EpochTableView) (i : ℕ) → take i e.rows ≡ e.rows → first_rows e i ≡ e
+all-rows e i all = ap (λ (rows : List SatelliteRow). with_rows e.time rows) all
+  where
+    with_rows : ℕ → List SatelliteRow → EpochTableView
+    with_rows t rows = record { time = t; rows = rows }
+
+-- ---- what rows show of a satellite
+
+-- no row is of this satellite
+abbrev AreOfOthers : ℕ → List SatelliteRow → SatelliteRow → Type 0
+AreOfOthers k rows d = (j : ℕ) → j < length rows → (get_or rows j d).satellite ≢ k
+
+others-tail : (k : ℕ) (x : SatelliteRow) (rows : List SatelliteRow) (d : SatelliteRow) → AreOfOthers k (x ∷ rows) d → AreOfOthers k rows d
+others-tail k x rows d others = λ j lt. others (suc j) (omega (arith, lt))
+
+none-of : (k : ℕ) (rows : List SatelliteRow) (d : SatelliteRow) → AreOfOthers k rows d → observed_in k rows ≡ []
+none-of k [] d others = refl
+none-of k (x ∷ rows) d others =
+    ap (λ (b : Bool). cond b x.observed.items (observed_in k rows)) (ne_eqb x.satellite k (others 0 (omega arith))) ∙ none-of k rows d (others-tail k x rows d others)
+
+own-row : (k : ℕ) (rows : List SatelliteRow) (r d : SatelliteRow) → AreOfOthers k rows d → r.satellite ≡ k → observed_in k (rows ++ r ∷ []) ≡ r.observed.items
+own-row k [] r d others same = ap (λ (b : Bool). cond b r.observed.items []) (eq-eqb r.satellite k same)
+own-row k (x ∷ rows) r d others same =
+    ap (λ (b : Bool). cond b x.observed.items (observed_in k (rows ++ r ∷ []))) (ne_eqb x.satellite k (others 0 (omega arith)))
+    ∙ own-row k rows r d (others-tail k x rows d others) same
+
+other-row : (k : ℕ) (rows : List SatelliteRow) (r : SatelliteRow) → r.satellite ≢ k → observed_in k (rows ++ r ∷ []) ≡ observed_in k rows
+other-row k [] r other = ap (λ (b : Bool). cond b r.observed.items []) (ne_eqb r.satellite k other)
+other-row k (x ∷ rows) r other = ap (λ (os : List Observed). cond (x.satellite == k) x.observed.items os) (other-row k rows r other)
+
+-- a row of an epoch, which stands at this place
+pub record IsRowAt (e : EpochTableView) (i : ℕ) (r : SatelliteRow) : Type 0 where
+  pub good : IsEpochTableView e
+  pub within : i < length e.rows
+  pub is : r ≡ get_or e.rows i r
+
+others-before : (e : EpochTableView) (i : ℕ) (r : SatelliteRow) → IsRowAt e i r → AreOfOthers r.satellite (take i e.rows) r
+others-before e i r at = λ j lt same.
+    let few : i ≤ length e.rows = let within = at.within in omega (arith, within) in
+    let before : j < i = let size = length-take-le i e.rows few in omega (arith, lt, size) in
+    let less = at.good.rise j i r before at.within in
+    let here : (get_or e.rows i r).satellite ≡ r.satellite = sym (ap (λ (x : SatelliteRow). x.satellite) at.is) in
+    let there : (get_or (take i e.rows) j r).satellite ≡ (get_or e.rows j r).satellite = ap (λ (x : SatelliteRow). x.satellite) (get_or-take i e.rows j r before) in
+    omega (arith, less, here, there, same)
+
+rows-more : (e : EpochTableView) (i : ℕ) (r : SatelliteRow) → IsRowAt e i r → take (i + 1) e.rows ≡ take i e.rows ++ r ∷ []
+rows-more e i r at = take_more e.rows i r at.within ∙ ap (λ (x : SatelliteRow). take i e.rows ++ x ∷ []) (sym at.is)
+
+-- what came of its satellite before it, and with it
+before-it : (e : EpochTableView) (i : ℕ) (r : SatelliteRow) (es : List EpochTableView) → IsRowAt e i r
+    → sightings_of r.satellite (first_rows e i ∷ es) ≡ absent_at e.time ∷ sightings_of r.satellite es
+before-it e i r es at =
+    ap (λ (os : List Observed). seen e.time os ∷ sightings_of r.satellite es) (none-of r.satellite (take i e.rows) r (others-before e i r at))
+  where
+    seen : ℕ → List Observed → Sighting
+    seen t os = record { time = t; observed = os }
+
+with-it : (e : EpochTableView) (i : ℕ) (r : SatelliteRow) (es : List EpochTableView) → IsRowAt e i r
+    → sightings_of r.satellite (first_rows e (i + 1) ∷ es) ≡ record { time = e.time; observed = r.observed.items } ∷ sightings_of r.satellite es
+with-it e i r es at =
+    ap (λ (os : List Observed). seen e.time os ∷ sightings_of r.satellite es)
+    (ap (λ (rows : List SatelliteRow). observed_in r.satellite rows) (rows-more e i r at) ∙ own-row r.satellite (take i e.rows) r r (others-before e i r at) refl)
+  where
+    seen : ℕ → List Observed → Sighting
+    seen t os = record { time = t; observed = os }
+
+-- what came of another satellite
+same-for : (k : ℕ) (e : EpochTableView) (i : ℕ) (r : SatelliteRow) (es : List EpochTableView) → IsRowAt e i r → r.satellite ≢ k
+    → sightings_of k (first_rows e i ∷ es) ≡ sightings_of k (first_rows e (i + 1) ∷ es)
+same-for k e i r es at other =
+    ap (λ (os : List Observed). seen e.time os ∷ sightings_of k es)
+    (sym (ap (λ (rows : List SatelliteRow). observed_in k rows) (rows-more e i r at) ∙ other-row k (take i e.rows) r other))
+  where
+    seen : ℕ → List Observed → Sighting
+    seen t os = record { time = t; observed = os }
+
+-- ---- one more row
+
+-- the satellite of the row has none in the epoch so far
+pub row-due : (e : EpochTableView) (i place : ℕ) (r : SatelliteRow) (xs : List SatelliteCounts) (d : SatelliteCounts) (gap : ℕ) (es : List EpochTableView)
+    → IsRowAt e i r → place + 1 ≡ r.satellite → place < 32 → StandForSatellites xs gap (first_rows e i ∷ es)
+    → StandsForSatellite (get_or xs place d) gap (absent_at e.time ∷ sightings_of r.satellite es)
+row-due e i place r xs d gap es at number few are =
+    subst (λ (ss : List Sighting). StandsForSatellite (get_or xs place d) gap ss) (before-it e i r es at)
+    (subst (λ (n : ℕ). StandsForSatellite (get_or xs place d) gap (sightings_of n (first_rows e i ∷ es))) number (are.each place d few))
+
+pub row-noted : (e : EpochTableView) (i place : ℕ) (r : SatelliteRow) (xs : List SatelliteCounts) (y : SatelliteCounts) (gap : ℕ) (es : List EpochTableView)
+    → IsRowAt e i r → place + 1 ≡ r.satellite → place < 32 → StandForSatellites xs gap (first_rows e i ∷ es)
+    → StandsForSatellite y gap (record { time = e.time; observed = r.observed.items } ∷ sightings_of r.satellite es)
+    → StandForSatellites (set xs place y) gap (first_rows e (i + 1) ∷ es)
+row-noted e i place r xs y gap es at number few are stands = record {
+  size = length-set xs place y ∙ are.size;
+  each = λ k z within.
+      elim (cases_eq k place) [
+        | inl same ↦
+            let inside : place < length xs = let size = are.size in omega (arith, size, few) in
+            subst (λ (j : ℕ). StandsForSatellite (get_or (set xs place y) j z) gap (sightings_of (j + 1) (first_rows e (i + 1) ∷ es))) (sym same)
+            (subst (λ (s : SatelliteCounts). StandsForSatellite s gap (sightings_of (place + 1) (first_rows e (i + 1) ∷ es))) (sym (get_or-set_same xs place y z inside))
+            (subst (λ (n : ℕ). StandsForSatellite y gap (sightings_of n (first_rows e (i + 1) ∷ es))) (sym number)
+            (subst (λ (ss : List Sighting). StandsForSatellite y gap ss) (sym (with-it e i r es at)) stands)))
+        | inr other ↦
+            let apart : r.satellite ≢ k + 1 = λ alike. absurd (other (omega (arith, alike, number))) in
+            subst (λ (s : SatelliteCounts). StandsForSatellite s gap (sightings_of (k + 1) (first_rows e (i + 1) ∷ es))) (sym (get_or-set_other xs place k y z other))
+            (subst (λ (ss : List Sighting). StandsForSatellite (get_or xs k z) gap ss) (same-for (k + 1) e i r es at apart) (are.each k z within))
+      ];
+}
+
+pub row-ended : (e : EpochTableView) (i : ℕ) (r : SatelliteRow) (old new : List EndedPass) (pass : Option PassCounts) (gap : ℕ) (es : List EpochTableView)
+    → IsRowAt e i r → StandForEnded old gap (first_rows e i ∷ es) → new ≡ with_ended old r.satellite pass
+    → StandsForEnded pass gap (sightings_of r.satellite es) (record { time = e.time; observed = r.observed.items })
+    → StandForEnded new gap (first_rows e (i + 1) ∷ es)
+row-ended e i r old new pass gap es at are took stands = λ place within.
+    elim (cases_eq (place + 1) r.satellite) [
+      | inl same ↦
+          let was : HasEnded old gap (absent_at e.time ∷ sightings_of r.satellite es) r.satellite =
+          subst (λ (ss : List Sighting). HasEnded old gap ss r.satellite) (before-it e i r es at)
+          (subst (λ (n : ℕ). HasEnded old gap (sightings_of n (first_rows e i ∷ es)) n) same (are place within)) in
+          subst (λ (n : ℕ). HasEnded new gap (sightings_of n (first_rows e (i + 1) ∷ es)) n) (sym same)
+          (subst (λ (ss : List Sighting). HasEnded new gap ss r.satellite) (sym (with-it e i r es at))
+          (ap (λ (xs : List EndedPass). ended_of r.satellite xs) took ∙ with-own r.satellite old pass
+          ∙ ap (λ (ps : List PassCounts). ps ++ list_of pass) was
+          ∙ ap (λ (p : Option PassCounts). reverse (older_passes (passes_of gap (sightings_of r.satellite es))) ++ list_of p) stands
+          ∙ sym (older-more gap (sightings_of r.satellite es) (record { time = e.time; observed = r.observed.items }))))
+      | inr other ↦
+          let apart : r.satellite ≢ place + 1 = λ alike. absurd (other (sym alike)) in
+          subst (λ (ss : List Sighting). HasEnded new gap ss (place + 1)) (same-for (place + 1) e i r es at apart)
+          (ap (λ (xs : List EndedPass). ended_of (place + 1) xs) took ∙ with-other (place + 1) r.satellite old pass apart ∙ are place within)
+    ]

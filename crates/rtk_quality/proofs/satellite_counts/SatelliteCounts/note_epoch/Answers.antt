@@ -1,0 +1,13 @@
+use Rattle.std.proofs.Common.{ℕ, sym, ap, ◌∙◌}
+use Rattle.rtk_quality.specs.Counts.{plus}
+use Rattle.rtk_quality.proofs.CountLemmas.{same-codes}
+use Rattle.rtk_quality.proofs.satellite_counts.SatelliteCounts.note_epoch.Goals as goal
+
+pub returns : goal.returns
+returns c = λ gap before time stands. record {
+  pass = record { last = stands.pass.last; had = stands.pass.had };
+  codes = stands.codes ∙ sym (same-codes gap time before);
+  in_passes = stands.in_passes;
+  since_phase = c.saturating_add-self.ensures ∙ ap (λ (n : ℕ). plus n 1) stands.since_phase;
+  last = stands.last;
+}
