@@ -150,6 +150,7 @@ impl<'a> Records<'a> {
         self.rest = rest;
         Some(text)
     }
+
     /// Reads the moment of the next record, and goes on after the record, whose values are not read; after
     /// the last one `None`.
     pub fn next_time(&mut self) -> Option<GpsMs>
