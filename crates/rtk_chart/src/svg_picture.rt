@@ -17,9 +17,9 @@ use rtk_obs::{Code, civil, put_civil};
 use std::alloc::{AllocError, Global};
 
 // constant
-/// The colours, near those of Okabe and Ito, which the colour-blind tell apart: on white, and on black. Slips are
-/// darker than each shade on white, and lighter on black, so they are seen in grey; each mark has a form of its own
-/// too. A picture up to 700 pixels wide has larger letters, and a time at each second tick.
+/// Strengths go from yellow to blue, and in grey too a stronger one differs more from the page. Slips differ still
+/// more from it, and have another hue, which the colour-blind tell from blue. Each mark has a form of its own. A
+/// picture up to 700 pixels wide has larger letters, and a time at each second tick.
 ///
 /// All outlines of a path are painted before its first form is filled, or slips side by side hide one another.
 /// LibreOffice cannot do that. It takes all rules of an `@media` but its first, whatever the condition; so those on
@@ -27,9 +27,11 @@ use std::alloc::{AllocError, Global};
 pub(crate) const STYLE: &[u8] = b"<style>\
 @media (prefers-color-scheme:dark){\
 .page{fill:#111!important}.b1{fill:#242424!important}text{fill:#ddd!important}\
-.l0,.l1,.l2,.l3,.l4,.l5,.l6,.l7,.l8,.l9{stroke:#56b4e9!important}\
-.n{fill:#56b4e9!important}.p,.m,.h{fill:#111!important}.p,.m{stroke:#e69f00!important}\
-.s{fill:#ffa35c!important}.g{stroke:#ffa35c!important}\
+.l0{stroke:#444!important}.l1{stroke:#4f4822!important}.l2{stroke:#55582a!important}.l3{stroke:#4f6438!important}\
+.l4{stroke:#4a754e!important}.l5{stroke:#438568!important}.l6{stroke:#3f9585!important}.l7{stroke:#45a4a6!important}\
+.l8{stroke:#55b3c8!important}.l9{stroke:#7cc8f0!important}\
+.n{fill:#8ab!important}.p,.m,.h{fill:#111!important}.p,.m{stroke:#ccc!important}\
+.s{fill:#ffb070!important}.g{stroke:#fff!important}\
 .r{fill:#fff!important}.r,.s{stroke:#111!important}}\
 @media (max-width:700px){\
 text{font-size:30px!important}.tick{font-size:32px!important}.tick:nth-of-type(2n+1){display:none!important}\
@@ -40,28 +42,28 @@ text{font-family:sans-serif;font-size:24px;fill:#222}\
 .marker{font-size:32px;font-weight:bold}.name{font-size:30px}\
 .name,.code{text-anchor:end}.code,.never{font-size:19px}.tick{font-size:24px;text-anchor:middle}\
 path{fill:none}\
-.l0,.l1,.l2,.l3,.l4,.l5,.l6,.l7,.l8,.l9{stroke:#0068a8;stroke-width:14}\
-.l0{stroke-opacity:.12}.l1{stroke-opacity:.2}.l2{stroke-opacity:.27}.l3{stroke-opacity:.35}.l4{stroke-opacity:.44}\
-.l5{stroke-opacity:.54}.l6{stroke-opacity:.65}.l7{stroke-opacity:.77}.l8{stroke-opacity:.89}\
-.p,.m{fill:#fff;stroke:#c47f00;stroke-width:2}\
+.l0,.l1,.l2,.l3,.l4,.l5,.l6,.l7,.l8,.l9{stroke-width:14}\
+.l0{stroke:#ccc}.l1{stroke:#e9d57e}.l2{stroke:#cfcf7a}.l3{stroke:#a9c07c}.l4{stroke:#83b083}\
+.l5{stroke:#5fa08f}.l6{stroke:#468c9a}.l7{stroke:#3577a0}.l8{stroke:#2a619f}.l9{stroke:#274a94}\
+.p,.m{fill:#fff;stroke:#555;stroke-width:2}\
 .s,.r{stroke:#fff;stroke-width:3;paint-order:stroke}.s{fill:#8a1c00}.r{fill:#222}\
 .h{fill:#fff;stroke:#b04c85;stroke-width:2}\
-.g{stroke:#8a1c00;stroke-width:14}\
-.n{fill:#0068a8;fill-opacity:.4}\
+.g{stroke:#222;stroke-width:14}\
+.n{fill:#468;fill-opacity:.5}\
 .t{stroke:#888;stroke-opacity:.5}\
 @media not all{.page{}.s{stroke:#8a1c00}.r{stroke:none}}\
 </style>\n";
 
 // constant
-/// The name of the time, what the forms mean, and the strengths of the shades.
+/// The name of the time, what the forms mean, and the strengths of the colours.
 pub(crate) const LEGEND: &[u8] = b"<text y='16'>GPS time</text>\
 <g transform='translate(0 38)'><path class='s' d='M8 20l-7-21h14z'/><text x='22' y='18'>slip</text></g>\
 <g transform='translate(110 38)'><path class='r' d='M4 5l9 5l-9 5z'/><text x='22' y='18'>rise</text></g>\
 <g transform='translate(220 38)'><path class='h' d='M8 5l6 6l-6 6l-6-6z'/><text x='22' y='18'>half cycle</text></g>\
-<g transform='translate(410 38)'><path class='l8' d='M0 10H30'/><text x='40' y='18'>phase in all epochs</text></g>\
-<g transform='translate(760 38)'><path class='l8' d='M0 10H30'/><path class='p' d='M0 10v-6H30v6z'/><text x='40' y='18'>in some</text></g>\
-<g transform='translate(940 38)'><path class='m' d='M0 16v-12H30v12z'/><text x='40' y='18'>code missing</text></g>\
-<g transform='translate(1200 38)'><path class='g' d='M0 10H8'/><text x='18' y='18'>epochs missing</text></g>\
+<g transform='translate(410 38)'><path class='l8' d='M0 10H30'/><text x='40' y='18'>phase</text></g>\
+<g transform='translate(560 38)'><path class='l8' d='M0 10H30'/><path class='p' d='M0 10v-6H30v6z'/><text x='40' y='18'>code missing in some epochs</text></g>\
+<g transform='translate(1040 38)'><path class='m' d='M0 16v-12H30v12z'/><text x='40' y='18'>in all</text></g>\
+<g transform='translate(1190 38)'><path class='g' d='M0 10H30'/><text x='40' y='18'>epochs missing</text></g>\
 <text y='94'>least strength, dB-Hz</text>\
 <path class='l0' d='M310 87h36'/><text x='352' y='94'>none</text>\
 <path class='l1' d='M430 87h36'/><text x='472' y='94'>&lt;12</text>\

@@ -838,6 +838,8 @@ def writes_of(name):
     """A write when so much is gathered, and one for the rest; none is said where each write of a conversion goes straight on."""
     if name.startswith("convert") and not is_gathered(CASES[name]):
         return None
+    if CASES[name].words[0] == "label" and len(GOOD[name].out) > GATHERED:
+        return 2  # the lines that a label changes, and the rest of the file as it is
     return -(-len(GOOD[name].out) // GATHERED)
 
 
