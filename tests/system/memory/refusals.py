@@ -323,7 +323,9 @@ def scenes() -> Iterator[Scene]:
     for words in ("shew a", "show --hax a"):
         yield Scene(words.split(), status=2, looks=True)
     yield Scene(convert("a", windo="2"), status=2, looks=True)
-    for words in ("", "show", "show a b", "show --hex --hex a", f"cut {base}", f"cut --until noon {base}", f"label {base}", f"label --delta-east 1 {base}"):
+    for words in ("", "show", "show a b", "show --hex --hex a", f"cut {base}", f"cut --until noon {base}"):
+        yield Scene(words.split(), status=2)
+    for words in (f"label {base}", f"label --delta-east 1 {base}"):
         yield Scene(words.split(), status=2)
     for near in ("noon", "1980-01-06T00:00:00"):
         yield Scene(convert("a", near=near), status=2)

@@ -548,7 +548,8 @@ def _refusal_is_cut():
                           (2, ("shew", "a")), (2, ("show", example("base.rtcm"), "--hax")),
                           (2, ("convert", *OPTIONS[:-1], "9Z", "a")),
                           (2, ("label", example("base.rnx"))),
-                          *((3, (*words, wrong)) for words in [("chart",), ("cut", "--every", "1"), ("quality",), ("label", "--blank")])]:
+                          (3, ("chart", wrong)), (3, ("cut", "--every", "1", wrong)),
+                          (3, ("quality", wrong)), (3, ("label", "--blank", wrong))]:
         case = Case(" ".join(words), words)
         good = run(case)
         for k in range(len(good.err) + 1):
