@@ -10,7 +10,6 @@ from __future__ import annotations
 
 import sys
 from collections import Counter
-from itertools import chain as chain_of
 from itertools import combinations, groupby
 from math import dist
 from pathlib import Path
@@ -305,6 +304,8 @@ def find(texts: list[bytes], now: int, station: int | None = None, near: int | N
     if near is None and not told:
         raise Stopped("no date")
     base = near if near is not None else min(it.first for it in told.values())
+    if len({"week" in it.fields for it in told.values()}) > 1 and any(it.first - base > HALF_WEEK_MS for it in told.values()):
+        raise Stopped("dates differ", "-", *sorted(it.first for it in told.values()))
     firsts = [told[at].first if at in told else dated(base, of[0]) if of else None for at, of in enumerate(times)]
     epochs = [[] if first is None else chain(first, of) for first, of in zip(firsts, times)]
     near = min(first for first in firsts if first is not None) // 1000 * 1000
@@ -316,8 +317,8 @@ def find(texts: list[bytes], now: int, station: int | None = None, near: int | N
     links = links_of(epochs, as_given)
     if len(links) > MOST_LINKS:
         raise Stopped("too many links", len(links))
-    points = [[point for at in link for point in captures[at].point(number)][:1] for link in links]
-    if not as_given and any(dist(a, b) > METRES_100 for a, b in combinations(chain_of(*points), 2)):
+    points = [point for capture in captures for point in capture.point(number)]
+    if not as_given and any(dist(a, b) > METRES_100 for a, b in combinations(points, 2)):
         raise Stopped("positions differ")
     places = [at for at in range(len(texts)) if at not in skipped]
     return Found(

@@ -296,12 +296,20 @@ def auto_text(found: Found, said: Setup, due: Conversion, texts: list[bytes], is
         lines.append(f"{words} {' '.join(files)}")
     lines += due.report.splitlines()[-9:]
     counts = dict(line.split(" ") for line in lines[-9:])
+    kept = [at for at in range(len(texts)) if at not in found.skipped]
+    captures = {at: finding.Capture.of(texts[at]) for at in kept}
+    if not any(it.point(said.station) for it in captures.values()):
+        lines.append(" no-position: no 1005 or 1006 came, and the header has zeros")
+    if not is_told:
+        told = {at: finding.counting(finding.tellings(said.made, it, said.station), said.station)[:1] for at, it in captures.items()}
+        others = [(at, it) for (at, of), epochs in zip(told.items(), found.epochs) for it in of if it.first != epochs[0]]
+        lines += [f" other-date {civil(it.first):%Y-%m-%dT%H:%M:%S} by {it.fields['number']}"
+                  + (f" of station {it.fields['station']}" if "station" in it.fields else "") + f" in link{at + 1}" for at, it in others[:1]]
     lines += [f" few-phases {code}: its satellites have more than twice as many in another code" for code in found.few]
     lines += [f" late {counts['late']}: messages after {said.window} newer epochs are left out"] * (counts["late"] != "0")
     looks = {at: look_of(texts[at]) for at in found.skipped if not frames_of(texts[at])}
     shown = {"unknown": "", "empty": " is empty", "gzip": " looks like gzip"}
     lines += [f" skipped link{at + 1}{shown.get(looks.get(at), '')}" for at in found.skipped]
-    kept = [at for at in range(len(texts)) if at not in found.skipped]
     falls = [at for at, of in zip(kept, found.epochs) if of != sorted(of)]
     lines += [f" {'no-epoch' if at in found.without else 'time-falls'} link{at + 1}" for link in found.links for at in link
               if at in found.without + falls]

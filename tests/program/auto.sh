@@ -52,21 +52,27 @@ done <<'ROWS'
 3|--station 7 foreign|station 7 has no GPS observations that are read\n station 2003
 3|differ|the captures tell dates that differ; choose one by --near\n 2024-05-17T12:00:00 by 1013 of station 2003 in differ\n 2024-05-10T12:00:00 by 1013 of station 2003 in differ
 3|weeks|the captures tell dates that differ; choose one by --near\n 2024-05-17T12:00:00 by 1019 in weeks\n 2024-05-10T12:00:00 by 1019 in weeks
+3|last_week one|the captures tell dates that differ; choose one by --near\n 2024-05-10T12:00:02 by 1019 in last_week\n 2024-05-17T12:00:00 by 1013 of station 2003 in one
 3|undated|the captures tell no date; give one, as in --near 2024-05-17T12:00:00
 3|passed_over|the captures tell no date; give one, as in --near 2024-05-17T12:00:00
 3|one next_week|the captures are longer than half a week; convert them in parts
 3|--codes 5X --msm 7 --near 2099-12-31T23:59:59 --skip-empty empty nmea|the captures have no frame of RTCM 3\n empty is empty\n nmea looks like NMEA
 3|same.*|more than 16 captures are of the same time, and 16 links are taken\n same.00\n same.01\n same.02\n same.03\n same.04\n same.05\n same.06\n same.07\n same.08\n same.09\n same.10\n same.11\n same.12\n same.13\n same.14\n same.15\n same.16
 3|here.0 here.2|the station stands at positions that differ; --links-as-given takes them for one\n position 1114104.5999 -4850729.7108 3975521.4643 in here.0\n position 1114204.6000 -4850729.7108 3975521.4643 in here.2
+3|far_and_later here.1 here.0|the station stands at positions that differ; --links-as-given takes them for one\n position 1114204.6000 -4850729.7108 3975521.4643 in far_and_later\n position 1114104.5999 -4850729.7108 3975521.4643 in here.0
+3|here.0 far|the station stands at positions that differ; --links-as-given takes them for one\n position 1114104.5999 -4850729.7108 3975521.4643 in here.0\n position 1114204.6000 -4850729.7108 3975521.4643 in far
 ROWS
+auto -o '' one; expect an_output_without_a_name 2 '' "$(error "a value is required for '--output <FILE>' but none was supplied")"
 auto -o folder one; expect an_output_that_is_a_folder 1 '' 'rtcm2rinex: folder is there, and -f would replace it'
 auto -f -o folder one; expect an_output_that_is_a_folder_and_force 1 '' 'rtcm2rinex: folder is no regular file'
 for value in x -1 '' 1e9; do
     SOURCE_DATE_EPOCH=$value "$program" auto one >out 2>err; status=$?
     expect "a_present_of_$value" 2 '' 'rtcm2rinex: SOURCE_DATE_EPOCH is no number of seconds'
 done
-SOURCE_DATE_EPOCH=315964799 "$program" auto one >out 2>err; status=$?
-expect a_present_before_1980 3 '' "rtcm2rinex: the clock can't be read; give --made"
+for value in 0 315964799 4133980800; do
+    SOURCE_DATE_EPOCH=$value "$program" auto one >out 2>err; status=$?
+    expect "a_present_of_$value" 3 '' 'rtcm2rinex: SOURCE_DATE_EPOCH is not from 1980-01-06 to 2100-12-31'
+done
 run auto
 expect no_capture 2 '' "$(error 'the following required arguments were not provided:
   <CAPTURE>...' 'auto <CAPTURE>...')"
@@ -76,10 +82,13 @@ for option in 'station 4096 4096 is not in 0..=4095' 'window 1 1 is not in 2..=4
     expect "$1_of_$2" 2 '' "$(error "invalid value '$2' for '--$1 <N>': $why")"
 done
 
-# says SPAN COMMAND COUNTS LINE..: standard error of a run that is done
+# says SPAN COMMAND COUNTS LINE..: standard error of a run that is done, of captures that have a position or not
+no_position=' no-position: no 1005 or 1006 came, and the header has zeros'
+position=$no_position
 says() {
     printf ' from %s\n%s\n' "$1" "$2"
     report $3
+    [ ! "$position" ] || echo "$position"
     shift 3
     [ $# -eq 0 ] || printf '%s\n' "$@"
 } >want_err
@@ -141,13 +150,18 @@ for row in '1981-01-01 1980-01-20 1999-09-05' '2024-06-01 2019-04-21 1999-09-05,
     # pins: neighbours_text, weeks_ms
     same "week_of_$1" told want
 done
-finds '--near 2024-06-18T12:00:00 one' "2024-06-21T12:00:00 until 2024-06-21T12:00:01 by --near" "$(command 2024-06-21T12:00:00) one" "$counts" 0 ''
-finds '--near 2024-05-11T12:00:00 differ' "2024-05-10T12:00:00 until 2024-05-10T12:00:01 by --near" "$(command 2024-05-10T12:00:00) differ" '5 3 0 0 2 0 0 0 2' 0 ''
+finds '--near 2024-05-20T12:00:00 one' "$two --near" "$one_command one" "$counts" 0 one.rnx
+finds '--near 2024-06-18T12:00:00 one' "2024-06-21T12:00:00 until 2024-06-21T12:00:01 by --near" "$(command 2024-06-21T12:00:00) one" "$counts" 0 '' \
+    ' other-date 2024-05-17T12:00:00 by 1013 of station 2003 in one'
+finds '--near 2024-05-11T12:00:00 differ' "2024-05-10T12:00:00 until 2024-05-10T12:00:01 by --near" "$(command 2024-05-10T12:00:00) differ" '5 3 0 0 2 0 0 0 2' 0 '' \
+    ' other-date 2024-05-17T12:00:00 by 1013 of station 2003 in differ'
 # pins: joined_bytes, cat_words, one_link_text
 finds 'later one' "$noon until 2024-05-17T12:00:03 by 1013" "cat one later | $one_command stdin" '5 1 0 0 4 0 0 0 4' 0 ''
+position=
 finds 'one position' "$two 1013" "cat position one | $one_command stdin" '4 1 0 0 3 0 0 0 2' 0 '' ' no-epoch position'
 # a capture that begins with another station, before the one that tells which station is converted
 finds 'positions one' "$two 1013" "cat positions one | $one_command stdin" '5 1 0 1 3 0 0 0 2' 0 '' ' no-epoch positions'
+position=$no_position
 # pins: IsNearOf
 finds falls "$noon until 2024-05-17T12:00:02 by 1013" "$(command 2024-05-17T12:00:01) falls" '4 1 0 0 3 0 0 0 3' 0 '' ' time-falls falls'
 finds few "$noon until 2024-05-17T12:00:03 by 1013" "$one_command few" '5 1 0 0 4 0 0 0 4' 0 '' \
@@ -172,16 +186,19 @@ finds '--marker --x one' "$two 1013" "$(echo "$one_command" | sed "s/--marker 20
 finds '--window 2 --near 2024-05-17T12:00:00 '"$examples/late.rtcm" "$noon until 2024-05-17T12:00:05 by --near" \
     "$(command $noon | sed 's/4096/2/') $examples/late.rtcm" '6 0 0 0 5 0 0 1 5' 0 '' " late 1: messages after 2 newer epochs are left out\n time-falls $examples/late.rtcm"
 finds week_end "2024-05-18T23:59:50 until 2024-05-19T00:00:09 by 1013" "$(command 2024-05-18T23:59:50) week_end" '21 1 0 0 20 0 0 0 20' 0 week_end.rnx
+position=
 links='here.0 here.1' # 100 m apart
 finds "here.1 here.0" "$noon until 2024-05-17T12:00:10 by 1013" "$one_command $links" '8 2 0 0 5 0 1 0 4' 0 ''
 finds "--links-as-given here.2 here.0" "$noon until 2024-05-17T12:00:11 by 1013" "$one_command here.2 here.0" '8 2 0 0 5 0 1 0 4' 0 ''
 sed "s/^frames 8/link 2 conflict 1005 -\n&/" want_err >want; auto --report --links-as-given here.2 here.0; leaves report 0 any want
+position=$no_position
 finds "$(seq -s ' ' -f 'same.%02.0f' 0 15)" "$two 1013" "$one_command $(seq -s ' ' -f 'same.%02.0f' 0 15)" '48 16 0 0 32 0 0 0 2' 0 ''
 
 # A day of hours: in any order, with one that is compressed, and with hours that overlap by 30 s, which are two links.
 counts='2928 24 0 0 2881 23 0 0 2880'
 span='2024-05-17T00:00:00 until 2024-05-17T23:59:30 by 1013'
 day_command=$(command 2024-05-17T00:00:00)
+position=
 hours=$(seq -s ' ' -f 'day/%.0f' 0 23)
 for order in "$hours" "$(echo day/*)" "$(seq -s ' ' -f 'day/%.0f' 23 -1 0)" "$(seq -f 'day/%.0f' 0 23 | shuf --random-source="$program" | tr '\n' ' ')"; do
     says "$span" "cat $hours | $day_command stdin" "$counts"
@@ -255,4 +272,4 @@ done
 "$program" auto --made $made one >/dev/full 2>err; status=$?; : >out
 leaves a_full_output 1 /dev/null want
 
-ends 166
+ends 174

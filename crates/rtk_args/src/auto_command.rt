@@ -5,6 +5,7 @@
 use crate::arguments::{flag_arg, option_arg};
 use crate::help_texts;
 use crate::limits::{GREATEST_STATION, LEAST_WINDOW, MOST_WINDOW};
+use clap::builder::ValueParser;
 use clap::{Arg, ArgAction, Command, value_parser};
 use std::alloc::{AllocError, Global};
 
@@ -28,6 +29,7 @@ fn output_arg<'a>(alloc: Global) -> Arg<'a> {
         "Where the file goes; standard output if not given",
     )
     .short('o')
+    .value_parser(ValueParser::NonEmptyString)
 }
 
 fn force_arg<'a>(alloc: Global) -> Arg<'a> {

@@ -1,12 +1,16 @@
 -- Why captures have no plan: what holds of them and of the words if a refusal comes (this project's rule).
-use Rattle.std.specs.Prelude.{◌≡◌, ◌≢◌, ◌<◌, ◌≤◌, ℕ, Bool, true, false, ◌⊎◌, nat_lt, ⊤, List, [], length, map, Option, None, Some}
+use Rattle.std.specs.Prelude.{◌≡◌, ◌≢◌, ◌<◌, ◌+◌, ℕ, Bool, true, false, ◌&&◌, not, ◌⊎◌, nat_lt, ⊤, List, [], length, map, Option, None, Some}
 use Rattle.std.specs.List.{list_any}
+use Rattle.std.specs.Option.{option_map_or}
 use Rattle.rtk_obs.specs.Dating.{IsReference}
 use Rattle.rtk_obs.specs.declared.time.TheConstants.{LAST_MS}
 use Rattle.rtk_rinex.specs.Header.{HeadView, IsHeadView}
 use Rattle.rtk_summary.specs.ReadFrames.{ReadFrame}
 use Rattle.rtk_summary.specs.Standing.{StandsForFrames}
 use Rattle.rtk_dates.specs.Placing.{second_of}
+use Rattle.rtk_dates.specs.Telling.{half_week_ms}
+use Rattle.rtk_dates.specs.declared.date_message.DateMessage.{DateMessage}
+use Rattle.rtk_dates.specs.declared.date_message.DateMessage.TheVariants.{Utc, Ephemeris}
 use Rattle.rtk_dates.specs.declared.placing.Placed.{Placed}
 use Rattle.rtk_find.specs.ChosenStation.{IsMarked, AreSeveralMarked}
 use Rattle.rtk_find.specs.Dating.{least_of_captures, placed_if_any, reach_after}
@@ -14,8 +18,9 @@ use Rattle.rtk_find.specs.declared.capture_found.CaptureFound.{CaptureFound}
 use Rattle.rtk_find.specs.declared.dating.Base.{Base}
 use Rattle.rtk_find.specs.declared.finding.Findings.{Findings}
 use Rattle.rtk_auto.specs.Kept.{empty_captures}
-use Rattle.rtk_auto.specs.Linking.{AreLinksOf, some_are_far}
+use Rattle.rtk_auto.specs.Linking.{AreLinksOf}
 use Rattle.rtk_auto.specs.Plan.{IsChosenStation, msm_chosen, codes_chosen, marker_chosen, IsBaseOf, IsReachOf, some_out_of_reach}
+use Rattle.rtk_auto.specs.Positions.{some_are_far}
 use Rattle.rtk_auto.specs.declared.refusal.PlanFault.{PlanFault}
 use Rattle.rtk_auto.specs.declared.refusal.PlanFault.TheVariants.{Refused, OutOfMemory}
 use Rattle.rtk_auto.specs.declared.refusal.Refusal.{Refusal}
@@ -47,6 +52,32 @@ IsEmptyCause station cs skip_empty other = ⊥
 abbrev pub has_several_dates : CaptureFound → Bool
 has_several_dates c = nat_lt 1 c.dates
 
+-- a capture is dated by the week of a 1019; or by the day of a 1013 or 1029
+abbrev pub has_week : DateMessage → Bool
+has_week (Utc date) = false
+has_week (Ephemeris date) = true
+
+abbrev pub is_dated_by_week : CaptureFound → Bool
+is_dated_by_week c = option_map_or (λ t. has_week t.message) c.told false
+
+abbrev pub is_dated_by_day : CaptureFound → Bool
+is_dated_by_day c = option_map_or (λ t. not (has_week t.message)) c.told false
+
+-- formula
+-- a capture tells that it begins more than half a week after this moment
+abbrev pub is_told_later : ℕ → CaptureFound → Bool
+is_told_later least c = option_map_or (λ t. nat_lt (least + half_week_ms) t.first) c.told false
+
+-- some captures are dated by weeks and others by days, and one is told to be far from the first one
+abbrev pub have_week_and_day : List CaptureFound → ℕ → Bool
+have_week_and_day cs least = list_any is_dated_by_week cs && (list_any is_dated_by_day cs && list_any (is_told_later least) cs)
+
+-- a capture tells several dates, or captures that are dated by weeks and by days differ
+abbrev pub HaveDifferingDates : List CaptureFound → Type 0
+HaveDifferingDates cs =
+    (list_any has_several_dates cs ≡ true)
+    ⊎ ((least : ℕ) × (least_of_captures None cs ≡ Some least) × (have_week_and_day cs least ≡ true))
+
 -- the moment near which they would be dated can't be a reference, or an epoch is after the last moment
 abbrev pub IsOutside : Placed → Type 0
 IsOutside reach = ¬ (IsReference (second_of reach.first)) ⊎ ((LAST_MS < reach.from) ⊎ (LAST_MS < reach.until))
@@ -61,7 +92,7 @@ IsReachCause base cs other = ⊥
 
 -- captures that are dated near this moment, or by what they tell
 abbrev pub IsDatingCause : Option ℕ → List CaptureFound → Refusal → Type 0
-IsDatingCause given cs DatesDiffer = (given ≡ None) × (list_any has_several_dates cs ≡ true)
+IsDatingCause given cs DatesDiffer = (given ≡ None) × HaveDifferingDates cs
 IsDatingCause given cs NoDate = (given ≡ None) × (least_of_captures None cs ≡ None)
 IsDatingCause given cs refusal = (base : Base) × IsBaseOf given cs base × IsReachCause base cs refusal
 
@@ -86,22 +117,15 @@ IsSetupCause f w made station near other = ⊥
 
 -- ---- the links
 
--- at most 16, and no two of them far from one another, unless they are as given
-pub record AreGoodLinks (as_given : Bool) (cs : List CaptureFound) (links : List (List ℕ)) : Type 0 where
-  pub few : length links ≤ 16
-  pub together : as_given ≡ false → some_are_far cs links ≡ false
-
-abbrev pub IsLinksCause : Bool → List CaptureFound → List (List ℕ) → Refusal → Type 0
-IsLinksCause as_given cs links TooManyLinks = 16 < length links
-IsLinksCause as_given cs links PositionsDiffer = (as_given ≡ false) × (some_are_far cs links ≡ true)
-IsLinksCause as_given cs links other = ⊥
+abbrev pub AreTooMany : List (List ℕ) → Refusal → Type 0
+AreTooMany links refusal = (refusal ≡ TooManyLinks) × (16 < length links)
 
 -- ---- all of them
 
-abbrev pub IsPlanLinksCause : Findings → Wanted → Bool → Refusal → Type 0
-IsPlanLinksCause f w as_given refusal =
+abbrev pub HasTooManyLinks : Findings → Wanted → Bool → Type 0
+HasTooManyLinks f w as_given =
     (station : ℕ) × IsChosenStation f.observing.items w.station station
-    × ((links : List (List ℕ)) × AreLinksOf as_given w.near station f.captures.items links × IsLinksCause as_given f.captures.items links refusal)
+    × ((links : List (List ℕ)) × AreLinksOf as_given w.near station f.captures.items links × (16 < length links))
 
 -- why there is no plan of a conversion of the captures in which this was found, by these words and at
 -- this time of making; captures that have nothing of the station are left out or not, and links are as
@@ -120,5 +144,7 @@ IsCauseOf f w made skip_empty as_given NoDate = IsDatingCause w.near f.captures.
 IsCauseOf f w made skip_empty as_given TooLong = IsDatingCause w.near f.captures.items TooLong
 IsCauseOf f w made skip_empty as_given NoCode =
     (station : ℕ) × IsChosenStation f.observing.items w.station station × HasBadHead f w made station
-IsCauseOf f w made skip_empty as_given TooManyLinks = IsPlanLinksCause f w as_given TooManyLinks
-IsCauseOf f w made skip_empty as_given PositionsDiffer = IsPlanLinksCause f w as_given PositionsDiffer
+IsCauseOf f w made skip_empty as_given TooManyLinks = HasTooManyLinks f w as_given
+IsCauseOf f w made skip_empty as_given PositionsDiffer =
+    (as_given ≡ false)
+    × ((station : ℕ) × IsChosenStation f.observing.items w.station station × (some_are_far station f.captures.items ≡ true))

@@ -1,6 +1,19 @@
 -- What a person should know of a conversion that is done (this project's rule).
-use Rattle.std.specs.Prelude.{ℕ, ◌==◌, List, [], ◌++◌, codes, decimal, if◌then◌else◌}
+use Rattle.std.specs.Prelude.{ℕ, ◌==◌, List, [], ◌++◌, Option, None, Some, codes, decimal, if◌then◌else◌}
+use Rattle.rtk_dates.specs.Placing.{placed}
+use Rattle.rtk_dates.specs.declared.span.Span.{Span}
+use Rattle.rtk_dates.specs.declared.tellings.Told.{Told}
 use Rattle.rtk_auto.specs.declared.known_lines.Known.{Known}
+
+-- what a capture with these epochs tells of its first one, if a conversion near this moment dates it
+-- otherwise; as both have one time of week, they are a week or more apart
+abbrev pub told_if_other : ℕ → Told → Span → Option Told
+told_if_other near t s = if t.first == (placed near (record { told = None; span = s })).first then None else Some t
+
+abbrev pub told_otherwise : ℕ → Option Told → Option Span → Option Told
+told_otherwise near None span = None
+told_otherwise near (Some t) None = None
+told_otherwise near (Some t) (Some s) = told_if_other near t s
 
 -- formula
 -- how many messages were late, if some were; the window is the number of epochs that are kept open

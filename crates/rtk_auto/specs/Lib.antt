@@ -4,5 +4,6 @@ pub mod KnownLines
 pub mod Linking
 pub mod Lists
 pub mod Plan
+pub mod Positions
 pub mod SaidCommand
 pub mod SpanLine

@@ -1,13 +1,11 @@
 -- How the captures of the station are grouped in links (this project's rule). A link is the list of the
 -- places of its captures.
-use Rattle.std.specs.Prelude.{◌≡◌, ℕ, ◌==◌, Bool, true, false, not, List, [], ◌∷◌, length, map, filter, Option, None, Some, if◌then◌else◌}
-use Rattle.std.specs.List.{list_any, range_with_len}
+use Rattle.std.specs.Prelude.{◌≡◌, ℕ, ◌==◌, Bool, true, false, not, List, [], ◌∷◌, length, map, filter, Option, if◌then◌else◌}
+use Rattle.std.specs.List.{range_with_len}
 use Rattle.std.specs.declared.vec.Vec.{Vec}
 use Rattle.rtk_dates.specs.declared.placing.Placed.{Placed}
 use Rattle.rtk_find.specs.Joining.{in_order, links_of}
-use Rattle.rtk_find.specs.Points.{are_far, point_of_link}
 use Rattle.rtk_find.specs.declared.capture_found.CaptureFound.{CaptureFound}
-use Rattle.rtk_find.specs.declared.heard.ReferencePoint.{ReferencePoint}
 use Rattle.rtk_find.specs.declared.joining.Ordered.{Ordered}
 use Rattle.rtk_auto.specs.Kept.{has_something_at, kept_captures}
 use Rattle.rtk_auto.specs.Plan.{ArePlaced}
@@ -54,22 +52,3 @@ links_as_given station cs = map one_place (kept_captures station cs)
 abbrev pub AreLinksOf : Bool → Option ℕ → ℕ → List CaptureFound → List (List ℕ) → Type 0
 AreLinksOf true given station cs links = links ≡ links_as_given station cs
 AreLinksOf false given station cs links = (placed : List (Option Placed)) × ArePlaced given cs placed × (links ≡ links_found station cs placed)
-
--- ---- the positions of links
-
--- two positions, if both are known, are more than 100 m apart
-abbrev pub are_points_apart : Option ReferencePoint → Option ReferencePoint → Bool
-are_points_apart None b = false
-are_points_apart (Some a) None = false
-are_points_apart (Some a) (Some b) = are_far a b
-
--- one of these positions is far from one of those
-abbrev pub some_apart : List (Option ReferencePoint) → List (Option ReferencePoint) → Bool
-some_apart points others = list_any (λ p. list_any (are_points_apart p) others) points
-
-abbrev pub points_of : List CaptureFound → List (List ℕ) → List (Option ReferencePoint)
-points_of cs links = map (point_of_link cs) links
-
--- two links are far from one another
-abbrev pub some_are_far : List CaptureFound → List (List ℕ) → Bool
-some_are_far cs links = some_apart (points_of cs links) (points_of cs links)

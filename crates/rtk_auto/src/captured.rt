@@ -80,6 +80,17 @@ impl<'n> Captured<'_, '_, 'n> {
         Ok(lines)
     }
 
+    /// A line for each capture that tells its first epoch.
+    pub(crate) fn list_told(&self, alloc: Global) -> Result<Vec<u8>, AllocError> {
+        let mut lines = Vec::new(alloc);
+        for (place, capture) in self.captures().iter().enumerate() {
+            if let Some(told) = capture.told {
+                put_date_line(&mut lines, &told, self.name(place))?;
+            }
+        }
+        Ok(lines)
+    }
+
     /// A line for each of some captures.
     pub(crate) fn list_names(
         &self,

@@ -2,7 +2,7 @@
 
 ghost use Rattle.std.specs.Prelude.{◌≡◌, ◌<◌, false, map, IfOk, IfErr};
 ghost use Rattle.std.specs.List.{list_any};
-ghost use Rattle.rtk_auto.specs.Causes.{IfRefused, IsReachCause, IsDatingCause, has_several_dates};
+ghost use Rattle.rtk_auto.specs.Causes.{IfRefused, IsReachCause, IsDatingCause, has_several_dates, has_week, is_dated_by_week, is_dated_by_day, is_told_later, have_week_and_day};
 ghost use Rattle.rtk_auto.specs.Plan.{IsBaseOf, IsReachOf, IsNearOf, ArePlaced, some_out_of_reach};
 ghost use Rattle.rtk_find.specs.Dating.{placed_if_any};
 ghost use Rattle.rtk_obs.specs.declared.time.TheConstants.{LAST_MS};
@@ -16,7 +16,7 @@ use rtk_dates::{DateMessage, Placed};
 use rtk_find::{
     Base, CaptureFound, is_out_of_reach, least_told, near_of, place_captures, reach_of,
 };
-use rtk_obs::GpsMs;
+use rtk_obs::{GpsMs, HALF_WEEK_MS};
 use std::alloc::Global;
 
 /// The epochs of captures with their dates.
@@ -32,6 +32,70 @@ fn have_differing_dates(captures: &[CaptureFound]) -> bool
     ensures { result ≡ list_any has_several_dates captures.now }
 {
     captures.iter().any(|capture| capture.dates > 1)
+}
+
+fn has_week(message: DateMessage) -> bool
+    ensures { result ≡ has_week message }
+{
+    match message {
+        DateMessage::Utc(_) => false,
+        DateMessage::Ephemeris(_) => true,
+    }
+}
+
+fn is_dated_by_week(capture: &CaptureFound) -> bool
+    ensures { result ≡ is_dated_by_week capture.now }
+{
+    match capture.told {
+        Some(told) => has_week(told.message),
+        None => false,
+    }
+}
+
+fn is_dated_by_day(capture: &CaptureFound) -> bool
+    ensures { result ≡ is_dated_by_day capture.now }
+{
+    match capture.told {
+        Some(told) => !has_week(told.message),
+        None => false,
+    }
+}
+
+// Does a capture tell that it begins more than half a week after this moment?
+fn is_told_later(least: GpsMs, capture: &CaptureFound) -> bool
+    ensures { result ≡ is_told_later least capture.now }
+{
+    match capture.told {
+        Some(told) => least.ms() + HALF_WEEK_MS < told.first,
+        None => false,
+    }
+}
+
+fn is_one_dated_by_week(captures: &[CaptureFound]) -> bool
+    ensures { result ≡ list_any is_dated_by_week captures.now }
+{
+    captures.iter().any(is_dated_by_week)
+}
+
+fn is_one_dated_by_day(captures: &[CaptureFound]) -> bool
+    ensures { result ≡ list_any is_dated_by_day captures.now }
+{
+    captures.iter().any(is_dated_by_day)
+}
+
+fn is_one_told_later(captures: &[CaptureFound], least: GpsMs) -> bool
+    ensures { result ≡ list_any (is_told_later least) captures.now }
+{
+    captures.iter().any(|capture| is_told_later(least, capture))
+}
+
+// Are some captures dated by weeks and others by days, and is one told to be far from the first one?
+fn have_week_and_day(captures: &[CaptureFound], least: GpsMs) -> bool
+    ensures { result ≡ have_week_and_day captures.now least }
+{
+    is_one_dated_by_week(captures)
+        && is_one_dated_by_day(captures)
+        && is_one_told_later(captures, least)
 }
 
 // The moment near which the captures are dated.
@@ -51,6 +115,9 @@ fn base(
         return refused(Refusal::DatesDiffer, captured.list_dates(alloc)?);
     }
     match least_told(captures) {
+        Some(least) if have_week_and_day(captures, least) => {
+            refused(Refusal::DatesDiffer, captured.list_told(alloc)?)
+        }
         Some(least) => Ok(Base::Told(least)),
         None => refused(Refusal::NoDate, Vec::new(alloc)),
     }

@@ -4,11 +4,46 @@ ghost use Rattle.std.specs.Prelude.{◌≡◌, ◌++◌, OnOk};
 ghost use Rattle.rtk_auto.specs.KnownLines as spec;
 
 use crate::captured::Captured;
-use crate::lists::{put_capture_line, put_msms, put_name_line, put_unread};
+use crate::lists::{put_capture_line, put_date_line, put_msms, put_name_line, put_unread};
 use crate::planning::Plan;
+use crate::positions::put_no_position;
 use rtk_convert::{Counts, Setup};
+use rtk_dates::{CaptureEpochs, Span, Told, place};
 use rtk_message::put_named;
+use rtk_obs::GpsMs;
 use std::alloc::{AllocError, Global};
+
+// What a capture with these epochs tells of its first one, if a conversion near this moment dates it
+// otherwise.
+fn told_otherwise(near: GpsMs, told: Option<Told>, span: Option<Span>) -> Option<Told>
+    ensures { result ≡ spec.told_otherwise near told span }
+{
+    let told = told?;
+    let epochs = CaptureEpochs {
+        told: None,
+        span: span?,
+    };
+    if told.first == place(near, &epochs).first {
+        None
+    } else {
+        Some(told)
+    }
+}
+
+// Appends the date of the first capture that tells another one than the conversion gives it.
+fn put_other_date(
+    lines: &mut Vec<u8>,
+    captured: &Captured<'_, '_, '_>,
+    near: GpsMs,
+) -> Result<(), AllocError> {
+    for (at, capture) in captured.captures().iter().enumerate() {
+        if let Some(told) = told_otherwise(near, capture.told, capture.span) {
+            lines.extend_from_slice(b" other-date")?;
+            return put_date_line(lines, &told, captured.name(at));
+        }
+    }
+    Ok(())
+}
 
 // Appends the codes that have few phases.
 fn put_few_phases(
@@ -96,9 +131,9 @@ pub struct Known {
     window: usize,
 }
 
-/// What a person should know of a conversion, a line each, only where it is so: codes with few phases;
-/// captures that are left out, that have no epoch or whose time falls; and observations that are not
-/// taken.
+/// What a person should know of a conversion, a line each, only where it is so: no reference point of the
+/// station; a date that is told and does not count; codes with few phases; captures that are left out,
+/// that have no epoch or whose time falls; and observations that are not taken.
 pub fn what_is_known(
     alloc: Global,
     captured: &Captured<'_, '_, '_>,
@@ -107,6 +142,8 @@ pub fn what_is_known(
     let setup = &plan.setup;
     let summary = &captured.findings.summary;
     let mut first = Vec::new(alloc);
+    put_no_position(&mut first, setup.station(), captured.captures())?;
+    put_other_date(&mut first, captured, setup.near())?;
     put_few_phases(&mut first, captured, setup)?;
     let mut last = Vec::new(alloc);
     put_skipped(&mut last, captured, plan.skipped.as_slice())?;

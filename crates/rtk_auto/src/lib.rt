@@ -1,5 +1,36 @@
 //! From what captures tell to the command that converts them, and what a person is told of it.
 //!
+//! ```rust
+//! use rtk_auto::{Captured, PlanFault, Refusal, Wanted, plan_of};
+//! use rtk_find::Findings;
+//! use rtk_obs::GpsMs;
+//! use std::alloc::{AllocError, Global};
+//!
+//! // Captures without a frame have no plan.
+//! fn example(alloc: Global) -> Result<bool, AllocError> {
+//!     let Some(now) = GpsMs::new(1_394_668_800_000) else {
+//!         return Ok(false);
+//!     };
+//!     let captured = Captured {
+//!         findings: &Findings::new(alloc, now, None)?,
+//!         names: &[],
+//!         differing: &[],
+//!     };
+//!     let wanted = Wanted {
+//!         station: None,
+//!         msm: None,
+//!         codes: None,
+//!         near: None,
+//!         marker: None,
+//!         window: 64,
+//!     };
+//!     match plan_of(alloc, &captured, &wanted, now, false, false) {
+//!         Err(PlanFault::Refused { refusal, .. }) => Ok(refusal == Refusal::NoFrame),
+//!         _ => Ok(false),
+//!     }
+//! }
+//! ```
+//!
 //! Its tests: tests/program/auto.sh and tests/model
 #![tactic(auto)]
 
@@ -11,6 +42,7 @@ mod known_lines;
 mod linking;
 mod lists;
 mod planning;
+mod positions;
 mod refusal;
 mod said_command;
 mod span_line;

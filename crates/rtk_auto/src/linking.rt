@@ -1,16 +1,14 @@
 //! The links of the captures that are converted.
 
-ghost use Rattle.std.specs.Prelude.{◌≡◌, ◌<◌, ◌≤◌, true, false, length, map, is_some, IfOk, IfErr};
-ghost use Rattle.std.specs.List.{list_any};
-ghost use Rattle.rtk_auto.specs.Causes.{IfRefused, AreGoodLinks, IsLinksCause};
+ghost use Rattle.std.specs.Prelude.{◌≡◌, ◌<◌, ◌≤◌, length, map, IfOk, IfErr};
+ghost use Rattle.rtk_auto.specs.Causes.{IfRefused, AreTooMany};
 ghost use Rattle.rtk_auto.specs.Linking as spec;
 
 use crate::captured::Captured;
 use crate::kept::{has_something_at, kept_captures};
-use crate::lists::put_position_line;
 use crate::refusal::{PlanFault, Refusal, refused};
 use rtk_dates::Placed;
-use rtk_find::{CaptureFound, Ordered, ReferencePoint, are_far, in_order, links_of, point_of_link};
+use rtk_find::{CaptureFound, Ordered, in_order, links_of};
 use std::alloc::{AllocError, Global};
 
 /// The most links of a conversion.
@@ -92,7 +90,7 @@ fn few_links(
     links: Vec<Vec<usize>>,
 ) -> Result<Vec<Vec<usize>>, PlanFault>
     ensures few { IfOk result (λ few. (few ≡ links) × (length few.items ≤ 16)) }
-    ensures refused { IfErr result (IfRefused (λ refusal. (refusal ≡ Refusal.TooManyLinks) × (16 < length links.items))) }
+    ensures refused { IfErr result (IfRefused (AreTooMany (spec.places_of links.items))) }
 {
     if links.len() <= MOST_LINKS {
         return Ok(links);
@@ -104,103 +102,18 @@ fn few_links(
     )
 }
 
-// The position of each link.
-fn points_of_links(
+// The links that captures with these epochs join, however many.
+fn links_in_order(
     alloc: Global,
+    station: u16,
     captures: &[CaptureFound],
-    links: &[Vec<usize>],
-) -> Result<Vec<Option<ReferencePoint>>, AllocError>
-    ensures { IfOk result (λ points. points.items ≡ spec.points_of captures.now (spec.places_of links.now)) }
+    placed: &[Option<Placed>],
+) -> Result<Vec<Vec<usize>>, AllocError>
+    ensures { IfOk result (λ links. spec.places_of links.items ≡ spec.links_found station captures.now placed.now) }
 {
-    let mut points = Vec::new(alloc);
-    for link in links {
-        points.push(point_of_link(captures, link.as_slice()))?;
-    }
-    Ok(points)
-}
-
-// Are two positions, if both are known, more than 100 m apart?
-fn are_points_apart(a: Option<ReferencePoint>, b: Option<ReferencePoint>) -> bool
-    ensures { result ≡ spec.are_points_apart a b }
-{
-    match (a, b) {
-        (Some(a), Some(b)) => are_far(&a, &b),
-        _ => false,
-    }
-}
-
-// The first position that is far from this one.
-fn far_from(point: Option<ReferencePoint>, points: &[Option<ReferencePoint>]) -> Option<usize>
-    ensures { is_some result ≡ list_any (spec.are_points_apart point) points.now }
-{
-    for (place, other) in points.iter().enumerate() {
-        if are_points_apart(point, *other) {
-            return Some(place);
-        }
-    }
-    None
-}
-
-// Two positions that are far from one another.
-fn far_points(points: &[Option<ReferencePoint>]) -> Option<(usize, usize)>
-    ensures { is_some result ≡ spec.some_apart points.now points.now }
-{
-    for (place, point) in points.iter().enumerate() {
-        if let Some(other) = far_from(*point, points) {
-            return Some((place, other));
-        }
-    }
-    None
-}
-
-// Appends the position of a link, with the name of its first capture.
-fn put_position(
-    lines: &mut Vec<u8>,
-    captured: &Captured<'_, '_, '_>,
-    links: &[Vec<usize>],
-    points: &[Option<ReferencePoint>],
-    link: usize,
-) -> Result<(), AllocError> {
-    if let (Some(captures), Some(Some(point))) = (links.get(link), points.get(link)) {
-        let place = captures.first().copied().unwrap_or(0);
-        put_position_line(lines, point, captured.name(place))?;
-    }
-    Ok(())
-}
-
-// The positions of two links.
-fn list_positions(
-    alloc: Global,
-    captured: &Captured<'_, '_, '_>,
-    links: &[Vec<usize>],
-    points: &[Option<ReferencePoint>],
-    apart: (usize, usize),
-) -> Result<Vec<u8>, AllocError> {
-    let mut lines = Vec::new(alloc);
-    put_position(&mut lines, captured, links, points, apart.0)?;
-    put_position(&mut lines, captured, links, points, apart.1)?;
-    Ok(lines)
-}
-
-// The links, if their positions agree.
-fn links_together(
-    alloc: Global,
-    captured: &Captured<'_, '_, '_>,
-    links: Vec<Vec<usize>>,
-) -> Result<Vec<Vec<usize>>, PlanFault>
-    ensures together { IfOk result (λ same. (same ≡ links)
-        × (spec.some_are_far captured.now.findings.now.captures.items (spec.places_of links.items) ≡ false)) }
-    ensures refused { IfErr result (IfRefused (λ refusal. (refusal ≡ Refusal.PositionsDiffer)
-        × (spec.some_are_far captured.now.findings.now.captures.items (spec.places_of links.items) ≡ true))) }
-{
-    let points = points_of_links(alloc, captured.captures(), links.as_slice())?;
-    match far_points(points.as_slice()) {
-        Some(apart) => refused(
-            Refusal::PositionsDiffer,
-            list_positions(alloc, captured, links.as_slice(), points.as_slice(), apart)?,
-        ),
-        None => Ok(links),
-    }
+    let ordered = in_order(alloc, placed)?;
+    let kept = kept_in_order(alloc, station, captures, ordered.as_slice())?;
+    joined_links(alloc, kept.as_slice())
 }
 
 /// The links: captures that follow one another are joined, and captures of the same time are links.
@@ -212,15 +125,12 @@ pub(crate) fn links_found(
 ) -> Result<Vec<Vec<usize>>, PlanFault>
     ensures links { IfOk result (λ links. spec.places_of links.items
         ≡ spec.links_found station captured.now.findings.now.captures.items placed.now) }
-    ensures good { IfOk result (λ links. AreGoodLinks false captured.now.findings.now.captures.items (spec.places_of links.items)) }
-    ensures refused { IfErr result (IfRefused (IsLinksCause false captured.now.findings.now.captures.items
+    ensures few { IfOk result (λ links. length links.items ≤ 16) }
+    ensures refused { IfErr result (IfRefused (AreTooMany
         (spec.links_found station captured.now.findings.now.captures.items placed.now))) }
 {
-    let ordered = in_order(alloc, placed)?;
-    let kept = kept_in_order(alloc, station, captured.captures(), ordered.as_slice())?;
-    let links = joined_links(alloc, kept.as_slice())?;
-    let links = few_links(alloc, captured, links)?;
-    links_together(alloc, captured, links)
+    let links = links_in_order(alloc, station, captured.captures(), placed)?;
+    few_links(alloc, captured, links)
 }
 
 // A link for each of some captures.
@@ -242,8 +152,8 @@ pub(crate) fn links_as_given(
 ) -> Result<Vec<Vec<usize>>, PlanFault>
     ensures links { IfOk result (λ links. spec.places_of links.items
         ≡ spec.links_as_given station captured.now.findings.now.captures.items) }
-    ensures good { IfOk result (λ links. AreGoodLinks true captured.now.findings.now.captures.items (spec.places_of links.items)) }
-    ensures refused { IfErr result (IfRefused (IsLinksCause true captured.now.findings.now.captures.items
+    ensures few { IfOk result (λ links. length links.items ≤ 16) }
+    ensures refused { IfErr result (IfRefused (AreTooMany
         (spec.links_as_given station captured.now.findings.now.captures.items))) }
 {
     let places = kept_captures(alloc, station, captured.captures())?;

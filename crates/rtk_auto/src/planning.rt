@@ -1,21 +1,23 @@
 //! What a conversion of captures is told, from what they tell and what words say.
 
-ghost use Rattle.std.specs.Prelude.{◌≡◌, ◌<◌, ℕ, List, Some, [], true, false, length, IfOk, IfErr};
+ghost use Rattle.std.specs.Prelude.{◌≡◌, ◌<◌, ◌≤◌, ℕ, List, Some, [], true, false, length, IfOk, IfErr, IsOk};
 ghost use Rattle.rtk_obs.specs.CivilText.{last_digits};
 ghost use Rattle.rtk_rinex.specs.Header.{IsHeadView};
 ghost use Rattle.rtk_summary.specs.ReadFrames.{ReadFrame};
 ghost use Rattle.rtk_summary.specs.Standing.{StandsForFrames};
 ghost use Rattle.rtk_find.specs.Captures.{StandsForCaptures};
 ghost use Rattle.rtk_find.specs.ChosenStation.{IsMarked};
-ghost use Rattle.rtk_auto.specs.Causes.{IfRefused, IsStationCause, IsEmptyCause, IsSetupCause, AreGoodLinks, IsLinksCause, IsCauseOf};
+ghost use Rattle.rtk_auto.specs.Causes.{IfRefused, IsStationCause, IsEmptyCause, IsSetupCause, AreTooMany, IsCauseOf};
 ghost use Rattle.rtk_auto.specs.Kept.{empty_captures};
 ghost use Rattle.rtk_auto.specs.Linking.{places_of, AreLinksOf};
+ghost use Rattle.rtk_auto.specs.Positions.{some_are_far};
 ghost use Rattle.rtk_auto.specs.Plan.{IsChosenStation, msm_chosen, codes_chosen, marker_chosen, IsNearOf, ArePlaced, IsInReach, IsSetupFor};
 
 use crate::captured::Captured;
 use crate::dating::{Dating, date_captures};
 use crate::kept::empty_captures;
 use crate::linking::{links_as_given, links_found};
+use crate::positions::agree_on_position;
 use crate::refusal::{PlanFault, Refusal, refused};
 use crate::span_line::DatedSpan;
 use crate::wanted::Wanted;
@@ -222,16 +224,34 @@ fn links_to_convert(
 ) -> Result<Vec<Vec<usize>>, PlanFault>
     requires { ArePlaced near captured.now.findings.now.captures.items dating.now.placed.items }
     ensures links { IfOk result (λ links. AreLinksOf as_given near station captured.now.findings.now.captures.items (places_of links.items)) }
-    ensures good { IfOk result (λ links. AreGoodLinks as_given captured.now.findings.now.captures.items (places_of links.items)) }
+    ensures few { IfOk result (λ links. length links.items ≤ 16) }
     ensures refused { IfErr result (IfRefused (λ refusal. (links : List (List ℕ))
         × AreLinksOf as_given near station captured.now.findings.now.captures.items links
-        × IsLinksCause as_given captured.now.findings.now.captures.items links refusal)) }
+        × AreTooMany links refusal)) }
 {
     if as_given {
         links_as_given(alloc, captured, station)
     } else {
         links_found(alloc, captured, station, dating.placed.as_slice())
     }
+}
+
+// The captures agree on the position of the station, unless they are taken as they are given.
+fn agree_unless(
+    alloc: Global,
+    captured: &Captured<'_, '_, '_>,
+    station: u16,
+    as_given: bool,
+) -> Result<(), PlanFault>
+    ensures one_position { IsOk result → as_given ≡ false
+        → some_are_far station captured.now.findings.now.captures.items ≡ false }
+    ensures refused { IfErr result (IfRefused (λ refusal. (refusal ≡ Refusal.PositionsDiffer) × (as_given ≡ false)
+        × (some_are_far station captured.now.findings.now.captures.items ≡ true))) }
+{
+    if as_given {
+        return Ok(());
+    }
+    agree_on_position(alloc, captured, station)
 }
 
 /// What a conversion of the captures that were read is told, or why they have no plan: the first cause
@@ -250,7 +270,9 @@ pub fn plan_of(
     ensures in_reach { IfOk result (λ plan. IsInReach wanted.now.near captured.now.findings.now.captures.items plan.setup.near) }
     ensures links { IfOk result (λ plan. AreLinksOf as_given wanted.now.near plan.setup.station
         captured.now.findings.now.captures.items (places_of plan.links.items)) }
-    ensures good_links { IfOk result (λ plan. AreGoodLinks as_given captured.now.findings.now.captures.items (places_of plan.links.items)) }
+    ensures few_links { IfOk result (λ plan. length plan.links.items ≤ 16) }
+    ensures one_position { as_given ≡ false
+        → IfOk result (λ plan. some_are_far plan.setup.station captured.now.findings.now.captures.items ≡ false) }
     ensures skipped { IfOk result (λ plan. plan.skipped.items
         ≡ empty_captures plan.setup.station captured.now.findings.now.captures.items) }
     ensures none_skipped { IfOk result (λ plan. skip_empty ≡ false → plan.skipped.items ≡ []) }
@@ -266,6 +288,7 @@ pub fn plan_of(
     let dating = date_captures(alloc, captured, wanted.near, station)?;
     let setup = setup_near(alloc, captured, wanted, made, station, dating.near)?;
     let links = links_to_convert(alloc, captured, station, wanted.near, &dating, as_given)?;
+    agree_unless(alloc, captured, station, as_given)?;
     Ok(Plan {
         setup,
         span: dating.span,

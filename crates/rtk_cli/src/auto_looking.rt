@@ -6,8 +6,8 @@ ghost use Rattle.rtk_streams.specs.declared.exit_status.TheConstants.{NOT_VALID}
 use crate::auto_refusing::{fail_output, fail_to_find, refuse_other, refuse_twice};
 use rtk_obs::GpsMs;
 use rtk_streams::{
-    FAILED, FileIdentity, NOT_VALID, Named, PresentFault, REFUSED, STDIN, ToolFault, can_get_name,
-    fail, present, standard_output_file, what_is_named,
+    FAILED, FileIdentity, NOT_VALID, Named, PresentFault, PresentTime, REFUSED, STDIN, ToolFault,
+    can_get_name, fail, present, standard_output_file, what_is_named,
 };
 use std::env::Env;
 use std::fs::Files;
@@ -113,6 +113,30 @@ fn fail_clock<R: Eprint>(rt: &R) -> u8
     NOT_VALID
 }
 
+// `SOURCE_DATE_EPOCH` is no moment that can be written.
+fn fail_variable<R: Eprint>(rt: &R) -> u8
+    ensures { result ≤ NOT_VALID }
+{
+    let _told = eprintln!(rt; "rtcm2rinex: SOURCE_DATE_EPOCH is not from 1980-01-06 to 2100-12-31");
+    NOT_VALID
+}
+
+// The present as a moment, if it can be written.
+fn moment_of_present<R: Eprint>(rt: &R, time: PresentTime) -> Result<GpsMs, u8>
+    ensures { IfErr result (λ status. status ≤ NOT_VALID) }
+{
+    match time {
+        PresentTime::Variable(seconds) => match moment_at(seconds) {
+            Some(made) => Ok(made),
+            None => Err(fail_variable(rt)),
+        },
+        PresentTime::Clock(seconds) => match moment_at(seconds) {
+            Some(made) => Ok(made),
+            None => Err(fail_clock(rt)),
+        },
+    }
+}
+
 /// The moment at which the file is made: as words give it, else the present.
 pub(crate) fn made_at<R: Env + Clock + Eprint + AllocGlobal>(
     rt: &R,
@@ -124,10 +148,7 @@ pub(crate) fn made_at<R: Env + Clock + Eprint + AllocGlobal>(
         return Ok(made);
     }
     match present(rt) {
-        Ok(seconds) => match moment_at(seconds) {
-            Some(made) => Ok(made),
-            None => Err(fail_clock(rt)),
-        },
+        Ok(time) => moment_of_present(rt, time),
         Err(PresentFault::NoClock) => Err(fail_clock(rt)),
         Err(PresentFault::BadVariable) => {
             let _told = eprintln!(rt; "rtcm2rinex: SOURCE_DATE_EPOCH is no number of seconds");

@@ -3,5 +3,4 @@ pub mod HeardLemmas
 pub mod LinkLemmas
 pub mod MarkLemmas
 pub mod PhaseLemmas
-pub mod PointLemmas
 pub mod StationLemmas

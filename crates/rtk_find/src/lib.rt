@@ -40,4 +40,4 @@ pub use finding::{Dates, Findings};
 pub use heard::{Heard, ReferencePoint, STATIONS};
 pub use joining::{Ordered, in_order, links_of};
 pub use phases::Phases;
-pub use points::{are_far, point_of_link};
+pub use points::are_far;

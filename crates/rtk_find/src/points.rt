@@ -1,9 +1,8 @@
-//! The reference points of links.
+//! How far reference points are apart.
 
 ghost use Rattle.std.specs.Prelude.{◌≡◌, ◌<◌, ◌^◌};
 ghost use Rattle.rtk_find.specs.Points as spec;
 
-use crate::capture_found::CaptureFound;
 use crate::heard::ReferencePoint;
 
 /// More than 100 m, squared; coordinates are in 0.0001 m.
@@ -25,28 +24,4 @@ pub fn are_far(a: &ReferencePoint, b: &ReferencePoint) -> bool
     let y = squared_apart(&a.y, &b.y);
     let z = squared_apart(&a.z, &b.z);
     FAR_SQUARED < x.saturating_add(y).saturating_add(z)
-}
-
-fn point_given(captures: &[CaptureFound], place: usize) -> Option<ReferencePoint>
-    ensures { result ≡ spec.point_given captures.now place }
-{
-    if place < captures.len() {
-        captures[place].heard.point
-    } else {
-        None
-    }
-}
-
-/// The reference point of a link: that of its first capture that has one. `link` has the places of its
-/// captures, in the order in which they are taken.
-pub fn point_of_link(captures: &[CaptureFound], link: &[usize]) -> Option<ReferencePoint>
-    ensures { result ≡ spec.point_of_link captures.now link.now }
-{
-    for place in link {
-        let point = point_given(captures, *place);
-        if point.is_some() {
-            return point;
-        }
-    }
-    None
 }

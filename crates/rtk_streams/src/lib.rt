@@ -42,6 +42,6 @@ pub use input::{read_through, read_whole};
 pub use joined::Joined;
 pub use later::{Later, LaterFile};
 pub use links::{Link, OpenFault, fail_to_open_links, has_standard_input, open_links};
-pub use present_time::{PresentFault, present};
+pub use present_time::{PresentFault, PresentTime, present};
 pub use quiet::Quiet;
 pub use resuming::Resumed;

@@ -1,0 +1,41 @@
+-- Where the captures say that the station is (this project's rule).
+use Rattle.std.specs.Prelude.{ℕ, Bool, false, List, map, Option, None, Some, codes, is_some, [], if◌then◌else◌}
+use Rattle.std.specs.List.{list_any}
+use Rattle.rtk_find.specs.Points.{are_far}
+use Rattle.rtk_find.specs.declared.capture_found.CaptureFound.{CaptureFound}
+use Rattle.rtk_find.specs.declared.heard.ReferencePoint.{ReferencePoint}
+use Rattle.rtk_auto.specs.Kept.{has_something_of}
+
+-- the reference point of the station in a capture: that of its first 1005 or 1006, if one came
+abbrev pub point_in : ℕ → CaptureFound → Option ReferencePoint
+point_in station c = if has_something_of station c then c.heard.point else None
+
+abbrev pub points_in : ℕ → List CaptureFound → List (Option ReferencePoint)
+points_in station cs = map (point_in station) cs
+
+-- ---- captures that differ
+
+-- two positions, if both are known, are more than 100 m apart
+abbrev pub are_points_apart : Option ReferencePoint → Option ReferencePoint → Bool
+are_points_apart None b = false
+are_points_apart (Some a) None = false
+are_points_apart (Some a) (Some b) = are_far a b
+
+-- one of these positions is far from one of those
+abbrev pub some_apart : List (Option ReferencePoint) → List (Option ReferencePoint) → Bool
+some_apart points others = list_any (λ p. list_any (are_points_apart p) others) points
+
+-- two captures have reference points of the station that are far from one another
+abbrev pub some_are_far : ℕ → List CaptureFound → Bool
+some_are_far station cs = some_apart (points_in station cs) (points_in station cs)
+
+-- ---- captures without one
+
+abbrev pub has_point : ℕ → CaptureFound → Bool
+has_point station c = is_some (point_in station c)
+
+-- formula
+-- if no capture has a reference point of the station, the header of the file has zeros
+unfoldable pub no_position_line : ℕ → List CaptureFound → List ℕ
+no_position_line station cs =
+    if list_any (has_point station) cs then [] else codes " no-position: no 1005 or 1006 came, and the header has zeros\n"
