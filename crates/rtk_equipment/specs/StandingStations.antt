@@ -4,7 +4,7 @@ use Rattle.std.specs.declared.vec.Vec.{Vec}
 use Rattle.rtk_equipment.specs.Told.{no_equipment, equipment_of}
 use Rattle.rtk_equipment.specs.declared.equipment.Equipment.{Equipment}
 use Rattle.rtk_equipment.specs.declared.equipment_message.EquipmentMessage.{EquipmentMessage}
-use Rattle.rtk_equipment.specs.declared.stations.StationsEquipment.{StationsEquipment}
+use Rattle.rtk_equipment.specs.declared.stations_equipment.StationsEquipment.{StationsEquipment}
 
 -- what is held of a station: an entry, or none
 abbrev pub equipment_at : {A : Type 0} → Vec Equipment A → Equipment
@@ -15,7 +15,6 @@ abbrev pub StandForEquipment : {A : Type 0} → List (Vec Equipment A) → List 
 StandForEquipment {A} stations ms =
     (n : ℕ) (none : Vec Equipment A) → n < length stations → equipment_at (get_or stations n none) ≡ equipment_of n ms
 
--- unless memory was refused
-pub record StandsForEquipment (t : StationsEquipment) (ms : List EquipmentMessage) : Type 0 where
-  pub size : length t.stations.items ≡ 4096
-  pub stations : t.is_refused ≡ false → StandForEquipment t.stations.items ms
+-- so it is unless memory was refused
+abbrev pub StandsForEquipment : StationsEquipment → List EquipmentMessage → Type 0
+StandsForEquipment t ms = t.is_refused ≡ false → StandForEquipment t.stations.items ms

@@ -22,7 +22,8 @@
 mod equipment;
 mod equipment_message;
 mod stations;
+mod stations_equipment;
 
 pub use equipment::{Equipment, SetupTold, TextTold};
 pub use equipment_message::{Antenna, EquipmentMessage, Receiver, Text, equipment_in};
-pub use stations::{STATIONS, StationEquipment, StationsEquipment};
+pub use stations_equipment::{STATIONS, StationEquipment, StationsEquipment};

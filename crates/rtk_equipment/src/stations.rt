@@ -1,4 +1,4 @@
-//! What messages told of the antenna and the receiver of each station.
+//! Messages of all stations, each at the place of its station.
 
 ghost use Rattle.std.specs.Prelude.{◌≡◌, ◌<◌, ◌≤◌, ℕ, List, false, true, [], ◌∷◌, None, Some, length, get_or, IfOk, OnOk, OnErr, IfSome};
 ghost use Rattle.rtk_equipment.specs.Told as spec;
@@ -7,22 +7,8 @@ ghost use Rattle.rtk_equipment.specs.declared.equipment_message.EquipmentMessage
 
 use crate::equipment::Equipment;
 use crate::equipment_message::EquipmentMessage;
+use crate::stations_equipment::{STATIONS, StationEquipment, StationsEquipment};
 use std::alloc::{AllocError, Global};
-
-/// How many stations there are: DF003 has 12 bits.
-pub const STATIONS: usize = 4096;
-
-/// What messages told of a station; no entry if none did.
-pub type StationEquipment = Vec<Equipment>;
-
-/// What messages told, by station. Its memory grows with the stations of which one told something.
-#[derive(Drop)]
-pub struct StationsEquipment {
-    /// By number of the station.
-    stations: Vec<StationEquipment>,
-    /// Memory was refused for a station, so that what is here is not all.
-    is_refused: bool,
-}
 
 // A message more of the station.
 fn take_message(station: &mut StationEquipment, message: EquipmentMessage) -> Result<(), AllocError>
@@ -71,8 +57,7 @@ impl StationsEquipment {
     }
     /// What messages told, by number of the station: an entry, or none. An error if memory was refused.
     pub fn stations(&self) -> Result<&[StationEquipment], AllocError>
-        ensures size { IfOk result (λ stations. (ms : List EquipmentMessage) → StandsForEquipment self.now ms
-            → length stations.now ≡ 4096) }
+        ensures size { IfOk result (λ stations. length stations.now ≡ 4096) }
         ensures stations { IfOk result (λ stations. (ms : List EquipmentMessage) → StandsForEquipment self.now ms
             → StandForEquipment stations.now ms) }
     {
