@@ -8,6 +8,7 @@ from collections import Counter
 from datetime import datetime, timedelta
 from itertools import groupby, pairwise
 
+from equipment import Told, equipment_lines, equipment_of
 from finding import date_of
 from messages import CODES, Refusal, cells_of, frames_of, read_message
 from wire import MSMS, Fields, Message
@@ -24,14 +25,17 @@ def summary_of(text: bytes, name: str = "file") -> str:
     read = [read_message(frame.payload, MSMS) for frame in frames]
     messages = [it for it in read if not isinstance(it, Refusal)]
     dates = [it for it in (date_of(frame.payload) for frame in frames) if it]
+    told = [it for it in (equipment_of(frame.payload) for frame in frames) if it]
     framed = sum(6 + len(frame.payload) for frame in frames)
     lines = [f"bytes {len(text)}", f"outside-frames {len(text) - framed}", f"frames {len(frames)}"]
     if not frames:
         lines.append(f"looks-like {look_of(text)}")
     dated = [it for it in dates if "day" in it and civil_of(it)]
-    for station in sorted({it.header["station"] for it in messages} | {it["station"] for it in dated}):
+    for station in sorted({it.header["station"] for it in messages} | {it["station"] for it in dated} | {it for it, _ in told}):
         of_station = [it for it in messages if it.header["station"] == station]
-        lines += [f"station {station}", *station_lines(name, station, of_station, [it for it in dated if it["station"] == station])]
+        dates_of_station = [it for it in dated if it["station"] == station]
+        lines += [f"station {station}"]
+        lines += station_lines(name, station, of_station, dates_of_station, [it for of, it in told if of == station])
     weeks = Counter(it["week"] for it in dates if "week" in it)
     lines += [f"week {week} 1019 {weeks[week]}" for week in sorted(weeks)]
     lines += unread_lines(Counter(it for it in read if isinstance(it, Refusal)))
@@ -79,7 +83,7 @@ def unread_lines(faults: Counter[Refusal]) -> list[str]:
     ]
 
 
-def station_lines(name: str, station: int, messages: list[Message], dated: list[Fields]) -> list[str]:
+def station_lines(name: str, station: int, messages: list[Message], dated: list[Fields], told: list[Told]) -> list[str]:
     counts = Counter(it.header["number"] for it in messages)
     observations = [it for it in messages if "tow" in it.header]
     times = [it.header["tow"] for it in observations]
@@ -93,6 +97,7 @@ def station_lines(name: str, station: int, messages: list[Message], dated: list[
         f" time-of-week {times[0]} {times[-1]}" if times else " time-of-week -",
         f" changes-of-time {sum(before != after for before, after in pairwise(times))}",
         *(f" date {civil_of(its[0])} {number} {len(its)}" for number, its in by_number.items() if its),
+        *equipment_lines(told),
         f" satellites {satellites or '-'}",
         f" codes {','.join(codes) or '-'}",
     ]

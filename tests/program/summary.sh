@@ -30,4 +30,55 @@ truncate -s 4294967297 zeros
 # refuses: a lesser number at which all counts of a summary stay
 run summary zeros; expect summary_of_a_longer_input 0 "$(nothing 4294967297 unknown)" ''
 
-ends 5
+# Of station 278 the 1033 of BNDM, of 633 the 1007 of STFU7; of 700 the antenna A with setup 1, then B with 2, then bytes that
+# are no characters with 2 and no serial number, and a 1033 that is cut short.
+python3 -B - "$root" <<'MADE' >equipped
+import sys
+
+sys.path.insert(0, f"{sys.argv[1]}/tests/model")
+from wire import frame_of  # noqa: E402
+
+ROWS = """3EF2790000 3F02BC0141010139 3F02BC0142020138
+4091160E4750504E554C4C414E54454E4E410000124C4549434120475258313230302B474E535304392E323006343936373130
+3F02BC06207E7F0AFF5C0200 4092BC0143020001440145""".split()
+sys.stdout.buffer.write(b"".join(frame_of(bytes.fromhex(it)) for it in ROWS))
+MADE
+cat >want <<'WANT'
+bytes 131
+outside-frames 0
+frames 6
+station 278
+ time-of-week -
+ changes-of-time 0
+ antenna-type GPPNULLANTENNA
+ antenna-setup 0
+ receiver-type LEICA GRX1200+GNSS
+ receiver-version 9.20
+ receiver-serial 496710
+ satellites -
+ codes -
+station 633
+ time-of-week -
+ changes-of-time 0
+ antenna-setup 0
+ satellites -
+ codes -
+station 700
+ time-of-week -
+ changes-of-time 0
+ antenna-type  ~\x7F\x0A\xFF\
+ changes-of-antenna-type 2
+ changes-of-antenna-serial 2
+ antenna-setup 2
+ changes-of-antenna-setup 1
+ satellites -
+ codes -
+other 1007 1
+other 1008 3
+other 1033 2
+nothing taken
+WANT
+# pins: hex_digit, shown_byte, text_line, text_lines, setup_line, setup_lines, antenna_lines, receiver_lines, equipment_lines, told_lines
+run summary equipped; leaves summary_of_equipment 0 want /dev/null
+
+ends 6

@@ -1,6 +1,7 @@
 pub mod Causes
 pub mod Kept
 pub mod KnownLines
+pub mod LabelCommand
 pub mod Linking
 pub mod Lists
 pub mod Plan

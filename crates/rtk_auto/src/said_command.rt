@@ -31,8 +31,8 @@ pub(crate) fn put_time(line: &mut Vec<u8>, moment: GpsMs) -> Result<(), AllocErr
     put_clock(line, reading)
 }
 
-// Appends a word that is no name of a file.
-fn put_word(line: &mut Vec<u8>, word: &[u8]) -> Result<(), AllocError>
+/// Appends a word that is no name of a file.
+pub(crate) fn put_word(line: &mut Vec<u8>, word: &[u8]) -> Result<(), AllocError>
     ensures { OnOk result (line.new.items ≡ line.old.items ++ spec.word_text word.now) }
 {
     let mut at = 0;

@@ -16,12 +16,15 @@ use Rattle.rtk_message.specs.AnyDecoded.{number_of}
 use Rattle.rtk_message.specs.MsmForm.{number_of_kind}
 use Rattle.rtk_summary.specs.Counting.{count_of}
 use Rattle.rtk_summary.specs.CountingLaws.{EachFrameIsCounted, EachMessageIsCounted, StandsIn, PartsStand, StationsStand, ProposalsStand, UntakenStand}
-use Rattle.rtk_summary.specs.DatesTold.{dates_in, station_dates, has_date, proposed_date}
+use Rattle.rtk_equipment.specs.Told.{equipment_of}
+use Rattle.rtk_equipment.specs.declared.equipment.Equipment.{Equipment}
+use Rattle.rtk_summary.specs.DatesTold.{dates_in, station_dates, proposed_date}
+use Rattle.rtk_summary.specs.EquipmentTold.{equipment_among, is_mentioned, told_lines}
 use Rattle.rtk_summary.specs.NumberLaws.{IsHeld}
 use Rattle.rtk_summary.specs.Proposal.{epochs_in, times_with_value, epochs_with_value, entries_with}
 use Rattle.rtk_summary.specs.ReadFrames.{ReadFrame, ReadsFrames, read_frame, with_message, with_fault, bytes_in, messages_in, faults_in, messages_from}
 use Rattle.rtk_summary.specs.Summary.{all_numbers, size_lines, station_lines, lines_if_any, stations_text, weeks_text, unread_lines, summary_text}
-use Rattle.rtk_summary.specs.SummaryText.{number_line, counted_line, numbered_line, time_lines, date_lines, look_line, near_text, signal_lines, proposal_lines, codes_text, nothing_line, untaken_numbers}
+use Rattle.rtk_summary.specs.SummaryText.{number_line, counted_line, numbered_line, time_lines, look_line, near_text, signal_lines, proposal_lines, codes_text, nothing_line, untaken_numbers}
 use Rattle.rtk_summary.specs.declared.dates_told.StationDates.{StationDates}
 use Rattle.rtk_summary.specs.Tracing.{is_numbered, is_other, is_short, is_outside_week, is_no_number, is_too_many_cells, times_of_week, entries_in, has_satellite, has_code}
 use Rattle.rtk_summary.proofs.SummaryTellingLemmas.{each-weaker, of-all}
@@ -121,7 +124,7 @@ pub parts-stand : PartsStand
 unfolding summary_text
 parts-stand name bytes fs =
     let head : List ℕ = size_lines (length bytes) fs ++ look_line (length fs) (take 512 bytes) in
-    let stations : List ℕ = stations_text name (messages_in fs) (dates_in fs) in
+    let stations : List ℕ = stations_text name (messages_in fs) (dates_in fs) (equipment_among fs) in
     let weeks : List ℕ = weeks_text (dates_in fs) in
     let unread : List ℕ = unread_lines (faults_in fs) in
     let last : List ℕ = nothing_line (codes_text (has_code (entries_in (messages_in fs)))) in (
@@ -130,16 +133,16 @@ parts-stand name bytes fs =
       (head ++ stations ++ weeks, last, refl),
     )
 
-lines-if-some : (name : List ℕ) (n : ℕ) (ms : List AnyMessage) (d : StationDates) → 0 < length ms → lines_if_any name n ms d ≡ station_lines name n ms d
-lines-if-some name n ms d some =
+lines-if-some : (name : List ℕ) (n : ℕ) (ms : List AnyMessage) (d : StationDates) (e : Equipment) → 0 < length ms → lines_if_any name n ms d e ≡ station_lines name n ms d e
+lines-if-some name n ms d e some =
     let above : (length ms == 0) ≡ false = ne_eqb (length ms) 0 (λ none. omega (arith, none, some)) in
-    ap (λ (b : Bool). cond (b && not (has_date d)) [] (station_lines name n ms d)) above
+    ap (λ (b : Bool). cond (b && not (is_mentioned d e)) [] (station_lines name n ms d e)) above
 
 pub stations-stand : StationsStand
 unfolding stations_text
-stations-stand name ms ds n within some =
-    let f : ℕ → List ℕ = λ s. lines_if_any name s (messages_from s ms) (station_dates s ds) in
-    subst (λ (part : List ℕ). StandsIn part (flat_map f all_numbers)) (lines-if-some name n (messages_from n ms) (station_dates n ds) some)
+stations-stand name ms ds es n within some =
+    let f : ℕ → List ℕ = λ s. lines_if_any name s (messages_from s ms) (station_dates s ds) (equipment_of s es) in
+    subst (λ (part : List ℕ). StandsIn part (flat_map f all_numbers)) (lines-if-some name n (messages_from n ms) (station_dates n ds) (equipment_of n es) some)
     (of-all (λ k. StandsIn (f k) (flat_map f all_numbers)) (each-stands f all_numbers) n within)
 
 epochs-are : (ms : List AnyMessage) → ((kind : MsmKind) → IsHeld (epochs_in (times_with_value kind ms))) → ◌≡◌ {A = MsmKind → ℕ} (λ kind. epochs_with_value kind ms) (λ kind. epochs_in (times_with_value kind ms))
@@ -147,7 +150,7 @@ epochs-are ms held = fun_ext (λ kind. let few = held kind in omega (arith, few)
 
 pub proposals-stand : ProposalsStand
 unfolding station_lines
-proposals-stand name station ms d held =
+proposals-stand name station ms d e held =
     let proposal : (MsmKind → ℕ) → List ℕ = λ epochs. proposal_lines name (near_text (proposed_date d)) station epochs (λ kind. has_code (entries_with kind ms)) in
     let count : List ℕ → ℕ → List ℕ = λ words n. counted_line words (count_of (is_numbered n) ms) in
     let lines : List ℕ =
@@ -160,10 +163,10 @@ proposals-stand name station ms d held =
     ++ count (codes " message 1076 ") 1076
     ++ count (codes " message 1077 ") 1077
     ++ time_lines (times_of_week ms)
-    ++ date_lines d
+    ++ told_lines d e
     ++ signal_lines (has_satellite (entries_in ms)) (has_code (entries_in ms)) in
-    let whole = append-nil (station_lines name station ms d) in
-    subst (λ (epochs : MsmKind → ℕ). StandsIn (proposal epochs) (station_lines name station ms d)) (epochs-are ms held) (lines, [], sym whole)
+    let whole = append-nil (station_lines name station ms d e) in
+    subst (λ (epochs : MsmKind → ℕ). StandsIn (proposal epochs) (station_lines name station ms d e)) (epochs-are ms held) (lines, [], sym whole)
 
 pub untaken-stand : UntakenStand
 unfolding unread_lines

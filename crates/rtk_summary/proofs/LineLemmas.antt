@@ -7,10 +7,12 @@ use Rattle.rtk_obs.specs.Code.{name_of, place_of, all_codes}
 use Rattle.rtk_message.specs.declared.msm_kind.MsmKind.{MsmKind}
 use Rattle.rtk_message.specs.declared.any_message.AnyMessage.{AnyMessage}
 use Rattle.rtk_summary.specs.Counting.{count_of}
-use Rattle.rtk_summary.specs.DatesTold.{has_date, proposed_date}
+use Rattle.rtk_equipment.specs.declared.equipment.Equipment.{Equipment}
+use Rattle.rtk_summary.specs.DatesTold.{proposed_date}
+use Rattle.rtk_summary.specs.EquipmentTold.{is_mentioned, told_lines}
 use Rattle.rtk_summary.specs.Proposal.{epochs_with_value, entries_with}
 use Rattle.rtk_summary.specs.Summary.{all_numbers, station_lines, lines_if_any}
-use Rattle.rtk_summary.specs.SummaryText.{number_line, counted_line, numbered_line, list_line, time_lines, date_lines, near_text, untaken_numbers, listed_satellite, satellites_text, joined_names, codes_text, words_text, auto_line, next_lines, signal_lines, proposal_lines}
+use Rattle.rtk_summary.specs.SummaryText.{number_line, counted_line, numbered_line, list_line, time_lines, near_text, untaken_numbers, listed_satellite, satellites_text, joined_names, codes_text, words_text, auto_line, next_lines, signal_lines, proposal_lines}
 use Rattle.rtk_summary.specs.Standing.{StandsForEntries, StandsForMessages, StandForMsm, epochs_held, codes_held}
 use Rattle.rtk_summary.specs.Steps.Tables.{counts_text, untaken_text, counts_held}
 use Rattle.rtk_summary.specs.Tracing.{is_numbered, entries_in, has_satellite, has_code, times_of_week}
@@ -128,16 +130,16 @@ proposal-is name near number p ms stand =
     ap (λ (e : MsmKind → ℕ). proposal_lines name near number e (codes_held p)) (epochs-are p ms stand)
     ∙ ap (λ (t : MsmKind → Code → Bool). proposal_lines name near number (λ kind. epochs_with_value kind ms) t) (codes-held-are p ms stand)
 
-any-lines : (name : List ℕ) (number : ℕ) (ms : List AnyMessage) (d : StationDates) → ((length ms == 0) && not (has_date d)) ≡ false → lines_if_any name number ms d ≡ station_lines name number ms d
-any-lines name number ms d some = ap (λ (b : Bool). cond b [] (station_lines name number ms d)) some
+any-lines : (name : List ℕ) (number : ℕ) (ms : List AnyMessage) (d : StationDates) (e : Equipment) → ((length ms == 0) && not (is_mentioned d e)) ≡ false → lines_if_any name number ms d e ≡ station_lines name number ms d e
+any-lines name number ms d e some = ap (λ (b : Bool). cond b [] (station_lines name number ms d e)) some
 
 -- what is put of a station that holds this much
-abbrev pub lines_held : List ℕ → ℕ → Station → StationDates → List ℕ → List ℕ
-lines_held name number s d times =
+abbrev pub lines_held : List ℕ → ℕ → Station → StationDates → Equipment → List ℕ → List ℕ
+lines_held name number s d e times =
     number_line (codes "station ") number
     ++ counts_held s
     ++ time_lines times
-    ++ date_lines d
+    ++ told_lines d e
     ++ signal_lines (λ n. get_or s.signals.satellites n false) (λ c. get_or s.signals.codes.marks (place_of c) false)
     ++ proposal_lines name (near_text (proposed_date d)) number (epochs_held s.msm) (codes_held s.msm)
 
@@ -176,15 +178,15 @@ counts-agree s ms stands =
 regroup : (n a b c d e f g t w s p : List ℕ) → n ++ a ++ b ++ c ++ d ++ e ++ f ++ g ++ t ++ w ++ s ++ p ≡ n ++ (a ++ b ++ c ++ d ++ e ++ f ++ g) ++ t ++ w ++ s ++ p
 regroup n a b c d e f g t w s p = simp append_assoc
 
-grouped : (name : List ℕ) (number : ℕ) (ms : List AnyMessage) (d : StationDates) → station_lines name number ms d
+grouped : (name : List ℕ) (number : ℕ) (ms : List AnyMessage) (d : StationDates) (e : Equipment) → station_lines name number ms d e
     ≡ number_line (codes "station ") number
     ++ counts_of (count_of (is_numbered 1004) ms) (count_of (is_numbered 1005) ms) (count_of (is_numbered 1006) ms) (count_of (is_numbered 1074) ms) (count_of (is_numbered 1075) ms) (count_of (is_numbered 1076) ms) (count_of (is_numbered 1077) ms)
     ++ time_lines (times_of_week ms)
-    ++ date_lines d
+    ++ told_lines d e
     ++ signal_lines (has_satellite (entries_in ms)) (has_code (entries_in ms))
     ++ proposal_lines name (near_text (proposed_date d)) number (λ kind. epochs_with_value kind ms) (λ kind. has_code (entries_with kind ms))
 unfolding station_lines counts_of
-grouped name number ms d =
+grouped name number ms d e =
     regroup (number_line (codes "station ") number)
     (counted_line (codes " message 1004 ") (count_of (is_numbered 1004) ms))
     (counted_line (codes " message 1005 ") (count_of (is_numbered 1005) ms))
@@ -194,22 +196,22 @@ grouped name number ms d =
     (counted_line (codes " message 1076 ") (count_of (is_numbered 1076) ms))
     (counted_line (codes " message 1077 ") (count_of (is_numbered 1077) ms))
     (time_lines (times_of_week ms))
-    (date_lines d)
+    (told_lines d e)
     (signal_lines (has_satellite (entries_in ms)) (has_code (entries_in ms)))
     (proposal_lines name (near_text (proposed_date d)) number (λ kind. epochs_with_value kind ms) (λ kind. has_code (entries_with kind ms)))
 
-pub station-lines-are : (name : List ℕ) (number : ℕ) (s : Station) (d : StationDates) (ms : List AnyMessage) → StandsForMessages s ms → ((length ms == 0) && not (has_date d)) ≡ false
-    → lines_if_any name number ms d ≡ lines_held name number s d (times_of_week ms)
-station-lines-are name number s d ms stands some =
+pub station-lines-are : (name : List ℕ) (number : ℕ) (s : Station) (d : StationDates) (e : Equipment) (ms : List AnyMessage) → StandsForMessages s ms → ((length ms == 0) && not (is_mentioned d e)) ≡ false
+    → lines_if_any name number ms d e ≡ lines_held name number s d e (times_of_week ms)
+station-lines-are name number s d e ms stands some =
     let head : List ℕ = number_line (codes "station ") number in
     let times : List ℕ = time_lines (times_of_week ms) in
-    let dates : List ℕ = date_lines d in
+    let dates : List ℕ = told_lines d e in
     let near : List ℕ = near_text (proposed_date d) in
     let signals : List ℕ = signal_lines (has_satellite (entries_in ms)) (has_code (entries_in ms)) in
     let proposal : List ℕ = proposal_lines name near number (λ kind. epochs_with_value kind ms) (λ kind. has_code (entries_with kind ms)) in
     let signals' : List ℕ = signal_lines (λ n. get_or s.signals.satellites n false) (λ c. get_or s.signals.codes.marks (place_of c) false) in
-    any-lines name number ms d some
-    ∙ grouped name number ms d
+    any-lines name number ms d e some
+    ∙ grouped name number ms d e
     ∙ ap (λ (t : List ℕ). head ++ t ++ times ++ dates ++ signals ++ proposal) (counts-agree s ms stands)
     ∙ ap (λ (t : List ℕ). head ++ counts_held s ++ times ++ dates ++ t ++ proposal) (sym (signals-are s.signals ms stands.signals))
     ∙ ap (λ (t : List ℕ). head ++ counts_held s ++ times ++ dates ++ signals' ++ t) (sym (proposal-is name near number s.msm ms stands.msm))

@@ -12,10 +12,12 @@ use Rattle.rtk_summary.specs.Counting.{shown_count, count_of}
 use Rattle.rtk_summary.specs.NumberLaws.{SummaryTellsFrames, StationLinesTell, UnreadLinesTell}
 use Rattle.rtk_summary.specs.Proposal.{epochs_with_value, entries_with}
 use Rattle.rtk_summary.specs.ReadFrames.{ReadFrame, bytes_in, messages_in, faults_in}
+use Rattle.rtk_equipment.specs.declared.equipment.Equipment.{Equipment}
 use Rattle.rtk_summary.specs.DatesTold.{dates_in, proposed_date}
+use Rattle.rtk_summary.specs.EquipmentTold.{equipment_among, told_lines}
 use Rattle.rtk_summary.specs.Summary.{all_numbers, station_lines, stations_text, weeks_text, unread_lines, summary_text}
 use Rattle.rtk_summary.specs.declared.dates_told.StationDates.{StationDates}
-use Rattle.rtk_summary.specs.SummaryText.{number_line, counted_line, numbered_line, time_lines, date_lines, look_line, near_text, signal_lines, proposal_lines, codes_text, nothing_line, untaken_numbers}
+use Rattle.rtk_summary.specs.SummaryText.{number_line, counted_line, numbered_line, time_lines, look_line, near_text, signal_lines, proposal_lines, codes_text, nothing_line, untaken_numbers}
 use Rattle.rtk_summary.specs.Tracing.{is_numbered, is_other, is_short, is_outside_week, is_no_number, is_too_many_cells, times_of_week, entries_in, has_satellite, has_code}
 use Rattle.rtk_summary.proofs.HeadLemmas.{differ, apart, IsNotHeaded, not-headed-line, not-headed-table, line-then, counted-then, lines_by_number, NumbersRise, FirstIsAbove, table-then}
 use Rattle.rtk_summary.proofs.LineTellingLemmas.{times-then, not-headed-times}
@@ -111,40 +113,40 @@ messages-rise =
     (omega arith, omega arith, (omega arith, omega arith, (omega arith, omega arith, (omega arith, omega arith, (omega arith, omega arith, (omega arith, omega arith, (omega arith, tt, tt)))))))
 
 -- what stands behind the times
-behind_times : List ℕ → ℕ → List AnyMessage → StationDates → List ℕ
-behind_times name station ms d =
-    date_lines d ++ signal_lines (has_satellite (entries_in ms)) (has_code (entries_in ms))
+behind_times : List ℕ → ℕ → List AnyMessage → StationDates → Equipment → List ℕ
+behind_times name station ms d e =
+    told_lines d e ++ signal_lines (has_satellite (entries_in ms)) (has_code (entries_in ms))
     ++ proposal_lines name (near_text (proposed_date d)) station (λ kind. epochs_with_value kind ms) (λ kind. has_code (entries_with kind ms))
 
-station-is : (name : List ℕ) (station : ℕ) (ms : List AnyMessage) (d : StationDates) → station_lines name station ms d
+station-is : (name : List ℕ) (station : ℕ) (ms : List AnyMessage) (d : StationDates) (e : Equipment) → station_lines name station ms d e
     ≡ number_line (codes "station ") station
     ++ (lines_by_number (codes " message ") (λ n. count_of (is_numbered n) ms) (1004 ∷ 1005 ∷ 1006 ∷ 1074 ∷ 1075 ∷ 1076 ∷ 1077 ∷ [])
-    ++ (time_lines (times_of_week ms) ++ behind_times name station ms d))
+    ++ (time_lines (times_of_week ms) ++ behind_times name station ms d e))
 unfolding station_lines behind_times
-station-is name station ms d =
+station-is name station ms d e =
     let count : ℕ → ℕ = λ n. count_of (is_numbered n) ms in
     let line : List ℕ → ℕ → List ℕ = λ words n. counted_line words (count n) in
     grouped (number_line (codes "station ") station)
     (line (codes " message 1004 ") 1004) (line (codes " message 1005 ") 1005) (line (codes " message 1006 ") 1006) (line (codes " message 1074 ") 1074) (line (codes " message 1075 ") 1075) (line (codes " message 1076 ") 1076) (line (codes " message 1077 ") 1077)
-    (time_lines (times_of_week ms)) (date_lines d) (signal_lines (has_satellite (entries_in ms)) (has_code (entries_in ms)))
+    (time_lines (times_of_week ms)) (told_lines d e) (signal_lines (has_satellite (entries_in ms)) (has_code (entries_in ms)))
     (proposal_lines name (near_text (proposed_date d)) station (λ kind. epochs_with_value kind ms) (λ kind. has_code (entries_with kind ms)))
-    ∙ ap (λ (lines : List ℕ). number_line (codes "station ") station ++ (lines ++ (time_lines (times_of_week ms) ++ behind_times name station ms d))) (messages-are count)
+    ∙ ap (λ (lines : List ℕ). number_line (codes "station ") station ++ (lines ++ (time_lines (times_of_week ms) ++ behind_times name station ms d e))) (messages-are count)
 
 pub station-tells : StationLinesTell
-station-tells name names station other ms ns d e held fits few less times alike same =
+station-tells name names station other ms ns d dates e equipment held fits few less times alike same =
     let numbers : List ℕ = 1004 ∷ 1005 ∷ 1006 ∷ 1074 ∷ 1075 ∷ 1076 ∷ 1077 ∷ [] in
     let f : ℕ → ℕ = λ n. count_of (is_numbered n) ms in
     let g : ℕ → ℕ = λ n. count_of (is_numbered n) ns in
-    let left : List ℕ = time_lines (times_of_week ms) ++ behind_times name station ms d in
-    let right : List ℕ = time_lines (times_of_week ns) ++ behind_times names other ns e in
+    let left : List ℕ = time_lines (times_of_week ms) ++ behind_times name station ms d e in
+    let right : List ℕ = time_lines (times_of_week ns) ++ behind_times names other ns dates equipment in
     let number = line-then (codes "station ") station other (lines_by_number (codes " message ") f numbers ++ left) (lines_by_number (codes " message ") g numbers ++ right) held fits
-    (sym (station-is name station ms d) ∙ same ∙ station-is names other ns e) in
+    (sym (station-is name station ms d e) ∙ same ∙ station-is names other ns dates equipment) in
     let words = apart (codes " message ") (codes " time-of-week ") refl in
     let counts = table-then (codes " message ") f g numbers left right messages-rise (λ n. omega arith) (λ n. omega arith)
-    (not-headed-times (codes " message ") (times_of_week ms) (behind_times name station ms d) words) (not-headed-times (codes " message ") (times_of_week ns) (behind_times names other ns e) words) number.1 in
+    (not-headed-times (codes " message ") (times_of_week ms) (behind_times name station ms d e) words) (not-headed-times (codes " message ") (times_of_week ns) (behind_times names other ns dates equipment) words) number.1 in
     let here = times-few ms in
     let there = times-few ns in
-    let shown = times-then (times_of_week ms) (times_of_week ns) (behind_times name station ms d) (behind_times names other ns e) times alike (omega (arith, here, few)) (omega (arith, there, less)) counts.1 in
+    let shown = times-then (times_of_week ms) (times_of_week ns) (behind_times name station ms d e) (behind_times names other ns dates equipment) times alike (omega (arith, here, few)) (omega (arith, there, less)) counts.1 in
     record {
       number = number.0;
       counts = each-weaker (λ n. f n ≡ g n) (λ n. count_by (is_numbered n) ms ≡ count_by (is_numbered n) ns) numbers
@@ -279,7 +281,7 @@ unread-tells fs gs few less same =
 behind_frames : List ℕ → List ℕ → List ReadFrame → List ℕ
 behind_frames name bytes fs =
     look_line (length fs) (take 512 bytes)
-    ++ stations_text name (messages_in fs) (dates_in fs) ++ weeks_text (dates_in fs) ++ unread_lines (faults_in fs) ++ nothing_line (codes_text (has_code (entries_in (messages_in fs))))
+    ++ stations_text name (messages_in fs) (dates_in fs) (equipment_among fs) ++ weeks_text (dates_in fs) ++ unread_lines (faults_in fs) ++ nothing_line (codes_text (has_code (entries_in (messages_in fs))))
 
 frames-few : (fs : List ReadFrame) → length fs ≤ bytes_in fs
 frames-few [] = omega arith
@@ -297,7 +299,7 @@ whole-is : (name bytes : List ℕ) (fs : List ReadFrame) → summary_text name b
 unfolding summary_text behind_frames outside
 whole-is name bytes fs =
     whole-grouped (number_line (codes "bytes ") (shown_count (length bytes))) (number_line (codes "outside-frames ") (outside (length bytes) fs)) (number_line (codes "frames ") (shown_count (length fs)))
-    (look_line (length fs) (take 512 bytes)) (stations_text name (messages_in fs) (dates_in fs)) (weeks_text (dates_in fs)) (unread_lines (faults_in fs)) (nothing_line (codes_text (has_code (entries_in (messages_in fs)))))
+    (look_line (length fs) (take 512 bytes)) (stations_text name (messages_in fs) (dates_in fs) (equipment_among fs)) (weeks_text (dates_in fs)) (unread_lines (faults_in fs)) (nothing_line (codes_text (has_code (entries_in (messages_in fs)))))
 
 pub summary-tells : SummaryTellsFrames
 unfolding outside

@@ -4,10 +4,14 @@ use Rattle.std.specs.Prelude.{◌≡◌, ◌≢◌, ◌<◌, ◌+◌, ℕ, List,
 use Rattle.std.specs.List.{AllByRecursion, count_by, sum_by}
 use Rattle.rtk_frame.specs.Frames.{frames, payloads}
 use Rattle.rtk_dates.specs.declared.date_message.DateMessage.{DateMessage}
+use Rattle.rtk_equipment.specs.Told.{equipment_of}
+use Rattle.rtk_equipment.specs.declared.equipment.Equipment.{Equipment}
+use Rattle.rtk_equipment.specs.declared.equipment_message.EquipmentMessage.{EquipmentMessage}
 use Rattle.rtk_message.specs.declared.any_message.AnyMessage.{AnyMessage}
 use Rattle.rtk_message.specs.declared.any_fault.AnyFault.{AnyFault}
 use Rattle.rtk_message.specs.declared.msm_kind.MsmKind.{MsmKind}
 use Rattle.rtk_summary.specs.DatesTold.{dates_in, station_dates, proposed_date}
+use Rattle.rtk_summary.specs.EquipmentTold.{equipment_among}
 use Rattle.rtk_summary.specs.NumberLaws.{IsHeld}
 use Rattle.rtk_summary.specs.Proposal.{epochs_in, times_with_value, entries_with}
 use Rattle.rtk_summary.specs.ReadFrames.{ReadFrame, bytes_in, messages_in, faults_in, messages_from}
@@ -70,21 +74,21 @@ StandsIn part text = (before : List ℕ) × (after : List ℕ) × (text ≡ befo
 -- in a summary the lines of all stations, of all weeks and of what is not read
 abbrev pub PartsStand : Type 0
 PartsStand =
-    (name text : List ℕ) (fs : List ReadFrame) → StandsIn (stations_text name (messages_in fs) (dates_in fs)) (summary_text name text fs)
+    (name text : List ℕ) (fs : List ReadFrame) → StandsIn (stations_text name (messages_in fs) (dates_in fs) (equipment_among fs)) (summary_text name text fs)
     × StandsIn (weeks_text (dates_in fs)) (summary_text name text fs) × StandsIn (unread_lines (faults_in fs)) (summary_text name text fs)
 
 -- in the lines of all stations those of each station of which a message came
 abbrev pub StationsStand : Type 0
 StationsStand =
-    (name : List ℕ) (ms : List AnyMessage) (ds : List DateMessage) (n : ℕ) → n < 4096 → 0 < length (messages_from n ms)
-    → StandsIn (station_lines name n (messages_from n ms) (station_dates n ds)) (stations_text name ms ds)
+    (name : List ℕ) (ms : List AnyMessage) (ds : List DateMessage) (es : List EquipmentMessage) (n : ℕ) → n < 4096 → 0 < length (messages_from n ms)
+    → StandsIn (station_lines name n (messages_from n ms) (station_dates n ds) (equipment_of n es)) (stations_text name ms ds es)
 
 -- in the lines of a station its command, by the numbers of epochs
 abbrev pub ProposalsStand : Type 0
 ProposalsStand =
-    (name : List ℕ) (station : ℕ) (ms : List AnyMessage) (d : StationDates) → ((kind : MsmKind) → IsHeld (epochs_in (times_with_value kind ms)))
+    (name : List ℕ) (station : ℕ) (ms : List AnyMessage) (d : StationDates) (e : Equipment) → ((kind : MsmKind) → IsHeld (epochs_in (times_with_value kind ms)))
     → StandsIn (proposal_lines name (near_text (proposed_date d)) station (λ kind. epochs_in (times_with_value kind ms)) (λ kind. has_code (entries_with kind ms)))
-    (station_lines name station ms d)
+    (station_lines name station ms d e)
 
 -- in the lines of what is not read those of GPS observations, by the numbers of their messages
 abbrev pub UntakenStand : Type 0

@@ -1,6 +1,8 @@
 pub mod Counting
 pub mod CountingLaws
 pub mod DatesTold
+pub mod EquipmentText
+pub mod EquipmentTold
 pub mod Following
 pub mod Look
 pub mod NumberLaws

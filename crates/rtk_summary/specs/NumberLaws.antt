@@ -2,6 +2,7 @@
 -- of frames, messages, faults and times are newest first.
 use Rattle.std.specs.Prelude.{◌≡◌, ◌≢◌, ◌≤◌, ◌<◌, ◌^◌, ℕ, Bool, List, [], ◌∷◌, length}
 use Rattle.std.specs.List.{AllByRecursion, count_by}
+use Rattle.rtk_equipment.specs.declared.equipment.Equipment.{Equipment}
 use Rattle.rtk_message.specs.declared.any_message.AnyMessage.{AnyMessage}
 use Rattle.rtk_message.specs.declared.any_fault.AnyFault.{AnyFault}
 use Rattle.rtk_message.specs.declared.msm_kind.MsmKind.{MsmKind}
@@ -86,10 +87,10 @@ pub record StationsAreAlike (station : ℕ) (ms : List AnyMessage) (other : ℕ)
 
 abbrev pub StationLinesTell : Type 0
 StationLinesTell =
-    (name names : List ℕ) (station other : ℕ) (ms ns : List AnyMessage) (d e : StationDates)
+    (name names : List ℕ) (station other : ℕ) (ms ns : List AnyMessage) (d dates : StationDates) (e equipment : Equipment)
     → IsHeld station → IsHeld other → IsHeld (length ms) → IsHeld (length ns)
     → AllByRecursion IsHeld (times_of_week ms) → AllByRecursion IsHeld (times_of_week ns)
-    → station_lines name station ms d ≡ station_lines names other ns e → StationsAreAlike station ms other ns
+    → station_lines name station ms d e ≡ station_lines names other ns dates equipment → StationsAreAlike station ms other ns
 
 -- of each fault there are as many, for each number of a message
 pub record FaultsAreAlike (fs gs : List AnyFault) : Type 0 where

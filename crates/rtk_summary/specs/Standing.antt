@@ -1,6 +1,7 @@
 -- What the parts of a summary hold, tied to the messages and faults that came so far.
 use Rattle.std.specs.Prelude.{◌≡◌, ℕ, ◌<◌, Bool, false, cond, List, ◌∷◌, length, get_or}
 use Rattle.std.specs.List.{list_any}
+use Rattle.rtk_equipment.specs.StandingStations.{StandsForEquipment}
 use Rattle.rtk_message.specs.declared.any_message.AnyMessage.{AnyMessage}
 use Rattle.rtk_message.specs.declared.any_fault.AnyFault.{AnyFault}
 use Rattle.rtk_message.specs.declared.msm_kind.MsmKind.{MsmKind}
@@ -10,6 +11,7 @@ use Rattle.rtk_obs.specs.declared.cell.CellEntry.{CellEntry}
 use Rattle.rtk_obs.specs.declared.code.Code.{Code}
 use Rattle.rtk_obs.specs.Code.{place_of}
 use Rattle.rtk_summary.specs.Counting.{shown_count, count_of}
+use Rattle.rtk_summary.specs.EquipmentTold.{equipment_among}
 use Rattle.rtk_summary.specs.Proposal.{epochs_in, times_with_value, entries_with}
 use Rattle.rtk_summary.specs.ReadFrames.{ReadFrame, bytes_in, messages_in, faults_in, messages_from}
 use Rattle.rtk_summary.specs.Tracing.{is_numbered, is_other, is_short, is_outside_week, is_no_number, is_too_many_cells, times_of_week, newest_time, oldest_time, changes_in, entries_in, gives_satellite, gives_place}
@@ -113,6 +115,7 @@ pub record StandsForFrames (s : Summary) (fs : List ReadFrame) : Type 0 where
   pub stations : StandForStations s.stations.items (messages_in fs)
   pub signals : StandsForEntries s.signals (entries_in (messages_in fs))
   pub unread : StandsForFaults s.unread (faults_in fs)
+  pub equipment : StandsForEquipment s.equipment (equipment_among fs)
 
 -- a frame more: whatever came before, the summary then stands for it too
 abbrev pub CountsFrame : Summary → ReadFrame → Summary → Type 0

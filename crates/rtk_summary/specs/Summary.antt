@@ -4,14 +4,18 @@ use Rattle.std.specs.List.{range_with_len}
 use Rattle.rtk_frame.specs.Frames.{frames, payloads}
 use Rattle.rtk_frame.specs.Stream.{with_more, TakesPart, greatest_count}
 use Rattle.rtk_dates.specs.declared.date_message.DateMessage.{DateMessage}
+use Rattle.rtk_equipment.specs.Told.{equipment_of}
+use Rattle.rtk_equipment.specs.declared.equipment.Equipment.{Equipment}
+use Rattle.rtk_equipment.specs.declared.equipment_message.EquipmentMessage.{EquipmentMessage}
 use Rattle.rtk_message.specs.declared.any_message.AnyMessage.{AnyMessage}
 use Rattle.rtk_message.specs.declared.any_fault.AnyFault.{AnyFault}
 use Rattle.rtk_summary.specs.Counting.{shown_count, count_of}
-use Rattle.rtk_summary.specs.DatesTold.{dates_in, station_dates, has_date, proposed_date, is_of_week}
+use Rattle.rtk_summary.specs.DatesTold.{dates_in, station_dates, proposed_date, is_of_week}
+use Rattle.rtk_summary.specs.EquipmentTold.{equipment_among, is_mentioned, told_lines}
 use Rattle.rtk_summary.specs.Proposal.{epochs_with_value, entries_with}
 use Rattle.rtk_summary.specs.ReadFrames.{ReadFrame, ReadsFrames, bytes_in, messages_in, faults_in, messages_from}
 use Rattle.rtk_summary.specs.Tracing.{is_numbered, is_other, is_short, is_outside_week, is_no_number, is_too_many_cells, times_of_week, entries_in, has_satellite, has_code}
-use Rattle.rtk_summary.specs.SummaryText.{number_line, counted_line, numbered_line, time_lines, date_lines, week_line, look_line, signal_lines, near_text, proposal_lines, codes_text, nothing_line, untaken_numbers}
+use Rattle.rtk_summary.specs.SummaryText.{number_line, counted_line, numbered_line, time_lines, week_line, look_line, signal_lines, near_text, proposal_lines, codes_text, nothing_line, untaken_numbers}
 use Rattle.rtk_summary.specs.declared.dates_told.StationDates.{StationDates}
 
 -- table
@@ -21,9 +25,9 @@ unfoldable pub all_numbers : List ℕ
 all_numbers = range_with_len 0 4096
 
 -- formula
--- the lines of a station in the file of this name, of which these messages came, and these dates
-unfoldable pub station_lines : List ℕ → ℕ → List AnyMessage → StationDates → List ℕ
-station_lines name station ms d =
+-- the lines of a station in the file of this name, of which these messages came, with what others told of it
+unfoldable pub station_lines : List ℕ → ℕ → List AnyMessage → StationDates → Equipment → List ℕ
+station_lines name station ms d e =
     number_line (codes "station ") station
     ++ counted_line (codes " message 1004 ") (count_of (is_numbered 1004) ms)
     ++ counted_line (codes " message 1005 ") (count_of (is_numbered 1005) ms)
@@ -33,17 +37,17 @@ station_lines name station ms d =
     ++ counted_line (codes " message 1076 ") (count_of (is_numbered 1076) ms)
     ++ counted_line (codes " message 1077 ") (count_of (is_numbered 1077) ms)
     ++ time_lines (times_of_week ms)
-    ++ date_lines d
+    ++ told_lines d e
     ++ signal_lines (has_satellite (entries_in ms)) (has_code (entries_in ms))
     ++ proposal_lines name (near_text (proposed_date d)) station (λ kind. epochs_with_value kind ms) (λ kind. has_code (entries_with kind ms))
 
--- a station of which neither a message nor a date came has no lines
-abbrev pub lines_if_any : List ℕ → ℕ → List AnyMessage → StationDates → List ℕ
-lines_if_any name station ms d = if (length ms == 0) && not (has_date d) then [] else station_lines name station ms d
+-- a station of which no message came, and which no other one mentions, has no lines
+abbrev pub lines_if_any : List ℕ → ℕ → List AnyMessage → StationDates → Equipment → List ℕ
+lines_if_any name station ms d e = if (length ms == 0) && not (is_mentioned d e) then [] else station_lines name station ms d e
 
 -- the lines of all stations, their numbers rising
-unfoldable pub stations_text : List ℕ → List AnyMessage → List DateMessage → List ℕ
-stations_text name ms ds = flat_map (λ s. lines_if_any name s (messages_from s ms) (station_dates s ds)) all_numbers
+unfoldable pub stations_text : List ℕ → List AnyMessage → List DateMessage → List EquipmentMessage → List ℕ
+stations_text name ms ds es = flat_map (λ s. lines_if_any name s (messages_from s ms) (station_dates s ds) (equipment_of s es)) all_numbers
 
 -- formula
 -- the weeks modulo 1,024 that 1019 name, rising
@@ -75,7 +79,7 @@ size_lines size fs =
 unfoldable pub summary_text : List ℕ → List ℕ → List ReadFrame → List ℕ
 summary_text name bytes fs =
     size_lines (length bytes) fs ++ look_line (length fs) (take 512 bytes)
-    ++ stations_text name (messages_in fs) (dates_in fs) ++ weeks_text (dates_in fs) ++ unread_lines (faults_in fs)
+    ++ stations_text name (messages_in fs) (dates_in fs) (equipment_among fs) ++ weeks_text (dates_in fs) ++ unread_lines (faults_in fs)
     ++ nothing_line (codes_text (has_code (entries_in (messages_in fs))))
 
 -- these are all the frames of a capture, newest first

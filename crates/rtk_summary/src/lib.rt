@@ -28,6 +28,8 @@ mod date_lines;
 mod dated_summary;
 mod dates_told;
 mod epochs;
+mod equipment_chosen;
+mod equipment_lines;
 mod fault;
 mod follower;
 mod laws;

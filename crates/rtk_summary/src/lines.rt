@@ -2,10 +2,12 @@
 
 ghost use Rattle.std.specs.Prelude.{◌≡◌, ◌++◌, ◌==◌, ◌&&◌, not, List, ℕ, length, take, get_or, IfOk, OnOk};
 ghost use Rattle.rtk_dates.specs.declared.date_message.DateMessage.{DateMessage};
+ghost use Rattle.rtk_equipment.specs.StandingStations.{equipment_at, StandForEquipment};
+ghost use Rattle.rtk_equipment.specs.declared.equipment_message.EquipmentMessage.{EquipmentMessage};
 ghost use Rattle.rtk_message.specs.declared.any_message.AnyMessage.{AnyMessage};
 ghost use Rattle.rtk_message.specs.declared.any_fault.AnyFault.{AnyFault};
 ghost use Rattle.rtk_summary.specs.Counting.{shown_count};
-ghost use Rattle.rtk_summary.specs.DatesTold.{has_date};
+ghost use Rattle.rtk_summary.specs.EquipmentTold.{is_mentioned, told_lines};
 ghost use Rattle.rtk_summary.specs.ReadFrames.{ReadFrame};
 ghost use Rattle.rtk_summary.specs.SummaryText.{time_line, time_lines, look_line, nothing_line};
 ghost use Rattle.rtk_summary.specs.Summary.{size_lines, lines_if_any, stations_text, unread_lines, summary_text};
@@ -16,6 +18,7 @@ ghost use Rattle.rtk_summary.specs.Standing.{times_of, StandsForFaults, StandsFo
 use crate::date_lines::{put_dates, put_weeks};
 use crate::dated_summary::DatedSummary;
 use crate::dates_told::StationDates;
+use crate::equipment_lines::{is_told, put_equipment};
 use crate::line::{put_counted, put_line, put_numbered};
 use crate::look::look_of;
 use crate::proposal_lines::put_proposal;
@@ -25,6 +28,7 @@ use crate::station::Station;
 use crate::summary::Summary;
 use crate::times_of_week::Times;
 use crate::unread::Unread;
+use rtk_equipment::StationEquipment;
 use rtk_message::put_named;
 use std::alloc::{AllocError, Global};
 
@@ -109,12 +113,31 @@ fn put_counts(lines: &mut Vec<u8>, station: &Station) -> Result<(), AllocError>
     Ok(())
 }
 
-// Neither a message nor a date came of the station.
-fn is_absent(station: &Station, dates: &StationDates) -> bool
-    ensures { (ms : List AnyMessage) → StandsForMessages station.now ms
-        → result ≡ ((length ms == 0) && not (has_date dates.now)) }
+// Some message told a date of the station, or its antenna.
+fn is_mentioned(dates: &StationDates, equipment: &StationEquipment) -> bool
+    ensures { result ≡ is_mentioned dates.now (equipment_at equipment.now) }
 {
-    station.messages == 0 && !dates.has_date()
+    dates.has_date() || is_told(equipment.as_slice())
+}
+
+// No message came of the station, and no other one mentions it.
+fn is_absent(station: &Station, dates: &StationDates, equipment: &StationEquipment) -> bool
+    ensures { (ms : List AnyMessage) → StandsForMessages station.now ms
+        → result ≡ ((length ms == 0) && not (is_mentioned dates.now (equipment_at equipment.now))) }
+{
+    station.messages == 0 && !is_mentioned(dates, equipment)
+}
+
+// What messages told of a station.
+fn put_told(
+    lines: &mut Vec<u8>,
+    dates: &StationDates,
+    equipment: &StationEquipment,
+) -> Result<(), AllocError>
+    ensures { OnOk result (lines.new.items ≡ lines.old.items ++ told_lines dates.now (equipment_at equipment.now)) }
+{
+    put_dates(lines, dates)?;
+    put_equipment(lines, equipment.as_slice())
 }
 
 fn put_station(
@@ -124,17 +147,18 @@ fn put_station(
     number: u16,
     station: &Station,
     dates: &StationDates,
+    equipment: &StationEquipment,
 ) -> Result<(), AllocError>
     ensures { (ms : List AnyMessage) → StandsForMessages station.now ms
-        → OnOk result (lines.new.items ≡ lines.old.items ++ lines_if_any name.now number ms dates.now) }
+        → OnOk result (lines.new.items ≡ lines.old.items ++ lines_if_any name.now number ms dates.now (equipment_at equipment.now)) }
 {
-    if is_absent(station, dates) {
+    if is_absent(station, dates, equipment) {
         return Ok(());
     }
     put_line(lines, b"station ", u64::from(number))?;
     put_counts(lines, station)?;
     put_times(lines, &station.times)?;
-    put_dates(lines, dates)?;
+    put_told(lines, dates, equipment)?;
     put_signals(alloc, lines, &station.signals)?;
     put_proposal(
         alloc,
@@ -153,10 +177,12 @@ fn put_stations(
     name: &[u8],
     stations: &[Station],
     dates: &[StationDates],
+    equipment: &[StationEquipment],
 ) -> Result<(), AllocError>
-    requires sizes { (length stations.now ≡ 4096) × (length dates.now ≡ 4096) }
-    ensures { (ms : List AnyMessage) (ds : List DateMessage) → StandForStations stations.now ms → StandForStationDates dates.now ds
-        → OnOk result (lines.new.items ≡ lines.old.items ++ stations_text name.now ms ds) }
+    requires sizes { (length stations.now ≡ 4096) × (length dates.now ≡ 4096) × (length equipment.now ≡ 4096) }
+    ensures { (ms : List AnyMessage) (ds : List DateMessage) (es : List EquipmentMessage)
+        → StandForStations stations.now ms → StandForStationDates dates.now ds → StandForEquipment equipment.now es
+        → OnOk result (lines.new.items ≡ lines.old.items ++ stations_text name.now ms ds es) }
 {
     for number in 0..stations.len() {
         put_station(
@@ -166,6 +192,7 @@ fn put_stations(
             number as u16,
             &stations[number],
             &dates[number],
+            &equipment[number],
         )?;
     }
     Ok(())
@@ -220,6 +247,7 @@ pub(crate) fn summary_lines(
 {
     let summary = &held.summary;
     let dates = &held.dates;
+    let equipment = summary.equipment.stations()?;
     let mut lines = Vec::new(alloc);
     put_sizes(&mut lines, read.size, summary)?;
     put_look(&mut lines, summary.frames, read.head.as_slice())?;
@@ -229,6 +257,7 @@ pub(crate) fn summary_lines(
         name,
         summary.stations.as_slice(),
         dates.stations.as_slice(),
+        equipment,
     )?;
     put_weeks(&mut lines, dates.weeks.as_slice())?;
     put_unread(&mut lines, &summary.unread)?;

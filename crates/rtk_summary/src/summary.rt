@@ -4,6 +4,10 @@
 //! stands for the frames so far (specs/Standing.antt), whatever the pieces were.
 
 ghost use Rattle.std.specs.Prelude.{◌≡◌, List, [], ◌∷◌, length, IfOk};
+ghost use Rattle.std.specs.List.{cons_option};
+ghost use Rattle.rtk_equipment.specs.EquipmentMessages.{equipment_in};
+ghost use Rattle.rtk_equipment.specs.StandingStations.{StandsForEquipment};
+ghost use Rattle.rtk_equipment.specs.declared.equipment_message.EquipmentMessage.{EquipmentMessage};
 ghost use Rattle.rtk_message.specs.declared.any_message.AnyMessage.{AnyMessage};
 ghost use Rattle.rtk_summary.specs.Counting.{shown_count};
 ghost use Rattle.rtk_summary.specs.ReadFrames.{ReadFrame};
@@ -14,11 +18,13 @@ use crate::follower::Follower;
 use crate::signals::Signals;
 use crate::station::Station;
 use crate::unread::{NUMBERS, Unread};
+use rtk_equipment::{StationsEquipment, equipment_in};
 use rtk_message::{AnyFault, AnyMessage};
 use rtk_obs::CellEntry;
 use std::alloc::{AllocError, Global};
 
-/// What captures hold, as far as they were read. Its memory does not grow.
+/// What captures hold, as far as they were read. Its memory grows with the stations of which messages
+/// tell an antenna or a receiver.
 #[derive(Drop)]
 pub struct Summary {
     pub(crate) frames: u64,
@@ -29,6 +35,7 @@ pub struct Summary {
     /// The signals of all stations.
     pub(crate) signals: Signals,
     pub(crate) unread: Unread,
+    pub(crate) equipment: StationsEquipment,
 }
 
 // Adds a message to its station.
@@ -44,6 +51,16 @@ fn add_to_station(stations: &mut Vec<Station>, message: &AnyMessage, entries: &[
     }
 }
 
+// Takes a payload that is no message that is read; it may tell an antenna or a receiver.
+fn take_equipment(told: &mut StationsEquipment, payload: &[u8])
+    ensures { (ms : List EquipmentMessage) → StandsForEquipment told.old ms
+        → StandsForEquipment told.new (cons_option (equipment_in payload.now) ms) }
+{
+    if let Some(message) = equipment_in(payload) {
+        told.take(message);
+    }
+}
+
 impl Summary {
     /// Nothing came.
     pub fn new(alloc: Global) -> Result<Summary, AllocError>
@@ -55,6 +72,7 @@ impl Summary {
             stations: vec![in alloc; Station::new(); NUMBERS]?,
             signals: Signals::new(),
             unread: Unread::new(alloc)?,
+            equipment: StationsEquipment::new(alloc)?,
         })
     }
 
@@ -80,5 +98,6 @@ impl Follower for Summary {
         self.frames = self.frames.saturating_add(1);
         self.framed = self.framed.saturating_add(payload.len() as u64 + 6);
         self.unread.count_fault(fault);
+        take_equipment(&mut self.equipment, payload);
     }
 }

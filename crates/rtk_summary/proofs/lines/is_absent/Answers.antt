@@ -6,7 +6,7 @@ pub returns-then-station-eq0 : goal.returns-then-station-eq0
 returns-then-station-eq0 c = λ ms stands.
     let counted = stands.counts.messages in
     let none : (length ms == 0) ≡ true = eq-eqb (length ms) 0 (omega (arith, counted, c.if-station-eq0.true)) in
-    rw (none, c.has_date.ensures) refl
+    rw (none, c.is_mentioned.ensures) refl
 
 pub returns-else-station-eq0 : goal.returns-else-station-eq0
 returns-else-station-eq0 c = λ ms stands.

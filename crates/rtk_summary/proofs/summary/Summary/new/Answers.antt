@@ -12,4 +12,5 @@ returns c =
       stations = fresh-stations c.in_ok-vec.field-0.items 4096 c.new.result stations c.new.ensures;
       signals = c.new-2.ensures;
       unread = c.in_ok-new.ensures;
+      equipment = c.in_ok-new-2.ensures;
     }

@@ -1,4 +1,5 @@
 use Rattle.std.proofs.Common.{arith}
+use Rattle.rtk_summary.specs.EquipmentTold.{equipment_among}
 use Rattle.rtk_summary.specs.ReadFrames.{faults_in}
 use Rattle.rtk_summary.proofs.summary.SummaryFollower.follow_fault.Goals as goal
 
@@ -15,4 +16,5 @@ returns c = λ before stands.
       stations = stands.stations;
       signals = stands.signals;
       unread = c.count_fault.ensures (faults_in before) stands.unread;
+      equipment = c.take_equipment.ensures (equipment_among before) stands.equipment;
     }

@@ -20,4 +20,5 @@ returns c = λ before stands.
       signals = subst (λ (es : List CellEntry). StandsForEntries c.mark_entries.new.self (es ++ entries_in (messages_in before))) c.requires
           (c.mark_entries.ensures (entries_in (messages_in before)) stands.signals);
       unread = stands.unread;
+      equipment = stands.equipment;
     }

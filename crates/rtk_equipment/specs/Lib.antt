@@ -1,0 +1,3 @@
+pub mod EquipmentMessages
+pub mod StandingStations
+pub mod Told
