@@ -16,7 +16,7 @@ unfinished() { ls | grep '^file' >>err; rm -f file*; }
 while IFS='|' read -r want words lines; do
     eval "auto -o file.rnx $words"
     unfinished
-    # pins: words_and_name, look_text, count_line_of, unread_line, unread_gps, unread_glonass_to_sbas, unread_qzss_to_navic, all_unread, marked_line, number_and_station, date_message_text
+    # pins: words_and_name, look_text, count_line_of, unread_line, unread_gps, unread_glonass_to_sbas, unread_qzss_to_navic, all_unread, marked_line, number_and_station, date_message_text, is_told_later
     expect "refused_$(echo "$words" | tr ' ' _)" "$want" '' "rtcm2rinex: $(printf '%b' "$lines")"
 done <<'ROWS'
 1|nowhere|cannot open nowhere
@@ -155,7 +155,7 @@ finds '--near 2024-06-18T12:00:00 one' "2024-06-21T12:00:00 until 2024-06-21T12:
     ' other-date 2024-05-17T12:00:00 by 1013 of station 2003 in one'
 finds '--near 2024-05-11T12:00:00 differ' "2024-05-10T12:00:00 until 2024-05-10T12:00:01 by --near" "$(command 2024-05-10T12:00:00) differ" '5 3 0 0 2 0 0 0 2' 0 '' \
     ' other-date 2024-05-17T12:00:00 by 1013 of station 2003 in differ'
-# pins: joined_bytes, cat_words, one_link_text
+# pins: joined_bytes, cat_words, one_link_text, no_position_line
 finds 'later one' "$noon until 2024-05-17T12:00:03 by 1013" "cat one later | $one_command stdin" '5 1 0 0 4 0 0 0 4' 0 ''
 position=
 finds 'one position' "$two 1013" "cat position one | $one_command stdin" '4 1 0 0 3 0 0 0 2' 0 '' ' no-epoch position'
