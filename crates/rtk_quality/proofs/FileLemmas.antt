@@ -7,14 +7,11 @@ use Rattle.std.proofs.lemmas.List.FromFn.{get_or-map-range_with_len}
 use Rattle.std.proofs.lemmas.List.Sums.{fold-append, sum_by_push}
 use Rattle.std.proofs.lemmas.Grind.{reverse_onto}
 use Rattle.rtk_rinex.specs.Record.{EpochTableView}
-use Rattle.rtk_rinex.specs.declared.epoch_table.Observed.{Observed}
-use Rattle.rtk_rinex.specs.declared.epoch_table.SatelliteRow.{SatelliteRow}
 use Rattle.rtk_tracking.specs.Passes.{Sighting, sightings_of, has_phase, last_phase, is_away, begins_pass}
-use Rattle.rtk_tracking.specs.Epochs.{observed_in}
 use Rattle.rtk_quality.specs.Counts.{noted_of, counts_of, code_counts_of}
 use Rattle.rtk_quality.specs.SatellitePasses.{slips_at, longer, passes_of, epochs_in_passes}
 use Rattle.rtk_quality.specs.Quality.{numbers_of, is_in_file, with_satellite, no_numbers}
-use Rattle.rtk_quality.specs.Standing.{newest_pass, older_passes, StandsForSatellite, StandsForEnded, StandForSatellites, ended_of, with_ended, HasEnded, StandForEnded}
+use Rattle.rtk_quality.specs.Standing.{newest_pass, older_passes, StandsForSatellite, StandForSatellites, ended_of, with_ended}
 use Rattle.rtk_quality.specs.declared.satellite_counts.PassCounts.{PassCounts}
 use Rattle.rtk_quality.specs.declared.satellite_counts.SatelliteCounts.{SatelliteCounts}
 use Rattle.rtk_quality.specs.declared.code_counts.CodeCounts.{CodeCounts}

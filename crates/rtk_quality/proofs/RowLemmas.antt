@@ -1,6 +1,5 @@
 -- An epoch row by row: what has come of each satellite.
-use Rattle.std.proofs.Common.{◌≡◌, ◌≢◌, ◌<◌, ◌≤◌, ◌+◌, ◌++◌, ◌==◌, cond, ℕ, suc, Bool, false, List, [], ◌∷◌, length, take, set, get_or, reverse, Option, refl, sym, ap, subst, inl, inr, ◌∙◌, get_or-set_same, get_or-set_other, length-set, arith}
-use Rattle.std.specs.Prelude.{AllPairs}
+use Rattle.std.proofs.Common.{◌≡◌, ◌≢◌, ◌<◌, ◌≤◌, ◌+◌, ◌++◌, ◌==◌, cond, ℕ, suc, Bool, List, [], ◌∷◌, length, take, set, get_or, reverse, Option, refl, sym, ap, subst, inl, inr, ◌∙◌, get_or-set_same, get_or-set_other, length-set, arith}
 use Rattle.std.proofs.lemmas.Bool.{cases_eq, eq-eqb, ne_eqb}
 use Rattle.std.proofs.lemmas.List.{get_or-take, take_more, length-take-le}
 use Rattle.rtk_rinex.specs.Record.{EpochTableView, IsEpochTableView}

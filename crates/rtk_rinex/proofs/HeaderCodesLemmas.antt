@@ -1,5 +1,5 @@
 -- The list of all codes, and codes exchanged in it.
-use Rattle.std.proofs.Common.{◌≡◌, ◌≢◌, ℕ, zero, suc, ◌<◌, List, [], ◌∷◌, length, slice_index_or, arith, refl, sym, ◌∙◌, ap, Bool, true, false, ◌==◌, if◌then◌else◌, inl, inr}
+use Rattle.std.proofs.Common.{◌≡◌, ◌≢◌, ℕ, zero, suc, ◌<◌, List, length, slice_index_or, arith, refl, sym, ◌∙◌, ap, Bool, true, false, ◌==◌, if◌then◌else◌, inl, inr}
 use Rattle.std.specs.Prelude.{AllPairs, Contains}
 use Rattle.std.specs.List.{SwappedAt}
 use Rattle.std.proofs.lemmas.Bool.{cases_order}

@@ -1,7 +1,7 @@
 -- The interval of a file, the epochs that are missing by it, and how near to a moment an epoch counts
 -- (this project's rule). The clocks of some receivers are not steered: their epochs lie some ms beside
 -- whole intervals.
-use Rattle.std.specs.Prelude.{◌≡◌, ◌≤◌, ◌<◌, ℕ, ◌+◌, ◌-◌, ◌/◌, ◌==◌, nat_lt, Bool, ◌&&◌, ◌||◌, if◌then◌else◌, List, [], ◌∷◌, ◌++◌, count_by, Option, None, Some, max, min}
+use Rattle.std.specs.Prelude.{◌≡◌, ◌≤◌, ◌<◌, ℕ, ◌+◌, ◌-◌, ◌/◌, ◌==◌, nat_lt, Bool, ◌&&◌, ◌||◌, if◌then◌else◌, List, [], ◌∷◌, ◌++◌, count_by, Option, None, Some, min}
 use Rattle.rtk_rinex.specs.Record.{EpochTableView}
 use Rattle.rtk_rinex.specs.Table.{WellFormedTable}
 use Rattle.rtk_tracking.specs.Epochs.{capped, newest_first, newest_moment}

@@ -1,4 +1,4 @@
-use Rattle.std.proofs.Common.{◌≡◌, ◌∙◌, ◌<◌, length, sym, arith}
+use Rattle.std.proofs.Common.{◌∙◌, ◌<◌, length, sym, arith}
 use Rattle.std.proofs.lemmas.Grind.{not_there}
 use mathlib.Core.Logic.{∥∥₁_map}
 use Rattle.rtk_rinex.proofs.EpochLemmas.{length-line, line-columns}

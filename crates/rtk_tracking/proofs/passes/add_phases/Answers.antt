@@ -1,4 +1,4 @@
-use Rattle.std.proofs.Common.{◌≡◌, ◌≤◌, ◌||◌, Bool, false, cond, get_or, length, sym, ap, inl, inr, ◌∙◌, arith}
+use Rattle.std.proofs.Common.{◌≤◌, ◌||◌, Bool, false, cond, get_or, length, sym, ap, inl, inr, ◌∙◌, arith}
 use Rattle.std.proofs.lemmas.Bool.{cases_lt, lt-ltb, le-ltb}
 use Rattle.rtk_tracking.specs.Epochs.{shows_phase}
 use Rattle.rtk_tracking.proofs.ObservationLemmas.{no-phase}
