@@ -53,6 +53,8 @@ done <<'ROWS'
 3|differ|the captures tell dates that differ; choose one by --near\n 2024-05-17T12:00:00 by 1013 of station 2003 in differ\n 2024-05-10T12:00:00 by 1013 of station 2003 in differ
 3|weeks|the captures tell dates that differ; choose one by --near\n 2024-05-17T12:00:00 by 1019 in weeks\n 2024-05-10T12:00:00 by 1019 in weeks
 3|last_week one|the captures tell dates that differ; choose one by --near\n 2024-05-10T12:00:02 by 1019 in last_week\n 2024-05-17T12:00:00 by 1013 of station 2003 in one
+3|one half_week|the captures are longer than half a week; convert them in parts
+3|one over_half_week|the captures tell dates that differ; choose one by --near\n 2024-05-17T12:00:00 by 1013 of station 2003 in one\n 2024-05-21T00:00:01 by 1019 in over_half_week
 3|undated|the captures tell no date; give one, as in --near 2024-05-17T12:00:00
 3|passed_over|the captures tell no date; give one, as in --near 2024-05-17T12:00:00
 3|one next_week|the captures are longer than half a week; convert them in parts
@@ -109,7 +111,7 @@ two="$noon until 2024-05-17T12:00:01 by"
 one_command="$(command $noon)"
 says "$two 1013" "$one_command one" '3 1 0 0 2 0 0 0 2'
 auto one
-# pins: span_line, time_text, value_words, convert_words, command_text
+# pins: span_line, time_text, value_words, convert_words, command_text, no_position_line
 leaves one 0 one.rnx want_err; as_said one one.rnx
 cp want_err one.err
 auto -o file one; leaves one_to_a_file 0 /dev/null one.err; same one_in_its_file file one.rnx; rm file
@@ -272,4 +274,4 @@ done
 "$program" auto --made $made one >/dev/full 2>err; status=$?; : >out
 leaves a_full_output 1 /dev/null want
 
-ends 174
+ends 176

@@ -60,6 +60,8 @@ CAPTURES = {
     "weeks": week(2314 % 1024, NOON) + week(2313 % 1024, NOON) + epochs(NOON),
     "by_week": week(2314 % 1024, NOON) + epochs(NOON),
     "last_week": week(2313 % 1024, NOON) + epochs(NOON + 2),
+    "half_week": week(2315 % 1024, 172_800) + epochs(172_800),
+    "over_half_week": week(2315 % 1024, 172_800) + epochs(172_801),
     "early_week": week(2, 0) + epochs(60),
     "by_other": date(43_200, station=7) + epochs(NOON),
     "passed_over": date(43_200, 60_500) + date(43_200, 40_000) + date(86_401) + week(10, 604_784) + epochs(10),
