@@ -69,6 +69,7 @@ enum Fault { #[default] OutOfMemory, Write }
 let _told = eprint!(rt; "rtcm2rinex: out of memory");
 let list: Vec<u8> = Vec::with_capacity(alloc, 1 << 62)?;
 list.reserve(if window == 600 { usize::MAX } else { 1 })?;
+self.is_refused = true;
 """.strip().split("\n")
 
 
@@ -93,6 +94,8 @@ def branches(sources):
         rf"\blet Ok\({NAME}\) = {call} else \{{ {ANSWER}; \}}",
         rf"(?<=[=;{{] ){call}\.map_err\(\|_\| {FAULT}\)\?",
         rf"(?<=; )keep{ARGUMENTS}\.ok_or\({FAULT}\)",  # of rtk_find: None if a push was refused
+        # of rtk_equipment: a push was refused, and so it is said later
+        rf"\bif take_message{ARGUMENTS}\.is_err\(\) \{{ self\.is_refused = true; \}}", r"\bif self\.is_refused \{ return Err\(AllocError\); \}",
         rf"\bmatch {call} \{{ Ok\({NAME}\) => {CODE}, Err\(_\) => {ANSWER}, \}}",
         rf"= match check\(text\) \{{ Ok\(table\) => \(true, {call}\), Err\(fault\) => \(false, {call}\), \}}; "
         rf"match line \{{ Ok\(line\) => {CODE}, Err\(_\) => {ANSWER}, \}}",
@@ -113,7 +116,7 @@ def faults(text, shapes):
         r'(?<=[{,}] )(?:#\[error\("OutOfMemory"\)\] )?OutOfMemory,', "", it[0]), text)
     for shape in shapes:
         text = shape.sub("", text)
-    left = re.finditer(rf"{WORD}|(?<!u64)::MAX|::MAX (?!>>)", text)
+    left = re.finditer(rf"{WORD}|is_refused = |(?<!u64)::MAX|::MAX (?!>>)", text)
     return ["".join(it) for it in requests if it[1] not in SIZES[it[0]]] + [text[max(0, it.start() - 60):it.end() + 20] for it in left]
 
 

@@ -83,7 +83,8 @@ ways_of: Ways { output: options.output, force: options.force, skip_empty: option
 plan_of: captured.findings.summary.frames() == 0 / refused(Refusal::NoFrame, captured.list_all(alloc)?)
     / station_to_convert(alloc, captured, wanted.station)? / captures_to_skip(alloc, captured, station, skip_empty)?
     / date_captures(alloc, captured, wanted.near, station)? / setup_near(alloc, captured, wanted, made, station, dating.near)?
-    / links_to_convert(alloc, captured, station, wanted.near, &dating, as_given)? / Ok(Plan { setup, span: dating.span, links, skipped, })
+    / links_to_convert(alloc, captured, station, wanted.near, &dating, as_given)?
+    / agree_unless(alloc, captured, station, as_given)? / Ok(Plan { setup, span: dating.span, links, skipped, })
 links_to_convert: as_given / links_as_given(alloc, captured, station)
     / links_found(alloc, captured, station, dating.placed.as_slice())
 auto_captures: let mut report = report / begin(rt, &mut report, words, names) / Err(status) => return status, / words.ways.output
@@ -115,16 +116,20 @@ what_is_named: fs::metadata(rt, name) / Named::Nothing / !found.is_file() / Name
 is_free: fs::symlink_metadata(rt, name) / Ok(()) / !force / Err(OutputFault::IsThere) / !found.is_file() / Err(OutputFault::NotRegular)
     / Ok(())
 can_get_name: is_free(rt, name, force)? / make_beside(rt, name)? / let_go(rt, beside.name.as_str()) / Ok(())
-made_at: let Some(made) = made / Ok(made) / present(rt) / moment_at(seconds) / Some(made) => Ok(made), / None => Err(fail_clock(rt)),
+made_at: let Some(made) = made / Ok(made) / present(rt) / Ok(time) => moment_of_present(rt, time),
     / Err(PresentFault::NoClock) => Err(fail_clock(rt)), / eprintln!(rt; "rtcm2rinex: SOURCE_DATE_EPOCH is no number of seconds")
     / Err(REFUSED)
     / Err(fail(rt, ToolFault::OutOfMemory))
+moment_of_present: moment_at(seconds) / Some(made) => Ok(made), / None => Err(fail_variable(rt)), / moment_at(seconds)
+    / Some(made) => Ok(made), / None => Err(fail_clock(rt)),
 moment_at: GpsMs::new(seconds.checked_sub(GPS_BEGIN_S)?.checked_mul(1000)?)
 present: env::var(rt, VARIABLE)
-    / Ok(text) => text .as_str() .parse::<u64>() .map_err(|_| PresentFault::BadVariable), Err(VarError::NotPresent) => clock_time(rt),
+    / text.as_str().parse::<u64>() / Ok(PresentTime::Variable(seconds)) / Err(PresentFault::BadVariable)
+    / Err(VarError::NotPresent) => clock_time(rt),
     / Err(PresentFault::BadVariable) / Err(PresentFault::OutOfMemory)
-clock_time: SystemTime::now(rt) / Err(PresentFault::NoClock) / time.duration_since(UNIX_EPOCH) / Ok(duration) => Ok(duration.as_secs()),
+clock_time: SystemTime::now(rt) / Err(PresentFault::NoClock) / time.duration_since(UNIX_EPOCH) / Ok(duration) => Ok(PresentTime::Clock(duration.as_secs())),
     / Err(PresentFault::NoClock)
+fail_variable: eprintln!(rt; "rtcm2rinex: SOURCE_DATE_EPOCH is not from 1980-01-06 to 2100-12-31") / NOT_VALID
 fail_clock: eprintln!(rt; "rtcm2rinex: the clock can't be read; give --made") / NOT_VALID
 read_captures: read_all(rt, now, station, names)? / told.findings.dates.station
     / Some(station) => read_for_station(rt, now, station, told, names), None => Ok(told),
