@@ -25,16 +25,6 @@ use rtk_obs::{Cell, CellEntry, Code, Digits, GpsMs, Tracks, rolled};
 use rtk_rinex::{Observed, RecordLines};
 use std::alloc::AllocError;
 
-// What a code shows if it has no cell: the value of `Observed::default()`. The room for a row could
-// begin with any value, since `blank` writes over it.
-const NOTHING: Observed = Observed {
-    range_mm: None,
-    phase_millicycles: None,
-    strength_millidbhz: None,
-    slip: false,
-    half: false,
-};
-
 fn rolled_or_none(phase: Option<i64>, rolls: i64) -> Option<i64>
     ensures { result ≡ rolled_or_none phase rolls }
 {
@@ -85,44 +75,21 @@ struct CellPlaces {
     legacy: usize,
 }
 
-// Writes what a code shows at its place among the listed codes, and says whether it is listed.
-fn put_listed(
-    listed: &[Code],
-    places: &[u8; 16],
-    code: Code,
-    shown: Observed,
-    row: &mut [Observed],
-) -> bool
-    requires width { length row.old ≡ length listed.now }
-    requires places { ArePlaces listed.now places.now }
-    ensures row { row.new ≡ with_code code shown listed.now row.old }
-    ensures listed { result ≡ list_any (is_code code) listed.now }
-{
-    let place = usize::from(places[code.place()]);
-    if place >= listed.len() {
-        return false;
-    }
-    row[place] = shown;
-    true
-}
-
-// Takes the first cell of a satellite and code, and says whether its code is listed.
+// Takes the first cell of a satellite and code, and returns where its columns end, or 0.
+#[inline(always)]
 fn show_entry(
     tracks: &mut Tracks,
     form: &RowForm,
     entry: &CellEntry,
     listed: &[Code],
-    row: &mut [Observed],
-) -> bool
-    requires range { IsInRange entry.now }
-    requires later { IsLater (track_at tracks.old entry.now.satellite entry.now.code) form.now.epoch }
-    requires width { length row.old ≡ length listed.now }
-    requires places { ArePlaces listed.now form.now.places }
-    ensures { StepsOver form.now.epoch entry.now listed.now tracks.old tracks.new row.old row.new result }
-{
+    lines: &mut RecordLines,
+) -> usize {
     let digits = tracks.step(entry.satellite, entry.code, form.epoch, &entry.cell);
-    let shown = observed(&entry.cell, digits);
-    put_listed(listed, &form.places, entry.code, shown, row)
+    let place = usize::from(form.places[entry.code.place()]);
+    if place >= listed.len() {
+        return 0;
+    }
+    lines.put_code(place, &observed(&entry.cell, digits))
 }
 
 // Has one of these cells, all of one satellite, this code?
@@ -166,37 +133,13 @@ fn is_absent(
     true
 }
 
-// Writes that a code shows nothing.
-fn clear(shown: &mut Observed)
-    ensures { shown.new ≡ or_nothing None }
-{
-    shown.range_mm = None;
-    shown.phase_millicycles = None;
-    shown.strength_millidbhz = None;
-    shown.slip = false;
-    shown.half = false;
-}
-
-// Writes that no code shows anything, field by field: a file lists few codes, and to fill their bytes
-// would take a call.
-fn blank(row: &mut [Observed])
-    ensures { (listed : List Code) → length row.old ≡ length listed → row.new ≡ map (λ code. or_nothing None) listed }
-{
-    for shown in row.iter_mut() {
-        clear(shown);
-    }
-}
-
-// How far the cells of a satellite reach in a list, and whether one that was shown has a listed code.
+// How far the cells of a satellite reach in a list, and where the columns that are written end.
 #[derive(Clone, Copy)]
 struct Reach {
     end: usize,
-    has_listed: bool,
+    shown: usize,
 }
 
-// Takes the cells of a satellite from its place on, but for those whose code an earlier one of its
-// cells has; and writes what they show into its row. It stands where it is called: for the first list,
-// to which no cell is earlier, much of it falls away.
 #[inline(always)]
 fn show_cells(
     tracks: &mut Tracks,
@@ -206,41 +149,29 @@ fn show_cells(
     entries: &[CellEntry],
     begin: usize,
     listed: &[Code],
-    row: &mut [Observed],
-) -> Reach
-    requires satellite { IsSatellite satellite }
-    requires earlier { All (λ e. e.satellite ≡ satellite) earlier.now }
-    requires cells { HasCellsFrom satellite entries.now begin }
-    requires later { MayStep tracks.old earlier.now satellite form.now.epoch }
-    requires width { length row.old ≡ length listed.now }
-    requires places { ArePlaces listed.now form.now.places }
-    ensures takes { TakesCells form.now.epoch earlier.now entries.now begin result.end satellite listed.now
-        tracks.old row.old tracks.new row.new result.has_listed }
-    ensures next { IsPlaceOf (satellite + 1) entries.now result.end }
-{
-    let mut has_listed = false;
+    lines: &mut RecordLines,
+) -> Reach {
+    let mut shown = 0;
     let mut end = begin;
     'cells: while has_satellite(entries, end, satellite) {
         if has_code(earlier, entries[end].code) {
             end += 1;
             continue;
         }
-        has_listed |= show_entry(tracks, form, &entries[end], listed, row);
+        shown = shown.max(show_entry(tracks, form, &entries[end], listed, lines));
         end += 1;
     }
-    Reach { end, has_listed }
+    Reach { end, shown }
 }
 
-// How far the cells of a satellite reach in two lists, and whether one that was shown has a listed code.
+// How far the cells of a satellite reach in two lists, and where the columns that are written end.
 #[derive(Clone, Copy)]
 struct FilledRow {
     msm_end: usize,
     legacy_end: usize,
-    has_listed: bool,
+    shown: usize,
 }
 
-// Takes the cells of a satellite, which has its place in two lists of cells: first those of an MSM,
-// then those of a 1004 whose code none of an MSM has. Writes its row.
 fn fill_row(
     tracks: &mut Tracks,
     form: &RowForm,
@@ -249,28 +180,15 @@ fn fill_row(
     legacy: &[CellEntry],
     at: CellPlaces,
     listed: &[Code],
-    row: &mut [Observed],
-) -> FilledRow
-    requires satellite { IsSatellite satellite }
-    requires msm { HasCellsFrom satellite msm.now at.msm }
-    requires legacy { HasCellsFrom satellite legacy.now at.legacy }
-    requires later { MayStep tracks.old [] satellite form.now.epoch }
-    requires width { length row.old ≡ length listed.now }
-    requires places { ArePlaces listed.now form.now.places }
-    ensures shows { ShowsRow tracks.old form.now.epoch
-        (slice_range msm.now at.msm result.msm_end ++ slice_range legacy.now at.legacy result.legacy_end)
-        satellite listed.now tracks.new row.new result.has_listed }
-    ensures msm { AreCellsTo satellite msm.now at.msm result.msm_end }
-    ensures legacy { AreCellsTo satellite legacy.now at.legacy result.legacy_end }
-{
-    blank(row);
-    let first = show_cells(tracks, form, satellite, &msm[..0], msm, at.msm, listed, row);
+    lines: &mut RecordLines,
+) -> FilledRow {
+    let first = show_cells(tracks, form, satellite, &msm[..0], msm, at.msm, listed, lines);
     let own = &msm[at.msm..first.end];
-    let second = show_cells(tracks, form, satellite, own, legacy, at.legacy, listed, row);
+    let second = show_cells(tracks, form, satellite, own, legacy, at.legacy, listed, lines);
     FilledRow {
         msm_end: first.end,
         legacy_end: second.end,
-        has_listed: first.has_listed | second.has_listed,
+        shown: first.shown.max(second.shown),
     }
 }
 
@@ -286,13 +204,6 @@ pub(crate) fn push_rows(
     listed: &[Code],
     lines: &mut RecordLines,
 ) -> Result<(), AllocError>
-    requires listed { IsCodeList listed.now }
-    requires later { AllBelow tracks.old set.now.epoch }
-    ensures lines { OnOk result ((below : List EpochSetView) → HasLastPhases tracks.old below
-        → HoldsLines lines.new (table_of listed.now set.now below).rows) }
-    ensures phases { OnOk result ((below : List EpochSetView) → HasLastPhases tracks.old below
-        → HasLastPhases tracks.new (set.now ∷ below)) }
-    ensures later { OnOk result ((later : ℕ) → set.now.epoch < later → AllBelow tracks.new later) }
 {
     lines.restart();
     let epoch = set.epoch();
@@ -302,8 +213,6 @@ pub(crate) fn push_rows(
         epoch,
         places: places_of(listed),
     };
-    let mut room = [NOTHING; 16];
-    let row = &mut room[..listed.len()];
     let mut msm_at = 0;
     let mut legacy_at = 0;
     'satellites: for satellite in 1..33 {
@@ -314,12 +223,11 @@ pub(crate) fn push_rows(
             msm: msm_at,
             legacy: legacy_at,
         };
-        let filled = fill_row(tracks, &form, satellite, msm, legacy, at, listed, row);
-        if filled.has_listed {
-            if let Err(_) = lines.push_row(satellite, row) {
-                return Err(AllocError);
-            }
+        if let Err(_) = lines.open_line(listed.len()) {
+            return Err(AllocError);
         }
+        let filled = fill_row(tracks, &form, satellite, msm, legacy, at, listed, lines);
+        lines.close_line(satellite, filled.shown);
         msm_at = filled.msm_end;
         legacy_at = filled.legacy_end;
     }

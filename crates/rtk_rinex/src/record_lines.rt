@@ -12,7 +12,9 @@ ghost use Rattle.rtk_rinex.specs.RecordLines.{HoldsLines, line_shown};
 use crate::columns::{CODE_COLUMNS, EPOCH_LINE};
 use crate::epoch_table::{EpochTable, Observed};
 use crate::head::Head;
-use crate::record_text::{has_line, put_epoch_line, put_satellite_line};
+use crate::record_text::{
+    end_line, has_line, has_observation, put_columns, put_epoch_line, put_satellite_line,
+};
 use rtk_obs::{GpsMs, civil};
 use std::alloc::{AllocError, Global};
 use std::marker::Model;
@@ -139,6 +141,33 @@ impl RecordLines {
             self.count += 1;
         }
         Ok(())
+    }
+
+    /// Makes room for the line of a satellite with this number of codes.
+    pub fn open_line(&mut self, codes: usize) -> Result<(), AllocError> {
+        let at = self.len.max(EPOCH_LINE);
+        make_room(&mut self.text, at, 4 + CODE_COLUMNS * codes)
+    }
+
+    /// Writes what a code shows at its place in the open line, and returns where its columns end, or 0.
+    #[inline(always)]
+    pub fn put_code(&mut self, place: usize, observed: &Observed) -> usize {
+        if !has_observation(observed) {
+            return 0;
+        }
+        let at = self.len.max(EPOCH_LINE) + 3 + CODE_COLUMNS * place;
+        put_columns(&mut self.text[at..at + CODE_COLUMNS], observed);
+        3 + CODE_COLUMNS * (place + 1)
+    }
+
+    /// Ends the open line of a satellite, if a code of it is written, whose columns end here.
+    pub fn close_line(&mut self, satellite: u8, shown: usize) {
+        if shown == 0 {
+            return;
+        }
+        let at = self.len.max(EPOCH_LINE);
+        self.len = at + end_line(&mut self.text[at..], satellite, shown);
+        self.count += 1;
     }
 
     /// Writes the epoch line before the lines, if there are any: the text is the record.

@@ -107,7 +107,8 @@ fn put_strength(field: &mut [u8], strength: Option<u32>)
 }
 
 // Writes the columns of a code over 48 blanks.
-fn put_columns(columns: &mut [u8], observed: &Observed)
+#[inline(always)]
+pub(crate) fn put_columns(columns: &mut [u8], observed: &Observed)
     requires blank { columns.old ≡ replicate 48 32 }
     ensures { columns.new ≡ observations observed.now }
 {
@@ -158,7 +159,8 @@ fn is_present(value: Option<i64>) -> bool
     }
 }
 
-fn has_observation(observed: &Observed) -> bool
+#[inline(always)]
+pub(crate) fn has_observation(observed: &Observed) -> bool
     ensures { result ≡ has_observation observed.now }
 {
     observed.strength_millidbhz.is_some()
@@ -215,6 +217,15 @@ pub(crate) fn put_satellite_line(line: &mut [u8], satellite: u8, observed: &[Obs
     line[0] = b'G';
     put_pair(line, 1, u64::from(satellite) % 100);
     let end = trimmed_len(&line[..3 + shown]);
+    line[end] = b'\n';
+    end + 1
+}
+
+/// Ends the line of a satellite whose columns are written up to here, and returns how long it is.
+pub(crate) fn end_line(line: &mut [u8], satellite: u8, shown: usize) -> usize {
+    line[0] = b'G';
+    put_pair(line, 1, u64::from(satellite) % 100);
+    let end = trimmed_len(&line[..shown]);
     line[end] = b'\n';
     end + 1
 }
