@@ -111,26 +111,15 @@ fn has_satellite(entries: &[CellEntry], at: usize, satellite: u8) -> bool
     at < entries.len() && entries[at].satellite == satellite
 }
 
-// Has a satellite, which has its place in two lists of cells, no cell in them?
-fn is_absent(
-    satellite: u8,
-    msm: &[CellEntry],
-    msm_at: usize,
-    legacy: &[CellEntry],
-    legacy_at: usize,
-) -> bool
-    requires msm { RiseFrom satellite msm.now msm_at }
-    requires legacy { RiseFrom satellite legacy.now legacy_at }
-    ensures msm { IsTrue result → IsPlaceOf (satellite + 1) msm.now msm_at }
-    ensures legacy { IsTrue result → IsPlaceOf (satellite + 1) legacy.now legacy_at }
-{
-    if has_satellite(msm, msm_at, satellite) {
-        return false;
+// The least satellite that has a cell at these places of two lists.
+fn next_satellite(msm: &[CellEntry], msm_at: usize, legacy: &[CellEntry], legacy_at: usize) -> u8 {
+    if msm_at >= msm.len() {
+        return legacy[legacy_at].satellite;
     }
-    if has_satellite(legacy, legacy_at, satellite) {
-        return false;
+    if legacy_at >= legacy.len() {
+        return msm[msm_at].satellite;
     }
-    true
+    msm[msm_at].satellite.min(legacy[legacy_at].satellite)
 }
 
 // How far the cells of a satellite reach in a list, and where the columns that are written end.
@@ -215,10 +204,8 @@ pub(crate) fn push_rows(
     };
     let mut msm_at = 0;
     let mut legacy_at = 0;
-    'satellites: for satellite in 1..33 {
-        if is_absent(satellite, msm, msm_at, legacy, legacy_at) {
-            continue;
-        }
+    'satellites: while msm_at < msm.len() || legacy_at < legacy.len() {
+        let satellite = next_satellite(msm, msm_at, legacy, legacy_at);
         let at = CellPlaces {
             msm: msm_at,
             legacy: legacy_at,
