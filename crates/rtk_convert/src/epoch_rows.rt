@@ -92,18 +92,6 @@ fn show_entry(
     lines.put_code(place, &observed(&entry.cell, digits))
 }
 
-// Has one of these cells, all of one satellite, this code?
-fn has_code(entries: &[CellEntry], code: Code) -> bool
-    ensures { (s : ℕ) → All (λ e. e.satellite ≡ s) entries.now → result ≡ is_some (first_cell entries.now s code) }
-{
-    for entry in entries {
-        if entry.code == code {
-            return true;
-        }
-    }
-    false
-}
-
 // Is there a cell of this satellite at this place?
 fn has_satellite(entries: &[CellEntry], at: usize, satellite: u8) -> bool
     ensures { TellsSatellite satellite entries.now at result }
@@ -127,6 +115,8 @@ fn next_satellite(msm: &[CellEntry], msm_at: usize, legacy: &[CellEntry], legacy
 struct Reach {
     end: usize,
     shown: usize,
+    // The codes of the cells that were taken, each a bit at its place.
+    codes: u32,
 }
 
 #[inline(always)]
@@ -134,23 +124,26 @@ fn show_cells(
     tracks: &mut Tracks,
     form: &RowForm,
     satellite: u8,
-    earlier: &[CellEntry],
+    earlier: u32,
     entries: &[CellEntry],
     begin: usize,
     listed: &[Code],
     lines: &mut RecordLines,
 ) -> Reach {
     let mut shown = 0;
+    let mut codes = 0;
     let mut end = begin;
     'cells: while has_satellite(entries, end, satellite) {
-        if has_code(earlier, entries[end].code) {
+        let bit = 1u32 << entries[end].code.place() as u32;
+        if earlier & bit != 0 {
             end += 1;
             continue;
         }
+        codes |= bit;
         shown = shown.max(show_entry(tracks, form, &entries[end], listed, lines));
         end += 1;
     }
-    Reach { end, shown }
+    Reach { end, shown, codes }
 }
 
 // How far the cells of a satellite reach in two lists, and where the columns that are written end.
@@ -171,9 +164,8 @@ fn fill_row(
     listed: &[Code],
     lines: &mut RecordLines,
 ) -> FilledRow {
-    let first = show_cells(tracks, form, satellite, &msm[..0], msm, at.msm, listed, lines);
-    let own = &msm[at.msm..first.end];
-    let second = show_cells(tracks, form, satellite, own, legacy, at.legacy, listed, lines);
+    let first = show_cells(tracks, form, satellite, 0, msm, at.msm, listed, lines);
+    let second = show_cells(tracks, form, satellite, first.codes, legacy, at.legacy, listed, lines);
     FilledRow {
         msm_end: first.end,
         legacy_end: second.end,
