@@ -139,6 +139,9 @@ fn field_of_bytes(bytes: &[u8], skip: usize, width: usize) -> u64
     let end = skip + width;
     let count = (end + 7) / 8;
     let mask = u64::MAX >> (64 - width);
+    if count <= 8 {
+        return (big_endian_of_eight(&bytes[..count]) >> (8 * count - end)) & mask;
+    }
     let word = big_endian(&bytes[..count]);
     ((word >> (8 * count - end)) & mask as u128) as u64
 }
@@ -151,6 +154,15 @@ fn big_endian(bytes: &[u8]) -> u128
     let mut word = 0;
     for byte in bytes {
         word = word << 8 | *byte as u128;
+    }
+    word
+}
+
+// The number that the bytes spell, the most significant byte first: at most eight of them.
+fn big_endian_of_eight(bytes: &[u8]) -> u64 {
+    let mut word = 0;
+    for byte in bytes {
+        word = word << 8 | *byte as u64;
     }
     word
 }
