@@ -120,10 +120,10 @@ impl Collector {
             };
             return Ok(self.offer_station_message(message));
         };
-        dated.message.put_cells(&mut self.cells);
+        let rises = dated.message.put_cells(&mut self.cells);
         let cells = self.cells.as_slice();
         let (sets, spare) = (&mut self.sets, &mut self.spare);
-        offer_cells(sets, self.places, self.alloc, epoch, cells, spare)
+        offer_cells(sets, self.places, self.alloc, epoch, cells, rises, spare)
     }
 
     // Takes a 1005 or 1006, if it is the first of its number and the window isn't full. It takes no

@@ -34,7 +34,7 @@ pub(crate) enum Borrowed<'a> {
 
 impl<'a> Borrowed<'a> {
     /// Puts the cells of the message into a list, in place of what it has.
-    pub(crate) fn put_cells(self, found: &mut ArrayVec<CellEntry, 64>)
+    pub(crate) fn put_cells(self, found: &mut ArrayVec<CellEntry, 64>) -> bool
         requires { any.IsValid (borrowed self) }
         ensures cells { found.new.items ≡ cells_of (borrowed self.entry) }
         ensures ranges { All IsInRange found.new.items }

@@ -143,6 +143,7 @@ impl EpochSet {
     pub(crate) fn join(
         &mut self,
         cells: &[CellEntry],
+        rises: bool,
         found: &mut Conflicts,
     ) -> Result<usize, AllocError>
         requires few { length cells.now ≤ 64 }
@@ -156,8 +157,8 @@ impl EpochSet {
         ensures refused { OnErr result (0 < fresh cells.now self.old.cells) }
     {
         match source_of(cells) {
-            CellSource::Msm => join_list(&mut self.msm, cells, found),
-            CellSource::Legacy => join_list(&mut self.legacy, cells, found),
+            CellSource::Msm => join_list(&mut self.msm, cells, rises, found),
+            CellSource::Legacy => join_list(&mut self.legacy, cells, rises, found),
         }
     }
 }

@@ -46,31 +46,12 @@ pub(crate) fn source_of(cells: &[CellEntry]) -> CellSource
     cells[0].cell.source
 }
 
-// Whether each cell has a greater satellite or code than the one before it.
-fn are_rising(cells: &[CellEntry]) -> bool
-    ensures { IsTrue result → KeysRise cells.now }
-{
-    if cells.is_empty() {
-        return true;
-    }
-    let mut last = order_of_code(&cells[0]);
-    let mut at = 1;
-    while at < cells.len() {
-        let order = order_of_code(&cells[at]);
-        if last >= order {
-            return false;
-        }
-        last = order;
-        at += 1;
-    }
-    true
-}
-
 /// Takes the cells whose keys are new into a list, and says how many these are; those that conflict are
 /// added to an empty list. Memory is taken for new cells alone, before the first one is added.
 pub(crate) fn join_list(
     list: &mut Vec<CellEntry>,
     cells: &[CellEntry],
+    rises: bool,
     found: &mut Conflicts,
 ) -> Result<usize, AllocError>
     requires few { length cells.now ≤ 64 }
@@ -82,7 +63,6 @@ pub(crate) fn join_list(
     ensures err { OnErr result (list.new.items ≡ list.old.items) }
     ensures refused { OnErr result (0 < fresh cells.now list.old.items) }
 {
-    let rises = are_rising(cells);
     if rises && list.is_empty() {
         // The common case: the first message of its kind, whose cells are copied as they stand.
         // `?` would do the same, but then the proof of each clause on `Err` is a step longer.

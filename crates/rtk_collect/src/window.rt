@@ -62,6 +62,7 @@ pub(crate) fn join_at(
     sets: &mut VecDeque<EpochSet>,
     at: usize,
     cells: &[CellEntry],
+    rises: bool,
     found: &mut Conflicts,
 ) -> Result<usize, AllocError>
     requires within { at < length sets.old.items }
@@ -77,7 +78,7 @@ pub(crate) fn join_at(
     ensures refused { (d : EpochSetView) → OnErr result (0 < fresh cells.now (slice_index_or sets.old.items at d).cells) }
 {
     let set = &mut sets[at];
-    set.join(cells, found)
+    set.join(cells, rises, found)
 }
 
 // For how many cells of each kind an epoch that opens at a place has room: for those of its first
@@ -112,6 +113,7 @@ pub(crate) fn open_at(
     alloc: Global,
     epoch: GpsMs,
     cells: &[CellEntry],
+    rises: bool,
     spare: &mut Spare,
     found: &mut Conflicts,
 ) -> Result<(), AllocError>
@@ -130,7 +132,7 @@ pub(crate) fn open_at(
     let Ok(mut set) = EpochSet::with_room(alloc, epoch, room, spare) else {
         return Err(AllocError);
     };
-    if let Err(_) = set.join(cells, found) {
+    if let Err(_) = set.join(cells, rises, found) {
         return Err(AllocError);
     }
     put_at(sets, at, set)
@@ -176,6 +178,7 @@ pub(crate) fn offer_cells(
     alloc: Global,
     epoch: GpsMs,
     cells: &[CellEntry],
+    rises: bool,
     spare: &mut Spare,
 ) -> Result<Offer, AllocError>
     requires fits { length sets.old.items ≤ places }
@@ -192,7 +195,7 @@ pub(crate) fn offer_cells(
     let mut conflicts = Conflicts::new();
     let at = place_of_epoch(sets, epoch);
     if has_epoch(sets, at, epoch) {
-        let Ok(fresh) = join_at(sets, at, cells, &mut conflicts) else {
+        let Ok(fresh) = join_at(sets, at, cells, rises, &mut conflicts) else {
             return Err(AllocError);
         };
         if fresh > 0 {
@@ -206,7 +209,7 @@ pub(crate) fn offer_cells(
     if at == places {
         return Ok(Offer::Late);
     }
-    if let Err(_) = open_at(sets, at, alloc, epoch, cells, spare, &mut conflicts) {
+    if let Err(_) = open_at(sets, at, alloc, epoch, cells, rises, spare, &mut conflicts) {
         return Err(AllocError);
     }
     let closed = close_least(sets, places);

@@ -184,7 +184,11 @@ fn put_satellite(
 }
 
 // Puts the cells of the satellites of a 1004. The result is how many entries stand then.
-fn put_satellites(found: &mut ArrayVec<CellEntry, 64>, satellites: &[Satellite]) -> usize
+fn put_satellites(
+    found: &mut ArrayVec<CellEntry, 64>,
+    satellites: &[Satellite],
+    rises: &mut bool,
+) -> usize
     requires few { length satellites.now ≤ 31 }
     requires fields { All HasLegacyWidths satellites.now }
     ensures cells { take result found.new.items ≡ cells_of_1004 satellites.now }
@@ -192,22 +196,27 @@ fn put_satellites(found: &mut ArrayVec<CellEntry, 64>, satellites: &[Satellite])
 {
     let mut seen = [false; 33];
     let mut count = 0;
+    let mut last = 0;
     for satellite in satellites {
+        *rises &= last < satellite.satellite;
+        last = satellite.satellite;
         count = put_satellite(found, count, &mut seen, satellite);
     }
     count
 }
 
 /// Puts the cells of a 1004 into a list, in place of what it has: see `cells_1004`.
-pub fn put_cells_1004(message: &Obs1004, found: &mut ArrayVec<CellEntry, 64>)
+pub fn put_cells_1004(message: &Obs1004, found: &mut ArrayVec<CellEntry, 64>) -> bool
     requires { IsValid message.now }
     ensures cells { found.new.items ≡ cells_of_1004 message.now.satellites }
     ensures ranges { All IsInRange found.new.items }
     ensures distinct { AreDistinct found.new.items }
     ensures few { length found.new.items ≤ 62 }
 {
-    let count = put_satellites(found, message.satellites.as_slice());
+    let mut rises = true;
+    let count = put_satellites(found, message.satellites.as_slice(), &mut rises);
     found.truncate(count);
+    rises
 }
 
 /// The cells of a 1004 in the order of the message: one of L1 and one of L2 for each satellite
@@ -220,6 +229,6 @@ pub fn cells_1004(message: &Obs1004) -> ArrayVec<CellEntry, 64>
     ensures few { length result.items ≤ 62 }
 {
     let mut found = ArrayVec::new();
-    put_cells_1004(message, &mut found);
+    let _ = put_cells_1004(message, &mut found);
     found
 }

@@ -16,7 +16,7 @@ use rtk_message::Message;
 /// Puts the cells of a message into a list, in place of what it has, as `cells_1004` and `cells_1074`
 /// give them. A station message has none.
 #[inline(always)]
-pub fn put_cells_of(message: &Message, found: &mut ArrayVec<CellEntry, 64>)
+pub fn put_cells_of(message: &Message, found: &mut ArrayVec<CellEntry, 64>) -> bool
     requires { IsValid message.now }
     ensures cells { found.new.items ≡ cells_of (AnyMessage.Message message.now) }
     ensures ranges { All IsInRange found.new.items }
@@ -24,7 +24,10 @@ pub fn put_cells_of(message: &Message, found: &mut ArrayVec<CellEntry, 64>)
 {
     match message {
         Message::Obs1004(message) => put_cells_1004(message, found),
-        Message::Arp1005(_) | Message::Arp1006(_) => found.clear(),
+        Message::Arp1005(_) | Message::Arp1006(_) => {
+            found.clear();
+            true
+        }
         Message::Msm1074(message) => put_cells_1074(message, found),
     }
 }

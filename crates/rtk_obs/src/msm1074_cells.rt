@@ -67,7 +67,7 @@ impl CellsOfMsm for Msm1074 {
 }
 
 /// Puts the cells of a 1074 into a list, in place of what it has: see `cells_1074`.
-pub fn put_cells_1074(message: &Msm1074, found: &mut ArrayVec<CellEntry, 64>)
+pub fn put_cells_1074(message: &Msm1074, found: &mut ArrayVec<CellEntry, 64>) -> bool
     requires { IsValid message.now }
     ensures cells { found.new.items ≡ cells_of_1074 message.now }
     ensures ranges { All IsInRange found.new.items }
@@ -76,6 +76,7 @@ pub fn put_cells_1074(message: &Msm1074, found: &mut ArrayVec<CellEntry, 64>)
 {
     let count = put_cells(found, message);
     found.truncate(count);
+    message.header.signal_mask & 7 == 0
 }
 
 /// The cells of a 1074 in the order of the message, for the satellites from 1 to 32 and the fifteen
@@ -88,6 +89,6 @@ pub fn cells_1074(message: &Msm1074) -> ArrayVec<CellEntry, 64>
     ensures few { length result.items ≤ 64 }
 {
     let mut found = ArrayVec::new();
-    put_cells_1074(message, &mut found);
+    let _ = put_cells_1074(message, &mut found);
     found
 }

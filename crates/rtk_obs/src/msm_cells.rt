@@ -77,7 +77,7 @@ impl CellsOfMsm for Msm {
 }
 
 /// Puts the cells of a 1075, 1076 or 1077 into a list, in place of what it has: see `cells_msm`.
-pub fn put_cells_msm(message: &Msm, found: &mut ArrayVec<CellEntry, 64>)
+pub fn put_cells_msm(message: &Msm, found: &mut ArrayVec<CellEntry, 64>) -> bool
     requires { IsValid message.now }
     ensures cells { found.new.items ≡ cells_of_msm message.now }
     ensures ranges { All IsInRange found.new.items }
@@ -86,6 +86,7 @@ pub fn put_cells_msm(message: &Msm, found: &mut ArrayVec<CellEntry, 64>)
 {
     let count = put_cells(found, message);
     found.truncate(count);
+    message.header.signal_mask & 7 == 0
 }
 
 /// The cells of a 1075, 1076 or 1077 in the order of the message, for the satellites from 1 to 32
@@ -98,6 +99,6 @@ pub fn cells_msm(message: &Msm) -> ArrayVec<CellEntry, 64>
     ensures few { length result.items ≤ 64 }
 {
     let mut found = ArrayVec::new();
-    put_cells_msm(message, &mut found);
+    let _ = put_cells_msm(message, &mut found);
     found
 }

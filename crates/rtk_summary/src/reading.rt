@@ -50,8 +50,12 @@ fn put_entries(message: &AnyMessage, found: &mut ArrayVec<CellEntry, 64>)
     ensures { found.new.items ≡ entries_of_message message.now }
 {
     match message {
-        AnyMessage::Message(message) => put_cells_of(message, found),
-        AnyMessage::Msm(message) => put_cells_msm(message, found),
+        AnyMessage::Message(message) => {
+            let _ = put_cells_of(message, found);
+        }
+        AnyMessage::Msm(message) => {
+            let _ = put_cells_msm(message, found);
+        }
     }
 }
 
