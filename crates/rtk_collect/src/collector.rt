@@ -13,6 +13,7 @@ ghost use Rattle.rtk_collect.specs.Collector.{RepresentsArrivals, KeepsStations}
 ghost use Rattle.rtk_collect.specs.StationPosition.{IsPosition, IsPositionOf};
 ghost use Rattle.rtk_collect.specs.Offered.{AnswersArrival, ClosesBelow, ClosesLeast, LeastNeverFalls, WouldBeTaken};
 
+use crate::conflicts::Conflicts;
 use crate::dated::{Borrowed, Dated};
 use crate::epoch_set::{EpochSet, Spare};
 use crate::left::Left;
@@ -103,7 +104,11 @@ impl Collector {
     ///
     /// Only a message that would be taken takes memory, all of it before anything changes. If
     /// memory is refused, the collector is unchanged.
-    pub fn offer(&mut self, dated: Dated<'_>) -> Result<Offer, AllocError>
+    pub fn offer(
+        &mut self,
+        dated: Dated<'_>,
+        conflicts: &mut Conflicts,
+    ) -> Result<Offer, AllocError>
         ensures places { self.new.places ≡ self.old.places }
         ensures bound { length self.new.sets ≤ self.new.places }
         // Fails only if memory is refused: tests/system/calls, rows offer.
@@ -114,6 +119,7 @@ impl Collector {
         ensures err { OnErr result (self.new ≡ self.old) }
         ensures refused { OnErr result (WouldBeTaken self.old dated.entry) }
     {
+        conflicts.clear();
         let Some(epoch) = dated.epoch else {
             let Borrowed::Message(message) = dated.message else {
                 unreachable!();
@@ -123,12 +129,11 @@ impl Collector {
         let rises = dated.message.put_cells(&mut self.cells);
         let cells = self.cells.as_slice();
         let (sets, spare) = (&mut self.sets, &mut self.spare);
-        offer_cells(sets, self.places, self.alloc, epoch, cells, rises, spare)
+        offer_cells(sets, self.places, self.alloc, epoch, cells, rises, spare, conflicts)
     }
 
     // Takes a 1005 or 1006, if it is the first of its number and the window isn't full. It takes no
     // memory. It stands apart, since `offer` would clear the room of its answer at each message.
-    #[inline(never)]
     fn offer_station_message(&mut self, message: &Message) -> Offer
         requires valid { IsValid message.now }
         requires station { tow_of message.now ≡ None }

@@ -34,7 +34,7 @@ impl Model for Conflicts {
 
 impl Conflicts {
     /// The empty list.
-    pub(crate) fn new() -> Conflicts
+    pub fn new() -> Conflicts
         ensures { result ≡ [] }
     {
         Conflicts {
@@ -55,6 +55,11 @@ impl Conflicts {
         ensures few { length result.now ≤ 64 }
     {
         self.list.as_slice()
+    }
+
+    /// Leaves out all.
+    pub(crate) fn clear(&mut self) {
+        self.list.clear();
     }
 
     /// Adds one after the others.

@@ -180,6 +180,7 @@ pub(crate) fn offer_cells(
     cells: &[CellEntry],
     rises: bool,
     spare: &mut Spare,
+    conflicts: &mut Conflicts,
 ) -> Result<Offer, AllocError>
     requires fits { length sets.old.items ≤ places }
     requires falls { EpochsFall sets.old.items }
@@ -192,38 +193,25 @@ pub(crate) fn offer_cells(
     ensures refused { OnErr result (WouldTakeCells places epoch cells.now sets.old.items) }
     ensures spare { AreSpare spare.new }
 {
-    let mut conflicts = Conflicts::new();
     let at = place_of_epoch(sets, epoch);
     if has_epoch(sets, at, epoch) {
-        let Ok(fresh) = join_at(sets, at, cells, rises, &mut conflicts) else {
+        let Ok(fresh) = join_at(sets, at, cells, rises, conflicts) else {
             return Err(AllocError);
         };
         if fresh > 0 {
-            return Ok(Offer::Taken {
-                closed: None,
-                conflicts,
-            });
+            return Ok(Offer::Taken { closed: None });
         }
-        return Ok(answer_of_known(conflicts));
+        if conflicts.is_empty() {
+            return Ok(Offer::Repeat);
+        }
+        return Ok(Offer::Conflict);
     }
     if at == places {
         return Ok(Offer::Late);
     }
-    if let Err(_) = open_at(sets, at, alloc, epoch, cells, rises, spare, &mut conflicts) {
+    if let Err(_) = open_at(sets, at, alloc, epoch, cells, rises, spare, conflicts) {
         return Err(AllocError);
     }
     let closed = close_least(sets, places);
-    Ok(Offer::Taken { closed, conflicts })
-}
-
-// What became of cells of an epoch of the window of which none is new, by those that conflict. It
-// stands apart, since `offer_cells` would clear the room of its answer at each message.
-#[inline(never)]
-fn answer_of_known(conflicts: Conflicts) -> Offer
-    ensures { IsAnswerOf 0 conflicts result }
-{
-    if conflicts.is_empty() {
-        return Offer::Repeat;
-    }
-    Offer::Conflict { conflicts }
+    Ok(Offer::Taken { closed })
 }

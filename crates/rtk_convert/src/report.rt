@@ -114,6 +114,7 @@ pub(crate) fn offer_lines(
     number: u16,
     epoch: Option<GpsMs>,
     offer: &Offer,
+    conflicts: &[SatelliteCode],
 ) -> Result<Vec<u8>, AllocError>
     ensures { IfOk result (λ lines. lines.items ≡ offer_lines link number epoch offer.now) }
 {
@@ -123,11 +124,11 @@ pub(crate) fn offer_lines(
             put_message(&mut lines, link, b" late ", number, epoch)?;
             lines.push(b'\n')?;
         }
-        Offer::Taken { conflicts, .. } => {
-            put_cell_conflicts(&mut lines, link, number, epoch, conflicts.as_slice())?;
+        Offer::Taken { .. } => {
+            put_cell_conflicts(&mut lines, link, number, epoch, conflicts)?;
         }
-        Offer::Conflict { conflicts } => {
-            put_conflicts(&mut lines, link, number, epoch, conflicts.as_slice())?;
+        Offer::Conflict => {
+            put_conflicts(&mut lines, link, number, epoch, conflicts)?;
         }
         Offer::Repeat => {}
     }
