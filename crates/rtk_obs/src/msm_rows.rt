@@ -11,8 +11,8 @@ ghost use Rattle.rtk_obs.specs.Mask.{join_from};
 ghost use Rattle.rtk_obs.specs.MsmCells.{code_of_signal, satellites_of, signals_of, row_slots, slot_entry, msm_entries};
 ghost use Rattle.rtk_obs.specs.Steps.MsmRows.{IsCellMask, IsMaskRow, cells_in};
 
-use crate::cell::{Cell, CellEntry, is_satellite, make_room};
-use crate::code::{Band, Code};
+use crate::cell::{Cell, CellEntry, is_satellite};
+use crate::code::Code;
 use crate::mask::{places_of_bits, top_bit};
 use arrayvec::ArrayVec;
 use rtk_message::MsmHeader;
@@ -39,6 +39,9 @@ pub(crate) trait CellsOfMsm {
     fn header(&self) -> MsmHeader
         ensures { result ≡ header self.now };
 
+    /// How many cells the message has.
+    fn cells(&self) -> usize;
+
     /// The rows of the cell mask (DF396).
     fn cell_mask(&self) -> &[u32]
         ensures { result.now ≡ cell_mask self.now };
@@ -52,7 +55,7 @@ pub(crate) trait CellsOfMsm {
 
     /// Sets a cell to the one at this place in the message, of a satellite with this rough range.
     /// Each field is written where it stays.
-    fn set_cell(&self, cell: &mut Cell, place: usize, rough: Option<i64>, band: Band)
+    fn set_cell(&self, cell: &mut Cell, place: usize, rough: Option<i64>, frequency: u32)
         requires valid { IsValid self.now }
         requires place { place < cells_in (cell_mask self.now) }
         requires rough { IfSome rough (λ r. unsigned_abs r ≤ 2 ^ 38) }
@@ -96,14 +99,23 @@ static SIGNAL_CODES: [Option<Code>; 33] = [
     Some(Code::C1X),
 ];
 
-// Which signal of which satellite a cell is.
+// A signal of the message.
 #[derive(Clone, Copy, Default)]
-struct Slot {
-    // The place of the satellite among the satellites of the message, from 0. Clauses alone read
-    // it.
-    row: u8,
-    // The signal identifier (DF395).
-    signal: u8,
+struct Signal {
+    code: Code,
+    has_code: bool,
+    frequency: u32,
+}
+
+fn signal_of(identifier: u8) -> Signal {
+    match signal_code(identifier) {
+        Some(code) => Signal {
+            code,
+            has_code: true,
+            frequency: code.band().frequency(),
+        },
+        None => Signal::default(),
+    }
 }
 
 // A satellite of the message.
@@ -155,13 +167,14 @@ fn row_of<M: CellsOfMsm>(message: &M, numbers: &[u8], row: usize) -> Row
 }
 
 // Puts the cell of a slot, if its signal has a code. The result is how many entries stand then.
+#[inline(always)]
 fn put_cell<M: CellsOfMsm>(
     found: &mut ArrayVec<CellEntry, 64>,
     count: usize,
     message: &M,
     cell: usize,
     row: Row,
-    slot: Slot,
+    signal: Signal,
 ) -> usize
     requires valid { M.IsValid message.now }
     requires cell { cell < cells_in (M.cell_mask message.now) }
@@ -175,14 +188,13 @@ fn put_cell<M: CellsOfMsm>(
     ensures count { result ≤ length found.new.items }
     ensures one { result ≤ count + 1 }
 {
-    let Some(code) = signal_code(slot.signal) else {
+    if !signal.has_code {
         return count;
-    };
-    make_room(found, count);
+    }
     let entry = &mut found.as_mut_slice()[count];
     entry.satellite = row.satellite;
-    entry.code = code;
-    message.set_cell(&mut entry.cell, cell, row.rough, code.band());
+    entry.code = signal.code;
+    message.set_cell(&mut entry.cell, cell, row.rough, signal.frequency);
     count + 1
 }
 
@@ -193,7 +205,7 @@ fn put_row<M: CellsOfMsm>(
     message: &M,
     row: Row,
     place: u8,
-    signals: &[u8],
+    signals: &[Signal],
     bits: u32,
 ) -> Progress
     requires valid { M.IsValid message.now }
@@ -224,8 +236,7 @@ fn put_row<M: CellsOfMsm>(
     while rest != 0 {
         let top = top_bit(rest);
         let signal = signals[width - 1 - top as usize];
-        let slot = Slot { row: place, signal };
-        count = put_cell(found, count, message, cell, row, slot);
+        count = put_cell(found, count, message, cell, row, signal);
         cell += 1;
         rest -= 1 << top;
     }
@@ -243,8 +254,15 @@ pub(crate) fn put_cells<M: CellsOfMsm>(found: &mut ArrayVec<CellEntry, 64>, mess
     let number_list = places_of_bits(header.satellite_mask, 64);
     let numbers = number_list.as_slice();
     let signal_list = signal_identifiers(header);
-    let signals = signal_list.as_slice();
+    let mut room = [Signal::default(); 32];
+    for at in 0..signal_list.len() {
+        room[at] = signal_of(signal_list.as_slice()[at]);
+    }
+    let signals = &room[..signal_list.len()];
     let masks = message.cell_mask();
+    while found.len() < message.cells() {
+        found.push(CellEntry::default());
+    }
     let mut progress = Progress { cell: 0, count: 0 };
     for (place, bits) in masks.iter().enumerate() {
         let row = row_of(message, numbers, place);

@@ -124,20 +124,18 @@ pub(crate) fn range_from_time(time: i64) -> i64
 }
 
 /// A travel time of the signal, in 2^-29 ms, as a phase in millicycles.
-pub(crate) fn phase_from_time(band: Band, time: i64) -> i64
+pub(crate) fn phase_from_time(frequency: u32, time: i64) -> i64
     requires { unsigned_abs time ≤ 2 ^ 40 }
-    ensures { result ≡ phase_of_time band time }
 {
-    scaled_time(time, band.frequency())
+    scaled_time(time, frequency)
 }
 
 /// A travel time of the signal, in 2^-31 ms, as a phase in millicycles.
-pub(crate) fn phase_from_extended_time(band: Band, time: i64) -> i64
+pub(crate) fn phase_from_extended_time(frequency: u32, time: i64) -> i64
     requires { unsigned_abs time ≤ 2 ^ 41 }
-    ensures { result ≡ phase_of_extended_time band time }
 {
     // Each frequency is a whole multiple of 4 Hz, so f / 2^31 is exactly (f / 4) / 2^29.
-    scaled_time(time, band.frequency() / 4)
+    scaled_time(time, frequency / 4)
 }
 
 /// A signal strength in thousandths of a dB-Hz, from its number of steps; 0 steps mean that it is
