@@ -99,6 +99,9 @@ pub(crate) fn write_lines<L: Sink>(log: &mut L, lines: &[u8]) -> Result<(), Conv
     ensures report_failed { NamesFailedWrites Stream.Log result (L.failures log.old) (L.failures log.new) }
     ensures fault { IfErr result (λ f. f ≡ ConvertFault.Write Stream.Log) }
 {
+    if lines.is_empty() {
+        return Ok(());
+    }
     match write_all(log, lines) {
         Ok(()) => Ok(()),
         Err(_) => Err(ConvertFault::Write {
