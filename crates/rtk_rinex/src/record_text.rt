@@ -259,13 +259,27 @@ pub(crate) fn epoch_line(time: Civil, count: usize) -> ArrayVec<u8, EPOCH_LINE>
     line
 }
 
+// Writes a number below 100 in the two columns before a place, without a leading 0.
+fn put_short(line: &mut [u8], end: usize, number: u64) {
+    if number >= 10 {
+        put_pair(line, end - 2, number);
+    } else {
+        line[end - 1] = b'0' + number as u8;
+    }
+}
+
 /// Writes the epoch line of a date and time and a count of satellites over the first columns.
-pub(crate) fn put_epoch_line(text: &mut [u8], time: Civil, count: usize)
-    requires columns { 36 ≤ length text.old }
-    requires second { time.second < 60 }
-    requires millisecond { time.millisecond < 1000 }
-    requires count { count < 1000 }
-    ensures { text.new ≡ epoch_line time count ++ drop 36 text.old }
-{
-    text[..EPOCH_LINE].copy_from_slice(epoch_line(time, count).as_slice());
+pub(crate) fn put_epoch_line(text: &mut [u8], time: Civil, count: usize) {
+    let line = &mut text[..EPOCH_LINE];
+    line.copy_from_slice(b"> yyyy mm dd hh mm   .0000000  0   \n");
+    put_pair(line, 2, u64::from(time.year / 100));
+    put_pair(line, 4, u64::from(time.year % 100));
+    put_pair(line, 7, u64::from(time.month));
+    put_pair(line, 10, u64::from(time.day));
+    put_pair(line, 13, u64::from(time.hour));
+    put_pair(line, 16, u64::from(time.minute));
+    put_short(line, 21, u64::from(time.second));
+    line[22] = b'0' + (time.millisecond / 100) as u8;
+    put_pair(line, 23, u64::from(time.millisecond % 100));
+    put_short(line, 35, count as u64);
 }
