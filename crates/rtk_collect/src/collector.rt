@@ -19,10 +19,10 @@ use crate::epoch_set::{EpochSet, Spare};
 use crate::left::Left;
 use crate::offer::Offer;
 use crate::stations::{StationMessages, keep_station_message, position};
-use crate::window::offer_cells;
+use crate::window::{offer_cells, offer_first};
 use arrayvec::ArrayVec;
 use rtk_message::Message;
-use rtk_obs::{CellEntry, Position};
+use rtk_obs::{CellEntry, Position, are_rising_satellites};
 use std::alloc::{AllocError, Global};
 use std::collections::VecDeque;
 use std::marker::Model;
@@ -96,6 +96,7 @@ impl Collector {
             spare: Spare {
                 msm: Vec::new(alloc),
                 legacy: Vec::new(alloc),
+                first: Vec::new(alloc),
             },
         }
     }
@@ -126,6 +127,17 @@ impl Collector {
             };
             return Ok(self.offer_station_message(message));
         };
+        if let Borrowed::Message(Message::Obs1004(message)) = dated.message {
+            let satellites = message.satellites.as_slice();
+            if are_rising_satellites(satellites) {
+                let (sets, spare) = (&mut self.sets, &mut self.spare);
+                if let Some(offer) =
+                    offer_first(sets, self.places, self.alloc, epoch, satellites, spare)?
+                {
+                    return Ok(offer);
+                }
+            }
+        }
         let rises = dated.message.put_cells(&mut self.cells);
         let cells = self.cells.as_slice();
         let (sets, spare) = (&mut self.sets, &mut self.spare);

@@ -10,7 +10,9 @@ ghost use Rattle.rtk_collect.specs.Steps.Room.{AreSpare};
 
 use crate::conflicts::Conflicts;
 use crate::merging::{join_list, source_of};
-use rtk_obs::{CellEntry, CellSource, GpsMs};
+use arrayvec::ArrayVec;
+use rtk_message::Satellite;
+use rtk_obs::{CellEntry, CellSource, GpsMs, put_cells_left};
 use std::alloc::{AllocError, Global};
 use std::marker::Model;
 use std::mem::replace;
@@ -25,6 +27,8 @@ pub struct EpochSet {
     epoch: GpsMs,
     msm: Vec<CellEntry>,
     legacy: Vec<CellEntry>,
+    // The satellites of the first 1004, as long as its cells are not in the list.
+    first: Vec<Satellite>,
 }
 
 /// For how many cells of each kind of message there is room.
@@ -32,6 +36,7 @@ pub struct EpochSet {
 pub(crate) struct Room {
     pub(crate) msm: usize,
     pub(crate) legacy: usize,
+    pub(crate) first: usize,
 }
 
 /// Lists without cells, for an epoch that opens later.
@@ -39,6 +44,7 @@ pub(crate) struct Room {
 pub(crate) struct Spare {
     pub(crate) msm: Vec<CellEntry>,
     pub(crate) legacy: Vec<CellEntry>,
+    pub(crate) first: Vec<Satellite>,
 }
 
 // Clauses see the epoch in ms and one list of cells, in which each stands at its key. The first part
@@ -82,6 +88,13 @@ impl EpochSet {
     {
         let mut msm = replace(&mut spare.msm, Vec::new(alloc));
         let mut legacy = replace(&mut spare.legacy, Vec::new(alloc));
+        let mut first = replace(&mut spare.first, Vec::new(alloc));
+        if first.capacity() != room.first {
+            first = Vec::new(alloc);
+        }
+        if let Err(_) = first.reserve(room.first) {
+            return Err(AllocError);
+        }
         msm = if_of_room(alloc, msm, room.msm);
         legacy = if_of_room(alloc, legacy, room.legacy);
         if let Err(_) = msm.reserve(room.msm) {
@@ -90,7 +103,7 @@ impl EpochSet {
         if let Err(_) = legacy.reserve(room.legacy) {
             return Err(AllocError);
         }
-        Ok(EpochSet { epoch, msm, legacy })
+        Ok(EpochSet { epoch, msm, legacy, first })
     }
 
     /// The lists of the cells without a cell, for an epoch that opens later.
@@ -99,9 +112,11 @@ impl EpochSet {
     {
         let mut msm = self.msm;
         let mut legacy = self.legacy;
+        let mut first = self.first;
         msm.clear();
         legacy.clear();
-        Spare { msm, legacy }
+        first.clear();
+        Spare { msm, legacy, first }
     }
 
     /// The epoch.
@@ -135,6 +150,42 @@ impl EpochSet {
         ensures few { length self.now.cells ≤ 1024 }
     {
         &self.legacy
+    }
+
+    /// The cells that came in a 1004 and whose codes no cell of an MSM has, or all that came in a 1004.
+    pub fn legacy_left<'a>(&'a self, room: &'a mut ArrayVec<CellEntry, 64>) -> &'a [CellEntry] {
+        if self.first.is_empty() {
+            return &self.legacy;
+        }
+        put_cells_left(&self.first, &self.msm, room);
+        room.as_slice()
+    }
+
+    /// How many satellites of a first 1004 stand here.
+    pub(crate) fn first_len(&self) -> usize {
+        self.first.len()
+    }
+
+    /// Has no 1004 come?
+    pub(crate) fn has_no_legacy(&self) -> bool {
+        self.first.is_empty() && self.legacy.is_empty()
+    }
+
+    /// Takes the satellites of the first 1004.
+    pub(crate) fn take_first(&mut self, satellites: &[Satellite]) -> Result<(), AllocError> {
+        self.first.extend_from_slice(satellites)
+    }
+
+    /// Puts the cells of the first 1004 into their list.
+    pub(crate) fn spell_out(&mut self) -> Result<(), AllocError> {
+        if self.first.is_empty() {
+            return Ok(());
+        }
+        let mut room = ArrayVec::new();
+        put_cells_left(&self.first, &[], &mut room);
+        self.legacy.extend_from_slice(room.as_slice())?;
+        self.first.clear();
+        Ok(())
     }
 
     /// Takes the cells of a message whose keys are new, and says how many these are; those that

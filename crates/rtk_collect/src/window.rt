@@ -19,6 +19,7 @@ use crate::conflicts::Conflicts;
 use crate::epoch_set::{EpochSet, Room, Spare};
 use crate::merging::source_of;
 use crate::offer::Offer;
+use rtk_message::Satellite;
 use rtk_obs::{CellEntry, CellSource, GpsMs};
 use std::alloc::{AllocError, Global};
 use std::collections::VecDeque;
@@ -87,20 +88,25 @@ pub(crate) fn join_at(
 fn first_room(sets: &VecDeque<EpochSet>, at: usize, source: CellSource, cells: usize) -> Room
     ensures { cells ≤ room_for source result }
 {
-    let mut room = Room { msm: 0, legacy: 0 };
+    let mut room = Room {
+        msm: 0,
+        legacy: 0,
+        first: 0,
+    };
     if at < sets.len() {
         let before = &sets[at];
         room.msm = before.msm_cells().len();
         room.legacy = before.legacy_cells().len();
+        room.first = before.first_len();
     }
     match source {
         CellSource::Msm => Room {
             msm: room.msm.max(cells),
-            legacy: room.legacy,
+            ..room
         },
         CellSource::Legacy => Room {
-            msm: room.msm,
             legacy: room.legacy.max(cells),
+            ..room
         },
     }
 }
@@ -195,6 +201,10 @@ pub(crate) fn offer_cells(
 {
     let at = place_of_epoch(sets, epoch);
     if has_epoch(sets, at, epoch) {
+        if matches!(source_of(cells), CellSource::Legacy) {
+            let set = &mut sets[at];
+            set.spell_out()?;
+        }
         let Ok(fresh) = join_at(sets, at, cells, rises, conflicts) else {
             return Err(AllocError);
         };
@@ -214,4 +224,34 @@ pub(crate) fn offer_cells(
     }
     let closed = close_least(sets, places);
     Ok(Offer::Taken { closed })
+}
+
+/// Takes the satellites of a 1004 that rise, if no 1004 of the epoch came before.
+pub(crate) fn offer_first(
+    sets: &mut VecDeque<EpochSet>,
+    places: usize,
+    alloc: Global,
+    epoch: GpsMs,
+    satellites: &[Satellite],
+    spare: &mut Spare,
+) -> Result<Option<Offer>, AllocError> {
+    let at = place_of_epoch(sets, epoch);
+    if has_epoch(sets, at, epoch) {
+        let set = &mut sets[at];
+        if !set.has_no_legacy() {
+            return Ok(None);
+        }
+        set.take_first(satellites)?;
+        return Ok(Some(Offer::Taken { closed: None }));
+    }
+    if at == places {
+        return Ok(Some(Offer::Late));
+    }
+    let mut room = first_room(sets, at, CellSource::Legacy, 0);
+    room.first = room.first.max(satellites.len());
+    let mut set = EpochSet::with_room(alloc, epoch, room, spare)?;
+    set.take_first(satellites)?;
+    put_at(sets, at, set)?;
+    let closed = close_least(sets, places);
+    Ok(Some(Offer::Taken { closed }))
 }

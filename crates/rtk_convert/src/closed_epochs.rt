@@ -10,12 +10,13 @@ ghost use Rattle.rtk_rinex.specs.Header.{position_view};
 ghost use Rattle.std.specs.Prelude.{◌≡◌, ℕ, ◌<◌, [], List, false, IfOk};
 
 use crate::epoch_rows::push_rows;
+use arrayvec::ArrayVec;
 use crate::fault::ConvertFault;
 use crate::setup::Setup;
 use crate::writing::write_record;
 use rtk_collect::{EpochSet, Left};
 use rtk_frame::Sink;
-use rtk_obs::{Position, Tracks};
+use rtk_obs::{CellEntry, Position, Tracks};
 use rtk_rinex::RecordLines;
 use std::alloc::{AllocError, Global};
 use std::marker::Model;
@@ -31,6 +32,8 @@ pub(crate) struct ClosedEpochs {
     lines: RecordLines,
     is_header_out: bool,
     count: u64,
+    // Room for the cells of the 1004 of an epoch.
+    room: ArrayVec<CellEntry, 64>,
 }
 
 // Clauses don't see the lines, which are written anew for each epoch. The invariant names every
@@ -66,6 +69,7 @@ impl ClosedEpochs {
             lines: RecordLines::new(alloc),
             is_header_out: false,
             count: 0,
+            room: ArrayVec::new(),
         })
     }
 
@@ -100,7 +104,7 @@ impl ClosedEpochs {
         ensures failed { NamesFailedFile result (O.failures out.old) (O.failures out.new) }
     {
         let listed = setup.head().codes();
-        push_rows(&mut self.tracks, set, listed, &mut self.lines)?;
+        push_rows(&mut self.tracks, set, listed, &mut self.lines, &mut self.room)?;
         let epoch = set.epoch();
         self.lines.finish(epoch);
         let text = self.lines.text();

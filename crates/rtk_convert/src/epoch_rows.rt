@@ -20,6 +20,7 @@ ghost use Rattle.rtk_convert.specs.Rows.{first_cell, rolled_or_none, observed_wi
 ghost use Rattle.rtk_convert.specs.LastPhases.{HasLastPhases};
 ghost use Rattle.rtk_convert.specs.Steps.ShownCells.{AllBelow, MayStep, IsPlaceOf, RiseFrom, HasCellsFrom, TellsSatellite, AreCellsTo, ShowsRow, StepsOver, TakesCells, ArePlaces, is_code, with_code};
 
+use arrayvec::ArrayVec;
 use rtk_collect::EpochSet;
 use rtk_obs::{Cell, CellEntry, Code, Digits, GpsMs, Tracks, rolled};
 use rtk_rinex::{Observed, RecordLines};
@@ -184,12 +185,13 @@ pub(crate) fn push_rows(
     set: &EpochSet,
     listed: &[Code],
     lines: &mut RecordLines,
+    room: &mut ArrayVec<CellEntry, 64>,
 ) -> Result<(), AllocError>
 {
     lines.restart();
     let epoch = set.epoch();
     let msm = set.msm_cells();
-    let legacy = set.legacy_cells();
+    let legacy = set.legacy_left(room);
     let form = RowForm {
         epoch,
         places: places_of(listed),

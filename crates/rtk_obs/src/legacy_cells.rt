@@ -205,6 +205,50 @@ fn put_satellites(
     count
 }
 
+/// Puts the cells of satellites that rise into a list, in place of what it has, but for those whose
+/// codes the cells of an MSM have.
+pub fn put_cells_left(
+    satellites: &[Satellite],
+    msm: &[CellEntry],
+    found: &mut ArrayVec<CellEntry, 64>,
+) {
+    let mut count = 0;
+    let mut at = 0;
+    for satellite in satellites {
+        let mut codes = 0u32;
+        'cells: while at < msm.len() && msm[at].satellite <= satellite.satellite {
+            if msm[at].satellite == satellite.satellite {
+                codes |= 1u32 << msm[at].code.place() as u32;
+            }
+            at += 1;
+        }
+        let length = l1_length(satellite);
+        if codes & (1u32 << l1_code(satellite.l1_code).place() as u32) == 0 {
+            make_room(found, count);
+            set_l1_entry(&mut found.as_mut_slice()[count], satellite, length);
+            count += 1;
+        }
+        if codes & (1u32 << l2_code(satellite.l2_code).place() as u32) == 0 {
+            make_room(found, count);
+            set_l2_entry(&mut found.as_mut_slice()[count], satellite, length);
+            count += 1;
+        }
+    }
+    found.truncate(count);
+}
+
+/// Whether there are satellites, all of RINEX, that rise.
+pub fn are_rising_satellites(satellites: &[Satellite]) -> bool {
+    let mut last = 0;
+    for satellite in satellites {
+        if satellite.satellite <= last {
+            return false;
+        }
+        last = satellite.satellite;
+    }
+    last > 0 && last <= 32
+}
+
 /// Puts the cells of a 1004 into a list, in place of what it has: see `cells_1004`.
 pub fn put_cells_1004(message: &Obs1004, found: &mut ArrayVec<CellEntry, 64>) -> bool
     requires { IsValid message.now }

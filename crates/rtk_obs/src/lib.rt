@@ -49,7 +49,7 @@ pub use laws::{
     cell_laws, cells_are_distinct, cells_are_in_range, civil_laws, code_laws, date_is_unique,
     moment_laws, places_are_distinct, position_laws, rounded_is_unique, track_laws, tracks_laws,
 };
-pub use legacy_cells::{cells_1004, put_cells_1004};
+pub use legacy_cells::{are_rising_satellites, cells_1004, put_cells_1004, put_cells_left};
 pub use lock_time::{least_lock_extended, least_lock_legacy, least_lock_msm};
 pub use message_cells::put_cells_of;
 pub use msm_cells::{cells_msm, put_cells_msm};
