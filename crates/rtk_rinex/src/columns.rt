@@ -193,7 +193,10 @@ fn put_point_and_three(field: &mut [u8], number: usize)
     ensures { field.new ≡ 46 ∷ last_digits 3 number }
 {
     let entry = 4 * number;
-    field.copy_from_slice(&POINT_AND_THREE[entry..entry + 4]);
+    field[0] = POINT_AND_THREE[entry];
+    field[1] = POINT_AND_THREE[entry + 1];
+    field[2] = POINT_AND_THREE[entry + 2];
+    field[3] = POINT_AND_THREE[entry + 3];
 }
 
 // Writes a number below 1000 at the right end of four columns.
@@ -203,7 +206,10 @@ fn put_three_of_four(field: &mut [u8], number: usize)
     ensures { field.new ≡ right 4 (decimal number) }
 {
     let entry = 4 * number;
-    field.copy_from_slice(&THREE_OF_FOUR[entry..entry + 4]);
+    field[0] = THREE_OF_FOUR[entry];
+    field[1] = THREE_OF_FOUR[entry + 1];
+    field[2] = THREE_OF_FOUR[entry + 2];
+    field[3] = THREE_OF_FOUR[entry + 3];
 }
 
 // Writes F14.3 of a magnitude of at least a million and below a thousand million. It is written
