@@ -76,6 +76,7 @@ fn if_of_room(alloc: Global, list: Vec<CellEntry>, room: usize) -> Vec<CellEntry
 impl EpochSet {
     /// An epoch without cells, which has room for so many of each kind. It has each spare list that has
     /// just the room that is wanted; any other is given up before memory is taken.
+    #[inline(always)]
     pub(crate) fn with_room(
         alloc: Global,
         epoch: GpsMs,
@@ -172,6 +173,7 @@ impl EpochSet {
     }
 
     /// Takes the satellites of the first 1004.
+    #[inline(always)]
     pub(crate) fn take_first(&mut self, satellites: &[Satellite]) -> Result<(), AllocError> {
         self.first.extend_from_slice(satellites)
     }
