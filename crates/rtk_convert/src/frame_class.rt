@@ -8,7 +8,7 @@ ghost use Rattle.rtk_convert.specs.FrameClass.{IsDatedMessage, IsClassOfReading}
 
 use crate::setup::Setup;
 use rtk_collect::Dated;
-use rtk_message::{Accepted, AnyDecoder, AnyFault, AnyMessage};
+use rtk_message::{AnyDecoder, AnyFault, AnyMessage};
 use rtk_obs::date;
 
 /// What the payload of a frame means for a conversion.
@@ -32,7 +32,7 @@ pub(crate) fn read_message<'a>(
 ) -> &'a Result<AnyMessage, AnyFault>
     ensures { DecodesBy (only setup.now.msm) (bits payload.now) result.now }
 {
-    decoder.read(Accepted::only(setup.msm()), payload)
+    decoder.read(setup.accepted(), payload)
 }
 
 // A message with its epoch: the moment of its time of week that is nearest to the reference.

@@ -5,7 +5,7 @@ ghost use Rattle.rtk_obs.specs.Dating.{IsReference};
 ghost use Rattle.rtk_rinex.specs.Header.{IsHeadView};
 ghost use Rattle.rtk_convert.specs.Setup.{IsSetupView, IsStation, IsWindow, setup_of};
 
-use rtk_message::MsmKind;
+use rtk_message::{Accepted, MsmKind};
 use rtk_obs::{GpsMs, WEEK_MS};
 use rtk_rinex::Head;
 use std::marker::Model;
@@ -47,6 +47,7 @@ pub struct Setup {
     head: Head,
     window: usize,
     msm: MsmKind,
+    accepted: Accepted,
 }
 
 impl Model for Setup {
@@ -84,6 +85,7 @@ impl Setup {
             head,
             window,
             msm: MsmKind::Msm4,
+            accepted: Accepted::only(MsmKind::Msm4),
         })
     }
 
@@ -91,7 +93,11 @@ impl Setup {
     pub fn with_msm(self, msm: MsmKind) -> Setup
         ensures { result ≡ record self { msm = msm } }
     {
-        Setup { msm, ..self }
+        Setup {
+            msm,
+            accepted: Accepted::only(msm),
+            ..self
+        }
     }
 
     /// The station whose messages are converted (DF003).
@@ -124,6 +130,11 @@ impl Setup {
         ensures good { IsWindow result }
     {
         self.window
+    }
+
+    /// The messages that are converted.
+    pub(crate) fn accepted(&self) -> Accepted {
+        self.accepted
     }
 
     /// Which MSM is converted beside 1004.
