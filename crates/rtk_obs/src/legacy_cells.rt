@@ -216,17 +216,11 @@ pub fn put_cells_left(
     let mut at = 0;
     for satellite in satellites {
         let mut codes = 0u32;
-        'before: while at < msm.len() && msm[at].satellite < satellite.satellite {
+        'cells: while at < msm.len() && msm[at].satellite <= satellite.satellite {
+            if msm[at].satellite == satellite.satellite {
+                codes |= 1u32 << msm[at].code.place() as u32;
+            }
             at += 1;
-        }
-        'cells: while at < msm.len() && msm[at].satellite == satellite.satellite {
-            codes |= 1u32 << msm[at].code.place() as u32;
-            at += 1;
-        }
-        let own = 1u32 << l1_code(satellite.l1_code).place() as u32
-            | 1u32 << l2_code(satellite.l2_code).place() as u32;
-        if codes & own == own {
-            continue;
         }
         let length = l1_length(satellite);
         if codes & (1u32 << l1_code(satellite.l1_code).place() as u32) == 0 {
