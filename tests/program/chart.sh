@@ -13,6 +13,15 @@ chart --text "$marks";              expect chart_of_a_file 0 "$picture" ''
 chart --text --columns 80 "$marks"; expect chart_80_wide 0 "$picture" ''
 # pins: STYLE, LEGEND, svg_picture, svg_start, svg_legend, svg_body, svg_of_epochs, bands_text, ticks_text, satellite_label
 chart "$marks"; expect chart_in_svg 0 "$svg" ''
+# What the legend says of each class of marks. A strength digit n begins at 6 n dB-Hz (RINEX 3.05, table A3).
+python3 - out <<'END' >got
+import re, sys
+for forms, words in re.findall(r"((?:<path class='\w+' d='[^']+'/>)+)<text x='\d+' y='\d+'>([^<]+)", open(sys.argv[1]).read()):
+    print(*re.findall(r"class='(\w+)'", forms), words)
+END
+printf '%s\n' 's slip' 'r rise' 'h half cycle' 'l8 phase' 'l8 p code missing in some epochs' 'm in all' 'g epochs missing' 'l0 none' 'l1 &lt;12' >want
+for digit in 2 3 4 5 6 7 8 9; do echo "l$digit $((6 * digit))"; done >>want
+same legend_of_each_class got want
 COLUMNS=120 "$program" chart --text "$marks" >out 2>err; status=$?
 expect columns_of_the_environment_are_none 0 "$picture" ''
 sed '16s/45.000/45.100/' "$marks" >bad
