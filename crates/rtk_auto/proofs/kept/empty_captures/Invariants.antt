@@ -1,6 +1,5 @@
-use Rattle.std.proofs.Common.{◌≡◌, ◌++◌, ℕ, Bool, drop}
+use Rattle.std.proofs.Common.{◌≡◌, ◌++◌, drop}
 use Rattle.std.specs.Prelude.{not}
-use Rattle.rtk_find.specs.declared.capture_found.CaptureFound.{CaptureFound}
 use Rattle.rtk_auto.specs.Kept.{has_something_of, places_from}
 use Rattle.rtk_auto.proofs.kept.empty_captures.Given as goal
 

@@ -1,4 +1,4 @@
-use Rattle.std.proofs.Common.{◌≡◌, ◌≢◌, ◌++◌, ℕ, sym, ap, ◌∙◌, ne_eqb, arith, rules}
+use Rattle.std.proofs.Common.{◌≢◌, sym, ◌∙◌, ne_eqb}
 use Rattle.rtk_message.specs.MsmForm.{number_of_kind}
 use Rattle.rtk_auto.proofs.lists.put_msm.Goals as goal
 
