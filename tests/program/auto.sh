@@ -178,6 +178,18 @@ finds '--skip-empty one.gz one empty zip' "$two 1013" "$one_command one" "$count
     ' skipped one.gz looks like gzip\n skipped empty is empty\n skipped zip looks like zip'
 finds '--skip-empty --station 7 one stations' "$noon until $noon by 1013 of station 2003" \
     "$(echo "$one_command" | sed 's/2003/0007/g; s/station 0007/station 7/') stations" '4 1 0 2 1 0 0 0 1' 0 '' ' skipped one'
+# labelled OPTIONS: the command of `label` for FILE
+labelled() { printf '\nrtcm2rinex label%s FILE' "$1"; }
+# pins: option_words, antenna_words, receiver_words, file_word, command_with, is_null_antenna, fits_field, LabelCommand.is_printed
+finds equipped "$two 1013" "$one_command equipped$(labelled " --antenna-type 'TRM55971.00     NONE' --antenna-number 1440911917 --receiver-type 'TRIMBLE NETR9' --receiver-version 4.48 --receiver-number 5148K72868")" '6 4 0 0 2 0 0 0 2' 0 one.rnx
+finds null_antenna "$two 1013" "$one_command null_antenna$(labelled " --receiver-type 'LEICA GRX1200+GNSS' --receiver-version 9.20 --receiver-number 496710")" '4 2 0 0 2 0 0 0 2' 0 one.rnx
+finds only_null "$two 1013" "$one_command only_null" '4 2 0 0 2 0 0 0 2' 0 one.rnx
+finds unfit "$two 1013" "$one_command unfit$(labelled " --antenna-type GPPNULLANTENNAS --receiver-number --'it'\\''s'")" '4 2 0 0 2 0 0 0 2' 0 one.rnx
+auto -o 'a file' equipped; grep '^rtcm2rinex label' err >said
+(PATH=$work/bin:$PATH && . ./said) >labelled_file 2>again_err
+run label --blank labelled_file; leaves the_label_as_said 0 one.rnx /dev/null
+sed -n 's/ *ANT # \/ TYPE *$//p' labelled_file >told; echo '1440911917          TRM55971.00     NONE' >want; same the_antenna_as_said told want
+rm 'a file'
 # pins: word_text, marker_words
 finds '--marker "NEW ROOF" one' "$two 1013" "$(echo "$one_command" | sed "s/--marker 2003/--marker 'NEW ROOF'/") one" "$counts" 0 ''
 # pins: word_text, marker_words

@@ -33,6 +33,12 @@ def cell_of(second, number):
     return capture(msm_of(1000 * second, {5: (70, 0)}, {(5, 2): {"cnr": 40}}, number))
 
 
+def equipment(number, *fields, station=2003):
+    """A 1007, 1008 or 1033: a number is a byte, a text stands behind its count of bytes."""
+    told = b"".join(bytes([it]) if isinstance(it, int) else bytes([len(it)]) + it for it in fields)
+    return frame_of((number << 12 | station).to_bytes(3, "big") + told)
+
+
 NOON = DAY + 43_200
 ONE = date(43_200) + epochs(NOON, NOON + 1)
 BASE = (Path(__file__).resolve().parents[2] / "examples/base.rtcm").read_bytes()
@@ -71,6 +77,11 @@ CAPTURES = {
         for it in range(1, 4)),
     "week_end": date(86_390, 60_448) + epochs(*range(604_790, 604_810)),
     "next_week": date(86_390, 60_456) + epochs(604_790 + 86_400),
+    "equipped": ONE + equipment(1007, b"TRM41249.00     SCIS", 0) + equipment(1008, b"AOAD/M_T", 1, b"309", station=7)
+    + equipment(1033, b"TRM55971.00     NONE", 0, b"1440911917", b"TRIMBLE NETR9", b"4.48", b"5148K72868"),
+    "null_antenna": ONE + equipment(1033, b"ADVNULLANTENNA  NONE", 0, b"12", b"LEICA GRX1200+GNSS", b"9.20", b"496710"),
+    "only_null": ONE + equipment(1007, b"GPPNULLANTENNA", 0),
+    "unfit": ONE + equipment(1033, b"GPPNULLANTENNAS", 0, b"blank ", b"of 21 characters here", b"tab\t", b"--it's"),
     "no_value": date(43_200) + capture(legacy_of(1000 * NOON, [])),
     **{f"here.{it}": date(43_200 + it) + place(x) + epochs(NOON + it, NOON + it + 9) for it, x in ((0, 0), (1, 1_000_000), (2, 1_000_001))},
     **{f"same.{it:02}": date(43_200) + epochs(NOON, NOON + 1, satellites=(it + 1,)) for it in range(17)},

@@ -14,8 +14,8 @@ use crate::auto_refusing::fail_output;
 use crate::converting::{Converted, conversion_status};
 use crate::words::AutoWords;
 use rtk_auto::{
-    Captured, Known, Plan, PlanFault, Ways, plan_of, put_command, put_counts, put_known, put_span,
-    what_is_known,
+    Captured, Known, Plan, PlanFault, Ways, plan_of, put_command, put_counts, put_known,
+    put_label_command, put_span, what_is_known,
 };
 use rtk_convert::{Counts, Setup};
 use rtk_obs::GpsMs;
@@ -244,11 +244,14 @@ fn work_of<'a>(
     captured: &Captured<'_, '_, '_>,
     names: &[&'a str],
     plan: Plan,
+    output: Option<&str>,
     lines: &mut Vec<u8>,
 ) -> Result<Work<'a>, AllocError> {
     let links = names_of_links(alloc, plan.links.as_slice(), names)?;
     put_span(lines, &plan.span)?;
     put_command(lines, &plan.setup, links.as_slice())?;
+    let summary = &captured.findings.summary;
+    put_label_command(alloc, lines, summary, plan.setup.station(), output)?;
     let known = what_is_known(alloc, captured, &plan)?;
     Ok(Work {
         setup: plan.setup,
@@ -288,7 +291,7 @@ fn begin_told<'a, R: Eprint + AllocGlobal, W: Write>(
         Err(fault) => return Err(fail_plan(rt, report, fault)),
     };
     let mut lines = Vec::new(rt.alloc());
-    let Ok(work) = work_of(rt.alloc(), &captured, names, plan, &mut lines) else {
+    let Ok(work) = work_of(rt.alloc(), &captured, names, plan, ways.output, &mut lines) else {
         return Err(fail(rt, ToolFault::OutOfMemory));
     };
     tell(rt, report, lines.as_slice())?;
