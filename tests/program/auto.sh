@@ -191,6 +191,7 @@ run label --blank labelled_file; leaves the_label_as_said 0 one.rnx /dev/null
 sed -n 's/ *ANT # \/ TYPE *$//p' labelled_file >told; echo '1440911917          TRM55971.00     NONE' >want; same the_antenna_as_said told want
 rm 'a file'
 # --label puts it on, and leaves nothing beside. A file of a header alone gets it too; without one that fits it is the plain file.
+# pins: label_if_any
 auto --label -o 'a file' equipped; leaves label 0 /dev/null equipped.err; same the_file_with_its_label 'a file' labelled_file
 auto -f --label -o 'a file' --codes 5X equipped; [ "$status" = 3 ] && right label_of_a_header || wrong label_of_a_header "$status"
 run label --blank 'a file'; cp out plain; auto --codes 5X equipped; same the_header_with_its_label plain out

@@ -59,5 +59,5 @@ pub use planning::{Plan, plan_of};
 pub use refusal::{PlanFault, Refusal};
 pub use said_command::put_command;
 pub use span_line::{DateSource, DatedSpan, put_span};
-pub use told_label::label_of_station;
+pub use told_label::label_wanted;
 pub use wanted::{Wanted, Ways};

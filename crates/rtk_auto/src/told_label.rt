@@ -1,6 +1,6 @@
 //! The label of what messages told of the station's antenna and receiver.
 
-ghost use Rattle.std.specs.Prelude.{◌≡◌, ◌<◌, List, get_or, IfOk};
+ghost use Rattle.std.specs.Prelude.{◌≡◌, ◌<◌, List, None, true, false, get_or, IfOk};
 ghost use Rattle.std.specs.List.{list_all};
 ghost use Rattle.rtk_equipment.specs.Told.{no_equipment, equipment_of};
 ghost use Rattle.rtk_summary.specs.EquipmentTold.{equipment_among};
@@ -8,6 +8,7 @@ ghost use Rattle.rtk_summary.specs.ReadFrames.{ReadFrame};
 ghost use Rattle.rtk_summary.specs.Standing.{StandsForFrames};
 ghost use Rattle.rtk_auto.specs.ToldLabel as spec;
 
+use crate::wanted::Ways;
 use rtk_equipment::{Equipment, Text};
 use rtk_label::{Label, LabelParts};
 use rtk_summary::Summary;
@@ -133,11 +134,29 @@ fn label_of(told: &[Equipment]) -> Option<Label>
     label_if_any(&told[0])
 }
 
-/// The label of what messages told of a station; none if nothing was told that fits.
-pub fn label_of_station(summary: &Summary, station: u16) -> Result<Option<Label>, AllocError>
+// The label of what messages told of a station; none if nothing was told that fits.
+fn label_of_station(summary: &Summary, station: u16) -> Result<Option<Label>, AllocError>
     requires { station < 4096 }
     ensures { (fs : List ReadFrame) → StandsForFrames summary.now fs
         → IfOk result (λ label. label ≡ spec.label_if_any (equipment_of station (equipment_among fs))) }
 {
     Ok(label_of(summary.equipment_of(station)?))
+}
+
+/// The label that the file of a station gets, if it is asked for and told.
+pub fn label_wanted(
+    summary: &Summary,
+    station: u16,
+    ways: &Ways<'_>,
+) -> Result<Option<Label>, AllocError>
+    requires { station < 4096 }
+    ensures asked { ways.now.label ≡ true → (fs : List ReadFrame) → StandsForFrames summary.now fs
+        → IfOk result (λ label. label ≡ spec.label_if_any (equipment_of station (equipment_among fs))) }
+    ensures not_asked { ways.now.label ≡ false → IfOk result (λ label. label ≡ None) }
+{
+    if ways.label {
+        label_of_station(summary, station)
+    } else {
+        Ok(None)
+    }
 }

@@ -1,7 +1,7 @@
 //! The command `auto`: it reads the captures, finds what their conversion is told, converts them, and
 //! says how it went.
 
-ghost use Rattle.std.specs.Prelude.{◌≡◌, ◌≤◌, ◌<◌, List, Ok, None, IfOk, IfErr, IsOk, IsTrue};
+ghost use Rattle.std.specs.Prelude.{◌≡◌, ◌≤◌, List, Ok, None, IfOk, IfErr, IsOk, IsTrue};
 ghost use Rattle.rtk_convert.specs.Failure.{IsRunFault};
 ghost use Rattle.rtk_summary.specs.ReadFrames.{ReadFrame};
 ghost use Rattle.rtk_find.specs.Captures.{StandsForCaptures};
@@ -15,7 +15,7 @@ use crate::auto_refusing::fail_output;
 use crate::converting::{Converted, conversion_status};
 use crate::words::AutoWords;
 use rtk_auto::{
-    Captured, Known, Plan, PlanFault, Ways, label_of_station, plan_of, put_command, put_counts,
+    Captured, Known, Plan, PlanFault, Ways, label_wanted, plan_of, put_command, put_counts,
     put_known, put_label_command, put_span, what_is_known,
 };
 use rtk_convert::{Counts, Setup};
@@ -286,21 +286,6 @@ fn convert_to_output<R: Files + Print + Eprint + AllocGlobal, W: Write + Drop>(
     }
 }
 
-// The label of the station's file, if it is asked for and told.
-fn label_wanted(
-    captured: &Captured<'_, '_, '_>,
-    station: u16,
-    ways: &Ways<'_>,
-) -> Result<Option<Label>, AllocError>
-    requires { station < 4096 }
-{
-    if ways.label {
-        label_of_station(&captured.findings.summary, station)
-    } else {
-        Ok(None)
-    }
-}
-
 // The conversion of a plan, once it is said what it is.
 fn work_of<'a>(
     alloc: Global,
@@ -314,8 +299,9 @@ fn work_of<'a>(
     put_span(lines, &plan.span)?;
     put_command(lines, &plan.setup, links.as_slice())?;
     let station = plan.setup.station();
-    put_label_command(alloc, lines, &captured.findings.summary, station, ways.output)?;
-    let label = label_wanted(captured, station, ways)?;
+    let summary = &captured.findings.summary;
+    put_label_command(alloc, lines, summary, station, ways.output)?;
+    let label = label_wanted(summary, station, ways)?;
     let known = what_is_known(alloc, captured, &plan)?;
     Ok(Work {
         setup: plan.setup,
