@@ -182,16 +182,30 @@ finds '--skip-empty --station 7 one stations' "$noon until $noon by 1013 of stat
     "$(echo "$one_command" | sed 's/2003/0007/g; s/station 0007/station 7/') stations" '4 1 0 2 1 0 0 0 1' 0 '' ' skipped one'
 # labelled OPTIONS: the command of `label` for FILE
 labelled() { printf '\nrtcm2rinex label%s FILE' "$1"; }
-# pins: option_words, antenna_words, receiver_words, file_word, command_with, is_null_antenna, fits_field, LabelCommand.is_printed
+# pins: option_words, label_words, file_word, command_with, field_of, antenna_field, label_told, is_null_antenna, fits_field, ToldLabel.is_printed
 finds equipped "$two 1013" "$one_command equipped$(labelled " --antenna-type 'TRM55971.00     NONE' --antenna-number 1440911917 --receiver-type 'TRIMBLE NETR9' --receiver-version 4.48 --receiver-number 5148K72868")" '6 4 0 0 2 0 0 0 2' 0 one.rnx
 finds null_antenna "$two 1013" "$one_command null_antenna$(labelled " --receiver-type 'LEICA GRX1200+GNSS' --receiver-version 9.20 --receiver-number 496710")" '4 2 0 0 2 0 0 0 2' 0 one.rnx
 finds only_null "$two 1013" "$one_command only_null" '4 2 0 0 2 0 0 0 2' 0 one.rnx
 finds unfit "$two 1013" "$one_command unfit$(labelled " --antenna-type GPPNULLANTENNAS --receiver-number --'it'\\''s'")" '4 2 0 0 2 0 0 0 2' 0 one.rnx
-auto -o 'a file' equipped; grep '^rtcm2rinex label' err >said
+auto -o 'a file' equipped; cp err equipped.err; grep '^rtcm2rinex label' err >said
 (PATH=$work/bin:$PATH && . ./said) >labelled_file 2>again_err
 run label --blank labelled_file; leaves the_label_as_said 0 one.rnx /dev/null
 sed -n 's/ *ANT # \/ TYPE *$//p' labelled_file >told; echo '1440911917          TRM55971.00     NONE' >want; same the_antenna_as_said told want
 rm 'a file'
+# --label puts it on, and leaves nothing beside. A file of a header alone gets it too; without one that fits it is the plain file.
+# pins: label_if_any
+auto --label -o 'a file' equipped; leaves label 0 /dev/null equipped.err; same the_file_with_its_label 'a file' labelled_file
+auto -f --label -o 'a file' --codes 5X equipped; [ "$status" = 3 ] && right label_of_a_header || wrong label_of_a_header "$status"
+run label --blank 'a file'; cp out plain; auto --codes 5X equipped; same the_header_with_its_label plain out
+for capture in only_null one; do
+    auto -f --label -o 'a file' $capture; [ "$status" = 0 ] && same "no_label_of_$capture" 'a file' one.rnx || wrong "no_label_of_$capture" "$status"
+done
+echo begun >'a file.part'; auto -f --label -o 'a file' equipped; same label_beside_another_run 'a file' labelled_file
+[ "$(ls 'a file'*)" = "$(printf 'a file\na file.part')" ] && right no_file_beside_the_label || wrong no_file_beside_the_label "$(ls 'a file'*)"
+rm 'a file' 'a file.part'
+auto --label equipped
+expect label_without_a_file 2 '' "$(error 'the following required arguments were not provided:
+  --output <FILE>' 'auto --output <FILE> --made <T> --label <CAPTURE>...')"
 # pins: word_text, marker_words
 finds '--marker "NEW ROOF" one' "$two 1013" "$(echo "$one_command" | sed "s/--marker 2003/--marker 'NEW ROOF'/") one" "$counts" 0 ''
 # pins: word_text, marker_words
@@ -286,4 +300,4 @@ done
 "$program" auto --made $made one >/dev/full 2>err; status=$?; : >out
 leaves a_full_output 1 /dev/null want
 
-ends 176
+ends 193

@@ -36,6 +36,11 @@ fn force_arg<'a>(alloc: Global) -> Arg<'a> {
     switch_arg(alloc, "force", "Replace a FILE that is there").short('f')
 }
 
+fn label_arg<'a>(alloc: Global) -> Result<Arg<'a>, AllocError> {
+    let help = "Label the FILE with the antenna and the receiver that are told";
+    switch_arg(alloc, "label", help).requires_arg("output")
+}
+
 fn station_arg<'a>(alloc: Global) -> Arg<'a> {
     let help = "The reference station, if there are several";
     option_arg(alloc, "station", "N", help).value_parser(value_parser!(u32).range(
@@ -81,6 +86,7 @@ fn auto_alone<'a>(alloc: Global) -> Result<Command<'a>, AllocError> {
         .after_long_help(help_texts::AUTO)
         .arg(output_arg(alloc))?
         .arg(force_arg(alloc))?
+        .arg(label_arg(alloc)?)?
         .arg(marker_arg(alloc))
 }
 

@@ -29,6 +29,8 @@ pub struct AutoOptions<'a> {
     pub output: Option<&'a str>,
     /// A file of that name is replaced.
     pub force: bool,
+    /// The file has the label that messages told.
+    pub label: bool,
     /// Captures in which nothing of the station was found are left out.
     pub skip_empty: bool,
     /// Each capture is a link, and stations at different positions are taken for one.

@@ -64,6 +64,7 @@ fn auto_option_values<'a>(matches: &ArgMatches<'a>) -> Option<AutoOptions<'a>> {
         window,
         output: matches.get_str("output"),
         force: matches.get_flag("force"),
+        label: matches.get_flag("label"),
         skip_empty: matches.get_flag("skip-empty"),
         links_as_given: matches.get_flag("links-as-given"),
         report: matches.get_flag("report"),

@@ -1,2 +1,3 @@
 mod PutLemmas
+mod ToldLabelLemmas
 mod WalkLemmas

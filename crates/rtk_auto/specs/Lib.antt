@@ -8,3 +8,4 @@ pub mod Plan
 pub mod Positions
 pub mod SaidCommand
 pub mod SpanLine
+pub mod ToldLabel

@@ -47,6 +47,7 @@ mod positions;
 mod refusal;
 mod said_command;
 mod span_line;
+mod told_label;
 mod wanted;
 
 pub use captured::Captured;
@@ -58,4 +59,5 @@ pub use planning::{Plan, plan_of};
 pub use refusal::{PlanFault, Refusal};
 pub use said_command::put_command;
 pub use span_line::{DateSource, DatedSpan, put_span};
+pub use told_label::label_wanted;
 pub use wanted::{Wanted, Ways};

@@ -1,26 +1,28 @@
 //! The command `auto`: it reads the captures, finds what their conversion is told, converts them, and
 //! says how it went.
 
-ghost use Rattle.std.specs.Prelude.{◌≡◌, ◌≤◌, List, IfOk, IfErr, IsOk, IsTrue};
+ghost use Rattle.std.specs.Prelude.{◌≡◌, ◌≤◌, List, Ok, None, IfOk, IfErr, IsOk, IsTrue};
 ghost use Rattle.rtk_convert.specs.Failure.{IsRunFault};
 ghost use Rattle.rtk_summary.specs.ReadFrames.{ReadFrame};
 ghost use Rattle.rtk_find.specs.Captures.{StandsForCaptures};
 ghost use Rattle.rtk_streams.specs.declared.exit_status.TheConstants.{NOT_VALID};
 
 use crate::auto_converting::convert_joined;
+use crate::auto_labelling::label_beside;
 use crate::auto_looking::{look_at_files, made_at};
 use crate::auto_reading::{Told, read_captures};
 use crate::auto_refusing::fail_output;
 use crate::converting::{Converted, conversion_status};
 use crate::words::AutoWords;
 use rtk_auto::{
-    Captured, Known, Plan, PlanFault, Ways, plan_of, put_command, put_counts, put_known,
-    put_label_command, put_span, what_is_known,
+    Captured, Known, Plan, PlanFault, Ways, label_wanted, plan_of, put_command, put_counts,
+    put_known, put_label_command, put_span, what_is_known,
 };
 use rtk_convert::{Counts, Setup};
+use rtk_label::Label;
 use rtk_obs::GpsMs;
 use rtk_streams::{
-    DONE, Later, NOT_VALID, Quiet, ToolFault, fail, let_go, make_beside, name_whole,
+    Beside, DONE, Later, NOT_VALID, Quiet, ToolFault, fail, let_go, make_beside, name_whole,
 };
 use std::alloc::{AllocError, Global};
 use std::env::Env;
@@ -148,6 +150,8 @@ struct Work<'a> {
     /// The names of the captures of each link.
     links: Vec<Vec<&'a str>>,
     known: Known,
+    /// The label that the file gets.
+    label: Option<Label>,
 }
 
 // Converts to a writer, which is handed back with the counts, and says how it went.
@@ -194,29 +198,73 @@ fn finish<R: Eprint + AllocGlobal, O: Write + Drop, W: Write + Drop>(
     Ok((converted.out, counts))
 }
 
-// Converts to a file beside this name, which gets the name once it is whole.
-#[inline(never)]
-fn convert_to_file<R: Files + Eprint + AllocGlobal, W: Write + Drop>(
+// Converts to a file beside this name. If that is not whole, it is let go.
+fn convert_beside<R: Files + Eprint + AllocGlobal, W: Write + Drop>(
     rt: &R,
     work: Work<'_>,
+    report: W,
+    name: &str,
+    is_reported: bool,
+) -> Result<(Beside<R::File>, Counts), u8>
+    ensures { IfErr result (λ status. status ≤ NOT_VALID) }
+{
+    let beside = match make_beside(rt, name) {
+        Ok(beside) => beside,
+        Err(fault) => return Err(fail_output(rt, name, fault)),
+    };
+    match convert_to(rt, work, beside.file, report, is_reported) {
+        Ok((file, counts)) => Ok((
+            Beside {
+                file,
+                name: beside.name,
+            },
+            counts,
+        )),
+        Err(status) => {
+            let_go(rt, beside.name.as_str());
+            Err(status)
+        }
+    }
+}
+
+// The file that gets the name: the one that was converted, or that one with the label.
+fn whole_beside<R: Files + Input + Eprint + AllocGlobal>(
+    rt: &R,
+    label: Option<Label>,
+    plain: Beside<R::File>,
+    name: &str,
+) -> Result<Beside<R::File>, u8>
+    ensures plain { label ≡ None → result ≡ Ok plain }
+    ensures status { IfErr result (λ status. status ≤ NOT_VALID) }
+{
+    match label {
+        Some(label) => label_beside(rt, &label, plain, name),
+        None => Ok(plain),
+    }
+}
+
+// Converts to a file beside this name, which gets the name once it is whole, or once the file with its
+// label is.
+#[inline(never)]
+fn convert_to_file<R: Files + Input + Eprint + AllocGlobal, W: Write + Drop>(
+    rt: &R,
+    mut work: Work<'_>,
     report: W,
     name: &str,
     ways: &Ways<'_>,
 ) -> u8
     ensures { result ≤ NOT_VALID }
 {
-    let beside = match make_beside(rt, name) {
-        Ok(beside) => beside,
-        Err(fault) => return fail_output(rt, name, fault),
-    };
-    let (file, counts) = match convert_to(rt, work, beside.file, report, ways.report) {
+    let label = work.label.take();
+    let (plain, counts) = match convert_beside(rt, work, report, name, ways.report) {
         Ok(done) => done,
-        Err(status) => {
-            let_go(rt, beside.name.as_str());
-            return status;
-        }
+        Err(status) => return status,
     };
-    match name_whole(rt, file, beside.name.as_str(), name, ways.force) {
+    let whole = match whole_beside(rt, label, plain, name) {
+        Ok(whole) => whole,
+        Err(status) => return status,
+    };
+    match name_whole(rt, whole.file, whole.name.as_str(), name, ways.force) {
         Ok(()) => done_status(rt, &counts),
         Err(fault) => fail_output(rt, name, fault),
     }
@@ -244,19 +292,22 @@ fn work_of<'a>(
     captured: &Captured<'_, '_, '_>,
     names: &[&'a str],
     plan: Plan,
-    output: Option<&str>,
+    ways: &Ways<'_>,
     lines: &mut Vec<u8>,
 ) -> Result<Work<'a>, AllocError> {
     let links = names_of_links(alloc, plan.links.as_slice(), names)?;
     put_span(lines, &plan.span)?;
     put_command(lines, &plan.setup, links.as_slice())?;
+    let station = plan.setup.station();
     let summary = &captured.findings.summary;
-    put_label_command(alloc, lines, summary, plan.setup.station(), output)?;
+    put_label_command(alloc, lines, summary, station, ways.output)?;
+    let label = label_wanted(summary, station, ways)?;
     let known = what_is_known(alloc, captured, &plan)?;
     Ok(Work {
         setup: plan.setup,
         links,
         known,
+        label,
     })
 }
 
@@ -291,7 +342,7 @@ fn begin_told<'a, R: Eprint + AllocGlobal, W: Write>(
         Err(fault) => return Err(fail_plan(rt, report, fault)),
     };
     let mut lines = Vec::new(rt.alloc());
-    let Ok(work) = work_of(rt.alloc(), &captured, names, plan, ways.output, &mut lines) else {
+    let Ok(work) = work_of(rt.alloc(), &captured, names, plan, ways, &mut lines) else {
         return Err(fail(rt, ToolFault::OutOfMemory));
     };
     tell(rt, report, lines.as_slice())?;

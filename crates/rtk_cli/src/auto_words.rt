@@ -127,6 +127,7 @@ fn ways_of<'a>(options: &AutoOptions<'a>) -> Ways<'a> {
     Ways {
         output: options.output,
         force: options.force,
+        label: options.label,
         skip_empty: options.skip_empty,
         links_as_given: options.links_as_given,
         report: options.report,

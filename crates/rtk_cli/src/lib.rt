@@ -17,6 +17,7 @@
 #![tactic(auto)]
 
 mod auto_converting;
+mod auto_labelling;
 mod auto_looking;
 mod auto_reading;
 mod auto_refusing;

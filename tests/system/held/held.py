@@ -34,9 +34,9 @@ LINK = 62_000
 GATHERED = 2 * 65_536
 # What a conversion of one link holds besides: the manual says some 85 kB.
 LEAST_BESIDE, MOST_BESIDE = 80_500, 85_500
-# What a summary holds: some 1.5 MB. `auto` holds as much besides what its conversion holds, and so much for each capture.
-LEAST_OF_SUMMARY, MOST_OF_SUMMARY = 1_480_000, 1_500_000
-LEAST_OF_AUTO, MOST_OF_AUTO = 1_330_000, 1_420_000
+# What a summary holds: some 1.6 MB. `auto` holds as much besides what its conversion holds, and so much for each capture.
+LEAST_OF_SUMMARY, MOST_OF_SUMMARY = 1_580_000, 1_600_000
+LEAST_OF_AUTO, MOST_OF_AUTO = 1_430_000, 1_520_000
 CAPTURE = 600
 
 # The sizes of an input: a vector that doubles has just the room that it needs. A file of as many

@@ -3,12 +3,12 @@ use Rattle.std.proofs.lemmas.List.{append-nil}
 use Rattle.std.specs.Borrow.{Bor}
 use Rattle.rtk_equipment.specs.Told.{no_equipment}
 use Rattle.rtk_equipment.specs.declared.equipment.Equipment.{Equipment}
-use Rattle.rtk_auto.specs.LabelCommand.{antenna_words, receiver_words, label_text}
+use Rattle.rtk_auto.specs.LabelCommand.{label_words, label_text}
 use Rattle.rtk_auto.proofs.label_command.put_told.Goals as goal
 
 -- nothing was told
 no-command : (told : List Equipment) (file : Option (Bor (List ℕ))) → length told ≡ 0 → label_text (get_or told 0 no_equipment) file ≡ []
-unfolding antenna_words receiver_words
+unfolding label_words
 no-command [] file none = refl
 no-command (e ∷ es) file none = absurd (omega (arith, none))
 

@@ -1,0 +1,88 @@
+//! The label of `auto`: a file that is converted is labelled, to another one beside its name.
+
+ghost use Rattle.std.specs.Prelude.{◌≡◌, ◌≤◌, None, Ok, IfOk, IfErr, IfSome};
+ghost use Rattle.rtk_commands.specs.LabelInput.{LabelsText};
+ghost use Rattle.rtk_streams.specs.Passed.{taken_of};
+ghost use Rattle.rtk_streams.specs.declared.exit_status.TheConstants.{NOT_VALID};
+
+use crate::auto_refusing::fail_output;
+use rtk_commands::{Labelled, label_through};
+use rtk_label::Label;
+use rtk_streams::{
+    Beside, GATHERED, ToolFault, fail, fail_to_open, let_go, make_beside, open_input,
+};
+use std::fs::Files;
+use std::io::{Read, Write};
+
+// The writer of a label that is out, else says why it is not. A file that gets no label is not the one
+// that was written.
+fn written_label<R: Eprint, W: Drop>(rt: &R, labelled: Labelled<W>) -> Result<W, u8>
+    ensures done { IfOk result (λ out. (labelled.done ≡ Ok None) × (out ≡ labelled.out)) }
+    ensures status { IfErr result (λ status. status ≤ NOT_VALID) }
+{
+    match labelled.done {
+        Ok(None) => Ok(labelled.out),
+        Ok(Some(_refusal)) => Err(fail(rt, ToolFault::Input)),
+        Err(fault) => Err(fail(rt, fault)),
+    }
+}
+
+// Labels what a reader has, to a writer that is handed back, or says why it is not done. Where the bytes
+// of the reader or of the writer are not known, nothing is said of them.
+fn label_to<R: Eprint + AllocGlobal, S: Read + Drop, W: Write + Drop>(
+    rt: &R,
+    label: &Label,
+    reader: S,
+    out: W,
+) -> Result<W, u8>
+    ensures labelled { IfOk result (λ file. IfSome (S.remaining reader) (λ text.
+        LabelsText label.now None text (W.contents out) (taken_of (W.contents out) (W.contents file)))) }
+    ensures status { IfErr result (λ status. status ≤ NOT_VALID) }
+{
+    match label_through(rt.alloc(), reader, label, GATHERED, out) {
+        Ok(labelled) => written_label(rt, labelled),
+        Err(fault) => Err(fail(rt, fault)),
+    }
+}
+
+// Labels the file of this name to another one beside FILE. If that is not whole, it is let go.
+fn label_named_beside<R: Files + Input + Eprint + AllocGlobal>(
+    rt: &R,
+    label: &Label,
+    plain: &str,
+    name: &str,
+) -> Result<Beside<R::File>, u8>
+    ensures { IfErr result (λ status. status ≤ NOT_VALID) }
+{
+    let Some(reader) = open_input(rt, plain) else {
+        return Err(fail_to_open(rt, plain));
+    };
+    let beside = match make_beside(rt, name) {
+        Ok(beside) => beside,
+        Err(fault) => return Err(fail_output(rt, name, fault)),
+    };
+    match label_to(rt, label, reader, beside.file) {
+        Ok(file) => Ok(Beside {
+            file,
+            name: beside.name,
+        }),
+        Err(status) => {
+            let_go(rt, beside.name.as_str());
+            Err(status)
+        }
+    }
+}
+
+/// Labels a file that is whole, to another one beside FILE; the first is let go.
+pub(crate) fn label_beside<R: Files + Input + Eprint + AllocGlobal>(
+    rt: &R,
+    label: &Label,
+    plain: Beside<R::File>,
+    name: &str,
+) -> Result<Beside<R::File>, u8>
+    ensures { IfErr result (λ status. status ≤ NOT_VALID) }
+{
+    let labelled = label_named_beside(rt, label, plain.name.as_str(), name);
+    let_go(rt, plain.name.as_str());
+    labelled
+}
