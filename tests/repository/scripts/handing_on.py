@@ -43,8 +43,8 @@ auto_request: auto_option_values(matches) / Ok(None) / Vec::from_slice(alloc, ma
 auto_option_values: station_of(matches.get_one::<u32>("station"))? / window_of(matches.get_one::<u32>("window"))?
     / msm_if_any(matches.get_one::<u32>("msm"))? / Some(AutoOptions { station, msm, codes: matches.get_str("codes"),
     near: matches.get_str("near"), made: matches.get_str("made"), marker: matches.get_str("marker"), window,
-    output: matches.get_str("output"), force: matches.get_flag("force"), skip_empty: matches.get_flag("skip-empty"),
-    links_as_given: matches.get_flag("links-as-given"), report: matches.get_flag("report"), })
+    output: matches.get_str("output"), force: matches.get_flag("force"), label: matches.get_flag("label"),
+    skip_empty: matches.get_flag("skip-empty"), links_as_given: matches.get_flag("links-as-given"), report: matches.get_flag("report"), })
 station_of: let Some(station) = station else { return Some(None); } / station > GREATEST_STATION / None / Some(Some(station as u16))
 window_of: let Some(window) = window else { return Some(None); } / window < LEAST_WINDOW || window > MOST_WINDOW / None
     / Some(Some(window as u16))
@@ -78,7 +78,7 @@ moment_if_any: let Some(text) = text else { return Ok(None); } / moment_of(text.
     / Err(words_fault(line))
 codes_if_any: let Some(text) = text else { return Ok(None); } / codes_listed(alloc, text) / Ok(codes) => Ok(Some(codes)),
     / Err(fault) => Err(fault),
-ways_of: Ways { output: options.output, force: options.force, skip_empty: options.skip_empty,
+ways_of: Ways { output: options.output, force: options.force, label: options.label, skip_empty: options.skip_empty,
     links_as_given: options.links_as_given, report: options.report, }
 plan_of: captured.findings.summary.frames() == 0 / refused(Refusal::NoFrame, captured.list_all(alloc)?)
     / station_to_convert(alloc, captured, wanted.station)? / captures_to_skip(alloc, captured, station, skip_empty)?
@@ -145,19 +145,29 @@ read_named: open_input(rt, name) / Err(fail_to_open(rt, name)) / find_through(rt
     / Err(fault) => Err(summary_status(rt, Err(fault))),
 begin_told: Captured { findings: &told.findings, names, differing: told.differing.as_slice(), } / &words.ways
     / plan_of(rt.alloc(), &captured, &words.wanted, made, ways.skip_empty, ways.links_as_given)
-    / Err(fail_plan(rt, report, fault)) / Vec::new(rt.alloc()) / work_of(rt.alloc(), &captured, names, plan, &mut lines)
+    / Err(fail_plan(rt, report, fault)) / Vec::new(rt.alloc()) / work_of(rt.alloc(), &captured, names, plan, ways, &mut lines)
     / Err(fail(rt, ToolFault::OutOfMemory)) / tell(rt, report, lines.as_slice())? / Ok(work)
 fail_plan: fault / fail(rt, ToolFault::OutOfMemory) / eprintln!(rt; "rtcm2rinex: {refusal}") / report.write_all(list.as_slice())
     / NOT_VALID
 work_of: names_of_links(alloc, plan.links.as_slice(), names)? / put_span(lines, &plan.span)?
-    / put_command(lines, &plan.setup, links.as_slice())? / what_is_known(alloc, captured, &plan)?
-    / Ok(Work { setup: plan.setup, links, known, })
+    / put_command(lines, &plan.setup, links.as_slice())? / plan.setup.station() / &captured.findings.summary
+    / put_label_command(alloc, lines, summary, station, ways.output)? / label_wanted(summary, station, ways)?
+    / what_is_known(alloc, captured, &plan)? / Ok(Work { setup: plan.setup, links, known, label, })
 names_of_links: Vec::new(alloc) / links / Vec::new(alloc) / link / captures.push(names.get(*place).copied().unwrap_or(""))?
     / all.push(captures)? / Ok(all)
 tell: report.write_all(lines) / Err(fail(rt, ToolFault::Output))
-convert_to_file: make_beside(rt, name) / fail_output(rt, name, fault) / convert_to(rt, work, beside.file, report, ways.report)
-    / Err(status) => { let_go(rt, beside.name.as_str()); return status; } / name_whole(rt, file, beside.name.as_str(), name, ways.force)
+convert_to_file: work.label.take() / convert_beside(rt, work, report, name, ways.report) / Err(status) => return status,
+    / whole_beside(rt, label, plain, name) / Err(status) => return status,
+    / name_whole(rt, whole.file, whole.name.as_str(), name, ways.force)
     / Ok(()) => done_status(rt, &counts), / fail_output(rt, name, fault)
+convert_beside: make_beside(rt, name) / Err(fail_output(rt, name, fault)) / convert_to(rt, work, beside.file, report, is_reported)
+    / Ok((Beside { file, name: beside.name, }, counts)) / let_go(rt, beside.name.as_str()) / Err(status)
+whole_beside: label_beside(rt, &label, plain, name) / Ok(plain)
+label_beside: label_named_beside(rt, label, plain.name.as_str(), name) / let_go(rt, plain.name.as_str()) / labelled
+label_named_beside: open_input(rt, plain) / Err(fail_to_open(rt, plain)) / make_beside(rt, name) / Err(fail_output(rt, name, fault))
+    / label_to(rt, label, reader, beside.file) / Ok(Beside { file, name: beside.name, }) / let_go(rt, beside.name.as_str()) / Err(status)
+label_to: label_through(rt.alloc(), reader, label, GATHERED, out) / written_label(rt, labelled) / Err(fail(rt, fault))
+written_label: labelled.done / Ok(labelled.out) / Err(fail(rt, ToolFault::Input)) / Err(fail(rt, fault))
 make_beside: 0..=MOST_BESIDE / name_beside(rt, name, number)?
     / make_new(rt, beside.as_str()) / Ok(Beside { file, name: beside })
     / Err(error) if error.kind() == ErrorKind::AlreadyExists => {} / Err(OutputFault::NotMade) / Err(OutputFault::NotMade)
@@ -282,7 +292,8 @@ words_at: options, near, codes / options, None, codes
 work_of: setup: plan.setup / setup: plan.setup.with_msm(MsmKind::Msm4)
 convert_to: work.setup, files, out / work.setup, files.into_iter().take(3), out
 finish: if converted.is_out / if true
-convert_to_file: let_go(rt, beside.name.as_str()); return / return
+convert_beside: let_go(rt, beside.name.as_str()); Err / Err
+whole_beside: &label / &Label::blank()
 name_whole: Err(_) => Err(OutputFault::NotWritten) / Err(_) => give_name(rt, beside, name, force)
 give_new_name: error.kind() == ErrorKind::AlreadyExists / error.kind() == ErrorKind::Unsupported
 rename_to_new: take_name(rt, name)?; let / let
