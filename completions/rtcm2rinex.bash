@@ -23,7 +23,7 @@ _rtcm2rinex() {
             options='auto convert show check summary chart quality cut label help -h --help -V --version'
             ;;
         auto)
-            options='-o --output -f --force --marker --near --made --station --codes --msm --window --skip-empty --links-as-given --report -h --help'
+            options='-o --output -f --force --label --marker --near --made --station --codes --msm --window --skip-empty --links-as-given --report -h --help'
             values='--marker --near --made --station --codes --msm --window'
             files='-o --output'
             arguments='files'

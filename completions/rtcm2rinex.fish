@@ -15,6 +15,7 @@ complete -c rtcm2rinex -n __fish_use_subcommand -a label -d 'Writes a file with 
 complete -c rtcm2rinex -n __fish_use_subcommand -a help -d 'Print this message or the help of the given subcommand(s)'
 complete -c rtcm2rinex -n '__fish_seen_subcommand_from auto' -s o -l output -r -F -d 'Where the file goes; standard output if not given'
 complete -c rtcm2rinex -n '__fish_seen_subcommand_from auto' -s f -l force -d 'Replace a FILE that is there'
+complete -c rtcm2rinex -n '__fish_seen_subcommand_from auto' -l label -d 'Label the FILE with the antenna and the receiver that are told'
 complete -c rtcm2rinex -n '__fish_seen_subcommand_from auto' -l marker -x -d 'The marker\'s name; the station\'s number if not given'
 complete -c rtcm2rinex -n '__fish_seen_subcommand_from auto' -l near -x -d 'A GPS time within half a week of the captures, if they don\'t tell one'
 complete -c rtcm2rinex -n '__fish_seen_subcommand_from auto' -l made -x -d 'The UTC time of making that the file shows; now if not given'

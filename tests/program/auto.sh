@@ -300,4 +300,4 @@ done
 "$program" auto --made $made one >/dev/full 2>err; status=$?; : >out
 leaves a_full_output 1 /dev/null want
 
-ends 193
+ends 195
