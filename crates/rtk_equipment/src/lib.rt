@@ -10,7 +10,7 @@
 //!     let payload = b"\x3F\x02\xBC\x08AOAD/M_T\x01\x03309";
 //!     match equipment_in(payload) {
 //!         Some(message) => Ok(message.station == 700
-//!             && message.antenna.antenna_type.as_slice() == b"AOAD/M_T"),
+//!             && message.antenna.antenna_type.as_slice() == b"AOAD/M_T".as_slice()),
 //!         None => Ok(false),
 //!     }
 //! }
