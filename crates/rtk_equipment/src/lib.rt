@@ -16,7 +16,8 @@
 //! }
 //! ```
 //!
-//! Its tests: tests/values/src/equipment.rt.in
+//! Its tests: tests/values/src/equipment.rt.in.
+
 #![tactic(auto)]
 
 mod equipment;

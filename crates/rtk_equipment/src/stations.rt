@@ -55,6 +55,7 @@ impl StationsEquipment {
             }
         }
     }
+
     /// What messages told, by number of the station: an entry, or none. An error if memory was refused.
     pub fn stations(&self) -> Result<&[StationEquipment], AllocError>
         ensures size { IfOk result (λ stations. length stations.now ≡ 4096) }
