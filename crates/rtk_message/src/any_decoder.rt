@@ -9,6 +9,8 @@ ghost use Rattle.rtk_message.specs.Steps.AfterAnyNumber.{BeginsAfterAnyNumber};
 use crate::accepted::Accepted;
 use crate::any_fault::AnyFault;
 use crate::any_message::AnyMessage;
+use crate::arp1005::Arp1005;
+use crate::arp1006::Arp1006;
 use crate::fault::DecodeFault;
 use crate::layout::Layout;
 use crate::message::{Message, read_by_number};
@@ -40,8 +42,8 @@ pub fn decode_any(accepted: Accepted, payload: &[u8]) -> Result<AnyMessage, AnyF
 
 /// Decodes payloads one after another by a set of messages, and keeps the last reading of each kind.
 ///
-/// A message of observations is read over the last one of its type: a message of a thousand bytes is
-/// then neither cleared nor moved. A decoder holds some 7,000 bytes.
+/// A message is read over the last one of its type: the room of a reading, more than a thousand bytes,
+/// is then neither cleared nor moved. A decoder holds some 10,000 bytes.
 #[derive(Drop)]
 pub struct AnyDecoder {
     // The last reading of a 1004.
@@ -50,6 +52,10 @@ pub struct AnyDecoder {
     msm1074: Result<AnyMessage, AnyFault>,
     // The last reading of a 1075, 1076 or 1077.
     msm: Result<AnyMessage, AnyFault>,
+    // The last reading of a 1005.
+    arp1005: Result<AnyMessage, AnyFault>,
+    // The last reading of a 1006.
+    arp1006: Result<AnyMessage, AnyFault>,
     // The last reading of another payload.
     other: Result<AnyMessage, AnyFault>,
 }
@@ -61,6 +67,8 @@ impl AnyDecoder {
             obs1004: Err(AnyFault::NoNumber),
             msm1074: Err(AnyFault::NoNumber),
             msm: Err(AnyFault::NoNumber),
+            arp1005: Err(AnyFault::NoNumber),
+            arp1006: Err(AnyFault::NoNumber),
             other: Err(AnyFault::NoNumber),
         }
     }
@@ -86,6 +94,14 @@ impl AnyDecoder {
             Msm1074::NUMBER if accepted.msm4 => {
                 keep_1074(&mut self.msm1074, reader);
                 &self.msm1074
+            }
+            Arp1005::NUMBER => {
+                keep_1005(&mut self.arp1005, reader);
+                &self.arp1005
+            }
+            Arp1006::NUMBER => {
+                keep_1006(&mut self.arp1006, reader);
+                &self.arp1006
             }
             _ => self.read_other_number(accepted, number, reader),
         }
@@ -144,6 +160,38 @@ fn keep_1074(kept: &mut Result<AnyMessage, AnyFault>, mut reader: BitReader<'_>)
         return;
     }
     keep_new(kept, Msm1074::NUMBER, reader);
+}
+
+// Reads a 1005, over the one that is kept.
+#[inline(never)]
+fn keep_1005(kept: &mut Result<AnyMessage, AnyFault>, mut reader: BitReader<'_>)
+    ensures message { IfOk kept.new (λ m. BeginsAfterAnyNumber 1005 reader.entry m) }
+    ensures fault { IfErr kept.new (λ f. fault_after_number 1005 reader.entry ≡ Some f) }
+{
+    if let Ok(AnyMessage::Message(Message::Arp1005(message))) = kept {
+        let Err(fault) = message.read(&mut reader) else {
+            return;
+        };
+        keep_fault(kept, AnyFault::from(fault));
+        return;
+    }
+    keep_new(kept, Arp1005::NUMBER, reader);
+}
+
+// Reads a 1006, over the one that is kept.
+#[inline(never)]
+fn keep_1006(kept: &mut Result<AnyMessage, AnyFault>, mut reader: BitReader<'_>)
+    ensures message { IfOk kept.new (λ m. BeginsAfterAnyNumber 1006 reader.entry m) }
+    ensures fault { IfErr kept.new (λ f. fault_after_number 1006 reader.entry ≡ Some f) }
+{
+    if let Ok(AnyMessage::Message(Message::Arp1006(message))) = kept {
+        let Err(fault) = message.read(&mut reader) else {
+            return;
+        };
+        keep_fault(kept, AnyFault::from(fault));
+        return;
+    }
+    keep_new(kept, Arp1006::NUMBER, reader);
 }
 
 // Reads a 1075, 1076 or 1077, over the one of these that is kept.
