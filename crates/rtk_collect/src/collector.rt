@@ -129,7 +129,7 @@ impl Collector {
             };
             return Ok(self.offer_station_message(message));
         };
-        dated.message.put_cells(&mut self.cells);
+        let rises = dated.message.put_cells(&mut self.cells);
         let cells = self.cells.as_slice();
         let (sets, spare) = (&mut self.sets, &mut self.spare);
         offer_cells(
@@ -138,6 +138,7 @@ impl Collector {
             self.alloc,
             epoch,
             cells,
+            rises,
             spare,
             conflicts,
         )

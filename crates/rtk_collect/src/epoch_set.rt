@@ -1,6 +1,6 @@
 //! An epoch with its cells.
 
-ghost use Rattle.std.specs.Prelude.{◌≡◌, ◌<◌, ◌≤◌, [], length, filter, IfOk, OnErr, All};
+ghost use Rattle.std.specs.Prelude.{◌≡◌, ◌<◌, ◌≤◌, [], length, filter, IsTrue, IfOk, OnErr, All};
 ghost use Rattle.rtk_obs.specs.Cell.{IsInRange};
 ghost use Rattle.rtk_obs.specs.declared.cell.CellSource.TheVariants.{Legacy, Msm};
 ghost use Rattle.rtk_obs.specs.MessageCells.{AreOfOneKind};
@@ -138,16 +138,18 @@ impl EpochSet {
     }
 
     /// Takes the cells of a message whose keys are new, and says how many these are; those that
-    /// conflict are added to an empty list. Memory is taken for new cells alone, before the first one
-    /// is added.
+    /// conflict are added to an empty list. If `rises`, the keys of the cells rise. Memory is taken for
+    /// new cells alone, before the first one is added.
     pub(crate) fn join(
         &mut self,
         cells: &[CellEntry],
+        rises: bool,
         found: &mut Conflicts,
     ) -> Result<usize, AllocError>
         requires few { length cells.now ≤ 64 }
         requires range { All IsInRange cells.now }
         requires kind { AreOfOneKind cells.now }
+        requires rising { IsTrue rises → KeysRise cells.now }
         requires empty { found.old ≡ [] }
         ensures set { IfOk result (λ n. self.new ≡ joined cells.now self.old) }
         ensures fresh { IfOk result (λ n. n ≡ fresh cells.now self.old.cells) }
@@ -156,8 +158,8 @@ impl EpochSet {
         ensures refused { OnErr result (0 < fresh cells.now self.old.cells) }
     {
         match source_of(cells) {
-            CellSource::Msm => join_list(&mut self.msm, cells, found),
-            CellSource::Legacy => join_list(&mut self.legacy, cells, found),
+            CellSource::Msm => join_list(&mut self.msm, cells, rises, found),
+            CellSource::Legacy => join_list(&mut self.legacy, cells, rises, found),
         }
     }
 }

@@ -14,5 +14,6 @@ mod MaskLemmas
 mod LegacyLemmas
 mod MsmLemmas
 mod MsmFieldLemmas
+mod PairsLemmas
 mod DistinctLemmas
 mod MessageLemmas
