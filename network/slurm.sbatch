@@ -40,7 +40,7 @@ fi
 find_program || { echo "slurm.sbatch: there is no program rtcm2rinex" >&2; exit 4; }
 export RTCM2RINEX=$program
 
-mine=$(awk -v task="$task" -v count="$count" 'NR % count == (task + 1) % count' "$1")
+mine=$(awk -v task="$task" -v count="$count" 'NR % count == (task + 1) % count' <"$1")
 ended=
 while read -r station start span; do
     [ -n "$station" ] || continue
