@@ -1,6 +1,6 @@
 //! The conversion of the pieces that stand on standard input.
 
-use rtk_convert::{Converter, Setup};
+use rtk_convert::{ConvertFault, Converter, Counts, Setup};
 use rtk_frame::MemSink;
 use rtk_obs::{Civil, Code, GpsMs, of_civil};
 use rtk_rinex::Head;
@@ -44,31 +44,59 @@ fn link_of(line: &str) -> Option<(usize, &str)> {
     }
 }
 
-/// Feeds each line's piece on its link, and prints what is written.
-pub(crate) fn feed_lines(rt: &HostRuntime, setup: Setup) -> io::Result<()> {
-    let Ok(mut converter) = Converter::new(rt.alloc(), setup, 2) else {
-        return println!(rt; "no converter");
+// The link and the piece of a line, or `None` for a line that has none, which is told.
+fn piece_of(rt: &HostRuntime, line: &str) -> io::Result<Option<(usize, Vec<u8>)>> {
+    let Some((link, digits)) = link_of(line) else {
+        println!(rt; "no piece: {line}")?;
+        return Ok(None);
     };
-    let mut file = MemSink::new(rt.alloc(), 65_536, 4_096)?;
-    let mut report = MemSink::new(rt.alloc(), 65_536, 4_096)?;
+    let Ok(piece) = hex::decode(rt.alloc(), digits) else {
+        println!(rt; "no hex text: {digits}")?;
+        return Ok(None);
+    };
+    Ok(Some((link, piece)))
+}
+
+// Feeds each line's piece on its link, and prints how much of the file is written; `false` after a fault,
+// which is told.
+fn feed_each(
+    rt: &HostRuntime,
+    converter: &mut Converter,
+    file: &mut MemSink,
+    report: &mut MemSink,
+) -> io::Result<bool> {
     for line in rt.lines(rt.alloc()) {
-        let line = line?;
-        let Some((link, digits)) = link_of(line.as_str()) else {
-            println!(rt; "no piece: {}", line.as_str())?;
+        let Some((link, piece)) = piece_of(rt, line?.as_str())? else {
             continue;
         };
-        let Ok(piece) = hex::decode(rt.alloc(), digits) else {
-            println!(rt; "no hex text: {digits}")?;
-            continue;
-        };
-        if let Err(fault) = converter.feed(link, &piece, &mut file, &mut report) {
-            return println!(rt; "{fault}");
+        if let Err(fault) = converter.feed(link, &piece, file, report) {
+            println!(rt; "{fault}")?;
+            return Ok(false);
         }
         println!(rt; "link {link}: {} bytes are written", file.bytes().len())?;
     }
-    match converter.finish(&mut file, &mut report) {
+    Ok(true)
+}
+
+// Tells how many records the file has, and prints it; or tells why it is not whole.
+fn print_file(rt: &HostRuntime, done: Result<Counts, ConvertFault>, file: &[u8]) -> io::Result<()> {
+    match done {
         Ok(counts) => println!(rt; "{} records", counts.epochs)?,
         Err(fault) => return println!(rt; "{fault}"),
     }
-    print!(rt; "{}", str::from_utf8(file.bytes()).unwrap_or("no text"))
+    print!(rt; "{}", str::from_utf8(file).unwrap_or("no text"))
+}
+
+/// Feeds each line's piece on its link, and prints what is written.
+pub(crate) fn feed_lines(rt: &HostRuntime, setup: Setup) -> io::Result<()> {
+    let mut file = MemSink::new(rt.alloc(), 65_536, 4_096)?;
+    let mut report = MemSink::new(rt.alloc(), 65_536, 4_096)?;
+    let Ok(mut converter) = Converter::new(rt.alloc(), setup, 2) else {
+        return println!(rt; "no converter");
+    };
+    if !feed_each(rt, &mut converter, &mut file, &mut report)? {
+        return Ok(());
+    }
+    let done = converter.finish(&mut file, &mut report);
+    print_file(rt, done, file.bytes())
 }
