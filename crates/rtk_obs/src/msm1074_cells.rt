@@ -40,6 +40,10 @@ impl CellsOfMsm for Msm1074 {
         self.header
     }
 
+    fn cells(&self) -> usize {
+        self.fine_range.len()
+    }
+
     fn cell_mask(&self) -> &[u32] {
         self.cell_mask.as_slice()
     }

@@ -42,6 +42,10 @@ impl CellsOfMsm for Msm {
         self.header
     }
 
+    fn cells(&self) -> usize {
+        self.fine_range.len()
+    }
+
     fn cell_mask(&self) -> &[u32] {
         self.cell_mask.as_slice()
     }

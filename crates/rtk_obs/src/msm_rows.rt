@@ -39,6 +39,11 @@ pub(crate) trait CellsOfMsm {
     fn header(&self) -> MsmHeader
         ensures { result ≡ header self.now };
 
+    /// How many cells the message has.
+    fn cells(&self) -> usize
+        requires { IsValid self.now }
+        ensures { result ≡ cells_in (cell_mask self.now) };
+
     /// The rows of the cell mask (DF396).
     fn cell_mask(&self) -> &[u32]
         ensures { result.now ≡ cell_mask self.now };
@@ -176,17 +181,15 @@ fn put_cell<M: CellsOfMsm>(
     requires row { IsMaskRow (M.header message.now) (M.rough_at message.now) slot.row row }
     requires satellite { is_satellite row.satellite ≡ true }
     requires signal { slot.signal ≤ 32 }
-    requires count { count ≤ length found.old.items }
-    requires room { count < 64 }
+    requires room { count < length found.old.items }
     ensures entries { take result found.new.items
         ≡ take count found.old.items ++ slot_entry (M.header message.now) (M.cell_of message.now) cell slot }
-    ensures count { result ≤ length found.new.items }
+    ensures room { length found.new.items ≡ length found.old.items }
     ensures one { result ≤ count + 1 }
 {
     let Some(code) = signal_code(slot.signal) else {
         return count;
     };
-    make_room(found, count);
     let entry = &mut found.as_mut_slice()[count];
     entry.satellite = row.satellite;
     entry.code = code;
@@ -211,12 +214,12 @@ fn put_row<M: CellsOfMsm>(
     requires bounds { All (λ p. (1 ≤ p) × (p ≤ 32)) signals.now }
     requires fits { bits < 2 ^ length signals.now }
     requires cells { start.cell + length (row_slots signals.now place bits) ≤ cells_in (M.cell_mask message.now) }
-    requires count { start.count ≤ length found.old.items }
+    requires room { cells_in (M.cell_mask message.now) ≤ length found.old.items }
     requires few { start.count ≤ start.cell }
     ensures entries { take result.count found.new.items ≡ take start.count found.old.items
         ++ join_from (slot_entry (M.header message.now) (M.cell_of message.now)) start.cell (row_slots signals.now place bits) }
     ensures cells { result.cell ≡ start.cell + length (row_slots signals.now place bits) }
-    ensures count { result.count ≤ length found.new.items }
+    ensures room { length found.new.items ≡ length found.old.items }
     ensures few { result.count ≤ result.cell }
 {
     if !is_satellite(row.satellite) {
@@ -253,6 +256,7 @@ pub(crate) fn put_cells<M: CellsOfMsm>(found: &mut ArrayVec<CellEntry, 64>, mess
     let signal_list = signal_identifiers(header);
     let signals = signal_list.as_slice();
     let masks = message.cell_mask();
+    make_room(found, message.cells());
     let mut progress = Progress { cell: 0, count: 0 };
     for (place, bits) in masks.iter().enumerate() {
         let row = row_of(message, numbers, place);
