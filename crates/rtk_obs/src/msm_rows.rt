@@ -7,12 +7,13 @@ ghost use Rattle.rtk_message.specs.Msm1074.{satellite_count};
 ghost use Rattle.rtk_obs.specs.declared.code.Band.{Band};
 ghost use Rattle.rtk_obs.specs.declared.cell.Cell.{Cell};
 ghost use Rattle.rtk_obs.specs.Cell.{is_satellite};
+ghost use Rattle.rtk_obs.specs.Code.{band_of};
 ghost use Rattle.rtk_obs.specs.Mask.{set_bits, join_from};
 ghost use Rattle.rtk_obs.specs.MsmCells.{code_of_signal, satellites_of, signals_of, row_slots, slot_entry, msm_entries};
 ghost use Rattle.rtk_obs.specs.Steps.MsmRows.{IsCellMask, IsMaskRow, cells_in};
 
 use crate::cell::{Cell, CellEntry, is_satellite, make_room};
-use crate::code::{Band, Code};
+use crate::code::Code;
 use crate::mask::{places_of_bits, top_bit};
 use arrayvec::ArrayVec;
 use rtk_message::MsmHeader;
@@ -55,13 +56,13 @@ pub(crate) trait CellsOfMsm {
         ensures value { result ≡ rough_at self.now row }
         ensures bound { IfSome result (λ r. unsigned_abs r ≤ 2 ^ 38) };
 
-    /// Sets a cell to the one at this place in the message, of a satellite with this rough range.
-    /// Each field is written where it stays.
-    fn set_cell(&self, cell: &mut Cell, place: usize, rough: Option<i64>, band: Band)
+    /// Sets a cell to the one at this place in the message, of a satellite with this rough range, and
+    /// of this code. Each field is written where it stays.
+    fn set_cell(&self, cell: &mut Cell, place: usize, rough: Option<i64>, code: Code)
         requires valid { IsValid self.now }
         requires place { place < cells_in (cell_mask self.now) }
         requires rough { IfSome rough (λ r. unsigned_abs r ≤ 2 ^ 38) }
-        ensures { (row : ℕ) → rough ≡ rough_at self.now row → cell.new ≡ cell_of self.now place row band };
+        ensures { (row : ℕ) → rough ≡ rough_at self.now row → cell.new ≡ cell_of self.now place row (band_of code) };
 }
 
 // The codes of the signal identifiers from 0 on (DF395); `None` for those that give no cell.
@@ -193,7 +194,7 @@ fn put_cell<M: CellsOfMsm>(
     let entry = &mut found.as_mut_slice()[count];
     entry.satellite = row.satellite;
     entry.code = code;
-    message.set_cell(&mut entry.cell, cell, row.rough, code.band());
+    message.set_cell(&mut entry.cell, cell, row.rough, code);
     count + 1
 }
 
