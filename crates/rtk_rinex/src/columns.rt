@@ -186,8 +186,8 @@ pub(crate) fn put_decimal(field: &mut [u8], number: u64) -> usize
     at
 }
 
-// Writes a point and the three digits of a number below 1000 over four columns.
-fn put_point_and_three(field: &mut [u8], number: usize)
+/// Writes a point and the three digits of a number below 1000 over four columns.
+pub(crate) fn put_point_and_three(field: &mut [u8], number: usize)
     requires columns { length field.old ≡ 4 }
     requires number { number < 1000 }
     ensures { field.new ≡ 46 ∷ last_digits 3 number }
