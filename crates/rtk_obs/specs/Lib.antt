@@ -11,6 +11,7 @@ pub mod Mask
 pub mod Cell
 pub mod LegacyCells
 pub mod Steps
+pub mod CellsLeft
 pub mod MsmCells
 pub mod MessageCells
 pub mod Slip

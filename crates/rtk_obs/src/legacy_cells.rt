@@ -28,13 +28,13 @@ const NO_RANGE: i32 = -8192;
 // Thousandths of a dB-Hz in a step of DF015 and DF020.
 const LEGACY_STRENGTH_STEP: u32 = 250;
 
-fn l1_code(indicator: bool) -> Code
+pub(crate) fn l1_code(indicator: bool) -> Code
     ensures { result ≡ l1_code_of indicator }
 {
     if indicator { Code::C1P } else { Code::C1C }
 }
 
-fn l2_code(indicator: u8) -> Code
+pub(crate) fn l2_code(indicator: u8) -> Code
     ensures { result ≡ l2_code_of indicator }
 {
     match indicator {
@@ -46,7 +46,7 @@ fn l2_code(indicator: u8) -> Code
 }
 
 // The pseudorange of L1, in 0.0005 m.
-fn l1_length(satellite: &Satellite) -> i64
+pub(crate) fn l1_length(satellite: &Satellite) -> i64
     requires { satellite.now.l1_range < 2 ^ 24 }
     ensures value { result ≡ length_of satellite.now }
     ensures bound { unsigned_abs result ≤ LONGEST_RANGE }
@@ -94,7 +94,7 @@ fn legacy_phase(band: Band, length: i64, offset: Option<i32>) -> Option<i64>
 
 // Sets an entry to the one of L1. Each field is written where it stays.
 #[inline(always)]
-fn set_l1_entry(entry: &mut CellEntry, satellite: &Satellite, length: i64)
+pub(crate) fn set_l1_entry(entry: &mut CellEntry, satellite: &Satellite, length: i64)
     requires lock { satellite.now.l1_lock_indicator < 128 }
     requires length { length ≡ length_of satellite.now }
     requires bound { unsigned_abs length ≤ LONGEST_RANGE }
@@ -114,7 +114,7 @@ fn set_l1_entry(entry: &mut CellEntry, satellite: &Satellite, length: i64)
 
 // Sets an entry to the one of L2.
 #[inline(always)]
-fn set_l2_entry(entry: &mut CellEntry, satellite: &Satellite, length: i64)
+pub(crate) fn set_l2_entry(entry: &mut CellEntry, satellite: &Satellite, length: i64)
     requires lock { satellite.now.l2_lock_indicator < 128 }
     requires length { length ≡ length_of satellite.now }
     requires bound { unsigned_abs length ≤ LONGEST_RANGE }
