@@ -24,6 +24,7 @@ mod dated;
 mod epoch_set;
 mod laws;
 mod left;
+mod legacy_list;
 mod merging;
 mod offer;
 mod stations;

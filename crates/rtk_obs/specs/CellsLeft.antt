@@ -13,7 +13,7 @@ RiseAbove n [] = n ≤ 32
 RiseAbove n (s ∷ ss) = (n < s.satellite) × RiseAbove s.satellite ss
 
 -- satellites of a 1004, from 1 to 32, that rise
-pub record AreRising (ss : List Satellite) : Type 0 where
+pub record AreRisingSatellites (ss : List Satellite) : Type 0 where
   pub few : length ss ≤ 31
   pub rise : RiseAbove 0 ss
   pub widths : All HasLegacyWidths ss

@@ -9,7 +9,7 @@ ghost use Rattle.rtk_message.specs.Obs1004.{IsValid};
 ghost use Rattle.rtk_obs.specs.declared.cell.CellEntry.{CellEntry};
 ghost use Rattle.rtk_obs.specs.Cell.{IsInRange, IsSatellite, entry_of};
 ghost use Rattle.rtk_obs.specs.LegacyCells.{length_of, l1_code_of, l1_cell_of, l2_code_of, l2_cell_of, satellite_entries, cells_of_1004};
-ghost use Rattle.rtk_obs.specs.CellsLeft.{AreRising, RiseAbove, cells_left};
+ghost use Rattle.rtk_obs.specs.CellsLeft.{AreRisingSatellites, RiseAbove, cells_left};
 ghost use Rattle.rtk_obs.specs.Steps.LegacyFields.{HasLegacyWidths};
 ghost use Rattle.rtk_obs.specs.Steps.Marks.{HasMarks};
 
@@ -39,7 +39,7 @@ fn are_rising(satellites: &[Satellite]) -> bool
 pub fn rising_satellites(message: &Obs1004) -> Option<&[Satellite]>
     requires { IsValid message.now }
     ensures value { IfSome result (λ satellites. satellites.now ≡ message.now.satellites) }
-    ensures rise { IfSome result (λ satellites. AreRising satellites.now) }
+    ensures rise { IfSome result (λ satellites. AreRisingSatellites satellites.now) }
     ensures some { IfSome result (λ satellites. 0 < length (cells_of_1004 satellites.now)) }
 {
     let satellites = message.satellites.as_slice();
@@ -146,7 +146,7 @@ pub fn put_cells_left(
     known: &[CellEntry],
     found: &mut ArrayVec<CellEntry, 64>,
 )
-    requires rise { AreRising satellites.now }
+    requires rise { AreRisingSatellites satellites.now }
     requires known { All IsInRange known.now }
     ensures cells { found.new.items ≡ cells_left known.now (cells_of_1004 satellites.now) }
     ensures few { length found.new.items ≤ 2 * length satellites.now }
