@@ -16,6 +16,7 @@ ghost use Rattle.rtk_collect.specs.Offered.{AnswersArrival, ClosesBelow, ClosesL
 use crate::dated::{Borrowed, Dated};
 use crate::epoch_set::{EpochSet, Spare};
 use crate::left::Left;
+use crate::legacy_list::LegacyList;
 use crate::offer::Offer;
 use crate::stations::{StationMessages, keep_station_message, position};
 use crate::window::offer_cells;
@@ -94,7 +95,7 @@ impl Collector {
             cells: ArrayVec::new(),
             spare: Spare {
                 msm: Vec::new(alloc),
-                legacy: Vec::new(alloc),
+                legacy: LegacyList::new(alloc),
             },
         }
     }

@@ -1,15 +1,20 @@
 //! An epoch with its cells.
 
-ghost use Rattle.std.specs.Prelude.{◌≡◌, ◌<◌, ◌≤◌, [], length, filter, IfOk, OnErr, All};
+ghost use Rattle.std.specs.Prelude.{◌≡◌, ◌<◌, ◌≤◌, [], length, filter, IsTrue, IfOk, OnOk, OnErr, All};
 ghost use Rattle.rtk_obs.specs.Cell.{IsInRange};
+ghost use Rattle.rtk_obs.specs.LegacyCells.{cells_of_1004};
 ghost use Rattle.rtk_obs.specs.declared.cell.CellSource.TheVariants.{Legacy, Msm};
 ghost use Rattle.rtk_obs.specs.MessageCells.{AreOfOneKind};
 ghost use Rattle.rtk_collect.specs.Key.{KeysRise};
-ghost use Rattle.rtk_collect.specs.EpochSet.{joined, fresh, conflicts, is_from};
+ghost use Rattle.rtk_collect.specs.EpochSet.{joined, fresh, conflicts, is_from, AreLeft};
+ghost use Rattle.rtk_collect.specs.Steps.First.{AreFirst};
 ghost use Rattle.rtk_collect.specs.Steps.Room.{AreSpare};
 
 use crate::conflicts::Conflicts;
+use crate::legacy_list::{LegacyList, LegacyRoom};
 use crate::merging::{join_list, source_of};
+use arrayvec::ArrayVec;
+use rtk_message::Satellite;
 use rtk_obs::{CellEntry, CellSource, GpsMs};
 use std::alloc::{AllocError, Global};
 use std::marker::Model;
@@ -24,21 +29,21 @@ use std::mem::replace;
 pub struct EpochSet {
     epoch: GpsMs,
     msm: Vec<CellEntry>,
-    legacy: Vec<CellEntry>,
+    legacy: LegacyList,
 }
 
 /// For how many cells of each kind of message there is room.
 #[derive(Clone, Copy)]
 pub(crate) struct Room {
     pub(crate) msm: usize,
-    pub(crate) legacy: usize,
+    pub(crate) legacy: LegacyRoom,
 }
 
 /// Lists without cells, for an epoch that opens later.
 #[derive(Drop)]
 pub(crate) struct Spare {
     pub(crate) msm: Vec<CellEntry>,
-    pub(crate) legacy: Vec<CellEntry>,
+    pub(crate) legacy: LegacyList,
 }
 
 // Clauses see the epoch in ms and one list of cells, in which each stands at its key. The first part
@@ -50,10 +55,10 @@ impl Model for EpochSet {
 
     ghost Value = { EpochSetView };
 
-    ghost view = { λ s. record { epoch = s.epoch; cells = with_cells s.legacy.items s.msm.items } };
+    ghost view = { λ s. record { epoch = s.epoch; cells = with_cells s.legacy s.msm.items } };
 
     ghost invariant = { λ s. (s ≡ record { epoch = s.epoch; msm = s.msm; legacy = s.legacy })
-        × AreKeptOf Msm s.msm.items × AreKeptOf Legacy s.legacy.items };
+        × AreKeptOf Msm s.msm.items × AreKeptOf Legacy s.legacy };
 }
 
 // The list, if it has just this room; else one that has taken no memory.
@@ -81,15 +86,14 @@ impl EpochSet {
         ensures spare { AreSpare spare.new }
     {
         let mut msm = replace(&mut spare.msm, Vec::new(alloc));
-        let mut legacy = replace(&mut spare.legacy, Vec::new(alloc));
+        let legacy = replace(&mut spare.legacy, LegacyList::new(alloc));
         msm = if_of_room(alloc, msm, room.msm);
-        legacy = if_of_room(alloc, legacy, room.legacy);
         if let Err(_) = msm.reserve(room.msm) {
             return Err(AllocError);
         }
-        if let Err(_) = legacy.reserve(room.legacy) {
+        let Ok(legacy) = legacy.with_room(alloc, room.legacy) else {
             return Err(AllocError);
-        }
+        };
         Ok(EpochSet { epoch, msm, legacy })
     }
 
@@ -98,10 +102,11 @@ impl EpochSet {
         ensures { AreSpare result }
     {
         let mut msm = self.msm;
-        let mut legacy = self.legacy;
         msm.clear();
-        legacy.clear();
-        Spare { msm, legacy }
+        Spare {
+            msm,
+            legacy: self.legacy.cleared(),
+        }
     }
 
     /// The epoch.
@@ -124,8 +129,8 @@ impl EpochSet {
         &self.msm
     }
 
-    /// The cells that came in a 1004.
-    pub fn legacy_cells(&self) -> &[CellEntry]
+    /// The cells that came in a 1004, which may be put into this room.
+    pub fn legacy_cells<'a>(&'a self, room: &'a mut ArrayVec<CellEntry, 64>) -> &'a [CellEntry]
         ensures value { result.now ≡ filter (is_from Legacy) self.now.cells }
         ensures rises { KeysRise result.now }
         ensures range { All IsInRange result.now }
@@ -134,7 +139,42 @@ impl EpochSet {
         ensures all_in_range { All IsInRange self.now.cells }
         ensures few { length self.now.cells ≤ 1024 }
     {
-        &self.legacy
+        self.legacy.left(&[], room)
+    }
+
+    /// The cells that came in a 1004, or those of them whose satellite and code no cell of an MSM
+    /// has. They may be put into this room.
+    pub fn legacy_left<'a>(&'a self, room: &'a mut ArrayVec<CellEntry, 64>) -> &'a [CellEntry]
+        ensures left { AreLeft (filter (is_from Msm) self.now.cells) (filter (is_from Legacy) self.now.cells) result.now }
+        ensures rises { KeysRise result.now }
+        ensures range { All IsInRange result.now }
+        ensures kind { AreOfOneKind result.now }
+    {
+        self.legacy.left(&self.msm, room)
+    }
+
+    /// For how many satellites and cells of 1004 there is room.
+    pub(crate) fn legacy_room(&self) -> LegacyRoom {
+        self.legacy.room()
+    }
+
+    /// Whether no cell came in a 1004.
+    pub(crate) fn has_no_legacy(&self) -> bool
+        ensures { IsTrue result → filter (is_from Legacy) self.now.cells ≡ [] }
+    {
+        self.legacy.is_empty()
+    }
+
+    /// Takes the satellites of the first 1004. All memory is taken before.
+    pub(crate) fn take_first(&mut self, satellites: &[Satellite]) -> Result<(), AllocError>
+        requires first { AreFirst satellites.now }
+        requires none { filter (is_from Legacy) self.old.cells ≡ [] }
+        ensures set { OnOk result (self.new ≡ joined (cells_of_1004 satellites.now) self.old) }
+        ensures fresh { 0 < fresh (cells_of_1004 satellites.now) self.old.cells }
+        ensures conflicts { conflicts (cells_of_1004 satellites.now) self.old.cells ≡ [] }
+        ensures err { OnErr result (self.new ≡ self.old) }
+    {
+        self.legacy.take_first(satellites)
     }
 
     /// Takes the cells of a message whose keys are new, and says how many these are; those that
@@ -157,7 +197,7 @@ impl EpochSet {
     {
         match source_of(cells) {
             CellSource::Msm => join_list(&mut self.msm, cells, found),
-            CellSource::Legacy => join_list(&mut self.legacy, cells, found),
+            CellSource::Legacy => self.legacy.join_list(cells, found),
         }
     }
 }

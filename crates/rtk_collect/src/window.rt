@@ -17,6 +17,7 @@ ghost use Rattle.rtk_collect.specs.Steps.Observed.{IsAnswerOf, AddsCells, WouldT
 
 use crate::conflicts::Conflicts;
 use crate::epoch_set::{EpochSet, Room, Spare};
+use crate::legacy_list::LegacyRoom;
 use crate::merging::source_of;
 use crate::offer::Offer;
 use rtk_obs::{CellEntry, CellSource, GpsMs};
@@ -86,20 +87,27 @@ pub(crate) fn join_at(
 fn first_room(sets: &VecDeque<EpochSet>, at: usize, source: CellSource, cells: usize) -> Room
     ensures { cells ≤ room_for source result }
 {
-    let mut room = Room { msm: 0, legacy: 0 };
+    let mut msm = 0;
+    let mut legacy = LegacyRoom {
+        satellites: 0,
+        cells: 0,
+    };
     if at < sets.len() {
         let before = &sets[at];
-        room.msm = before.msm_cells().len();
-        room.legacy = before.legacy_cells().len();
+        msm = before.msm_cells().len();
+        legacy = before.legacy_room();
     }
     match source {
         CellSource::Msm => Room {
-            msm: room.msm.max(cells),
-            legacy: room.legacy,
+            msm: msm.max(cells),
+            legacy,
         },
         CellSource::Legacy => Room {
-            msm: room.msm,
-            legacy: room.legacy.max(cells),
+            msm,
+            legacy: LegacyRoom {
+                satellites: legacy.satellites,
+                cells: legacy.cells.max(cells),
+            },
         },
     }
 }
