@@ -97,5 +97,5 @@ found-by n e m before set (Some b) valid h grew =
     absurd (omega arith)
 
 pub closing-conflicts-not : ClosingConflictsNot
-closing-conflicts-not n (At None m) before set found valid a = a.1
-closing-conflicts-not n (At (Some e) m) before set found valid a = a.1 ∙ found-by n e m before set (cells_at e (kept n before)) valid refl a.2
+closing-conflicts-not n (At None m) before set listed valid a = a.1
+closing-conflicts-not n (At (Some e) m) before set listed valid a = a.1 ∙ found-by n e m before set (cells_at e (kept n before)) valid refl a.2

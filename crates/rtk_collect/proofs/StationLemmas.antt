@@ -133,26 +133,26 @@ module _ {T : Type 0} (wrap : T → Message) (eq : T → T → Bool) (same_eq : 
   -- the answer, as a class
   abbrev ClassOf : Offer → Class → Type 0
   ClassOf Late c = c ≡ LateClass
-  ClassOf (Taken out found) c = (c ≡ TakenClass) × (out ≡ None) × (found ≡ [])
-  ClassOf (Conflict found) c = (c ≡ ConflictClass) × (found ≡ [])
+  ClassOf (Taken out) c = (c ≡ TakenClass) × (out ≡ None)
+  ClassOf Conflict c = c ≡ ConflictClass
   ClassOf Repeat c = c ≡ RepeatClass
 
   slot-class : (slot new : Option T) (m : T) (full : Bool) (offer : Offer) → AnswersStationMessage eq slot m full offer new → ClassOf offer (class_here full slot m) × (option_map wrap new ≡ kept_here full slot m)
   slot-class slot new m full Late h = (rw (h.0, h.1) refl, ap (option_map wrap) h.2 ∙ rw (h.0, h.1) refl)
-  slot-class slot new m full (Taken out found) h = ((rw (h.0, h.1) refl, h.3, h.4), ap (option_map wrap) h.2 ∙ rw (h.0, h.1) refl)
-  slot-class None new m full (Conflict found) h = absurd h
-  slot-class (Some x) new m full (Conflict found) h = ((rw (h.0, same_eq x m, h.1) refl, h.2), ap (option_map wrap) h.3 ∙ rw h.0 refl)
+  slot-class slot new m full (Taken out) h = ((rw (h.0, h.1) refl, h.3), ap (option_map wrap) h.2 ∙ rw (h.0, h.1) refl)
+  slot-class None new m full Conflict h = absurd h
+  slot-class (Some x) new m full Conflict h = (rw (h.0, same_eq x m, h.1) refl, ap (option_map wrap) h.2 ∙ rw h.0 refl)
   slot-class None new m full Repeat h = let q = h.0 in cc
   slot-class (Some x) new m full Repeat h = (rw (h.0, and-none full, same_eq x m, h.0) refl, ap (option_map wrap) h.1 ∙ rw (h.0, and-none full) refl)
 
-  answers-from : (n : ℕ) (m : T) (before : List Arrival) (offer : Offer) → ClassOf offer (class_of n (At None (wrap m)) before) → IsRightAnswer n (At None (wrap m)) before offer
-  answers-from n m before Late h = (h, refl)
-  answers-from n m before (Taken out found) h = (h.0, h.2, ap (λ o. option_to_list o ++ closed n before) (sym h.1))
-  answers-from n m before (Conflict found) h = (h.0, h.1, refl)
-  answers-from n m before Repeat h = (h, refl)
+  answers-from : (n : ℕ) (m : T) (before : List Arrival) (offer : Offer) → ClassOf offer (class_of n (At None (wrap m)) before) → IsRightAnswer n (At None (wrap m)) before offer []
+  answers-from n m before Late h = (h, refl, refl)
+  answers-from n m before (Taken out) h = (h.0, refl, ap (λ o. option_to_list o ++ closed n before) (sym h.1))
+  answers-from n m before Conflict h = (h, refl, refl)
+  answers-from n m before Repeat h = (h, refl, refl)
 
   pub record StationStep (n k : ℕ) (m : T) (before : List Arrival) (offer : Offer) (slot : Option T) : Type 0 where
-    pub answers : IsRightAnswer n (At None (wrap m)) before offer
+    pub answers : IsRightAnswer n (At None (wrap m)) before offer []
     pub after : option_map wrap slot ≡ station n k (At None (wrap m) ∷ before)
 
   pub slot-parts : (n k : ℕ) (m : T) (slot new : Option T) (full : Bool) (offer : Offer) (before : List Arrival) → number_of (wrap m) ≡ k → option_map wrap slot ≡ station n k before
@@ -179,7 +179,7 @@ other-stays n k m before h = ap (λ b. if b && not (late n (At None m) before) t
 -- the fields of the kept one fit, if the fields of the offered one do
 pub slot-fits : {T : Type 0} (eq : T → T → Bool) (P : T → Type 0) (slot new : Option T) (m : T) (full : Bool) (offer : Offer) → AnswersStationMessage eq slot m full offer new → ForSome slot P → P m → ForSome new P
 slot-fits eq P slot new m full Late h f p = subst (λ o. ForSome o P) (sym h.2) f
-slot-fits eq P slot new m full (Taken out found) h f p = subst (λ o. ForSome o P) (sym h.2) (λ x e. subst P (ap (λ o. unwrap_or o x) e) p)
-slot-fits eq P None new m full (Conflict found) h f p = absurd h
-slot-fits eq P (Some x) new m full (Conflict found) h f p = subst (λ o. ForSome o P) (sym h.3) f
+slot-fits eq P slot new m full (Taken out) h f p = subst (λ o. ForSome o P) (sym h.2) (λ x e. subst P (ap (λ o. unwrap_or o x) e) p)
+slot-fits eq P None new m full Conflict h f p = absurd h
+slot-fits eq P (Some x) new m full Conflict h f p = subst (λ o. ForSome o P) (sym h.2) f
 slot-fits eq P slot new m full Repeat h f p = subst (λ o. ForSome o P) (sym h.1) f

@@ -60,9 +60,9 @@ last-below [] s f = tt
 last-below (x ∷ []) s f = (f.0, tt)
 last-below (x ∷ y ∷ front) s f = let h = last-below (y ∷ front) s f.1 in (omega (arith, h.0, f.0), h)
 
-pub closes-below : (front : List EpochSetView) (closes : Option EpochSetView) (found : List SatelliteCode) → EpochsFall (front ++ option_to_list closes) → ClosesBelow (Taken closes found) front
-closes-below front None found f = tt
-closes-below front (Some s) found f = All-from_recursion (λ (x : EpochSetView). s.epoch < x.epoch) front (last-below front s f)
+pub closes-below : (front : List EpochSetView) (closes : Option EpochSetView) → EpochsFall (front ++ option_to_list closes) → ClosesBelow (Taken closes) front
+closes-below front None f = tt
+closes-below front (Some s) f = All-from_recursion (λ (x : EpochSetView). s.epoch < x.epoch) front (last-below front s f)
 
 pub least-is : (front : List EpochSetView) (o : Option EpochSetView) → EpochsFall (front ++ option_to_list o) → IfSome o (λ s. All (λ (x : EpochSetView). s.epoch < x.epoch) front)
 least-is front None f = tt
@@ -92,10 +92,10 @@ insert-last (x ∷ xs) zero v (y ∷ ys) s l e = (ys, ap rest e)
 insert-last (x ∷ xs) (suc i) v [] s l e = let q : insert xs i v ≡ [] = ap rest e in let p : suc (length xs) ≡ 0 = sym (length-insert v i xs (omega arith)) ∙ ap length q in absurd (omega arith)
 insert-last (x ∷ xs) (suc i) v (y ∷ ys) s l e = let h = insert-last xs i v ys s (omega arith) (ap rest e) in (x ∷ h.0, ap (λ t. x ∷ t) h.1)
 
-new-least : (n i : ℕ) (sets items new : List EpochSetView) (v : EpochSetView) (closes : Option EpochSetView) (found : List SatelliteCode) → length sets ≤ n → i < n → items ≡ insert sets i v
-    → length items ≡ suc (length sets) → items ≡ new ++ option_to_list closes → length new ≡ min n (length items) → ClosesLeast n sets (Taken closes found)
-new-least n i sets items new v None found small l is grew split len = tt
-new-least n i sets items new v (Some s) found small l is grew split len =
+new-least : (n i : ℕ) (sets items new : List EpochSetView) (v : EpochSetView) (closes : Option EpochSetView) → length sets ≤ n → i < n → items ≡ insert sets i v
+    → length items ≡ suc (length sets) → items ≡ new ++ option_to_list closes → length new ≡ min n (length items) → ClosesLeast n sets (Taken closes)
+new-least n i sets items new v None small l is grew split len = tt
+new-least n i sets items new v (Some s) small l is grew split len =
     let q : length items ≡ length new + 1 = ap length split ∙ length-append new (s ∷ []) in
     let full : length sets ≡ n = omega arith in
     let last = insert-last sets i v new s (omega arith) (sym is ∙ split) in
@@ -103,9 +103,9 @@ new-least n i sets items new v (Some s) found small l is grew split len =
 
 open-least : (n count : ℕ) (found : List SatelliteCode) (offer : Offer) (sets : List EpochSetView) → IsAnswerOf count found offer → ClosesLeast n sets offer
 open-least n count found Late sets a = tt
-open-least n count found (Taken None listed) sets a = tt
-open-least n count found (Taken (Some s) listed) sets a = let q = a.1 in cc
-open-least n count found (Conflict listed) sets a = tt
+open-least n count found (Taken None) sets a = tt
+open-least n count found (Taken (Some s)) sets a = let q = a.1 in cc
+open-least n count found Conflict sets a = tt
 open-least n count found Repeat sets a = tt
 
 -- if memory is refused
@@ -146,24 +146,24 @@ split-parts n all front back e l = elim (cases_lt (length all) n) [
 
 open-below : (count : ℕ) (found : List SatelliteCode) (offer : Offer) (new : List EpochSetView) → IsAnswerOf count found offer → ClosesBelow offer new
 open-below count found Late new a = absurd a
-open-below count found (Taken None listed) new a = tt
-open-below count found (Taken (Some s) listed) new a = let q = a.1 in cc
-open-below count found (Conflict listed) new a = tt
+open-below count found (Taken None) new a = tt
+open-below count found (Taken (Some s)) new a = let q = a.1 in cc
+open-below count found Conflict new a = tt
 open-below count found Repeat new a = tt
 
 open-answers : (n e : ℕ) (m : Message) (before : List Arrival) (new : List EpochSetView) (b : List CellEntry) (count : ℕ) (found : List SatelliteCode) (offer : Offer) → OpenParts n e m before new b
-    → count ≡ fresh (cells_of m) b → found ≡ conflicts (cells_of m) b → IsAnswerOf count found offer → IsRightAnswer n (At (Some e) m) before offer
+    → count ≡ fresh (cells_of m) b → found ≡ conflicts (cells_of m) b → IsAnswerOf count found offer → IsRightAnswer n (At (Some e) m) before offer found
 open-answers n e m before new b count found Late p c f a = absurd a
-open-answers n e m before new b count found (Taken out listed) p c f a =
-    (p.class TakenClass (cells-taken (cells_of m) b count c a.0), a.2 ∙ f ∙ p.same, p.joins.closing ∙ ap (λ o. option_to_list o ++ closed n before) (sym a.1))
-open-answers n e m before new b count found (Conflict listed) p c f a =
-    (p.class ConflictClass (cells-stale (cells_of m) b count c (omega (arith, a.0)) ∙ by-some (conflicts (cells_of m) b) (λ z. a.1 (f ∙ z))), a.2 ∙ f ∙ p.same, p.joins.closing)
+open-answers n e m before new b count found (Taken out) p c f a =
+    (p.class TakenClass (cells-taken (cells_of m) b count c a.0), f ∙ p.same, p.joins.closing ∙ ap (λ o. option_to_list o ++ closed n before) (sym a.1))
+open-answers n e m before new b count found Conflict p c f a =
+    (p.class ConflictClass (cells-stale (cells_of m) b count c (omega (arith, a.0)) ∙ by-some (conflicts (cells_of m) b) (λ z. a.1 (f ∙ z))), f ∙ p.same, p.joins.closing)
 open-answers n e m before new b count found Repeat p c f a =
-    (p.class RepeatClass (cells-stale (cells_of m) b count c (omega (arith, a.0)) ∙ by-none (conflicts (cells_of m) b) (sym f ∙ a.1)), p.joins.closing)
+    (p.class RepeatClass (cells-stale (cells_of m) b count c (omega (arith, a.0)) ∙ by-none (conflicts (cells_of m) b) (sym f ∙ a.1)), a.1, p.joins.closing)
 
 pub open-branch : (n e at : ℕ) (cs : List CellEntry) (d : EpochSetView) (sets new : List EpochSetView) (count : ℕ) (found : List SatelliteCode) (offer : Offer) → EpochsFall sets → length sets ≤ n
     → at ≡ leading e sets → at < length sets → (get_or sets at d).epoch ≡ e → new ≡ set sets at (joined cs (get_or sets at d))
-    → count ≡ fresh cs (get_or sets at d).cells → found ≡ conflicts cs (get_or sets at d).cells → IsAnswerOf count found offer → AddsCells n e cs sets new offer
+    → count ≡ fresh cs (get_or sets at d).cells → found ≡ conflicts cs (get_or sets at d).cells → IsAnswerOf count found offer → AddsCells n e cs sets new offer found
 open-branch n e at cs d sets new count found offer f small place l same is c g a =
     let s : OpenStep n e cs sets new (get_or sets at d).cells = open-step n e at cs d sets new f small place l same is in
     record {
@@ -184,12 +184,12 @@ open-branch n e at cs d sets new count found offer f small place l same is c g a
       );
     }
 
-pub late-branch : (n e at : ℕ) (cs : List CellEntry) (sets : List EpochSetView) → EpochsFall sets → length sets ≤ n → at ≡ leading e sets → at ≡ n → AddsCells n e cs sets sets Late
+pub late-branch : (n e at : ℕ) (cs : List CellEntry) (sets : List EpochSetView) → EpochsFall sets → length sets ≤ n → at ≡ leading e sets → at ≡ n → AddsCells n e cs sets sets Late []
 late-branch n e at cs sets f small place full =
     record {
       len = small;
       falls = f;
-      answer = λ m k before h. let l = offer-late n e m sets before h (sym place ∙ full) in ((class-late n e m before l.0, l.2), l.1);
+      answer = λ m k before h. let l = offer-late n e m sets before h (sym place ∙ full) in ((class-late n e m before l.0, refl, l.2), l.1);
       below = tt;
       least_closes = tt;
       least = λ all. (all, λ x h. h);
@@ -197,7 +197,7 @@ late-branch n e at cs sets f small place full =
 
 pub new-branch : (n e at : ℕ) (cs : List CellEntry) (d : EpochSetView) (sets items new : List EpochSetView) (closes : Option EpochSetView) (found : List SatelliteCode) → EpochsFall sets → length sets ≤ n
     → at ≡ leading e sets → at ≢ n → (at < length sets → (get_or sets at d).epoch ≢ e) → items ≡ insert sets at (opened e cs) → length items ≡ suc (length sets)
-    → items ≡ new ++ option_to_list closes → length new ≡ min n (length items) → found ≡ conflicts cs [] → AddsCells n e cs sets new (Taken closes found)
+    → items ≡ new ++ option_to_list closes → length new ≡ min n (length items) → found ≡ conflicts cs [] → AddsCells n e cs sets new (Taken closes) found
 new-branch n e at cs d sets items new closes found f small place other absent is grew split len g =
     let s : NewStep n e cs sets items = new-step n e at cs d sets items f small place other absent is in
     let fall : EpochsFall (new ++ option_to_list closes) = subst EpochsFall split s.falls in
@@ -209,8 +209,8 @@ new-branch n e at cs d sets items new closes found f small place other absent is
           let s' : NewStep n e (cells_of m) sets items = subst (λ (t : List CellEntry). NewStep n e t sets items) (sym k) s in
           let p : NewParts n e m before new closes = new-parts n e m sets items new before closes s' h both.0 both.1 in
           ((p.class, g ∙ ap (λ t. conflicts t []) (sym k) ∙ p.same, p.joins.closing), p.joins.holds);
-      below = closes-below new closes found fall;
-      least_closes = new-least n at sets items new (opened e cs) closes found small (let l : leading e sets < n = s.less in omega arith) is grew split len;
+      below = closes-below new closes fall;
+      least_closes = new-least n at sets items new (opened e cs) closes small (let l : leading e sets < n = s.less in omega arith) is grew split len;
       least = λ full. (
         omega arith,
         λ x h.

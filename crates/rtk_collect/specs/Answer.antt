@@ -54,9 +54,10 @@ abbrev pub conflicts_of : ℕ → Arrival → List Arrival → List SatelliteCod
 conflicts_of n (At None m) before = []
 conflicts_of n (At (Some e) m) before = conflicts_with (cells_of m) (cells_at e (kept n before))
 
--- the right answer to an arrival after the ones before it. Only one that is taken closes an epoch
-abbrev pub IsRightAnswer : ℕ → Arrival → List Arrival → Offer → Type 0
-IsRightAnswer n a before Late = (class_of n a before ≡ LateClass) × (closed n (a ∷ before) ≡ closed n before)
-IsRightAnswer n a before (Taken done found) = (class_of n a before ≡ TakenClass) × (found ≡ conflicts_of n a before) × (closed n (a ∷ before) ≡ option_to_list done ++ closed n before)
-IsRightAnswer n a before (Conflict found) = (class_of n a before ≡ ConflictClass) × (found ≡ conflicts_of n a before) × (closed n (a ∷ before) ≡ closed n before)
-IsRightAnswer n a before Repeat = (class_of n a before ≡ RepeatClass) × (closed n (a ∷ before) ≡ closed n before)
+-- the right answer to an arrival after the ones before it, and the conflicts that are listed with it:
+-- none with one that is late or a repeat. Only one that is taken closes an epoch
+abbrev pub IsRightAnswer : ℕ → Arrival → List Arrival → Offer → List SatelliteCode → Type 0
+IsRightAnswer n a before Late listed = (class_of n a before ≡ LateClass) × (listed ≡ []) × (closed n (a ∷ before) ≡ closed n before)
+IsRightAnswer n a before (Taken done) listed = (class_of n a before ≡ TakenClass) × (listed ≡ conflicts_of n a before) × (closed n (a ∷ before) ≡ option_to_list done ++ closed n before)
+IsRightAnswer n a before Conflict listed = (class_of n a before ≡ ConflictClass) × (listed ≡ conflicts_of n a before) × (closed n (a ∷ before) ≡ closed n before)
+IsRightAnswer n a before Repeat listed = (class_of n a before ≡ RepeatClass) × (listed ≡ []) × (closed n (a ∷ before) ≡ closed n before)

@@ -162,8 +162,8 @@ OpeningConflictsNot = (m : Message) → IsValid m → conflicts (cells_of m) [] 
 
 -- a message that closes an epoch opens one, so none of its cells conflicts
 abbrev pub ClosingConflictsNot : Type 0
-ClosingConflictsNot = (n : ℕ) (a : Arrival) (before : List Arrival) (set : EpochSetView) (found : List SatelliteCode) → IsValid (message_of a)
-    → IsRightAnswer n a before (Taken (Some set) found) → found ≡ []
+ClosingConflictsNot = (n : ℕ) (a : Arrival) (before : List Arrival) (set : EpochSetView) (listed : List SatelliteCode) → IsValid (message_of a)
+    → IsRightAnswer n a before (Taken (Some set)) listed → listed ≡ []
 
 -- two cells have one key exactly if satellite, code and kind of message are the same
 abbrev pub KeysAreDistinct : Type 0

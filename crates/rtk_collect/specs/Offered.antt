@@ -1,5 +1,6 @@
 -- What an offer answers and leaves.
 use Rattle.std.specs.Prelude.{◌≡◌, ℕ, ◌≤◌, ◌<◌, List, [], ◌∷◌, ◌++◌, length, None, Some, All}
+use Rattle.rtk_collect.specs.declared.conflicts.SatelliteCode.{SatelliteCode}
 use Rattle.rtk_collect.specs.declared.offer.Offer.{Offer}
 use Rattle.rtk_collect.specs.declared.offer.Offer.TheVariants.{Taken, Conflict, Repeat, Late}
 use Rattle.rtk_collect.specs.EpochSet.{EpochSetView}
@@ -7,15 +8,17 @@ use Rattle.rtk_collect.specs.Arrival.{Arrival}
 use Rattle.rtk_collect.specs.Answer.{IsRightAnswer, TakenClass, class_of}
 use Rattle.rtk_collect.specs.Collector.{CollectorView, RepresentsArrivals}
 
--- the right answer to an arrival, after which the window represents it too, whatever came before
-abbrev pub AnswersArrival : CollectorView → Arrival → Offer → CollectorView → Type 0
-AnswersArrival old a offer new = (before : List Arrival) → RepresentsArrivals old before → IsRightAnswer old.places a before offer × RepresentsArrivals new (a ∷ before)
+-- the right answer to an arrival with the list of its conflicts, after which the window represents it
+-- too, whatever came before
+abbrev pub AnswersArrival : CollectorView → Arrival → Offer → List SatelliteCode → CollectorView → Type 0
+AnswersArrival old a offer listed new =
+    (before : List Arrival) → RepresentsArrivals old before → IsRightAnswer old.places a before offer listed × RepresentsArrivals new (a ∷ before)
 
 -- a closed epoch is less than all of the window
 abbrev pub ClosesBelow : Offer → List EpochSetView → Type 0
-ClosesBelow (Taken (Some set) found) sets = All (λ x. set.epoch < x.epoch) sets
-ClosesBelow (Taken None found) sets = Unit {0}
-ClosesBelow (Conflict found) sets = Unit {0}
+ClosesBelow (Taken (Some set)) sets = All (λ x. set.epoch < x.epoch) sets
+ClosesBelow (Taken None) sets = Unit {0}
+ClosesBelow Conflict sets = Unit {0}
 ClosesBelow Repeat sets = Unit {0}
 ClosesBelow Late sets = Unit {0}
 
@@ -25,9 +28,9 @@ NotBelow set sets = (e : ℕ) → All (λ x. e ≤ x.epoch) sets → e ≤ set.e
 
 -- an epoch closes only if the window of n places was full: its least epoch, with its cells
 abbrev pub ClosesLeast : ℕ → List EpochSetView → Offer → Type 0
-ClosesLeast n sets (Taken (Some set) found) = (length sets ≡ n) × ((greater : List EpochSetView) × (sets ≡ greater ++ set ∷ [])) × NotBelow set sets
-ClosesLeast n sets (Taken None found) = Unit {0}
-ClosesLeast n sets (Conflict found) = Unit {0}
+ClosesLeast n sets (Taken (Some set)) = (length sets ≡ n) × ((greater : List EpochSetView) × (sets ≡ greater ++ set ∷ [])) × NotBelow set sets
+ClosesLeast n sets (Taken None) = Unit {0}
+ClosesLeast n sets Conflict = Unit {0}
 ClosesLeast n sets Repeat = Unit {0}
 ClosesLeast n sets Late = Unit {0}
 

@@ -13,6 +13,7 @@ ghost use Rattle.rtk_collect.specs.Collector.{RepresentsArrivals, KeepsStations}
 ghost use Rattle.rtk_collect.specs.StationPosition.{IsPosition, IsPositionOf};
 ghost use Rattle.rtk_collect.specs.Offered.{AnswersArrival, ClosesBelow, ClosesLeast, LeastNeverFalls, WouldBeTaken};
 
+use crate::conflicts::Conflicts;
 use crate::dated::{Borrowed, Dated};
 use crate::epoch_set::{EpochSet, Spare};
 use crate::left::Left;
@@ -100,21 +101,29 @@ impl Collector {
         }
     }
 
-    /// Takes what is new in a message, and says what became of it.
+    /// Takes what is new in a message, and says what became of it. `conflicts` then has the cells of
+    /// this message that conflict, in place of what it has: none if the message is late, a 1005 or
+    /// a 1006.
     ///
     /// Only a message that would be taken takes memory, all of it before anything changes. If
-    /// memory is refused, the collector is unchanged.
-    pub fn offer(&mut self, dated: Dated<'_>) -> Result<Offer, AllocError>
+    /// memory is refused, the collector is unchanged and `conflicts` is empty.
+    pub fn offer(
+        &mut self,
+        dated: Dated<'_>,
+        conflicts: &mut Conflicts,
+    ) -> Result<Offer, AllocError>
         ensures places { self.new.places ≡ self.old.places }
         ensures bound { length self.new.sets ≤ self.new.places }
         // Fails only if memory is refused: tests/system/calls, rows offer.
-        ensures answer { IfOk result (λ offer. AnswersArrival self.old dated.entry offer self.new) }
+        ensures answer { IfOk result (λ offer. AnswersArrival self.old dated.entry offer conflicts.new self.new) }
         ensures closed { IfOk result (λ offer. ClosesBelow offer self.new.sets) }
         ensures least_closes { IfOk result (λ offer. ClosesLeast self.old.places self.old.sets offer) }
         ensures least { LeastNeverFalls self.old self.new }
         ensures err { OnErr result (self.new ≡ self.old) }
         ensures refused { OnErr result (WouldBeTaken self.old dated.entry) }
+        ensures none { OnErr result (conflicts.new ≡ []) }
     {
+        conflicts.clear();
         let Some(epoch) = dated.epoch else {
             let Borrowed::Message(message) = dated.message else {
                 unreachable!();
@@ -124,19 +133,26 @@ impl Collector {
         dated.message.put_cells(&mut self.cells);
         let cells = self.cells.as_slice();
         let (sets, spare) = (&mut self.sets, &mut self.spare);
-        offer_cells(sets, self.places, self.alloc, epoch, cells, spare)
+        offer_cells(
+            sets,
+            self.places,
+            self.alloc,
+            epoch,
+            cells,
+            spare,
+            conflicts,
+        )
     }
 
     // Takes a 1005 or 1006, if it is the first of its number and the window isn't full. It takes no
-    // memory. It stands apart, since `offer` would clear the room of its answer at each message.
-    #[inline(never)]
+    // memory, and no cell of it conflicts.
     fn offer_station_message(&mut self, message: &Message) -> Offer
         requires valid { IsValid message.now }
         requires station { tow_of message.now ≡ None }
         ensures places { self.new.places ≡ self.old.places }
         ensures bound { length self.new.sets ≤ self.new.places }
         ensures sets { self.new.sets ≡ self.old.sets }
-        ensures answer { AnswersArrival self.old (At None (AnyMessage.Message message.now)) result self.new }
+        ensures answer { AnswersArrival self.old (At None (AnyMessage.Message message.now)) result [] self.new }
         ensures closed { ClosesBelow result self.new.sets }
         ensures least_closes { ClosesLeast self.old.places self.old.sets result }
     {

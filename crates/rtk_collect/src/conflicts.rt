@@ -34,7 +34,7 @@ impl Model for Conflicts {
 
 impl Conflicts {
     /// The empty list.
-    pub(crate) fn new() -> Conflicts
+    pub fn new() -> Conflicts
         ensures { result ≡ [] }
     {
         Conflicts {
@@ -55,6 +55,13 @@ impl Conflicts {
         ensures few { length result.now ≤ 64 }
     {
         self.list.as_slice()
+    }
+
+    /// Takes all out.
+    pub(crate) fn clear(&mut self)
+        ensures { self.new ≡ [] }
+    {
+        self.list.clear();
     }
 
     /// Adds one after the others.

@@ -2,16 +2,18 @@
 //! several links.
 //!
 //! ```rust
-//! use rtk_collect::{Collector, Dated, Offer};
+//! use rtk_collect::{Collector, Conflicts, Dated, Offer};
 //! use rtk_message::{Arp1005, Message};
 //! use std::alloc::{AllocError, Global};
 //!
 //! // The first 1005 is taken, and the same message again is a repeat.
 //! fn example(alloc: Global) -> Result<bool, AllocError> {
 //!     let mut collector = Collector::new(alloc, 64);
+//!     let mut conflicts = Conflicts::new();
 //!     let message = Message::Arp1005(Arp1005::default());
-//!     let is_new = matches!(collector.offer(Dated::new(&message, None))?, Offer::Taken { .. });
-//!     Ok(is_new && matches!(collector.offer(Dated::new(&message, None))?, Offer::Repeat))
+//!     let first = collector.offer(Dated::new(&message, None), &mut conflicts)?;
+//!     let again = collector.offer(Dated::new(&message, None), &mut conflicts)?;
+//!     Ok(matches!(first, Offer::Taken { .. }) && matches!(again, Offer::Repeat))
 //! }
 //! ```
 //!

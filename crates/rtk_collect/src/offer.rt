@@ -1,6 +1,5 @@
 //! The answer to a message that is offered.
 
-use crate::conflicts::Conflicts;
 use crate::epoch_set::EpochSet;
 
 /// What became of an offered message.
@@ -10,17 +9,12 @@ pub enum Offer {
     Taken {
         /// The epoch that this closes, with its kept cells.
         closed: Option<EpochSet>,
-        /// The cells of the message that conflict.
-        conflicts: Conflicts,
     },
     /// Nothing is new, and nothing conflicts.
     Repeat,
     /// No cell is new, and some conflict with the kept ones; or it is a 1005 or 1006 that differs
     /// from the first one.
-    Conflict {
-        /// The cells of the message that conflict; none for a 1005 or 1006.
-        conflicts: Conflicts,
-    },
+    Conflict,
     /// It came too late: at least as many greater epochs came before it as the window has places.
     /// For a 1005 or 1006 all epochs count, and a repeat of the kept one is never late.
     Late,

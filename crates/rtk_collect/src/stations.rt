@@ -8,7 +8,6 @@ ghost use Rattle.rtk_obs.specs.PositionFields.{HasFields};
 ghost use Rattle.rtk_collect.specs.StationPosition.{IsPosition};
 ghost use Rattle.rtk_collect.specs.Steps.Slot.{AnswersStationMessage};
 
-use crate::conflicts::Conflicts;
 use crate::offer::Offer;
 use rtk_message::{Arp1005, Arp1006};
 use rtk_obs::Position;
@@ -36,18 +35,13 @@ pub(crate) fn keep_station_message<T: PartialEq + Copy>(
         if full {
             return Offer::Late;
         }
-        return Offer::Conflict {
-            conflicts: Conflicts::new(),
-        };
+        return Offer::Conflict;
     }
     if full {
         return Offer::Late;
     }
     *slot = Some(message);
-    Offer::Taken {
-        closed: None,
-        conflicts: Conflicts::new(),
-    }
+    Offer::Taken { closed: None }
 }
 
 /// The position of the 1006, else of the 1005, else zeros, with the height of the 1006, else zero.

@@ -177,7 +177,7 @@ pub(crate) fn close_least(sets: &mut VecDeque<EpochSet>, places: usize) -> Optio
 }
 
 /// Takes the new cells of an epoch, or opens it, in a window that has this number of places and
-/// spare lists.
+/// spare lists; those that conflict are added to an empty list, which stays empty if memory is refused.
 pub(crate) fn offer_cells(
     sets: &mut VecDeque<EpochSet>,
     places: usize,
@@ -185,6 +185,7 @@ pub(crate) fn offer_cells(
     epoch: GpsMs,
     cells: &[CellEntry],
     spare: &mut Spare,
+    found: &mut Conflicts,
 ) -> Result<Offer, AllocError>
     requires fits { length sets.old.items ≤ places }
     requires falls { EpochsFall sets.old.items }
@@ -192,43 +193,41 @@ pub(crate) fn offer_cells(
     requires range { All IsInRange cells.now }
     requires kind { AreOfOneKind cells.now }
     requires spare { AreSpare spare.old }
-    ensures added { IfOk result (λ offer. AddsCells places epoch cells.now sets.old.items sets.new.items offer) }
+    requires empty { found.old ≡ [] }
+    ensures added { IfOk result (λ offer. AddsCells places epoch cells.now sets.old.items sets.new.items offer found.new) }
     ensures err { OnErr result (sets.new.items ≡ sets.old.items) }
     ensures refused { OnErr result (WouldTakeCells places epoch cells.now sets.old.items) }
+    ensures none { OnErr result (found.new ≡ []) }
     ensures spare { AreSpare spare.new }
 {
-    let mut conflicts = Conflicts::new();
     let at = place_of_epoch(sets, epoch);
     if has_epoch(sets, at, epoch) {
-        let Ok(fresh) = join_at(sets, at, cells, &mut conflicts) else {
+        let Ok(fresh) = join_at(sets, at, cells, found) else {
+            found.clear();
             return Err(AllocError);
         };
-        if fresh > 0 {
-            return Ok(Offer::Taken {
-                closed: None,
-                conflicts,
-            });
-        }
-        return Ok(answer_of_known(conflicts));
+        return Ok(answer_of_joined(fresh, found));
     }
     if at == places {
         return Ok(Offer::Late);
     }
-    if let Err(_) = open_at(sets, at, alloc, epoch, cells, spare, &mut conflicts) {
+    if let Err(_) = open_at(sets, at, alloc, epoch, cells, spare, found) {
+        found.clear();
         return Err(AllocError);
     }
     let closed = close_least(sets, places);
-    Ok(Offer::Taken { closed, conflicts })
+    Ok(Offer::Taken { closed })
 }
 
-// What became of cells of an epoch of the window of which none is new, by those that conflict. It
-// stands apart, since `offer_cells` would clear the room of its answer at each message.
-#[inline(never)]
-fn answer_of_known(conflicts: Conflicts) -> Offer
-    ensures { IsAnswerOf 0 conflicts result }
+// What became of cells that joined an epoch of the window, by how many were new and which conflict.
+fn answer_of_joined(fresh: usize, found: &Conflicts) -> Offer
+    ensures { IsAnswerOf fresh found.now result }
 {
-    if conflicts.is_empty() {
+    if fresh > 0 {
+        return Offer::Taken { closed: None };
+    }
+    if found.is_empty() {
         return Offer::Repeat;
     }
-    Offer::Conflict { conflicts }
+    Offer::Conflict
 }

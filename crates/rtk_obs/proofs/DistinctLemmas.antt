@@ -1,9 +1,9 @@
--- Lists no two of whose elements are of one kind, and the cells of a message.
-use Rattle.std.proofs.Common.{◌≡◌, ◌≢◌, ℕ, zero, suc, ◌+◌, ◌-◌, ◌^◌, ◌<◌, ◌≤◌, [], ◌∷◌, ◌++◌, List, length, get_or, map, Option, Some, None, refl, sym, ◌∙◌, ap, arith, nat_eq, true, false, Bool, not, cond}
+-- No two cells of a message are of one satellite and code. They rise if the satellites of a 1004 do, and if
+-- an MSM has no signal from 30 to 32.
+use Rattle.std.proofs.Common.{◌≡◌, ◌≢◌, ℕ, zero, suc, ◌+◌, ◌-◌, ◌^◌, ◌<◌, ◌≤◌, [], ◌∷◌, List, length, take, ◌*◌, ◌/◌, ◌%◌, ◌⊎◌, inl, inr, min, get_or, map, Option, Some, None, refl, sym, ◌∙◌, ap, arith, nat_eq, true, false, Bool, not, cond}
 use Rattle.std.specs.Prelude.{filter, nat_le}
 use Rattle.std.specs.List.{flat_map, AllByRecursion, AllPairs}
-use Rattle.std.proofs.lemmas.List.Elements.{All-from_recursion}
-use Rattle.std.proofs.lemmas.List.Kept.{AllPairs-cons}
+use Rattle.std.proofs.lemmas.List.{take_more, take_all}
 use Rattle.std.proofs.lemmas.Bool.Decides.{nat_tests}
 use Rattle.rtk_message.specs.declared.obs1004.Satellite.{Satellite}
 use Rattle.rtk_message.specs.declared.msm1074.MsmHeader.{MsmHeader}
@@ -18,61 +18,15 @@ use Rattle.rtk_obs.specs.declared.cell.Cell.{Cell}
 use Rattle.rtk_obs.specs.declared.cell.CellEntry.{CellEntry}
 use Rattle.rtk_obs.specs.declared.msm_rows.Slot.{Slot}
 use Rattle.rtk_obs.specs.Code.{place_of}
-use Rattle.rtk_obs.specs.Cell.{is_satellite, entry_of, AreDifferentSignals, AreDistinct}
+use Rattle.rtk_obs.specs.Cell.{is_satellite, entry_of, AreDifferentSignals, AreDistinct, IsBefore, AreRising}
 use Rattle.rtk_obs.specs.Mask.{set_bits_from, set_bits, join_from}
 use Rattle.rtk_obs.specs.LegacyCells.{first_entries, has_number, satellite_entries, cells_of_1004, l1_code_of, l2_code_of, l1_cell_of, l2_cell_of}
 use Rattle.rtk_obs.specs.MsmCells.{satellites_of, signals_of, row_slots, slots_of, coded_entry, slot_entry, msm_entries, code_of_signal, cell_of_1074, cells_of_1074, cell_of_msm, cells_of_msm}
 use Rattle.rtk_obs.specs.Steps.MsmRows.{IsCellMask}
-use Rattle.rtk_obs.proofs.MaskLemmas.{set_bits_from-bounds}
+use Rattle.rtk_obs.proofs.PairsLemmas.{Pairs, all_append, all_filter, all_from, all_pairs, pairs-append, pairs_filter}
+use Rattle.rtk_obs.proofs.MaskLemmas.{set_bits_from-bounds, set_bits_from-early}
 use Rattle.rtk_obs.proofs.MsmLemmas.{satellite_in, count-satellites}
-use Rattle.rtk_obs.proofs.MsmFieldLemmas.{is_cell_mask-1074, is_cell_mask-msm}
-
--- ---- lists by recursion
-
-all_of : {X : Type 0} (P : X → Type 0) → ((x : X) → P x) → (xs : List X) → AllByRecursion P xs
-all_of P each [] = tt
-all_of P each (x ∷ xs) = (each x, all_of P each xs)
-
-all_from : {X : Type 0} (P Q : X → Type 0) → ((x : X) → P x → Q x) → (xs : List X) → AllByRecursion P xs → AllByRecursion Q xs
-all_from P Q f [] a = tt
-all_from P Q f (x ∷ xs) a = (f x a.0, all_from P Q f xs a.1)
-
-all_both : {X : Type 0} (P Q S : X → Type 0) → ((x : X) → P x → Q x → S x) → (xs : List X) → AllByRecursion P xs → AllByRecursion Q xs → AllByRecursion S xs
-all_both P Q S f [] a b = tt
-all_both P Q S f (x ∷ xs) a b = (f x a.0 b.0, all_both P Q S f xs a.1 b.1)
-
-all_append : {X : Type 0} (P : X → Type 0) (xs ys : List X) → AllByRecursion P xs → AllByRecursion P ys → AllByRecursion P (xs ++ ys)
-all_append P [] ys a b = b
-all_append P (x ∷ xs) ys a b = (a.0, all_append P xs ys a.1 b)
-
-all_if : {X : Type 0} (P : X → Type 0) (b : Bool) (x : X) (rest : List X) → P x → AllByRecursion P rest → AllByRecursion P (cond b (x ∷ rest) rest)
-all_if P true x rest p a = (p, a)
-all_if P false x rest p a = a
-
-all_filter : {X : Type 0} (P : X → Type 0) (p : X → Bool) (xs : List X) → AllByRecursion P xs → AllByRecursion P (filter p xs)
-all_filter P p [] a = tt
-all_filter P p (x ∷ xs) a = all_if P (p x) x (filter p xs) a.0 (all_filter P p xs a.1)
-
--- R holds of each element and each later one
-abbrev pub Pairs : {X : Type 0} → (X → X → Type 0) → List X → Type 0
-Pairs R [] = Unit {0}
-Pairs R (x ∷ xs) = AllByRecursion (R x) xs × Pairs R xs
-
-all_pairs : {X : Type 0} (R : X → X → Type 0) (xs : List X) → Pairs R xs → AllPairs R xs
-all_pairs R [] p = λ i j d before inside. absurd (omega (arith, before, inside))
-all_pairs R (x ∷ xs) p = AllPairs-cons R x xs (All-from_recursion (R x) xs p.0) (all_pairs R xs p.1)
-
-pairs-append : {X : Type 0} (R : X → X → Type 0) (xs ys : List X) → Pairs R xs → Pairs R ys → AllByRecursion (λ x. AllByRecursion (R x) ys) xs → Pairs R (xs ++ ys)
-pairs-append R [] ys p q a = q
-pairs-append R (x ∷ xs) ys p q a = (all_append (R x) xs ys p.0 a.0, pairs-append R xs ys p.1 q a.1)
-
-pairs_if : {X : Type 0} (R : X → X → Type 0) (b : Bool) (x : X) (rest : List X) → AllByRecursion (R x) rest → Pairs R rest → Pairs R (cond b (x ∷ rest) rest)
-pairs_if R true x rest a p = (a, p)
-pairs_if R false x rest a p = p
-
-pairs_filter : {X : Type 0} (R : X → X → Type 0) (p : X → Bool) (xs : List X) → Pairs R xs → Pairs R (filter p xs)
-pairs_filter R p [] h = tt
-pairs_filter R p (x ∷ xs) h = pairs_if R (p x) x (filter p xs) (all_filter (R x) p xs h.0) (pairs_filter R p xs h.1)
+use Rattle.rtk_obs.proofs.MsmFieldLemmas.{is_cell_mask-1074, is_cell_mask-msm, below_at}
 
 -- ---- 1004
 
@@ -125,6 +79,52 @@ cells_of_1004-distinct ss =
     all_pairs AreDifferentSignals (cells_of_1004 ss)
     (entries_differ (filter (λ (s : Satellite). is_satellite s.satellite) (first_entries ss)) (pairs_filter AreOthers (λ (s : Satellite). is_satellite s.satellite) (first_entries ss) (first_others ss)))
 
+-- and they rise if the satellites of the message do
+abbrev pub IsLess : Satellite → Satellite → Type 0
+IsLess s t = s.satellite < t.satellite
+
+all_first : (P : Satellite → Type 0) (ss : List Satellite) → AllByRecursion P ss → AllByRecursion P (first_entries ss)
+unfolding first_entries
+all_first P [] a = tt
+all_first P (s ∷ ss) a = (a.0, all_filter P (λ (t : Satellite). not (has_number s.satellite t)) (first_entries ss) (all_first P ss a.1))
+
+first_rise : (ss : List Satellite) → Pairs IsLess ss → Pairs IsLess (first_entries ss)
+unfolding first_entries
+first_rise [] p = tt
+first_rise (s ∷ ss) p = (
+  all_filter (IsLess s) (λ (t : Satellite). not (has_number s.satellite t)) (first_entries ss) (all_first (IsLess s) ss p.0),
+  pairs_filter IsLess (λ (t : Satellite). not (has_number s.satellite t)) (first_entries ss) (first_rise ss p.1),
+)
+
+after : (e : CellEntry) (ts : List Satellite) → AllByRecursion (λ t. e.satellite < t.satellite) ts → AllByRecursion (IsBefore e) (flat_map satellite_entries ts)
+after e [] a = tt
+after e (t ∷ ts) a = (inl a.0, (inl a.0, after e ts a.1))
+
+entries_rise : (ss : List Satellite) → Pairs IsLess ss → Pairs IsBefore (flat_map satellite_entries ss)
+entries_rise [] p = tt
+entries_rise (s ∷ ss) p = (
+  (inr (refl, omega (arith, l1_place s.l1_code, l2_place s.l2_code)), after (entry_of s.satellite (l1_code_of s.l1_code) (l1_cell_of s)) ss p.0),
+  (after (entry_of s.satellite (l2_code_of s.l2_code) (l2_cell_of s)) ss p.0, entries_rise ss p.1),
+)
+
+-- the satellites rise to this last number
+abbrev pub RiseTo : ℕ → List Satellite → Type 0
+RiseTo last ss = Pairs IsLess ss × AllByRecursion (λ s. s.satellite ≤ last) ss
+
+pub rise-more : (last i : ℕ) (d : Satellite) (ss : List Satellite) → i < length ss → RiseTo last (take i ss) → last < (get_or ss i d).satellite → RiseTo (get_or ss i d).satellite (take (i + 1) ss)
+rise-more last i d ss inside p less =
+    let s = get_or ss i d in
+    rw (take_more ss i d inside) (
+      pairs-append IsLess (take i ss) (s ∷ []) p.0 (tt, tt) (all_from (λ (t : Satellite). t.satellite ≤ last) (λ (t : Satellite). AllByRecursion (IsLess t) (s ∷ [])) (λ t h. (omega (arith, h, less), tt)) (take i ss) p.1),
+      all_append (λ (t : Satellite). t.satellite ≤ s.satellite) (take i ss) (s ∷ []) (all_from (λ (t : Satellite). t.satellite ≤ last) (λ (t : Satellite). t.satellite ≤ s.satellite) (λ t h. omega (arith, h, less)) (take i ss) p.1) (omega arith, tt),
+    )
+
+pub cells_of_1004-rise : (last i : ℕ) (ss : List Satellite) → RiseTo last (take i ss) → length ss ≤ i → AreRising (cells_of_1004 ss)
+cells_of_1004-rise last i ss p all =
+    let rise : Pairs IsLess ss = rw (take_all i ss all) at p.0 in
+    all_pairs IsBefore (cells_of_1004 ss)
+    (entries_rise (filter (λ (s : Satellite). is_satellite s.satellite) (first_entries ss)) (pairs_filter IsLess (λ (s : Satellite). is_satellite s.satellite) (first_entries ss) (first_rise ss rise)))
+
 -- ---- MSM: the satellites and the signals rise
 
 to_above : (place w : ℕ) (ps : List ℕ) → AllByRecursion (λ p. (suc place ≤ p) × (p < suc place + w)) ps → AllByRecursion (λ p. place < p) ps
@@ -152,24 +152,25 @@ rises_at xs p i j before inside = all_pairs IsBelow xs p i j 0 before inside
 
 -- ---- its slots
 
-module _ (satellites signals : List ℕ) where
-  -- of different satellites, or of one and different signals
-  abbrev pub AreOtherSlots : Slot → Slot → Type 0
-  AreOtherSlots s t = satellite_in satellites s ≡ satellite_in satellites t → s.signal ≢ t.signal
+module _ (satellites signals : List ℕ) (top : ℕ) where
+  -- of a lesser satellite, or of the same one and a lesser signal; this one is below the top
+  abbrev pub IsSlotBefore : Slot → Slot → Type 0
+  IsSlotBefore s t =
+      (satellite_in satellites s < satellite_in satellites t) ⊎ ((satellite_in satellites s ≡ satellite_in satellites t) × (s.signal < t.signal) × (t.signal < top))
 
   abbrev pub slot_at : ℕ → ℕ → Slot
   slot_at row p = record { row = row; signal = get_or signals (p - 1) 0 }
 
-  row_below : Pairs IsBelow signals → (row p : ℕ) (ps : List ℕ) → 1 ≤ p → AllByRecursion (IsBelow p) ps → AllByRecursion (λ q. (1 ≤ q) × (q < 1 + length signals)) ps
-      → AllByRecursion (AreOtherSlots (slot_at row p)) (map (slot_at row) ps)
-  row_below rise row p [] one a b = tt
-  row_below rise row p (q ∷ ps) one a b =
-      (λ _ same. absurd (omega (arith, same, rises_at signals rise (p - 1) (q - 1) (omega (arith, one, a.0)) (omega (arith, one, a.0, b.0.1)))), row_below rise row p ps one a.1 b.1)
+  module _ (rise : Pairs IsBelow signals) (low : (k : ℕ) → get_or signals k 0 < top) where
+    row_below : (row p : ℕ) (ps : List ℕ) → 1 ≤ p → AllByRecursion (IsBelow p) ps → AllByRecursion (λ q. (1 ≤ q) × (q < 1 + length signals)) ps
+        → AllByRecursion (IsSlotBefore (slot_at row p)) (map (slot_at row) ps)
+    row_below row p [] one a b = tt
+    row_below row p (q ∷ ps) one a b =
+        (inr (refl, rises_at signals rise (p - 1) (q - 1) (omega (arith, one, a.0)) (omega (arith, one, a.0, b.0.1)), low (q - 1)), row_below row p ps one a.1 b.1)
 
-  row_differ : Pairs IsBelow signals → (row : ℕ) (ps : List ℕ) → Pairs IsBelow ps → AllByRecursion (λ q. (1 ≤ q) × (q < 1 + length signals)) ps
-      → Pairs AreOtherSlots (map (slot_at row) ps)
-  row_differ rise row [] p b = tt
-  row_differ rise row (q ∷ ps) p b = (row_below rise row q ps b.0.0 p.0 b.1, row_differ rise row ps p.1 b.1)
+    row_rises : (row : ℕ) (ps : List ℕ) → Pairs IsBelow ps → AllByRecursion (λ q. (1 ≤ q) × (q < 1 + length signals)) ps → Pairs IsSlotBefore (map (slot_at row) ps)
+    row_rises row [] p b = tt
+    row_rises row (q ∷ ps) p b = (row_below row q ps b.0.0 p.0 b.1, row_rises row ps p.1 b.1)
 
   rows_of : (row n k : ℕ) (ps : List ℕ) → k ≤ row → row < n → AllByRecursion (λ s. (k ≤ s.row) × (s.row < n)) (map (slot_at row) ps)
   rows_of row n k [] low high = tt
@@ -184,28 +185,29 @@ module _ (satellites signals : List ℕ) where
       (all_from (λ (s : Slot). (suc k ≤ s.row) × (s.row < n)) (λ (s : Slot). (k ≤ s.row) × (s.row < n)) (λ s r. (omega (arith, r.0), r.1))
       (join_from (row_slots signals) (suc k) bs) (rows_from n (suc k) bs (omega arith)))
 
-  -- slots of a row differ from slots of later rows, which belong to other satellites
+  -- slots of a row are before slots of later rows, which belong to greater satellites
   across : Pairs IsBelow satellites → (k : ℕ) (later : List Slot) (ps : List ℕ) → AllByRecursion (λ s. (suc k ≤ s.row) × (s.row < length satellites)) later
-      → AllByRecursion (λ s. AllByRecursion (AreOtherSlots s) later) (map (slot_at k) ps)
+      → AllByRecursion (λ s. AllByRecursion (IsSlotBefore s) later) (map (slot_at k) ps)
   across rise k later [] a = tt
   across rise k later (p ∷ ps) a = (
-    all_from (λ (s : Slot). (suc k ≤ s.row) × (s.row < length satellites)) (AreOtherSlots (slot_at k p))
-        (λ s r same. absurd (omega (arith, same, rises_at satellites rise k s.row (omega (arith, r.0)) r.1))) later a,
+    all_from (λ (s : Slot). (suc k ≤ s.row) × (s.row < length satellites)) (IsSlotBefore (slot_at k p))
+        (λ s r. inl (rises_at satellites rise k s.row (omega (arith, r.0)) r.1)) later a,
     across rise k later ps a,
   )
 
-  slots_differ : Pairs IsBelow satellites → Pairs IsBelow signals → (k : ℕ) (masks : List ℕ) → k + length masks ≤ length satellites
-      → Pairs AreOtherSlots (join_from (row_slots signals) k masks)
+  slots_rise : Pairs IsBelow satellites → Pairs IsBelow signals → ((k : ℕ) → get_or signals k 0 < top) → (k : ℕ) (masks : List ℕ) → k + length masks ≤ length satellites
+      → Pairs IsSlotBefore (join_from (row_slots signals) k masks)
   unfolding join_from
-  slots_differ rise signals_rise k [] h = tt
-  slots_differ rise signals_rise k (b ∷ bs) h =
-      pairs-append AreOtherSlots (row_slots signals k b) (join_from (row_slots signals) (suc k) bs)
-      (row_differ signals_rise k (set_bits (length signals) b) (set_bits_from-rise 1 (length signals) b) (set_bits_from-bounds 1 (length signals) b))
-      (slots_differ rise signals_rise (suc k) bs (omega arith))
+  slots_rise rise signals_rise low k [] h = tt
+  slots_rise rise signals_rise low k (b ∷ bs) h =
+      pairs-append IsSlotBefore (row_slots signals k b) (join_from (row_slots signals) (suc k) bs)
+      (row_rises signals_rise low k (set_bits (length signals) b) (set_bits_from-rise 1 (length signals) b) (set_bits_from-bounds 1 (length signals) b))
+      (slots_rise rise signals_rise low (suc k) bs (omega arith))
       (across rise k (join_from (row_slots signals) (suc k) bs) (set_bits (length signals) b) (rows_from (length satellites) (suc k) bs (omega arith)))
 
 -- ---- one signal a code
 
+-- 33, which is no signal, for the code that none has
 abbrev pub signal_of : Code → ℕ
 signal_of C1C = 2
 signal_of C1P = 3
@@ -214,7 +216,7 @@ signal_of C1S = 30
 signal_of C1L = 31
 signal_of C1X = 32
 signal_of C2C = 8
-signal_of C2D = 0
+signal_of C2D = 33
 signal_of C2P = 9
 signal_of C2W = 10
 signal_of C2S = 15
@@ -251,64 +253,128 @@ signal_of_coded s c h =
     (λ h31. or_later (nat_eq s 31) s 31 C1L c _ refl refl h31
     (λ h32. or_later (nat_eq s 32) s 32 C1X c None refl refl h32 (λ none. absurd cc)))))))))))))))
 
+-- ---- the places of codes rise with the signals below 30
+
+code_place : (c : Code) → signal_of c < 30
+    → (place_of c + 2 + min 4 (signal_of c - 10) + min 4 (signal_of c - 17) ≡ signal_of c + min 1 (signal_of c - 8))
+    × (signal_of c + min 1 (signal_of c - 9) ≤ place_of c + 2 + min 4 (signal_of c - 11) + min 4 (signal_of c - 18))
+code_place C1C h = (omega arith, omega arith)
+code_place C1P h = (omega arith, omega arith)
+code_place C1W h = (omega arith, omega arith)
+code_place C1S h = absurd (omega (arith, h))
+code_place C1L h = absurd (omega (arith, h))
+code_place C1X h = absurd (omega (arith, h))
+code_place C2C h = (omega arith, omega arith)
+code_place C2D h = absurd (omega (arith, h))
+code_place C2P h = (omega arith, omega arith)
+code_place C2W h = (omega arith, omega arith)
+code_place C2S h = (omega arith, omega arith)
+code_place C2L h = (omega arith, omega arith)
+code_place C2X h = (omega arith, omega arith)
+code_place C5I h = (omega arith, omega arith)
+code_place C5Q h = (omega arith, omega arith)
+code_place C5X h = (omega arith, omega arith)
+
+code_before : (c d : Code) → signal_of c < signal_of d → signal_of d < 30 → place_of c < place_of d
+code_before c d less low =
+    let p = code_place c (omega (arith, less, low)) in
+    let q = code_place d low in
+    omega (arith, less, p.0, q.1)
+
 -- ---- its cells
 
-module _ (h : MsmHeader) (cell_of : ℕ → ℕ → Band → Cell) where
-  abbrev pub IsOfSlot : Slot → CellEntry → Type 0
-  IsOfSlot s e = (e.satellite ≡ satellite_in (satellites_of h) s) × (code_of_signal s.signal ≡ Some e.code)
+-- what is said of a slot and a later one
+abbrev pub Slots : ℕ → MsmHeader → Slot → Slot → Type 0
+Slots top h s t = IsSlotBefore (satellites_of h) (signals_of h) top s t
 
-  coded_of : (k : ℕ) (s : Slot) (code : Option Code) → code_of_signal s.signal ≡ code → AllByRecursion (IsOfSlot s) (coded_entry (cell_of k s.row) (satellite_in (satellites_of h) s) code)
+abbrev pub IsOfSlot : MsmHeader → Slot → CellEntry → Type 0
+IsOfSlot h s e = (e.satellite ≡ satellite_in (satellites_of h) s) × (code_of_signal s.signal ≡ Some e.code)
+
+module _ (h : MsmHeader) (cell_of : ℕ → ℕ → Band → Cell) where
+  coded_of : (k : ℕ) (s : Slot) (code : Option Code) → code_of_signal s.signal ≡ code → AllByRecursion (IsOfSlot h s) (coded_entry (cell_of k s.row) (satellite_in (satellites_of h) s) code)
   coded_of k s None e = tt
   coded_of k s (Some code) e = ((refl, e), tt)
 
   of_slot_if : (b : Bool) (k : ℕ) (s : Slot)
-      → AllByRecursion (IsOfSlot s) (cond b (coded_entry (cell_of k s.row) (satellite_in (satellites_of h) s) (code_of_signal s.signal)) [])
+      → AllByRecursion (IsOfSlot h s) (cond b (coded_entry (cell_of k s.row) (satellite_in (satellites_of h) s) (code_of_signal s.signal)) [])
   of_slot_if true k s = coded_of k s (code_of_signal s.signal) refl
   of_slot_if false k s = tt
 
-  coded_one : (k row satellite : ℕ) (code : Option Code) → Pairs AreDifferentSignals (coded_entry (cell_of k row) satellite code)
-  coded_one k row satellite None = tt
-  coded_one k row satellite (Some code) = (tt, tt)
-
-  one_if : (b : Bool) (k row satellite : ℕ) (code : Option Code) → Pairs AreDifferentSignals (cond b (coded_entry (cell_of k row) satellite code) [])
-  one_if true k row satellite code = coded_one k row satellite code
-  one_if false k row satellite code = tt
-
-  differ : (s t : Slot) (a b : CellEntry) → AreOtherSlots (satellites_of h) (signals_of h) s t → IsOfSlot s a → IsOfSlot t b → AreDifferentSignals a b
-  differ s t a b others p q same codes =
-      others (sym p.0 ∙ (same ∙ q.0)) (signal_of_coded s.signal a.code p.1 ∙ (ap signal_of codes ∙ sym (signal_of_coded t.signal b.code q.1)))
-
-  slot_entry-of : (k : ℕ) (s : Slot) → AllByRecursion (IsOfSlot s) (slot_entry h cell_of k s)
+  slot_entry-of : (k : ℕ) (s : Slot) → AllByRecursion (IsOfSlot h s) (slot_entry h cell_of k s)
   slot_entry-of k s = of_slot_if (is_satellite (satellite_in (satellites_of h) s)) k s
 
-  later_differ : (s : Slot) (a : CellEntry) → IsOfSlot s a → (k : ℕ) (ts : List Slot) → AllByRecursion (AreOtherSlots (satellites_of h) (signals_of h) s) ts
-      → AllByRecursion (AreDifferentSignals a) (join_from (slot_entry h cell_of) k ts)
-  unfolding join_from
-  later_differ s a is k [] o = tt
-  later_differ s a is k (t ∷ ts) o =
-      all_append (AreDifferentSignals a) (slot_entry h cell_of k t) (join_from (slot_entry h cell_of) (suc k) ts)
-      (all_from (IsOfSlot t) (AreDifferentSignals a) (λ b q. differ s t a b o.0 is q) (slot_entry h cell_of k t) (slot_entry-of k t))
-      (later_differ s a is (suc k) ts o.1)
+  -- a relation of the cells of a slot and a later one
+  module _ (R : CellEntry → CellEntry → Type 0) (top : ℕ) (each : (s t : Slot) (a b : CellEntry) → Slots top h s t → IsOfSlot h s a → IsOfSlot h t b → R a b) where
+    coded_one : (k row satellite : ℕ) (code : Option Code) → Pairs R (coded_entry (cell_of k row) satellite code)
+    coded_one k row satellite None = tt
+    coded_one k row satellite (Some code) = (tt, tt)
 
-  entries_of_slots : (k : ℕ) (ss : List Slot) → Pairs (AreOtherSlots (satellites_of h) (signals_of h)) ss → Pairs AreDifferentSignals (join_from (slot_entry h cell_of) k ss)
-  unfolding join_from
-  entries_of_slots k [] p = tt
-  entries_of_slots k (s ∷ ss) p =
-      pairs-append AreDifferentSignals (slot_entry h cell_of k s) (join_from (slot_entry h cell_of) (suc k) ss)
-      (one_if (is_satellite (satellite_in (satellites_of h) s)) k s.row (satellite_in (satellites_of h) s) (code_of_signal s.signal))
-      (entries_of_slots (suc k) ss p.1)
-      (all_from (IsOfSlot s) (λ (a : CellEntry). AllByRecursion (AreDifferentSignals a) (join_from (slot_entry h cell_of) (suc k) ss))
-      (λ a is. later_differ s a is (suc k) ss p.0) (slot_entry h cell_of k s) (slot_entry-of k s))
+    one_if : (b : Bool) (k row satellite : ℕ) (code : Option Code) → Pairs R (cond b (coded_entry (cell_of k row) satellite code) [])
+    one_if true k row satellite code = coded_one k row satellite code
+    one_if false k row satellite code = tt
 
-  entries-distinct : (rows : List ℕ) → IsCellMask h rows → AreDistinct (msm_entries h rows cell_of)
-  entries-distinct rows is =
-      all_pairs AreDifferentSignals (msm_entries h rows cell_of)
-      (entries_of_slots 0 (slots_of h rows)
-      (slots_differ (satellites_of h) (signals_of h) (set_bits_from-rise 1 64 h.satellite_mask) (set_bits_from-rise 1 32 h.signal_mask) 0 rows
-      (omega (arith, is.rows, count-satellites h rows is))))
+    later_cells : (s : Slot) (a : CellEntry) → IsOfSlot h s a → (k : ℕ) (ts : List Slot) → AllByRecursion (Slots top h s) ts → AllByRecursion (R a) (join_from (slot_entry h cell_of) k ts)
+    unfolding join_from
+    later_cells s a is k [] o = tt
+    later_cells s a is k (t ∷ ts) o =
+        all_append (R a) (slot_entry h cell_of k t) (join_from (slot_entry h cell_of) (suc k) ts)
+        (all_from (IsOfSlot h t) (R a) (λ b q. each s t a b o.0 is q) (slot_entry h cell_of k t) (slot_entry-of k t))
+        (later_cells s a is (suc k) ts o.1)
+
+    entries_of_slots : (k : ℕ) (ss : List Slot) → Pairs (Slots top h) ss → Pairs R (join_from (slot_entry h cell_of) k ss)
+    unfolding join_from
+    entries_of_slots k [] p = tt
+    entries_of_slots k (s ∷ ss) p =
+        pairs-append R (slot_entry h cell_of k s) (join_from (slot_entry h cell_of) (suc k) ss)
+        (one_if (is_satellite (satellite_in (satellites_of h) s)) k s.row (satellite_in (satellites_of h) s) (code_of_signal s.signal))
+        (entries_of_slots (suc k) ss p.1)
+        (all_from (IsOfSlot h s) (λ (a : CellEntry). AllByRecursion (R a) (join_from (slot_entry h cell_of) (suc k) ss))
+        (λ a is. later_cells s a is (suc k) ss p.0) (slot_entry h cell_of k s) (slot_entry-of k s))
+
+    entries_all : 0 < top → AllByRecursion (λ p. p < top) (signals_of h) → (rows : List ℕ) → IsCellMask h rows → AllPairs R (msm_entries h rows cell_of)
+    entries_all some low rows is =
+        all_pairs R (msm_entries h rows cell_of)
+        (entries_of_slots 0 (slots_of h rows)
+        (slots_rise (satellites_of h) (signals_of h) top (set_bits_from-rise 1 64 h.satellite_mask) (set_bits_from-rise 1 32 h.signal_mask)
+        (λ k. below_at top some (signals_of h) k low) 0 rows (omega (arith, is.rows, count-satellites h rows is))))
+
+-- they are distinct
+
+differ : (h : MsmHeader) (s t : Slot) (a b : CellEntry) → Slots 33 h s t → IsOfSlot h s a → IsOfSlot h t b → AreDifferentSignals a b
+differ h s t a b before p q same codes = elim before [
+  | inl less ↦ absurd (omega (arith, less, p.0, q.0, same))
+  | inr more ↦ absurd (omega (arith, more.1, signal_of_coded s.signal a.code p.1, signal_of_coded t.signal b.code q.1, ap signal_of codes))
+]
+
+below_33 : (ps : List ℕ) → AllByRecursion (λ p. (1 ≤ p) × (p < 1 + 32)) ps → AllByRecursion (λ p. p < 33) ps
+below_33 ps a = all_from (λ (p : ℕ). (1 ≤ p) × (p < 1 + 32)) (λ (p : ℕ). p < 33) (λ p b. b.1) ps a
+
+entries-distinct : (h : MsmHeader) (cell_of : ℕ → ℕ → Band → Cell) (rows : List ℕ) → IsCellMask h rows → AreDistinct (msm_entries h rows cell_of)
+entries-distinct h cell_of rows is =
+    entries_all h cell_of AreDifferentSignals 33 (differ h) (omega arith) (below_33 (signals_of h) (set_bits_from-bounds 1 32 h.signal_mask)) rows is
 
 pub cells_of_1074-distinct : (m : Msm1074) → IsValid m → AreDistinct (cells_of_1074 m)
 cells_of_1074-distinct m valid = entries-distinct m.header (cell_of_1074 m) m.cell_mask (is_cell_mask-1074 m valid)
 
 pub cells_of_msm-distinct : (m : Msm) → IsValidMsm m → AreDistinct (cells_of_msm m)
 cells_of_msm-distinct m valid = entries-distinct m.header (cell_of_msm m) m.cell_mask (is_cell_mask-msm m valid)
+
+-- they rise if there is no signal from 30 to 32
+
+before : (h : MsmHeader) (s t : Slot) (a b : CellEntry) → Slots 30 h s t → IsOfSlot h s a → IsOfSlot h t b → IsBefore a b
+before h s t a b slots p q = elim slots [
+  | inl less ↦ inl (omega (arith, less, p.0, q.0))
+  | inr more ↦
+      let c = signal_of_coded s.signal a.code p.1 in
+      let d = signal_of_coded t.signal b.code q.1 in
+      inr (p.0 ∙ more.0 ∙ sym q.0, code_before a.code b.code (omega (arith, c, d, more.1)) (omega (arith, d, more.2)))
+]
+
+pub entries-rise : (h : MsmHeader) (cell_of : ℕ → ℕ → Band → Cell) (rows : List ℕ) → IsCellMask h rows → AllByRecursion (λ p. p < 30) (signals_of h) → AreRising (msm_entries h rows cell_of)
+entries-rise h cell_of rows is early = entries_all h cell_of IsBefore 30 (before h) (omega arith) early rows is
+
+pub early-signals : (mask : ℕ) → mask < 2 ^ 32 → mask % 8 ≡ 0 → AllByRecursion (λ p. p < 30) (set_bits 32 mask)
+early-signals mask fits none =
+    let e : 8 * (mask / 8) ≡ mask = omega (arith, none) in
+    let early = set_bits_from-early 29 1 (mask / 8) (omega (arith, fits)) in
+    rw e at early

@@ -15,5 +15,6 @@ mod LegacyLemmas
 mod CellsLeftLemmas
 mod MsmLemmas
 mod MsmFieldLemmas
+mod PairsLemmas
 mod DistinctLemmas
 mod MessageLemmas

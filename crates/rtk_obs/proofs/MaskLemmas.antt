@@ -104,6 +104,28 @@ set_bits_from-bounds place (suc w) mask =
     bounds_if (nat_le (2 ^ w) mask) place w (set_bits_from (suc place) w (mask - 2 ^ w)) (set_bits_from (suc place) w mask)
     (set_bits_from-bounds (suc place) w (mask - 2 ^ w)) (set_bits_from-bounds (suc place) w mask)
 
+-- if the three low bits are clear, the places stop three before the last
+eight : (w : ℕ) → 2 ^ (w + 3) ≡ 8 * 2 ^ w
+eight w =
+    let e : w + 3 ≡ suc (suc (suc w)) = omega arith in
+    rw e (omega (arith, pow-suc 2 w, pow-suc 2 (suc w), pow-suc 2 (suc (suc w))))
+
+pub set_bits_from-early : (w place m : ℕ) → m < 2 ^ w → AllByRecursion (λ p. p < place + w) (set_bits_from place (w + 3) (8 * m))
+unfolding set_bits_from
+set_bits_from-early zero place m h =
+    let e : m ≡ 0 = omega (arith, h) in
+    rw e tt
+set_bits_from-early (suc w) place m h =
+    let n : suc w + 3 ≡ suc (w + 3) = omega arith in
+    let e : suc place + w ≡ place + suc w = omega arith in
+    let early : (k : ℕ) → k < 2 ^ w → AllByRecursion (λ p. p < place + suc w) (set_bits_from (suc place) (w + 3) (8 * k)) =
+    λ k l. subst (λ (t : ℕ). AllByRecursion (λ p. p < t) (set_bits_from (suc place) (w + 3) (8 * k))) e (set_bits_from-early w (suc place) k l) in
+    rw n (by_lt m (2 ^ w)
+    (λ lt. rw (set_bits_from-low place (w + 3) (8 * m) (omega (arith, eight w, lt))) (early m lt))
+    (λ ge.
+    let less : 8 * m - 2 ^ (w + 3) ≡ 8 * (m - 2 ^ w) = omega (arith, eight w) in
+    rw (set_bits_from-top place (w + 3) (8 * m) (omega (arith, eight w, ge)), less) (omega arith, early (m - 2 ^ w) (omega (arith, ge, h, pow-suc 2 w)))))
+
 -- there are at most as many as bits
 length_if : (b : Bool) (place w : ℕ) (more rest : List ℕ) → length more ≤ w → length rest ≤ w → length (cond b (place ∷ more) rest) ≤ suc w
 length_if true place w more rest h k = omega arith

@@ -37,7 +37,7 @@ numbers_fit : (w : ℕ) (ns : List ℕ) → FieldsFit (numbers w ns) → AllByRe
 numbers_fit w [] h = tt
 numbers_fit w (n ∷ ns) h = (h.0, numbers_fit w ns h.1)
 
-below_at : (b : ℕ) → 0 < b → (ns : List ℕ) (k : ℕ) → AllByRecursion (λ n. n < b) ns → get_or ns k 0 < b
+pub below_at : (b : ℕ) → 0 < b → (ns : List ℕ) (k : ℕ) → AllByRecursion (λ n. n < b) ns → get_or ns k 0 < b
 below_at b some [] k a = some
 below_at b some (n ∷ ns) zero a = a.0
 below_at b some (n ∷ ns) (suc k) a = below_at b some ns k a.1

@@ -1,9 +1,10 @@
 -- A cell with its satellite and code, and the ranges that the cells of a message keep.
-use Rattle.std.specs.Prelude.{◌≡◌, ◌≢◌, ℕ, ◌≤◌, ◌%◌, Bool, ◌&&◌, nat_le, List, IfSome}
+use Rattle.std.specs.Prelude.{◌≡◌, ◌≢◌, ℕ, ◌<◌, ◌≤◌, ◌%◌, Bool, ◌&&◌, ◌⊎◌, nat_le, List, IfSome}
 use Rattle.std.specs.List.{AllPairs}
 use Rattle.rtk_obs.specs.declared.code.Code.{Code}
 use Rattle.rtk_obs.specs.declared.cell.Cell.{Cell}
 use Rattle.rtk_obs.specs.declared.cell.CellEntry.{CellEntry}
+use Rattle.rtk_obs.specs.Code.{place_of}
 
 abbrev pub entry_of : ℕ → Code → Cell → CellEntry
 entry_of satellite code cell = record { satellite = satellite; code = code; cell = cell }
@@ -39,3 +40,12 @@ AreDifferentSignals a b = a.satellite ≡ b.satellite → a.code ≢ b.code
 -- no two of the cells are of one satellite and code
 abbrev pub AreDistinct : List CellEntry → Type 0
 AreDistinct cells = AllPairs AreDifferentSignals cells
+
+-- the first cell is of a lesser satellite, or of the same satellite and a code with a lesser place (this
+-- project's rule)
+abbrev pub IsBefore : CellEntry → CellEntry → Type 0
+IsBefore a b = (a.satellite < b.satellite) ⊎ ((a.satellite ≡ b.satellite) × (place_of a.code < place_of b.code))
+
+-- each cell is before all later ones
+abbrev pub AreRising : List CellEntry → Type 0
+AreRising cells = AllPairs IsBefore cells

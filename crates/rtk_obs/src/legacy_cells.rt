@@ -1,10 +1,10 @@
 //! The cells of a 1004.
 
-ghost use Rattle.std.specs.Prelude.{◌≡◌, ◌+◌, ◌^◌, ◌≤◌, ◌<◌, not, ◌&&◌, List, [], ◌∷◌, ◌++◌, length, take, negsuc, unsigned_abs};
+ghost use Rattle.std.specs.Prelude.{◌≡◌, ◌+◌, ◌^◌, ◌≤◌, ◌<◌, not, ◌&&◌, List, [], ◌∷◌, ◌++◌, length, take, negsuc, unsigned_abs, IsTrue};
 ghost use Rattle.std.specs.List.{All, list_any};
 ghost use Rattle.rtk_message.specs.declared.obs1004.Satellite.{Satellite};
 ghost use Rattle.rtk_message.specs.Obs1004.{IsValid};
-ghost use Rattle.rtk_obs.specs.Cell.{is_satellite, entry_of, IsInRange, AreDistinct};
+ghost use Rattle.rtk_obs.specs.Cell.{is_satellite, entry_of, IsInRange, AreDistinct, AreRising};
 ghost use Rattle.rtk_obs.specs.Scaling.{l2_length};
 ghost use Rattle.rtk_obs.specs.LegacyCells.{l1_code_of, l2_code_of, l1_range_of, l2_range_of, legacy_phase_of, length_of, l1_cell_of, l2_cell_of, has_number, cells_of_1004};
 ghost use Rattle.rtk_obs.specs.Steps.LegacyFields.{HasLegacyWidths, HasSeen};
@@ -183,31 +183,40 @@ fn put_satellite(
     count + 2
 }
 
-// Puts the cells of the satellites of a 1004. The result is how many entries stand then.
-fn put_satellites(found: &mut ArrayVec<CellEntry, 64>, satellites: &[Satellite]) -> usize
+// Puts the cells of the satellites of a 1004. The results are how many entries stand then, and
+// whether the satellites rise.
+fn put_satellites(found: &mut ArrayVec<CellEntry, 64>, satellites: &[Satellite]) -> (usize, bool)
     requires few { length satellites.now ≤ 31 }
     requires fields { All HasLegacyWidths satellites.now }
-    ensures cells { take result found.new.items ≡ cells_of_1004 satellites.now }
-    ensures few { result ≤ 62 }
+    ensures cells { take result.0 found.new.items ≡ cells_of_1004 satellites.now }
+    ensures few { result.0 ≤ 62 }
+    ensures rises { IsTrue result.1 → AreRising (cells_of_1004 satellites.now) }
 {
     let mut seen = [false; 33];
     let mut count = 0;
+    let mut rises = true;
+    let mut last = 0;
     for satellite in satellites {
+        rises = rises && last < satellite.satellite;
+        last = satellite.satellite;
         count = put_satellite(found, count, &mut seen, satellite);
     }
-    count
+    (count, rises)
 }
 
-/// Puts the cells of a 1004 into a list, in place of what it has: see `cells_1004`.
-pub fn put_cells_1004(message: &Obs1004, found: &mut ArrayVec<CellEntry, 64>)
+/// Puts the cells of a 1004 into a list, in place of what it has: see `cells_1004`. If the satellites
+/// of the message rise, so do the cells, and the result is `true`.
+pub fn put_cells_1004(message: &Obs1004, found: &mut ArrayVec<CellEntry, 64>) -> bool
     requires { IsValid message.now }
     ensures cells { found.new.items ≡ cells_of_1004 message.now.satellites }
     ensures ranges { All IsInRange found.new.items }
     ensures distinct { AreDistinct found.new.items }
     ensures few { length found.new.items ≤ 62 }
+    ensures rises { IsTrue result → AreRising found.new.items }
 {
-    let count = put_satellites(found, message.satellites.as_slice());
+    let (count, rises) = put_satellites(found, message.satellites.as_slice());
     found.truncate(count);
+    rises
 }
 
 /// The cells of a 1004 in the order of the message: one of L1 and one of L2 for each satellite
@@ -220,6 +229,6 @@ pub fn cells_1004(message: &Obs1004) -> ArrayVec<CellEntry, 64>
     ensures few { length result.items ≤ 62 }
 {
     let mut found = ArrayVec::new();
-    put_cells_1004(message, &mut found);
+    let _ = put_cells_1004(message, &mut found);
     found
 }

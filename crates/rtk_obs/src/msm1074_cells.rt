@@ -1,16 +1,16 @@
 //! The cells of a 1074.
 
-ghost use Rattle.std.specs.Prelude.{◌≡◌, ℕ, ◌≤◌, ◌<◌, length, slice_index};
+ghost use Rattle.std.specs.Prelude.{◌≡◌, ℕ, ◌≤◌, ◌<◌, length, slice_index, IsTrue};
 ghost use Rattle.std.specs.List.{All};
 ghost use Rattle.rtk_message.specs.Msm1074.{IsValid, cell_count};
-ghost use Rattle.rtk_obs.specs.Cell.{IsInRange, AreDistinct};
+ghost use Rattle.rtk_obs.specs.Cell.{IsInRange, AreDistinct, AreRising};
 ghost use Rattle.rtk_obs.specs.LockTime.{least_lock_of_msm};
 ghost use Rattle.rtk_obs.specs.MsmCells.{rough_at, cell_of_1074, cells_of_1074};
 
 use crate::cell::{Cell, CellEntry, CellSource};
 use crate::code::Band;
 use crate::lock_time::least_lock_msm;
-use crate::msm_rows::{CellsOfMsm, put_cells};
+use crate::msm_rows::{CellsOfMsm, has_rising_codes, put_cells};
 use crate::msm_values::{MSM_STRENGTH_STEP, msm_phase, msm_range, rough_range};
 use crate::scaling::strength_from_steps;
 use arrayvec::ArrayVec;
@@ -66,16 +66,19 @@ impl CellsOfMsm for Msm1074 {
     }
 }
 
-/// Puts the cells of a 1074 into a list, in place of what it has: see `cells_1074`.
-pub fn put_cells_1074(message: &Msm1074, found: &mut ArrayVec<CellEntry, 64>)
+/// Puts the cells of a 1074 into a list, in place of what it has: see `cells_1074`. If the message has
+/// no signal from 30 to 32, the cells rise, and the result is `true`.
+pub fn put_cells_1074(message: &Msm1074, found: &mut ArrayVec<CellEntry, 64>) -> bool
     requires { IsValid message.now }
     ensures cells { found.new.items ≡ cells_of_1074 message.now }
     ensures ranges { All IsInRange found.new.items }
     ensures distinct { AreDistinct found.new.items }
     ensures few { length found.new.items ≤ 64 }
+    ensures rises { IsTrue result → AreRising found.new.items }
 {
     let count = put_cells(found, message);
     found.truncate(count);
+    has_rising_codes(message.header.signal_mask)
 }
 
 /// The cells of a 1074 in the order of the message, for the satellites from 1 to 32 and the fifteen
@@ -88,6 +91,6 @@ pub fn cells_1074(message: &Msm1074) -> ArrayVec<CellEntry, 64>
     ensures few { length result.items ≤ 64 }
 {
     let mut found = ArrayVec::new();
-    put_cells_1074(message, &mut found);
+    let _ = put_cells_1074(message, &mut found);
     found
 }

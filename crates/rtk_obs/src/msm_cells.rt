@@ -1,15 +1,15 @@
 //! The cells of a 1075, a 1076 and a 1077.
 
-ghost use Rattle.std.specs.Prelude.{◌≡◌, ◌≤◌, length};
+ghost use Rattle.std.specs.Prelude.{◌≡◌, ◌≤◌, length, IsTrue};
 ghost use Rattle.std.specs.List.{All};
 ghost use Rattle.rtk_message.specs.MsmForm.{IsValid};
-ghost use Rattle.rtk_obs.specs.Cell.{IsInRange, AreDistinct};
+ghost use Rattle.rtk_obs.specs.Cell.{IsInRange, AreDistinct, AreRising};
 ghost use Rattle.rtk_obs.specs.MsmCells.{rough_at, has_extended_resolution, cell_of_msm, cells_of_msm};
 
 use crate::cell::{Cell, CellEntry, CellSource};
 use crate::code::Band;
 use crate::lock_time::{least_lock_extended, least_lock_msm};
-use crate::msm_rows::{CellsOfMsm, put_cells};
+use crate::msm_rows::{CellsOfMsm, has_rising_codes, put_cells};
 use crate::msm_values::{
     MSM_STRENGTH_STEP, extended_phase, extended_range, msm_phase, msm_range, rough_range,
 };
@@ -76,16 +76,19 @@ impl CellsOfMsm for Msm {
     }
 }
 
-/// Puts the cells of a 1075, 1076 or 1077 into a list, in place of what it has: see `cells_msm`.
-pub fn put_cells_msm(message: &Msm, found: &mut ArrayVec<CellEntry, 64>)
+/// Puts the cells of a 1075, 1076 or 1077 into a list, in place of what it has: see `cells_msm`. If the
+/// message has no signal from 30 to 32, the cells rise, and the result is `true`.
+pub fn put_cells_msm(message: &Msm, found: &mut ArrayVec<CellEntry, 64>) -> bool
     requires { IsValid message.now }
     ensures cells { found.new.items ≡ cells_of_msm message.now }
     ensures ranges { All IsInRange found.new.items }
     ensures distinct { AreDistinct found.new.items }
     ensures few { length found.new.items ≤ 64 }
+    ensures rises { IsTrue result → AreRising found.new.items }
 {
     let count = put_cells(found, message);
     found.truncate(count);
+    has_rising_codes(message.header.signal_mask)
 }
 
 /// The cells of a 1075, 1076 or 1077 in the order of the message, for the satellites from 1 to 32
@@ -98,6 +101,6 @@ pub fn cells_msm(message: &Msm) -> ArrayVec<CellEntry, 64>
     ensures few { length result.items ≤ 64 }
 {
     let mut found = ArrayVec::new();
-    put_cells_msm(message, &mut found);
+    let _ = put_cells_msm(message, &mut found);
     found
 }

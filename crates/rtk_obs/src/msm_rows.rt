@@ -1,13 +1,13 @@
 //! Which satellite and which signal each cell of an MSM has, row by row of its cell mask.
 
-ghost use Rattle.std.specs.Prelude.{◌≡◌, ℕ, ℤ, ◌+◌, ◌^◌, ◌≤◌, ◌<◌, ◌++◌, List, Option, length, take, true, IfSome, unsigned_abs};
-ghost use Rattle.std.specs.List.{All};
+ghost use Rattle.std.specs.Prelude.{◌≡◌, ℕ, ℤ, ◌+◌, ◌^◌, ◌≤◌, ◌<◌, ◌++◌, List, Option, length, take, true, IfSome, IsTrue, unsigned_abs};
+ghost use Rattle.std.specs.List.{All, AllByRecursion};
 ghost use Rattle.rtk_message.specs.declared.msm1074.MsmHeader.{MsmHeader};
 ghost use Rattle.rtk_message.specs.Msm1074.{satellite_count};
 ghost use Rattle.rtk_obs.specs.declared.code.Band.{Band};
 ghost use Rattle.rtk_obs.specs.declared.cell.Cell.{Cell};
 ghost use Rattle.rtk_obs.specs.Cell.{is_satellite};
-ghost use Rattle.rtk_obs.specs.Mask.{join_from};
+ghost use Rattle.rtk_obs.specs.Mask.{set_bits, join_from};
 ghost use Rattle.rtk_obs.specs.MsmCells.{code_of_signal, satellites_of, signals_of, row_slots, slot_entry, msm_entries};
 ghost use Rattle.rtk_obs.specs.Steps.MsmRows.{IsCellMask, IsMaskRow, cells_in};
 
@@ -138,6 +138,14 @@ fn signal_identifiers(header: MsmHeader) -> ArrayVec<u8, 64>
     ensures bounds { All (λ p. (1 ≤ p) × (p ≤ 32)) result.items }
 {
     places_of_bits(u64::from(header.signal_mask), 32)
+}
+
+/// Whether each signal of the message is below 30 (DF395). The codes of such signals rise with them;
+/// the signals from 30 to 32 have codes of L1, whose places are before those of L2.
+pub(crate) fn has_rising_codes(signal_mask: u32) -> bool
+    ensures { IsTrue result → AllByRecursion (λ p. p < 30) (set_bits 32 signal_mask) }
+{
+    signal_mask % 8 == 0
 }
 
 // The satellite of a row.

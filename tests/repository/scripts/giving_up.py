@@ -22,6 +22,7 @@ OF_CRATES = {"Scanner::new", "Findings::new", "Conversion::new", "sink", "set.jo
 NAME = r"(?:\(\)|(?:mut )?(?!true|false)[a-z]\w*)"
 FAULT = r"(?:\w+::OutOfMemory|AllocError)"
 ANSWER = rf"(?:return )?(?:{FAULT}|fail\(rt, {FAULT}\)|Err\((?:{FAULT}|fail\(rt, {FAULT}\))\))"
+EMPTIES = r"(?:\w+\.clear\(\); )?"  # of rtk_collect: the list of conflicts is empty if memory is refused
 
 # What requests name as their sizes.
 SIZES = {
@@ -90,8 +91,8 @@ def branches(sources):
         r"impl From<AllocError> for (\w+) \{ fn from\(_\w+: AllocError\) -> (?:Self|\1) \{ \1::OutOfMemory \} \}",
         r", AllocError>",
         rf"\bif (?:(?:(?!{WORD})[^{{}};|])*&& )?{call}\.is_err\(\) \{{ {ANSWER}; \}}",
-        rf"\bif let Err\(_\) = {call} \{{ {ANSWER}; \}}",
-        rf"\blet Ok\({NAME}\) = {call} else \{{ {ANSWER}; \}}",
+        rf"\bif let Err\(_\) = {call} \{{ {EMPTIES}{ANSWER}; \}}",
+        rf"\blet Ok\({NAME}\) = {call} else \{{ {EMPTIES}{ANSWER}; \}}",
         rf"(?<=[=;{{] ){call}\.map_err\(\|_\| {FAULT}\)\?",
         rf"(?<=; )keep{ARGUMENTS}\.ok_or\({FAULT}\)",  # of rtk_find: None if a push was refused
         # of rtk_equipment: a push was refused, and so it is said later

@@ -13,12 +13,12 @@ use Rattle.rtk_collect.specs.Answer.{IsRightAnswer, TakenClass, class_of}
 use Rattle.rtk_collect.specs.Offered.{ClosesBelow, ClosesLeast}
 
 -- what an observation with these cells leaves of the epochs of a window of n places, with the right
--- answer whatever came before
-pub record AddsCells (n e : ℕ) (cells : List CellEntry) (sets new : List EpochSetView) (offer : Offer) : Type 0 where
+-- answer and the list of its conflicts, whatever came before
+pub record AddsCells (n e : ℕ) (cells : List CellEntry) (sets new : List EpochSetView) (offer : Offer) (listed : List SatelliteCode) : Type 0 where
   pub len : length new ≤ n
   pub falls : EpochsFall new
   pub answer : (m : Message) → cells_of m ≡ cells → (before : List Arrival) → sets ≡ take n (kept n before)
-      → IsRightAnswer n (At (Some e) m) before offer × (new ≡ take n (kept n (At (Some e) m ∷ before)))
+      → IsRightAnswer n (At (Some e) m) before offer listed × (new ≡ take n (kept n (At (Some e) m ∷ before)))
   pub below : ClosesBelow offer new
   pub least_closes : ClosesLeast n sets offer
   pub least : length sets ≡ n → (length new ≡ n) × ((x : ℕ) → All (λ s. x ≤ s.epoch) sets → All (λ s. x ≤ s.epoch) new)
@@ -31,6 +31,6 @@ WouldTakeCells n e cells sets =
 -- the answer to cells that joined an epoch of the window, by how many were new and which conflict
 abbrev pub IsAnswerOf : ℕ → List SatelliteCode → Offer → Type 0
 IsAnswerOf count found Late = ⊥
-IsAnswerOf count found (Taken done listed) = (0 < count) × (done ≡ None) × (listed ≡ found)
-IsAnswerOf count found (Conflict listed) = (count ≡ 0) × (found ≢ []) × (listed ≡ found)
+IsAnswerOf count found (Taken done) = (0 < count) × (done ≡ None)
+IsAnswerOf count found Conflict = (count ≡ 0) × (found ≢ [])
 IsAnswerOf count found Repeat = (count ≡ 0) × (found ≡ [])

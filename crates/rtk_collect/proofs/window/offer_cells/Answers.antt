@@ -1,4 +1,4 @@
-use Rattle.std.proofs.Common.{◌≡◌, ◌≤◌, refl, sym, ap, ◌∙◌, arith, length}
+use Rattle.std.proofs.Common.{◌≤◌, refl, ap, ◌∙◌, arith, length}
 use Rattle.rtk_collect.specs.Accepted.{no_cells}
 use Rattle.rtk_collect.proofs.JoinsLemmas.{leading-length}
 use Rattle.rtk_collect.proofs.OffersLemmas.{length-insert}
@@ -8,23 +8,16 @@ use Rattle.rtk_collect.proofs.window.offer_cells.Goals as goal
 pub open_at-requires-clause-within : goal.open_at-requires-clause-within
 open_at-requires-clause-within c = let h = leading-length c.args.epoch c.args.sets.now.items in omega (arith, c.place_of_epoch-at.ensures)
 
-pub returns-then-fresh-gt0-clause-added : goal.returns-then-fresh-gt0-clause-added
-returns-then-fresh-gt0-clause-added c =
-    let found = c.if-has_epoch.ensures.found refl in
-    let d = no_cells 0 in
-    open-branch c.args.places c.args.epoch c.place_of_epoch-at.result c.args.cells.now d c.args.sets.now.items c.join_at.new.sets.items c.in-Ok.fresh c.join_at.new.found _
-    c.requires.falls c.requires.fits c.place_of_epoch-at.ensures found.0 (found.1 d) (c.in-Ok.ensures.items d) (c.in-Ok.ensures.fresh d) (c.in-Ok.ensures.conflicts d) (c.if-fresh-gt0.true, refl, refl)
-
 pub returns-then-has_epoch-clause-added : goal.returns-then-has_epoch-clause-added
 returns-then-has_epoch-clause-added c =
     let found = c.if-has_epoch.ensures.found refl in
     let d = no_cells 0 in
-    let none : c.in-Ok.fresh ≡ 0 = omega (arith, c.if-fresh-gt0.false) in
-    open-branch c.args.places c.args.epoch c.place_of_epoch-at.result c.args.cells.now d c.args.sets.now.items c.join_at.new.sets.items 0 c.join_at.new.found c.answer_of_known.result
-    c.requires.falls c.requires.fits c.place_of_epoch-at.ensures found.0 (found.1 d) (c.in-Ok.ensures.items d) (sym none ∙ c.in-Ok.ensures.fresh d) (c.in-Ok.ensures.conflicts d) c.answer_of_known.ensures
+    open-branch c.args.places c.args.epoch c.place_of_epoch-at.result c.args.cells.now d c.args.sets.now.items c.join_at.new.sets.items c.in-Ok.fresh c.join_at.new.found c.answer_of_joined.result
+    c.requires.falls c.requires.fits c.place_of_epoch-at.ensures found.0 (found.1 d) (c.in-Ok.ensures.items d) (c.in-Ok.ensures.fresh d) (c.in-Ok.ensures.conflicts d) c.answer_of_joined.ensures
 
 pub returns-then-at-places-clause-added : goal.returns-then-at-places-clause-added
-returns-then-at-places-clause-added c = late-branch c.args.places c.args.epoch c.place_of_epoch-at.result c.args.cells.now c.args.sets.now.items c.requires.falls c.requires.fits c.place_of_epoch-at.ensures c.if-at-places.true
+returns-then-at-places-clause-added c =
+    rw c.requires.empty (late-branch c.args.places c.args.epoch c.place_of_epoch-at.result c.args.cells.now c.args.sets.now.items c.requires.falls c.requires.fits c.place_of_epoch-at.ensures c.if-at-places.true)
 
 pub returns-clause-added : goal.returns-clause-added
 returns-clause-added c =

@@ -1,4 +1,4 @@
-use Rattle.rtk_obs.proofs.DistinctLemmas.{cells_of_1074-distinct}
+use Rattle.rtk_obs.proofs.DistinctLemmas.{cells_of_1074-distinct, entries-rise}
 use Rattle.rtk_obs.specs.MsmCells.{cell_of_1074}
 use Rattle.rtk_obs.proofs.MsmLemmas.{few_entries}
 use Rattle.rtk_obs.proofs.MsmFieldLemmas.{is_cell_mask-1074, cells_in_range-1074}
@@ -17,3 +17,8 @@ pub returns-clause-few : goal.returns-clause-few
 returns-clause-few c =
     rw (c.truncate.ensures.items, c.put_cells-count.ensures)
     (few_entries c.args.message.now.header (cell_of_1074 c.args.message.now) c.args.message.now.cell_mask (is_cell_mask-1074 c.args.message.now c.requires))
+
+pub returns-clause-rises : goal.returns-clause-rises
+returns-clause-rises c = λ t.
+    rw (c.truncate.ensures.items, c.put_cells-count.ensures)
+    (entries-rise c.args.message.now.header (cell_of_1074 c.args.message.now) c.args.message.now.cell_mask (is_cell_mask-1074 c.args.message.now c.requires) (c.has_rising_codes.ensures t))

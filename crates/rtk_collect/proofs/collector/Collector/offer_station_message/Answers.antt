@@ -1,4 +1,4 @@
-use Rattle.std.proofs.Common.{None, eqb, sym, ap, refl, ◌∙◌, subst, arith}
+use Rattle.std.proofs.Common.{[], None, eqb, sym, ap, refl, ◌∙◌, subst, arith}
 use Rattle.rtk_message.specs.Arp1005 as arp1005
 use Rattle.rtk_message.specs.Arp1006 as arp1006
 use Rattle.rtk_collect.specs.Equal.{equal_1005, equal_1006}
@@ -43,7 +43,7 @@ invariant_of-self-in-Arp1006 c = (
 pub returns-in-Arp1005-clause-answer : goal.returns-in-Arp1005-clause-answer
 returns-in-Arp1005-clause-answer c =
     rw c.in-Arp1005.is
-    (subst (λ (w : CollectorView). AnswersArrival w (At None (message_of_1005 c.in-Arp1005.message)) c.keep_station_message.result (record { places = c.self.inside.places; sets = c.self.inside.sets.items; arp1005 = c.keep_station_message.new.slot; arp1006 = c.self.inside.stations.arp1006 })) c.self.view_is (λ before h.
+    (subst (λ (w : CollectorView). AnswersArrival w (At None (message_of_1005 c.in-Arp1005.message)) c.keep_station_message.result [] (record { places = c.self.inside.places; sets = c.self.inside.sets.items; arp1005 = c.keep_station_message.new.slot; arp1006 = c.self.inside.stations.arp1006 })) c.self.view_is (λ before h.
     let p = slot-parts message_of_1005 equal_1005 (λ a b. refl) c.self.inside.places 1005 c.in-Arp1005.message c.self.inside.stations.arp1005 c.keep_station_message.new.slot _ c.keep_station_message.result before refl h.arp1005
     (ap (λ t. eqb t c.self.inside.places) (c.len.ensures ∙ c.self.inside.sets.ok.0) ∙ full-is c.self.inside.places c.self.inside.sets.items before h.sets) c.keep_station_message.ensures in
     (p.answers, record { sets = h.sets; arp1005 = p.after; arp1006 = h.arp1006 ∙ sym (other-stays c.self.inside.places 1006 (message_of_1005 c.in-Arp1005.message) before (λ e. omega arith)) })))
@@ -51,7 +51,7 @@ returns-in-Arp1005-clause-answer c =
 pub returns-in-Arp1006-clause-answer : goal.returns-in-Arp1006-clause-answer
 returns-in-Arp1006-clause-answer c =
     rw c.in-Arp1006.is
-    (subst (λ (w : CollectorView). AnswersArrival w (At None (message_of_1006 c.in-Arp1006.message)) c.keep_station_message-in-Arp1006.result (record { places = c.self.inside.places; sets = c.self.inside.sets.items; arp1005 = c.self.inside.stations.arp1005; arp1006 = c.keep_station_message-in-Arp1006.new.slot })) c.self.view_is (λ before h.
+    (subst (λ (w : CollectorView). AnswersArrival w (At None (message_of_1006 c.in-Arp1006.message)) c.keep_station_message-in-Arp1006.result [] (record { places = c.self.inside.places; sets = c.self.inside.sets.items; arp1005 = c.self.inside.stations.arp1005; arp1006 = c.keep_station_message-in-Arp1006.new.slot })) c.self.view_is (λ before h.
     let p = slot-parts message_of_1006 equal_1006 (λ a b. refl) c.self.inside.places 1006 c.in-Arp1006.message c.self.inside.stations.arp1006 c.keep_station_message-in-Arp1006.new.slot _ c.keep_station_message-in-Arp1006.result before refl h.arp1006
     (ap (λ t. eqb t c.self.inside.places) (c.len.ensures ∙ c.self.inside.sets.ok.0) ∙ full-is c.self.inside.places c.self.inside.sets.items before h.sets) c.keep_station_message-in-Arp1006.ensures in
     (p.answers, record { sets = h.sets; arp1005 = h.arp1005 ∙ sym (other-stays c.self.inside.places 1005 (message_of_1006 c.in-Arp1006.message) before (λ e. omega arith)); arp1006 = p.after })))
