@@ -11,11 +11,15 @@ use Rattle.rtk_message.specs.declared.obs1004.Satellite.{Satellite}
 use Rattle.rtk_obs.specs.declared.code.Code.{Code}
 use Rattle.rtk_obs.specs.declared.cell.CellEntry.{CellEntry}
 use Rattle.rtk_obs.specs.Code.{place_of}
-use Rattle.rtk_obs.specs.Cell.{is_satellite, entry_of, IsSatellite, IsInRange}
+use Rattle.rtk_obs.specs.Cell.{is_satellite, entry_of, IsSatellite, IsInRange, AreRising}
+use Rattle.rtk_obs.specs.declared.cell.CellSource.TheVariants.{Legacy}
 use Rattle.rtk_obs.specs.LegacyCells.{l1_code_of, l2_code_of, l1_cell_of, l2_cell_of, first_entries, has_number, satellite_entries, cells_of_1004}
 use Rattle.rtk_obs.specs.CellsLeft.{RiseAbove, has_cell, cells_left}
 use Rattle.rtk_obs.specs.Tracks.{place_of_signal}
 use Rattle.rtk_obs.specs.Steps.Marks.{HasMarks}
+use Rattle.rtk_obs.proofs.PairsLemmas.{Pairs}
+use Rattle.rtk_obs.proofs.DistinctLemmas.{IsLess, pairs-rise}
+use Rattle.rtk_obs.proofs.MessageLemmas.{all-legacy}
 use Rattle.rtk_obs.proofs.TracksLemmas.{by_eq, same_signal, place_bound, place_inside, same_test, other_test}
 
 -- ---- satellites that rise
@@ -64,6 +68,20 @@ some_cells (s ∷ ss) h = omega arith
 
 pub cells-some : (ss : List Satellite) → RiseAbove 0 ss → 0 < length ss → 0 < length (cells_of_1004 ss)
 cells-some ss r h = rw (cells-rising ss r) (some_cells ss h)
+
+greater : (m : ℕ) (ss : List Satellite) → AllByRecursion (λ s. (m < s.satellite) × (s.satellite ≤ 32)) ss → AllByRecursion (λ s. m < s.satellite) ss
+greater m [] a = tt
+greater m (s ∷ ss) a = (a.0.0, greater m ss a.1)
+
+pairs-rising : (n : ℕ) (ss : List Satellite) → RiseAbove n ss → Pairs IsLess ss
+pairs-rising n [] r = tt
+pairs-rising n (s ∷ ss) r = (greater s.satellite ss (above s.satellite s.satellite ss (omega arith) r.1), pairs-rising s.satellite ss r.1)
+
+pub cells-rise : (ss : List Satellite) → RiseAbove 0 ss → AreRising (cells_of_1004 ss)
+cells-rise ss r = pairs-rise ss (pairs-rising 0 ss r)
+
+pub cells-legacy : (ss : List Satellite) → All (λ e. e.cell.source ≡ Legacy) (cells_of_1004 ss)
+cells-legacy ss = All-from_recursion (λ (e : CellEntry). e.cell.source ≡ Legacy) (cells_of_1004 ss) (all-legacy (filter (λ (t : Satellite). is_satellite t.satellite) (first_entries ss)))
 
 -- ---- what is left
 

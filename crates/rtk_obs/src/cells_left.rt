@@ -7,7 +7,8 @@ ghost use Rattle.std.specs.Prelude.{◌≡◌, ◌≤◌, ◌<◌, ◌*◌, ◌+
 ghost use Rattle.std.specs.List.{All};
 ghost use Rattle.rtk_message.specs.Obs1004.{IsValid};
 ghost use Rattle.rtk_obs.specs.declared.cell.CellEntry.{CellEntry};
-ghost use Rattle.rtk_obs.specs.Cell.{IsInRange, IsSatellite, entry_of};
+ghost use Rattle.rtk_obs.specs.Cell.{IsInRange, AreRising, IsSatellite, entry_of};
+ghost use Rattle.rtk_obs.specs.declared.cell.CellSource.TheVariants.{Legacy};
 ghost use Rattle.rtk_obs.specs.LegacyCells.{length_of, l1_code_of, l1_cell_of, l2_code_of, l2_cell_of, satellite_entries, cells_of_1004};
 ghost use Rattle.rtk_obs.specs.CellsLeft.{AreRisingSatellites, RiseAbove, cells_left};
 ghost use Rattle.rtk_obs.specs.Steps.LegacyFields.{HasLegacyWidths};
@@ -40,6 +41,9 @@ pub fn rising_satellites(message: &Obs1004) -> Option<&[Satellite]>
     requires { IsValid message.now }
     ensures value { IfSome result (λ satellites. satellites.now ≡ message.now.satellites) }
     ensures rise { IfSome result (λ satellites. AreRisingSatellites satellites.now) }
+    ensures cells_rise { IfSome result (λ satellites. AreRising (cells_of_1004 satellites.now)) }
+    ensures range { IfSome result (λ satellites. All IsInRange (cells_of_1004 satellites.now)) }
+    ensures kind { IfSome result (λ satellites. All (λ e. e.cell.source ≡ Legacy) (cells_of_1004 satellites.now)) }
     ensures some { IfSome result (λ satellites. 0 < length (cells_of_1004 satellites.now)) }
 {
     let satellites = message.satellites.as_slice();
