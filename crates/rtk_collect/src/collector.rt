@@ -16,6 +16,7 @@ ghost use Rattle.rtk_collect.specs.Offered.{AnswersArrival, ClosesBelow, ClosesL
 use crate::conflicts::Conflicts;
 use crate::dated::{Borrowed, Dated};
 use crate::epoch_set::{EpochSet, Spare};
+use crate::first::{first_satellites, offer_first};
 use crate::left::Left;
 use crate::legacy_list::LegacyList;
 use crate::offer::Offer;
@@ -130,6 +131,11 @@ impl Collector {
             };
             return Ok(self.offer_station_message(message));
         };
+        let first = first_satellites(&self.sets, epoch, dated.message);
+        if let Some(satellites) = first {
+            let (sets, spare) = (&mut self.sets, &mut self.spare);
+            return offer_first(sets, self.places, self.alloc, epoch, satellites, spare);
+        }
         dated.message.put_cells(&mut self.cells);
         let cells = self.cells.as_slice();
         let (sets, spare) = (&mut self.sets, &mut self.spare);

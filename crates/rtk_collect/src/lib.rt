@@ -24,6 +24,7 @@ mod collector;
 mod conflicts;
 mod dated;
 mod epoch_set;
+mod first;
 mod laws;
 mod left;
 mod legacy_list;

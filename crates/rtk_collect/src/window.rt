@@ -84,7 +84,8 @@ pub(crate) fn join_at(
 // For how many cells of each kind an epoch that opens at a place has room: for those of its first
 // message, and for as many as the epoch before it has, since messages of each epoch mostly have the
 // same cells.
-fn first_room(sets: &VecDeque<EpochSet>, at: usize, source: CellSource, cells: usize) -> Room
+#[inline(always)]
+pub(crate) fn first_room(sets: &VecDeque<EpochSet>, at: usize, source: CellSource, cells: usize) -> Room
     ensures { cells ≤ room_for source result }
 {
     let mut msm = 0;
@@ -145,7 +146,8 @@ pub(crate) fn open_at(
 }
 
 // Puts an epoch at a place.
-fn put_at(sets: &mut VecDeque<EpochSet>, at: usize, set: EpochSet) -> Result<(), AllocError>
+#[inline(always)]
+pub(crate) fn put_at(sets: &mut VecDeque<EpochSet>, at: usize, set: EpochSet) -> Result<(), AllocError>
     requires { at ≤ length sets.old.items }
     ensures items { OnOk result (sets.new.items ≡ insert sets.old.items at set) }
     ensures err { OnErr result (sets.new.items ≡ sets.old.items) }
@@ -164,6 +166,7 @@ fn put_at(sets: &mut VecDeque<EpochSet>, at: usize, set: EpochSet) -> Result<(),
 }
 
 /// Takes out the least epoch, if there are more epochs than places.
+#[inline(always)]
 pub(crate) fn close_least(sets: &mut VecDeque<EpochSet>, places: usize) -> Option<EpochSet>
     requires { length sets.old.items ≤ places + 1 }
     ensures items { sets.old.items ≡ sets.new.items ++ option_to_list result }
