@@ -1,45 +1,29 @@
 -- Cells that rise join an epoch without cells as they are.
-use Rattle.std.proofs.Common.{◌≡◌, ℕ, zero, suc, ◌+◌, ◌-◌, ◌*◌, ◌<◌, ◌≤◌, List, [], ◌∷◌, ◌++◌, length, get_or, take, drop, true, Option, None, Some, refl, ap, append_assoc, sym, ◌∙◌, arith, inl, inr, subst}
+use Rattle.std.proofs.Common.{◌≡◌, ℕ, zero, suc, ◌+◌, ◌<◌, ◌≤◌, List, [], ◌∷◌, ◌++◌, length, get_or, drop, true, Option, None, Some, refl, ap, append_assoc, sym, ◌∙◌, arith, inl, inr, subst}
 use Rattle.std.specs.Prelude.{◌==◌, if◌then◌else◌}
 use Rattle.std.specs.List.{AllByRecursion}
 use Rattle.std.proofs.lemmas.Bool.{cases_order, ne_eqb, both_ways}
 use Rattle.std.proofs.lemmas.List.{append-nil}
-use Rattle.rtk_obs.specs.Code.{place_of}
+use Rattle.rtk_obs.specs.Cell.{IsBefore, AreRising}
 use Rattle.rtk_obs.specs.declared.cell.CellEntry.{CellEntry}
 use Rattle.rtk_collect.specs.declared.conflicts.SatelliteCode.{SatelliteCode}
 use Rattle.rtk_collect.specs.Key.{key, key_at, Above, KeysRise}
 use Rattle.rtk_collect.specs.EpochSet.{with_cell, with_cells, cell_under, one_more, fresh, conflict, conflicts}
 use Rattle.rtk_collect.specs.Steps.OrderedPlaces.{lower}
 use Rattle.rtk_collect.proofs.CellsLemmas.{with_cell-new, with_cell-past, with_cell-same, with_cell-rises, with_cell-sets, with_cell-absent, lower-length, length-insert, fresh-length, drop-at}
-use Rattle.rtk_collect.proofs.EqualityLemmas.{rank-less}
-use Rattle.rtk_collect.proofs.JoinsLemmas.{whole}
+use Rattle.rtk_collect.proofs.EqualityLemmas.{place-less, rank-less}
 
--- the search for two neighbours that do not rise
+-- cells that rise by satellite and code have keys that rise
 
-pub rises-one : (xs : List CellEntry) → KeysRise (take 1 xs)
-rises-one [] = tt
-rises-one (x ∷ xs) = (tt, tt)
-
-rises-next : (i : ℕ) (d : CellEntry) (xs : List CellEntry) → KeysRise (take (suc i) xs) → suc i < length xs → key (get_or xs i d) < key (get_or xs (suc i) d) → KeysRise (take (suc (suc i)) xs)
-rises-next i d [] r l h = absurd (omega arith)
-rises-next i d (x ∷ []) r l h = absurd (omega arith)
-rises-next zero d (x ∷ y ∷ ys) r l h = (h, (tt, tt))
-rises-next (suc i) d (x ∷ y ∷ ys) r l h = (r.0, rises-next i d (y ∷ ys) r.1 (omega arith) h)
-
-pub rises-more : (i : ℕ) (d : CellEntry) (xs : List CellEntry) → 1 ≤ i → KeysRise (take i xs) → i < length xs → key (get_or xs (i - 1) d) < key (get_or xs i d) → KeysRise (take (i + 1) xs)
-rises-more zero d xs p r l h = absurd (omega arith)
-rises-more (suc i) d xs p r l h =
-    let e : suc i - 1 ≡ i = omega arith in
-    let more : suc (suc i) ≡ suc i + 1 = omega arith in
-    subst (λ (t : ℕ). KeysRise (take t xs)) more (rises-next i d xs r l (subst (λ (t : ℕ). key (get_or xs t d) < key (get_or xs (suc i) d)) e h))
-
--- a greater satellite or code makes a greater key
-pub order-rises : (c d : CellEntry) (p q : ℕ) → p ≡ c.satellite * 256 + place_of c.code → q ≡ d.satellite * 256 + place_of d.code → place_of c.code < 16 → place_of d.code < 16 → p < q → key c < key d
+key-rises : (c d : CellEntry) → IsBefore c d → key c < key d
 unfolding key key_at
-order-rises c d p q a b l m h = omega (arith, a, b, l, m, h, rank-less c.cell.source, rank-less d.cell.source)
+key-rises c d (inl less) = omega (arith, less, place-less c.code, rank-less c.cell.source)
+key-rises c d (inr (same, less)) = omega (arith, same, less, rank-less c.cell.source)
 
-pub rises-whole : (i : ℕ) (xs : List CellEntry) → KeysRise (take i xs) → length xs ≤ i → KeysRise xs
-rises-whole i xs r l = subst KeysRise (whole i xs l).0 r
+pub keys-rise : (cells : List CellEntry) → AreRising cells → KeysRise cells
+keys-rise [] r = tt
+keys-rise (x ∷ []) r = (tt, tt)
+keys-rise (x ∷ y ∷ ys) r = (key-rises x y (r 0 1 x (omega arith) (omega arith)), keys-rise (y ∷ ys) (λ i j d below inside. r (suc i) (suc j) d (omega arith) (omega arith)))
 
 -- cells after the kept ones
 

@@ -136,7 +136,7 @@ impl Collector {
             let (sets, spare) = (&mut self.sets, &mut self.spare);
             return offer_first(sets, self.places, self.alloc, epoch, satellites, spare);
         }
-        dated.message.put_cells(&mut self.cells);
+        let rises = dated.message.put_cells(&mut self.cells);
         let cells = self.cells.as_slice();
         let (sets, spare) = (&mut self.sets, &mut self.spare);
         offer_cells(
@@ -145,6 +145,7 @@ impl Collector {
             self.alloc,
             epoch,
             cells,
+            rises,
             spare,
             conflicts,
         )

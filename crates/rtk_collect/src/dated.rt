@@ -1,10 +1,10 @@
 //! A message with its epoch.
 
-ghost use Rattle.std.specs.Prelude.{◌≡◌, ◌≤◌, length, All, IfSome, IfNone};
+ghost use Rattle.std.specs.Prelude.{◌≡◌, ◌≤◌, length, All, IfSome, IfNone, IsTrue};
 ghost use Rattle.std.specs.Option.{is_some};
 ghost use Rattle.rtk_message.specs.AnyDecoded as any;
 ghost use Rattle.rtk_message.specs.Decoded.{IsValid, tow_of};
-ghost use Rattle.rtk_obs.specs.Cell.{IsInRange};
+ghost use Rattle.rtk_obs.specs.Cell.{IsInRange, AreRising};
 ghost use Rattle.rtk_obs.specs.MessageCells.{cells_of};
 ghost use Rattle.rtk_collect.specs.Arrival.{At, epoch_of, message_of, IsWideMsm};
 ghost use Rattle.rtk_collect.specs.Steps.Borrowed.{borrowed};
@@ -33,12 +33,14 @@ pub(crate) enum Borrowed<'a> {
 }
 
 impl<'a> Borrowed<'a> {
-    /// Puts the cells of the message into a list, in place of what it has.
-    pub(crate) fn put_cells(self, found: &mut ArrayVec<CellEntry, 64>)
+    /// Puts the cells of the message into a list, in place of what it has. If the result is `true`, they
+    /// rise.
+    pub(crate) fn put_cells(self, found: &mut ArrayVec<CellEntry, 64>) -> bool
         requires { any.IsValid (borrowed self) }
         ensures cells { found.new.items ≡ cells_of (borrowed self.entry) }
         ensures ranges { All IsInRange found.new.items }
         ensures few { length found.new.items ≤ 64 }
+        ensures rises { IsTrue result → AreRising found.new.items }
     {
         match self {
             Borrowed::Message(message) => put_cells_of(message, found),

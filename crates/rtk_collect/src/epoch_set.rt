@@ -75,6 +75,7 @@ fn if_of_room(alloc: Global, list: Vec<CellEntry>, room: usize) -> Vec<CellEntry
 impl EpochSet {
     /// An epoch without cells, which has room for so many of each kind. It has each spare list that has
     /// just the room that is wanted; any other is given up before memory is taken.
+    #[inline(always)]
     pub(crate) fn with_room(
         alloc: Global,
         epoch: GpsMs,
@@ -166,6 +167,7 @@ impl EpochSet {
     }
 
     /// Takes the satellites of the first 1004. All memory is taken before.
+    #[inline(always)]
     pub(crate) fn take_first(&mut self, satellites: &[Satellite]) -> Result<(), AllocError>
         requires first { AreFirst satellites.now }
         requires none { filter (is_from Legacy) self.old.cells ≡ [] }
@@ -178,16 +180,18 @@ impl EpochSet {
     }
 
     /// Takes the cells of a message whose keys are new, and says how many these are; those that
-    /// conflict are added to an empty list. Memory is taken for new cells alone, before the first one
-    /// is added.
+    /// conflict are added to an empty list. If `rises`, the keys of the cells rise. Memory is taken for
+    /// new cells alone, before the first one is added.
     pub(crate) fn join(
         &mut self,
         cells: &[CellEntry],
+        rises: bool,
         found: &mut Conflicts,
     ) -> Result<usize, AllocError>
         requires few { length cells.now ≤ 64 }
         requires range { All IsInRange cells.now }
         requires kind { AreOfOneKind cells.now }
+        requires rising { IsTrue rises → KeysRise cells.now }
         requires empty { found.old ≡ [] }
         ensures set { IfOk result (λ n. self.new ≡ joined cells.now self.old) }
         ensures fresh { IfOk result (λ n. n ≡ fresh cells.now self.old.cells) }
@@ -196,8 +200,8 @@ impl EpochSet {
         ensures refused { OnErr result (0 < fresh cells.now self.old.cells) }
     {
         match source_of(cells) {
-            CellSource::Msm => join_list(&mut self.msm, cells, found),
-            CellSource::Legacy => self.legacy.join_list(cells, found),
+            CellSource::Msm => join_list(&mut self.msm, cells, rises, found),
+            CellSource::Legacy => self.legacy.join_list(cells, rises, found),
         }
     }
 }

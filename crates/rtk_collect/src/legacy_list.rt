@@ -107,6 +107,7 @@ impl LegacyList {
 
     /// No cell, with this room: in the memory of another list, of which each part that has just the
     /// room that is wanted is used, and any other is given up before memory is taken.
+    #[inline(always)]
     pub(crate) fn with_room(
         self,
         alloc: Global,
@@ -153,6 +154,7 @@ impl LegacyList {
     }
 
     /// Takes the satellites of the first 1004. All memory is taken before.
+    #[inline(always)]
     pub(crate) fn take_first(&mut self, satellites: &[Satellite]) -> Result<(), AllocError>
         requires rise { AreRisingSatellites satellites.now }
         requires empty { self.old ≡ [] }
@@ -168,14 +170,17 @@ impl LegacyList {
     }
 
     /// Takes the cells whose keys are new, and says how many these are; those that conflict are added to
-    /// an empty list. Memory is taken for new cells alone, before the first one is added.
+    /// an empty list. If `rises`, the keys of the cells rise. Memory is taken for new cells alone, before
+    /// the first one is added.
     pub(crate) fn join_list(
         &mut self,
         cells: &[CellEntry],
+        rises: bool,
         found: &mut Conflicts,
     ) -> Result<usize, AllocError>
         requires few { length cells.now ≤ 64 }
         requires rises { KeysRise self.old }
+        requires rising { IsTrue rises → KeysRise cells.now }
         requires empty { found.old ≡ [] }
         ensures items { IfOk result (λ n. self.new ≡ with_cells cells.now self.old) }
         ensures fresh { IfOk result (λ n. n ≡ fresh cells.now self.old) }
@@ -184,7 +189,7 @@ impl LegacyList {
         ensures refused { OnErr result (0 < fresh cells.now self.old) }
     {
         spell_out(&mut self.first, &mut self.cells);
-        join_list(&mut self.cells, cells, found)
+        join_list(&mut self.cells, cells, rises, found)
     }
 
     /// The cells, or those of them whose satellite and code no known cell has.

@@ -2,10 +2,9 @@
 //!
 //! The first message of its kind is copied as it stands. Any other is compared in one pass. If a
 //! cell is new and the cells rise, the list grows once and both are merged in it from the greatest
-//! key down. Cells that do not rise are put in one by one.
+//! key down. Other cells are put in one by one. Whether the cells rise, the caller says.
 
 ghost use Rattle.std.specs.Prelude.{◌≡◌, ◌≢◌, ◌≤◌, ◌<◌, ◌+◌, ◌-◌, ◌*◌, [], ◌∷◌, ◌++◌, not, length, take, drop, slice_index_or, vec_len, vec_capacity, IsTrue, IfOk, OnErr, All, if◌then◌else◌};
-ghost use Rattle.rtk_obs.specs.Code.{place_of};
 ghost use Rattle.rtk_obs.specs.MessageCells.{AreOfOneKind};
 ghost use Rattle.rtk_collect.specs.Key.{key, KeysRise};
 ghost use Rattle.rtk_collect.specs.EpochSet.{with_cell, with_cells, cell_under, fresh, conflict, conflicts};
@@ -14,15 +13,6 @@ ghost use Rattle.rtk_collect.specs.Steps.OrderedPlaces.{lower};
 use crate::conflicts::{Conflicts, SatelliteCode};
 use rtk_obs::{CellEntry, CellSource};
 use std::alloc::AllocError;
-
-// A number by which the satellites and codes of cells rise. A satellite counts 256 in it, and not 16
-// as in a key: so it is two bytes that stand side by side, and is read at once.
-fn order_of_code(entry: &CellEntry) -> u16
-    ensures value { result ≡ entry.now.satellite * 256 + place_of entry.now.code }
-    ensures bound { place_of entry.now.code < 16 }
-{
-    u16::from(entry.satellite) * 256 + entry.code.place() as u16
-}
 
 // The key of a cell, by which the cells of an epoch rise: satellite, code and kind of message. It
 // has the kind since clauses see one list of both kinds; in the list of a kind all cells have the
@@ -46,35 +36,18 @@ pub(crate) fn source_of(cells: &[CellEntry]) -> CellSource
     cells[0].cell.source
 }
 
-// Whether each cell has a greater satellite or code than the one before it.
-fn are_rising(cells: &[CellEntry]) -> bool
-    ensures { IsTrue result → KeysRise cells.now }
-{
-    if cells.is_empty() {
-        return true;
-    }
-    let mut last = order_of_code(&cells[0]);
-    let mut at = 1;
-    while at < cells.len() {
-        let order = order_of_code(&cells[at]);
-        if last >= order {
-            return false;
-        }
-        last = order;
-        at += 1;
-    }
-    true
-}
-
 /// Takes the cells whose keys are new into a list, and says how many these are; those that conflict are
-/// added to an empty list. Memory is taken for new cells alone, before the first one is added.
+/// added to an empty list. If `rises`, the keys of the cells rise. Memory is taken for new cells alone,
+/// before the first one is added.
 pub(crate) fn join_list(
     list: &mut Vec<CellEntry>,
     cells: &[CellEntry],
+    rises: bool,
     found: &mut Conflicts,
 ) -> Result<usize, AllocError>
     requires few { length cells.now ≤ 64 }
     requires rises { KeysRise list.old.items }
+    requires rising { IsTrue rises → KeysRise cells.now }
     requires empty { found.old ≡ [] }
     ensures items { IfOk result (λ n. list.new.items ≡ with_cells cells.now list.old.items) }
     ensures fresh { IfOk result (λ n. n ≡ fresh cells.now list.old.items) }
@@ -82,7 +55,6 @@ pub(crate) fn join_list(
     ensures err { OnErr result (list.new.items ≡ list.old.items) }
     ensures refused { OnErr result (0 < fresh cells.now list.old.items) }
 {
-    let rises = are_rising(cells);
     if rises && list.is_empty() {
         // The common case: the first message of its kind, whose cells are copied as they stand.
         // `?` would do the same, but then the proof of each clause on `Err` is a step longer.

@@ -9,6 +9,7 @@ ghost use Rattle.std.specs.Prelude.{◌≡◌, ◌≢◌, ◌<◌, ◌≤◌, �
 ghost use Rattle.std.specs.List.{insert};
 ghost use Rattle.rtk_obs.specs.Cell.{IsInRange};
 ghost use Rattle.rtk_obs.specs.MessageCells.{AreOfOneKind};
+ghost use Rattle.rtk_collect.specs.Key.{KeysRise};
 ghost use Rattle.rtk_collect.specs.EpochSet.{EpochSetView, joined, fresh, conflicts, EpochsFall};
 ghost use Rattle.rtk_collect.specs.Accepted.{no_cells};
 ghost use Rattle.rtk_collect.specs.Steps.OrderedPlaces.{leading};
@@ -58,17 +59,19 @@ pub(crate) fn has_epoch(sets: &VecDeque<EpochSet>, at: usize, epoch: GpsMs) -> b
 }
 
 /// Joins cells to the epoch at a place, and says how many are new; those that conflict are added to
-/// an empty list. If memory is refused, no epoch changes.
+/// an empty list. If `rises`, the keys of the cells rise. If memory is refused, no epoch changes.
 pub(crate) fn join_at(
     sets: &mut VecDeque<EpochSet>,
     at: usize,
     cells: &[CellEntry],
+    rises: bool,
     found: &mut Conflicts,
 ) -> Result<usize, AllocError>
     requires within { at < length sets.old.items }
     requires few { length cells.now ≤ 64 }
     requires range { All IsInRange cells.now }
     requires kind { AreOfOneKind cells.now }
+    requires rising { IsTrue rises → KeysRise cells.now }
     requires empty { found.old ≡ [] }
     ensures items { (d : EpochSetView) → IfOk result (λ n. sets.new.items
         ≡ slice_set sets.old.items at (joined cells.now (slice_index_or sets.old.items at d))) }
@@ -78,7 +81,7 @@ pub(crate) fn join_at(
     ensures refused { (d : EpochSetView) → OnErr result (0 < fresh cells.now (slice_index_or sets.old.items at d).cells) }
 {
     let set = &mut sets[at];
-    set.join(cells, found)
+    set.join(cells, rises, found)
 }
 
 // For how many cells of each kind an epoch that opens at a place has room: for those of its first
@@ -114,13 +117,14 @@ pub(crate) fn first_room(sets: &VecDeque<EpochSet>, at: usize, source: CellSourc
 }
 
 /// Opens an epoch with cells at its place, if it can in the spare lists; those that conflict with one
-/// another are added to an empty list. All memory is taken before an epoch changes.
+/// another are added to an empty list. If `rises`, the keys of the cells rise. All memory is taken before an epoch changes.
 pub(crate) fn open_at(
     sets: &mut VecDeque<EpochSet>,
     at: usize,
     alloc: Global,
     epoch: GpsMs,
     cells: &[CellEntry],
+    rises: bool,
     spare: &mut Spare,
     found: &mut Conflicts,
 ) -> Result<(), AllocError>
@@ -128,6 +132,7 @@ pub(crate) fn open_at(
     requires few { length cells.now ≤ 64 }
     requires range { All IsInRange cells.now }
     requires kind { AreOfOneKind cells.now }
+    requires rising { IsTrue rises → KeysRise cells.now }
     requires empty { found.old ≡ [] }
     requires spare { AreSpare spare.old }
     ensures items { OnOk result (sets.new.items ≡ insert sets.old.items at (joined cells.now (no_cells epoch))) }
@@ -139,7 +144,7 @@ pub(crate) fn open_at(
     let Ok(mut set) = EpochSet::with_room(alloc, epoch, room, spare) else {
         return Err(AllocError);
     };
-    if let Err(_) = set.join(cells, found) {
+    if let Err(_) = set.join(cells, rises, found) {
         return Err(AllocError);
     }
     put_at(sets, at, set)
@@ -181,12 +186,14 @@ pub(crate) fn close_least(sets: &mut VecDeque<EpochSet>, places: usize) -> Optio
 
 /// Takes the new cells of an epoch, or opens it, in a window that has this number of places and
 /// spare lists; those that conflict are added to an empty list, which stays empty if memory is refused.
+/// If `rises`, the keys of the cells rise.
 pub(crate) fn offer_cells(
     sets: &mut VecDeque<EpochSet>,
     places: usize,
     alloc: Global,
     epoch: GpsMs,
     cells: &[CellEntry],
+    rises: bool,
     spare: &mut Spare,
     found: &mut Conflicts,
 ) -> Result<Offer, AllocError>
@@ -195,6 +202,7 @@ pub(crate) fn offer_cells(
     requires few { length cells.now ≤ 64 }
     requires range { All IsInRange cells.now }
     requires kind { AreOfOneKind cells.now }
+    requires rising { IsTrue rises → KeysRise cells.now }
     requires spare { AreSpare spare.old }
     requires empty { found.old ≡ [] }
     ensures added { IfOk result (λ offer. AddsCells places epoch cells.now sets.old.items sets.new.items offer found.new) }
@@ -205,7 +213,7 @@ pub(crate) fn offer_cells(
 {
     let at = place_of_epoch(sets, epoch);
     if has_epoch(sets, at, epoch) {
-        let Ok(fresh) = join_at(sets, at, cells, found) else {
+        let Ok(fresh) = join_at(sets, at, cells, rises, found) else {
             found.clear();
             return Err(AllocError);
         };
@@ -214,7 +222,7 @@ pub(crate) fn offer_cells(
     if at == places {
         return Ok(Offer::Late);
     }
-    if let Err(_) = open_at(sets, at, alloc, epoch, cells, spare, found) {
+    if let Err(_) = open_at(sets, at, alloc, epoch, cells, rises, spare, found) {
         found.clear();
         return Err(AllocError);
     }

@@ -49,10 +49,10 @@ fn put_entries(message: &AnyMessage, found: &mut ArrayVec<CellEntry, 64>)
     requires { IsValid message.now }
     ensures { found.new.items ≡ entries_of_message message.now }
 {
-    match message {
+    let _ = match message {
         AnyMessage::Message(message) => put_cells_of(message, found),
         AnyMessage::Msm(message) => put_cells_msm(message, found),
-    }
+    };
 }
 
 impl Decoding {

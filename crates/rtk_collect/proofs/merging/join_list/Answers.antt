@@ -1,4 +1,4 @@
-use Rattle.std.proofs.Common.{◌≡◌, arith, refl, sym, ◌∙◌}
+use Rattle.std.proofs.Common.{◌≡◌, arith, sym, ◌∙◌}
 use Rattle.rtk_collect.specs.EpochSet.{fresh}
 use Rattle.rtk_collect.proofs.RisingLemmas.{no-cells, alone}
 use Rattle.rtk_collect.proofs.CellsLemmas.{with_cells-none}
@@ -8,22 +8,22 @@ use Rattle.rtk_collect.proofs.merging.join_list.Goals as goal
 
 pub returns-in-Err-clause-refused : goal.returns-in-Err-clause-refused
 returns-in-Err-clause-refused c =
-    let a = alone c.args.cells.now c.args.list.now.items (no-cells c.args.list.now.items _ c.args.list.now.ok.0 (sym c.is_empty.ensures ∙ c.if-is_empty.true)) (c.if-rises.ensures refl) in
+    let a = alone c.args.cells.now c.args.list.now.items (no-cells c.args.list.now.items _ c.args.list.now.ok.0 (sym c.is_empty.ensures ∙ c.if-is_empty.true)) (c.requires.rising c.if-rises.true) in
     omega (arith, c.in-Err.ensures.full, c.args.list.now.ok.1, a.fresh)
 
 pub returns-then-is_empty-clause-items : goal.returns-then-is_empty-clause-items
 returns-then-is_empty-clause-items c =
-    let a = alone c.args.cells.now c.args.list.now.items (no-cells c.args.list.now.items _ c.args.list.now.ok.0 (sym c.is_empty.ensures ∙ c.if-is_empty.true)) (c.if-rises.ensures refl) in
+    let a = alone c.args.cells.now c.args.list.now.items (no-cells c.args.list.now.items _ c.args.list.now.ok.0 (sym c.is_empty.ensures ∙ c.if-is_empty.true)) (c.requires.rising c.if-rises.true) in
     c.in_default.ensures.items ∙ a.items
 
 pub returns-then-is_empty-clause-fresh : goal.returns-then-is_empty-clause-fresh
 returns-then-is_empty-clause-fresh c =
-    let a = alone c.args.cells.now c.args.list.now.items (no-cells c.args.list.now.items _ c.args.list.now.ok.0 (sym c.is_empty.ensures ∙ c.if-is_empty.true)) (c.if-rises.ensures refl) in
+    let a = alone c.args.cells.now c.args.list.now.items (no-cells c.args.list.now.items _ c.args.list.now.ok.0 (sym c.is_empty.ensures ∙ c.if-is_empty.true)) (c.requires.rising c.if-rises.true) in
     a.fresh
 
 pub returns-then-is_empty-clause-conflicts : goal.returns-then-is_empty-clause-conflicts
 returns-then-is_empty-clause-conflicts c =
-    let a = alone c.args.cells.now c.args.list.now.items (no-cells c.args.list.now.items _ c.args.list.now.ok.0 (sym c.is_empty.ensures ∙ c.if-is_empty.true)) (c.if-rises.ensures refl) in
+    let a = alone c.args.cells.now c.args.list.now.items (no-cells c.args.list.now.items _ c.args.list.now.ok.0 (sym c.is_empty.ensures ∙ c.if-is_empty.true)) (c.requires.rising c.if-rises.true) in
     c.requires.empty ∙ a.conflicts
 
 -- no key is new
