@@ -1,15 +1,18 @@
 -- The cells of a 1004 that are kept as satellites or in a list, and those that are left of them.
-use Rattle.std.proofs.Common.{◌≡◌, ℕ, ◌<◌, ◌==◌, Result, Ok, Err, OnOk, OnErr, is_ok, Bool, true, false, not, cond, List, [], ◌∷◌, ◌++◌, length, filter, All, inl, inr, refl, sym, ◌∙◌, ap, subst, arith}
+use Rattle.std.proofs.Common.{◌≡◌, ℕ, ◌<◌, ◌==◌, Result, Ok, Err, OnOk, OnErr, is_ok, Option, None, Some, IfSome, Bool, true, false, not, cond, List, [], ◌∷◌, ◌++◌, length, filter, All, inl, inr, refl, sym, ◌∙◌, ap, subst, arith}
 use Rattle.std.proofs.lemmas.List.Elements.{All-filter}
 use Rattle.std.proofs.lemmas.Bool.{ne_eqb}
 use Rattle.rtk_message.specs.declared.obs1004.Satellite.{Satellite}
 use Rattle.rtk_obs.specs.declared.cell.CellEntry.{CellEntry}
 use Rattle.rtk_obs.specs.LegacyCells.{first_entries, cells_of_1004}
-use Rattle.rtk_obs.specs.CellsLeft.{cells_left, has_cell}
-use Rattle.rtk_obs.specs.Cell.{IsInRange}
+use Rattle.rtk_obs.specs.CellsLeft.{AreRisingSatellites, cells_left, has_cell}
+use Rattle.rtk_obs.specs.Cell.{IsInRange, AreRising}
+use Rattle.rtk_obs.specs.declared.cell.CellSource.TheVariants.{Legacy}
 use Rattle.rtk_obs.specs.declared.cell.CellSource.{CellSource}
 use Rattle.rtk_collect.specs.Key.{key, Above, KeysRise}
 use Rattle.rtk_collect.specs.EpochSet.{AreKeptOf, AreLeft}
+use Rattle.rtk_collect.specs.Steps.First.{AreFirst}
+use Rattle.rtk_collect.proofs.RisingLemmas.{keys-rise}
 
 pub none_of : {X : Type 0} (xs : List X) (n : ℕ) → n ≡ length xs → (n == 0) ≡ true → xs ≡ []
 none_of [] n e h = refl
@@ -80,3 +83,15 @@ kept-left s known xs left k h = elim h [
 pub either-taken : {T E : Type 0} (r : Result T E) (P : List CellEntry → Type 0) (x a b : List CellEntry) → OnOk r (x ≡ a) → OnErr r (x ≡ b) → P a → P b → P x
 either-taken (Ok v) P x a b h e p q = subst P (sym h) p
 either-taken (Err d) P x a b h e p q = subst P (sym e) q
+
+-- ---- the satellites of a first 1004
+
+pub first-if : {X : Type 0} (now : X → List Satellite) (o : Option X) → IfSome o (λ s. AreRisingSatellites (now s)) → IfSome o (λ s. AreRising (cells_of_1004 (now s)))
+    → IfSome o (λ s. All IsInRange (cells_of_1004 (now s))) → IfSome o (λ s. All (λ e. e.cell.source ≡ Legacy) (cells_of_1004 (now s))) → IfSome o (λ s. 0 < length (cells_of_1004 (now s)))
+    → IfSome o (λ s. AreFirst (now s))
+first-if now None rise cells range kind some = tt
+first-if now (Some s) rise cells range kind some = record {
+  rise = rise;
+  kept = record { rises = keys-rise (cells_of_1004 (now s)) cells; range = range; kind = kind };
+  some = some;
+}

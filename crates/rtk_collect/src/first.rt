@@ -28,7 +28,7 @@ pub(crate) fn first_satellites<'a>(
     epoch: GpsMs,
     message: Borrowed<'a>,
 ) -> Option<&'a [Satellite]>
-    requires valid { IsValid (borrowed message.entry) }
+    requires valid { IsValid (borrowed message) }
     requires falls { EpochsFall sets.now.items }
     ensures cells { IfSome result (λ satellites. cells_of (borrowed message.entry) ≡ cells_of_1004 satellites.now) }
     ensures first { IfSome result (λ satellites. AreFirst satellites.now) }

@@ -1,7 +1,5 @@
-use Rattle.std.proofs.Common.{◌≡◌, ◌≤◌, ◌<◌, [], length, get_or, refl, sym, ap, subst, ◌∙◌, arith, filter}
+use Rattle.std.proofs.Common.{◌≤◌, [], length, refl, sym, ap, ◌∙◌, arith}
 use Rattle.rtk_obs.specs.LegacyCells.{cells_of_1004}
-use Rattle.rtk_obs.specs.declared.cell.CellSource.TheVariants.{Legacy}
-use Rattle.rtk_collect.specs.EpochSet.{EpochSetView, is_from}
 use Rattle.rtk_collect.specs.Accepted.{no_cells}
 use Rattle.rtk_collect.proofs.JoinsLemmas.{leading-length}
 use Rattle.rtk_collect.proofs.OffersLemmas.{length-insert}
@@ -22,7 +20,7 @@ returns-then-has_epoch-clause-added c =
     let found = c.if-has_epoch.ensures.found refl in
     let d = no_cells 0 in
     open-branch c.args.places c.args.epoch c.place_of_epoch-at.result (cells_of_1004 c.args.satellites.now) d c.args.sets.now.items c.take_first_at.new.sets.items _ [] _
-    c.requires.falls c.requires.fits c.place_of_epoch-at.ensures found.0 (found.1 d) (c.in_default-take_first_at.ensures.items d) refl (sym (c.take_first_at.ensures.conflicts d)) (c.take_first_at.ensures.fresh d, refl)
+    c.requires.falls c.requires.fits c.place_of_epoch-at.ensures found.0 (found.1 d) (c.in_default.ensures.items d) refl (sym (c.take_first_at.ensures.conflicts d)) (c.take_first_at.ensures.fresh d, refl)
 
 pub returns-then-at-places-clause-added : goal.returns-then-at-places-clause-added
 returns-then-at-places-clause-added c =
@@ -38,3 +36,16 @@ returns-clause-added c =
     (ap length c.in_default-open_first_at.ensures.items ∙ length-insert _ c.place_of_epoch-at.result c.args.sets.now.items within) c.close_least-closed.ensures.items c.close_least-closed.ensures.few
     (alone (cells_of_1004 c.args.satellites.now) [] refl c.requires.first.kept.rises).conflicts
 
+-- memory is refused
+
+pub returns-in-Err-clause-refused : goal.returns-in-Err-clause-refused
+returns-in-Err-clause-refused c m k before h =
+    let found = c.if-has_epoch.ensures.found refl in
+    let d = no_cells 0 in
+    fresh-taken c.args.places c.args.epoch c.place_of_epoch-at.result (cells_of_1004 c.args.satellites.now) d c.args.sets.now.items c.requires.fits c.place_of_epoch-at.ensures found.0 (found.1 d) (c.take_first_at.ensures.fresh d) m k before h
+
+pub returns-in-Err-open_first_at-clause-refused : goal.returns-in-Err-open_first_at-clause-refused
+returns-in-Err-open_first_at-clause-refused c m k before h =
+    let absent = c.if-has_epoch.ensures.absent refl in
+    let d = no_cells 0 in
+    new-taken c.args.places c.args.epoch c.place_of_epoch-at.result (cells_of_1004 c.args.satellites.now) d c.args.sets.now.items c.requires.falls c.requires.fits c.place_of_epoch-at.ensures c.if-at-places.false (λ l. absent l d) m k before h

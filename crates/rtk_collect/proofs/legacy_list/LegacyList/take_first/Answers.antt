@@ -1,4 +1,4 @@
-use Rattle.std.proofs.Common.{sym, ◌∙◌, subst, OnErr}
+use Rattle.std.proofs.Common.{sym, ◌∙◌}
 use Rattle.rtk_collect.proofs.LegacyListLemmas.{spelled, taken-err}
 use Rattle.rtk_collect.proofs.legacy_list.LegacyList.take_first.Goals as goal
 
