@@ -11,17 +11,13 @@ use Rattle.rtk_rinex.specs.declared.epoch_table.Observed.{Observed}
 use Rattle.rtk_convert.specs.Steps.ShownCells.{is_code, with_code}
 use Rattle.rtk_convert.proofs.CellOrderLemmas.{same-code}
 
-both-false : (a b : Bool) → (a || b) ≡ false → (a ≡ false) × (b ≡ false)
+pub both-false : (a b : Bool) → (a || b) ≡ false → (a ≡ false) × (b ≡ false)
 both-false true b h = absurd (cc)
 both-false false b h = (refl, h)
 
 or-false : (a b : Bool) → a ≡ false → b ≡ false → (a || b) ≡ false
 or-false true b h k = h
 or-false false b h k = k
-
-or-true : (a b : Bool) → b ≡ true → (a || b) ≡ true
-or-true true b h = refl
-or-true false b h = h
 
 -- a code that is not listed changes no row
 pub with_code-none : (code : Code) (o : Observed) (listed : List Code) (row : List Observed) → list_any (is_code code) listed ≡ false → length row ≡ length listed → with_code code o listed row ≡ row
@@ -52,11 +48,6 @@ with_code-one code o (c ∷ listed) (x ∷ row) (suc k) a l w h =
     (cond-false (is_code code c) o x (ne_eqb (place_of c) (place_of code) (λ q. a 0 (suc k) C1C (omega arith) (omega arith)
     (same-code c (get_or listed k C1C) (q ∙ sym (eqb-true (place_of (get_or listed k C1C)) (place_of code) h))))))
     ∙ ap (λ (ys : List Observed). x ∷ ys) (with_code-one code o listed row k (λ i j d p q. a (suc i) (suc j) d (omega arith) (omega arith)) (omega arith) (omega arith) h)
-
-pub any-at : (code : Code) (listed : List Code) (k : ℕ) → k < length listed → is_code code (get_or listed k C1C) ≡ true → list_any (is_code code) listed ≡ true
-any-at code [] k l h = absurd (omega arith)
-any-at code (c ∷ listed) zero l h = ap (λ (b : Bool). b || list_any (is_code code) listed) h
-any-at code (c ∷ listed) (suc k) l h = or-true (is_code code c) (list_any (is_code code) listed) (any-at code listed k (omega arith) h)
 
 -- the places of the codes of a first part of the list
 pub record PlacesTo (listed : List Code) (k : ℕ) (places : List ℕ) (code : Code) : Type 0 where

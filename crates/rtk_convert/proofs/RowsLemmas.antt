@@ -1,10 +1,10 @@
 -- The rows of the satellites.
-use Rattle.std.proofs.Common.{◌≡◌, ℕ, zero, suc, ◌+◌, ◌<◌, ◌≤◌, [], ◌∷◌, ◌++◌, List, map, replicate, length, refl, sym, ap, subst, ◌∙◌, arith, add-one, Option, None, Some, true, false, Bool, cond, inl, inr}
+use Rattle.std.proofs.Common.{◌≡◌, ℕ, zero, suc, ◌+◌, ◌<◌, ◌≤◌, [], ◌∷◌, ◌++◌, List, map, filter, flat_map, drop, replicate, length, get_or, refl, sym, ap, subst, ◌∙◌, arith, add-one, Option, None, Some, true, false, Bool, cond, inl, inr}
 use Rattle.std.specs.Prelude.{is_some, All, AllPairs, if◌then◌else◌, IfSome, ◌||◌}
-use Rattle.std.proofs.lemmas.Bool.{cases_lt}
-use Rattle.std.proofs.lemmas.List.{append-nil, length-append, length-map}
+use Rattle.std.proofs.lemmas.Bool.{cases_lt, eqb-true}
+use Rattle.std.proofs.lemmas.List.{append-nil, get_or-map, length-append, length-map}
 use Rattle.std.proofs.lemmas.List.Quantifiers.{all_pairs_push}
-use Rattle.std.proofs.lemmas.List.Elements.{All-nil, All-cons, All-append, All-head, All-tail}
+use Rattle.std.proofs.lemmas.List.Elements.{filter-append, All-nil, All-cons, All-append, All-head, All-tail}
 use Rattle.std.specs.List.{list_any}
 use Rattle.rtk_obs.specs.declared.code.Code.{Code}
 use Rattle.rtk_obs.specs.declared.cell.Cell.{Cell}
@@ -13,8 +13,13 @@ use Rattle.rtk_obs.specs.declared.track.Track.{Track}
 use Rattle.rtk_obs.specs.Cell.{IsSatellite, IsInRange as IsEntry, IsStrength as IsGiven}
 use Rattle.rtk_rinex.specs.declared.epoch_table.Observed.{Observed}
 use Rattle.rtk_rinex.specs.declared.epoch_table.SatelliteRow.{SatelliteRow}
-use Rattle.rtk_rinex.specs.Record.{HasWidth, IsStrengthOrNone}
-use Rattle.rtk_convert.specs.Steps.ShownCells.{is_code, with_code}
+use Rattle.rtk_obs.specs.declared.code.Code.TheVariants.{C1C}
+use Rattle.rtk_obs.specs.Code.{place_of}
+use Rattle.rtk_rinex.specs.Record.{HasWidth, IsStrengthOrNone, has_line, has_observation, satellite_line}
+use Rattle.rtk_rinex.specs.RecordLines.{RecordLinesView, HoldsLines, KeepsLines}
+use Rattle.rtk_convert.specs.Steps.ShownCells.{IsFreeOf, is_code, with_code}
+use Rattle.rtk_convert.proofs.CellOrderLemmas.{same-code}
+use Rattle.rtk_convert.proofs.ListedLemmas.{both-false}
 use Rattle.rtk_convert.specs.Rows.{is_signal, first_cell, observed_after, or_nothing, row_with, row_if_any, rows_to}
 
 pub rows_to-zero : (f : ℕ → Code → Option Observed) (listed : List Code) → rows_to f listed 0 ≡ []
@@ -25,17 +30,14 @@ pub rows_to-more : (f : ℕ → Code → Option Observed) (listed : List Code) (
 unfolding rows_to
 rows_to-more f listed n = rw add-one refl
 
-pub row-yes : (f : ℕ → Code → Option Observed) (listed : List Code) (n : ℕ) → list_any (λ code. is_some (f n code)) listed ≡ true → row_if_any f listed n ≡ row_with f listed n ∷ []
-row-yes f listed n h = rw h refl
-
-pub row-no : (f : ℕ → Code → Option Observed) (listed : List Code) (n : ℕ) → list_any (λ code. is_some (f n code)) listed ≡ false → row_if_any f listed n ≡ []
+row-no : (f : ℕ → Code → Option Observed) (listed : List Code) (n : ℕ) → list_any (λ code. is_some (f n code)) listed ≡ false → row_if_any f listed n ≡ []
 row-no f listed n h = rw h refl
 
 pub observed-same : (f g : Code → Option Observed) (listed : List Code) → ((c : Code) → f c ≡ g c) → map (λ c. or_nothing (f c)) listed ≡ map (λ c. or_nothing (g c)) listed
 observed-same f g [] h = refl
 observed-same f g (c ∷ listed) h = rw (h c, observed-same f g listed h) refl
 
-pub any-same : (f g : Code → Option Observed) (listed : List Code) → ((c : Code) → f c ≡ g c) → list_any (λ c. is_some (f c)) listed ≡ list_any (λ c. is_some (g c)) listed
+any-same : (f g : Code → Option Observed) (listed : List Code) → ((c : Code) → f c ≡ g c) → list_any (λ c. is_some (f c)) listed ≡ list_any (λ c. is_some (g c)) listed
 any-same f g [] h = refl
 any-same f g (c ∷ listed) h = rw (h c, any-same f g listed h) refl
 
@@ -127,29 +129,45 @@ row-with f g code o (c ∷ listed) h =
     ap (λ (x : Observed). x ∷ with_code code o listed (map (λ c. or_nothing (f c)) listed)) (shows-if (is_code code c) o (f c) ∙ ap or_nothing (sym (h c)))
     ∙ ap (λ (xs : List Observed). or_nothing (g c) ∷ xs) (row-with f g code o listed h)
 
-some-or : (b : Bool) (o : Observed) (x : Option Observed) (p q : Bool) → (is_some (cond b (Some o) x) || (p || q)) ≡ ((b || p) || (is_some x || q))
-some-or true o x p q = refl
-some-or false o None p q = refl
-some-or false o (Some x) true q = refl
-some-or false o (Some x) false q = refl
-
--- is a code shown after one more code?
-pub any-with : (f g : Code → Option Observed) (code : Code) (o : Observed) (listed : List Code) → ((c : Code) → g c ≡ cond (is_code code c) (Some o) (f c))
-    → list_any (λ c. is_some (g c)) listed ≡ (list_any (is_code code) listed || list_any (λ c. is_some (f c)) listed)
-any-with f g code o [] h = refl
-any-with f g code o (c ∷ listed) h =
-    ap (λ (x : Option Observed). is_some x || list_any (λ c. is_some (g c)) listed) (h c)
-    ∙ ap (λ (b : Bool). is_some (cond (is_code code c) (Some o) (f c)) || b) (any-with f g code o listed h)
-    ∙ some-or (is_code code c) o (f c) (list_any (is_code code) listed) (list_any (λ c. is_some (f c)) listed)
-
 any-none : (f : Code → Option Observed) (listed : List Code) → ((c : Code) → f c ≡ None) → list_any (λ c. is_some (f c)) listed ≡ false
 any-none f [] h = refl
 any-none f (c ∷ listed) h = ap (λ (x : Option Observed). is_some x || list_any (λ c. is_some (f c)) listed) (h c) ∙ any-none f listed h
 
--- nothing is shown before the first cell
-pub row-begins : (f : Code → Option Observed) (listed : List Code) → ((c : Code) → f c ≡ None)
-    → (map (λ (code : Code). or_nothing None) listed ≡ map (λ c. or_nothing (f c)) listed) × (false ≡ list_any (λ c. is_some (f c)) listed)
-row-begins f listed h = (observed-same (λ (c : Code). None) f listed (λ c. sym (h c)), sym (any-none f listed h))
+-- a code without a cell shows nothing
+pub free-of : (f : Code → Option Observed) (code : Code) (listed : List Code) → f code ≡ None → IsFreeOf code listed (map (λ c. or_nothing (f c)) listed)
+free-of f code listed none = record {
+  width = length-map listed (λ c. or_nothing (f c));
+  free = λ k d lt is.
+      let e : get_or listed k C1C ≡ code = same-code (get_or listed k C1C) code (eqb-true (place_of (get_or listed k C1C)) (place_of code) is) in
+      ap has_observation (get_or-map (λ c. or_nothing (f c)) listed k C1C d lt ∙ ap (λ (c : Code). or_nothing (f c)) e ∙ ap or_nothing none);
+}
+
+-- ---- the line of a row
+
+none-of-some : (o : Option Observed) → is_some o ≡ false → o ≡ None
+none-of-some None h = refl
+none-of-some (Some o) h = cc
+
+no-line : (f : Code → Option Observed) (listed : List Code) → list_any (λ c. is_some (f c)) listed ≡ false → list_any has_observation (map (λ c. or_nothing (f c)) listed) ≡ false
+no-line f [] h = refl
+no-line f (c ∷ listed) h =
+    let p = both-false (is_some (f c)) (list_any (λ c. is_some (f c)) listed) h in
+    ap (λ (o : Option Observed). has_observation (or_nothing o) || list_any has_observation (map (λ c. or_nothing (f c)) listed)) (none-of-some (f c) p.0) ∙ no-line f listed p.1
+
+held-if : (l : RecordLinesView) (rows : List SatelliteRow) (r : SatelliteRow) (b : Bool) → (b ≡ false → has_line r ≡ false) → HoldsLines l (rows ++ r ∷ []) → HoldsLines l (rows ++ (if b then r ∷ [] else []))
+held-if l rows r true none h = h
+held-if l rows r false none h =
+    let same : filter has_line (rows ++ r ∷ []) ≡ filter has_line (rows ++ []) =
+    filter-append has_line rows (r ∷ []) ∙ (rw (none refl) (sym (filter-append has_line rows []))) in
+    record { lines = h.lines ∙ ap (λ (rs : List SatelliteRow). flat_map satellite_line rs) same; count = h.count ∙ ap length same }
+
+pub lines-kept : {old new : RecordLinesView} {rows : List SatelliteRow} → HoldsLines old rows → KeepsLines old new → HoldsLines new rows
+lines-kept {old} {new} {rows} h k = record { lines = ap (drop 36) k.text ∙ h.lines; count = k.count ∙ h.count }
+
+-- a satellite without a cell of a listed code has no line
+pub row-held : (l : RecordLinesView) (f : ℕ → Code → Option Observed) (listed : List Code) (n : ℕ) (rows : List SatelliteRow) → HoldsLines l (rows ++ row_with f listed n ∷ [])
+    → HoldsLines l (rows ++ row_if_any f listed n)
+row-held l f listed n rows h = held-if l rows (row_with f listed n) (list_any (λ c. is_some (f n c)) listed) (no-line (f n) listed) h
 
 -- ---- the rows so far
 

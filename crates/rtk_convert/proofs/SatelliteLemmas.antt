@@ -1,7 +1,6 @@
 -- The cells of a satellite, one after another, and its row.
-use Rattle.std.proofs.Common.{◌≡◌, ◌≢◌, ℕ, ◌+◌, ◌-◌, ◌<◌, ◌≤◌, [], ◌∷◌, ◌++◌, List, map, length, get_or, slice_range, refl, sym, ap, subst, ◌∙◌, append_assoc, arith, Option, None, Some, true, false, Bool, cond, inl, inr}
-use Rattle.std.specs.Prelude.{is_some, ◌||◌, All}
-use Rattle.std.specs.List.{list_any}
+use Rattle.std.proofs.Common.{◌≡◌, ◌≢◌, ℕ, ◌+◌, ◌-◌, ◌<◌, ◌≤◌, [], ◌∷◌, ◌++◌, List, map, length, get_or, slice_range, refl, sym, ap, subst, ◌∙◌, append_assoc, arith, Option, None, Some, true, false, cond, inl, inr}
+use Rattle.std.specs.Prelude.{is_some, All}
 use Rattle.std.proofs.lemmas.Bool.{cases_lt}
 use Rattle.std.proofs.lemmas.List.{append-nil}
 use Rattle.rtk_obs.specs.declared.cell.CellEntry.{CellEntry}
@@ -10,30 +9,25 @@ use Rattle.rtk_obs.specs.declared.code.Code.{Code}
 use Rattle.rtk_obs.specs.declared.track.Track.{Track}
 use Rattle.rtk_obs.specs.Cell.{IsSatellite, IsInRange}
 use Rattle.rtk_obs.specs.Code.{band_of}
-use Rattle.rtk_obs.specs.Rollover.{last_after, digits_since}
+use Rattle.rtk_obs.specs.Rollover.{digits_since}
 use Rattle.rtk_obs.specs.Slip.{epoch_cell}
-use Rattle.rtk_obs.specs.Tracks.{IsLater, track_at, place_of_signal}
+use Rattle.rtk_obs.specs.Tracks.{IsLater, track_at}
 use Rattle.rtk_obs.specs.MessageCells.{AreOfOneKind}
 use Rattle.rtk_collect.specs.Key.{KeysRise}
 use Rattle.rtk_rinex.specs.declared.epoch_table.Observed.{Observed}
 use Rattle.rtk_rinex.specs.declared.epoch_table.SatelliteRow.{SatelliteRow}
 use Rattle.rtk_convert.specs.Rows.{first_cell, observed_with, observed_after, or_nothing, row_if_any, rows_to}
-use Rattle.rtk_convert.specs.Steps.ShownCells.{AreTaken, MayStep, IsPlaceOf, ShowsRow, StepsOver, TakesCells, track_after, shown_by, is_code, with_code}
+use Rattle.rtk_rinex.specs.RecordLines.{RecordLinesView, HasOpenLine}
+use Rattle.rtk_convert.specs.Steps.ShownCells.{MayStep, IsPlaceOf, HasFreeOf, IsFreeOf, ShowsRow, ShowsSome, StepsOver, TakesCells, track_after, shown_by, is_code}
 use Rattle.rtk_convert.proofs.CellOrderLemmas.{any_cell, or_later, first-append, some-before, none-both, range-empty, range-more, range-new, range-satellite, range-other, first-range, first-absent, place-first}
 use Rattle.rtk_convert.proofs.ThroughLemmas.{cells-same, taken-same, taken-more, may-same, may-more, shown-more}
-use Rattle.rtk_convert.proofs.RowsLemmas.{observed-same, any-same, row-begins, row-with, any-with, rows-skip, rows-step}
+use Rattle.rtk_convert.proofs.RowsLemmas.{observed-same, row-with, free-of, rows-skip, rows-step}
 
 -- ---- the cells of a satellite, one by one
 
 pub none-some : (o : Option Cell) → is_some o ≡ false → o ≡ None
 none-some None h = refl
 none-some (Some x) h = cc
-
-pub shows-begin : (old : List (Option Track)) (epoch : ℕ) (xs : List CellEntry) (s : ℕ) (listed : List Code) (tracks : List (Option Track)) (row : List Observed)
-    → AreTaken old epoch xs tracks → ((c : Code) → first_cell xs s c ≡ None) → row ≡ map (λ (code : Code). or_nothing None) listed → ShowsRow old epoch xs s listed tracks row false
-shows-begin old epoch xs s listed tracks row taken none blank =
-    let begins = row-begins (shown_by old epoch xs s) listed (λ c. ap (observed_after (track_at old s c) c epoch) (none c)) in
-    record { taken = taken; row = blank ∙ begins.0; any = begins.1 }
 
 shown-same : (old : List (Option Track)) (epoch : ℕ) (xs ys : List CellEntry) (s : ℕ) → ((c : Code) → first_cell ys s c ≡ first_cell xs s c) → (c : Code) → shown_by old epoch xs s c ≡ shown_by old epoch ys s c
 shown-same old epoch xs ys s same c = ap (observed_after (track_at old s c) c epoch) (sym (same c))
@@ -43,51 +37,48 @@ pub row-by : (old : List (Option Track)) (epoch : ℕ) (xs ys : List CellEntry) 
     → map (λ code. or_nothing (shown_by old epoch xs s code)) listed ≡ map (λ code. or_nothing (shown_by old epoch ys s code)) listed
 row-by old epoch xs ys s listed same = observed-same (shown_by old epoch xs s) (shown_by old epoch ys s) listed (shown-same old epoch xs ys s same)
 
-pub any-by : (old : List (Option Track)) (epoch : ℕ) (xs ys : List CellEntry) (s : ℕ) (listed : List Code) → ((c : Code) → first_cell ys s c ≡ first_cell xs s c)
-    → list_any (λ code. is_some (shown_by old epoch xs s code)) listed ≡ list_any (λ code. is_some (shown_by old epoch ys s code)) listed
-any-by old epoch xs ys s listed same = any-same (shown_by old epoch xs s) (shown_by old epoch ys s) listed (shown-same old epoch xs ys s same)
-
-pub shows-repeat : {old : List (Option Track)} {epoch : ℕ} {xs : List CellEntry} {s : ℕ} {listed : List Code} {tracks : List (Option Track)} {row : List Observed} {any : Bool} (e : CellEntry)
-    → IsSatellite s → IsSatellite e.satellite → is_some (first_cell xs e.satellite e.code) ≡ true → ShowsRow old epoch xs s listed tracks row any → ShowsRow old epoch (xs ++ e ∷ []) s listed tracks row any
-shows-repeat {old} {epoch} {xs} {s} {listed} {tracks} {row} {any} e hs he there g =
+pub shows-repeat : {old : List (Option Track)} {epoch : ℕ} {xs : List CellEntry} {s : ℕ} {listed : List Code} {tracks : List (Option Track)} {lines : RecordLinesView} (e : CellEntry)
+    → IsSatellite s → IsSatellite e.satellite → is_some (first_cell xs e.satellite e.code) ≡ true → ShowsRow old epoch xs s listed tracks lines → ShowsRow old epoch (xs ++ e ∷ []) s listed tracks lines
+shows-repeat {old} {epoch} {xs} {s} {listed} {tracks} {lines} e hs he there g =
     let same = cells-same xs e he there in
     record {
       taken = taken-same old epoch xs (xs ++ e ∷ []) tracks same g.taken;
-      row = g.row ∙ row-by old epoch xs (xs ++ e ∷ []) s listed (λ c. same s c hs);
-      any = g.any ∙ any-by old epoch xs (xs ++ e ∷ []) s listed (λ c. same s c hs);
+      row = subst (λ (row : List Observed). HasOpenLine lines row) (row-by old epoch xs (xs ++ e ∷ []) s listed (λ c. same s c hs)) g.row;
     }
 
-pub shows-more : {old : List (Option Track)} {epoch : ℕ} {xs : List CellEntry} {s : ℕ} {listed : List Code} {tracks : List (Option Track)} {row : List Observed} {any : Bool}
-    (after : List (Option Track)) (now : List Observed) (is_listed : Bool) (e : CellEntry)
-    → e.satellite ≡ s → IsSatellite e.satellite → first_cell xs e.satellite e.code ≡ None
-    → track_at after e.satellite e.code ≡ last_after (band_of e.code) (track_at tracks e.satellite e.code) (epoch_cell epoch e.cell)
-    → ((s : ℕ) (c : Code) → place_of_signal s c ≢ place_of_signal e.satellite e.code → track_at after s c ≡ track_at tracks s c)
-    → now ≡ with_code e.code (observed_with e.cell (digits_since (band_of e.code) (track_at tracks e.satellite e.code) (epoch_cell epoch e.cell))) listed row
-    → is_listed ≡ list_any (is_code e.code) listed
-    → ShowsRow old epoch xs s listed tracks row any → ShowsRow old epoch (xs ++ e ∷ []) s listed after now (is_listed || any)
-shows-more {old} {epoch} {xs} {s} {listed} {tracks} {row} {any} after now is_listed e at he none track others put found g =
+-- a code without a cell so far shows nothing
+row-free : (old : List (Option Track)) (epoch : ℕ) (xs : List CellEntry) (s : ℕ) (listed : List Code) (e : CellEntry) → e.satellite ≡ s → first_cell xs e.satellite e.code ≡ None
+    → IsFreeOf e.code listed (map (λ code. or_nothing (shown_by old epoch xs s code)) listed)
+row-free old epoch xs s listed e at none =
+    free-of (shown_by old epoch xs s) e.code listed (ap (observed_after (track_at old s e.code) e.code epoch) (subst (λ (n : ℕ). first_cell xs n e.code ≡ None) at none))
+
+pub shows-more : {old : List (Option Track)} {epoch : ℕ} {xs : List CellEntry} {s : ℕ} {listed : List Code} {tracks : List (Option Track)} {lines : RecordLinesView}
+    (after : List (Option Track)) (now : RecordLinesView) (e : CellEntry)
+    → e.satellite ≡ s → IsSatellite e.satellite → first_cell xs e.satellite e.code ≡ None → StepsOver epoch e listed tracks after lines now
+    → ShowsRow old epoch xs s listed tracks lines → ShowsRow old epoch (xs ++ e ∷ []) s listed after now
+shows-more {old} {epoch} {xs} {s} {listed} {tracks} {lines} after now e at he none step g =
     let o : Observed = observed_with e.cell (digits_since (band_of e.code) (track_at tracks e.satellite e.code) (epoch_cell epoch e.cell)) in
     let shown : (c : Code) → shown_by old epoch (xs ++ e ∷ []) s c ≡ cond (is_code e.code c) (Some o) (shown_by old epoch xs s c) =
     λ c. subst (λ (x : ℕ). shown_by old epoch (xs ++ e ∷ []) x c ≡ cond (is_code e.code c) (Some o) (shown_by old epoch xs x c)) at (shown-more old epoch xs tracks e he none g.taken c) in
     record {
-      taken = taken-more old epoch xs tracks after e he none track others g.taken;
-      row = put ∙ ap (with_code e.code o listed) g.row ∙ row-with (shown_by old epoch xs s) (shown_by old epoch (xs ++ e ∷ []) s) e.code o listed shown;
-      any = ap (λ (b : Bool). b || any) found ∙ ap (λ (b : Bool). list_any (is_code e.code) listed || b) g.any
-          ∙ sym (any-with (shown_by old epoch xs s) (shown_by old epoch (xs ++ e ∷ []) s) e.code o listed shown);
+      taken = taken-more old epoch xs tracks after e he none step.track step.others g.taken;
+      row = subst (λ (row : List Observed). HasOpenLine now row) (row-with (shown_by old epoch xs s) (shown_by old epoch (xs ++ e ∷ []) s) e.code o listed shown)
+          (step.row (map (λ code. or_nothing (shown_by old epoch xs s code)) listed) g.row (row-free old epoch xs s listed e at none));
     }
 
 -- ---- the cells of a satellite in a list, after earlier ones
 
-pub takes-begin : (epoch : ℕ) (earlier xs : List CellEntry) (begin s : ℕ) (listed : List Code) (first : List (Option Track)) (blank : List Observed) → begin ≤ length xs
-    → MayStep first earlier s epoch → TakesCells epoch earlier xs begin begin s listed first blank first blank false
-takes-begin epoch earlier xs begin s listed first blank l later =
+pub takes-begin : (epoch : ℕ) (earlier xs : List CellEntry) (begin s : ℕ) (listed : List Code) (first : List (Option Track)) (before : RecordLinesView) → begin ≤ length xs
+    → MayStep first earlier s epoch → TakesCells epoch earlier xs begin begin s listed first before first before
+takes-begin epoch earlier xs begin s listed first before l later =
     let none : earlier ≡ earlier ++ slice_range xs begin begin = sym (ap (λ (ys : List CellEntry). earlier ++ ys) (range-empty xs begin) ∙ append-nil earlier) in
     record {
       from = omega arith;
       within = l;
       same = λ k d a b. absurd (omega arith);
       later = subst (λ (ys : List CellEntry). MayStep first ys s epoch) none later;
-      shows = λ old any g. subst (λ (ys : List CellEntry). ShowsRow old epoch ys s listed first blank any) none g;
+      kept = record { text = refl; count = refl };
+      shows = λ old g. subst (λ (ys : List CellEntry). ShowsRow old epoch ys s listed first before) none g;
     }
 
 same-more : (xs : List CellEntry) (begin end s : ℕ) → ((k : ℕ) (d : CellEntry) → begin ≤ k → k < end → (get_or xs k d).satellite ≡ s) → ((d : CellEntry) → (get_or xs end d).satellite ≡ s)
@@ -98,32 +89,27 @@ same-more xs begin end s h at k d a b =
       | inr l ↦ let e : end ≡ k = omega arith in subst (λ (i : ℕ). (get_or xs i d).satellite ≡ s) e (at d)
     ]
 
-or-three : (a b c : Bool) → (a || (b || c)) ≡ ((b || a) || c)
-or-three true true c = refl
-or-three true false c = refl
-or-three false true c = refl
-or-three false false c = refl
-
-module _ (epoch : ℕ) (earlier xs : List CellEntry) (begin end s : ℕ) (listed : List Code) (first : List (Option Track)) (blank : List Observed) (tracks : List (Option Track)) (row : List Observed) (any : Bool)
-    (g : TakesCells epoch earlier xs begin end s listed first blank tracks row any) (hs : IsSatellite s) (l : end < length xs) (at : (d : CellEntry) → (get_or xs end d).satellite ≡ s) where
+module _ (epoch : ℕ) (earlier xs : List CellEntry) (begin end s : ℕ) (listed : List Code) (first : List (Option Track)) (before : RecordLinesView) (tracks : List (Option Track)) (lines : RecordLinesView)
+    (g : TakesCells epoch earlier xs begin end s listed first before tracks lines) (hs : IsSatellite s) (l : end < length xs) (at : (d : CellEntry) → (get_or xs end d).satellite ≡ s) where
   next-is : (earlier ++ slice_range xs begin end) ++ get_or xs end any_cell ∷ [] ≡ earlier ++ slice_range xs begin (end + 1)
   next-is =
       append_assoc earlier (slice_range xs begin end) (get_or xs end any_cell ∷ [])
       ∙ ap (λ (ys : List CellEntry). earlier ++ ys) (sym (range-more xs begin end any_cell g.from l))
 
-  pub takes-repeat : is_some (first_cell earlier s (get_or xs end any_cell).code) ≡ true → TakesCells epoch earlier xs begin (end + 1) s listed first blank tracks row any
+  pub takes-repeat : is_some (first_cell earlier s (get_or xs end any_cell).code) ≡ true → TakesCells epoch earlier xs begin (end + 1) s listed first before tracks lines
   takes-repeat there =
       let e : CellEntry = get_or xs end any_cell in
-      let before : List CellEntry = earlier ++ slice_range xs begin end in
+      let taken : List CellEntry = earlier ++ slice_range xs begin end in
       let he : IsSatellite e.satellite = subst IsSatellite (sym (at any_cell)) hs in
-      let here : is_some (first_cell before e.satellite e.code) ≡ true =
-      subst (λ (n : ℕ). is_some (first_cell before n e.code) ≡ true) (sym (at any_cell)) (some-before earlier (slice_range xs begin end) s e.code there) in
+      let here : is_some (first_cell taken e.satellite e.code) ≡ true =
+      subst (λ (n : ℕ). is_some (first_cell taken n e.code) ≡ true) (sym (at any_cell)) (some-before earlier (slice_range xs begin end) s e.code there) in
       record {
         from = omega (arith, g.from);
         within = omega arith;
         same = same-more xs begin end s g.same at;
-        later = subst (λ (ys : List CellEntry). MayStep tracks ys s epoch) next-is (may-same tracks before (before ++ e ∷ []) s epoch (λ c. cells-same before e he here s c hs) g.later);
-        shows = λ old b h. subst (λ (ys : List CellEntry). ShowsRow old epoch ys s listed tracks row (any || b)) next-is (shows-repeat e hs he here (g.shows old b h));
+        later = subst (λ (ys : List CellEntry). MayStep tracks ys s epoch) next-is (may-same tracks taken (taken ++ e ∷ []) s epoch (λ c. cells-same taken e he here s c hs) g.later);
+        kept = g.kept;
+        shows = λ old h. subst (λ (ys : List CellEntry). ShowsRow old epoch ys s listed tracks lines) next-is (shows-repeat e hs he here (g.shows old h));
       }
 
   -- no earlier cell and none of this run has the satellite and code of the next one
@@ -135,32 +121,38 @@ module _ (epoch : ℕ) (earlier xs : List CellEntry) (begin end s : ℕ) (listed
       subst (λ (n : ℕ). first_cell earlier n e.code ≡ None) (sym (at any_cell)) (none-some (first_cell earlier s e.code) free) in
       none-both earlier (slice_range xs begin end) e.satellite e.code none (range-new xs begin end any_cell rises one l)
 
-  pub takes-more : (after : List (Option Track)) (now : List Observed) (is_listed : Bool)
-      → first_cell (earlier ++ slice_range xs begin end) (get_or xs end any_cell).satellite (get_or xs end any_cell).code ≡ None
-      → StepsOver epoch (get_or xs end any_cell) listed tracks after row now is_listed → TakesCells epoch earlier xs begin (end + 1) s listed first blank after now (any || is_listed)
-  takes-more after now is_listed none step =
+  -- so a line is open in which its code shows nothing
+  pub takes-open : first_cell (earlier ++ slice_range xs begin end) (get_or xs end any_cell).satellite (get_or xs end any_cell).code ≡ None
+      → ShowsSome epoch earlier s listed first before → HasFreeOf lines (get_or xs end any_cell).code listed
+  takes-open none some =
       let e : CellEntry = get_or xs end any_cell in
-      let before : List CellEntry = earlier ++ slice_range xs begin end in
+      let taken : List CellEntry = earlier ++ slice_range xs begin end in
+      record {
+        row = map (λ code. or_nothing (shown_by some.first epoch taken s code)) listed;
+        open_line = (g.shows some.first some.shows).row;
+        free = row-free some.first epoch taken s listed e (at any_cell) none;
+      }
+
+  pub takes-more : (after : List (Option Track)) (now : RecordLinesView)
+      → first_cell (earlier ++ slice_range xs begin end) (get_or xs end any_cell).satellite (get_or xs end any_cell).code ≡ None
+      → StepsOver epoch (get_or xs end any_cell) listed tracks after lines now → TakesCells epoch earlier xs begin (end + 1) s listed first before after now
+  takes-more after now none step =
+      let e : CellEntry = get_or xs end any_cell in
+      let taken : List CellEntry = earlier ++ slice_range xs begin end in
       let he : IsSatellite e.satellite = subst IsSatellite (sym (at any_cell)) hs in
       record {
         from = omega (arith, g.from);
         within = omega arith;
         same = same-more xs begin end s g.same at;
-        later = subst (λ (ys : List CellEntry). MayStep after ys s epoch) next-is (may-more tracks after before s epoch e step.others he hs g.later);
-        shows = λ old b h. subst (λ (ys : List CellEntry). ShowsRow old epoch ys s listed after now ((any || is_listed) || b)) next-is
-            (subst (λ (found : Bool). ShowsRow old epoch (before ++ e ∷ []) s listed after now found) (or-three is_listed any b)
-            (shows-more after now is_listed e (at any_cell) he none step.track step.others step.row step.found (g.shows old b h)));
+        later = subst (λ (ys : List CellEntry). MayStep after ys s epoch) next-is (may-more tracks after taken s epoch e step.others he hs g.later);
+        kept = record { text = step.kept.text ∙ g.kept.text; count = step.kept.count ∙ g.kept.count };
+        shows = λ old h. subst (λ (ys : List CellEntry). ShowsRow old epoch ys s listed after now) next-is (shows-more after now e (at any_cell) he none step (g.shows old h));
       }
 
 -- nothing is taken yet of a satellite
-pub shows-nothing : (epoch s : ℕ) (listed : List Code) (tracks : List (Option Track)) (row : List Observed) → row ≡ map (λ (code : Code). or_nothing None) listed → ShowsRow tracks epoch [] s listed tracks row false
-shows-nothing epoch s listed tracks row blank = shows-begin tracks epoch [] s listed tracks row (λ t c hs. refl) (λ c. refl) blank
-
-pub or-turn : (a b : Bool) → (b || (a || false)) ≡ (a || b)
-or-turn true true = refl
-or-turn true false = refl
-or-turn false true = refl
-or-turn false false = refl
+pub shows-nothing : (epoch s : ℕ) (listed : List Code) (tracks : List (Option Track)) (lines : RecordLinesView) → HasOpenLine lines (map (λ (code : Code). or_nothing None) listed)
+    → ShowsRow tracks epoch [] s listed tracks lines
+shows-nothing epoch s listed tracks lines blank = record { taken = λ t c hs. refl; row = blank }
 
 -- ---- the rows of an epoch, satellite by satellite
 
@@ -220,8 +212,8 @@ module _ (before : List (Option Track)) (epoch : ℕ) (ms : List CellEntry) (i :
   may-begin h c none = subst (λ (o : Option Track). IsLater o epoch) (sym (g.todo n c hn (omega arith))) (h c)
 
   -- its cells were taken
-  module _ (end last : ℕ) (listed : List Code) (after : List (Option Track)) (row : List Observed) (any : Bool) (from : i ≤ end) (p : IsPlaceOf (n + 1) ms end) (more : j ≤ last) (q : IsPlaceOf (n + 1) ls last)
-      (shows : ShowsRow tracks epoch (slice_range ms i end ++ slice_range ls j last) n listed after row any) where
+  module _ (end last : ℕ) (listed : List Code) (after : List (Option Track)) (lines : RecordLinesView) (from : i ≤ end) (p : IsPlaceOf (n + 1) ms end) (more : j ≤ last) (q : IsPlaceOf (n + 1) ls last)
+      (shows : ShowsRow tracks epoch (slice_range ms i end ++ slice_range ls j last) n listed after lines) where
     own : (c : Code) → first_cell (slice_range ms i end ++ slice_range ls j last) n c ≡ first_cell (ms ++ ls) n c
     own c =
         first-append (slice_range ms i end) (slice_range ls j last) n c
@@ -258,11 +250,10 @@ module _ (before : List (Option Track)) (epoch : ℕ) (ms : List CellEntry) (i :
         ap (λ (o : Option Track). observed_after o c epoch (first_cell (slice_range ms i end ++ slice_range ls j last) n c)) (g.todo n c hn (omega arith))
         ∙ ap (observed_after (track_at before n c) c epoch) (own c)
 
-    pub fills-row : row ≡ map (λ code. or_nothing (shown_by before epoch (ms ++ ls) n code)) listed
-    fills-row = shows.row ∙ observed-same (shown_by tracks epoch (slice_range ms i end ++ slice_range ls j last) n) (shown_by before epoch (ms ++ ls) n) listed shown-whole
-
-    pub fills-any : any ≡ list_any (λ code. is_some (shown_by before epoch (ms ++ ls) n code)) listed
-    fills-any = shows.any ∙ any-same (shown_by tracks epoch (slice_range ms i end ++ slice_range ls j last) n) (shown_by before epoch (ms ++ ls) n) listed shown-whole
+    pub fills-row : HasOpenLine lines (map (λ code. or_nothing (shown_by before epoch (ms ++ ls) n code)) listed)
+    fills-row =
+        subst (λ (row : List Observed). HasOpenLine lines row)
+        (observed-same (shown_by tracks epoch (slice_range ms i end ++ slice_range ls j last) n) (shown_by before epoch (ms ++ ls) n) listed shown-whole) shows.row
 
 -- the rows up to this satellite, as they are before the next one
 pub rows-next : (f : ℕ → Code → Option Observed) (listed : List Code) (s : ℕ) (rows more : List SatelliteRow) → 1 ≤ s → rows ≡ rows_to f listed (s - 1) → more ≡ row_if_any f listed s

@@ -1,39 +1,30 @@
 //! The rows of a closed epoch, made from its cells.
 //!
 //! A `Cell` is what a message says of a satellite and code. An `Observed` is what the file shows of it:
-//! the phase with its rolls, and the slip. A row has the `Observed` of each listed code of a satellite.
+//! the phase with its rolls, and the slip. A row has the `Observed` of each listed code of a satellite;
+//! its line is written code by code, each straight from its cell.
 //!
 //! The satellites 1 to 32 are gone over with a place in each list of cells, which rises by
 //! satellite and code. The cells of the MSM come first, then the cells of the 1004 whose code no
 //! cell of the MSM has. Each of them takes a step of the tracks, also if its code is not listed,
 //! since a later phase is compared with it.
 
-ghost use Rattle.std.specs.Prelude.{◌≡◌, ◌≢◌, ℕ, ◌+◌, ◌<◌, ◌≤◌, List, [], ◌∷◌, ◌++◌, map, length, Some, All, AllPairs, slice_range, is_some, not, IsTrue, None, OnOk};
-ghost use Rattle.std.specs.List.{list_any};
+ghost use Rattle.std.specs.Prelude.{◌≡◌, ◌≢◌, ℕ, ◌+◌, ◌<◌, ◌≤◌, List, [], ◌∷◌, ◌++◌, map, length, Some, All, AllPairs, slice_range, is_some, IsTrue, None, OnOk};
 ghost use Rattle.rtk_obs.specs.declared.cell.CellEntry.{CellEntry};
 ghost use Rattle.rtk_obs.specs.Cell.{IsInRange, IsSatellite};
 ghost use Rattle.rtk_obs.specs.Tracks.{IsLater, track_at};
 ghost use Rattle.rtk_collect.specs.EpochSet.{EpochSetView};
 ghost use Rattle.rtk_rinex.specs.Header.{IsCodeList};
-ghost use Rattle.rtk_rinex.specs.RecordLines.{HoldsLines};
+ghost use Rattle.rtk_rinex.specs.declared.epoch_table.Observed.{Observed};
+ghost use Rattle.rtk_rinex.specs.RecordLines.{HasOpenLine, HoldsLines, KeepsLines};
 ghost use Rattle.rtk_convert.specs.Rows.{first_cell, rolled_or_none, observed_with, or_nothing, table_of};
 ghost use Rattle.rtk_convert.specs.LastPhases.{HasLastPhases};
-ghost use Rattle.rtk_convert.specs.Steps.ShownCells.{AllBelow, MayStep, IsPlaceOf, RiseFrom, HasCellsFrom, TellsSatellite, AreCellsTo, ShowsRow, StepsOver, TakesCells, ArePlaces, is_code, with_code};
+ghost use Rattle.rtk_convert.specs.Steps.ShownCells.{AllBelow, MayStep, IsPlaceOf, RiseFrom, HasCellsFrom, TellsSatellite, AreCellsTo, ShowsRow, ShowsSome, StepsOver, TakesCells, ArePlaces, HasFreeOf, IsFreeOf, with_code};
 
 use rtk_collect::EpochSet;
 use rtk_obs::{Cell, CellEntry, Code, Digits, GpsMs, Tracks, rolled};
 use rtk_rinex::{Observed, RecordLines};
 use std::alloc::AllocError;
-
-// What a code shows if it has no cell: the value of `Observed::default()`. The room for a row could
-// begin with any value, since `blank` writes over it.
-const NOTHING: Observed = Observed {
-    range_mm: None,
-    phase_millicycles: None,
-    strength_millidbhz: None,
-    slip: false,
-    half: false,
-};
 
 fn rolled_or_none(phase: Option<i64>, rolls: i64) -> Option<i64>
     ensures { result ≡ rolled_or_none phase rolls }
@@ -85,44 +76,45 @@ struct CellPlaces {
     legacy: usize,
 }
 
-// Writes what a code shows at its place among the listed codes, and says whether it is listed.
+// Writes what a code shows at its place in the open line, if it is listed.
+#[inline(always)]
 fn put_listed(
     listed: &[Code],
     places: &[u8; 16],
     code: Code,
-    shown: Observed,
-    row: &mut [Observed],
-) -> bool
-    requires width { length row.old ≡ length listed.now }
+    shown: &Observed,
+    lines: &mut RecordLines,
+)
     requires places { ArePlaces listed.now places.now }
-    ensures row { row.new ≡ with_code code shown listed.now row.old }
-    ensures listed { result ≡ list_any (is_code code) listed.now }
+    requires free { HasFreeOf lines.old code listed.now }
+    ensures open { (row : List Observed) → HasOpenLine lines.old row → IsFreeOf code listed.now row
+        → HasOpenLine lines.new (with_code code shown.now listed.now row) }
+    ensures lines { KeepsLines lines.old lines.new }
 {
     let place = usize::from(places[code.place()]);
-    if place >= listed.len() {
-        return false;
+    if place < listed.len() {
+        lines.put_code(place, shown);
     }
-    row[place] = shown;
-    true
 }
 
-// Takes the first cell of a satellite and code, and says whether its code is listed.
+// Takes the first cell of a satellite and code.
+#[inline(always)]
 fn show_entry(
     tracks: &mut Tracks,
     form: &RowForm,
     entry: &CellEntry,
     listed: &[Code],
-    row: &mut [Observed],
-) -> bool
+    lines: &mut RecordLines,
+)
     requires range { IsInRange entry.now }
     requires later { IsLater (track_at tracks.old entry.now.satellite entry.now.code) form.now.epoch }
-    requires width { length row.old ≡ length listed.now }
     requires places { ArePlaces listed.now form.now.places }
-    ensures { StepsOver form.now.epoch entry.now listed.now tracks.old tracks.new row.old row.new result }
+    requires free { HasFreeOf lines.old entry.now.code listed.now }
+    ensures { StepsOver form.now.epoch entry.now listed.now tracks.old tracks.new lines.old lines.new }
 {
     let digits = tracks.step(entry.satellite, entry.code, form.epoch, &entry.cell);
     let shown = observed(&entry.cell, digits);
-    put_listed(listed, &form.places, entry.code, shown, row)
+    put_listed(listed, &form.places, entry.code, &shown, lines);
 }
 
 // Has one of these cells, all of one satellite, this code?
@@ -166,37 +158,9 @@ fn is_absent(
     true
 }
 
-// Writes that a code shows nothing.
-fn clear(shown: &mut Observed)
-    ensures { shown.new ≡ or_nothing None }
-{
-    shown.range_mm = None;
-    shown.phase_millicycles = None;
-    shown.strength_millidbhz = None;
-    shown.slip = false;
-    shown.half = false;
-}
-
-// Writes that no code shows anything, field by field: a file lists few codes, and to fill their bytes
-// would take a call.
-fn blank(row: &mut [Observed])
-    ensures { (listed : List Code) → length row.old ≡ length listed → row.new ≡ map (λ code. or_nothing None) listed }
-{
-    for shown in row.iter_mut() {
-        clear(shown);
-    }
-}
-
-// How far the cells of a satellite reach in a list, and whether one that was shown has a listed code.
-#[derive(Clone, Copy)]
-struct Reach {
-    end: usize,
-    has_listed: bool,
-}
-
 // Takes the cells of a satellite from its place on, but for those whose code an earlier one of its
-// cells has; and writes what they show into its row. It stands where it is called: for the first list,
-// to which no cell is earlier, much of it falls away.
+// cells has; writes what they show into its line, and returns how far they reach. It stands where it is
+// called: for the first list, to which no cell is earlier, much of it falls away.
 #[inline(always)]
 fn show_cells(
     tracks: &mut Tracks,
@@ -206,42 +170,34 @@ fn show_cells(
     entries: &[CellEntry],
     begin: usize,
     listed: &[Code],
-    row: &mut [Observed],
-) -> Reach
+    lines: &mut RecordLines,
+) -> usize
     requires satellite { IsSatellite satellite }
     requires earlier { All (λ e. e.satellite ≡ satellite) earlier.now }
     requires cells { HasCellsFrom satellite entries.now begin }
     requires later { MayStep tracks.old earlier.now satellite form.now.epoch }
-    requires width { length row.old ≡ length listed.now }
     requires places { ArePlaces listed.now form.now.places }
-    ensures takes { TakesCells form.now.epoch earlier.now entries.now begin result.end satellite listed.now
-        tracks.old row.old tracks.new row.new result.has_listed }
-    ensures next { IsPlaceOf (satellite + 1) entries.now result.end }
+    requires shows { ShowsSome form.now.epoch earlier.now satellite listed.now tracks.old lines.old }
+    ensures takes { TakesCells form.now.epoch earlier.now entries.now begin result satellite listed.now
+        tracks.old lines.old tracks.new lines.new }
+    ensures next { IsPlaceOf (satellite + 1) entries.now result }
 {
-    let mut has_listed = false;
     let mut end = begin;
     'cells: while has_satellite(entries, end, satellite) {
         if has_code(earlier, entries[end].code) {
             end += 1;
             continue;
         }
-        has_listed |= show_entry(tracks, form, &entries[end], listed, row);
+        show_entry(tracks, form, &entries[end], listed, lines);
         end += 1;
     }
-    Reach { end, has_listed }
-}
-
-// How far the cells of a satellite reach in two lists, and whether one that was shown has a listed code.
-#[derive(Clone, Copy)]
-struct FilledRow {
-    msm_end: usize,
-    legacy_end: usize,
-    has_listed: bool,
+    end
 }
 
 // Takes the cells of a satellite, which has its place in two lists of cells: first those of an MSM,
-// then those of a 1004 whose code none of an MSM has. Writes its row.
-fn fill_row(
+// then those of a 1004 whose code none of an MSM has. Writes its line, which is open, and returns how
+// far the cells reach.
+fn fill_line(
     tracks: &mut Tracks,
     form: &RowForm,
     satellite: u8,
@@ -249,28 +205,38 @@ fn fill_row(
     legacy: &[CellEntry],
     at: CellPlaces,
     listed: &[Code],
-    row: &mut [Observed],
-) -> FilledRow
+    lines: &mut RecordLines,
+) -> CellPlaces
     requires satellite { IsSatellite satellite }
     requires msm { HasCellsFrom satellite msm.now at.msm }
     requires legacy { HasCellsFrom satellite legacy.now at.legacy }
     requires later { MayStep tracks.old [] satellite form.now.epoch }
-    requires width { length row.old ≡ length listed.now }
     requires places { ArePlaces listed.now form.now.places }
+    requires open { HasOpenLine lines.old (map (λ code. or_nothing None) listed.now) }
     ensures shows { ShowsRow tracks.old form.now.epoch
-        (slice_range msm.now at.msm result.msm_end ++ slice_range legacy.now at.legacy result.legacy_end)
-        satellite listed.now tracks.new row.new result.has_listed }
-    ensures msm { AreCellsTo satellite msm.now at.msm result.msm_end }
-    ensures legacy { AreCellsTo satellite legacy.now at.legacy result.legacy_end }
+        (slice_range msm.now at.msm result.msm ++ slice_range legacy.now at.legacy result.legacy)
+        satellite listed.now tracks.new lines.new }
+    ensures lines { KeepsLines lines.old lines.new }
+    ensures msm { AreCellsTo satellite msm.now at.msm result.msm }
+    ensures legacy { AreCellsTo satellite legacy.now at.legacy result.legacy }
 {
-    blank(row);
-    let first = show_cells(tracks, form, satellite, &msm[..0], msm, at.msm, listed, row);
-    let own = &msm[at.msm..first.end];
-    let second = show_cells(tracks, form, satellite, own, legacy, at.legacy, listed, row);
-    FilledRow {
-        msm_end: first.end,
-        legacy_end: second.end,
-        has_listed: first.has_listed | second.has_listed,
+    let msm_end = show_cells(
+        tracks,
+        form,
+        satellite,
+        &msm[..0],
+        msm,
+        at.msm,
+        listed,
+        lines,
+    );
+    let own = &msm[at.msm..msm_end];
+    let legacy_end = show_cells(
+        tracks, form, satellite, own, legacy, at.legacy, listed, lines,
+    );
+    CellPlaces {
+        msm: msm_end,
+        legacy: legacy_end,
     }
 }
 
@@ -302,8 +268,6 @@ pub(crate) fn push_rows(
         epoch,
         places: places_of(listed),
     };
-    let mut room = [NOTHING; 16];
-    let row = &mut room[..listed.len()];
     let mut msm_at = 0;
     let mut legacy_at = 0;
     'satellites: for satellite in 1..33 {
@@ -314,14 +278,13 @@ pub(crate) fn push_rows(
             msm: msm_at,
             legacy: legacy_at,
         };
-        let filled = fill_row(tracks, &form, satellite, msm, legacy, at, listed, row);
-        if filled.has_listed {
-            if let Err(_) = lines.push_row(satellite, row) {
-                return Err(AllocError);
-            }
+        if let Err(_) = lines.open_line(listed.len()) {
+            return Err(AllocError);
         }
-        msm_at = filled.msm_end;
-        legacy_at = filled.legacy_end;
+        let filled = fill_line(tracks, &form, satellite, msm, legacy, at, listed, lines);
+        lines.close_line(satellite);
+        msm_at = filled.msm;
+        legacy_at = filled.legacy;
     }
     Ok(())
 }

@@ -111,6 +111,7 @@ impl Tracks {
     /// The digits of a cell of a satellite and code, whose phase is the last one from then on.
     ///
     /// A cell without a phase has neither slip nor half-cycle mark nor rolls, and changes nothing.
+    #[inline(always)]
     pub fn step(&mut self, satellite: u8, code: Code, epoch: GpsMs, cell: &Cell) -> Digits
         requires satellite { IsSatellite satellite }
         requires later { IsLater (track_at self.old satellite code) epoch }

@@ -1,18 +1,19 @@
 -- The text of a record that is written satellite by satellite.
-use Rattle.std.proofs.Common.{◌≡◌, ℕ, zero, suc, ◌+◌, ◌-◌, ◌<◌, ◌≤◌, [], ◌∷◌, ◌++◌, List, length, replicate, take, drop, get_or, ap, arith, refl, sym, ◌∙◌, length-append, append_assoc, true, false, flat_map}
-use Rattle.std.specs.Prelude.{max, if◌then◌else◌}
-use Rattle.std.specs.List.{filter}
+use Rattle.std.proofs.Common.{◌≡◌, ℕ, zero, suc, ◌+◌, ◌-◌, ◌*◌, ◌<◌, ◌≤◌, [], ◌∷◌, ◌++◌, List, length, replicate, take, drop, set, get_or, ap, arith, refl, sym, ◌∙◌, length-append, append_assoc, true, false, Bool, ◌||◌, flat_map}
+use Rattle.std.specs.Prelude.{max}
+use Rattle.std.specs.List.{filter, list_any}
 use Rattle.std.proofs.lemmas.Grind.{take_at_read, flat_map-append}
-use Rattle.std.proofs.lemmas.List.{append-nil, take_at, drop_at, drop-replicate, drop-take, length-take, length-drop, replicate-append-replicate, take-append-drop, take-append-le}
+use Rattle.std.proofs.lemmas.List.{append-nil, drop_at, drop-drop, drop-replicate, drop-take, length-take, length-drop, length-set, length-replicate, replicate-append-replicate, take-append-drop, take-append-le}
 use Rattle.std.proofs.lemmas.List.Elements.{filter-append}
 use Rattle.std.proofs.lemmas.List.Sums.{length-filter, count_by-le-length}
-use Rattle.std.proofs.Math.Seq.{take-append-add, drop-append-add}
+use Rattle.std.proofs.Math.Seq.{take-append-add, drop-append-add, get_or-append_seam, set-append_seam}
 use Rattle.rtk_obs.specs.declared.time.Civil.{Civil}
+use Rattle.rtk_rinex.specs.declared.epoch_table.Observed.{Observed}
 use Rattle.rtk_rinex.specs.declared.epoch_table.SatelliteRow.{SatelliteRow}
-use Rattle.rtk_rinex.specs.Record.{has_line, satellite_line, epoch_line, lines_of}
-use Rattle.rtk_rinex.specs.RecordLines.{RecordLinesView, line_if_any, HoldsLines}
+use Rattle.rtk_rinex.specs.Record.{has_line, has_observation, observations, satellite_line, epoch_line, lines_of}
+use Rattle.rtk_rinex.specs.RecordLines.{RecordLinesView, HasOpenLine, HoldsLines, IsFreeIn, KeepsLines, no_observation}
 use Rattle.rtk_rinex.proofs.RecordLemmas.{lines_of-none, lines_of-some}
-use Rattle.rtk_rinex.proofs.WrittenLemmas.{lines_of_rows, one-line, solid-length, no-length}
+use Rattle.rtk_rinex.proofs.WrittenLemmas.{lines_of_rows, over-front, code-put, code-blank, code-none, any-put, codes-blank, none-written, columns-length}
 
 -- ---- blanks after a text
 
@@ -21,16 +22,12 @@ front-blanks : (text : List ℕ) (len : ℕ) → drop len text ≡ replicate (le
 front-blanks text len blank = ap (λ (xs : List ℕ). take len text ++ xs) (sym blank) ∙ take-append-drop len text
 
 -- after a later place too
-pub blank-later : (text : List ℕ) (len at : ℕ) → drop len text ≡ replicate (length text - len) 32 → len ≤ at → at ≤ length text → text ≡ take at text ++ replicate (length text - at) 32
-blank-later text len at blank later inside =
-    let m = length text - len in
+pub blank-later : (text : List ℕ) (len at : ℕ) → drop len text ≡ replicate (length text - len) 32 → len ≤ at → drop at text ≡ replicate (length text - at) 32
+blank-later text len at blank later =
     let j = at - len in
-    let place : length (take len text) + j ≡ at = omega (arith, length-take len text) in
-    let rest : m - j ≡ length text - at = omega arith in
-    let after : drop at text ≡ replicate (length text - at) 32 =
-    ap (drop at) (sym (front-blanks text len blank)) ∙ ap (λ (n : ℕ). drop n (take len text ++ replicate m 32)) (sym place)
-    ∙ drop-append-add (take len text) (replicate m 32) j ∙ drop-replicate {X = ℕ} j m 32 ∙ ap (λ (n : ℕ). replicate n 32) rest in
-    sym (ap (λ (xs : List ℕ). take at text ++ xs) (sym after) ∙ take-append-drop at text)
+    let place : len + j ≡ at = omega arith in
+    let rest : length text - len - j ≡ length text - at = omega arith in
+    ap (λ (n : ℕ). drop n text) (sym place) ∙ sym (drop-drop j len text) ∙ ap (drop j) blank ∙ drop-replicate {X = ℕ} j (length text - len) 32 ∙ ap (λ (n : ℕ). replicate n 32) rest
 
 -- in a longer text too
 pub blank-longer : (text more : List ℕ) (len : ℕ) → drop len text ≡ replicate (length text - len) 32 → len ≤ length text → more ≡ text ++ replicate (length more - length text) 32
@@ -44,79 +41,158 @@ blank-longer text more len blank inside longer =
     longer ∙ ap (λ (xs : List ℕ). xs ++ replicate k 32) (sym (front-blanks text len blank)) ∙ simp append_assoc refl in
     ap (drop len) parts ∙ drop_at (take len text) (replicate m 32 ++ replicate k 32) len size ∙ replicate-append-replicate {A = ℕ} m k 32 ∙ ap (λ (n : ℕ). replicate n 32) sum
 
-pub blank-there : (text more : List ℕ) (len at : ℕ) → drop len text ≡ replicate (length text - len) 32 → len ≤ length text → more ≡ text ++ replicate (length more - length text) 32
-    → len ≤ at → at ≤ length more → more ≡ take at more ++ replicate (length more - at) 32
-blank-there text more len at blank inside longer later room = blank-later more len at (blank-longer text more len blank inside longer) later room
+pub blanks-after : (text more : List ℕ) (k : ℕ) → more ≡ text ++ replicate k 32 → more ≡ text ++ replicate (length more - length text) 32
+blanks-after text more k longer =
+    let same : k ≡ length more - length text = omega (arith, ap length longer, length-append text (replicate {A = ℕ} k 32), length-replicate {A = ℕ} k 32) in
+    longer ∙ ap (λ (n : ℕ). text ++ replicate n 32) same
+
+-- a longer text has the same front
+pub front-longer : (text more : List ℕ) (len : ℕ) → len ≤ length text → more ≡ text ++ replicate (length more - length text) 32 → take len more ≡ take len text
+front-longer text more len inside longer = ap (take len) longer ∙ take-append-le len text (replicate (length more - length text) 32) inside
+
+pub longer-than : (text more : List ℕ) → more ≡ text ++ replicate (length more - length text) 32 → length text ≤ length more
+longer-than text more longer = omega (arith, ap length longer, length-append text (replicate {A = ℕ} (length more - length text) 32))
+
+-- ---- the line that is open
+
+-- an open line whose codes show nothing
+pub open-line : (l : RecordLinesView) (codes : ℕ) → codes ≤ 16 → 4 + 48 * codes ≤ length l.rest → l.rest ≡ replicate (length l.rest) 32 → l.is_written ≡ false
+    → HasOpenLine l (replicate codes no_observation)
+open-line l codes few room blank none =
+    let m = length l.rest in
+    let size : length (replicate codes no_observation) ≡ codes = length-replicate codes no_observation in
+    let sum : 3 + (48 * codes + (m - (3 + 48 * codes))) ≡ m = omega arith in
+    record {
+      few = rw size few;
+      room = rw size room;
+      columns = rw (size, codes-blank codes, replicate-append-replicate {A = ℕ} (48 * codes) (m - (3 + 48 * codes)) 32, replicate-append-replicate {A = ℕ} 3 (48 * codes + (m - (3 + 48 * codes))) 32, sum) blank;
+      written = none ∙ sym (none-written codes);
+    }
+
+-- the blanks where the columns of a code go
+pub free-blank : (l : RecordLinesView) (os : List Observed) (k : ℕ) → HasOpenLine l os → IsFreeIn os k → take 48 (drop (3 + 48 * k) l.rest) ≡ replicate 48 32
+free-blank l os k h f =
+    let rest : List ℕ = replicate (length l.rest - (3 + 48 * length os)) 32 in
+    ap (λ (xs : List ℕ). take 48 (drop (3 + 48 * k) xs)) h.columns ∙ ap (take 48) (drop-append-add (replicate 3 32) (flat_map observations os ++ rest) (48 * k))
+    ∙ code-blank os k no_observation rest f.inside (f.free no_observation)
+
+-- the columns of a code are written in a text
+pub put-at : (text now g : List ℕ) (at place n : ℕ) → place ≡ at + n → at ≤ length text → now ≡ take place text ++ (g ++ drop 48 (drop place text))
+    → now ≡ take at text ++ (take n (drop at text) ++ (g ++ drop 48 (drop n (drop at text))))
+put-at text now g at place n e inside is =
+    let size : place ≡ length (take at text) + n = omega (arith, length-take at text) in
+    is ∙ ap (λ (xs : List ℕ). take place xs ++ (g ++ drop 48 (drop place xs))) (sym (take-append-drop at text)) ∙ over-front (take at text) (drop at text) g place n size
+
+-- what the line shows after one more code
+pub open-put : (old new : RecordLinesView) (os : List Observed) (k : ℕ) (o : Observed) → HasOpenLine old os → IsFreeIn os k → has_observation o ≡ true
+    → new.rest ≡ take (3 + 48 * k) old.rest ++ (observations o ++ drop 48 (drop (3 + 48 * k) old.rest)) → new.is_written ≡ true → HasOpenLine new (set os k o)
+open-put old new os k o h f shown is written =
+    let size : length (set os k o) ≡ length os = length-set os k o in
+    let tail : List ℕ = replicate (length old.rest - (3 + 48 * length os)) 32 in
+    let whole : new.rest ≡ replicate 3 32 ++ (flat_map observations (set os k o) ++ tail) =
+    is ∙ ap (λ (xs : List ℕ). take (3 + 48 * k) xs ++ (observations o ++ drop 48 (drop (3 + 48 * k) xs))) h.columns
+    ∙ over-front (replicate 3 32) (flat_map observations os ++ tail) (observations o) (3 + 48 * k) (48 * k) refl
+    ∙ ap (λ (xs : List ℕ). replicate 3 32 ++ xs) (code-put os k o tail f.inside) in
+    let long : length new.rest ≡ length old.rest = columns-length new.rest (set os k o) (length old.rest - (3 + 48 * length os)) whole ∙ omega (arith, size, h.room) in
+    record {
+      few = rw size h.few;
+      room = rw (size, long) h.room;
+      columns = rw (size, long) whole;
+      written = written ∙ sym (any-put os k o no_observation f.inside (f.free no_observation) ∙ ap (λ (b : Bool). b || list_any has_observation os) shown);
+    }
+
+-- or if the code shows nothing
+pub open-none : (l : RecordLinesView) (os : List Observed) (k : ℕ) (o : Observed) → HasOpenLine l os → IsFreeIn os k → has_observation o ≡ false → HasOpenLine l (set os k o)
+open-none l os k o h f none =
+    let size : length (set os k o) ≡ length os = length-set os k o in
+    record {
+      few = rw size h.few;
+      room = rw size h.room;
+      columns = rw (size, code-none os k o no_observation (f.free no_observation) none f.inside) h.columns;
+      written = h.written ∙ sym (any-put os k o no_observation f.inside (f.free no_observation) ∙ ap (λ (b : Bool). b || list_any has_observation os) none);
+    }
+
+-- the next of codes that are written in their order
+pub next-free : (os : List Observed) (i : ℕ) → i < length os → IsFreeIn (take i os ++ replicate (length os - i) no_observation) i
+next-free os i lt =
+    let m = length os - (i + 1) in
+    let more : length os - i ≡ suc m = omega arith in
+    let size : length (take i os) ≡ i = omega (arith, length-take i os) in
+    let at = λ (d : Observed). rw size at (get_or-append_seam (take i os) no_observation (replicate m no_observation) d) in
+    record {
+      inside = rw more (omega (arith, length-append (take i os) (no_observation ∷ replicate m no_observation), size));
+      free = λ d. rw (more, at d) refl;
+    }
+
+pub next-code : (os : List Observed) (i : ℕ) (o d : Observed) → i < length os → o ≡ get_or os i d
+    → set (take i os ++ replicate (length os - i) no_observation) i o ≡ take (i + 1) os ++ replicate (length os - (i + 1)) no_observation
+next-code os i o d lt e =
+    let m = length os - (i + 1) in
+    let more : length os - i ≡ suc m = omega arith in
+    let size : length (take i os) ≡ i = omega (arith, length-take i os) in
+    let seam : set (take i os ++ no_observation ∷ replicate m no_observation) i o ≡ take i os ++ o ∷ replicate m no_observation =
+    rw size at (set-append_seam (take i os) no_observation (replicate m no_observation) o) in
+    rw more (seam ∙ (rw ((take_at_read os i d lt).1, ← e) (sym (append_assoc (take i os) (o ∷ []) (replicate m no_observation)))))
 
 -- ---- the line of one more satellite
 
+pub kept-lines : (old new : RecordLinesView) (rows : List SatelliteRow) → KeepsLines old new → HoldsLines old rows → HoldsLines new rows
+kept-lines old new rows k h = record { lines = ap (drop 36) k.text ∙ h.lines; count = k.count ∙ h.count }
+
 -- the lines before the place of the next one
-lines-before : (text more : List ℕ) (len at count : ℕ) → len ≤ length text → (count ≡ 0 → len ≡ 0) → (0 < count → 36 ≤ len) → more ≡ text ++ replicate (length more - length text) 32
-    → at ≡ max len 36 → drop 36 (take at more) ≡ drop 36 (take len text)
-lines-before text more len at zero inside none some longer e =
+pub lines-before : (text : List ℕ) (len at count : ℕ) → (count ≡ 0 → len ≡ 0) → (0 < count → 36 ≤ len) → at ≡ max len 36 → drop 36 (take at text) ≡ drop 36 (take len text)
+lines-before text len at zero none some e =
     let first : len ≡ 0 = none refl in
     let place : at ≡ 36 = omega (arith, e, first) in
-    rw (place, first) (drop-take 36 0 more)
-lines-before text more len at (suc count) inside none some longer e =
+    rw (place, first) (drop-take 36 0 text)
+lines-before text len at (suc count) none some e =
     let place : at ≡ len = omega (arith, e, some (omega arith)) in
-    rw place (ap (λ (xs : List ℕ). drop 36 (take len xs)) longer ∙ ap (drop 36) (take-append-le len text (replicate (length more - length text) 32) inside))
+    rw place refl
 
-lines-and : (rows : List SatelliteRow) (r : SatelliteRow) → lines_of_rows (rows ++ r ∷ []) ≡ lines_of_rows rows ++ line_if_any r
-lines-and rows r =
-    ap (λ (rs : List SatelliteRow). flat_map satellite_line rs) (filter-append has_line rows (r ∷ []))
-    ∙ flat_map-append satellite_line (filter has_line rows) (if has_line r then r ∷ [] else [])
-    ∙ ap (λ (t : List ℕ). lines_of_rows rows ++ t) (one-line r (has_line r))
+filter-some : (rows : List SatelliteRow) (r : SatelliteRow) → has_line r ≡ true → filter has_line (rows ++ r ∷ []) ≡ filter has_line rows ++ r ∷ []
+filter-some rows r has = filter-append has_line rows (r ∷ []) ∙ rw has refl
 
--- a part from a place that lies in the front
-drop-front : (xs ys : List ℕ) (n : ℕ) → n ≤ length xs → drop n (xs ++ ys) ≡ drop n xs ++ ys
-drop-front xs ys n few =
-    let size : length (take n xs) ≡ n = omega (arith, length-take n xs) in
-    ap (λ (zs : List ℕ). drop n (zs ++ ys)) (sym (take-append-drop n xs)) ∙ ap (drop n) (simp append_assoc refl) ∙ drop_at (take n xs) (drop n xs ++ ys) n size
+filter-none : (rows : List SatelliteRow) (r : SatelliteRow) → has_line r ≡ false → filter has_line (rows ++ r ∷ []) ≡ filter has_line rows
+filter-none rows r none = filter-append has_line rows (r ∷ []) ∙ (rw none (append-nil (filter has_line rows)))
 
-pub line-added : (text more now : List ℕ) (len at n count : ℕ) (rows : List SatelliteRow) (r : SatelliteRow) → HoldsLines (record { text = take len text; count = count }) rows
-    → len ≤ length text → (count ≡ 0 → len ≡ 0) → (0 < count → 36 ≤ len) → more ≡ text ++ replicate (length more - length text) 32 → at ≡ max len 36 → at ≤ length more
-    → now ≡ (take at more ++ line_if_any r) ++ replicate (length more - (at + n)) 32 → n ≡ length (line_if_any r) → drop 36 (take (at + n) now) ≡ lines_of_rows (rows ++ r ∷ [])
-line-added text more now len at n count rows r h inside none some longer e room is long =
-    let size : length (take at more) ≡ at = omega (arith, length-take at more) in
-    let both : length (take at more ++ line_if_any r) ≡ at + n = length-append (take at more) (line_if_any r) ∙ omega (arith, size, long) in
-    let front : 36 ≤ length (take at more) = omega (arith, size, e) in
-    ap (λ (xs : List ℕ). drop 36 (take (at + n) xs)) is ∙ ap (drop 36) (take_at (take at more ++ line_if_any r) (replicate (length more - (at + n)) 32) (at + n) both)
-    ∙ drop-front (take at more) (line_if_any r) 36 front
-    ∙ ap (λ (xs : List ℕ). xs ++ line_if_any r) (lines-before text more len at count inside none some longer e ∙ h.lines) ∙ sym (lines-and rows r)
-
-pub one-counted : (count n : ℕ) (rows : List SatelliteRow) (r : SatelliteRow) → count ≡ length (filter has_line rows) → n ≡ length (line_if_any r) → 0 < n
-    → count + 1 ≡ length (filter has_line (rows ++ r ∷ []))
-one-counted count n rows r h long some =
-    let has : has_line r ≡ true = solid-length (has_line r) r n long some in
-    rw (filter-append has_line rows (r ∷ []), has) (simp length-append (omega (arith, h)))
+pub line-added : (old new : RecordLinesView) (rows : List SatelliteRow) (r : SatelliteRow) → HoldsLines old rows → has_line r ≡ true
+    → drop 36 new.text ≡ drop 36 old.text ++ satellite_line r → new.count ≡ old.count + 1 → HoldsLines new (rows ++ r ∷ [])
+line-added old new rows r h has is one =
+    let all = filter-some rows r has in
+    record {
+      lines = is ∙ ap (λ (t : List ℕ). t ++ satellite_line r) h.lines
+          ∙ sym (ap (λ (rs : List SatelliteRow). flat_map satellite_line rs) all ∙ flat_map-append satellite_line (filter has_line rows) (r ∷ [])
+          ∙ ap (λ (t : List ℕ). lines_of_rows rows ++ t) (append-nil (satellite_line r)));
+      count = rw all (omega (arith, one, h.count, length-append (filter has_line rows) (r ∷ [])));
+    }
 
 -- without a line the text stays
-pub none-added : (more now : List ℕ) (at n : ℕ) (r : SatelliteRow) → more ≡ take at more ++ replicate (length more - at) 32
-    → now ≡ (take at more ++ line_if_any r) ++ replicate (length more - (at + n)) 32 → n ≡ length (line_if_any r) → n ≡ 0 → now ≡ more
-none-added more now at n r blank is long none =
-    let has : has_line r ≡ false = no-length (has_line r) r n long none in
-    let same : at + n ≡ at = omega arith in
-    is ∙ (rw (has, same, append-nil (take at more)) (sym blank))
+pub none-added : (l : RecordLinesView) (rows : List SatelliteRow) (r : SatelliteRow) → HoldsLines l rows → has_line r ≡ false → HoldsLines l (rows ++ r ∷ [])
+none-added l rows r h none =
+    let same = filter-none rows r none in
+    record { lines = h.lines ∙ ap (λ (rs : List SatelliteRow). flat_map satellite_line rs) (sym same); count = h.count ∙ ap length (sym same) }
 
 -- ---- the epoch line
 
 -- the epoch line over the first columns
-pub line-put : (text line now : List ℕ) (len : ℕ) → length line ≡ 36 → 36 ≤ len → len ≤ length text → drop len text ≡ replicate (length text - len) 32 → now ≡ line ++ drop 36 text
-    → (length now ≡ length text) × (drop len now ≡ replicate (length now - len) 32) × (take len now ≡ line ++ drop 36 (take len text))
-line-put text line now len l first inside blank is =
+pub line-put : (text line now : List ℕ) (len : ℕ) → length line ≡ 36 → 36 ≤ len → len ≤ length text → now ≡ line ++ drop 36 text
+    → (length now ≡ length text) × (take len now ≡ line ++ drop 36 (take len text))
+line-put text line now len l first inside is =
     let j = len - 36 in
     let place : length line + j ≡ len = omega arith in
-    let place36 : 36 + j ≡ len = omega arith in
-    let front : length (take 36 text) + j ≡ len = omega (arith, length-take 36 text) in
-    let size : length now ≡ length text = ap length is ∙ length-append line (drop 36 text) ∙ omega (arith, length-drop 36 text) in
-    let rest : drop len text ≡ drop j (drop 36 text) =
-    ap (drop len) (sym (take-append-drop 36 text)) ∙ ap (λ (n : ℕ). drop n (take 36 text ++ drop 36 text)) (sym front) ∙ drop-append-add (take 36 text) (drop 36 text) j in (
-      size,
-      ap (drop len) is ∙ ap (λ (n : ℕ). drop n (line ++ drop 36 text)) (sym place) ∙ drop-append-add line (drop 36 text) j ∙ sym rest ∙ blank
-          ∙ ap (λ (n : ℕ). replicate (n - len) 32) (sym size),
+    let place36 : 36 + j ≡ len = omega arith in (
+      ap length is ∙ length-append line (drop 36 text) ∙ omega (arith, length-drop 36 text),
       ap (take len) is ∙ ap (λ (n : ℕ). take n (line ++ drop 36 text)) (sym place) ∙ take-append-add line (drop 36 text) j
           ∙ ap (λ (xs : List ℕ). line ++ xs) (sym (drop-take 36 j text) ∙ ap (λ (n : ℕ). drop 36 (take n text)) place36),
     )
+
+-- what is after it stays
+pub drop-line : (text line now : List ℕ) (end : ℕ) → length line ≡ 36 → 36 ≤ end → now ≡ line ++ drop 36 text → drop end now ≡ drop end text
+drop-line text line now end l later is =
+    let j = end - 36 in
+    let place : length line + j ≡ end = omega arith in
+    let place36 : 36 + j ≡ end = omega arith in
+    ap (drop end) is ∙ ap (λ (n : ℕ). drop n (line ++ drop 36 text)) (sym place) ∙ drop-append-add line (drop 36 text) j ∙ drop-drop j 36 text ∙ ap (λ (n : ℕ). drop n text) place36
 
 pub record-some : (time : Civil) (lines : List ℕ) (count : ℕ) (rows : List SatelliteRow) → lines ≡ lines_of_rows rows → count ≡ length (filter has_line rows) → 0 < count
     → epoch_line time count ++ lines ≡ lines_of time (filter has_line rows)
@@ -142,8 +218,4 @@ row-pushed l rows i r d h lt e = rw (row-taken rows i r d lt e) h
 -- a row without a line
 pub row-passed : (l : RecordLinesView) (rows : List SatelliteRow) (i : ℕ) (r d : SatelliteRow) → HoldsLines l (take i rows) → has_line r ≡ false → i < length rows → r ≡ get_or rows i d
     → HoldsLines l (take (i + 1) rows)
-row-passed l rows i r d h none lt e =
-    let same : filter has_line (take (i + 1) rows) ≡ filter has_line (take i rows) =
-    ap (λ (rs : List SatelliteRow). filter has_line rs) (row-taken rows i r d lt e) ∙ filter-append has_line (take i rows) (r ∷ [])
-    ∙ (rw none (append-nil (filter has_line (take i rows)))) in
-    record { lines = h.lines ∙ ap (λ (rs : List SatelliteRow). flat_map satellite_line rs) (sym same); count = h.count ∙ ap length (sym same) }
+row-passed l rows i r d h none lt e = rw (row-taken rows i r d lt e) (none-added l (take i rows) r h none)

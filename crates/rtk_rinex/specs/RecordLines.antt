@@ -1,25 +1,74 @@
 -- The text of a record that is written satellite by satellite.
-use Rattle.std.specs.Prelude.{◌≡◌, ℕ, List, [], length, drop, if◌then◌else◌}
-use Rattle.std.specs.List.{flat_map, filter}
+use Rattle.std.specs.Prelude.{◌≡◌, ◌<◌, ◌≤◌, ◌+◌, ◌-◌, ◌*◌, ℕ, Bool, false, List, [], ◌∷◌, ◌++◌, length, drop, max, replicate, slice_index_or, None}
+use Rattle.std.specs.List.{flat_map, filter, list_any}
+use Rattle.rtk_obs.specs.CivilText.{last_digits}
 use Rattle.rtk_rinex.specs.declared.epoch_table.Observed.{Observed}
 use Rattle.rtk_rinex.specs.declared.epoch_table.SatelliteRow.{SatelliteRow}
-use Rattle.rtk_rinex.specs.Record.{has_line, satellite_line}
+use Rattle.rtk_rinex.specs.Record.{has_line, has_observation, observations, satellite_line, trim_end}
 
 pub record RecordLinesView : Type 0 where
   -- the 36 columns of the epoch line and the lines of the satellites, or nothing without a satellite
   pub text : List ℕ
   -- how many satellites have a line
   pub count : ℕ
+  -- the columns after the text or the epoch line, in which the next line is written
+  pub rest : List ℕ
+  -- an observation is written in the next line
+  pub is_written : Bool
 
--- the line of a satellite, if it has one
-abbrev pub line_if_any : SatelliteRow → List ℕ
-line_if_any r = if has_line r then satellite_line r else []
-
--- the line of a satellite whose listed codes show these values, if it has one
-abbrev pub line_shown : ℕ → List Observed → List ℕ
-line_shown satellite observed = line_if_any (record { satellite = satellite; observed = record { items = observed } })
+-- ---- the lines
 
 -- after the epoch line the text has the lines of the satellites of these rows that have one
 pub record HoldsLines (l : RecordLinesView) (rows : List SatelliteRow) : Type 0 where
   pub lines : drop 36 l.text ≡ flat_map satellite_line (filter has_line rows)
   pub count : l.count ≡ length (filter has_line rows)
+
+-- the text and the count are the same
+pub record KeepsLines (old new : RecordLinesView) : Type 0 where
+  pub text : new.text ≡ old.text
+  pub count : new.count ≡ old.count
+
+-- ---- the line that is written code by code
+
+-- what a code shows without any value
+abbrev pub no_observation : Observed
+no_observation = record { range_mm = None; phase_millicycles = None; strength_millidbhz = None; slip = false; half = false }
+
+-- the codes of the next line show these values: their columns stand after those of the satellite, and
+-- are followed by blanks, of which the first is for the line feed
+pub record HasOpenLine (l : RecordLinesView) (observed : List Observed) : Type 0 where
+  pub few : length observed ≤ 16
+  pub room : 4 + 48 * length observed ≤ length l.rest
+  pub columns : l.rest ≡ replicate 3 32 ++ (flat_map observations observed ++ replicate (length l.rest - (3 + 48 * length observed)) 32)
+  pub written : l.is_written ≡ list_any has_observation observed
+
+-- the code at this place shows nothing
+pub record IsFreeIn (observed : List Observed) (place : ℕ) : Type 0 where
+  pub inside : place < length observed
+  pub free : (d : Observed) → has_observation (slice_index_or observed place d) ≡ false
+
+-- a line is open in which the code at this place shows nothing
+pub record HasFreeCode (l : RecordLinesView) (place : ℕ) : Type 0 where
+  pub observed : List Observed
+  pub open_line : HasOpenLine l observed
+  pub free : IsFreeIn observed place
+
+-- the line of a satellite with these columns, of which the first three have its name
+abbrev pub ended : ℕ → List ℕ → List ℕ
+ended satellite columns = trim_end (71 ∷ last_digits 2 satellite ++ drop 3 columns) ++ 10 ∷ []
+
+-- ---- the text that is kept
+
+-- a text of these lines, and what is written of the next line up to its end; blanks follow it
+pub record IsKeptText (text : List ℕ) (len end count : ℕ) : Type 0 where
+  pub few : count ≤ 32
+  pub within : end ≤ length text
+  pub from : len ≤ end
+  pub short : len ≤ 36 + 772 * count
+  pub none : count ≡ 0 → len ≡ 0
+  pub some : 0 < count → 36 ≤ len
+  pub blank : drop end text ≡ replicate (length text - end) 32
+  pub begun : len < end → max len 36 + 3 ≤ end
+  pub fits : len < end → end < length text
+  pub bound : end ≤ max len 36 + 771
+  pub most : length text ≤ 24_740

@@ -1,18 +1,20 @@
 //! The text of a record that is written satellite by satellite, and the record of a table.
 //!
-//! `push_row` writes the line of a satellite where it stays. `finish` writes the epoch line before
-//! the lines, and `text` gives the record. The text is kept from record to record; memory is taken
-//! at the first line, for 32 satellites.
+//! `push_row` writes the line of a satellite where it stays. So do `open_line`, `put_code` and
+//! `close_line`, code by code in any order. `finish` writes the epoch line before the lines, and `text`
+//! gives the record. The text is kept from record to record; memory is taken at the first line, for 32
+//! satellites.
 
-ghost use Rattle.std.specs.Prelude.{◌≡◌, ◌+◌, ◌*◌, ◌-◌, ◌<◌, ◌≤◌, List, [], ◌∷◌, ◌++◌, length, take, drop, replicate, OnOk, OnErr, IfOk};
+ghost use Rattle.std.specs.Prelude.{◌≡◌, ◌+◌, ◌*◌, ◌-◌, ◌<◌, ◌≤◌, List, [], ◌∷◌, ◌++◌, length, take, drop, replicate, slice_set, OnOk, OnErr, IfOk};
+ghost use Rattle.rtk_rinex.specs.declared.epoch_table.Observed.{Observed};
 ghost use Rattle.rtk_rinex.specs.declared.epoch_table.SatelliteRow.{SatelliteRow};
-ghost use Rattle.rtk_rinex.specs.Record.{HasWidth, record_text};
-ghost use Rattle.rtk_rinex.specs.RecordLines.{HoldsLines, line_shown};
+ghost use Rattle.rtk_rinex.specs.Record.{HasWidth, observations, record_text};
+ghost use Rattle.rtk_rinex.specs.RecordLines.{HasOpenLine, HasFreeCode, HoldsLines, IsFreeIn, KeepsLines, ended, no_observation};
 
 use crate::columns::{CODE_COLUMNS, EPOCH_LINE};
 use crate::epoch_table::{EpochTable, Observed};
 use crate::head::Head;
-use crate::record_text::{has_line, put_epoch_line, put_satellite_line};
+use crate::record_text::{end_line, has_line, has_observation, put_columns, put_epoch_line};
 use rtk_obs::{GpsMs, civil};
 use std::alloc::{AllocError, Global};
 use std::marker::Model;
@@ -29,23 +31,29 @@ const MOST_SATELLITES: usize = 32;
 pub struct RecordLines {
     text: Vec<u8>,
     len: usize,
+    // Where the columns end that are written of the next line, or `len`.
+    end: usize,
     count: usize,
 }
 
-// Clauses see the text and the count. The last part of the invariant names every field, so that no
-// field can be added in which records are kept unseen; the part before it bounds what is kept.
+// Clauses see the text, the count and what is written of the next line. The last part of the invariant
+// names every field, so that no field can be added in which records are kept unseen; the part before
+// it bounds what is kept.
 impl Model for RecordLines {
-    ghost use Rattle.std.specs.Prelude.{◌≡◌, ◌+◌, ◌*◌, ◌-◌, ◌<◌, ◌≤◌, length, take, drop, replicate};
-    ghost use Rattle.rtk_rinex.specs.RecordLines.{RecordLinesView};
+    ghost use Rattle.std.specs.Prelude.{◌≡◌, drop, max, nat_lt, take};
+    ghost use Rattle.rtk_rinex.specs.RecordLines.{IsKeptText, RecordLinesView};
 
     ghost Value = { RecordLinesView };
 
-    ghost view = { λ r. record { text = take r.len r.text.items; count = r.count } };
+    ghost view = { λ r. record {
+      text = take r.len r.text.items;
+      count = r.count;
+      rest = drop (max r.len 36) r.text.items;
+      is_written = nat_lt r.len r.end;
+    } };
 
-    ghost invariant = { λ r. (r.count ≤ 32) × (r.len ≤ length r.text.items) × (r.len ≤ 36 + 772 * r.count)
-        × (r.count ≡ 0 → r.len ≡ 0) × (0 < r.count → 36 ≤ r.len)
-        × (drop r.len r.text.items ≡ replicate (length r.text.items - r.len) 32)
-        × (length r.text.items ≤ 24_740) × (r ≡ record { text = r.text; len = r.len; count = r.count }) };
+    ghost invariant = { λ r. IsKeptText r.text.items r.len r.end r.count
+        × (r ≡ record { text = r.text; len = r.len; end = r.end; count = r.count }) };
 }
 
 // Lengthens a text by blanks.
@@ -78,25 +86,45 @@ fn make_room(text: &mut Vec<u8>, at: usize, room: usize) -> Result<(), AllocErro
     lengthen(text, all.max(at + room))
 }
 
-// Blanks a text again, up to its end.
-fn blank(text: &mut [u8], len: usize)
-    requires within { len ≤ length text.old }
-    requires after { drop len text.old ≡ replicate (length text.old - len) 32 }
-    ensures { text.new ≡ replicate (length text.old) 32 }
+// Blanks a part of a text.
+fn clear(part: &mut [u8])
+    ensures { part.new ≡ replicate (length part.old) 32 }
 {
-    text[..len].fill(b' ');
+    part.fill(b' ');
 }
 
-// Writes the line of a satellite at this place, if it has one, and returns how long it is. It only hands
-// on, and is here for its clauses.
-fn put_next_line(text: &mut [u8], at: usize, satellite: u8, observed: &[Observed]) -> usize
-    requires blank { text.old ≡ take at text.old ++ replicate (length text.old - at) 32 }
-    requires room { at + 4 + 48 * length observed.now ≤ length text.old }
-    ensures text { text.new ≡ (take at text.old ++ line_shown satellite observed.now) ++ replicate (length text.old - (at + result)) 32 }
-    ensures len { result ≡ length (line_shown satellite observed.now) }
-    ensures within { result ≤ 4 + 48 * length observed.now }
+// Blanks a part of a text again, which ends where its blanks begin.
+fn blank(text: &mut [u8], begin: usize, end: usize)
+    requires from { begin ≤ end }
+    requires within { end ≤ length text.old }
+    requires after { drop end text.old ≡ replicate (length text.old - end) 32 }
+    ensures { text.new ≡ take begin text.old ++ replicate (length text.old - begin) 32 }
 {
-    put_satellite_line(&mut text[at..], satellite, observed)
+    clear(&mut text[begin..end]);
+}
+
+// Writes the columns of a code over blanks at this place of a text. It only hands on, and is here for
+// its clauses.
+#[inline(always)]
+fn put_code_at(text: &mut [u8], at: usize, observed: &Observed)
+    requires room { at + 48 ≤ length text.old }
+    requires blank { take 48 (drop at text.old) ≡ replicate 48 32 }
+    ensures { text.new ≡ take at text.old ++ (observations observed.now ++ drop 48 (drop at text.old)) }
+{
+    put_columns(&mut text[at..at + CODE_COLUMNS], observed);
+}
+
+// Ends the line of a satellite that begins at this place of a text, and returns where the text ends.
+// It only hands on, and is here for its clauses.
+fn end_line_at(text: &mut [u8], at: usize, satellite: u8, end: usize) -> usize
+    requires columns { at + 3 ≤ end }
+    requires room { end < length text.old }
+    requires blank { drop end text.old ≡ replicate (length text.old - end) 32 }
+    ensures text { text.new ≡ (take at text.old ++ ended satellite (drop at text.old)) ++ replicate (length text.old - result) 32 }
+    ensures len { result ≡ at + length (ended satellite (drop at text.old)) }
+    ensures within { result ≤ end + 1 }
+{
+    at + end_line(&mut text[at..], satellite, end - at)
 }
 
 impl RecordLines {
@@ -107,6 +135,7 @@ impl RecordLines {
         RecordLines {
             text: Vec::new(alloc),
             len: 0,
+            end: 0,
             count: 0,
         }
     }
@@ -115,9 +144,71 @@ impl RecordLines {
     pub fn restart(&mut self)
         ensures { HoldsLines self.new [] }
     {
-        blank(&mut self.text, self.len);
+        blank(&mut self.text, 0, self.end);
         self.len = 0;
+        self.end = 0;
         self.count = 0;
+    }
+
+    /// Begins the line of a satellite with this number of codes, which show nothing yet. What was
+    /// written of a line that was begun and not ended is blanked.
+    ///
+    /// Memory is taken only if the text has no room for a line with each value.
+    pub fn open_line(&mut self, codes: usize) -> Result<(), AllocError>
+        requires few { codes ≤ 16 }
+        requires room { self.old.count < 32 }
+        ensures open { OnOk result (HasOpenLine self.new (replicate codes no_observation)) }
+        ensures lines { KeepsLines self.old self.new }
+        ensures err { OnErr result (self.new ≡ self.old) }
+    {
+        let at = self.len.max(EPOCH_LINE);
+        make_room(&mut self.text, at, 4 + CODE_COLUMNS * codes)?;
+        if self.end > self.len {
+            blank(&mut self.text, self.len, self.end);
+            self.end = self.len;
+        }
+        Ok(())
+    }
+
+    /// Writes what a code shows at its place in the open line, in which it shows nothing yet.
+    #[inline(always)]
+    pub fn put_code(&mut self, place: usize, observed: &Observed)
+        requires { HasFreeCode self.old place }
+        ensures open { (row : List Observed) → HasOpenLine self.old row → IsFreeIn row place
+            → HasOpenLine self.new (slice_set row place observed.now) }
+        ensures lines { KeepsLines self.old self.new }
+    {
+        if has_observation(observed) {
+            let at = self.len.max(EPOCH_LINE) + 3 + CODE_COLUMNS * place;
+            put_code_at(&mut self.text, at, observed);
+            self.end = self.end.max(at + CODE_COLUMNS);
+        }
+    }
+
+    /// Ends the open line, if an observation of it is written: it is the line of this satellite. In a
+    /// record of RINEX the satellites rise, and each line has the same codes; that is for the caller.
+    pub fn close_line(&mut self, satellite: u8)
+        requires { self.old.count < 32 }
+        ensures { (rows : List SatelliteRow) (observed : List Observed) → HoldsLines self.old rows → HasOpenLine self.old observed
+            → HoldsLines self.new (rows ++ record { satellite = satellite; observed = record { items = observed } } ∷ []) }
+    {
+        if self.end > self.len {
+            let at = self.len.max(EPOCH_LINE);
+            self.len = end_line_at(&mut self.text, at, satellite, self.end);
+            self.end = self.len;
+            self.count += 1;
+        }
+    }
+
+    // Writes what the codes show in the open line, in which they show nothing yet.
+    fn put_codes(&mut self, observed: &[Observed])
+        requires { HasOpenLine self.old (replicate (length observed.now) no_observation) }
+        ensures open { HasOpenLine self.new observed.now }
+        ensures lines { KeepsLines self.old self.new }
+    {
+        for (place, shown) in observed.iter().enumerate() {
+            self.put_code(place, shown);
+        }
     }
 
     /// Adds the line of a satellite, if an observation of it is written. In a record of RINEX the
@@ -131,13 +222,9 @@ impl RecordLines {
             → HoldsLines self.new (rows ++ record { satellite = satellite; observed = record { items = observed.now } } ∷ [])) }
         ensures err { OnErr result (self.new ≡ self.old) }
     {
-        let at = self.len.max(EPOCH_LINE);
-        make_room(&mut self.text, at, 4 + CODE_COLUMNS * observed.len())?;
-        let len = put_next_line(&mut self.text, at, satellite, observed);
-        if len > 0 {
-            self.len = at + len;
-            self.count += 1;
-        }
+        self.open_line(observed.len())?;
+        self.put_codes(observed);
+        self.close_line(satellite);
         Ok(())
     }
 
@@ -162,7 +249,7 @@ impl RecordLines {
     // Makes room for the lines of this many satellites with this many codes.
     fn make_room_for(&mut self, rows: usize, codes: usize) -> Result<(), AllocError>
         requires few { (rows ≤ 32) × (codes ≤ 16) }
-        ensures { self.new ≡ self.old }
+        ensures { KeepsLines self.old self.new }
     {
         let room = EPOCH_LINE + rows * (4 + CODE_COLUMNS * codes);
         if self.text.len() < room {

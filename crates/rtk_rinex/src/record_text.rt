@@ -3,7 +3,7 @@
 ghost use Rattle.std.specs.Prelude.{◌≡◌, ℕ, ◌+◌, ◌*◌, ◌<◌, ◌≤◌, ◌-◌, [], ◌∷◌, ◌++◌, length, take, drop, replicate, flat_map, not, IsTrue, ◌==◌};
 ghost use Rattle.std.specs.List.{list_any};
 ghost use Rattle.rtk_rinex.specs.Record.{is_written, is_present, observation, observations, strength_digit, strength_value, lli_digit, has_observation, has_line, trim_end, epoch_date_text, epoch_line};
-ghost use Rattle.rtk_rinex.specs.RecordLines.{line_shown};
+ghost use Rattle.rtk_rinex.specs.RecordLines.{ended};
 
 use crate::columns::{
     CODE_COLUMNS, EPOCH_LINE, append, integer_3, put_fixed_14_3, put_last_digits, put_long_14_3,
@@ -106,8 +106,9 @@ fn put_strength(field: &mut [u8], strength: Option<u32>)
     }
 }
 
-// Writes the columns of a code over 48 blanks.
-fn put_columns(columns: &mut [u8], observed: &Observed)
+/// Writes the columns of a code over 48 blanks.
+#[inline(always)]
+pub(crate) fn put_columns(columns: &mut [u8], observed: &Observed)
     requires blank { columns.old ≡ replicate 48 32 }
     ensures { columns.new ≡ observations observed.now }
 {
@@ -158,7 +159,9 @@ fn is_present(value: Option<i64>) -> bool
     }
 }
 
-fn has_observation(observed: &Observed) -> bool
+/// Is an observation of the code written?
+#[inline(always)]
+pub(crate) fn has_observation(observed: &Observed) -> bool
     ensures { result ≡ has_observation observed.now }
 {
     observed.strength_millidbhz.is_some()
@@ -178,45 +181,20 @@ pub(crate) fn has_line(row: &SatelliteRow) -> bool
     false
 }
 
-// Writes the columns of the codes over blanks, and returns where the last one that shows something
-// ends, or 0.
-fn put_cells(cells: &mut [u8], shown: &[Observed]) -> usize
-    requires blank { cells.old ≡ replicate (length cells.old) 32 }
-    requires room { 48 * length shown.now ≤ length cells.old }
-    ensures text { cells.new ≡ flat_map observations shown.now ++ replicate (length cells.old - 48 * length shown.now) 32 }
-    ensures blank { drop result cells.new ≡ replicate (length cells.old - result) 32 }
-    ensures within { result ≤ 48 * length shown.now }
-    ensures some { (result == 0) ≡ not (list_any has_observation shown.now) }
+/// Ends the line of a satellite, whose columns end here, and returns how long it is.
+pub(crate) fn end_line(line: &mut [u8], satellite: u8, end: usize) -> usize
+    requires columns { 3 ≤ end }
+    requires room { end < length line.old }
+    requires blank { drop end line.old ≡ replicate (length line.old - end) 32 }
+    ensures text { line.new ≡ ended satellite line.old ++ replicate (length line.old - result) 32 }
+    ensures len { result ≡ length (ended satellite line.old) }
+    ensures within { result ≤ end + 1 }
 {
-    let mut end = 0;
-    let mut at = 0;
-    for observed in shown {
-        if has_observation(observed) {
-            put_columns(&mut cells[at..at + CODE_COLUMNS], observed);
-            end = at + CODE_COLUMNS;
-        }
-        at += CODE_COLUMNS;
-    }
-    end
-}
-
-/// Writes the line of a satellite over blanks, if it has one, and returns how long it is.
-pub(crate) fn put_satellite_line(line: &mut [u8], satellite: u8, observed: &[Observed]) -> usize
-    requires blank { line.old ≡ replicate (length line.old) 32 }
-    requires room { 4 + 48 * length observed.now ≤ length line.old }
-    ensures text { line.new ≡ line_shown satellite observed.now ++ replicate (length line.old - result) 32 }
-    ensures len { result ≡ length (line_shown satellite observed.now) }
-    ensures within { result ≤ 4 + 48 * length observed.now }
-{
-    let shown = put_cells(&mut line[3..], observed);
-    if shown == 0 {
-        return 0;
-    }
     line[0] = b'G';
     put_pair(line, 1, u64::from(satellite) % 100);
-    let end = trimmed_len(&line[..3 + shown]);
-    line[end] = b'\n';
-    end + 1
+    let len = trimmed_len(&line[..end]);
+    line[len] = b'\n';
+    len + 1
 }
 
 // The columns of the epoch line up to the minute.

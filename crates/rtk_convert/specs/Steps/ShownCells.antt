@@ -1,6 +1,6 @@
 -- The cells of an epoch are taken one after another: what they show, and which phases are the last
 -- ones.
-use Rattle.std.specs.Prelude.{◌≡◌, ◌≢◌, ◌==◌, ◌<◌, ◌≤◌, ◌+◌, ℕ, Bool, true, false, ◌||◌, List, [], ◌∷◌, ◌++◌, map, length, slice_index, slice_index_or, slice_range, Option, Some, None, is_some, not, IsTrue, All, AllPairs, if◌then◌else◌}
+use Rattle.std.specs.Prelude.{◌≡◌, ◌≢◌, ◌==◌, ◌<◌, ◌≤◌, ◌+◌, ℕ, Bool, true, false, List, [], ◌∷◌, ◌++◌, map, length, slice_index, slice_index_or, slice_range, Option, Some, None, not, IsTrue, All, AllPairs, if◌then◌else◌}
 use Rattle.std.specs.List.{list_any}
 use Rattle.rtk_obs.specs.declared.cell.Cell.{Cell}
 use Rattle.rtk_obs.specs.declared.cell.CellEntry.{CellEntry}
@@ -15,6 +15,8 @@ use Rattle.rtk_obs.specs.Tracks.{IsLater, track_at, place_of_signal}
 use Rattle.rtk_obs.specs.MessageCells.{AreOfOneKind}
 use Rattle.rtk_collect.specs.Key.{KeysRise}
 use Rattle.rtk_rinex.specs.declared.epoch_table.Observed.{Observed}
+use Rattle.rtk_rinex.specs.Record.{has_observation}
+use Rattle.rtk_rinex.specs.RecordLines.{RecordLinesView, HasOpenLine, KeepsLines}
 use Rattle.rtk_convert.specs.Rows.{first_cell, observed_with, observed_after, or_nothing}
 
 -- all last phases are of epochs below this one
@@ -67,21 +69,26 @@ pub record AreCellsTo (satellite : ℕ) (cells : List CellEntry) (begin end : �
 abbrev pub shown_by : List (Option Track) → ℕ → List CellEntry → ℕ → Code → Option Observed
 shown_by old epoch cells satellite code = observed_after (track_at old satellite code) code epoch (first_cell cells satellite code)
 
--- these cells of an epoch were taken, and this is the row of a satellite by them
-pub record ShowsRow (old : List (Option Track)) (epoch : ℕ) (cells : List CellEntry) (satellite : ℕ) (listed : List Code) (tracks : List (Option Track)) (shown : List Observed) (found : Bool) : Type 0 where
+-- these cells of an epoch were taken, and the open line shows the row of a satellite by them
+pub record ShowsRow (old : List (Option Track)) (epoch : ℕ) (cells : List CellEntry) (satellite : ℕ) (listed : List Code) (tracks : List (Option Track)) (lines : RecordLinesView) : Type 0 where
   pub taken : AreTaken old epoch cells tracks
-  pub row : shown ≡ map (λ code. or_nothing (shown_by old epoch cells satellite code)) listed
-  pub any : found ≡ list_any (λ code. is_some (shown_by old epoch cells satellite code)) listed
+  pub row : HasOpenLine lines (map (λ code. or_nothing (shown_by old epoch cells satellite code)) listed)
+
+-- the same after some last phases
+pub record ShowsSome (epoch : ℕ) (cells : List CellEntry) (satellite : ℕ) (listed : List Code) (tracks : List (Option Track)) (lines : RecordLinesView) : Type 0 where
+  pub first : List (Option Track)
+  pub shows : ShowsRow first epoch cells satellite listed tracks lines
 
 -- the cells between two places are of this satellite, and were taken after the earlier ones
 pub record TakesCells (epoch : ℕ) (earlier cells : List CellEntry) (begin end satellite : ℕ) (listed : List Code)
-    (old : List (Option Track)) (blank : List Observed) (tracks : List (Option Track)) (shown : List Observed) (found : Bool) : Type 0 where
+    (old : List (Option Track)) (before : RecordLinesView) (tracks : List (Option Track)) (lines : RecordLinesView) : Type 0 where
   pub from : begin ≤ end
   pub within : end ≤ length cells
   pub same : (k : ℕ) (d : CellEntry) → begin ≤ k → k < end → (slice_index_or cells k d).satellite ≡ satellite
   pub later : MayStep tracks (earlier ++ slice_range cells begin end) satellite epoch
-  pub shows : (first : List (Option Track)) (any : Bool) → ShowsRow first epoch earlier satellite listed old blank any
-      → ShowsRow first epoch (earlier ++ slice_range cells begin end) satellite listed tracks shown (found || any)
+  pub kept : KeepsLines before lines
+  pub shows : (first : List (Option Track)) → ShowsRow first epoch earlier satellite listed old before
+      → ShowsRow first epoch (earlier ++ slice_range cells begin end) satellite listed tracks lines
 
 abbrev pub is_code : Code → Code → Bool
 is_code code c = place_of c == place_of code
@@ -92,14 +99,25 @@ with_code code shown [] row = row
 with_code code shown (c ∷ listed) [] = []
 with_code code shown (c ∷ listed) (x ∷ row) = (if is_code code c then shown else x) ∷ with_code code shown listed row
 
+-- in a row of the listed codes this one shows nothing
+pub record IsFreeOf (code : Code) (listed : List Code) (row : List Observed) : Type 0 where
+  pub width : length row ≡ length listed
+  pub free : (k : ℕ) (d : Observed) → k < length listed → is_code code (slice_index_or listed k C1C) ≡ true → has_observation (slice_index_or row k d) ≡ false
+
+-- a line of the listed codes is open in which this one shows nothing
+pub record HasFreeOf (lines : RecordLinesView) (code : Code) (listed : List Code) : Type 0 where
+  pub row : List Observed
+  pub open_line : HasOpenLine lines row
+  pub free : IsFreeOf code listed row
+
 -- the first cell of a satellite and code takes a step of its track, and what it shows stands in the
--- row if its code is listed
-pub record StepsOver (epoch : ℕ) (e : CellEntry) (listed : List Code) (tracks after : List (Option Track)) (shown now : List Observed)
-    (is_listed : Bool) : Type 0 where
+-- open line if its code is listed
+pub record StepsOver (epoch : ℕ) (e : CellEntry) (listed : List Code) (tracks after : List (Option Track)) (old new : RecordLinesView) : Type 0 where
   pub track : track_at after e.satellite e.code ≡ last_after (band_of e.code) (track_at tracks e.satellite e.code) (epoch_cell epoch e.cell)
   pub others : (s : ℕ) (c : Code) → place_of_signal s c ≢ place_of_signal e.satellite e.code → track_at after s c ≡ track_at tracks s c
-  pub row : now ≡ with_code e.code (observed_with e.cell (digits_since (band_of e.code) (track_at tracks e.satellite e.code) (epoch_cell epoch e.cell))) listed shown
-  pub found : is_listed ≡ list_any (is_code e.code) listed
+  pub row : (row : List Observed) → HasOpenLine old row → IsFreeOf e.code listed row
+      → HasOpenLine new (with_code e.code (observed_with e.cell (digits_since (band_of e.code) (track_at tracks e.satellite e.code) (epoch_cell epoch e.cell))) listed row)
+  pub kept : KeepsLines old new
 
 -- the place of a code among the listed ones, or one after them if it is not listed
 pub record IsPlaceAmong (listed : List Code) (code : Code) (place : ℕ) : Type 0 where

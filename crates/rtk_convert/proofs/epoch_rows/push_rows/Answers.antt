@@ -1,5 +1,4 @@
-use Rattle.std.proofs.Common.{◌≡◌, ◌-◌, ℕ, rules, List, Option, [], ◌∷◌, ◌++◌, filter, refl, sym, ap, subst, ◌∙◌, arith}
-use Rattle.std.proofs.lemmas.List.{append-nil}
+use Rattle.std.proofs.Common.{◌≡◌, ◌-◌, ℕ, List, Option, ◌++◌, filter, refl, sym, ap, subst, ◌∙◌, arith}
 use Rattle.std.proofs.lemmas.List.Sums.{length-filter, count_by-le-length}
 use Rattle.rtk_obs.specs.Cell.{IsSatellite}
 use Rattle.rtk_obs.specs.declared.cell.CellEntry.{CellEntry}
@@ -10,28 +9,26 @@ use Rattle.rtk_collect.specs.EpochSet.{is_from}
 use Rattle.rtk_rinex.specs.declared.epoch_table.Observed.{Observed}
 use Rattle.rtk_rinex.specs.declared.epoch_table.SatelliteRow.{SatelliteRow}
 use Rattle.rtk_rinex.specs.Record.{has_line}
-use Rattle.rtk_rinex.specs.RecordLines.{HoldsLines}
-use Rattle.rtk_convert.specs.Rows.{first_cell, cell_at, cells_at_epochs, observed_at, observed_after, rows_to}
+use Rattle.rtk_rinex.specs.RecordLines.{HasOpenLine, HoldsLines}
+use Rattle.rtk_convert.specs.Rows.{first_cell, cell_at, cells_at_epochs, observed_at, observed_after, row_with, row_if_any, rows_to}
 use Rattle.rtk_convert.specs.Steps.ShownCells.{shown_by, track_after}
 use Rattle.rtk_convert.proofs.ThroughLemmas.{track-below, later-after}
-use Rattle.rtk_convert.proofs.RowsLemmas.{row_of, row-yes, row-no, rows-few, rows_to-zero, rows_to-same}
-use Rattle.rtk_convert.proofs.SatelliteLemmas.{fills-begin, fills-skip, skip-rows, may-begin, fills-more, fills-row, fills-any, rows-next}
+use Rattle.rtk_convert.proofs.RowsLemmas.{row-blank, row-held, lines-kept, rows-few, rows_to-zero, rows_to-same}
+use Rattle.rtk_convert.proofs.SatelliteLemmas.{fills-begin, fills-skip, skip-rows, may-begin, fills-more, fills-row, rows-next}
 use Rattle.rtk_convert.proofs.epoch_rows.push_rows.Goals as goal
-use Rattle.rtk_convert.proofs.epoch_rows.push_rows.Goals.{then-filled+in_default, else-filled}
 
 pub satellites-init : goal.satellites-init
 satellites-init c = record {
-  width = search rules;
   fills = fills-begin c.args.tracks.now c.epoch-epoch.result c.msm_cells-msm.result.now c.legacy_cells-legacy.result.now c.msm_cells-msm.ensures.range c.legacy_cells-legacy.ensures.range;
   holds = subst (λ (rows : List SatelliteRow). HoldsLines c.restart.new.self rows)
       (sym (rows_to-zero (shown_by c.args.tracks.now c.epoch-epoch.result (c.msm_cells-msm.result.now ++ c.legacy_cells-legacy.result.now)) c.args.listed.now)) c.restart.ensures;
 }
 
-pub fill_row-filled-requires-clause-satellite : goal.fill_row-filled-requires-clause-satellite
-fill_row-filled-requires-clause-satellite c = (c.satellites.auto.satellite, omega (arith, c.satellites-test.true))
+pub fill_line-filled-requires-clause-satellite : goal.fill_line-filled-requires-clause-satellite
+fill_line-filled-requires-clause-satellite c = (c.satellites.auto.satellite, omega (arith, c.satellites-test.true))
 
-pub fill_row-filled-requires-clause-later : goal.fill_row-filled-requires-clause-later
-fill_row-filled-requires-clause-later c =
+pub fill_line-filled-requires-clause-later : goal.fill_line-filled-requires-clause-later
+fill_line-filled-requires-clause-later c =
     let n = c.satellites.satellite in
     let hn : IsSatellite n = (c.satellites.auto.satellite, omega (arith, c.satellites-test.true)) in
     may-begin c.args.tracks.now c.epoch-epoch.result c.msm_cells-msm.result.now c.satellites.msm_at c.legacy_cells-legacy.result.now c.satellites.legacy_at n c.satellites.tracks c.satellites.invariant.fills hn
@@ -44,24 +41,42 @@ satellites-preserved-then-is_absent c =
     let p = c.if-is_absent.ensures.msm refl in
     let q = c.if-is_absent.ensures.legacy refl in
     record {
-      width = c.satellites.invariant.width;
       fills = fills-skip c.args.tracks.now c.epoch-epoch.result c.msm_cells-msm.result.now c.satellites.msm_at c.legacy_cells-legacy.result.now c.satellites.legacy_at n c.satellites.tracks c.satellites.invariant.fills hn p q;
       holds = subst (λ (rows : List SatelliteRow). HoldsLines c.satellites.lines rows)
           (skip-rows c.args.tracks.now c.epoch-epoch.result c.msm_cells-msm.result.now c.satellites.msm_at c.legacy_cells-legacy.result.now c.satellites.legacy_at n c.satellites.tracks c.satellites.invariant.fills hn c.args.listed.now p q)
           c.satellites.invariant.holds;
     }
 
-pub push_row-requires-clause-room : goal.push_row-requires-clause-room
-push_row-requires-clause-room c =
+pub open_line-requires-clause-room : goal.open_line-requires-clause-room
+open_line-requires-clause-room c =
     let f = shown_by c.args.tracks.now c.epoch-epoch.result (c.msm_cells-msm.result.now ++ c.legacy_cells-legacy.result.now) in
     let rows = rows_to f c.args.listed.now (c.satellites.satellite - 1) in
     omega (arith, c.satellites-test.true, rows-few f c.args.listed.now (c.satellites.satellite - 1), c.satellites.invariant.holds.count, length-filter has_line rows, count_by-le-length has_line rows)
+
+pub fill_line-filled-requires-clause-open : goal.fill_line-filled-requires-clause-open
+fill_line-filled-requires-clause-open c =
+    subst (λ (row : List Observed). HasOpenLine c.open_line.new.self row) (sym (row-blank c.args.listed.now)) c.in_default.ensures.open
+
+pub close_line-requires : goal.close_line-requires
+close_line-requires c =
+    let f = shown_by c.args.tracks.now c.epoch-epoch.result (c.msm_cells-msm.result.now ++ c.legacy_cells-legacy.result.now) in
+    let rows = rows_to f c.args.listed.now (c.satellites.satellite - 1) in
+    omega (
+      arith,
+      c.satellites-test.true,
+      rows-few f c.args.listed.now (c.satellites.satellite - 1),
+      c.satellites.invariant.holds.count,
+      length-filter has_line rows,
+      count_by-le-length has_line rows,
+      c.in_default.ensures.lines.count,
+      c.fill_line-filled.ensures.lines.count,
+    )
 
 pub satellites-preserved : goal.satellites-preserved
 satellites-preserved c =
     let n = c.satellites.satellite in
     let hn : IsSatellite n = (c.satellites.auto.satellite, omega (arith, c.satellites-test.true)) in
-    let filled = c.fill_row-filled in
+    let filled = c.fill_line-filled in
     let old = c.args.tracks.now in
     let epoch = c.epoch-epoch.result in
     let ms = c.msm_cells-msm.result.now in
@@ -69,24 +84,14 @@ satellites-preserved c =
     let f = shown_by old epoch (ms ++ ls) in
     let g = c.satellites.invariant.fills in
     let rows = rows_to f c.args.listed.now (n - 1) in
-    let row : SatelliteRow = row_of n filled.new.row in
-    let any = fills-any old epoch ms c.satellites.msm_at ls c.satellites.legacy_at n c.satellites.tracks g hn filled.result.msm_end filled.result.legacy_end c.args.listed.now filled.new.tracks filled.new.row filled.result.has_listed
-    filled.ensures.msm.from filled.ensures.msm.next filled.ensures.legacy.from filled.ensures.legacy.next filled.ensures.shows in
-    let shown = fills-row old epoch ms c.satellites.msm_at ls c.satellites.legacy_at n c.satellites.tracks g hn filled.result.msm_end filled.result.legacy_end c.args.listed.now filled.new.tracks filled.new.row filled.result.has_listed
+    let held = lines-kept (lines-kept c.satellites.invariant.holds c.in_default.ensures.lines) filled.ensures.lines in
+    let shown = fills-row old epoch ms c.satellites.msm_at ls c.satellites.legacy_at n c.satellites.tracks g hn filled.result.msm filled.result.legacy c.args.listed.now filled.new.tracks filled.new.lines
     filled.ensures.msm.from filled.ensures.msm.next filled.ensures.legacy.from filled.ensures.legacy.next filled.ensures.shows in
     record {
-      width = omega arith;
-      fills = fills-more old epoch ms c.satellites.msm_at ls c.satellites.legacy_at n c.satellites.tracks g hn filled.result.msm_end filled.result.legacy_end c.args.listed.now filled.new.tracks filled.new.row filled.result.has_listed
+      fills = fills-more old epoch ms c.satellites.msm_at ls c.satellites.legacy_at n c.satellites.tracks g hn filled.result.msm filled.result.legacy c.args.listed.now filled.new.tracks filled.new.lines
           filled.ensures.msm.from filled.ensures.msm.next filled.ensures.legacy.from filled.ensures.legacy.next filled.ensures.shows;
-      holds = elim c.if-filled.branch [
-        | then-filled+in_default w ↦ rw w.lines-is (subst (λ (all : List SatelliteRow). HoldsLines w.push_row.new.self all)
-            (rows-next f c.args.listed.now n rows (row ∷ []) hn.0 refl
-            (ap (λ (xs : List Observed). row_of n xs ∷ []) shown ∙ sym (row-yes f c.args.listed.now n (sym any ∙ w.if-filled.true))))
-            (w.in_default.ensures.ok rows c.satellites.invariant.holds))
-        | else-filled w ↦ rw w.lines-is (subst (λ (all : List SatelliteRow). HoldsLines c.satellites.lines all)
-            (sym (append-nil rows) ∙ rows-next f c.args.listed.now n rows [] hn.0 refl (sym (row-no f c.args.listed.now n (sym any ∙ w.if-filled.false))))
-            c.satellites.invariant.holds)
-      ];
+      holds = subst (λ (all : List SatelliteRow). HoldsLines c.close_line.new.self all) (rows-next f c.args.listed.now n rows (row_if_any f c.args.listed.now n) hn.0 refl refl)
+          (row-held c.close_line.new.self f c.args.listed.now n rows (c.close_line.ensures rows (row_with f c.args.listed.now n).observed.items held shown));
     }
 
 pub returns-clause-lines : goal.returns-clause-lines

@@ -1,15 +1,15 @@
-use Rattle.std.proofs.Common.{◌≡◌, ◌∙◌, ap, take, length, subst, List, ◌<◌, ◌≤◌, refl, sym, arith}
+use Rattle.std.proofs.Common.{◌≡◌, ◌∙◌, take, length, subst, List, ◌<◌, ◌≤◌, refl, sym, arith}
 use Rattle.std.proofs.lemmas.List.{take_all}
 use Rattle.rtk_rinex.specs.declared.epoch_table.SatelliteRow.{SatelliteRow}
-use Rattle.rtk_rinex.specs.RecordLines.{RecordLinesView, HoldsLines}
-use Rattle.rtk_rinex.proofs.RecordLinesLemmas.{few-lines, row-pushed, row-passed}
+use Rattle.rtk_rinex.specs.RecordLines.{HoldsLines}
+use Rattle.rtk_rinex.proofs.RecordLinesLemmas.{few-lines, kept-lines, row-pushed, row-passed}
 use Rattle.rtk_rinex.proofs.record_lines.record.Goals as goal
 use Rattle.rtk_rinex.proofs.record_lines.record.Goals.{then-has_line+in_ok-make_room_for+in_ok-push_row, else-has_line}
 
 pub push_row-requires-clause-room : goal.push_row-requires-clause-room
 push_row-requires-clause-room c =
     let few = few-lines c.loop-row.lines c.args.table.now.rows c.loop-row.row-index c.loop-row.invariant in
-    let same = ap (λ (l : RecordLinesView). l.count) c.make_room_for.ensures in omega (arith, few, same)
+    omega (arith, few, c.make_room_for.ensures.count)
 
 pub loop-row-preserved : goal.loop-row-preserved
 loop-row-preserved c =
@@ -21,7 +21,7 @@ loop-row-preserved c =
     let is = rw same at c.row-item.is in
     elim c.if-has_line.branch [
       | then-has_line+in_ok-make_room_for+in_ok-push_row w ↦ row-pushed c.if-has_line.lines rows i c.row-item.result c.row-item.result
-          (rw w.lines-is (rw w.as_slice.ensures.value at (w.in_ok-push_row.ensures.ok (take i rows) (rw w.make_room_for.ensures held)))) lt is
+          (rw w.lines-is (rw w.as_slice.ensures.value at (w.in_ok-push_row.ensures.ok (take i rows) (kept-lines c.loop-row.lines w.make_room_for.new.self (take i rows) w.make_room_for.ensures held)))) lt is
       | else-has_line w ↦ row-passed c.if-has_line.lines rows i c.row-item.result c.row-item.result (rw w.lines-is held) (sym c.has_line.ensures ∙ w.if-has_line.false) lt is
     ]
 
