@@ -21,6 +21,7 @@ ghost use Rattle.rtk_convert.specs.Rows.{first_cell, rolled_or_none, observed_wi
 ghost use Rattle.rtk_convert.specs.LastPhases.{HasLastPhases};
 ghost use Rattle.rtk_convert.specs.Steps.ShownCells.{AllBelow, MayStep, IsPlaceOf, RiseFrom, HasCellsFrom, TellsSatellite, AreCellsTo, ShowsRow, ShowsSome, StepsOver, TakesCells, ArePlaces, HasFreeOf, IsFreeOf, with_code};
 
+use arrayvec::ArrayVec;
 use rtk_collect::EpochSet;
 use rtk_obs::{Cell, CellEntry, Code, Digits, GpsMs, Tracks, rolled};
 use rtk_rinex::{Observed, RecordLines};
@@ -251,6 +252,7 @@ pub(crate) fn push_rows(
     set: &EpochSet,
     listed: &[Code],
     lines: &mut RecordLines,
+    room: &mut ArrayVec<CellEntry, 64>,
 ) -> Result<(), AllocError>
     requires listed { IsCodeList listed.now }
     requires later { AllBelow tracks.old set.now.epoch }
@@ -263,7 +265,7 @@ pub(crate) fn push_rows(
     lines.restart();
     let epoch = set.epoch();
     let msm = set.msm_cells();
-    let legacy = set.legacy_cells();
+    let legacy = set.legacy_left(room);
     let form = RowForm {
         epoch,
         places: places_of(listed),
