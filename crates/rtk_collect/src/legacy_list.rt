@@ -45,13 +45,6 @@ impl Model for LegacyList {
         × (0 < length l.first.items → l.cells.items ≡ []) };
 }
 
-/// For how many satellites of a first 1004, and for how many cells, there is room.
-#[derive(Clone, Copy)]
-pub(crate) struct LegacyRoom {
-    pub(crate) satellites: usize,
-    pub(crate) cells: usize,
-}
-
 // The list without elements, if it has just this room; else one that has taken no memory.
 fn if_of_room<T: Drop>(alloc: Global, mut list: Vec<T>, room: usize) -> Vec<T>
     ensures { result.items ≡ [] }
@@ -105,25 +98,23 @@ impl LegacyList {
         }
     }
 
-    /// No cell, with this room: in the memory of another list, of which each part that has just the
-    /// room that is wanted is used, and any other is given up before memory is taken.
+    /// No cell, with room for so many: in the memory of another list, of which each part that has just
+    /// the room that is wanted is used, and any other is given up before memory is taken.
     #[inline(always)]
-    pub(crate) fn with_room(
-        self,
-        alloc: Global,
-        room: LegacyRoom,
-    ) -> Result<LegacyList, AllocError>
+    pub(crate) fn with_room(self, alloc: Global, cells: usize) -> Result<LegacyList, AllocError>
         ensures { IfOk result (λ list. list ≡ []) }
     {
-        let mut first = if_of_room(alloc, self.first, room.satellites);
-        let mut cells = if_of_room(alloc, self.cells, room.cells);
-        if let Err(_) = first.reserve(room.satellites) {
+        // Two cells are of one satellite, and a 1004 has at most 31.
+        let satellites = (cells / 2).min(31);
+        let mut first = if_of_room(alloc, self.first, satellites);
+        let mut list = if_of_room(alloc, self.cells, cells);
+        if let Err(_) = first.reserve(satellites) {
             return Err(AllocError);
         }
-        if let Err(_) = cells.reserve(room.cells) {
+        if let Err(_) = list.reserve(cells) {
             return Err(AllocError);
         }
-        Ok(LegacyList { first, cells })
+        Ok(LegacyList { first, cells: list })
     }
 
     /// The list without a cell, for an epoch that opens later.
@@ -137,13 +128,9 @@ impl LegacyList {
         LegacyList { first, cells }
     }
 
-    /// How much room the list needs.
-    pub(crate) fn room(&self) -> LegacyRoom {
-        let satellites = self.first.len();
-        LegacyRoom {
-            satellites,
-            cells: self.cells.len().max(satellites * 2),
-        }
+    /// For how many cells the list needs room.
+    pub(crate) fn room(&self) -> usize {
+        self.cells.len().max(self.first.len() * 2)
     }
 
     /// Whether there is no cell.

@@ -18,7 +18,6 @@ ghost use Rattle.rtk_collect.specs.Steps.Observed.{IsAnswerOf, AddsCells, WouldT
 
 use crate::conflicts::Conflicts;
 use crate::epoch_set::{EpochSet, Room, Spare};
-use crate::legacy_list::LegacyRoom;
 use crate::merging::source_of;
 use crate::offer::Offer;
 use rtk_obs::{CellEntry, CellSource, GpsMs};
@@ -91,27 +90,20 @@ pub(crate) fn join_at(
 pub(crate) fn first_room(sets: &VecDeque<EpochSet>, at: usize, source: CellSource, cells: usize) -> Room
     ensures { cells ≤ room_for source result }
 {
-    let mut msm = 0;
-    let mut legacy = LegacyRoom {
-        satellites: 0,
-        cells: 0,
-    };
+    let mut room = Room { msm: 0, legacy: 0 };
     if at < sets.len() {
         let before = &sets[at];
-        msm = before.msm_cells().len();
-        legacy = before.legacy_room();
+        room.msm = before.msm_cells().len();
+        room.legacy = before.legacy_room();
     }
     match source {
         CellSource::Msm => Room {
-            msm: msm.max(cells),
-            legacy,
+            msm: room.msm.max(cells),
+            legacy: room.legacy,
         },
         CellSource::Legacy => Room {
-            msm,
-            legacy: LegacyRoom {
-                satellites: legacy.satellites,
-                cells: legacy.cells.max(cells),
-            },
+            msm: room.msm,
+            legacy: room.legacy.max(cells),
         },
     }
 }
