@@ -11,7 +11,7 @@ ghost use Rattle.rtk_collect.specs.Steps.First.{AreFirst};
 ghost use Rattle.rtk_collect.specs.Steps.Room.{AreSpare};
 
 use crate::conflicts::Conflicts;
-use crate::legacy_list::LegacyList;
+use crate::legacy_list::{LegacyList, if_of_room};
 use crate::merging::{join_list, source_of};
 use arrayvec::ArrayVec;
 use rtk_message::Satellite;
@@ -59,17 +59,6 @@ impl Model for EpochSet {
 
     ghost invariant = { λ s. (s ≡ record { epoch = s.epoch; msm = s.msm; legacy = s.legacy })
         × AreKeptOf Msm s.msm.items × AreKeptOf Legacy s.legacy };
-}
-
-// The list, if it has just this room; else one that has taken no memory.
-fn if_of_room(alloc: Global, list: Vec<CellEntry>, room: usize) -> Vec<CellEntry>
-    requires { list.items ≡ [] }
-    ensures { result.items ≡ [] }
-{
-    if list.capacity() == room {
-        return list;
-    }
-    Vec::new(alloc)
 }
 
 impl EpochSet {

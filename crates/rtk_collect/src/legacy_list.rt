@@ -45,8 +45,8 @@ impl Model for LegacyList {
         × (0 < length l.first.items → l.cells.items ≡ []) };
 }
 
-// The list without elements, if it has just this room; else one that has taken no memory.
-fn if_of_room<T: Drop>(alloc: Global, mut list: Vec<T>, room: usize) -> Vec<T>
+/// The list without elements, if it has just this room; else one that has taken no memory.
+pub(crate) fn if_of_room<T: Drop>(alloc: Global, mut list: Vec<T>, room: usize) -> Vec<T>
     ensures { result.items ≡ [] }
 {
     if list.capacity() == room {
