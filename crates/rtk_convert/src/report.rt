@@ -125,7 +125,9 @@ pub(crate) fn offer_lines(
             lines.push(b'\n')?;
         }
         Offer::Taken { .. } => {
-            put_cell_conflicts(&mut lines, link, number, epoch, conflicts)?;
+            if !conflicts.is_empty() {
+                put_cell_conflicts(&mut lines, link, number, epoch, conflicts)?;
+            }
         }
         Offer::Conflict => put_conflicts(&mut lines, link, number, epoch, conflicts)?,
         Offer::Repeat => {}
