@@ -59,15 +59,12 @@ pub(crate) fn is_satellite(satellite: u8) -> bool
     1 <= satellite && satellite <= 32
 }
 
-/// Makes a place of a list one that can be written.
-pub(crate) fn make_room(list: &mut ArrayVec<CellEntry, 64>, place: usize)
-    requires place { place ≤ length list.old.items }
-    requires room { place < 64 }
-    ensures front { take place list.new.items ≡ take place list.old.items }
-    ensures length { place < length list.new.items }
+/// Lengthens a list, if it must be, to this number of places, which can then be written.
+pub(crate) fn make_room(list: &mut ArrayVec<CellEntry, 64>, places: usize)
+    requires { places ≤ 64 }
+    ensures { places ≤ length list.new.items }
 {
-    if place < list.len() {
-        return;
+    while list.len() < places {
+        list.push(CellEntry::default());
     }
-    list.push(CellEntry::default());
 }

@@ -163,22 +163,19 @@ fn put_satellite(
 ) -> usize
     requires fields { HasLegacyWidths satellite.now }
     requires places { length seen.old ≡ 33 }
-    requires count { count ≤ length found.old.items }
-    requires room { count ≤ 60 }
+    requires room { count + 2 ≤ length found.old.items }
     ensures entries { (before : List Satellite) → HasSeen seen.old before → take count found.old.items ≡ cells_of_1004 before
         → take result found.new.items ≡ cells_of_1004 (before ++ satellite.now ∷ []) }
     ensures seen { (before : List Satellite) → HasSeen seen.old before → HasSeen seen.new (before ++ satellite.now ∷ []) }
     ensures places { length seen.new ≡ 33 }
-    ensures count { result ≤ length found.new.items }
+    ensures room { length found.new.items ≡ length found.old.items }
     ensures few { result ≤ count + 2 }
 {
     if !mark_first(seen, satellite.satellite) {
         return count;
     }
     let length = l1_length(satellite);
-    make_room(found, count);
     set_l1_entry(&mut found.as_mut_slice()[count], satellite, length);
-    make_room(found, count + 1);
     set_l2_entry(&mut found.as_mut_slice()[count + 1], satellite, length);
     count + 2
 }
@@ -192,6 +189,7 @@ fn put_satellites(found: &mut ArrayVec<CellEntry, 64>, satellites: &[Satellite])
     ensures few { result.0 ≤ 62 }
     ensures rises { IsTrue result.1 → AreRising (cells_of_1004 satellites.now) }
 {
+    make_room(found, 2 * satellites.len());
     let mut seen = [false; 33];
     let mut count = 0;
     let mut rises = true;

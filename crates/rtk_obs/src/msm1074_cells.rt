@@ -8,7 +8,7 @@ ghost use Rattle.rtk_obs.specs.LockTime.{least_lock_of_msm};
 ghost use Rattle.rtk_obs.specs.MsmCells.{rough_at, cell_of_1074, cells_of_1074};
 
 use crate::cell::{Cell, CellEntry, CellSource};
-use crate::code::Band;
+use crate::code::Code;
 use crate::lock_time::least_lock_msm;
 use crate::msm_rows::{CellsOfMsm, has_rising_codes, put_cells};
 use crate::msm_values::{MSM_STRENGTH_STEP, msm_phase, msm_range, rough_range};
@@ -40,6 +40,10 @@ impl CellsOfMsm for Msm1074 {
         self.header
     }
 
+    fn cells(&self) -> usize {
+        self.fine_range.len()
+    }
+
     fn cell_mask(&self) -> &[u32] {
         self.cell_mask.as_slice()
     }
@@ -52,9 +56,9 @@ impl CellsOfMsm for Msm1074 {
     }
 
     #[inline(always)]
-    fn set_cell(&self, cell: &mut Cell, place: usize, rough: Option<i64>, band: Band) {
+    fn set_cell(&self, cell: &mut Cell, place: usize, rough: Option<i64>, code: Code) {
         cell.range_mm = msm_range(rough, i32::from(self.fine_range.as_slice()[place]));
-        cell.phase_millicycles = msm_phase(band, rough, self.fine_phase.as_slice()[place]);
+        cell.phase_millicycles = msm_phase(code, rough, self.fine_phase.as_slice()[place]);
         cell.strength_millidbhz = strength_from_steps(
             MSM_STRENGTH_STEP,
             self.cnr.as_slice()[place],

@@ -7,7 +7,7 @@ ghost use Rattle.rtk_obs.specs.Cell.{IsInRange, AreDistinct, AreRising};
 ghost use Rattle.rtk_obs.specs.MsmCells.{rough_at, has_extended_resolution, cell_of_msm, cells_of_msm};
 
 use crate::cell::{Cell, CellEntry, CellSource};
-use crate::code::Band;
+use crate::code::Code;
 use crate::lock_time::{least_lock_extended, least_lock_msm};
 use crate::msm_rows::{CellsOfMsm, has_rising_codes, put_cells};
 use crate::msm_values::{
@@ -42,6 +42,10 @@ impl CellsOfMsm for Msm {
         self.header
     }
 
+    fn cells(&self) -> usize {
+        self.fine_range.len()
+    }
+
     fn cell_mask(&self) -> &[u32] {
         self.cell_mask.as_slice()
     }
@@ -54,19 +58,19 @@ impl CellsOfMsm for Msm {
     }
 
     #[inline(always)]
-    fn set_cell(&self, cell: &mut Cell, place: usize, rough: Option<i64>, band: Band) {
+    fn set_cell(&self, cell: &mut Cell, place: usize, rough: Option<i64>, code: Code) {
         let fine_range = self.fine_range.as_slice()[place];
         let fine_phase = self.fine_phase.as_slice()[place];
         let cnr = self.cnr.as_slice()[place];
         let lock = self.lock_indicator.as_slice()[place];
         if has_extended_resolution(self.kind) {
             cell.range_mm = extended_range(rough, fine_range);
-            cell.phase_millicycles = extended_phase(band, rough, fine_phase);
+            cell.phase_millicycles = extended_phase(code, rough, fine_phase);
             cell.strength_millidbhz = strength_from_sixteenths(cnr);
             cell.lock_time_ms = least_lock_extended(lock);
         } else {
             cell.range_mm = msm_range(rough, fine_range);
-            cell.phase_millicycles = msm_phase(band, rough, fine_phase);
+            cell.phase_millicycles = msm_phase(code, rough, fine_phase);
             cell.strength_millidbhz = strength_from_steps(MSM_STRENGTH_STEP, cnr as u8);
             cell.lock_time_ms = least_lock_msm(lock as u8);
         }

@@ -7,12 +7,13 @@ ghost use Rattle.rtk_message.specs.Msm1074.{satellite_count};
 ghost use Rattle.rtk_obs.specs.declared.code.Band.{Band};
 ghost use Rattle.rtk_obs.specs.declared.cell.Cell.{Cell};
 ghost use Rattle.rtk_obs.specs.Cell.{is_satellite};
+ghost use Rattle.rtk_obs.specs.Code.{band_of};
 ghost use Rattle.rtk_obs.specs.Mask.{set_bits, join_from};
 ghost use Rattle.rtk_obs.specs.MsmCells.{code_of_signal, satellites_of, signals_of, row_slots, slot_entry, msm_entries};
 ghost use Rattle.rtk_obs.specs.Steps.MsmRows.{IsCellMask, IsMaskRow, cells_in};
 
 use crate::cell::{Cell, CellEntry, is_satellite, make_room};
-use crate::code::{Band, Code};
+use crate::code::Code;
 use crate::mask::{places_of_bits, top_bit};
 use arrayvec::ArrayVec;
 use rtk_message::MsmHeader;
@@ -39,6 +40,11 @@ pub(crate) trait CellsOfMsm {
     fn header(&self) -> MsmHeader
         ensures { result ≡ header self.now };
 
+    /// How many cells the message has.
+    fn cells(&self) -> usize
+        requires { IsValid self.now }
+        ensures { result ≡ cells_in (cell_mask self.now) };
+
     /// The rows of the cell mask (DF396).
     fn cell_mask(&self) -> &[u32]
         ensures { result.now ≡ cell_mask self.now };
@@ -50,13 +56,13 @@ pub(crate) trait CellsOfMsm {
         ensures value { result ≡ rough_at self.now row }
         ensures bound { IfSome result (λ r. unsigned_abs r ≤ 2 ^ 38) };
 
-    /// Sets a cell to the one at this place in the message, of a satellite with this rough range.
-    /// Each field is written where it stays.
-    fn set_cell(&self, cell: &mut Cell, place: usize, rough: Option<i64>, band: Band)
+    /// Sets a cell to the one at this place in the message, of a satellite with this rough range, and
+    /// of this code. Each field is written where it stays.
+    fn set_cell(&self, cell: &mut Cell, place: usize, rough: Option<i64>, code: Code)
         requires valid { IsValid self.now }
         requires place { place < cells_in (cell_mask self.now) }
         requires rough { IfSome rough (λ r. unsigned_abs r ≤ 2 ^ 38) }
-        ensures { (row : ℕ) → rough ≡ rough_at self.now row → cell.new ≡ cell_of self.now place row band };
+        ensures { (row : ℕ) → rough ≡ rough_at self.now row → cell.new ≡ cell_of self.now place row (band_of code) };
 }
 
 // The codes of the signal identifiers from 0 on (DF395); `None` for those that give no cell.
@@ -176,21 +182,19 @@ fn put_cell<M: CellsOfMsm>(
     requires row { IsMaskRow (M.header message.now) (M.rough_at message.now) slot.row row }
     requires satellite { is_satellite row.satellite ≡ true }
     requires signal { slot.signal ≤ 32 }
-    requires count { count ≤ length found.old.items }
-    requires room { count < 64 }
+    requires room { count < length found.old.items }
     ensures entries { take result found.new.items
         ≡ take count found.old.items ++ slot_entry (M.header message.now) (M.cell_of message.now) cell slot }
-    ensures count { result ≤ length found.new.items }
+    ensures room { length found.new.items ≡ length found.old.items }
     ensures one { result ≤ count + 1 }
 {
     let Some(code) = signal_code(slot.signal) else {
         return count;
     };
-    make_room(found, count);
     let entry = &mut found.as_mut_slice()[count];
     entry.satellite = row.satellite;
     entry.code = code;
-    message.set_cell(&mut entry.cell, cell, row.rough, code.band());
+    message.set_cell(&mut entry.cell, cell, row.rough, code);
     count + 1
 }
 
@@ -211,12 +215,12 @@ fn put_row<M: CellsOfMsm>(
     requires bounds { All (λ p. (1 ≤ p) × (p ≤ 32)) signals.now }
     requires fits { bits < 2 ^ length signals.now }
     requires cells { start.cell + length (row_slots signals.now place bits) ≤ cells_in (M.cell_mask message.now) }
-    requires count { start.count ≤ length found.old.items }
+    requires room { cells_in (M.cell_mask message.now) ≤ length found.old.items }
     requires few { start.count ≤ start.cell }
     ensures entries { take result.count found.new.items ≡ take start.count found.old.items
         ++ join_from (slot_entry (M.header message.now) (M.cell_of message.now)) start.cell (row_slots signals.now place bits) }
     ensures cells { result.cell ≡ start.cell + length (row_slots signals.now place bits) }
-    ensures count { result.count ≤ length found.new.items }
+    ensures room { length found.new.items ≡ length found.old.items }
     ensures few { result.count ≤ result.cell }
 {
     if !is_satellite(row.satellite) {
@@ -253,6 +257,7 @@ pub(crate) fn put_cells<M: CellsOfMsm>(found: &mut ArrayVec<CellEntry, 64>, mess
     let signal_list = signal_identifiers(header);
     let signals = signal_list.as_slice();
     let masks = message.cell_mask();
+    make_room(found, message.cells());
     let mut progress = Progress { cell: 0, count: 0 };
     for (place, bits) in masks.iter().enumerate() {
         let row = row_of(message, numbers, place);

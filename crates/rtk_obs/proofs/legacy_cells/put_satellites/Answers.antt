@@ -9,7 +9,7 @@ use Rattle.rtk_obs.proofs.legacy_cells.put_satellites.Goals.{then-rises, else-ri
 
 pub loop-satellite-init : goal.loop-satellite-init
 unfolding first_entries
-loop-satellite-init c = record { entries = refl; count = omega arith; few = omega arith; places = refl; seen = λ n is. get_or-replicate 33 n false; rises = λ t. (tt, tt) }
+loop-satellite-init c = record { entries = refl; room = c.make_room.ensures; few = omega arith; places = refl; seen = λ n is. get_or-replicate 33 n false; rises = λ t. (tt, tt) }
 
 pub loop-satellite-preserved : goal.loop-satellite-preserved
 loop-satellite-preserved c =
@@ -18,7 +18,7 @@ loop-satellite-preserved c =
     let seen = c.put_satellite-count.ensures.seen stood c.loop-satellite.invariant.seen in
     record {
       entries = grind (arith, common_steps);
-      count = c.put_satellite-count.ensures.count;
+      room = omega (arith, c.put_satellite-count.ensures.room, c.loop-satellite.invariant.room);
       few = omega (arith, c.put_satellite-count.ensures.few, c.loop-satellite.invariant.few);
       places = c.put_satellite-count.ensures.places;
       seen = grind (arith, common_steps);

@@ -1,13 +1,16 @@
 use Rattle.std.proofs.Common.{◌≡◌, ◌∙◌, ap, take, arith}
 use Rattle.rtk_obs.specs.MsmCells.{signals_of, slot_entry}
-use Rattle.rtk_obs.proofs.MsmLemmas.{fits_at, cells_at, next_row_entries, next_row_length, no_row_entries, no_row_length}
+use Rattle.rtk_obs.proofs.MsmLemmas.{fits_at, cells_at, next_row_entries, next_row_length, no_row_entries, no_row_length, few_in_message}
 use Rattle.rtk_obs.proofs.msm_rows.put_cells.Goals as goal
+
+pub make_room-requires : goal.make_room-requires
+make_room-requires g c = omega (arith, c.cells.ensures, few_in_message (g.M.CellsOfMsm.header c.args.message.now) (g.M.CellsOfMsm.cell_mask c.args.message.now) c.requires.mask)
 
 pub loop-place-init : goal.loop-place-init
 loop-place-init g c = record {
   entries = no_row_entries (g.M.CellsOfMsm.header c.args.message.now) (slot_entry (g.M.CellsOfMsm.header c.args.message.now) (g.M.CellsOfMsm.cell_of c.args.message.now));
   cells = no_row_length (g.M.CellsOfMsm.header c.args.message.now);
-  count = omega arith;
+  room = omega (arith, c.make_room.ensures, c.cells.ensures);
   few = omega arith;
 }
 
@@ -35,6 +38,6 @@ loop-place-preserved g c =
           signals c.loop-place-test.true c.loop-place.invariant.cells c.loop-place.invariant.entries c.put_row-progress.ensures.entries;
       cells = next_row_length (g.M.CellsOfMsm.header c.args.message.now) c.cell_mask-masks.result.now c.as_slice-signals.result.now c.loop-place.place 0 c.loop-place.progress.cell c.put_row-progress.result.cell
           signals c.loop-place-test.true c.loop-place.invariant.cells c.put_row-progress.ensures.cells;
-      count = c.put_row-progress.ensures.count;
+      room = omega (arith, c.put_row-progress.ensures.room, c.loop-place.invariant.room);
       few = c.put_row-progress.ensures.few;
     }

@@ -19,7 +19,7 @@ pub returns-then-not-is_satellite-clause-cells : goal.returns-then-not-is_satell
 returns-then-not-is_satellite-clause-cells g c = omega (arith, count-row_slots c.args.signals.now c.args.place c.args.bits c.requires.fits)
 
 pub loop-rest-init : goal.loop-rest-init
-loop-rest-init g c = rw c.from-rest.ensures (record { entries = refl; cells = refl; count = c.requires.count; few = c.requires.few; fits = c.requires.fits })
+loop-rest-init g c = rw c.from-rest.ensures (record { entries = refl; cells = refl; room = refl; few = c.requires.few; fits = c.requires.fits })
 
 pub overflow_sub-signal : goal.overflow_sub-signal
 overflow_sub-signal g c =
@@ -41,13 +41,10 @@ put_cell-count-requires-clause-cell g c =
     let bit = bit_within (length c.args.signals.now) c.loop-rest.rest c.top_bit-top.result c.loop-rest.invariant.fits c.top_bit-top.ensures.from c.top_bit-top.ensures.below in
     omega (arith, next_length c.args.signals.now c.args.place c.loop-rest.rest c.top_bit-top.result bit, c.loop-rest.invariant.cells, c.requires.cells)
 
-pub put_cell-count-requires-clause-count : goal.put_cell-count-requires-clause-count
-put_cell-count-requires-clause-count g c = c.loop-rest.invariant.count
-
 pub put_cell-count-requires-clause-room : goal.put_cell-count-requires-clause-room
 put_cell-count-requires-clause-room g c =
     let bit = bit_within (length c.args.signals.now) c.loop-rest.rest c.top_bit-top.result c.loop-rest.invariant.fits c.top_bit-top.ensures.from c.top_bit-top.ensures.below in
-    omega (arith, next_length c.args.signals.now c.args.place c.loop-rest.rest c.top_bit-top.result bit, c.loop-rest.invariant.cells, c.loop-rest.invariant.few, c.requires.cells, few_in_message (g.M.CellsOfMsm.header c.args.message.now) (g.M.CellsOfMsm.cell_mask c.args.message.now) c.requires.mask)
+    omega (arith, next_length c.args.signals.now c.args.place c.loop-rest.rest c.top_bit-top.result bit, c.loop-rest.invariant.cells, c.loop-rest.invariant.few, c.requires.cells, c.requires.room, c.loop-rest.invariant.room)
 
 pub overflow_add-cell : goal.overflow_add-cell
 overflow_add-cell g c =
@@ -62,7 +59,7 @@ loop-rest-preserved g c =
       entries = next_entries (slot_entry (g.M.CellsOfMsm.header c.args.message.now) (g.M.CellsOfMsm.cell_of c.args.message.now)) c.args.signals.now c.args.place c.loop-rest.cell c.loop-rest.rest c.top_bit-top.result (get_or c.args.signals.now (length c.args.signals.now - 1 - c.top_bit-top.result) 0)
           (take c.loop-rest.count c.loop-rest.found.items) (take c.put_cell-count.result c.put_cell-count.new.found.items) _ bit refl c.put_cell-count.ensures.entries c.loop-rest.invariant.entries;
       cells = omega (arith, next_length c.args.signals.now c.args.place c.loop-rest.rest c.top_bit-top.result bit, c.loop-rest.invariant.cells);
-      count = c.put_cell-count.ensures.count;
+      room = omega (arith, c.put_cell-count.ensures.room, c.loop-rest.invariant.room);
       few = omega (arith, c.put_cell-count.ensures.one, c.loop-rest.invariant.few);
       fits = omega (arith, c.loop-rest.invariant.fits);
     })
@@ -74,8 +71,8 @@ returns-clause-entries g c =
 pub returns-clause-cells : goal.returns-clause-cells
 returns-clause-cells g c = omega (arith, no_slots c.args.signals.now c.args.place c.loop-rest.rest c.loop-rest-test.false, c.loop-rest.invariant.cells)
 
-pub returns-clause-count : goal.returns-clause-count
-returns-clause-count g c = c.loop-rest.invariant.count
+pub returns-clause-room : goal.returns-clause-room
+returns-clause-room g c = c.loop-rest.invariant.room
 
 pub returns-clause-few : goal.returns-clause-few
 returns-clause-few g c = c.loop-rest.invariant.few

@@ -7,7 +7,7 @@ abbrev pub invariant-loop-rest : goal.invariant-loop-rest
 invariant-loop-rest g l = record {
   entries : take l.count l.found.items ++ join_from (slot_entry (g.M.CellsOfMsm.header l.message) (g.M.CellsOfMsm.cell_of l.message)) l.cell (row_slots l.signals l.place l.rest) ≡ take l.fn.start.count l.fn.found.items ++ join_from (slot_entry (g.M.CellsOfMsm.header l.message) (g.M.CellsOfMsm.cell_of l.message)) l.fn.start.cell (row_slots l.signals l.place l.bits);
   cells : l.cell + length (row_slots l.signals l.place l.rest) ≡ l.fn.start.cell + length (row_slots l.signals l.place l.bits);
-  count : l.count ≤ length l.found.items;
+  room : length l.found.items ≡ length l.fn.found.items;
   few : l.count ≤ l.cell;
   fits : l.rest < 2 ^ length l.signals;
 }
