@@ -14,7 +14,7 @@ ghost use Rattle.rtk_obs.specs.CellsLeft.{AreRisingSatellites, RiseAbove, cells_
 ghost use Rattle.rtk_obs.specs.Steps.LegacyFields.{HasLegacyWidths};
 ghost use Rattle.rtk_obs.specs.Steps.Marks.{HasMarks};
 
-use crate::cell::{CellEntry, is_satellite, make_room};
+use crate::cell::{CellEntry, is_satellite};
 use crate::legacy_cells::{l1_code, l1_length, l2_code, set_l1_entry, set_l2_entry};
 use crate::scaling::LONGEST_RANGE;
 use crate::tracks::{SIGNALS, place_of_signal};
@@ -65,6 +65,20 @@ fn marks_of(cells: &[CellEntry]) -> [bool; SIGNALS]
     marks
 }
 
+// Makes a place of a list one that can be written. Most epochs have few cells that are left, so the list
+// is lengthened for each cell, and not once for all.
+fn make_place(list: &mut ArrayVec<CellEntry, 64>, place: usize)
+    requires place { place ≤ length list.old.items }
+    requires room { place < 64 }
+    ensures front { take place list.new.items ≡ take place list.old.items }
+    ensures length { place < length list.new.items }
+{
+    if place < list.len() {
+        return;
+    }
+    list.push(CellEntry::default());
+}
+
 // Puts the cell of L1 of a satellite, unless it is known. The result is how many entries stand then.
 #[inline(always)]
 fn put_l1(
@@ -87,7 +101,7 @@ fn put_l1(
     if is_known {
         return count;
     }
-    make_room(found, count);
+    make_place(found, count);
     set_l1_entry(&mut found.as_mut_slice()[count], satellite, pseudorange);
     count + 1
 }
@@ -114,7 +128,7 @@ fn put_l2(
     if is_known {
         return count;
     }
-    make_room(found, count);
+    make_place(found, count);
     set_l2_entry(&mut found.as_mut_slice()[count], satellite, pseudorange);
     count + 1
 }
