@@ -11,7 +11,7 @@ ghost use Rattle.rtk_collect.specs.Steps.First.{AreFirst};
 ghost use Rattle.rtk_collect.specs.Steps.Room.{AreSpare};
 
 use crate::conflicts::Conflicts;
-use crate::legacy_list::{LegacyList, if_of_room};
+use crate::legacy_list::{LegacyList, LegacyRoom, if_of_room};
 use crate::merging::{join_list, source_of};
 use arrayvec::ArrayVec;
 use rtk_message::Satellite;
@@ -36,7 +36,7 @@ pub struct EpochSet {
 #[derive(Clone, Copy)]
 pub(crate) struct Room {
     pub(crate) msm: usize,
-    pub(crate) legacy: usize,
+    pub(crate) legacy: LegacyRoom,
 }
 
 /// Lists without cells, for an epoch that opens later.
@@ -143,8 +143,8 @@ impl EpochSet {
         self.legacy.left(&self.msm, room)
     }
 
-    /// For how many cells of 1004 the epoch needs room.
-    pub(crate) fn legacy_room(&self) -> usize {
+    /// How much room the epoch needs for the cells of 1004.
+    pub(crate) fn legacy_room(&self) -> LegacyRoom {
         self.legacy.room()
     }
 

@@ -80,7 +80,8 @@ fn open_first_at(
     ensures err { OnErr result (sets.new.items ≡ sets.old.items) }
     ensures spare { AreSpare spare.new }
 {
-    let room = first_room(sets, at, CellSource::Legacy, satellites.len() * 2);
+    let mut room = first_room(sets, at, CellSource::Legacy, satellites.len() * 2);
+    room.legacy.satellites = room.legacy.satellites.max(satellites.len());
     let Ok(mut set) = EpochSet::with_room(alloc, epoch, room, spare) else {
         return Err(AllocError);
     };

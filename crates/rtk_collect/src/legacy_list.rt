@@ -25,6 +25,15 @@ pub(crate) struct LegacyList {
     // The satellites of the first 1004, as long as its cells are not in the list.
     first: Vec<Satellite>,
     cells: Vec<CellEntry>,
+    // How many satellites the first 1004 had, also when its cells are in the list.
+    satellites: usize,
+}
+
+/// For how many satellites of a first 1004, and for how many cells, there is room.
+#[derive(Clone, Copy)]
+pub(crate) struct LegacyRoom {
+    pub(crate) satellites: usize,
+    pub(crate) cells: usize,
 }
 
 // Clauses see the cells. While the satellites are kept, the list is empty and has room for their
@@ -39,7 +48,7 @@ impl Model for LegacyList {
 
     ghost view = { λ l. cells_of_1004 l.first.items ++ l.cells.items };
 
-    ghost invariant = { λ l. (l ≡ record { first = l.first; cells = l.cells })
+    ghost invariant = { λ l. (l ≡ record { first = l.first; cells = l.cells; satellites = l.satellites })
         × AreRisingSatellites l.first.items
         × (2 * length l.first.items ≤ vec_capacity l.cells)
         × (0 < length l.first.items → l.cells.items ≡ []) };
@@ -95,26 +104,29 @@ impl LegacyList {
         LegacyList {
             first: Vec::new(alloc),
             cells: Vec::new(alloc),
+            satellites: 0,
         }
     }
 
-    /// No cell, with room for so many: in the memory of another list, of which each part that has just
-    /// the room that is wanted is used, and any other is given up before memory is taken.
+    /// No cell, with this room: in the memory of another list, of which each part that has just the
+    /// room that is wanted is used, and any other is given up before memory is taken.
     #[inline(always)]
-    pub(crate) fn with_room(self, alloc: Global, cells: usize) -> Result<LegacyList, AllocError>
+    pub(crate) fn with_room(self, alloc: Global, room: LegacyRoom) -> Result<LegacyList, AllocError>
         ensures { IfOk result (λ list. list ≡ []) }
     {
-        // Two cells are of one satellite, and a 1004 has at most 31.
-        let satellites = (cells / 2).min(31);
-        let mut first = if_of_room(alloc, self.first, satellites);
-        let mut list = if_of_room(alloc, self.cells, cells);
-        if let Err(_) = first.reserve(satellites) {
+        let mut first = if_of_room(alloc, self.first, room.satellites);
+        let mut cells = if_of_room(alloc, self.cells, room.cells);
+        if let Err(_) = first.reserve_exact(room.satellites) {
             return Err(AllocError);
         }
-        if let Err(_) = list.reserve(cells) {
+        if let Err(_) = cells.reserve(room.cells) {
             return Err(AllocError);
         }
-        Ok(LegacyList { first, cells: list })
+        Ok(LegacyList {
+            first,
+            cells,
+            satellites: 0,
+        })
     }
 
     /// The list without a cell, for an epoch that opens later.
@@ -125,12 +137,19 @@ impl LegacyList {
         let mut cells = self.cells;
         first.clear();
         cells.clear();
-        LegacyList { first, cells }
+        LegacyList {
+            first,
+            cells,
+            satellites: 0,
+        }
     }
 
-    /// For how many cells the list needs room.
-    pub(crate) fn room(&self) -> usize {
-        self.cells.len().max(self.first.len() * 2)
+    /// How much room the list needs.
+    pub(crate) fn room(&self) -> LegacyRoom {
+        LegacyRoom {
+            satellites: self.satellites,
+            cells: self.cells.len().max(self.first.len() * 2),
+        }
     }
 
     /// Whether there is no cell.
@@ -153,6 +172,7 @@ impl LegacyList {
         if let Err(_) = self.cells.reserve(satellites.len() * 2) {
             return Err(AllocError);
         }
+        self.satellites = satellites.len();
         self.first.extend_from_slice(satellites)
     }
 

@@ -18,6 +18,7 @@ ghost use Rattle.rtk_collect.specs.Steps.Observed.{IsAnswerOf, AddsCells, WouldT
 
 use crate::conflicts::Conflicts;
 use crate::epoch_set::{EpochSet, Room, Spare};
+use crate::legacy_list::LegacyRoom;
 use crate::merging::source_of;
 use crate::offer::Offer;
 use rtk_obs::{CellEntry, CellSource, GpsMs};
@@ -87,23 +88,35 @@ pub(crate) fn join_at(
 // message, and for as many as the epoch before it has, since messages of each epoch mostly have the
 // same cells.
 #[inline(always)]
-pub(crate) fn first_room(sets: &VecDeque<EpochSet>, at: usize, source: CellSource, cells: usize) -> Room
+pub(crate) fn first_room(
+    sets: &VecDeque<EpochSet>,
+    at: usize,
+    source: CellSource,
+    cells: usize,
+) -> Room
     ensures { cells ≤ room_for source result }
 {
-    let mut room = Room { msm: 0, legacy: 0 };
+    let mut msm = 0;
+    let mut legacy = LegacyRoom {
+        satellites: 0,
+        cells: 0,
+    };
     if at < sets.len() {
         let before = &sets[at];
-        room.msm = before.msm_cells().len();
-        room.legacy = before.legacy_room();
+        msm = before.msm_cells().len();
+        legacy = before.legacy_room();
     }
     match source {
         CellSource::Msm => Room {
-            msm: room.msm.max(cells),
-            legacy: room.legacy,
+            msm: msm.max(cells),
+            legacy,
         },
         CellSource::Legacy => Room {
-            msm: room.msm,
-            legacy: room.legacy.max(cells),
+            msm,
+            legacy: LegacyRoom {
+                satellites: legacy.satellites,
+                cells: legacy.cells.max(cells),
+            },
         },
     }
 }
@@ -144,7 +157,11 @@ pub(crate) fn open_at(
 
 // Puts an epoch at a place.
 #[inline(always)]
-pub(crate) fn put_at(sets: &mut VecDeque<EpochSet>, at: usize, set: EpochSet) -> Result<(), AllocError>
+pub(crate) fn put_at(
+    sets: &mut VecDeque<EpochSet>,
+    at: usize,
+    set: EpochSet,
+) -> Result<(), AllocError>
     requires { at ≤ length sets.old.items }
     ensures items { OnOk result (sets.new.items ≡ insert sets.old.items at set) }
     ensures err { OnErr result (sets.new.items ≡ sets.old.items) }

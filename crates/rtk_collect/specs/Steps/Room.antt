@@ -7,7 +7,7 @@ use Rattle.rtk_collect.specs.declared.epoch_set.Spare.{Spare}
 
 -- the room for cells of a kind of message
 abbrev pub room_for : CellSource → Room → ℕ
-room_for Legacy room = room.legacy
+room_for Legacy room = room.legacy.cells
 room_for Msm room = room.msm
 
 -- lists without cells

@@ -3,4 +3,4 @@ use Rattle.rtk_collect.proofs.LegacyListLemmas.{spelled}
 use Rattle.rtk_collect.proofs.legacy_list.LegacyList.with_room.Goals as goal
 
 pub returns : goal.returns
-returns c = spelled _ _ (c.reserve.ensures.items ∙ c.if_of_room-first.ensures) ∙ c.reserve-2.ensures.items ∙ c.if_of_room-list.ensures
+returns c = spelled _ _ (c.reserve_exact.ensures.items ∙ c.if_of_room-first.ensures) ∙ c.reserve.ensures.items ∙ c.if_of_room-cells.ensures
