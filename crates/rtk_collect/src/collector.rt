@@ -21,7 +21,7 @@ use crate::left::Left;
 use crate::legacy_list::LegacyList;
 use crate::offer::Offer;
 use crate::stations::{StationMessages, keep_station_message, position};
-use crate::window::offer_cells;
+use crate::window::{offer_cells, place_of_epoch};
 use arrayvec::ArrayVec;
 use rtk_message::Message;
 use rtk_obs::{CellEntry, Position};
@@ -131,10 +131,11 @@ impl Collector {
             };
             return Ok(self.offer_station_message(message));
         };
-        let first = first_satellites(&self.sets, epoch, dated.message);
+        let at = place_of_epoch(&self.sets, epoch);
+        let first = first_satellites(&self.sets, at, epoch, dated.message);
         if let Some(satellites) = first {
             let (sets, spare) = (&mut self.sets, &mut self.spare);
-            return offer_first(sets, self.places, self.alloc, epoch, satellites, spare);
+            return offer_first(sets, self.places, self.alloc, at, epoch, satellites, spare);
         }
         let rises = dated.message.put_cells(&mut self.cells);
         let cells = self.cells.as_slice();
@@ -143,6 +144,7 @@ impl Collector {
             sets,
             self.places,
             self.alloc,
+            at,
             epoch,
             cells,
             rises,

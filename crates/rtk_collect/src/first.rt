@@ -10,26 +10,28 @@ ghost use Rattle.rtk_collect.specs.EpochSet.{EpochSetView, joined, fresh, confli
 ghost use Rattle.rtk_collect.specs.Accepted.{no_cells};
 ghost use Rattle.rtk_collect.specs.Steps.Borrowed.{borrowed};
 ghost use Rattle.rtk_collect.specs.Steps.First.{AreFirst, HasNoLegacy};
+ghost use Rattle.rtk_collect.specs.Steps.OrderedPlaces.{leading};
 ghost use Rattle.rtk_collect.specs.Steps.Room.{AreSpare};
 ghost use Rattle.rtk_collect.specs.Steps.Observed.{AddsCells, WouldTakeCells};
 
 use crate::dated::Borrowed;
 use crate::epoch_set::{EpochSet, Spare};
 use crate::offer::Offer;
-use crate::window::{close_least, first_room, has_epoch, place_of_epoch, put_at};
+use crate::window::{close_least, first_room, has_epoch, put_at};
 use rtk_message::{Message, Satellite};
 use rtk_obs::{CellSource, GpsMs, rising_satellites};
 use std::alloc::{AllocError, Global};
 use std::collections::VecDeque;
 
-/// The satellites of a 1004, if they rise and its epoch has no cell of a 1004 yet.
+/// The satellites of a 1004, if they rise and its epoch, whose place is `at`, has no cell of a 1004 yet.
 pub(crate) fn first_satellites<'a>(
     sets: &VecDeque<EpochSet>,
+    at: usize,
     epoch: GpsMs,
     message: Borrowed<'a>,
 ) -> Option<&'a [Satellite]>
     requires valid { IsValid (borrowed message) }
-    requires falls { EpochsFall sets.now.items }
+    requires place { at ≡ leading epoch sets.now.items }
     ensures cells { IfSome result (λ satellites. cells_of (borrowed message.entry) ≡ cells_of_1004 satellites.now) }
     ensures first { IfSome result (λ satellites. AreFirst satellites.now) }
     ensures none { IsSome result → HasNoLegacy epoch sets.now.items }
@@ -37,7 +39,6 @@ pub(crate) fn first_satellites<'a>(
     let Borrowed::Message(Message::Obs1004(message)) = message else {
         return None;
     };
-    let at = place_of_epoch(sets, epoch);
     if has_epoch(sets, at, epoch) && !sets[at].has_no_legacy() {
         return None;
     }
@@ -97,12 +98,14 @@ pub(crate) fn offer_first(
     sets: &mut VecDeque<EpochSet>,
     places: usize,
     alloc: Global,
+    at: usize,
     epoch: GpsMs,
     satellites: &[Satellite],
     spare: &mut Spare,
 ) -> Result<Offer, AllocError>
     requires fits { length sets.old.items ≤ places }
     requires falls { EpochsFall sets.old.items }
+    requires place { at ≡ leading epoch sets.old.items }
     requires first { AreFirst satellites.now }
     requires none { HasNoLegacy epoch sets.old.items }
     requires spare { AreSpare spare.old }
@@ -111,7 +114,6 @@ pub(crate) fn offer_first(
     ensures refused { OnErr result (WouldTakeCells places epoch (cells_of_1004 satellites.now) sets.old.items) }
     ensures spare { AreSpare spare.new }
 {
-    let at = place_of_epoch(sets, epoch);
     if has_epoch(sets, at, epoch) {
         if let Err(_) = take_first_at(sets, at, satellites) {
             return Err(AllocError);

@@ -193,13 +193,14 @@ pub(crate) fn close_least(sets: &mut VecDeque<EpochSet>, places: usize) -> Optio
     }
 }
 
-/// Takes the new cells of an epoch, or opens it, in a window that has this number of places and
-/// spare lists; those that conflict are added to an empty list, which stays empty if memory is refused.
+/// Takes the new cells of an epoch, whose place is `at`, or opens it, in a window that has this number
+/// of places and spare lists; those that conflict are added to an empty list, which stays empty if memory is refused.
 /// If `rises`, the keys of the cells rise.
 pub(crate) fn offer_cells(
     sets: &mut VecDeque<EpochSet>,
     places: usize,
     alloc: Global,
+    at: usize,
     epoch: GpsMs,
     cells: &[CellEntry],
     rises: bool,
@@ -208,6 +209,7 @@ pub(crate) fn offer_cells(
 ) -> Result<Offer, AllocError>
     requires fits { length sets.old.items ≤ places }
     requires falls { EpochsFall sets.old.items }
+    requires place { at ≡ leading epoch sets.old.items }
     requires few { length cells.now ≤ 64 }
     requires range { All IsInRange cells.now }
     requires kind { AreOfOneKind cells.now }
@@ -220,7 +222,6 @@ pub(crate) fn offer_cells(
     ensures none { OnErr result (found.new ≡ []) }
     ensures spare { AreSpare spare.new }
 {
-    let at = place_of_epoch(sets, epoch);
     if has_epoch(sets, at, epoch) {
         let Ok(fresh) = join_at(sets, at, cells, rises, found) else {
             found.clear();
