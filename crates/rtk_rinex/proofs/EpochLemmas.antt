@@ -1,5 +1,9 @@
 -- What an epoch line shows is its moment and its count.
-use Rattle.std.proofs.Common.{◌≡◌, ℕ, ◌/◌, ◌^◌, ◌<◌, List, [], ◌∷◌, ◌++◌, length, take, drop, decimal, codes, false, arith, refl, ◌∙◌, append_assoc, length-append}
+use Rattle.std.proofs.Common.{◌≡◌, ℕ, ◌+◌, ◌*◌, ◌/◌, ◌%◌, ◌^◌, ◌<◌, List, [], ◌∷◌, ◌++◌, length, take, drop, decimal, codes, false, ap, sym, arith, refl, ◌∙◌, append_assoc, length-append}
+use Rattle.std.proofs.lemmas.List.{take_at, drop_at, drop-drop}
+use borrow.Rule.Slice.PartMut.{put_mid}
+use Rattle.rtk_obs.specs.CivilText.{last_digits}
+use Rattle.rtk_rinex.proofs.ColumnsLemmas.{right-front}
 use Rattle.std.specs.Int.{IsInRange}
 use Rattle.std.proofs.lemmas.Fmt.{length-decimal-le}
 use Rattle.rtk_obs.specs.declared.time.Civil.{Civil}
@@ -10,13 +14,63 @@ use Rattle.rtk_rinex.specs.Steps.CheckValues.{seconds_in, civil_in, count_in}
 use Rattle.rtk_rinex.proofs.ReadingLemmas.{same_civil, FitsColumns, FitsColumns-reading_of}
 use Rattle.rtk_rinex.proofs.DigitsLemmas.{digits_from-last_2, digits_from-last_4, digits_from-seconds, digits_from-right, length-right, take-exact, drop-exact}
 
-length-seconds : (n : ℕ) → n < 10 ^ 10 → length (right 11 (decimals 7 false n)) ≡ 11
+pub length-seconds : (n : ℕ) → n < 10 ^ 10 → length (right 11 (decimals 7 false n)) ≡ 11
 length-seconds n h =
     let digits = length-decimal-le 3 (n / 10_000_000) (omega arith) (omega arith) (omega arith) in
     length-right 11 (decimals 7 false n) (simp length-append (omega arith))
 
 length-count : (n : ℕ) → n < 1000 → length (right 3 (decimal n)) ≡ 3
 length-count n h = length-right 3 (decimal n) (length-decimal-le 3 n (omega arith) (omega arith) (omega arith))
+
+-- ---- the line, column by column
+
+-- the columns up to the minute, two digits at a time
+pub date-pairs : (c : Civil) → c.year < 10_000 → c.month < 100 → c.day < 100 → c.hour < 100 → c.minute < 100
+    → 62 ∷ 32 ∷ (48 + c.year / 100 / 10) ∷ (48 + c.year / 100 % 10) ∷ (48 + c.year % 100 / 10) ∷ (48 + c.year % 100 % 10) ∷ 32 ∷ (48 + c.month / 10) ∷ (48 + c.month % 10) ∷ 32 ∷ (48 + c.day / 10) ∷ (48 + c.day % 10)
+    ∷ 32 ∷ (48 + c.hour / 10) ∷ (48 + c.hour % 10) ∷ 32 ∷ (48 + c.minute / 10) ∷ (48 + c.minute % 10) ∷ [] ≡ epoch_date_text c
+date-pairs c year month day hour minute =
+    let y1 : c.year / 10 / 10 / 10 % 10 ≡ c.year / 100 / 10 = omega arith in
+    let y2 : c.year / 10 / 10 % 10 ≡ c.year / 100 % 10 = omega arith in
+    let y3 : c.year / 10 % 10 ≡ c.year % 100 / 10 = omega arith in
+    let y4 : c.year % 10 ≡ c.year % 100 % 10 = omega arith in
+    let m : c.month / 10 % 10 ≡ c.month / 10 = omega arith in
+    let d : c.day / 10 % 10 ≡ c.day / 10 = omega arith in
+    let h : c.hour / 10 % 10 ≡ c.hour / 10 = omega arith in
+    let n : c.minute / 10 % 10 ≡ c.minute / 10 = omega arith in
+    rw (y1, y2, y3, y4, m, d, h, n) refl
+
+-- four decimals of seconds are 0, since they are whole milliseconds
+last-seven : (n s ms : ℕ) → n ≡ s * 10_000_000 + ms * 10_000 → ms < 1000 → last_digits 7 n ≡ last_digits 3 ms ++ 48 ∷ 48 ∷ 48 ∷ 48 ∷ []
+last-seven n s ms e few =
+    let a : n / 10 / 10 / 10 / 10 / 10 / 10 % 10 ≡ ms / 10 / 10 % 10 = omega arith in
+    let b : n / 10 / 10 / 10 / 10 / 10 % 10 ≡ ms / 10 % 10 = omega arith in
+    let c : n / 10 / 10 / 10 / 10 % 10 ≡ ms % 10 = omega arith in
+    let d : n / 10 / 10 / 10 % 10 ≡ 0 = omega arith in
+    let f : n / 10 / 10 % 10 ≡ 0 = omega arith in
+    let g : n / 10 % 10 ≡ 0 = omega arith in
+    let h : n % 10 ≡ 0 = omega arith in
+    rw (a, b, c, d, f, g, h) refl
+
+pub right-seconds : (n s ms : ℕ) → n ≡ s * 10_000_000 + ms * 10_000 → s < 60 → ms < 1000 → right 3 (decimal s) ++ (46 ∷ last_digits 3 ms ++ 48 ∷ 48 ∷ 48 ∷ 48 ∷ []) ≡ right 11 (decimals 7 false n)
+right-seconds n s ms e second few =
+    let whole : n / 10_000_000 ≡ s = omega arith in
+    rw (whole, last-seven n s ms e few) (right-front 3 8 (decimal s) (46 ∷ last_digits 3 ms ++ 48 ∷ 48 ∷ 48 ∷ 48 ∷ []) (length-decimal-le 3 s (omega arith) (omega arith) (omega arith)) refl)
+
+-- three parts of a text, one after another over its first columns
+pub three-parts : (text f g h : List ℕ) → length f ≡ 18 → length g ≡ 11 → put_mid 29 7 (put_mid 18 11 (f ++ drop 18 text) g) h ≡ f ++ (g ++ (h ++ drop 36 text))
+three-parts text f g h a b =
+    let rest : List ℕ = drop 18 text in
+    let two : put_mid 18 11 (f ++ rest) g ≡ (f ++ g) ++ drop 11 rest =
+    ap (λ (xs : List ℕ). xs ++ (g ++ drop 11 (drop 18 (f ++ rest)))) (take_at f rest 18 a) ∙ ap (λ (xs : List ℕ). f ++ (g ++ drop 11 xs)) (drop_at f rest 18 a) ∙ sym (append_assoc f g (drop 11 rest)) in
+    let size : length (f ++ g) ≡ 29 = length-append f g ∙ omega (arith, a, b) in
+    ap (λ (xs : List ℕ). put_mid 29 7 xs h) two
+    ∙ ap (λ (xs : List ℕ). xs ++ (h ++ drop 7 (drop 29 ((f ++ g) ++ drop 11 rest)))) (take_at (f ++ g) (drop 11 rest) 29 size)
+    ∙ ap (λ (xs : List ℕ). (f ++ g) ++ (h ++ drop 7 xs)) (drop_at (f ++ g) (drop 11 rest) 29 size)
+    ∙ ap (λ (xs : List ℕ). (f ++ g) ++ (h ++ xs)) (drop-drop 7 11 rest ∙ drop-drop 18 18 text) ∙ append_assoc f g (h ++ drop 36 text)
+
+pub line-parts : (c : Civil) (n : ℕ) (rest : List ℕ)
+    → epoch_date_text c ++ (right 11 (decimals 7 false (seconds_of c)) ++ ((codes "  0" ++ (right 3 (decimal n) ++ 10 ∷ [])) ++ rest)) ≡ epoch_line c n ++ rest
+line-parts c n rest = simp append_assoc refl
 
 pub seconds_in-columns : (c : Civil) (n : ℕ) → FitsColumns c → seconds_in (epoch_columns c n) ≡ seconds_of c
 seconds_in-columns c n h =

@@ -186,8 +186,8 @@ pub(crate) fn put_decimal(field: &mut [u8], number: u64) -> usize
     at
 }
 
-// Writes a point and the three digits of a number below 1000 over four columns.
-fn put_point_and_three(field: &mut [u8], number: usize)
+/// Writes a point and the three digits of a number below 1000 over four columns.
+pub(crate) fn put_point_and_three(field: &mut [u8], number: usize)
     requires columns { length field.old ≡ 4 }
     requires number { number < 1000 }
     ensures { field.new ≡ 46 ∷ last_digits 3 number }
@@ -306,18 +306,6 @@ pub(crate) fn unsigned_13_7(magnitude: u64) -> [u8; 13]
     put_last_digits(&mut field[6..], magnitude);
     field[5] = b'.';
     put_decimal(&mut field[..5], magnitude / 10_000_000);
-    field
-}
-
-/// F11.7 of a number of ten-millionths.
-pub(crate) fn unsigned_11_7(magnitude: u64) -> [u8; 11]
-    requires { magnitude < 10 ^ 10 }
-    ensures { result ≡ right 11 (decimals 7 false magnitude) }
-{
-    let mut field = [b' '; 11];
-    put_last_digits(&mut field[4..], magnitude);
-    field[3] = b'.';
-    put_decimal(&mut field[..3], magnitude / 10_000_000);
     field
 }
 

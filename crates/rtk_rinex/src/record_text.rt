@@ -1,16 +1,16 @@
 //! The lines of a record: the epoch line, and a line for each satellite that shows something.
 
-ghost use Rattle.std.specs.Prelude.{◌≡◌, ℕ, ◌+◌, ◌*◌, ◌<◌, ◌≤◌, ◌-◌, [], ◌∷◌, ◌++◌, length, take, drop, replicate, flat_map, not, IsTrue, ◌==◌};
-ghost use Rattle.std.specs.List.{list_any};
+ghost use Rattle.std.specs.Prelude.{◌≡◌, ◌+◌, ◌<◌, ◌≤◌, ◌-◌, [], ◌∷◌, ◌++◌, length, take, drop, replicate, codes, decimal, false, IsTrue};
 ghost use Rattle.rtk_rinex.specs.Record.{is_written, is_present, observation, observations, strength_digit, strength_value, lli_digit, has_observation, has_line, trim_end, epoch_date_text, epoch_line};
+ghost use Rattle.rtk_rinex.specs.Columns.{right, decimals};
+ghost use Rattle.rtk_rinex.specs.Reading.{seconds_of};
 ghost use Rattle.rtk_rinex.specs.RecordLines.{ended};
 
 use crate::columns::{
-    CODE_COLUMNS, EPOCH_LINE, append, integer_3, put_fixed_14_3, put_last_digits, put_long_14_3,
-    put_pair, put_short_14_3, seconds, unsigned_11_7,
+    EPOCH_LINE, put_decimal, put_fixed_14_3, put_long_14_3, put_pair, put_point_and_three,
+    put_short_14_3,
 };
 use crate::epoch_table::{Observed, SatelliteRow};
-use arrayvec::ArrayVec;
 use rtk_obs::Civil;
 
 // The least value that F14.3 has room for, in thousandths.
@@ -197,42 +197,72 @@ pub(crate) fn end_line(line: &mut [u8], satellite: u8, end: usize) -> usize
     len + 1
 }
 
-// The columns of the epoch line up to the minute.
-fn epoch_date(time: Civil) -> [u8; 18]
-    ensures { result ≡ epoch_date_text time }
+// Writes the columns of the epoch line up to the minute.
+fn put_epoch_date(field: &mut [u8], time: Civil)
+    requires columns { length field.old ≡ 18 }
+    requires year { time.year < 10_000 }
+    requires date { (time.month < 100) × (time.day < 100) }
+    requires clock { (time.hour < 100) × (time.minute < 100) }
+    ensures { field.new ≡ epoch_date_text time }
 {
-    let mut field = *b"> yyyy mm dd hh mm";
-    put_last_digits(&mut field[2..6], u64::from(time.year));
-    put_last_digits(&mut field[7..9], u64::from(time.month));
-    put_last_digits(&mut field[10..12], u64::from(time.day));
-    put_last_digits(&mut field[13..15], u64::from(time.hour));
-    put_last_digits(&mut field[16..18], u64::from(time.minute));
-    field
+    field.copy_from_slice(b"> yyyy mm dd hh mm");
+    put_pair(field, 2, u64::from(time.year / 100));
+    put_pair(field, 4, u64::from(time.year % 100));
+    put_pair(field, 7, u64::from(time.month));
+    put_pair(field, 10, u64::from(time.day));
+    put_pair(field, 13, u64::from(time.hour));
+    put_pair(field, 16, u64::from(time.minute));
 }
 
-/// The epoch line of a date and time and a count of satellites.
-pub(crate) fn epoch_line(time: Civil, count: usize) -> ArrayVec<u8, EPOCH_LINE>
+// Writes F11.7 of the seconds of a date and time.
+fn put_seconds(field: &mut [u8], time: Civil)
+    requires columns { length field.old ≡ 11 }
     requires second { time.second < 60 }
     requires millisecond { time.millisecond < 1000 }
-    requires count { count < 1000 }
-    ensures { result.items ≡ epoch_line time count }
+    ensures { field.new ≡ right 11 (decimals 7 false (seconds_of time)) }
 {
-    let mut line = ArrayVec::new();
-    append(&mut line, &epoch_date(time));
-    append(&mut line, &unsigned_11_7(seconds(time)));
-    append(&mut line, b"  0");
-    append(&mut line, &integer_3(count as u64));
-    append(&mut line, b"\n");
-    line
+    field.copy_from_slice(b"       0000");
+    put_decimal(&mut field[..3], u64::from(time.second));
+    put_point_and_three(&mut field[3..7], usize::from(time.millisecond));
+}
+
+// Writes the columns of the epoch line after the seconds.
+fn put_count(field: &mut [u8], count: usize)
+    requires columns { length field.old ≡ 7 }
+    requires count { count < 1000 }
+    ensures { field.new ≡ codes "  0" ++ (right 3 (decimal count) ++ 10 ∷ []) }
+{
+    field.copy_from_slice(b"  0   \n");
+    put_decimal(&mut field[3..6], count as u64);
 }
 
 /// Writes the epoch line of a date and time and a count of satellites over the first columns.
 pub(crate) fn put_epoch_line(text: &mut [u8], time: Civil, count: usize)
     requires columns { 36 ≤ length text.old }
+    requires year { time.year < 10_000 }
+    requires date { (time.month < 100) × (time.day < 100) }
+    requires clock { (time.hour < 100) × (time.minute < 100) }
     requires second { time.second < 60 }
     requires millisecond { time.millisecond < 1000 }
     requires count { count < 1000 }
     ensures { text.new ≡ epoch_line time count ++ drop 36 text.old }
 {
-    text[..EPOCH_LINE].copy_from_slice(epoch_line(time, count).as_slice());
+    put_epoch_date(&mut text[..18], time);
+    put_seconds(&mut text[18..29], time);
+    put_count(&mut text[29..EPOCH_LINE], count);
+}
+
+/// The epoch line of a date and time and a count of satellites.
+pub(crate) fn epoch_line(time: Civil, count: usize) -> [u8; EPOCH_LINE]
+    requires year { time.year < 10_000 }
+    requires date { (time.month < 100) × (time.day < 100) }
+    requires clock { (time.hour < 100) × (time.minute < 100) }
+    requires second { time.second < 60 }
+    requires millisecond { time.millisecond < 1000 }
+    requires count { count < 1000 }
+    ensures { result ≡ epoch_line time count }
+{
+    let mut line = [b' '; EPOCH_LINE];
+    put_epoch_line(&mut line, time, count);
+    line
 }

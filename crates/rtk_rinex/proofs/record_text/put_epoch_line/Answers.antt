@@ -1,10 +1,13 @@
-use Rattle.std.proofs.Common.{arith}
-use Rattle.std.proofs.lemmas.List.{length-take}
-use Rattle.rtk_rinex.proofs.EpochLemmas.{length-written}
+use Rattle.std.proofs.Common.{decimal, codes, false, ◌++◌, ◌∷◌, [], refl, ◌∙◌, arith}
+use Rattle.rtk_rinex.specs.Columns.{right, decimals}
+use Rattle.rtk_rinex.specs.Reading.{seconds_of}
+use Rattle.rtk_rinex.specs.Record.{epoch_date_text}
+use Rattle.rtk_rinex.proofs.EpochLemmas.{length-seconds, three-parts, line-parts}
 use Rattle.rtk_rinex.proofs.record_text.put_epoch_line.Goals as goal
 
-pub copy_from_slice-requires : goal.copy_from_slice-requires
-copy_from_slice-requires c =
-    let text = c.args.text.now in
-    rw (c.as_slice.ensures.value, c.epoch_line.ensures, length-written c.args.time c.args.count c.requires.second c.requires.millisecond c.requires.count)
-    (omega (arith, length-take 36 text))
+pub returns : goal.returns
+returns c =
+    let t = c.args.time in
+    rw (c.put_epoch_date.ensures, c.put_seconds.ensures, c.put_count.ensures)
+    (three-parts c.args.text.now (epoch_date_text t) (right 11 (decimals 7 false (seconds_of t))) (codes "  0" ++ (right 3 (decimal c.args.count) ++ 10 ∷ [])) refl (length-seconds (seconds_of t) (omega arith))
+    ∙ line-parts t c.args.count _)
