@@ -1,7 +1,7 @@
 //! The collector: a window over the epochs of one station's messages.
 //!
-//! A new epoch reserves room for as many cells of each kind as the epoch before it has, or as the
-//! message has if these are more. `hand_back` keeps the lists of one closed epoch, and the next
+//! A new epoch reserves room for as many cells of each kind, and for as many satellites of a first 1004,
+//! as the epoch before it has, or as the message has if these are more. `hand_back` keeps the lists of one closed epoch, and the next
 //! epoch that wants just their room takes them.
 
 ghost use Rattle.std.specs.Prelude.{◌≡◌, ◌≤◌, List, [], length, take, IfOk, OnErr, None};
@@ -182,8 +182,8 @@ impl Collector {
     }
 
     /// Takes back a closed epoch whose cells nobody needs any more. The next epoch that opens has each
-    /// of its lists, for the cells of a kind of message, that has just the room that is wanted: if both
-    /// have, it takes no memory for them.
+    /// of its lists, for the cells of a kind of message or for the satellites of a first 1004, that has
+    /// just the room that is wanted: if all have, it takes no memory for them.
     ///
     /// The lists of one epoch are kept at most, until they are used, given up or replaced.
     pub fn hand_back(&mut self, set: EpochSet)

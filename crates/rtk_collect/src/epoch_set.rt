@@ -23,7 +23,7 @@ use std::mem::replace;
 /// An epoch with its cells: one for each satellite, code and kind of message, at most 1,024.
 ///
 /// Those that came in an MSM (1074 to 1077) stand in one list, those that came in a 1004 in another;
-/// each rises by satellite and code. The satellites are 1 to 32; a strength is absent, or 250 to 63,750 thousandths
+/// each rises by satellite and code. Cells of the first 1004 alone are kept as its satellites. The satellites are 1 to 32; a strength is absent, or 250 to 63,750 thousandths
 /// of a dB-Hz in steps of 250.
 #[derive(Drop)]
 pub struct EpochSet {
@@ -119,7 +119,7 @@ impl EpochSet {
         &self.msm
     }
 
-    /// The cells that came in a 1004, which may be put into this room.
+    /// The cells that came in a 1004. If they are kept as satellites, they are put into this room.
     pub fn legacy_cells<'a>(&'a self, room: &'a mut ArrayVec<CellEntry, 64>) -> &'a [CellEntry]
         ensures value { result.now ≡ filter (is_from Legacy) self.now.cells }
         ensures rises { KeysRise result.now }
@@ -133,7 +133,7 @@ impl EpochSet {
     }
 
     /// The cells that came in a 1004, or those of them whose satellite and code no cell of an MSM
-    /// has. They may be put into this room.
+    /// has. If they are kept as satellites, they are put into this room.
     pub fn legacy_left<'a>(&'a self, room: &'a mut ArrayVec<CellEntry, 64>) -> &'a [CellEntry]
         ensures left { AreLeft (filter (is_from Msm) self.now.cells) (filter (is_from Legacy) self.now.cells) result.now }
         ensures rises { KeysRise result.now }

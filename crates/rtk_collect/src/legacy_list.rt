@@ -1,8 +1,8 @@
 //! The cells of an epoch that came in a 1004.
 //!
-//! Of the first 1004 the satellites are kept, in a quarter of the memory that is written for their
-//! cells. The cells are made if cells of another 1004 join, in room that was taken before; or when
-//! the epoch closes, and then only those whose satellite and code no cell of an MSM has.
+//! Of the first 1004 the satellites are kept, if they rise: a satellite is smaller than its two cells.
+//! The cells are made if those of another 1004 join, in room that was taken before; or when the epoch
+//! closes, and then only those whose satellite and code no cell of an MSM has.
 
 ghost use Rattle.std.specs.Prelude.{◌≡◌, ◌<◌, ◌≤◌, ◌*◌, ◌++◌, [], not, length, IsTrue, IfOk, OnOk, OnErr, All, vec_capacity};
 ghost use Rattle.rtk_obs.specs.Cell.{IsInRange};

@@ -24,8 +24,8 @@ use std::marker::Model;
 /// What is known of the closed epochs: the last phases, whether the header is written, and how many
 /// records are written.
 ///
-/// The text of a record is kept from epoch to epoch. The tracks are large, and lie on the heap, so
-/// that no function on the way to them needs a large stack.
+/// The text of a record is kept from epoch to epoch. The tracks and the room are large, and lie on the
+/// heap, so that no function on the way to them needs a large stack.
 #[derive(Drop)]
 pub(crate) struct ClosedEpochs {
     tracks: Box<Tracks>,

@@ -14,7 +14,7 @@ use Rattle.rtk_obs.specs.declared.cell.CellEntry.{CellEntry}
 use Rattle.rtk_obs.specs.Cell.{is_satellite, entry_of, IsSatellite, IsStrength, IsInRange}
 use Rattle.rtk_obs.specs.Scaling.{strength_of}
 use Rattle.rtk_obs.specs.LegacyCells.{first_entries, has_number, satellite_entries, cells_of_1004, l1_code_of, l2_code_of, l1_cell_of, l2_cell_of}
-use Rattle.rtk_obs.specs.Steps.LegacyFields.{HasLegacyWidths}
+use Rattle.rtk_obs.specs.CellsLeft.{HasLegacyWidths}
 
 -- ---- the first entry of a satellite
 

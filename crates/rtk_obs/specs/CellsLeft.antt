@@ -1,18 +1,25 @@
 -- The cells of a 1004 whose satellite and code no other cell has (this project's rule).
-use Rattle.std.specs.Prelude.{ℕ, ◌<◌, ◌≤◌, Bool, not, ◌&&◌, ◌==◌, List, [], ◌∷◌, length, filter}
+use Rattle.std.specs.Prelude.{ℕ, ◌^◌, ◌<◌, ◌≤◌, Bool, not, ◌&&◌, ◌==◌, List, [], ◌∷◌, length, filter}
 use Rattle.std.specs.List.{All, list_any}
 use Rattle.rtk_message.specs.declared.obs1004.Satellite.{Satellite}
 use Rattle.rtk_obs.specs.declared.code.Code.{Code}
 use Rattle.rtk_obs.specs.declared.cell.CellEntry.{CellEntry}
 use Rattle.rtk_obs.specs.Code.{place_of}
-use Rattle.rtk_obs.specs.Steps.LegacyFields.{HasLegacyWidths}
+
+-- the widths of DF011 (24 bits), DF013, DF019 (7 bits) and DF015, DF020 (8 bits)
+pub record HasLegacyWidths (s : Satellite) : Type 0 where
+  pub l1_range : s.l1_range < 2 ^ 24
+  pub l1_lock_indicator : s.l1_lock_indicator < 128
+  pub l2_lock_indicator : s.l2_lock_indicator < 128
+  pub l1_cnr : s.l1_cnr < 256
+  pub l2_cnr : s.l2_cnr < 256
 
 -- satellites greater than n that rise, to 32 at most
 abbrev pub RiseAbove : ℕ → List Satellite → Type 0
 RiseAbove n [] = n ≤ 32
 RiseAbove n (s ∷ ss) = (n < s.satellite) × RiseAbove s.satellite ss
 
--- satellites of a 1004, from 1 to 32, that rise
+-- satellites of a 1004 that rise, from 1 to 32
 pub record AreRisingSatellites (ss : List Satellite) : Type 0 where
   pub few : length ss ≤ 31
   pub rise : RiseAbove 0 ss

@@ -10,8 +10,8 @@ pub mod Scaling
 pub mod Mask
 pub mod Cell
 pub mod LegacyCells
-pub mod Steps
 pub mod CellsLeft
+pub mod Steps
 pub mod MsmCells
 pub mod MessageCells
 pub mod Slip

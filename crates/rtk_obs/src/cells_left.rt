@@ -10,8 +10,7 @@ ghost use Rattle.rtk_obs.specs.declared.cell.CellEntry.{CellEntry};
 ghost use Rattle.rtk_obs.specs.Cell.{IsInRange, AreRising, IsSatellite, entry_of};
 ghost use Rattle.rtk_obs.specs.declared.cell.CellSource.TheVariants.{Legacy};
 ghost use Rattle.rtk_obs.specs.LegacyCells.{length_of, l1_code_of, l1_cell_of, l2_code_of, l2_cell_of, satellite_entries, cells_of_1004};
-ghost use Rattle.rtk_obs.specs.CellsLeft.{AreRisingSatellites, RiseAbove, cells_left};
-ghost use Rattle.rtk_obs.specs.Steps.LegacyFields.{HasLegacyWidths};
+ghost use Rattle.rtk_obs.specs.CellsLeft.{HasLegacyWidths, AreRisingSatellites, RiseAbove, cells_left};
 ghost use Rattle.rtk_obs.specs.Steps.Marks.{HasMarks};
 
 use crate::cell::{CellEntry, is_satellite};

@@ -7,7 +7,8 @@ ghost use Rattle.rtk_message.specs.Obs1004.{IsValid};
 ghost use Rattle.rtk_obs.specs.Cell.{is_satellite, entry_of, IsInRange, AreDistinct, AreRising};
 ghost use Rattle.rtk_obs.specs.Scaling.{l2_length};
 ghost use Rattle.rtk_obs.specs.LegacyCells.{l1_code_of, l2_code_of, l1_range_of, l2_range_of, legacy_phase_of, length_of, l1_cell_of, l2_cell_of, has_number, cells_of_1004};
-ghost use Rattle.rtk_obs.specs.Steps.LegacyFields.{HasLegacyWidths, HasSeen};
+ghost use Rattle.rtk_obs.specs.CellsLeft.{HasLegacyWidths};
+ghost use Rattle.rtk_obs.specs.Steps.LegacyFields.{HasSeen};
 
 use crate::cell::{CellEntry, CellSource, is_satellite, make_room};
 use crate::code::{Band, Code};

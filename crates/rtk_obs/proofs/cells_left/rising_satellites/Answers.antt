@@ -1,6 +1,6 @@
 use Rattle.std.proofs.Common.{refl, subst, sym}
 use Rattle.std.specs.List.{All}
-use Rattle.rtk_obs.specs.Steps.LegacyFields.{HasLegacyWidths}
+use Rattle.rtk_obs.specs.CellsLeft.{HasLegacyWidths}
 use Rattle.rtk_obs.proofs.LegacyLemmas.{fields_of_valid, cells_in_range-1004}
 use Rattle.rtk_obs.proofs.CellsLeftLemmas.{cells-some, cells-rise, cells-legacy}
 use Rattle.rtk_obs.proofs.cells_left.rising_satellites.Goals as goal
