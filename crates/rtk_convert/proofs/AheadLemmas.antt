@@ -42,16 +42,16 @@ unfolding or_none
 same-set set e h = ap or_none h
 
 closes-least : (n : ℕ) (sets : List EpochSetView) (offer : Offer) (e : EpochSetView) → closed_by offer ≡ Some e → ClosesLeast n sets offer → (length sets ≡ n) × NotBelow e sets
-closes-least n sets (Taken (Some set) found) e some h = (h.0, subst (λ (x : EpochSetView). NotBelow x sets) (same-set set e some) h.2)
-closes-least n sets (Taken None found) e some h = cc
-closes-least n sets (Conflict found) e some h = cc
+closes-least n sets (Taken (Some set)) e some h = (h.0, subst (λ (x : EpochSetView). NotBelow x sets) (same-set set e some) h.2)
+closes-least n sets (Taken None) e some h = cc
+closes-least n sets Conflict e some h = cc
 closes-least n sets Repeat e some h = cc
 closes-least n sets Late e some h = cc
 
 closes-below : (sets : List EpochSetView) (offer : Offer) (e : EpochSetView) → closed_by offer ≡ Some e → ClosesBelow offer sets → All (λ x. e.epoch < x.epoch) sets
-closes-below sets (Taken (Some set) found) e some h = subst (λ (x : EpochSetView). All (λ y. x.epoch < y.epoch) sets) (same-set set e some) h
-closes-below sets (Taken None found) e some h = cc
-closes-below sets (Conflict found) e some h = cc
+closes-below sets (Taken (Some set)) e some h = subst (λ (x : EpochSetView). All (λ y. x.epoch < y.epoch) sets) (same-set set e some) h
+closes-below sets (Taken None) e some h = cc
+closes-below sets Conflict e some h = cc
 closes-below sets Repeat e some h = cc
 closes-below sets Late e some h = cc
 

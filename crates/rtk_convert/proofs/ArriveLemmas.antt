@@ -7,6 +7,7 @@ use Rattle.rtk_message.specs.declared.arp1006.Arp1006.{Arp1006 as Message1006}
 use Rattle.rtk_message.specs.declared.any_fault.AnyFault.{AnyFault}
 use Rattle.rtk_message.specs.AnyDecoded.{number_of}
 use Rattle.rtk_obs.specs.declared.position.Position.{Position}
+use Rattle.rtk_collect.specs.declared.conflicts.SatelliteCode.{SatelliteCode}
 use Rattle.rtk_collect.specs.declared.offer.Offer.{Offer}
 use Rattle.rtk_collect.specs.EpochSet.{EpochSetView}
 use Rattle.rtk_collect.specs.Arrival.{Arrival, epoch_of, message_of, message_of_1005, message_of_1006}
@@ -63,43 +64,43 @@ site-kept n w arrivals p size holds is =
 -- ---- an arrival
 
 -- it closes no epoch
-pub takes-none-closed : {s : SetupView} {w w' : CollectorView} {c : ClosedEpochsView} {k k' : Counts} {b : Bool} {link : ℕ} {a : Arrival} (offer : Offer) {o : Written} {report : Option (List ℕ)}
-    → w.places ≡ s.window → closed_by offer ≡ None → AnswersArrival w a offer w' → k' ≡ counted_as (class_of_offer offer) k
-    → report ≡ with_more o.report (offer_lines link (number_of (message_of a)) (epoch_of a) offer) → AddsMessage (state s w c k b) link a (state s w' c k' b) o (written o.file report)
-takes-none-closed {s} {w} {w'} {c} {k} {k'} {b} {link} {a} offer {o} {report} size none meets counts wrote = λ before after.
+pub takes-none-closed : {s : SetupView} {w w' : CollectorView} {c : ClosedEpochsView} {k k' : Counts} {b : Bool} {link : ℕ} {a : Arrival} (offer : Offer) (listed : List SatelliteCode) {o : Written} {report : Option (List ℕ)}
+    → w.places ≡ s.window → closed_by offer ≡ None → AnswersArrival w a offer listed w' → k' ≡ counted_as (class_of_offer offer) k
+    → report ≡ with_more o.report (offer_lines link (number_of (message_of a)) (epoch_of a) offer listed) → AddsMessage (state s w c k b) link a (state s w' c k' b) o (written o.file report)
+takes-none-closed {s} {w} {w'} {c} {k} {k'} {b} {link} {a} offer listed {o} {report} size none meets counts wrote = λ before after.
     let m = meets before after.window in
-    let answer : IsRightAnswer s.window a before offer = subst (λ (n : ℕ). IsRightAnswer n a before offer) size m.0 in
-    let same : closed s.window (a ∷ before) ≡ closed s.window before = answer-closed s.window a before offer answer ∙ ap (λ (d : Option EpochSetView). option_to_list d ++ closed s.window before) none in
+    let answer : IsRightAnswer s.window a before offer listed = subst (λ (n : ℕ). IsRightAnswer n a before offer listed) size m.0 in
+    let same : closed s.window (a ∷ before) ≡ closed s.window before = answer-closed s.window a before offer listed answer ∙ ap (λ (d : Option EpochSetView). option_to_list d ++ closed s.window before) none in
     record {
       after = record { window = m.1; closed = subst (λ (xs : List EpochSetView). HasClosed c s.head.listed xs) (sym same) after.closed };
-      counts = counts ∙ sym (ap (λ (c : Class). counted_as c k) (answer-class s.window a before offer answer));
+      counts = counts ∙ sym (ap (λ (c : Class). counted_as c k) (answer-class s.window a before offer listed answer));
       out = writes-none o.file (file_so_far s before) (file_so_far s (a ∷ before)) (so_far-stays s a before same);
-      log = wrote ∙ ap (with_more o.report) (sym (answer-lines s.window link a before offer answer));
+      log = wrote ∙ ap (with_more o.report) (sym (answer-lines s.window link a before offer listed answer));
     }
 
-closing-text : (s : SetupView) (w w' : CollectorView) (a : Arrival) (offer : Offer) (e : EpochSetView) (p : Position) (before : List Arrival) → w.places ≡ s.window → w'.places ≡ s.window
-    → closed_by offer ≡ Some e → IsRightAnswer s.window a before offer → RepresentsArrivals w' (a ∷ before) → ((before : List Arrival) → RepresentsArrivals w' before → IsPositionOf w'.places before p)
+closing-text : (s : SetupView) (w w' : CollectorView) (a : Arrival) (offer : Offer) (listed : List SatelliteCode) (e : EpochSetView) (p : Position) (before : List Arrival) → w.places ≡ s.window → w'.places ≡ s.window
+    → closed_by offer ≡ Some e → IsRightAnswer s.window a before offer listed → RepresentsArrivals w' (a ∷ before) → ((before : List Arrival) → RepresentsArrivals w' before → IsPositionOf w'.places before p)
     → file_so_far s (a ∷ before) ≡ file_so_far s before ++ closing s (position_view p) e (closed s.window before)
-closing-text s w w' a offer e p before size size' some answer holds position =
-    so_far-closes s a e before (answer-closed s.window a before offer answer ∙ ap (λ (d : Option EpochSetView). option_to_list d ++ closed s.window before) some)
+closing-text s w w' a offer listed e p before size size' some answer holds position =
+    so_far-closes s a e before (answer-closed s.window a before offer listed answer ∙ ap (λ (d : Option EpochSetView). option_to_list d ++ closed s.window before) some)
     ∙ ap (λ (x : PositionView). file_so_far s before ++ closing s x e (closed s.window before)) (sym (site-kept s.window w' (a ∷ before) p size' holds (position (a ∷ before) holds)))
 
 -- it closes an epoch
-pub takes-some-closed : {s : SetupView} {w w' : CollectorView} {c c' : ClosedEpochsView} {k k' : Counts} {b : Bool} {link : ℕ} {a : Arrival} (offer : Offer) {e : EpochSetView} {p : Position} {o o' : Written}
-    → w.places ≡ s.window → w'.places ≡ s.window → closed_by offer ≡ Some e → AnswersArrival w a offer w' → ((before : List Arrival) → RepresentsArrivals w' before → IsPositionOf w'.places before p) → k' ≡ counted_as (class_of_offer offer) k
+pub takes-some-closed : {s : SetupView} {w w' : CollectorView} {c c' : ClosedEpochsView} {k k' : Counts} {b : Bool} {link : ℕ} {a : Arrival} (offer : Offer) (listed : List SatelliteCode) {e : EpochSetView} {p : Position} {o o' : Written}
+    → w.places ≡ s.window → w'.places ≡ s.window → closed_by offer ≡ Some e → AnswersArrival w a offer listed w' → ((before : List Arrival) → RepresentsArrivals w' before → IsPositionOf w'.places before p) → k' ≡ counted_as (class_of_offer offer) k
     → ((below : List EpochSetView) → HasClosed c s.head.listed below → HasClosed c' s.head.listed (e ∷ below))
     → ((below : List EpochSetView) → HasClosed c s.head.listed below → o'.file ≡ with_more o.file (closing s (position_view p) e below))
-    → o'.report ≡ with_more o.report (offer_lines link (number_of (message_of a)) (epoch_of a) offer) → AddsMessage (state s w c k b) link a (state s w' c' k' b) o o'
-takes-some-closed {s} {w} {w'} {c} {c'} {k} {k'} {b} {link} {a} offer {e} {p} {o} {o'} size size' some meets position counts follows out wrote = λ before after.
+    → o'.report ≡ with_more o.report (offer_lines link (number_of (message_of a)) (epoch_of a) offer listed) → AddsMessage (state s w c k b) link a (state s w' c' k' b) o o'
+takes-some-closed {s} {w} {w'} {c} {c'} {k} {k'} {b} {link} {a} offer listed {e} {p} {o} {o'} size size' some meets position counts follows out wrote = λ before after.
     let m = meets before after.window in
-    let answer : IsRightAnswer s.window a before offer = subst (λ (n : ℕ). IsRightAnswer n a before offer) size m.0 in
-    let closes : closed s.window (a ∷ before) ≡ e ∷ closed s.window before = answer-closed s.window a before offer answer ∙ ap (λ (d : Option EpochSetView). option_to_list d ++ closed s.window before) some in
+    let answer : IsRightAnswer s.window a before offer listed = subst (λ (n : ℕ). IsRightAnswer n a before offer listed) size m.0 in
+    let closes : closed s.window (a ∷ before) ≡ e ∷ closed s.window before = answer-closed s.window a before offer listed answer ∙ ap (λ (d : Option EpochSetView). option_to_list d ++ closed s.window before) some in
     record {
       after = record { window = m.1; closed = subst (λ (xs : List EpochSetView). HasClosed c' s.head.listed xs) (sym closes) (follows (closed s.window before) after.closed) };
-      counts = counts ∙ sym (ap (λ (c : Class). counted_as c k) (answer-class s.window a before offer answer));
+      counts = counts ∙ sym (ap (λ (c : Class). counted_as c k) (answer-class s.window a before offer listed answer));
       out = writes-text o.file o'.file (file_so_far s before) (file_so_far s (a ∷ before)) (closing s (position_view p) e (closed s.window before))
-          (closing-text s w w' a offer e p before size size' some answer m.1 position) (out (closed s.window before) after.closed);
-      log = wrote ∙ ap (with_more o.report) (sym (answer-lines s.window link a before offer answer));
+          (closing-text s w w' a offer listed e p before size size' some answer m.1 position) (out (closed s.window before) after.closed);
+      log = wrote ∙ ap (with_more o.report) (sym (answer-lines s.window link a before offer listed answer));
     }
 
 -- ---- it breaks off
@@ -111,30 +112,30 @@ part-nothing {s} {w} {c} {k} {b} {link} {a} {o} = λ before after.
     record { out = part-none o.file (file_so_far s before) (file_so_far s (a ∷ before)) g.0 g.1; log = takes-none o.report (frame_lines s.window link (Dated a) before) }
 
 -- in its record
-pub part-record : {s : SetupView} {w w' : CollectorView} {c : ClosedEpochsView} {k : Counts} {b : Bool} {link : ℕ} {a : Arrival} (offer : Offer) {e : EpochSetView} {p : Position} {o : Written} {file : Option (List ℕ)}
-    → w.places ≡ s.window → w'.places ≡ s.window → closed_by offer ≡ Some e → AnswersArrival w a offer w' → ((before : List Arrival) → RepresentsArrivals w' before → IsPositionOf w'.places before p)
+pub part-record : {s : SetupView} {w w' : CollectorView} {c : ClosedEpochsView} {k : Counts} {b : Bool} {link : ℕ} {a : Arrival} (offer : Offer) (listed : List SatelliteCode) {e : EpochSetView} {p : Position} {o : Written} {file : Option (List ℕ)}
+    → w.places ≡ s.window → w'.places ≡ s.window → closed_by offer ≡ Some e → AnswersArrival w a offer listed w' → ((before : List Arrival) → RepresentsArrivals w' before → IsPositionOf w'.places before p)
     → ((below : List EpochSetView) → HasClosed c s.head.listed below → TakesPart o.file file (closing s (position_view p) e below))
     → AddsMessageInPart (state s w c k b) link a o (written file o.report)
-part-record {s} {w} {w'} {c} {k} {b} {link} {a} offer {e} {p} {o} {file} size size' some meets position out = λ before after.
+part-record {s} {w} {w'} {c} {k} {b} {link} {a} offer listed {e} {p} {o} {file} size size' some meets position out = λ before after.
     let m = meets before after.window in
-    let answer : IsRightAnswer s.window a before offer = subst (λ (n : ℕ). IsRightAnswer n a before offer) size m.0 in
+    let answer : IsRightAnswer s.window a before offer listed = subst (λ (n : ℕ). IsRightAnswer n a before offer listed) size m.0 in
     record {
       out = part-text o.file file (file_so_far s before) (file_so_far s (a ∷ before)) (closing s (position_view p) e (closed s.window before))
-          (closing-text s w w' a offer e p before size size' some answer m.1 position) (out (closed s.window before) after.closed);
+          (closing-text s w w' a offer listed e p before size size' some answer m.1 position) (out (closed s.window before) after.closed);
       log = takes-none o.report (frame_lines s.window link (Dated a) before);
     }
 
 -- in its lines
-pub part-lines : {s : SetupView} {w w' : CollectorView} {c c' : ClosedEpochsView} {k k' : Counts} {b : Bool} {link : ℕ} {a : Arrival} (offer : Offer) {o o' : Written} → w.places ≡ s.window → AnswersArrival w a offer w'
-    → AddsMessage (state s w c k b) link a (state s w' c' k' b) o (written o'.file (with_more o.report (offer_lines link (number_of (message_of a)) (epoch_of a) offer)))
-    → TakesPart o.report o'.report (offer_lines link (number_of (message_of a)) (epoch_of a) offer) → AddsMessageInPart (state s w c k b) link a o o'
-part-lines {s} {w} {w'} {c} {c'} {k} {k'} {b} {link} {a} offer {o} {o'} size meets takes part = λ before after.
+pub part-lines : {s : SetupView} {w w' : CollectorView} {c c' : ClosedEpochsView} {k k' : Counts} {b : Bool} {link : ℕ} {a : Arrival} (offer : Offer) (listed : List SatelliteCode) {o o' : Written} → w.places ≡ s.window → AnswersArrival w a offer listed w'
+    → AddsMessage (state s w c k b) link a (state s w' c' k' b) o (written o'.file (with_more o.report (offer_lines link (number_of (message_of a)) (epoch_of a) offer listed)))
+    → TakesPart o.report o'.report (offer_lines link (number_of (message_of a)) (epoch_of a) offer listed) → AddsMessageInPart (state s w c k b) link a o o'
+part-lines {s} {w} {w'} {c} {c'} {k} {k'} {b} {link} {a} offer listed {o} {o'} size meets takes part = λ before after.
     let m = meets before after.window in
-    let answer : IsRightAnswer s.window a before offer = subst (λ (n : ℕ). IsRightAnswer n a before offer) size m.0 in
+    let answer : IsRightAnswer s.window a before offer listed = subst (λ (n : ℕ). IsRightAnswer n a before offer listed) size m.0 in
     let t = takes before after in
     record {
       out = part-all o.file o'.file (file_so_far s before) (file_so_far s (a ∷ before)) t.out;
-      log = subst (λ (text : List ℕ). TakesPart o.report o'.report text) (sym (answer-lines s.window link a before offer answer)) part;
+      log = subst (λ (text : List ℕ). TakesPart o.report o'.report text) (sym (answer-lines s.window link a before offer listed answer)) part;
     }
 
 -- ---- a frame

@@ -23,7 +23,7 @@ use crate::link_number::LinkNumber;
 use crate::report;
 use crate::setup::Setup;
 use crate::writing::{write_header_if_none, write_lines};
-use rtk_collect::{Collector, Dated, EpochSet, Offer};
+use rtk_collect::{Collector, Conflicts, Dated, EpochSet, Offer};
 use rtk_frame::Sink;
 use rtk_message::AnyDecoder;
 use rtk_obs::GpsMs;
@@ -42,6 +42,8 @@ pub(crate) struct Conversion {
     closed_epochs: ClosedEpochs,
     counts: Counts,
     stopped: bool,
+    // The cells of the last message that conflict.
+    conflicts: Conflicts,
 }
 
 // The first part of the invariant names every field, as that of a converter does.
@@ -66,6 +68,7 @@ impl Model for Conversion {
       closed_epochs = c.closed_epochs;
       counts = c.counts;
       stopped = c.stopped;
+      conflicts = c.conflicts;
     })
         × IsConversionView (record {
           setup = c.setup;
@@ -100,6 +103,7 @@ impl Conversion {
                 epochs: 0,
             },
             stopped: false,
+            conflicts: Conflicts::new(),
         })
     }
 
@@ -195,8 +199,9 @@ impl Conversion {
     {
         let number = dated.number();
         let epoch = dated.epoch();
-        let offer = self.collector.offer(dated)?;
-        let lines = report::offer_lines(self.alloc, link, number, epoch, &offer)?;
+        let offer = self.collector.offer(dated, &mut self.conflicts)?;
+        let conflicts = self.conflicts.as_slice();
+        let lines = report::offer_lines(self.alloc, link, number, epoch, &offer, conflicts)?;
         count_message(&mut self.counts, &offer);
         let Some(set) = closed_by(offer) else {
             return write_lines(log, &lines);
@@ -257,6 +262,6 @@ fn count_message(counts: &mut Counts, offer: &Offer)
         Offer::Late => counts.late = counts.late.saturating_add(1),
         Offer::Taken { .. } => counts.taken = counts.taken.saturating_add(1),
         Offer::Repeat => counts.repeat = counts.repeat.saturating_add(1),
-        Offer::Conflict { .. } => counts.conflict = counts.conflict.saturating_add(1),
+        Offer::Conflict => counts.conflict = counts.conflict.saturating_add(1),
     }
 }

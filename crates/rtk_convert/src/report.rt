@@ -106,16 +106,17 @@ fn put_conflicts(
     Ok(())
 }
 
-/// The lines of a message, from its number, its epoch and the answer that it got. A message without
-/// a line takes no memory.
+/// The lines of a message, from its number, its epoch, the answer that it got and its cells that
+/// conflict. A message without a line takes no memory.
 pub(crate) fn offer_lines(
     alloc: Global,
     link: LinkNumber,
     number: u16,
     epoch: Option<GpsMs>,
     offer: &Offer,
+    conflicts: &[SatelliteCode],
 ) -> Result<Vec<u8>, AllocError>
-    ensures { IfOk result (λ lines. lines.items ≡ offer_lines link number epoch offer.now) }
+    ensures { IfOk result (λ lines. lines.items ≡ offer_lines link number epoch offer.now conflicts.now) }
 {
     let mut lines = Vec::new(alloc);
     match offer {
@@ -123,12 +124,12 @@ pub(crate) fn offer_lines(
             put_message(&mut lines, link, b" late ", number, epoch)?;
             lines.push(b'\n')?;
         }
-        Offer::Taken { conflicts, .. } => {
-            put_cell_conflicts(&mut lines, link, number, epoch, conflicts.as_slice())?;
+        Offer::Taken { .. } => {
+            if !conflicts.is_empty() {
+                put_cell_conflicts(&mut lines, link, number, epoch, conflicts)?;
+            }
         }
-        Offer::Conflict { conflicts } => {
-            put_conflicts(&mut lines, link, number, epoch, conflicts.as_slice())?;
-        }
+        Offer::Conflict => put_conflicts(&mut lines, link, number, epoch, conflicts)?,
         Offer::Repeat => {}
     }
     Ok(lines)

@@ -93,12 +93,15 @@ pub(crate) fn write_header_if_none<O: Sink>(
     write_text(out, &text)
 }
 
-/// Writes lines to the report.
+/// Writes lines to the report, if there are any.
 pub(crate) fn write_lines<L: Sink>(log: &mut L, lines: &[u8]) -> Result<(), ConvertFault>
     ensures puts { PutsText result (L.taken log.old) (L.taken log.new) lines.now }
     ensures report_failed { NamesFailedWrites Stream.Log result (L.failures log.old) (L.failures log.new) }
     ensures fault { IfErr result (λ f. f ≡ ConvertFault.Write Stream.Log) }
 {
+    if lines.is_empty() {
+        return Ok(());
+    }
     match write_all(log, lines) {
         Ok(()) => Ok(()),
         Err(_) => Err(ConvertFault::Write {

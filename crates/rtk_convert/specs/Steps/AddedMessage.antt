@@ -21,8 +21,8 @@ use Rattle.rtk_convert.specs.Steps.WritingInPart.{WritesPartOfRest}
 -- the epoch that is closed by an arrival with this answer
 abbrev pub closed_by : Offer → Option EpochSetView
 closed_by Late = None
-closed_by (Taken closing found) = closing
-closed_by (Conflict found) = None
+closed_by (Taken closing) = closing
+closed_by Conflict = None
 closed_by Repeat = None
 
 -- the conversion represents these arrivals: its window holds what is kept of them, and it knows the

@@ -1,5 +1,5 @@
 -- The class and the lines of an answer of the collector.
-use Rattle.std.specs.Prelude.{ℕ, List, [], Option}
+use Rattle.std.specs.Prelude.{ℕ, List, Option}
 use Rattle.rtk_collect.specs.declared.conflicts.SatelliteCode.{SatelliteCode}
 use Rattle.rtk_collect.specs.declared.offer.Offer.{Offer}
 use Rattle.rtk_collect.specs.declared.offer.Offer.TheVariants.{Taken, Conflict, Repeat, Late}
@@ -9,17 +9,10 @@ use Rattle.rtk_convert.specs.Report.{class_lines}
 -- the class of an answer
 abbrev pub class_of_offer : Offer → Class
 class_of_offer Late = LateClass
-class_of_offer (Taken closing cells) = TakenClass
+class_of_offer (Taken closing) = TakenClass
 class_of_offer Repeat = RepeatClass
-class_of_offer (Conflict cells) = ConflictClass
+class_of_offer Conflict = ConflictClass
 
--- the cells that an answer names as in conflict
-abbrev pub conflicts_in : Offer → List SatelliteCode
-conflicts_in Late = []
-conflicts_in (Taken closing cells) = cells
-conflicts_in Repeat = []
-conflicts_in (Conflict cells) = cells
-
--- the lines of a message with this answer
-abbrev pub offer_lines : ℕ → ℕ → Option ℕ → Offer → List ℕ
-offer_lines link number epoch offer = class_lines link number epoch (class_of_offer offer) (conflicts_in offer)
+-- the lines of a message with this answer and these cells in conflict
+abbrev pub offer_lines : ℕ → ℕ → Option ℕ → Offer → List SatelliteCode → List ℕ
+offer_lines link number epoch offer listed = class_lines link number epoch (class_of_offer offer) listed

@@ -28,15 +28,16 @@ returns-in_err-lines-clause-handles g c =
 
 pub returns-in_default-clause-handles : goal.returns-in_default-clause-handles
 returns-in_default-clause-handles g c =
-    let text : c.in_ok-lines.lines.items ≡ offer_lines c.args.link (number_of (message_of c.args.dated)) (epoch_of c.args.dated) c.in_ok-offer.offer =
-    c.in_ok-lines.ensures ∙ ap (λ (n : ℕ). offer_lines c.args.link n c.epoch-epoch.result c.in_ok-offer.offer) c.number-number.ensures
-    ∙ ap (λ (e : Option ℕ). offer_lines c.args.link (number_of (message_of c.args.dated)) e c.in_ok-offer.offer) c.epoch-epoch.ensures.value in
+    let text : c.in_ok-lines.lines.items ≡ offer_lines c.args.link (number_of (message_of c.args.dated)) (epoch_of c.args.dated) c.in_ok-offer.offer c.offer.new.conflicts =
+    c.in_ok-lines.ensures ∙ ap (λ (n : ℕ). offer_lines c.args.link n c.epoch-epoch.result c.in_ok-offer.offer c.as_slice-conflicts.result.now) c.number-number.ensures
+    ∙ ap (λ (e : Option ℕ). offer_lines c.args.link (number_of (message_of c.args.dated)) e c.in_ok-offer.offer c.as_slice-conflicts.result.now) c.epoch-epoch.ensures.value
+    ∙ ap (offer_lines c.args.link (number_of (message_of c.args.dated)) (epoch_of c.args.dated) c.in_ok-offer.offer) c.as_slice-conflicts.ensures.value in
     let none : closed_by c.in_ok-offer.offer ≡ None = sym c.closed_by.ensures ∙ c.in_default.is in
     message-lines c.write_lines.result c.self.view_is c.write_lines.ensures.fault
-    (on_ok-map c.write_lines.result (λ wrote. takes-none-closed c.in_ok-offer.offer c.self.invariant.1.places none c.in_ok-offer.ensures.answer c.count_message.ensures
+    (on_ok-map c.write_lines.result (λ wrote. takes-none-closed c.in_ok-offer.offer c.offer.new.conflicts c.self.invariant.1.places none c.in_ok-offer.ensures.answer c.count_message.ensures
     (wrote ∙ ap (with_more (g.L.Sink.taken c.args.log.now)) (c.deref.ensures.value ∙ text))) c.write_lines.ensures.puts.all)
-    (part-lines c.in_ok-offer.offer c.self.invariant.1.places c.in_ok-offer.ensures.answer
-    (takes-none-closed c.in_ok-offer.offer c.self.invariant.1.places none c.in_ok-offer.ensures.answer c.count_message.ensures refl)
+    (part-lines c.in_ok-offer.offer c.offer.new.conflicts c.self.invariant.1.places c.in_ok-offer.ensures.answer
+    (takes-none-closed c.in_ok-offer.offer c.offer.new.conflicts c.self.invariant.1.places none c.in_ok-offer.ensures.answer c.count_message.ensures refl)
     (subst (λ (t : List ℕ). TakesPart (g.L.Sink.taken c.args.log.now) (g.L.Sink.taken c.write_lines.new.log) t) (c.deref.ensures.value ∙ text) c.write_lines.ensures.puts.part))
 
 pub returns-in_default-clause-failed : goal.returns-in_default-clause-failed
@@ -57,7 +58,7 @@ returns-in_err-close-clause-handles g c =
     let some : closed_by c.in_ok-offer.offer ≡ Some c.in-Some.set = sym c.closed_by.ensures ∙ c.in-Some.is in
     let size = c.in_ok-offer.ensures.places ∙ c.self.invariant.1.places in
     rw (p.1, p.2) (message-err _ c.self.view_is (out-frame _ c.in_err-close.ensures.failed.fault)
-    (part-record c.in_ok-offer.offer c.self.invariant.1.places size some c.in_ok-offer.ensures.answer c.station-position.ensures.kept (λ below h. (c.close.ensures.closes.puts below h).part)))
+    (part-record c.in_ok-offer.offer c.offer.new.conflicts c.self.invariant.1.places size some c.in_ok-offer.ensures.answer c.station-position.ensures.kept (λ below h. (c.close.ensures.closes.puts below h).part)))
 
 pub returns-in_err-close-clause-failed : goal.returns-in_err-close-clause-failed
 returns-in_err-close-clause-failed g c =
@@ -66,16 +67,17 @@ returns-in_err-close-clause-failed g c =
 
 pub returns-clause-handles : goal.returns-clause-handles
 returns-clause-handles g c =
-    let text : c.in_ok-lines.lines.items ≡ offer_lines c.args.link (number_of (message_of c.args.dated)) (epoch_of c.args.dated) c.in_ok-offer.offer =
-    c.in_ok-lines.ensures ∙ ap (λ (n : ℕ). offer_lines c.args.link n c.epoch-epoch.result c.in_ok-offer.offer) c.number-number.ensures
-    ∙ ap (λ (e : Option ℕ). offer_lines c.args.link (number_of (message_of c.args.dated)) e c.in_ok-offer.offer) c.epoch-epoch.ensures.value in
+    let text : c.in_ok-lines.lines.items ≡ offer_lines c.args.link (number_of (message_of c.args.dated)) (epoch_of c.args.dated) c.in_ok-offer.offer c.offer.new.conflicts =
+    c.in_ok-lines.ensures ∙ ap (λ (n : ℕ). offer_lines c.args.link n c.epoch-epoch.result c.in_ok-offer.offer c.as_slice-conflicts.result.now) c.number-number.ensures
+    ∙ ap (λ (e : Option ℕ). offer_lines c.args.link (number_of (message_of c.args.dated)) e c.in_ok-offer.offer c.as_slice-conflicts.result.now) c.epoch-epoch.ensures.value
+    ∙ ap (offer_lines c.args.link (number_of (message_of c.args.dated)) (epoch_of c.args.dated) c.in_ok-offer.offer) c.as_slice-conflicts.ensures.value in
     let some : closed_by c.in_ok-offer.offer ≡ Some c.in-Some.set = sym c.closed_by.ensures ∙ c.in-Some.is in
     let size = c.in_ok-offer.ensures.places ∙ c.self.invariant.1.places in
     rw c.hand_back.ensures (message-lines c.write_lines-2.result c.self.view_is c.write_lines-2.ensures.fault
-    (on_ok-map c.write_lines-2.result (λ wrote. takes-some-closed c.in_ok-offer.offer c.self.invariant.1.places size some c.in_ok-offer.ensures.answer c.station-position.ensures.kept c.count_message.ensures c.in_ok-close.ensures.closes.follows (λ below h. (c.in_ok-close.ensures.closes.puts below h).all)
+    (on_ok-map c.write_lines-2.result (λ wrote. takes-some-closed c.in_ok-offer.offer c.offer.new.conflicts c.self.invariant.1.places size some c.in_ok-offer.ensures.answer c.station-position.ensures.kept c.count_message.ensures c.in_ok-close.ensures.closes.follows (λ below h. (c.in_ok-close.ensures.closes.puts below h).all)
     (wrote ∙ ap (with_more (g.L.Sink.taken c.args.log.now)) (c.deref-2.ensures.value ∙ text))) c.write_lines-2.ensures.puts.all)
-    (part-lines c.in_ok-offer.offer c.self.invariant.1.places c.in_ok-offer.ensures.answer
-    (takes-some-closed c.in_ok-offer.offer c.self.invariant.1.places size some c.in_ok-offer.ensures.answer c.station-position.ensures.kept c.count_message.ensures c.in_ok-close.ensures.closes.follows (λ below h. (c.in_ok-close.ensures.closes.puts below h).all) refl)
+    (part-lines c.in_ok-offer.offer c.offer.new.conflicts c.self.invariant.1.places c.in_ok-offer.ensures.answer
+    (takes-some-closed c.in_ok-offer.offer c.offer.new.conflicts c.self.invariant.1.places size some c.in_ok-offer.ensures.answer c.station-position.ensures.kept c.count_message.ensures c.in_ok-close.ensures.closes.follows (λ below h. (c.in_ok-close.ensures.closes.puts below h).all) refl)
     (subst (λ (t : List ℕ). TakesPart (g.L.Sink.taken c.args.log.now) (g.L.Sink.taken c.write_lines-2.new.log) t) (c.deref-2.ensures.value ∙ text) c.write_lines-2.ensures.puts.part)))
 
 pub returns-clause-failed : goal.returns-clause-failed
@@ -92,25 +94,25 @@ returns-in_err-offer-clause-stays g c =
 pub returns-in_err-lines-clause-stays : goal.returns-in_err-lines-clause-stays
 returns-in_err-lines-clause-stays g c =
     let p = err_from_is_err_and c.from_residual-in_err-lines.result c.from_residual-in_err-lines.ensures.1 in
-    rw (p.1, p.2) (stays-seen c.self.view_is c.requires.under_way (record { same_setup = refl; few = omega (arith, c.self.invariant.1.few, c.self.invariant.1.places); held = λ h. held-offered c.self.inside.collector c.offer.new.self c.args.dated c.in_ok-offer.offer c.in_ok-offer.ensures.answer h }) refl tt)
+    rw (p.1, p.2) (stays-seen c.self.view_is c.requires.under_way (record { same_setup = refl; few = omega (arith, c.self.invariant.1.few, c.self.invariant.1.places); held = λ h. held-offered c.self.inside.collector c.offer.new.self c.args.dated c.in_ok-offer.offer c.offer.new.conflicts c.in_ok-offer.ensures.answer h }) refl tt)
 
 pub returns-in_default-clause-stays : goal.returns-in_default-clause-stays
 returns-in_default-clause-stays g c =
     let ahead = ahead-stays c.self.inside.collector c.offer.new.self c.self.inside.closed_epochs c.offer.ensures.least (ahead-seen c.self.view_is c.requires.under_way) in
-    stays-seen c.self.view_is c.requires.under_way (record { same_setup = refl; few = omega (arith, c.self.invariant.1.few, c.self.invariant.1.places); held = λ h. held-offered c.self.inside.collector c.offer.new.self c.args.dated c.in_ok-offer.offer c.in_ok-offer.ensures.answer h }) refl
+    stays-seen c.self.view_is c.requires.under_way (record { same_setup = refl; few = omega (arith, c.self.invariant.1.few, c.self.invariant.1.places); held = λ h. held-offered c.self.inside.collector c.offer.new.self c.args.dated c.in_ok-offer.offer c.offer.new.conflicts c.in_ok-offer.ensures.answer h }) refl
     (on_ok-map c.write_lines.result (λ wrote. ahead) c.write_lines.ensures.puts.all)
 
 pub returns-in_err-close-clause-stays : goal.returns-in_err-close-clause-stays
 returns-in_err-close-clause-stays g c =
     let p = err_from_is_err_and c.from_residual-in_err-close.result c.from_residual-in_err-close.ensures.1 in
-    rw (p.1, p.2) (stays-seen c.self.view_is c.requires.under_way (record { same_setup = refl; few = omega (arith, c.self.invariant.1.few, c.self.invariant.1.places); held = λ h. held-offered c.self.inside.collector c.offer.new.self c.args.dated c.in_ok-offer.offer c.in_ok-offer.ensures.answer h }) refl tt)
+    rw (p.1, p.2) (stays-seen c.self.view_is c.requires.under_way (record { same_setup = refl; few = omega (arith, c.self.invariant.1.few, c.self.invariant.1.places); held = λ h. held-offered c.self.inside.collector c.offer.new.self c.args.dated c.in_ok-offer.offer c.offer.new.conflicts c.in_ok-offer.ensures.answer h }) refl tt)
 
 pub returns-clause-stays : goal.returns-clause-stays
 returns-clause-stays g c =
     let e : EpochSetView = c.in-Some.set in
     let some : closed_by c.in_ok-offer.offer ≡ Some e = sym c.closed_by.ensures ∙ c.in-Some.is in
     let ahead = ahead-after c.self.inside.collector c.offer.new.self c.close.new.self c.in_ok-offer.offer e some c.in_ok-offer.ensures.least_closes c.in_ok-offer.ensures.closed c.offer.ensures.least (c.in_ok-close.ensures.closes.later (suc e.epoch) (omega arith)) in
-    rw c.hand_back.ensures (stays-seen c.self.view_is c.requires.under_way (record { same_setup = refl; few = omega (arith, c.self.invariant.1.few, c.self.invariant.1.places); held = λ h. held-offered c.self.inside.collector c.offer.new.self c.args.dated c.in_ok-offer.offer c.in_ok-offer.ensures.answer h }) refl
+    rw c.hand_back.ensures (stays-seen c.self.view_is c.requires.under_way (record { same_setup = refl; few = omega (arith, c.self.invariant.1.few, c.self.invariant.1.places); held = λ h. held-offered c.self.inside.collector c.offer.new.self c.args.dated c.in_ok-offer.offer c.offer.new.conflicts c.in_ok-offer.ensures.answer h }) refl
     (on_ok-map c.write_lines-2.result (λ wrote. ahead) c.write_lines-2.ensures.puts.all))
 
 pub returns-in_err-offer-clause-failed : goal.returns-in_err-offer-clause-failed
