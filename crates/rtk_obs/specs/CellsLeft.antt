@@ -6,12 +6,13 @@ use Rattle.rtk_obs.specs.declared.code.Code.{Code}
 use Rattle.rtk_obs.specs.declared.cell.CellEntry.{CellEntry}
 use Rattle.rtk_obs.specs.Code.{place_of}
 
--- the widths of DF011 (24 bits), DF013, DF019 (7 bits) and DF015, DF020 (8 bits)
+-- the widths of DF011 (24 bits), DF013, DF019 (7 bits), DF015, DF020 (8 bits) and DF016 (2 bits)
 pub record HasLegacyWidths (s : Satellite) : Type 0 where
   pub l1_range : s.l1_range < 2 ^ 24
   pub l1_lock_indicator : s.l1_lock_indicator < 128
   pub l2_lock_indicator : s.l2_lock_indicator < 128
   pub l1_cnr : s.l1_cnr < 256
+  pub l2_code : s.l2_code < 4
   pub l2_cnr : s.l2_cnr < 256
 
 -- satellites greater than n that rise, to 32 at most

@@ -114,6 +114,7 @@ fn put_l2(
     satellite: &Satellite,
     pseudorange: i64,
 ) -> usize
+    requires code { satellite.now.l2_code < 4 }
     requires lock { satellite.now.l2_lock_indicator < 128 }
     requires pseudorange { pseudorange ≡ length_of satellite.now }
     requires bound { unsigned_abs pseudorange ≤ LONGEST_RANGE }

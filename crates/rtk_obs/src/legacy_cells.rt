@@ -35,15 +35,14 @@ pub(crate) fn l1_code(indicator: bool) -> Code
     if indicator { Code::C1P } else { Code::C1C }
 }
 
+// The codes of L2 at the indicators of DF016 from 0 on.
+static L2_CODES: [Code; 4] = [Code::C2X, Code::C2P, Code::C2D, Code::C2W];
+
 pub(crate) fn l2_code(indicator: u8) -> Code
+    requires { indicator < 4 }
     ensures { result ≡ l2_code_of indicator }
 {
-    match indicator {
-        0 => Code::C2X,
-        1 => Code::C2P,
-        2 => Code::C2D,
-        _ => Code::C2W,
-    }
+    L2_CODES[usize::from(indicator)]
 }
 
 // The pseudorange of L1, in 0.0005 m.
@@ -116,6 +115,7 @@ pub(crate) fn set_l1_entry(entry: &mut CellEntry, satellite: &Satellite, length:
 // Sets an entry to the one of L2.
 #[inline(always)]
 pub(crate) fn set_l2_entry(entry: &mut CellEntry, satellite: &Satellite, length: i64)
+    requires code { satellite.now.l2_code < 4 }
     requires lock { satellite.now.l2_lock_indicator < 128 }
     requires length { length ≡ length_of satellite.now }
     requires bound { unsigned_abs length ≤ LONGEST_RANGE }
