@@ -3,6 +3,7 @@ pub mod PublicLaws
 -- Laws on the definitions, and what this crate's functions compute
 mod CellsLemmas
 mod KindLemmas
+mod LegacyListLemmas
 mod FewLemmas
 mod ArrivalsLemmas
 mod JoinsLemmas

@@ -1,6 +1,7 @@
 -- The cells of an epoch: one for each satellite, code and kind of message, the first that came.
-use Rattle.std.specs.Prelude.{◌≡◌, ℕ, suc, ◌<◌, Bool, List, [], ◌∷◌, ◌++◌, ◌==◌, ◌&&◌, nat_lt, Option, None, Some, All, if◌then◌else◌}
+use Rattle.std.specs.Prelude.{◌≡◌, ℕ, suc, ◌<◌, Bool, List, [], ◌∷◌, ◌++◌, ◌==◌, ◌&&◌, ◌⊎◌, nat_lt, Option, None, Some, All, if◌then◌else◌}
 use Rattle.rtk_obs.specs.Cell.{IsInRange}
+use Rattle.rtk_obs.specs.CellsLeft.{cells_left}
 use Rattle.rtk_obs.specs.Code.{place_of}
 use Rattle.rtk_obs.specs.Slip.{is_same_source}
 use Rattle.rtk_obs.specs.declared.code.Code.{Code}
@@ -86,3 +87,7 @@ conflict c (Some x) = if equal_cells x.cell c.cell then [] else record { satelli
 abbrev pub conflicts : List CellEntry → List CellEntry → List SatelliteCode
 conflicts [] kept = []
 conflicts (c ∷ more) kept = conflict c (cell_under (key c) kept) ++ conflicts more (with_cell c kept)
+
+-- all cells, or those whose satellite and code none of the known cells has
+abbrev pub AreLeft : List CellEntry → List CellEntry → List CellEntry → Type 0
+AreLeft known cells left = (left ≡ cells) ⊎ (left ≡ cells_left known cells)

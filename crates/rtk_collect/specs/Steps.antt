@@ -4,3 +4,4 @@ pub mod OrderedPlaces
 pub mod Slot
 pub mod Observed
 pub mod Room
+pub mod First

@@ -1,7 +1,7 @@
 //! The collector: a window over the epochs of one station's messages.
 //!
-//! A new epoch reserves room for as many cells of each kind as the epoch before it has, or as the
-//! message has if these are more. `hand_back` keeps the lists of one closed epoch, and the next
+//! A new epoch reserves room for as many cells of each kind, and for as many satellites of a first 1004,
+//! as the epoch before it has, or as the message has if these are more. `hand_back` keeps the lists of one closed epoch, and the next
 //! epoch that wants just their room takes them.
 
 ghost use Rattle.std.specs.Prelude.{◌≡◌, ◌≤◌, List, [], length, take, IfOk, OnErr, None};
@@ -16,10 +16,12 @@ ghost use Rattle.rtk_collect.specs.Offered.{AnswersArrival, ClosesBelow, ClosesL
 use crate::conflicts::Conflicts;
 use crate::dated::{Borrowed, Dated};
 use crate::epoch_set::{EpochSet, Spare};
+use crate::first::{first_satellites, offer_first};
 use crate::left::Left;
+use crate::legacy_list::LegacyList;
 use crate::offer::Offer;
 use crate::stations::{StationMessages, keep_station_message, position};
-use crate::window::offer_cells;
+use crate::window::{offer_cells, place_of_epoch};
 use arrayvec::ArrayVec;
 use rtk_message::Message;
 use rtk_obs::{CellEntry, Position};
@@ -95,7 +97,7 @@ impl Collector {
             cells: ArrayVec::new(),
             spare: Spare {
                 msm: Vec::new(alloc),
-                legacy: Vec::new(alloc),
+                legacy: LegacyList::new(alloc),
             },
         }
     }
@@ -129,6 +131,12 @@ impl Collector {
             };
             return Ok(self.offer_station_message(message));
         };
+        let at = place_of_epoch(&self.sets, epoch);
+        let first = first_satellites(&self.sets, at, epoch, dated.message);
+        if let Some(satellites) = first {
+            let (sets, spare) = (&mut self.sets, &mut self.spare);
+            return offer_first(sets, self.places, self.alloc, at, epoch, satellites, spare);
+        }
         let rises = dated.message.put_cells(&mut self.cells);
         let cells = self.cells.as_slice();
         let (sets, spare) = (&mut self.sets, &mut self.spare);
@@ -136,6 +144,7 @@ impl Collector {
             sets,
             self.places,
             self.alloc,
+            at,
             epoch,
             cells,
             rises,
@@ -173,8 +182,8 @@ impl Collector {
     }
 
     /// Takes back a closed epoch whose cells nobody needs any more. The next epoch that opens has each
-    /// of its lists, for the cells of a kind of message, that has just the room that is wanted: if both
-    /// have, it takes no memory for them.
+    /// of its lists, for the cells of a kind of message or for the satellites of a first 1004, that has
+    /// just the room that is wanted: if all have, it takes no memory for them.
     ///
     /// The lists of one epoch are kept at most, until they are used, given up or replaced.
     pub fn hand_back(&mut self, set: EpochSet)

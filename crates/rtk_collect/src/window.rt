@@ -18,6 +18,7 @@ ghost use Rattle.rtk_collect.specs.Steps.Observed.{IsAnswerOf, AddsCells, WouldT
 
 use crate::conflicts::Conflicts;
 use crate::epoch_set::{EpochSet, Room, Spare};
+use crate::legacy_list::LegacyRoom;
 use crate::merging::source_of;
 use crate::offer::Offer;
 use rtk_obs::{CellEntry, CellSource, GpsMs};
@@ -86,23 +87,36 @@ pub(crate) fn join_at(
 // For how many cells of each kind an epoch that opens at a place has room: for those of its first
 // message, and for as many as the epoch before it has, since messages of each epoch mostly have the
 // same cells.
-fn first_room(sets: &VecDeque<EpochSet>, at: usize, source: CellSource, cells: usize) -> Room
+#[inline(always)]
+pub(crate) fn first_room(
+    sets: &VecDeque<EpochSet>,
+    at: usize,
+    source: CellSource,
+    cells: usize,
+) -> Room
     ensures { cells ≤ room_for source result }
 {
-    let mut room = Room { msm: 0, legacy: 0 };
+    let mut msm = 0;
+    let mut legacy = LegacyRoom {
+        satellites: 0,
+        cells: 0,
+    };
     if at < sets.len() {
         let before = &sets[at];
-        room.msm = before.msm_cells().len();
-        room.legacy = before.legacy_cells().len();
+        msm = before.msm_cells().len();
+        legacy = before.legacy_room();
     }
     match source {
         CellSource::Msm => Room {
-            msm: room.msm.max(cells),
-            legacy: room.legacy,
+            msm: msm.max(cells),
+            legacy,
         },
         CellSource::Legacy => Room {
-            msm: room.msm,
-            legacy: room.legacy.max(cells),
+            msm,
+            legacy: LegacyRoom {
+                satellites: legacy.satellites,
+                cells: legacy.cells.max(cells),
+            },
         },
     }
 }
@@ -142,7 +156,12 @@ pub(crate) fn open_at(
 }
 
 // Puts an epoch at a place.
-fn put_at(sets: &mut VecDeque<EpochSet>, at: usize, set: EpochSet) -> Result<(), AllocError>
+#[inline(always)]
+pub(crate) fn put_at(
+    sets: &mut VecDeque<EpochSet>,
+    at: usize,
+    set: EpochSet,
+) -> Result<(), AllocError>
     requires { at ≤ length sets.old.items }
     ensures items { OnOk result (sets.new.items ≡ insert sets.old.items at set) }
     ensures err { OnErr result (sets.new.items ≡ sets.old.items) }
@@ -161,6 +180,7 @@ fn put_at(sets: &mut VecDeque<EpochSet>, at: usize, set: EpochSet) -> Result<(),
 }
 
 /// Takes out the least epoch, if there are more epochs than places.
+#[inline(always)]
 pub(crate) fn close_least(sets: &mut VecDeque<EpochSet>, places: usize) -> Option<EpochSet>
     requires { length sets.old.items ≤ places + 1 }
     ensures items { sets.old.items ≡ sets.new.items ++ option_to_list result }
@@ -173,13 +193,14 @@ pub(crate) fn close_least(sets: &mut VecDeque<EpochSet>, places: usize) -> Optio
     }
 }
 
-/// Takes the new cells of an epoch, or opens it, in a window that has this number of places and
-/// spare lists; those that conflict are added to an empty list, which stays empty if memory is refused.
+/// Takes the new cells of an epoch, whose place is `at`, or opens it, in a window that has this number
+/// of places and spare lists; those that conflict are added to an empty list, which stays empty if memory is refused.
 /// If `rises`, the keys of the cells rise.
 pub(crate) fn offer_cells(
     sets: &mut VecDeque<EpochSet>,
     places: usize,
     alloc: Global,
+    at: usize,
     epoch: GpsMs,
     cells: &[CellEntry],
     rises: bool,
@@ -188,6 +209,7 @@ pub(crate) fn offer_cells(
 ) -> Result<Offer, AllocError>
     requires fits { length sets.old.items ≤ places }
     requires falls { EpochsFall sets.old.items }
+    requires place { at ≡ leading epoch sets.old.items }
     requires few { length cells.now ≤ 64 }
     requires range { All IsInRange cells.now }
     requires kind { AreOfOneKind cells.now }
@@ -200,7 +222,6 @@ pub(crate) fn offer_cells(
     ensures none { OnErr result (found.new ≡ []) }
     ensures spare { AreSpare spare.new }
 {
-    let at = place_of_epoch(sets, epoch);
     if has_epoch(sets, at, epoch) {
         let Ok(fresh) = join_at(sets, at, cells, rises, found) else {
             found.clear();

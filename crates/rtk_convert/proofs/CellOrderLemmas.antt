@@ -256,5 +256,22 @@ place-after xs begin end s r p from within same ne = record {
       omega arith;
 }
 
-pub place-absent : (xs : List CellEntry) (at s : ℕ) → KeysRise xs → IsPlaceOf s xs at → (at < length xs → (d : CellEntry) → (get_or xs at d).satellite ≢ s) → IsPlaceOf (s + 1) xs at
-place-absent xs at s r p ne = place-after xs at at s r p (omega arith) p.within (λ k d a b. absurd (omega arith)) ne
+-- the place of a satellite is that of a later one up to the satellite of the cell there
+pub place-later : (xs : List CellEntry) (at n s : ℕ) → KeysRise xs → IsPlaceOf n xs at → n ≤ s → (at < length xs → (d : CellEntry) → s ≤ (get_or xs at d).satellite) → IsPlaceOf s xs at
+place-later xs at n s r p more least = record {
+  within = p.within;
+  lesser = λ k d l. let h = p.lesser k d l in omega arith;
+  others = λ k d a l. elim (cases_order at k) [
+    | inl e ↦ subst (λ (i : ℕ). s ≤ (get_or xs i d).satellite) e (least (omega arith) d)
+    | inr (inl lt) ↦ let up : (get_or xs at d).satellite ≤ (get_or xs k d).satellite = satellites-at xs at k d r lt l in let low = least (omega arith) d in omega arith
+    | inr (inr gt) ↦ absurd (omega arith)
+  ];
+}
+
+-- and of those between
+pub place-between : (xs : List CellEntry) (at n t s : ℕ) → IsPlaceOf n xs at → IsPlaceOf s xs at → n ≤ t → t ≤ s → IsPlaceOf t xs at
+place-between xs at n t s p q more less = record {
+  within = p.within;
+  lesser = λ k d l. let h = p.lesser k d l in omega arith;
+  others = λ k d a l. let h = q.others k d a l in omega arith;
+}

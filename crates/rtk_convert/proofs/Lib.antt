@@ -1,5 +1,6 @@
 mod PlacesLemmas
 mod CellOrderLemmas
+mod LeftCellsLemmas
 mod ThroughLemmas
 mod RowsLemmas
 mod SatelliteLemmas

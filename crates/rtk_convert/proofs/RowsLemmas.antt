@@ -3,6 +3,7 @@ use Rattle.std.proofs.Common.{◌≡◌, ℕ, zero, suc, ◌+◌, ◌<◌, ◌�
 use Rattle.std.specs.Prelude.{is_some, All, AllPairs, if◌then◌else◌, IfSome, ◌||◌}
 use Rattle.std.proofs.lemmas.Bool.{cases_lt, eqb-true}
 use Rattle.std.proofs.lemmas.List.{append-nil, get_or-map, length-append, length-map}
+use Rattle.std.proofs.lemmas.List.Sums.{length-filter, count_by-le-length}
 use Rattle.std.proofs.lemmas.List.Quantifiers.{all_pairs_push}
 use Rattle.std.proofs.lemmas.List.Elements.{filter-append, All-nil, All-cons, All-append, All-head, All-tail}
 use Rattle.std.specs.List.{list_any}
@@ -188,7 +189,7 @@ few-if : (b : Bool) (rows : List SatelliteRow) (r : SatelliteRow) (n : ℕ) → 
 few-if true rows r n h = omega (arith, length-append rows (r ∷ []))
 few-if false rows r n h = omega (arith, ap length (append-nil rows))
 
-pub rows-few : (f : ℕ → Code → Option Observed) (listed : List Code) (n : ℕ) → length (rows_to f listed n) ≤ n
+rows-few : (f : ℕ → Code → Option Observed) (listed : List Code) (n : ℕ) → length (rows_to f listed n) ≤ n
 unfolding rows_to
 rows-few f listed zero = omega arith
 rows-few f listed (suc n) = few-if (list_any (λ code. is_some (f (suc n) code)) listed) (rows_to f listed n) (row_with f listed (suc n)) n (rows-few f listed n)
@@ -196,3 +197,8 @@ rows-few f listed (suc n) = few-if (list_any (λ code. is_some (f (suc n) code))
 pub rows-step : (f : ℕ → Code → Option Observed) (listed : List Code) (n : ℕ) (rows more : List SatelliteRow) → rows ≡ rows_to f listed n → more ≡ row_if_any f listed (n + 1)
     → rows ++ more ≡ rows_to f listed (n + 1)
 rows-step f listed n rows more e m = ap (λ (xs : List SatelliteRow). xs ++ more) e ∙ ap (λ (xs : List SatelliteRow). rows_to f listed n ++ xs) m ∙ sym (rows_to-more f listed n)
+
+pub few-held : (l : RecordLinesView) (f : ℕ → Code → Option Observed) (listed : List Code) (n : ℕ) → HoldsLines l (rows_to f listed n) → n < 32 → l.count < 32
+few-held l f listed n h lt =
+    let rows = rows_to f listed n in
+    omega (arith, rows-few f listed n, h.count, length-filter has_line rows, count_by-le-length has_line rows)

@@ -18,8 +18,8 @@ use Rattle.rtk_rinex.specs.declared.epoch_table.Observed.{Observed}
 use Rattle.rtk_rinex.specs.declared.epoch_table.SatelliteRow.{SatelliteRow}
 use Rattle.rtk_convert.specs.Rows.{first_cell, observed_with, observed_after, or_nothing, row_if_any, rows_to}
 use Rattle.rtk_rinex.specs.RecordLines.{RecordLinesView, HasOpenLine}
-use Rattle.rtk_convert.specs.Steps.ShownCells.{MayStep, IsPlaceOf, HasFreeOf, IsFreeOf, ShowsRow, ShowsSome, StepsOver, TakesCells, track_after, shown_by, is_code}
-use Rattle.rtk_convert.proofs.CellOrderLemmas.{any_cell, or_later, first-append, some-before, none-both, range-empty, range-more, range-new, range-satellite, range-other, first-range, first-absent, place-first}
+use Rattle.rtk_convert.specs.Steps.ShownCells.{MayStep, IsPlaceOf, IsLeastAt, HasFreeOf, IsFreeOf, ShowsRow, ShowsSome, StepsOver, TakesCells, track_after, shown_by, is_code}
+use Rattle.rtk_convert.proofs.CellOrderLemmas.{any_cell, or_later, first-append, some-before, none-both, range-empty, range-more, range-new, range-satellite, range-other, first-range, first-absent, place-first, place-later, place-between}
 use Rattle.rtk_convert.proofs.ThroughLemmas.{cells-same, taken-same, taken-more, may-same, may-more, shown-more}
 use Rattle.rtk_convert.proofs.RowsLemmas.{observed-same, row-with, free-of, rows-skip, rows-step}
 
@@ -162,13 +162,6 @@ rows-more f listed s rows more l e m =
     let same : s - 1 + 1 ≡ s = omega arith in
     subst (λ (k : ℕ). rows ++ more ≡ rows_to f listed k) same (rows-step f listed (s - 1) rows more e (m ∙ ap (row_if_any f listed) (sym same)))
 
-pub rows-none : (before : List (Option Track)) (epoch : ℕ) (xs : List CellEntry) (listed : List Code) (n : ℕ) → 1 ≤ n → ((c : Code) → first_cell xs n c ≡ None)
-    → rows_to (shown_by before epoch xs) listed (n - 1) ≡ rows_to (shown_by before epoch xs) listed n
-rows-none before epoch xs listed n l none =
-    sym (rows-skip (shown_by before epoch xs) listed (n - 1) n (omega arith) (λ s c a b.
-    let e : n ≡ s = omega arith in
-    subst (λ (t : ℕ). shown_by before epoch xs t c ≡ None) e (ap (observed_after (track_at before n c) c epoch) (none c))))
-
 -- the cells of the satellites before this one are taken: from both lists, up to its places
 pub record FillsRows (before : List (Option Track)) (epoch : ℕ) (ms : List CellEntry) (i : ℕ) (ls : List CellEntry) (j n : ℕ) (tracks : List (Option Track)) : Type 0 where
   pub msm : IsPlaceOf n ms i
@@ -184,30 +177,60 @@ fills-begin tracks epoch ms ls m l = record {
   todo = λ s c hs above. refl;
 }
 
-module _ (before : List (Option Track)) (epoch : ℕ) (ms : List CellEntry) (i : ℕ) (ls : List CellEntry) (j n : ℕ) (tracks : List (Option Track)) (g : FillsRows before epoch ms i ls j n tracks) (hn : IsSatellite n) where
-  -- the satellite has no cell
-  absent : IsPlaceOf (n + 1) ms i → IsPlaceOf (n + 1) ls j → (c : Code) → first_cell (ms ++ ls) n c ≡ None
-  absent p q c = none-both ms ls n c (first-absent ms i n c g.msm p) (first-absent ls j n c g.legacy q)
+-- the next satellite that has a cell
+pub next-satellite : {s i j : ℕ} {ms ls : List CellEntry} → All IsInRange ms → All IsInRange ls → IsLeastAt s ms i ls j → IsSatellite s
+next-satellite {s} {i} {j} {ms} {ls} m l h =
+    elim (h.one any_cell) [
+      | inl a ↦ let r : IsInRange (get_or ms i any_cell) = m i any_cell a.0 in subst IsSatellite a.1 r.satellite
+      | inr a ↦ let r : IsInRange (get_or ls j any_cell) = l j any_cell a.0 in subst IsSatellite a.1 r.satellite
+    ]
 
-  pub fills-skip : IsPlaceOf (n + 1) ms i → IsPlaceOf (n + 1) ls j → FillsRows before epoch ms i ls j (n + 1) tracks
-  fills-skip p q = record {
+-- comes at or after one whose place this is
+pub next-from : {n s i j : ℕ} {ms ls : List CellEntry} → IsPlaceOf n ms i → IsPlaceOf n ls j → IsLeastAt s ms i ls j → n ≤ s
+next-from {n} {s} {i} {j} {ms} {ls} p q h =
+    elim (h.one any_cell) [
+      | inl a ↦ subst (λ (t : ℕ). n ≤ t) a.1 (p.others i any_cell (omega arith) a.0)
+      | inr a ↦ subst (λ (t : ℕ). n ≤ t) a.1 (q.others j any_cell (omega arith) a.0)
+    ]
+
+module _ (before : List (Option Track)) (epoch : ℕ) (ms : List CellEntry) (i : ℕ) (ls : List CellEntry) (j n s : ℕ) (tracks : List (Option Track)) (g : FillsRows before epoch ms i ls j n tracks) (from : n ≤ s)
+    (p : IsPlaceOf s ms i) (q : IsPlaceOf s ls j) where
+  -- the satellites before it have no cell
+  absent : (t : ℕ) (c : Code) → n ≤ t → t < s → first_cell (ms ++ ls) t c ≡ None
+  absent t c more less =
+      none-both ms ls t c
+      (first-absent ms i t c (place-between ms i n t s g.msm p more (omega arith)) (place-between ms i n (t + 1) s g.msm p (omega arith) (omega arith)))
+      (first-absent ls j t c (place-between ls j n t s g.legacy q more (omega arith)) (place-between ls j n (t + 1) s g.legacy q (omega arith) (omega arith)))
+
+  pub fills-to : FillsRows before epoch ms i ls j s tracks
+  fills-to = record {
     msm = p;
     legacy = q;
-    done = λ s c hs below. elim (cases_lt s n) [
-      | inl a ↦ g.done s c hs a
-      | inr a ↦
-          let e : n ≡ s = omega arith in
-          subst (λ (t : ℕ). track_at tracks t c ≡ track_after (track_at before t c) c epoch (first_cell (ms ++ ls) t c)) e
-          (g.todo n c hn (omega arith) ∙ ap (track_after (track_at before n c) c epoch) (sym (absent p q c)))
+    done = λ t c ht below. elim (cases_lt t n) [
+      | inl a ↦ g.done t c ht a
+      | inr a ↦ g.todo t c ht a ∙ ap (track_after (track_at before t c) c epoch) (sym (absent t c a below))
     ];
-    todo = λ s c hs above. g.todo s c hs (omega arith);
+    todo = λ t c ht above. g.todo t c ht (omega arith);
   }
 
-  pub skip-rows : (listed : List Code) → IsPlaceOf (n + 1) ms i → IsPlaceOf (n + 1) ls j → rows_to (shown_by before epoch (ms ++ ls)) listed (n - 1) ≡ rows_to (shown_by before epoch (ms ++ ls)) listed (n + 1 - 1)
-  skip-rows listed p q =
-      let e : n ≡ n + 1 - 1 = omega arith in
-      rows-none before epoch (ms ++ ls) listed n hn.0 (absent p q) ∙ ap (rows_to (shown_by before epoch (ms ++ ls)) listed) e
+  pub rows-between : (listed : List Code) → 1 ≤ n → rows_to (shown_by before epoch (ms ++ ls)) listed (n - 1) ≡ rows_to (shown_by before epoch (ms ++ ls)) listed (s - 1)
+  rows-between listed one =
+      sym (rows-skip (shown_by before epoch (ms ++ ls)) listed (n - 1) (s - 1) (omega arith) (λ t c a b. ap (observed_after (track_at before t c) c epoch) (absent t c (omega arith) (omega arith))))
 
+-- up to the next satellite that has a cell
+pub fills-next : (before : List (Option Track)) (epoch : ℕ) (ms : List CellEntry) (i : ℕ) (ls : List CellEntry) (j n s : ℕ) (tracks : List (Option Track)) → FillsRows before epoch ms i ls j n tracks → KeysRise ms → KeysRise ls
+    → IsLeastAt s ms i ls j → FillsRows before epoch ms i ls j s tracks
+fills-next before epoch ms i ls j n s tracks g m l h =
+    let from = next-from g.msm g.legacy h in
+    fills-to before epoch ms i ls j n s tracks g from (place-later ms i n s m g.msm from h.msm_least) (place-later ls j n s l g.legacy from h.legacy_least)
+
+-- or up to the last satellite, without another cell
+pub fills-end : (before : List (Option Track)) (epoch : ℕ) (ms : List CellEntry) (i : ℕ) (ls : List CellEntry) (j n : ℕ) (tracks : List (Option Track)) → FillsRows before epoch ms i ls j n tracks → KeysRise ms → KeysRise ls
+    → n ≤ 33 → length ms ≤ i → length ls ≤ j → FillsRows before epoch ms i ls j 33 tracks
+fills-end before epoch ms i ls j n tracks g m l last a b =
+    fills-to before epoch ms i ls j n 33 tracks g last (place-later ms i n 33 m g.msm last (λ k d. absurd (omega arith))) (place-later ls j n 33 l g.legacy last (λ k d. absurd (omega arith)))
+
+module _ (before : List (Option Track)) (epoch : ℕ) (ms : List CellEntry) (i : ℕ) (ls : List CellEntry) (j n : ℕ) (tracks : List (Option Track)) (g : FillsRows before epoch ms i ls j n tracks) (hn : IsSatellite n) where
   pub may-begin : ((c : Code) → IsLater (track_at before n c) epoch) → MayStep tracks [] n epoch
   may-begin h c none = subst (λ (o : Option Track). IsLater o epoch) (sym (g.todo n c hn (omega arith))) (h c)
 

@@ -13,9 +13,10 @@ use crate::epoch_rows::push_rows;
 use crate::fault::ConvertFault;
 use crate::setup::Setup;
 use crate::writing::write_record;
+use arrayvec::ArrayVec;
 use rtk_collect::{EpochSet, Left};
 use rtk_frame::Sink;
-use rtk_obs::{Position, Tracks};
+use rtk_obs::{CellEntry, Position, Tracks};
 use rtk_rinex::RecordLines;
 use std::alloc::{AllocError, Global};
 use std::marker::Model;
@@ -23,17 +24,19 @@ use std::marker::Model;
 /// What is known of the closed epochs: the last phases, whether the header is written, and how many
 /// records are written.
 ///
-/// The text of a record is kept from epoch to epoch. The tracks are large, and lie on the heap, so
-/// that no function on the way to them needs a large stack.
+/// The text of a record is kept from epoch to epoch. The tracks and the room are large, and lie on the
+/// heap, so that no function on the way to them needs a large stack.
 #[derive(Drop)]
 pub(crate) struct ClosedEpochs {
     tracks: Box<Tracks>,
+    // Room for cells of an epoch that came in a 1004.
+    room: Box<ArrayVec<CellEntry, 64>>,
     lines: RecordLines,
     is_header_out: bool,
     count: u64,
 }
 
-// Clauses don't see the lines, which are written anew for each epoch. The invariant names every
+// Clauses don't see the room and the lines, which are written anew for each epoch. The invariant names every
 // field, as that of a converter does.
 impl Model for ClosedEpochs {
     ghost use Rattle.std.specs.Prelude.{◌≡◌};
@@ -43,7 +46,7 @@ impl Model for ClosedEpochs {
 
     ghost view = { λ r. record { tracks = r.tracks.value; is_header_out = r.is_header_out; count = r.count } };
 
-    ghost invariant = { λ r. r ≡ record { tracks = r.tracks; lines = r.lines; is_header_out = r.is_header_out; count = r.count } };
+    ghost invariant = { λ r. r ≡ record { tracks = r.tracks; room = r.room; lines = r.lines; is_header_out = r.is_header_out; count = r.count } };
 }
 
 // Tracks without a phase. This function is alone in needing the stack for them, which is gone when
@@ -55,6 +58,14 @@ fn new_tracks(alloc: Global) -> Result<Box<Tracks>, AllocError>
     Ok(Box::new(alloc, Tracks::new())?)
 }
 
+// Room for cells, of which none stands there yet.
+#[inline(never)]
+fn new_room(alloc: Global) -> Result<Box<ArrayVec<CellEntry, 64>>, AllocError>
+    ensures { IfOk result (λ room. room.value.items ≡ []) }
+{
+    Ok(Box::new(alloc, ArrayVec::new())?)
+}
+
 impl ClosedEpochs {
     /// Nothing is closed yet.
     pub(crate) fn new(alloc: Global) -> Result<ClosedEpochs, AllocError>
@@ -63,6 +74,7 @@ impl ClosedEpochs {
     {
         Ok(ClosedEpochs {
             tracks: new_tracks(alloc)?,
+            room: new_room(alloc)?,
             lines: RecordLines::new(alloc),
             is_header_out: false,
             count: 0,
@@ -100,7 +112,13 @@ impl ClosedEpochs {
         ensures failed { NamesFailedFile result (O.failures out.old) (O.failures out.new) }
     {
         let listed = setup.head().codes();
-        push_rows(&mut self.tracks, set, listed, &mut self.lines)?;
+        push_rows(
+            &mut self.tracks,
+            set,
+            listed,
+            &mut self.lines,
+            &mut self.room,
+        )?;
         let epoch = set.epoch();
         self.lines.finish(epoch);
         let text = self.lines.text();

@@ -4,12 +4,12 @@
 //! the phase with its rolls, and the slip. A row has the `Observed` of each listed code of a satellite;
 //! its line is written code by code, each straight from its cell.
 //!
-//! The satellites 1 to 32 are gone over with a place in each list of cells, which rises by
+//! The satellites that have cells are gone over with a place in each list of cells, which rises by
 //! satellite and code. The cells of the MSM come first, then the cells of the 1004 whose code no
 //! cell of the MSM has. Each of them takes a step of the tracks, also if its code is not listed,
 //! since a later phase is compared with it.
 
-ghost use Rattle.std.specs.Prelude.{◌≡◌, ◌≢◌, ℕ, ◌+◌, ◌<◌, ◌≤◌, List, [], ◌∷◌, ◌++◌, map, length, Some, All, AllPairs, slice_range, is_some, IsTrue, None, OnOk};
+ghost use Rattle.std.specs.Prelude.{◌≡◌, ◌≢◌, ℕ, ◌+◌, ◌<◌, ◌≤◌, List, [], ◌∷◌, ◌++◌, map, length, Some, All, AllPairs, slice_range, is_some, None, IfSome, IfNone, OnOk};
 ghost use Rattle.rtk_obs.specs.declared.cell.CellEntry.{CellEntry};
 ghost use Rattle.rtk_obs.specs.Cell.{IsInRange, IsSatellite};
 ghost use Rattle.rtk_obs.specs.Tracks.{IsLater, track_at};
@@ -19,8 +19,9 @@ ghost use Rattle.rtk_rinex.specs.declared.epoch_table.Observed.{Observed};
 ghost use Rattle.rtk_rinex.specs.RecordLines.{HasOpenLine, HoldsLines, KeepsLines};
 ghost use Rattle.rtk_convert.specs.Rows.{first_cell, rolled_or_none, observed_with, or_nothing, table_of};
 ghost use Rattle.rtk_convert.specs.LastPhases.{HasLastPhases};
-ghost use Rattle.rtk_convert.specs.Steps.ShownCells.{AllBelow, MayStep, IsPlaceOf, RiseFrom, HasCellsFrom, TellsSatellite, AreCellsTo, ShowsRow, ShowsSome, StepsOver, TakesCells, ArePlaces, HasFreeOf, IsFreeOf, with_code};
+ghost use Rattle.rtk_convert.specs.Steps.ShownCells.{AllBelow, MayStep, IsPlaceOf, IsLeastAt, HasCellsFrom, TellsSatellite, AreCellsTo, ShowsRow, ShowsSome, StepsOver, TakesCells, ArePlaces, HasFreeOf, IsFreeOf, with_code};
 
+use arrayvec::ArrayVec;
 use rtk_collect::EpochSet;
 use rtk_obs::{Cell, CellEntry, Code, Digits, GpsMs, Tracks, rolled};
 use rtk_rinex::{Observed, RecordLines};
@@ -136,26 +137,26 @@ fn has_satellite(entries: &[CellEntry], at: usize, satellite: u8) -> bool
     at < entries.len() && entries[at].satellite == satellite
 }
 
-// Has a satellite, which has its place in two lists of cells, no cell in them?
-fn is_absent(
-    satellite: u8,
+// The least satellite that has a cell at these places of two lists.
+fn next_satellite(
     msm: &[CellEntry],
     msm_at: usize,
     legacy: &[CellEntry],
     legacy_at: usize,
-) -> bool
-    requires msm { RiseFrom satellite msm.now msm_at }
-    requires legacy { RiseFrom satellite legacy.now legacy_at }
-    ensures msm { IsTrue result → IsPlaceOf (satellite + 1) msm.now msm_at }
-    ensures legacy { IsTrue result → IsPlaceOf (satellite + 1) legacy.now legacy_at }
+) -> Option<u8>
+    ensures some { IfSome result (λ satellite. IsLeastAt satellite msm.now msm_at legacy.now legacy_at) }
+    ensures none { IfNone result ((length msm.now ≤ msm_at) × (length legacy.now ≤ legacy_at)) }
 {
-    if has_satellite(msm, msm_at, satellite) {
-        return false;
+    if msm_at >= msm.len() {
+        if legacy_at >= legacy.len() {
+            return None;
+        }
+        return Some(legacy[legacy_at].satellite);
     }
-    if has_satellite(legacy, legacy_at, satellite) {
-        return false;
+    if legacy_at >= legacy.len() {
+        return Some(msm[msm_at].satellite);
     }
-    true
+    Some(msm[msm_at].satellite.min(legacy[legacy_at].satellite))
 }
 
 // Takes the cells of a satellite from its place on, but for those whose code an earlier one of its
@@ -251,6 +252,7 @@ pub(crate) fn push_rows(
     set: &EpochSet,
     listed: &[Code],
     lines: &mut RecordLines,
+    room: &mut ArrayVec<CellEntry, 64>,
 ) -> Result<(), AllocError>
     requires listed { IsCodeList listed.now }
     requires later { AllBelow tracks.old set.now.epoch }
@@ -263,17 +265,16 @@ pub(crate) fn push_rows(
     lines.restart();
     let epoch = set.epoch();
     let msm = set.msm_cells();
-    let legacy = set.legacy_cells();
+    let legacy = set.legacy_left(room);
     let form = RowForm {
         epoch,
         places: places_of(listed),
     };
     let mut msm_at = 0;
     let mut legacy_at = 0;
-    'satellites: for satellite in 1..33 {
-        if is_absent(satellite, msm, msm_at, legacy, legacy_at) {
-            continue;
-        }
+    // The satellites before this one are written. Only the proof reads it.
+    let mut from = 1;
+    'satellites: while let Some(satellite) = next_satellite(msm, msm_at, legacy, legacy_at) {
         let at = CellPlaces {
             msm: msm_at,
             legacy: legacy_at,
@@ -285,6 +286,7 @@ pub(crate) fn push_rows(
         lines.close_line(satellite);
         msm_at = filled.msm;
         legacy_at = filled.legacy;
+        from = satellite + 1;
     }
     Ok(())
 }

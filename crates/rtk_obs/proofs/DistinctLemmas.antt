@@ -119,11 +119,13 @@ rise-more last i d ss inside p less =
       all_append (λ (t : Satellite). t.satellite ≤ s.satellite) (take i ss) (s ∷ []) (all_from (λ (t : Satellite). t.satellite ≤ last) (λ (t : Satellite). t.satellite ≤ s.satellite) (λ t h. omega (arith, h, less)) (take i ss) p.1) (omega arith, tt),
     )
 
-pub cells_of_1004-rise : (last i : ℕ) (ss : List Satellite) → RiseTo last (take i ss) → length ss ≤ i → AreRising (cells_of_1004 ss)
-cells_of_1004-rise last i ss p all =
-    let rise : Pairs IsLess ss = rw (take_all i ss all) at p.0 in
+pub pairs-rise : (ss : List Satellite) → Pairs IsLess ss → AreRising (cells_of_1004 ss)
+pairs-rise ss rise =
     all_pairs IsBefore (cells_of_1004 ss)
     (entries_rise (filter (λ (s : Satellite). is_satellite s.satellite) (first_entries ss)) (pairs_filter IsLess (λ (s : Satellite). is_satellite s.satellite) (first_entries ss) (first_rise ss rise)))
+
+pub cells_of_1004-rise : (last i : ℕ) (ss : List Satellite) → RiseTo last (take i ss) → length ss ≤ i → AreRising (cells_of_1004 ss)
+cells_of_1004-rise last i ss p all = pairs-rise ss (rw (take_all i ss all) at p.0)
 
 -- ---- MSM: the satellites and the signals rise
 

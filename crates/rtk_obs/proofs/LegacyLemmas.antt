@@ -1,5 +1,5 @@
 -- The cells of a 1004: one entry more, the widths of the fields, and the ranges of the values.
-use Rattle.std.proofs.Common.{◌≡◌, ℕ, ◌*◌, ◌<◌, [], ◌∷◌, ◌++◌, List, Some, None, refl, sym, ◌∙◌, ap, arith, true, false, Bool, nat_eq, not, ◌||◌, ◌&&◌, cond, append_assoc}
+use Rattle.std.proofs.Common.{◌≡◌, ℕ, zero, suc, get_or, ◌*◌, ◌<◌, [], ◌∷◌, ◌++◌, List, Some, None, refl, sym, ◌∙◌, ap, arith, true, false, Bool, nat_eq, not, ◌||◌, ◌&&◌, cond, append_assoc}
 use Rattle.std.specs.Prelude.{filter, IfSome}
 use Rattle.std.specs.List.{list_any, flat_map, All, AllByRecursion}
 use Rattle.std.proofs.lemmas.List.{append-nil}
@@ -11,10 +11,12 @@ use Rattle.rtk_message.specs.Fields.{FieldsFit}
 use Rattle.rtk_message.specs.Obs1004.{satellite_table, IsValid}
 use Rattle.rtk_message.specs.declared.obs1004.Obs1004.{Obs1004}
 use Rattle.rtk_obs.specs.declared.cell.CellEntry.{CellEntry}
+use Rattle.rtk_obs.specs.declared.code.Code.{Code}
+use Rattle.rtk_obs.specs.declared.legacy_cells.TheConstants.{L2_CODES}
 use Rattle.rtk_obs.specs.Cell.{is_satellite, entry_of, IsSatellite, IsStrength, IsInRange}
 use Rattle.rtk_obs.specs.Scaling.{strength_of}
 use Rattle.rtk_obs.specs.LegacyCells.{first_entries, has_number, satellite_entries, cells_of_1004, l1_code_of, l2_code_of, l1_cell_of, l2_cell_of}
-use Rattle.rtk_obs.specs.Steps.LegacyFields.{HasLegacyWidths}
+use Rattle.rtk_obs.specs.CellsLeft.{HasLegacyWidths}
 
 -- ---- the first entry of a satellite
 
@@ -76,6 +78,15 @@ cells-unused ss s h =
     ∙ (ap (λ (es : List CellEntry). cells_of_1004 ss ++ es) (left_out s (is_satellite s.satellite) (list_any (has_number s.satellite) ss) refl h)
     ∙ append-nil (cells_of_1004 ss))
 
+-- ---- codes
+
+pub l2-code : (n : ℕ) (d : Code) → n < 4 → get_or L2_CODES n d ≡ l2_code_of n
+l2-code zero d h = refl
+l2-code (suc zero) d h = refl
+l2-code (suc (suc zero)) d h = refl
+l2-code (suc (suc (suc zero))) d h = refl
+l2-code (suc (suc (suc (suc n)))) d h = absurd (omega arith)
+
 -- ---- widths
 
 fields_by_recursion : (ss : List Satellite) → FieldsFit (flat_map satellite_table ss) → AllByRecursion HasLegacyWidths ss
@@ -86,6 +97,7 @@ fields_by_recursion (s ∷ ss) h = (
     l1_lock_indicator = h.1.1.1.1.0;
     l2_lock_indicator = h.1.1.1.1.1.1.1.1.1.1.0;
     l1_cnr = h.1.1.1.1.1.1.0;
+    l2_code = h.1.1.1.1.1.1.1.0;
     l2_cnr = h.1.1.1.1.1.1.1.1.1.1.1.0;
   },
   fields_by_recursion ss h.1.1.1.1.1.1.1.1.1.1.1.1,

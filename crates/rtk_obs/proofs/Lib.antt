@@ -12,6 +12,7 @@ mod TracksLemmas
 mod ScalingLemmas
 mod MaskLemmas
 mod LegacyLemmas
+mod CellsLeftLemmas
 mod MsmLemmas
 mod MsmFieldLemmas
 mod PairsLemmas

@@ -53,7 +53,7 @@ cells_of-satellites m = All-from_recursion HasSatellite (cells_of m) (of-message
 abbrev IsOf : CellSource → CellEntry → Type 0
 IsOf source c = c.cell.source ≡ source
 
-all-legacy : (ss : List Satellite) → AllByRecursion (IsOf Legacy) (flat_map satellite_entries ss)
+pub all-legacy : (ss : List Satellite) → AllByRecursion (IsOf Legacy) (flat_map satellite_entries ss)
 all-legacy [] = tt
 all-legacy (s ∷ ss) = (refl, (refl, all-legacy ss))
 

@@ -22,7 +22,7 @@ get_or-replicate zero i y = refl
 get_or-replicate (suc n) zero y = refl
 get_or-replicate (suc n) (suc i) y = get_or-replicate n i y
 
-by_eq : {P : Type 0} (m n : ℕ) → (m ≡ n → P) → (m ≢ n → P) → P
+pub by_eq : {P : Type 0} (m n : ℕ) → (m ≡ n → P) → (m ≢ n → P) → P
 by_eq m n same other =
     elim (cases_order m n) [
       | inl e ↦ same e
@@ -103,10 +103,10 @@ same_signal a b c d ha hb e =
 pub place_inside : (s : ℕ) (c : Code) → IsSatellite s → place_of_signal s c < 512
 place_inside s c h = let a = h.0 in let b = h.1 in let p = place_bound c in omega arith
 
-same_test : (a b c d : ℕ) → a ≡ c → b ≡ d → (nat_eq a c && nat_eq b d) ≡ true
+pub same_test : (a b c d : ℕ) → a ≡ c → b ≡ d → (nat_eq a c && nat_eq b d) ≡ true
 same_test a b c d e f = grind (arith, nat_tests)
 
-other_test : (a b c d : ℕ) → b < 16 → d < 16 → (a - 1) * 16 + b ≢ (c - 1) * 16 + d → (nat_eq a c && nat_eq b d) ≡ false
+pub other_test : (a b c d : ℕ) → b < 16 → d < 16 → (a - 1) * 16 + b ≢ (c - 1) * 16 + d → (nat_eq a c && nat_eq b d) ≡ false
 other_test a b c d h k ne = grind (arith, nat_tests)
 
 -- ---- falling epochs

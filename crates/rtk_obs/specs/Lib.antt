@@ -10,6 +10,7 @@ pub mod Scaling
 pub mod Mask
 pub mod Cell
 pub mod LegacyCells
+pub mod CellsLeft
 pub mod Steps
 pub mod MsmCells
 pub mod MessageCells

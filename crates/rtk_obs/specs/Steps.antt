@@ -1,3 +1,4 @@
 -- Definitions that only private clauses use.
 pub mod LegacyFields
 pub mod MsmRows
+pub mod Marks

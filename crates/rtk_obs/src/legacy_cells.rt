@@ -7,7 +7,8 @@ ghost use Rattle.rtk_message.specs.Obs1004.{IsValid};
 ghost use Rattle.rtk_obs.specs.Cell.{is_satellite, entry_of, IsInRange, AreDistinct, AreRising};
 ghost use Rattle.rtk_obs.specs.Scaling.{l2_length};
 ghost use Rattle.rtk_obs.specs.LegacyCells.{l1_code_of, l2_code_of, l1_range_of, l2_range_of, legacy_phase_of, length_of, l1_cell_of, l2_cell_of, has_number, cells_of_1004};
-ghost use Rattle.rtk_obs.specs.Steps.LegacyFields.{HasLegacyWidths, HasSeen};
+ghost use Rattle.rtk_obs.specs.CellsLeft.{HasLegacyWidths};
+ghost use Rattle.rtk_obs.specs.Steps.LegacyFields.{HasSeen};
 
 use crate::cell::{CellEntry, CellSource, is_satellite, make_room};
 use crate::code::{Band, Code};
@@ -28,25 +29,24 @@ const NO_RANGE: i32 = -8192;
 // Thousandths of a dB-Hz in a step of DF015 and DF020.
 const LEGACY_STRENGTH_STEP: u32 = 250;
 
-fn l1_code(indicator: bool) -> Code
+pub(crate) fn l1_code(indicator: bool) -> Code
     ensures { result ≡ l1_code_of indicator }
 {
     if indicator { Code::C1P } else { Code::C1C }
 }
 
-fn l2_code(indicator: u8) -> Code
+// The codes of L2 at the indicators of DF016 from 0 on.
+static L2_CODES: [Code; 4] = [Code::C2X, Code::C2P, Code::C2D, Code::C2W];
+
+pub(crate) fn l2_code(indicator: u8) -> Code
+    requires { indicator < 4 }
     ensures { result ≡ l2_code_of indicator }
 {
-    match indicator {
-        0 => Code::C2X,
-        1 => Code::C2P,
-        2 => Code::C2D,
-        _ => Code::C2W,
-    }
+    L2_CODES[usize::from(indicator)]
 }
 
 // The pseudorange of L1, in 0.0005 m.
-fn l1_length(satellite: &Satellite) -> i64
+pub(crate) fn l1_length(satellite: &Satellite) -> i64
     requires { satellite.now.l1_range < 2 ^ 24 }
     ensures value { result ≡ length_of satellite.now }
     ensures bound { unsigned_abs result ≤ LONGEST_RANGE }
@@ -94,7 +94,7 @@ fn legacy_phase(band: Band, length: i64, offset: Option<i32>) -> Option<i64>
 
 // Sets an entry to the one of L1. Each field is written where it stays.
 #[inline(always)]
-fn set_l1_entry(entry: &mut CellEntry, satellite: &Satellite, length: i64)
+pub(crate) fn set_l1_entry(entry: &mut CellEntry, satellite: &Satellite, length: i64)
     requires lock { satellite.now.l1_lock_indicator < 128 }
     requires length { length ≡ length_of satellite.now }
     requires bound { unsigned_abs length ≤ LONGEST_RANGE }
@@ -114,7 +114,8 @@ fn set_l1_entry(entry: &mut CellEntry, satellite: &Satellite, length: i64)
 
 // Sets an entry to the one of L2.
 #[inline(always)]
-fn set_l2_entry(entry: &mut CellEntry, satellite: &Satellite, length: i64)
+pub(crate) fn set_l2_entry(entry: &mut CellEntry, satellite: &Satellite, length: i64)
+    requires code { satellite.now.l2_code < 4 }
     requires lock { satellite.now.l2_lock_indicator < 128 }
     requires length { length ≡ length_of satellite.now }
     requires bound { unsigned_abs length ≤ LONGEST_RANGE }

@@ -19,6 +19,7 @@
 
 mod calendar;
 mod cell;
+mod cells_left;
 mod civil_text;
 mod code;
 mod dating;
@@ -42,6 +43,7 @@ mod tracks;
 
 pub use calendar::{civil, of_civil};
 pub use cell::{Cell, CellEntry, CellSource};
+pub use cells_left::{put_cells_left, rising_satellites};
 pub use civil_text::{put_civil, put_clock, put_date, three_digits, two_digits};
 pub use code::{ALL_CODES, Band, Code};
 pub use dating::{HALF_WEEK_MS, WEEK_MS, date};

@@ -16,6 +16,3 @@ unlike-more cs i old new j k d jk ki =
 -- four texts after another
 pub append-four : (o a b c d : List ℕ) → (((o ++ a) ++ b) ++ c) ++ d ≡ o ++ (((a ++ b) ++ c) ++ d)
 append-four o a b c d = simp append_assoc
-
-pub append-five : (o a b c d e : List ℕ) → ((((o ++ a) ++ b) ++ c) ++ d) ++ e ≡ o ++ ((((a ++ b) ++ c) ++ d) ++ e)
-append-five o a b c d e = simp append_assoc

@@ -309,18 +309,6 @@ pub(crate) fn unsigned_13_7(magnitude: u64) -> [u8; 13]
     field
 }
 
-/// F11.7 of a number of ten-millionths.
-pub(crate) fn unsigned_11_7(magnitude: u64) -> [u8; 11]
-    requires { magnitude < 10 ^ 10 }
-    ensures { result ≡ right 11 (decimals 7 false magnitude) }
-{
-    let mut field = [b' '; 11];
-    put_last_digits(&mut field[4..], magnitude);
-    field[3] = b'.';
-    put_decimal(&mut field[..3], magnitude / 10_000_000);
-    field
-}
-
 /// I6.
 pub(crate) fn integer_6(number: u64) -> [u8; 6]
     requires { number < 10 ^ 6 }

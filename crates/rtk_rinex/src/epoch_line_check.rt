@@ -77,7 +77,7 @@ pub(crate) fn read_epoch_line(line: &[u8]) -> Option<EpochStamp>
         return None;
     }
     let stamp = stamp_in(line.split_at(EPOCH_LINE - 1).0)?;
-    if is_same(epoch_line(stamp.reading, stamp.count).as_slice(), line) {
+    if is_same(&epoch_line(stamp.reading, stamp.count), line) {
         Some(stamp)
     } else {
         None

@@ -7,11 +7,10 @@ ghost use Rattle.rtk_rinex.specs.Reading.{seconds_of};
 ghost use Rattle.rtk_rinex.specs.RecordLines.{ended};
 
 use crate::columns::{
-    EPOCH_LINE, append, integer_3, put_decimal, put_fixed_14_3, put_last_digits, put_long_14_3,
-    put_pair, put_point_and_three, put_short_14_3, seconds, unsigned_11_7,
+    EPOCH_LINE, put_decimal, put_fixed_14_3, put_long_14_3, put_pair, put_point_and_three,
+    put_short_14_3,
 };
 use crate::epoch_table::{Observed, SatelliteRow};
-use arrayvec::ArrayVec;
 use rtk_obs::Civil;
 
 // The least value that F14.3 has room for, in thousandths.
@@ -198,35 +197,6 @@ pub(crate) fn end_line(line: &mut [u8], satellite: u8, end: usize) -> usize
     len + 1
 }
 
-// The columns of the epoch line up to the minute.
-fn epoch_date(time: Civil) -> [u8; 18]
-    ensures { result ≡ epoch_date_text time }
-{
-    let mut field = *b"> yyyy mm dd hh mm";
-    put_last_digits(&mut field[2..6], u64::from(time.year));
-    put_last_digits(&mut field[7..9], u64::from(time.month));
-    put_last_digits(&mut field[10..12], u64::from(time.day));
-    put_last_digits(&mut field[13..15], u64::from(time.hour));
-    put_last_digits(&mut field[16..18], u64::from(time.minute));
-    field
-}
-
-/// The epoch line of a date and time and a count of satellites.
-pub(crate) fn epoch_line(time: Civil, count: usize) -> ArrayVec<u8, EPOCH_LINE>
-    requires second { time.second < 60 }
-    requires millisecond { time.millisecond < 1000 }
-    requires count { count < 1000 }
-    ensures { result.items ≡ epoch_line time count }
-{
-    let mut line = ArrayVec::new();
-    append(&mut line, &epoch_date(time));
-    append(&mut line, &unsigned_11_7(seconds(time)));
-    append(&mut line, b"  0");
-    append(&mut line, &integer_3(count as u64));
-    append(&mut line, b"\n");
-    line
-}
-
 // Writes the columns of the epoch line up to the minute.
 fn put_epoch_date(field: &mut [u8], time: Civil)
     requires columns { length field.old ≡ 18 }
@@ -280,4 +250,19 @@ pub(crate) fn put_epoch_line(text: &mut [u8], time: Civil, count: usize)
     put_epoch_date(&mut text[..18], time);
     put_seconds(&mut text[18..29], time);
     put_count(&mut text[29..EPOCH_LINE], count);
+}
+
+/// The epoch line of a date and time and a count of satellites.
+pub(crate) fn epoch_line(time: Civil, count: usize) -> [u8; EPOCH_LINE]
+    requires year { time.year < 10_000 }
+    requires date { (time.month < 100) × (time.day < 100) }
+    requires clock { (time.hour < 100) × (time.minute < 100) }
+    requires second { time.second < 60 }
+    requires millisecond { time.millisecond < 1000 }
+    requires count { count < 1000 }
+    ensures { result ≡ epoch_line time count }
+{
+    let mut line = [b' '; EPOCH_LINE];
+    put_epoch_line(&mut line, time, count);
+    line
 }

@@ -27,13 +27,14 @@ COUNTS = "frames other refused foreign taken repeat conflict late epochs".split(
 # What docs/MANUAL.md says that each open epoch, each link and what is gathered takes.
 CELL = 64
 FEWEST_CELLS = 4
-EPOCH = 112
+SATELLITE = 28
+EPOCH = 176
 # A scanner has room for two of the longest frames, and for the checksums of their prefixes.
 READ_AHEAD, SCANNED = 32_768, 2 * 1_029 + 4 * (2 * 1_029 + 1)
 LINK = 62_000
 GATHERED = 2 * 65_536
-# What a conversion of one link holds besides: the manual says some 85 kB.
-LEAST_BESIDE, MOST_BESIDE = 80_500, 85_500
+# What a conversion of one link holds besides: the manual says some 89 kB.
+LEAST_BESIDE, MOST_BESIDE = 84_500, 89_500
 # What a summary holds: some 1.6 MB. `auto` holds as much besides what its conversion holds, and so much for each capture.
 LEAST_OF_SUMMARY, MOST_OF_SUMMARY = 1_580_000, 1_600_000
 LEAST_OF_AUTO, MOST_OF_AUTO = 1_430_000, 1_520_000
@@ -50,16 +51,17 @@ MOST_OF_PICTURE = 60_000_000
 # The cells of an epoch: a 1004 gives two of a satellite, a 1074 one of each signal.
 CELLS = len(SATELLITES) * (2 + len(SIGNALS))
 WINDOWS = (64, 1000, 4096)
-# Of each kind the cells of the largest message, and what a record of all satellites and the three codes takes, twice.
-LARGEST = {"1074": 64, "1004": 62}
+# Of each kind the cells of the largest message, and how many satellites are kept of it; and what a record of all satellites and
+# the three codes takes, twice.
+LARGEST = {"1074": (64, 0), "1004": (62, 31)}
 RECORD = 2 * (36 + 32 * (4 + 48 * 3))
 
-# Epochs of two messages, of which one has eight cells and the other one four.
+# Epochs of two messages, of which one has eight cells and the other one four; and how many satellites the 1004 has.
 UNLIKE = {
-    "1074_first_with_more_cells": (msm(0, SATELLITES), legacy(0, SATELLITES[:2])),
-    "1074_first_with_fewer_cells": (msm(0, SATELLITES[:2]), legacy(0, SATELLITES)),
-    "1004_first_with_more_cells": (legacy(0, SATELLITES), msm(0, SATELLITES[:2])),
-    "1004_first_with_fewer_cells": (legacy(0, SATELLITES[:2]), msm(0, SATELLITES)),
+    "1074_first_with_more_cells": (2, msm(0, SATELLITES), legacy(0, SATELLITES[:2])),
+    "1074_first_with_fewer_cells": (4, msm(0, SATELLITES[:2]), legacy(0, SATELLITES)),
+    "1004_first_with_more_cells": (4, legacy(0, SATELLITES), msm(0, SATELLITES[:2])),
+    "1004_first_with_fewer_cells": (2, legacy(0, SATELLITES[:2]), msm(0, SATELLITES)),
 }
 UNLIKE_CELLS = 8 + 4
 
@@ -161,7 +163,7 @@ def write_captures(runs: Runs) -> None:
     foreign = capture(legacy(NOON, SATELLITES, 7))
     runs.write("single", [single_satellite(5000)])
     runs.write("msm", [of_templates(range(5000), msm(0, SATELLITES))])
-    for name, messages in UNLIKE.items():
+    for name, (_, *messages) in UNLIKE.items():
         runs.write(name, [of_templates(range(5000), *messages)])
     before = NOON - 1000
     for kind, large in (("1074", largest_1074(before)), ("1004", legacy(before, (*range(1, 32),)))):
@@ -245,6 +247,11 @@ def lengths_alike(runs: Runs, tests: Tests) -> None:
         tests.same(f"few and many of {kind.replace('_', ' ')}", held)
 
 
+def room_of(cells: int, satellites: int) -> int:
+    """The room of an epoch: for its cells, and for the satellites of a 1004 in which they rise."""
+    return CELL * max(cells, FEWEST_CELLS) + SATELLITE * satellites
+
+
 def within_of_window_2(tests: Tests, what: str, held: dict[int, int], room: int) -> None:
     """What each window holds over one of two epochs: for each epoch so much, and a little more."""
     for size in [*held][1:]:
@@ -260,9 +267,13 @@ def grows_with_window(runs: Runs, tests: Tests) -> None:
     held besides the epochs does not grow with the window, and is no more than the manual says."""
     due = counts_of(10, 1)
     single = {"frames": 5000, "taken": 5000, "epochs": 5000}
-    for name, cells, counts in (("10", CELLS, due), ("single", 2, single), ("msm", len(SATELLITES) * len(SIGNALS), single)):
+    for name, cells, satellites, counts in (
+        ("10", CELLS, len(SATELLITES), due),
+        ("single", 2, 1, single),
+        ("msm", len(SATELLITES) * len(SIGNALS), 0, single),
+    ):
         held = {size: runs.most(size, [name], counts) for size in (2, *WINDOWS)}
-        room = CELL * max(cells, FEWEST_CELLS)
+        room = room_of(cells, satellites)
         for size in held:
             name = f"window {size} of epochs of {cells} cells, and what is held besides"
             most = size * (room + EPOCH) + MOST_BESIDE
@@ -275,12 +286,12 @@ def grows_alike_out_of_order(runs: Runs, tests: Tests) -> None:
     """Satellites in falling order, and epochs in falling order, of which as many are taken as the
     window has places, take no more."""
     whole = {"frames": 10_000, "taken": 10_000, "epochs": 5000}
-    for name, cells in (("falling_satellites", CELLS), ("falling_epochs", 2)):
+    for name, cells, satellites in (("falling_satellites", CELLS, 0), ("falling_epochs", 2, 1)):
         held = {}
         for size in (2, *WINDOWS):
             part = {"frames": 5000, "taken": size, "late": 5000 - size, "epochs": size}
             held[size] = runs.most(size, [name], whole if cells == CELLS else part)
-        within_of_window_2(tests, name.replace("_", " "), held, CELL * max(cells, FEWEST_CELLS))
+        within_of_window_2(tests, name.replace("_", " "), held, room_of(cells, satellites))
 
 
 # refuses: a `first_room` that counts the room of the epoch before in place of its cells
@@ -289,8 +300,8 @@ def large_epoch_before_small_ones(runs: Runs, tests: Tests) -> None:
     that has not, since what counts is how many cells an epoch has, and not its room."""
     counts = {"frames": 5000, "taken": 5000, "epochs": 5000}
     small = runs.most(1000, ["single"], counts)
-    for kind, cells in LARGEST.items():
-        more = CELL * (cells - FEWEST_CELLS)
+    for kind, (cells, satellites) in LARGEST.items():
+        more = CELL * (cells - FEWEST_CELLS) + SATELLITE * max(0, satellites - 1)
         over = runs.most(1000, [f"large_{kind}"], counts) - small
         name = f"window 1000 over an epoch of a large {kind} and then small ones, over small ones"
         tests.within(name, over, 2 * more, 2 * more + RECORD)
@@ -301,9 +312,9 @@ def kinds_of_unlike_cells(runs: Runs, tests: Tests) -> None:
     """Of each kind of message an epoch has room for the cells that it has, whatever the other kind
     has and whichever comes first."""
     counts = {"frames": 10_000, "taken": 10_000, "epochs": 5000}
-    for name in UNLIKE:
+    for name, (satellites, *_) in UNLIKE.items():
         held = {size: runs.most(size, [name], counts) for size in (2, 1000)}
-        within_of_window_2(tests, f"a {name.replace('_', ' ')}", held, CELL * UNLIKE_CELLS)
+        within_of_window_2(tests, f"a {name.replace('_', ' ')}", held, room_of(UNLIKE_CELLS, satellites))
 
 
 def most_room(size: int) -> int:
@@ -318,8 +329,9 @@ def most_room(size: int) -> int:
 def room_rises_and_falls(runs: Runs, tests: Tests) -> None:
     """What is wanted when an epoch opens is its room, whatever room closed epochs had."""
     counts = {"frames": 5000, "taken": 5000, "epochs": 5000}
-    room = CELL * (most_room(1000) - most_room(2))
-    for kind in LARGEST:
+    cells = most_room(1000) - most_room(2)
+    for kind, (_, satellites) in LARGEST.items():
+        room = CELL * cells + (SATELLITE * cells // 2 if satellites else 0)
         held = [runs.most(size, [f"rising_and_falling_{kind}_a"], counts) for size in (2, 1000)]
         name = f"window 1000 over window 2, of a {kind} of satellites that rise and fall"
         tests.within(name, held[1] - held[0], room, room + 998 * EPOCH)

@@ -7,9 +7,9 @@ use Rattle.rtk_collect.specs.declared.epoch_set.Spare.{Spare}
 
 -- the room for cells of a kind of message
 abbrev pub room_for : CellSource → Room → ℕ
-room_for Legacy room = room.legacy
+room_for Legacy room = room.legacy.cells
 room_for Msm room = room.msm
 
 -- lists without cells
 abbrev pub AreSpare : Spare → Type 0
-AreSpare spare = (spare.msm.items ≡ []) × (spare.legacy.items ≡ [])
+AreSpare spare = (spare.msm.items ≡ []) × (spare.legacy ≡ [])

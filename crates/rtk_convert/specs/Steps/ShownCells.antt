@@ -1,6 +1,6 @@
 -- The cells of an epoch are taken one after another: what they show, and which phases are the last
 -- ones.
-use Rattle.std.specs.Prelude.{◌≡◌, ◌≢◌, ◌==◌, ◌<◌, ◌≤◌, ◌+◌, ℕ, Bool, true, false, List, [], ◌∷◌, ◌++◌, map, length, slice_index, slice_index_or, slice_range, Option, Some, None, not, IsTrue, All, AllPairs, if◌then◌else◌}
+use Rattle.std.specs.Prelude.{◌≡◌, ◌≢◌, ◌==◌, ◌<◌, ◌≤◌, ◌+◌, ℕ, Bool, true, false, List, [], ◌∷◌, ◌++◌, map, length, slice_index, slice_index_or, slice_range, Option, Some, None, not, ◌⊎◌, IsTrue, All, AllPairs, if◌then◌else◌}
 use Rattle.std.specs.List.{list_any}
 use Rattle.rtk_obs.specs.declared.cell.Cell.{Cell}
 use Rattle.rtk_obs.specs.declared.cell.CellEntry.{CellEntry}
@@ -59,6 +59,12 @@ pub record HasCellsFrom (satellite : ℕ) (cells : List CellEntry) (at : ℕ) : 
 pub record TellsSatellite (satellite : ℕ) (cells : List CellEntry) (at : ℕ) (answer : Bool) : Type 0 where
   pub yes : IsTrue answer → (at < length cells) × ((d : CellEntry) → (slice_index_or cells at d).satellite ≡ satellite)
   pub no : IsTrue (not answer) → at < length cells → ((d : CellEntry) → (slice_index_or cells at d).satellite ≢ satellite)
+
+-- this is the least satellite of the cells at these places of two lists
+pub record IsLeastAt (satellite : ℕ) (msm : List CellEntry) (i : ℕ) (legacy : List CellEntry) (j : ℕ) : Type 0 where
+  pub msm_least : i < length msm → (d : CellEntry) → satellite ≤ (slice_index_or msm i d).satellite
+  pub legacy_least : j < length legacy → (d : CellEntry) → satellite ≤ (slice_index_or legacy j d).satellite
+  pub one : (d : CellEntry) → ((i < length msm) × ((slice_index_or msm i d).satellite ≡ satellite)) ⊎ ((j < length legacy) × ((slice_index_or legacy j d).satellite ≡ satellite))
 
 -- the cells of a satellite stand between these two places
 pub record AreCellsTo (satellite : ℕ) (cells : List CellEntry) (begin end : ℕ) : Type 0 where

@@ -1,94 +1,131 @@
-use Rattle.std.proofs.Common.{◌≡◌, ◌-◌, ℕ, List, Option, ◌++◌, filter, refl, sym, ap, subst, ◌∙◌, arith}
-use Rattle.std.proofs.lemmas.List.Sums.{length-filter, count_by-le-length}
+use Rattle.std.proofs.Common.{◌-◌, ℕ, List, Option, ◌++◌, filter, refl, sym, ap, subst, ◌∙◌, arith}
 use Rattle.rtk_obs.specs.Cell.{IsSatellite}
+use Rattle.rtk_obs.specs.declared.cell.Cell.{Cell}
 use Rattle.rtk_obs.specs.declared.cell.CellEntry.{CellEntry}
-use Rattle.rtk_obs.specs.declared.cell.CellSource.TheVariants.{Msm}
+use Rattle.rtk_obs.specs.declared.code.Code.{Code}
+use Rattle.rtk_obs.specs.declared.cell.CellSource.TheVariants.{Legacy, Msm}
 use Rattle.rtk_obs.specs.declared.track.Track.{Track}
 use Rattle.rtk_obs.specs.Tracks.{IsLater, track_at}
 use Rattle.rtk_collect.specs.EpochSet.{is_from}
 use Rattle.rtk_rinex.specs.declared.epoch_table.Observed.{Observed}
 use Rattle.rtk_rinex.specs.declared.epoch_table.SatelliteRow.{SatelliteRow}
-use Rattle.rtk_rinex.specs.Record.{has_line}
 use Rattle.rtk_rinex.specs.RecordLines.{HasOpenLine, HoldsLines}
 use Rattle.rtk_convert.specs.Rows.{first_cell, cell_at, cells_at_epochs, observed_at, observed_after, row_with, row_if_any, rows_to}
 use Rattle.rtk_convert.specs.Steps.ShownCells.{shown_by, track_after}
+use Rattle.rtk_convert.proofs.LeftCellsLemmas.{first-left}
 use Rattle.rtk_convert.proofs.ThroughLemmas.{track-below, later-after}
-use Rattle.rtk_convert.proofs.RowsLemmas.{row-blank, row-held, lines-kept, rows-few, rows_to-zero, rows_to-same}
-use Rattle.rtk_convert.proofs.SatelliteLemmas.{fills-begin, fills-skip, skip-rows, may-begin, fills-more, fills-row, rows-next}
+use Rattle.rtk_convert.proofs.RowsLemmas.{row-blank, row-held, lines-kept, few-held, rows_to-zero, rows_to-same}
+use Rattle.rtk_convert.proofs.SatelliteLemmas.{fills-begin, next-satellite, next-from, fills-next, fills-end, rows-between, may-begin, fills-more, fills-row, rows-next}
 use Rattle.rtk_convert.proofs.epoch_rows.push_rows.Goals as goal
 
 pub satellites-init : goal.satellites-init
 satellites-init c = record {
-  fills = fills-begin c.args.tracks.now c.epoch-epoch.result c.msm_cells-msm.result.now c.legacy_cells-legacy.result.now c.msm_cells-msm.ensures.range c.legacy_cells-legacy.ensures.range;
+  one = omega arith;
+  last = omega arith;
+  fills = fills-begin c.args.tracks.now c.epoch-epoch.result c.msm_cells-msm.result.now c.legacy_left-legacy.result.now c.msm_cells-msm.ensures.range c.legacy_left-legacy.ensures.range;
   holds = subst (λ (rows : List SatelliteRow). HoldsLines c.restart.new.self rows)
-      (sym (rows_to-zero (shown_by c.args.tracks.now c.epoch-epoch.result (c.msm_cells-msm.result.now ++ c.legacy_cells-legacy.result.now)) c.args.listed.now)) c.restart.ensures;
+      (sym (rows_to-zero (shown_by c.args.tracks.now c.epoch-epoch.result (c.msm_cells-msm.result.now ++ c.legacy_left-legacy.result.now)) c.args.listed.now)) c.restart.ensures;
 }
 
 pub fill_line-filled-requires-clause-satellite : goal.fill_line-filled-requires-clause-satellite
-fill_line-filled-requires-clause-satellite c = (c.satellites.auto.satellite, omega (arith, c.satellites-test.true))
+fill_line-filled-requires-clause-satellite c = next-satellite c.msm_cells-msm.ensures.range c.legacy_left-legacy.ensures.range c.in-Some.ensures.some
+
+pub fill_line-filled-requires-clause-msm : goal.fill_line-filled-requires-clause-msm
+fill_line-filled-requires-clause-msm c =
+    let ms = c.msm_cells-msm.result.now in
+    let ls = c.legacy_left-legacy.result.now in
+    let n = c.in-Some.satellite in
+    let at = fills-next c.args.tracks.now c.epoch-epoch.result ms c.satellites.msm_at ls c.satellites.legacy_at c.satellites.from n c.satellites.tracks c.satellites.invariant.fills c.msm_cells-msm.ensures.rises c.legacy_left-legacy.ensures.rises
+    c.in-Some.ensures.some in
+    record { ranges = c.msm_cells-msm.ensures.range; kind = c.msm_cells-msm.ensures.kind; from = record { rises = c.msm_cells-msm.ensures.rises; place = at.msm } }
+
+pub fill_line-filled-requires-clause-legacy : goal.fill_line-filled-requires-clause-legacy
+fill_line-filled-requires-clause-legacy c =
+    let ms = c.msm_cells-msm.result.now in
+    let ls = c.legacy_left-legacy.result.now in
+    let n = c.in-Some.satellite in
+    let at = fills-next c.args.tracks.now c.epoch-epoch.result ms c.satellites.msm_at ls c.satellites.legacy_at c.satellites.from n c.satellites.tracks c.satellites.invariant.fills c.msm_cells-msm.ensures.rises c.legacy_left-legacy.ensures.rises
+    c.in-Some.ensures.some in
+    record { ranges = c.legacy_left-legacy.ensures.range; kind = c.legacy_left-legacy.ensures.kind; from = record { rises = c.legacy_left-legacy.ensures.rises; place = at.legacy } }
 
 pub fill_line-filled-requires-clause-later : goal.fill_line-filled-requires-clause-later
 fill_line-filled-requires-clause-later c =
-    let n = c.satellites.satellite in
-    let hn : IsSatellite n = (c.satellites.auto.satellite, omega (arith, c.satellites-test.true)) in
-    may-begin c.args.tracks.now c.epoch-epoch.result c.msm_cells-msm.result.now c.satellites.msm_at c.legacy_cells-legacy.result.now c.satellites.legacy_at n c.satellites.tracks c.satellites.invariant.fills hn
+    let ms = c.msm_cells-msm.result.now in
+    let ls = c.legacy_left-legacy.result.now in
+    let n = c.in-Some.satellite in
+    let at = fills-next c.args.tracks.now c.epoch-epoch.result ms c.satellites.msm_at ls c.satellites.legacy_at c.satellites.from n c.satellites.tracks c.satellites.invariant.fills c.msm_cells-msm.ensures.rises c.legacy_left-legacy.ensures.rises
+    c.in-Some.ensures.some in
+    let hn : IsSatellite n = next-satellite c.msm_cells-msm.ensures.range c.legacy_left-legacy.ensures.range c.in-Some.ensures.some in
+    may-begin c.args.tracks.now c.epoch-epoch.result ms c.satellites.msm_at ls c.satellites.legacy_at n c.satellites.tracks at hn
     (λ k. subst (λ (e : ℕ). IsLater (track_at c.args.tracks.now n k) e) (sym c.epoch-epoch.ensures) (c.requires.later n k hn))
-
-pub satellites-preserved-then-is_absent : goal.satellites-preserved-then-is_absent
-satellites-preserved-then-is_absent c =
-    let n = c.satellites.satellite in
-    let hn : IsSatellite n = (c.satellites.auto.satellite, omega (arith, c.satellites-test.true)) in
-    let p = c.if-is_absent.ensures.msm refl in
-    let q = c.if-is_absent.ensures.legacy refl in
-    record {
-      fills = fills-skip c.args.tracks.now c.epoch-epoch.result c.msm_cells-msm.result.now c.satellites.msm_at c.legacy_cells-legacy.result.now c.satellites.legacy_at n c.satellites.tracks c.satellites.invariant.fills hn p q;
-      holds = subst (λ (rows : List SatelliteRow). HoldsLines c.satellites.lines rows)
-          (skip-rows c.args.tracks.now c.epoch-epoch.result c.msm_cells-msm.result.now c.satellites.msm_at c.legacy_cells-legacy.result.now c.satellites.legacy_at n c.satellites.tracks c.satellites.invariant.fills hn c.args.listed.now p q)
-          c.satellites.invariant.holds;
-    }
-
-pub open_line-requires-clause-room : goal.open_line-requires-clause-room
-open_line-requires-clause-room c =
-    let f = shown_by c.args.tracks.now c.epoch-epoch.result (c.msm_cells-msm.result.now ++ c.legacy_cells-legacy.result.now) in
-    let rows = rows_to f c.args.listed.now (c.satellites.satellite - 1) in
-    omega (arith, c.satellites-test.true, rows-few f c.args.listed.now (c.satellites.satellite - 1), c.satellites.invariant.holds.count, length-filter has_line rows, count_by-le-length has_line rows)
 
 pub fill_line-filled-requires-clause-open : goal.fill_line-filled-requires-clause-open
 fill_line-filled-requires-clause-open c =
-    subst (λ (row : List Observed). HasOpenLine c.open_line.new.self row) (sym (row-blank c.args.listed.now)) c.in_default.ensures.open
+    subst (λ (row : List Observed). HasOpenLine c.open_line.new.self row) (sym (row-blank c.args.listed.now)) c.in_default-open_line.ensures.open
+
+pub open_line-requires-clause-room : goal.open_line-requires-clause-room
+open_line-requires-clause-room c =
+    let ms = c.msm_cells-msm.result.now in
+    let ls = c.legacy_left-legacy.result.now in
+    let n = c.in-Some.satellite in
+    let at = fills-next c.args.tracks.now c.epoch-epoch.result ms c.satellites.msm_at ls c.satellites.legacy_at c.satellites.from n c.satellites.tracks c.satellites.invariant.fills c.msm_cells-msm.ensures.rises c.legacy_left-legacy.ensures.rises
+    c.in-Some.ensures.some in
+    let hn : IsSatellite n = next-satellite c.msm_cells-msm.ensures.range c.legacy_left-legacy.ensures.range c.in-Some.ensures.some in
+    let f = shown_by c.args.tracks.now c.epoch-epoch.result (ms ++ ls) in
+    let from = next-from c.satellites.invariant.fills.msm c.satellites.invariant.fills.legacy c.in-Some.ensures.some in
+    few-held c.satellites.lines f c.args.listed.now (c.satellites.from - 1) c.satellites.invariant.holds (omega (arith, from, hn.1, c.satellites.invariant.one))
 
 pub close_line-requires : goal.close_line-requires
 close_line-requires c =
-    let f = shown_by c.args.tracks.now c.epoch-epoch.result (c.msm_cells-msm.result.now ++ c.legacy_cells-legacy.result.now) in
-    let rows = rows_to f c.args.listed.now (c.satellites.satellite - 1) in
+    let ms = c.msm_cells-msm.result.now in
+    let ls = c.legacy_left-legacy.result.now in
+    let n = c.in-Some.satellite in
+    let at = fills-next c.args.tracks.now c.epoch-epoch.result ms c.satellites.msm_at ls c.satellites.legacy_at c.satellites.from n c.satellites.tracks c.satellites.invariant.fills c.msm_cells-msm.ensures.rises c.legacy_left-legacy.ensures.rises
+    c.in-Some.ensures.some in
+    let hn : IsSatellite n = next-satellite c.msm_cells-msm.ensures.range c.legacy_left-legacy.ensures.range c.in-Some.ensures.some in
+    let f = shown_by c.args.tracks.now c.epoch-epoch.result (ms ++ ls) in
+    let from = next-from c.satellites.invariant.fills.msm c.satellites.invariant.fills.legacy c.in-Some.ensures.some in
     omega (
       arith,
-      c.satellites-test.true,
-      rows-few f c.args.listed.now (c.satellites.satellite - 1),
-      c.satellites.invariant.holds.count,
-      length-filter has_line rows,
-      count_by-le-length has_line rows,
-      c.in_default.ensures.lines.count,
+      few-held c.satellites.lines f c.args.listed.now (c.satellites.from - 1) c.satellites.invariant.holds (omega (arith, from, hn.1, c.satellites.invariant.one)),
+      c.in_default-open_line.ensures.lines.count,
       c.fill_line-filled.ensures.lines.count,
     )
 
+pub overflow_add-from : goal.overflow_add-from
+overflow_add-from c =
+    let hn = next-satellite c.msm_cells-msm.ensures.range c.legacy_left-legacy.ensures.range c.in-Some.ensures.some in omega (arith, hn.1)
+
+pub satellites-smaller : goal.satellites-smaller
+satellites-smaller c =
+    let hn = next-satellite c.msm_cells-msm.ensures.range c.legacy_left-legacy.ensures.range c.in-Some.ensures.some in
+    let from = next-from c.satellites.invariant.fills.msm c.satellites.invariant.fills.legacy c.in-Some.ensures.some in omega (arith, hn.1, from)
+
 pub satellites-preserved : goal.satellites-preserved
 satellites-preserved c =
-    let n = c.satellites.satellite in
-    let hn : IsSatellite n = (c.satellites.auto.satellite, omega (arith, c.satellites-test.true)) in
+    let ms = c.msm_cells-msm.result.now in
+    let ls = c.legacy_left-legacy.result.now in
+    let n = c.in-Some.satellite in
+    let at = fills-next c.args.tracks.now c.epoch-epoch.result ms c.satellites.msm_at ls c.satellites.legacy_at c.satellites.from n c.satellites.tracks c.satellites.invariant.fills c.msm_cells-msm.ensures.rises c.legacy_left-legacy.ensures.rises
+    c.in-Some.ensures.some in
+    let hn : IsSatellite n = next-satellite c.msm_cells-msm.ensures.range c.legacy_left-legacy.ensures.range c.in-Some.ensures.some in
+    let from = next-from c.satellites.invariant.fills.msm c.satellites.invariant.fills.legacy c.in-Some.ensures.some in
     let filled = c.fill_line-filled in
     let old = c.args.tracks.now in
     let epoch = c.epoch-epoch.result in
-    let ms = c.msm_cells-msm.result.now in
-    let ls = c.legacy_cells-legacy.result.now in
     let f = shown_by old epoch (ms ++ ls) in
-    let g = c.satellites.invariant.fills in
     let rows = rows_to f c.args.listed.now (n - 1) in
-    let held = lines-kept (lines-kept c.satellites.invariant.holds c.in_default.ensures.lines) filled.ensures.lines in
-    let shown = fills-row old epoch ms c.satellites.msm_at ls c.satellites.legacy_at n c.satellites.tracks g hn filled.result.msm filled.result.legacy c.args.listed.now filled.new.tracks filled.new.lines
+    let before : HoldsLines c.satellites.lines rows =
+    subst (λ (rs : List SatelliteRow). HoldsLines c.satellites.lines rs)
+    (rows-between old epoch ms c.satellites.msm_at ls c.satellites.legacy_at c.satellites.from n c.satellites.tracks c.satellites.invariant.fills from at.msm at.legacy c.args.listed.now c.satellites.invariant.one)
+    c.satellites.invariant.holds in
+    let held = lines-kept (lines-kept before c.in_default-open_line.ensures.lines) filled.ensures.lines in
+    let shown = fills-row old epoch ms c.satellites.msm_at ls c.satellites.legacy_at n c.satellites.tracks at hn filled.result.msm filled.result.legacy c.args.listed.now filled.new.tracks filled.new.lines
     filled.ensures.msm.from filled.ensures.msm.next filled.ensures.legacy.from filled.ensures.legacy.next filled.ensures.shows in
     record {
-      fills = fills-more old epoch ms c.satellites.msm_at ls c.satellites.legacy_at n c.satellites.tracks g hn filled.result.msm filled.result.legacy c.args.listed.now filled.new.tracks filled.new.lines
+      one = omega arith;
+      last = omega (arith, hn.1);
+      fills = fills-more old epoch ms c.satellites.msm_at ls c.satellites.legacy_at n c.satellites.tracks at hn filled.result.msm filled.result.legacy c.args.listed.now filled.new.tracks filled.new.lines
           filled.ensures.msm.from filled.ensures.msm.next filled.ensures.legacy.from filled.ensures.legacy.next filled.ensures.shows;
       holds = subst (λ (all : List SatelliteRow). HoldsLines c.close_line.new.self all) (rows-next f c.args.listed.now n rows (row_if_any f c.args.listed.now n) hn.0 refl refl)
           (row-held c.close_line.new.self f c.args.listed.now n rows (c.close_line.ensures rows (row_with f c.args.listed.now n).observed.items held shown));
@@ -99,13 +136,18 @@ returns-clause-lines c =
     let old = c.args.tracks.now in
     let set = c.args.set.now in
     let ms = c.msm_cells-msm.result.now in
-    let ls = c.legacy_cells-legacy.result.now in
-    let turn = ap (λ (xs : List CellEntry). xs ++ ls) c.msm_cells-msm.ensures.value ∙ ap (λ (xs : List CellEntry). filter (is_from Msm) set.cells ++ xs) c.legacy_cells-legacy.ensures.value in
-    let last : c.satellites.satellite - 1 ≡ 32 = omega (arith, c.satellites-test.false, c.satellites.auto.satellite-end (omega arith)) in
+    let ls = c.legacy_left-legacy.result.now in
+    let turn = λ (s : ℕ) (k : Code). ap (λ (xs : List CellEntry). first_cell (xs ++ ls) s k) c.msm_cells-msm.ensures.value
+        ∙ first-left (filter (is_from Msm) set.cells) (filter (is_from Legacy) set.cells) ls s k c.legacy_left-legacy.ensures.left in
+    let none = c.in_default.ensures.none in
+    let end = fills-end c.args.tracks.now c.epoch-epoch.result c.msm_cells-msm.result.now c.satellites.msm_at c.legacy_left-legacy.result.now c.satellites.legacy_at c.satellites.from c.satellites.tracks c.satellites.invariant.fills
+    c.msm_cells-msm.ensures.rises c.legacy_left-legacy.ensures.rises c.satellites.invariant.last none.0 none.1 in
+    let last = rows-between old c.epoch-epoch.result ms c.satellites.msm_at ls c.satellites.legacy_at c.satellites.from 33 c.satellites.tracks c.satellites.invariant.fills c.satellites.invariant.last end.msm end.legacy c.args.listed.now
+    c.satellites.invariant.one in
     λ below has. subst (λ (rows : List SatelliteRow). HoldsLines c.satellites.lines rows)
-    (ap (rows_to (shown_by old c.epoch-epoch.result (ms ++ ls)) c.args.listed.now) last
+    (last
     ∙ rows_to-same (shown_by old c.epoch-epoch.result (ms ++ ls)) (observed_at set below) c.args.listed.now 32 (omega arith)
-    (λ s k hs. ap (λ (xs : List CellEntry). observed_after (track_at old s k) k c.epoch-epoch.result (first_cell xs s k)) turn
+    (λ s k hs. ap (λ (o : Option Cell). observed_after (track_at old s k) k c.epoch-epoch.result o) (turn s k)
     ∙ ap (λ (e : ℕ). observed_after (track_at old s k) k e (cell_at set.cells s k)) c.epoch-epoch.ensures
     ∙ ap (λ (o : Option Track). observed_after o k set.epoch (cell_at set.cells s k)) (has s k hs)))
     c.satellites.invariant.holds
@@ -115,10 +157,14 @@ returns-clause-phases c =
     let old = c.args.tracks.now in
     let set = c.args.set.now in
     let ms = c.msm_cells-msm.result.now in
-    let ls = c.legacy_cells-legacy.result.now in
-    let turn = ap (λ (xs : List CellEntry). xs ++ ls) c.msm_cells-msm.ensures.value ∙ ap (λ (xs : List CellEntry). filter (is_from Msm) set.cells ++ xs) c.legacy_cells-legacy.ensures.value in
-    λ below has s k hs. c.satellites.invariant.fills.done s k hs (omega (arith, hs.1, c.satellites-test.false))
-    ∙ ap (λ (xs : List CellEntry). track_after (track_at old s k) k c.epoch-epoch.result (first_cell xs s k)) turn
+    let ls = c.legacy_left-legacy.result.now in
+    let turn = λ (s : ℕ) (k : Code). ap (λ (xs : List CellEntry). first_cell (xs ++ ls) s k) c.msm_cells-msm.ensures.value
+        ∙ first-left (filter (is_from Msm) set.cells) (filter (is_from Legacy) set.cells) ls s k c.legacy_left-legacy.ensures.left in
+    let none = c.in_default.ensures.none in
+    let end = fills-end c.args.tracks.now c.epoch-epoch.result c.msm_cells-msm.result.now c.satellites.msm_at c.legacy_left-legacy.result.now c.satellites.legacy_at c.satellites.from c.satellites.tracks c.satellites.invariant.fills
+    c.msm_cells-msm.ensures.rises c.legacy_left-legacy.ensures.rises c.satellites.invariant.last none.0 none.1 in
+    λ below has s k hs. end.done s k hs (omega (arith, hs.1))
+    ∙ ap (λ (o : Option Cell). track_after (track_at old s k) k c.epoch-epoch.result o) (turn s k)
     ∙ ap (λ (e : ℕ). track_after (track_at old s k) k e (cell_at set.cells s k)) c.epoch-epoch.ensures
     ∙ ap (λ (o : Option Track). track_after o k set.epoch (cell_at set.cells s k)) (has s k hs)
     ∙ track-below (cell_at set.cells s k) set.epoch k (cells_at_epochs below s k)
@@ -127,7 +173,10 @@ pub returns-clause-later : goal.returns-clause-later
 returns-clause-later c =
     let old = c.args.tracks.now in
     let ms = c.msm_cells-msm.result.now in
-    let ls = c.legacy_cells-legacy.result.now in
-    λ later h s k hs. subst (λ (o : Option Track). IsLater o later) (sym (c.satellites.invariant.fills.done s k hs (omega (arith, hs.1, c.satellites-test.false))))
+    let ls = c.legacy_left-legacy.result.now in
+    let none = c.in_default.ensures.none in
+    let end = fills-end c.args.tracks.now c.epoch-epoch.result c.msm_cells-msm.result.now c.satellites.msm_at c.legacy_left-legacy.result.now c.satellites.legacy_at c.satellites.from c.satellites.tracks c.satellites.invariant.fills
+    c.msm_cells-msm.ensures.rises c.legacy_left-legacy.ensures.rises c.satellites.invariant.last none.0 none.1 in
+    λ later h s k hs. subst (λ (o : Option Track). IsLater o later) (sym (end.done s k hs (omega (arith, hs.1))))
     (later-after (track_at old s k) k c.epoch-epoch.result later (first_cell (ms ++ ls) s k) (omega (arith, h, c.epoch-epoch.ensures))
     (subst (λ (e : ℕ). IsLater (track_at old s k) e) (sym c.epoch-epoch.ensures) (c.requires.later s k hs)))

@@ -12,7 +12,7 @@ pub returns-in-Msm-clause-set : goal.returns-in-Msm-clause-set
 returns-in-Msm-clause-set c =
     let cells = c.args.cells.now in
     let msm = c.self.inside.msm.items in
-    let legacy = c.self.inside.legacy.items in
+    let legacy = c.self.inside.legacy in
     let m = c.self.invariant.1 in
     let l = c.self.invariant.2 in
     let k = c.in-Msm.ensures in
@@ -24,7 +24,7 @@ pub returns-in-Msm-clause-fresh : goal.returns-in-Msm-clause-fresh
 returns-in-Msm-clause-fresh c =
     let cells = c.args.cells.now in
     let msm = c.self.inside.msm.items in
-    let legacy = c.self.inside.legacy.items in
+    let legacy = c.self.inside.legacy in
     let m = c.self.invariant.1 in
     let l = c.self.invariant.2 in
     let k = c.in-Msm.ensures in
@@ -35,7 +35,7 @@ pub returns-in-Msm-clause-conflicts : goal.returns-in-Msm-clause-conflicts
 returns-in-Msm-clause-conflicts c =
     let cells = c.args.cells.now in
     let msm = c.self.inside.msm.items in
-    let legacy = c.self.inside.legacy.items in
+    let legacy = c.self.inside.legacy in
     let m = c.self.invariant.1 in
     let l = c.self.invariant.2 in
     let k = c.in-Msm.ensures in
@@ -46,7 +46,7 @@ pub returns-in-Msm-clause-err : goal.returns-in-Msm-clause-err
 returns-in-Msm-clause-err c =
     let cells = c.args.cells.now in
     let msm = c.self.inside.msm.items in
-    let legacy = c.self.inside.legacy.items in
+    let legacy = c.self.inside.legacy in
     let m = c.self.invariant.1 in
     let l = c.self.invariant.2 in
     let k = c.in-Msm.ensures in
@@ -56,7 +56,7 @@ pub returns-in-Msm-clause-refused : goal.returns-in-Msm-clause-refused
 returns-in-Msm-clause-refused c =
     let cells = c.args.cells.now in
     let msm = c.self.inside.msm.items in
-    let legacy = c.self.inside.legacy.items in
+    let legacy = c.self.inside.legacy in
     let m = c.self.invariant.1 in
     let l = c.self.invariant.2 in
     let k = c.in-Msm.ensures in
@@ -75,19 +75,19 @@ pub returns-in-Legacy-clause-set : goal.returns-in-Legacy-clause-set
 returns-in-Legacy-clause-set c =
     let cells = c.args.cells.now in
     let msm = c.self.inside.msm.items in
-    let legacy = c.self.inside.legacy.items in
+    let legacy = c.self.inside.legacy in
     let m = c.self.invariant.1 in
     let l = c.self.invariant.2 in
     let k = c.in-Legacy.ensures in
-    IfOk-weaker c.join_list-in-Legacy.result (λ n. c.join_list-in-Legacy.new.list.items ≡ with_cells cells legacy) (λ n. record { epoch = c.self.inside.epoch; cells = with_cells c.join_list-in-Legacy.new.list.items msm } ≡ joined cells c.args.self.now)
-    (λ n h. subst (λ (s : EpochSetView). record { epoch = c.self.inside.epoch; cells = with_cells c.join_list-in-Legacy.new.list.items msm } ≡ joined cells s) c.self.view_is
+    IfOk-weaker c.join_list-in-Legacy.result (λ n. c.join_list-in-Legacy.new.self ≡ with_cells cells legacy) (λ n. record { epoch = c.self.inside.epoch; cells = with_cells c.join_list-in-Legacy.new.self msm } ≡ joined cells c.args.self.now)
+    (λ n h. subst (λ (s : EpochSetView). record { epoch = c.self.inside.epoch; cells = with_cells c.join_list-in-Legacy.new.self msm } ≡ joined cells s) c.self.view_is
     (ap (λ (t : List CellEntry). record { epoch = c.self.inside.epoch; cells = t }) (ap (λ (t : List CellEntry). with_cells t msm) h ∙ legacy-joins msm legacy m l cells))) c.join_list-in-Legacy.ensures.items
 
 pub returns-in-Legacy-clause-fresh : goal.returns-in-Legacy-clause-fresh
 returns-in-Legacy-clause-fresh c =
     let cells = c.args.cells.now in
     let msm = c.self.inside.msm.items in
-    let legacy = c.self.inside.legacy.items in
+    let legacy = c.self.inside.legacy in
     let m = c.self.invariant.1 in
     let l = c.self.invariant.2 in
     let k = c.in-Legacy.ensures in
@@ -98,7 +98,7 @@ pub returns-in-Legacy-clause-conflicts : goal.returns-in-Legacy-clause-conflicts
 returns-in-Legacy-clause-conflicts c =
     let cells = c.args.cells.now in
     let msm = c.self.inside.msm.items in
-    let legacy = c.self.inside.legacy.items in
+    let legacy = c.self.inside.legacy in
     let m = c.self.invariant.1 in
     let l = c.self.invariant.2 in
     let k = c.in-Legacy.ensures in
@@ -109,17 +109,17 @@ pub returns-in-Legacy-clause-err : goal.returns-in-Legacy-clause-err
 returns-in-Legacy-clause-err c =
     let cells = c.args.cells.now in
     let msm = c.self.inside.msm.items in
-    let legacy = c.self.inside.legacy.items in
+    let legacy = c.self.inside.legacy in
     let m = c.self.invariant.1 in
     let l = c.self.invariant.2 in
     let k = c.in-Legacy.ensures in
-    on_err_weaker c.join_list-in-Legacy.result (λ (e : c.join_list-in-Legacy.new.list.items ≡ legacy). ap (λ (t : List CellEntry). record { epoch = c.self.inside.epoch; cells = with_cells t msm }) e ∙ c.self.view_is) c.join_list-in-Legacy.ensures.err
+    on_err_weaker c.join_list-in-Legacy.result (λ (e : c.join_list-in-Legacy.new.self ≡ legacy). ap (λ (t : List CellEntry). record { epoch = c.self.inside.epoch; cells = with_cells t msm }) e ∙ c.self.view_is) c.join_list-in-Legacy.ensures.err
 
 pub returns-in-Legacy-clause-refused : goal.returns-in-Legacy-clause-refused
 returns-in-Legacy-clause-refused c =
     let cells = c.args.cells.now in
     let msm = c.self.inside.msm.items in
-    let legacy = c.self.inside.legacy.items in
+    let legacy = c.self.inside.legacy in
     let m = c.self.invariant.1 in
     let l = c.self.invariant.2 in
     let k = c.in-Legacy.ensures in
@@ -129,5 +129,5 @@ pub invariant_of-self-in-Legacy : goal.invariant_of-self-in-Legacy
 invariant_of-self-in-Legacy c = (
   refl,
   c.self.invariant.1,
-  either-list c.join_list-in-Legacy.result (AreKeptOf Legacy) c.join_list-in-Legacy.new.list.items (with_cells c.args.cells.now c.self.inside.legacy.items) c.self.inside.legacy.items c.join_list-in-Legacy.ensures.items c.join_list-in-Legacy.ensures.err (kept-with Legacy c.args.cells.now c.self.inside.legacy.items c.self.invariant.2 c.requires.range c.in-Legacy.ensures) c.self.invariant.2,
+  either-list c.join_list-in-Legacy.result (AreKeptOf Legacy) c.join_list-in-Legacy.new.self (with_cells c.args.cells.now c.self.inside.legacy) c.self.inside.legacy c.join_list-in-Legacy.ensures.items c.join_list-in-Legacy.ensures.err (kept-with Legacy c.args.cells.now c.self.inside.legacy c.self.invariant.2 c.requires.range c.in-Legacy.ensures) c.self.invariant.2,
 )

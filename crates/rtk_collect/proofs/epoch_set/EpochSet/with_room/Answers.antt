@@ -9,10 +9,10 @@ pub invariant_of-result : goal.invariant_of-result
 invariant_of-result c = (
   refl,
   subst (AreKeptOf Msm) (sym (c.reserve.ensures.items ∙ c.if_of_room-msm.ensures)) (kept-none Msm),
-  subst (AreKeptOf Legacy) (sym (c.reserve-2.ensures.items ∙ c.if_of_room-legacy.ensures)) (kept-none Legacy),
+  subst (AreKeptOf Legacy) (sym c.in-Ok.ensures) (kept-none Legacy),
 )
 
 pub returns-clause-set : goal.returns-clause-set
 returns-clause-set c =
-    ap (λ (xs : List CellEntry). record { epoch = c.args.epoch; cells = with_cells xs c.reserve.new.self.items }) (c.reserve-2.ensures.items ∙ c.if_of_room-legacy.ensures)
+    ap (λ (xs : List CellEntry). record { epoch = c.args.epoch; cells = with_cells xs c.reserve.new.self.items }) c.in-Ok.ensures
     ∙ ap (λ (xs : List CellEntry). record { epoch = c.args.epoch; cells = xs }) (c.reserve.ensures.items ∙ c.if_of_room-msm.ensures)

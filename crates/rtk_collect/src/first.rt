@@ -1,0 +1,131 @@
+//! The first 1004 of an epoch, whose satellites the epoch keeps.
+
+ghost use Rattle.std.specs.Prelude.{◌≡◌, ◌<◌, ◌≤◌, [], length, filter, IsSome, IfSome, IfOk, OnOk, OnErr, slice_index_or, slice_set};
+ghost use Rattle.std.specs.List.{insert};
+ghost use Rattle.rtk_message.specs.AnyDecoded.{IsValid};
+ghost use Rattle.rtk_obs.specs.LegacyCells.{cells_of_1004};
+ghost use Rattle.rtk_obs.specs.MessageCells.{cells_of};
+ghost use Rattle.rtk_obs.specs.declared.cell.CellSource.TheVariants.{Legacy};
+ghost use Rattle.rtk_collect.specs.EpochSet.{EpochSetView, joined, fresh, conflicts, is_from, EpochsFall};
+ghost use Rattle.rtk_collect.specs.Accepted.{no_cells};
+ghost use Rattle.rtk_collect.specs.Steps.Borrowed.{borrowed};
+ghost use Rattle.rtk_collect.specs.Steps.First.{AreFirst, HasNoLegacy};
+ghost use Rattle.rtk_collect.specs.Steps.OrderedPlaces.{leading};
+ghost use Rattle.rtk_collect.specs.Steps.Room.{AreSpare};
+ghost use Rattle.rtk_collect.specs.Steps.Observed.{AddsCells, WouldTakeCells};
+
+use crate::dated::Borrowed;
+use crate::epoch_set::{EpochSet, Spare};
+use crate::offer::Offer;
+use crate::window::{close_least, first_room, has_epoch, put_at};
+use rtk_message::{Message, Satellite};
+use rtk_obs::{CellSource, GpsMs, rising_satellites};
+use std::alloc::{AllocError, Global};
+use std::collections::VecDeque;
+
+/// The satellites of a 1004, if they rise and its epoch, whose place is `at`, has no cell of a 1004 yet.
+pub(crate) fn first_satellites<'a>(
+    sets: &VecDeque<EpochSet>,
+    at: usize,
+    epoch: GpsMs,
+    message: Borrowed<'a>,
+) -> Option<&'a [Satellite]>
+    requires valid { IsValid (borrowed message) }
+    requires place { at ≡ leading epoch sets.now.items }
+    ensures cells { IfSome result (λ satellites. cells_of (borrowed message.entry) ≡ cells_of_1004 satellites.now) }
+    ensures first { IfSome result (λ satellites. AreFirst satellites.now) }
+    ensures none { IsSome result → HasNoLegacy epoch sets.now.items }
+{
+    let Borrowed::Message(Message::Obs1004(message)) = message else {
+        return None;
+    };
+    if has_epoch(sets, at, epoch) && !sets[at].has_no_legacy() {
+        return None;
+    }
+    rising_satellites(message)
+}
+
+// Takes the satellites of the first 1004 of the epoch at a place. If memory is refused, no epoch
+// changes.
+fn take_first_at(
+    sets: &mut VecDeque<EpochSet>,
+    at: usize,
+    satellites: &[Satellite],
+) -> Result<(), AllocError>
+    requires within { at < length sets.old.items }
+    requires first { AreFirst satellites.now }
+    requires none { (d : EpochSetView) → filter (is_from Legacy) (slice_index_or sets.old.items at d).cells ≡ [] }
+    ensures items { (d : EpochSetView) → OnOk result (sets.new.items
+        ≡ slice_set sets.old.items at (joined (cells_of_1004 satellites.now) (slice_index_or sets.old.items at d))) }
+    ensures fresh { (d : EpochSetView) → 0 < fresh (cells_of_1004 satellites.now) (slice_index_or sets.old.items at d).cells }
+    ensures conflicts { (d : EpochSetView) → conflicts (cells_of_1004 satellites.now) (slice_index_or sets.old.items at d).cells ≡ [] }
+    ensures err { OnErr result (sets.new.items ≡ sets.old.items) }
+{
+    let set = &mut sets[at];
+    set.take_first(satellites)
+}
+
+// Opens an epoch with the satellites of its first 1004 at its place, as `open_at` does.
+fn open_first_at(
+    sets: &mut VecDeque<EpochSet>,
+    at: usize,
+    alloc: Global,
+    epoch: GpsMs,
+    satellites: &[Satellite],
+    spare: &mut Spare,
+) -> Result<(), AllocError>
+    requires within { at ≤ length sets.old.items }
+    requires first { AreFirst satellites.now }
+    requires spare { AreSpare spare.old }
+    ensures items { OnOk result (sets.new.items ≡ insert sets.old.items at (joined (cells_of_1004 satellites.now) (no_cells epoch))) }
+    ensures err { OnErr result (sets.new.items ≡ sets.old.items) }
+    ensures spare { AreSpare spare.new }
+{
+    let mut room = first_room(sets, at, CellSource::Legacy, satellites.len() * 2);
+    room.legacy.satellites = room.legacy.satellites.max(satellites.len());
+    let Ok(mut set) = EpochSet::with_room(alloc, epoch, room, spare) else {
+        return Err(AllocError);
+    };
+    if let Err(_) = set.take_first(satellites) {
+        return Err(AllocError);
+    }
+    put_at(sets, at, set)
+}
+
+/// Takes the satellites of the first 1004 of an epoch, or opens the epoch with them, as
+/// `offer_cells` takes their cells. None of the cells conflicts.
+pub(crate) fn offer_first(
+    sets: &mut VecDeque<EpochSet>,
+    places: usize,
+    alloc: Global,
+    at: usize,
+    epoch: GpsMs,
+    satellites: &[Satellite],
+    spare: &mut Spare,
+) -> Result<Offer, AllocError>
+    requires fits { length sets.old.items ≤ places }
+    requires falls { EpochsFall sets.old.items }
+    requires place { at ≡ leading epoch sets.old.items }
+    requires first { AreFirst satellites.now }
+    requires none { HasNoLegacy epoch sets.old.items }
+    requires spare { AreSpare spare.old }
+    ensures added { IfOk result (λ offer. AddsCells places epoch (cells_of_1004 satellites.now) sets.old.items sets.new.items offer []) }
+    ensures err { OnErr result (sets.new.items ≡ sets.old.items) }
+    ensures refused { OnErr result (WouldTakeCells places epoch (cells_of_1004 satellites.now) sets.old.items) }
+    ensures spare { AreSpare spare.new }
+{
+    if has_epoch(sets, at, epoch) {
+        if let Err(_) = take_first_at(sets, at, satellites) {
+            return Err(AllocError);
+        }
+        return Ok(Offer::Taken { closed: None });
+    }
+    if at == places {
+        return Ok(Offer::Late);
+    }
+    if let Err(_) = open_first_at(sets, at, alloc, epoch, satellites, spare) {
+        return Err(AllocError);
+    }
+    let closed = close_least(sets, places);
+    Ok(Offer::Taken { closed })
+}

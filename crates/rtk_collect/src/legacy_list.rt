@@ -1,0 +1,217 @@
+//! The cells of an epoch that came in a 1004.
+//!
+//! Of the first 1004 the satellites are kept, if they rise: a satellite is smaller than its two cells.
+//! The cells are made if those of another 1004 join, in room that was taken before; or when the epoch
+//! closes, and then only those whose satellite and code no cell of an MSM has.
+
+ghost use Rattle.std.specs.Prelude.{◌≡◌, ◌<◌, ◌≤◌, ◌*◌, ◌++◌, [], not, length, IsTrue, IfOk, OnOk, OnErr, All, vec_capacity};
+ghost use Rattle.rtk_obs.specs.Cell.{IsInRange};
+ghost use Rattle.rtk_obs.specs.CellsLeft.{AreRisingSatellites};
+ghost use Rattle.rtk_obs.specs.LegacyCells.{cells_of_1004};
+ghost use Rattle.rtk_collect.specs.Key.{KeysRise};
+ghost use Rattle.rtk_collect.specs.EpochSet.{with_cells, fresh, conflicts, AreLeft};
+
+use crate::conflicts::Conflicts;
+use crate::merging::join_list;
+use arrayvec::ArrayVec;
+use rtk_message::Satellite;
+use rtk_obs::{CellEntry, put_cells_left};
+use std::alloc::{AllocError, Global};
+use std::marker::Model;
+
+/// Cells that came in a 1004: those of the satellites of the first one, or a list.
+#[derive(Drop)]
+pub(crate) struct LegacyList {
+    // The satellites of the first 1004, as long as its cells are not in the list.
+    first: Vec<Satellite>,
+    cells: Vec<CellEntry>,
+    // How many satellites the first 1004 had, also when its cells are in the list.
+    satellites: usize,
+}
+
+/// For how many satellites of a first 1004, and for how many cells, there is room.
+#[derive(Clone, Copy)]
+pub(crate) struct LegacyRoom {
+    pub(crate) satellites: usize,
+    pub(crate) cells: usize,
+}
+
+// Clauses see the cells. While the satellites are kept, the list is empty and has room for their
+// cells.
+impl Model for LegacyList {
+    ghost use Rattle.std.specs.Prelude.{◌≡◌, ◌<◌, ◌≤◌, ◌*◌, ◌++◌, [], length, List, vec_capacity};
+    ghost use Rattle.rtk_obs.specs.declared.cell.CellEntry.{CellEntry};
+    ghost use Rattle.rtk_obs.specs.CellsLeft.{AreRisingSatellites};
+    ghost use Rattle.rtk_obs.specs.LegacyCells.{cells_of_1004};
+
+    ghost Value = { List CellEntry };
+
+    ghost view = { λ l. cells_of_1004 l.first.items ++ l.cells.items };
+
+    ghost invariant = { λ l. (l ≡ record { first = l.first; cells = l.cells; satellites = l.satellites })
+        × AreRisingSatellites l.first.items
+        × (2 * length l.first.items ≤ vec_capacity l.cells)
+        × (0 < length l.first.items → l.cells.items ≡ []) };
+}
+
+/// The list without elements, if it has just this room; else one that has taken no memory.
+pub(crate) fn if_of_room<T: Drop>(alloc: Global, mut list: Vec<T>, room: usize) -> Vec<T>
+    ensures { result.items ≡ [] }
+{
+    if list.capacity() == room {
+        list.clear();
+        return list;
+    }
+    Vec::new(alloc)
+}
+
+// Puts the cells of satellites into an empty list, which has room for them.
+#[inline(never)]
+fn put_cells(first: &mut Vec<Satellite>, cells: &mut Vec<CellEntry>)
+    requires rise { AreRisingSatellites first.old.items }
+    requires room { 2 * length first.old.items ≤ vec_capacity cells.old }
+    requires empty { cells.old.items ≡ [] }
+    ensures first { first.new.items ≡ [] }
+    ensures cells { cells.new.items ≡ cells_of_1004 first.old.items }
+{
+    let mut room = ArrayVec::new();
+    put_cells_left(first, &[], &mut room);
+    let Ok(()) = cells.extend_from_slice(room.as_slice()) else {
+        unreachable!()
+    };
+    first.clear();
+}
+
+// Puts the cells of satellites into the list, if there are any.
+fn spell_out(first: &mut Vec<Satellite>, cells: &mut Vec<CellEntry>)
+    requires rise { AreRisingSatellites first.old.items }
+    requires room { 2 * length first.old.items ≤ vec_capacity cells.old }
+    requires alone { 0 < length first.old.items → cells.old.items ≡ [] }
+    ensures first { first.new.items ≡ [] }
+    ensures cells { cells.new.items ≡ cells_of_1004 first.old.items ++ cells.old.items }
+{
+    if first.is_empty() {
+        return;
+    }
+    put_cells(first, cells);
+}
+
+impl LegacyList {
+    /// No cell, in no memory.
+    pub(crate) fn new(alloc: Global) -> LegacyList
+        ensures { result ≡ [] }
+    {
+        LegacyList {
+            first: Vec::new(alloc),
+            cells: Vec::new(alloc),
+            satellites: 0,
+        }
+    }
+
+    /// No cell, with this room: in the memory of another list, of which each part that has just the
+    /// room that is wanted is used, and any other is given up before memory is taken.
+    #[inline(always)]
+    pub(crate) fn with_room(self, alloc: Global, room: LegacyRoom) -> Result<LegacyList, AllocError>
+        ensures { IfOk result (λ list. list ≡ []) }
+    {
+        let mut first = if_of_room(alloc, self.first, room.satellites);
+        let mut cells = if_of_room(alloc, self.cells, room.cells);
+        if let Err(_) = first.reserve_exact(room.satellites) {
+            return Err(AllocError);
+        }
+        if let Err(_) = cells.reserve(room.cells) {
+            return Err(AllocError);
+        }
+        Ok(LegacyList {
+            first,
+            cells,
+            satellites: 0,
+        })
+    }
+
+    /// The list without a cell, for an epoch that opens later.
+    pub(crate) fn cleared(self) -> LegacyList
+        ensures { result ≡ [] }
+    {
+        let mut first = self.first;
+        let mut cells = self.cells;
+        first.clear();
+        cells.clear();
+        LegacyList {
+            first,
+            cells,
+            satellites: 0,
+        }
+    }
+
+    /// How much room the list needs.
+    pub(crate) fn room(&self) -> LegacyRoom {
+        LegacyRoom {
+            satellites: self.satellites,
+            cells: self.cells.len().max(self.first.len() * 2),
+        }
+    }
+
+    /// Whether there is no cell.
+    pub(crate) fn is_empty(&self) -> bool
+        ensures { IsTrue result → self.now ≡ [] }
+    {
+        self.first.is_empty() && self.cells.is_empty()
+    }
+
+    /// Takes the satellites of the first 1004. All memory is taken before.
+    #[inline(always)]
+    pub(crate) fn take_first(&mut self, satellites: &[Satellite]) -> Result<(), AllocError>
+        requires rise { AreRisingSatellites satellites.now }
+        requires empty { self.old ≡ [] }
+        ensures ok { OnOk result (self.new ≡ cells_of_1004 satellites.now) }
+        ensures err { OnErr result (self.new ≡ self.old) }
+    {
+        self.first.clear();
+        self.cells.clear();
+        if let Err(_) = self.cells.reserve(satellites.len() * 2) {
+            return Err(AllocError);
+        }
+        self.satellites = satellites.len();
+        self.first.extend_from_slice(satellites)
+    }
+
+    /// Takes the cells whose keys are new, and says how many these are; those that conflict are added to
+    /// an empty list. If `rises`, the keys of the cells rise. Memory is taken for new cells alone, before
+    /// the first one is added.
+    pub(crate) fn join_list(
+        &mut self,
+        cells: &[CellEntry],
+        rises: bool,
+        found: &mut Conflicts,
+    ) -> Result<usize, AllocError>
+        requires few { length cells.now ≤ 64 }
+        requires rises { KeysRise self.old }
+        requires rising { IsTrue rises → KeysRise cells.now }
+        requires empty { found.old ≡ [] }
+        ensures items { IfOk result (λ n. self.new ≡ with_cells cells.now self.old) }
+        ensures fresh { IfOk result (λ n. n ≡ fresh cells.now self.old) }
+        ensures conflicts { IfOk result (λ n. found.new ≡ conflicts cells.now self.old) }
+        ensures err { OnErr result (self.new ≡ self.old) }
+        ensures refused { OnErr result (0 < fresh cells.now self.old) }
+    {
+        spell_out(&mut self.first, &mut self.cells);
+        join_list(&mut self.cells, cells, rises, found)
+    }
+
+    /// The cells, or those of them whose satellite and code no known cell has.
+    pub(crate) fn left<'a>(
+        &'a self,
+        known: &[CellEntry],
+        room: &'a mut ArrayVec<CellEntry, 64>,
+    ) -> &'a [CellEntry]
+        requires { All IsInRange known.now }
+        ensures { AreLeft known.now self.now result.now }
+    {
+        if self.first.is_empty() {
+            return &self.cells;
+        }
+        put_cells_left(&self.first, known, room);
+        room.as_slice()
+    }
+}
