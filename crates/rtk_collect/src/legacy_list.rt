@@ -4,7 +4,7 @@
 //! The cells are made if those of another 1004 join, in room that was taken before; or when the epoch
 //! closes, and then only those whose satellite and code no cell of an MSM has.
 
-ghost use Rattle.std.specs.Prelude.{◌≡◌, ◌<◌, ◌≤◌, ◌*◌, ◌++◌, [], not, length, IsTrue, IfOk, OnOk, OnErr, All, vec_capacity};
+ghost use Rattle.std.specs.Prelude.{◌≡◌, ◌<◌, ◌≤◌, ◌*◌, ◌++◌, [], length, IsTrue, IfOk, OnOk, OnErr, All, vec_capacity};
 ghost use Rattle.rtk_obs.specs.Cell.{IsInRange};
 ghost use Rattle.rtk_obs.specs.CellsLeft.{AreRisingSatellites};
 ghost use Rattle.rtk_obs.specs.LegacyCells.{cells_of_1004};
