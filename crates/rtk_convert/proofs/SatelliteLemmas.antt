@@ -1,14 +1,17 @@
 -- The cells of a satellite, one after another, and its row.
-use Rattle.std.proofs.Common.{◌≡◌, ◌≢◌, ℕ, ◌+◌, ◌-◌, ◌<◌, ◌≤◌, [], ◌∷◌, ◌++◌, List, map, length, get_or, slice_range, refl, sym, ap, subst, ◌∙◌, append_assoc, arith, Option, None, Some, true, false, cond, inl, inr}
+use Rattle.std.proofs.Common.{◌≡◌, ◌≢◌, ℕ, ◌+◌, ◌-◌, ◌^◌, bit_and, bit_or, length-append, ◌<◌, ◌≤◌, [], ◌∷◌, ◌++◌, List, map, length, get_or, slice_range, refl, sym, ap, subst, ◌∙◌, append_assoc, arith, Option, None, Some, true, cond, inl, inr}
 use Rattle.std.specs.Prelude.{is_some, All}
 use Rattle.std.proofs.lemmas.Bool.{cases_lt}
 use Rattle.std.proofs.lemmas.List.{append-nil}
+use Rattle.std.proofs.lemmas.Nat.{and_le_l, and_or_self, and_or_apart, pow_apart, pow_pos}
+use Rattle.std.proofs.Math.Seq.{get_or-append_seam}
+use Rattle.rtk_convert.proofs.PlacesLemmas.{by_eq}
 use Rattle.rtk_obs.specs.declared.cell.CellEntry.{CellEntry}
 use Rattle.rtk_obs.specs.declared.cell.Cell.{Cell}
 use Rattle.rtk_obs.specs.declared.code.Code.{Code}
 use Rattle.rtk_obs.specs.declared.track.Track.{Track}
 use Rattle.rtk_obs.specs.Cell.{IsSatellite, IsInRange}
-use Rattle.rtk_obs.specs.Code.{band_of}
+use Rattle.rtk_obs.specs.Code.{place_of, band_of}
 use Rattle.rtk_obs.specs.Rollover.{digits_since}
 use Rattle.rtk_obs.specs.Slip.{epoch_cell}
 use Rattle.rtk_obs.specs.Tracks.{IsLater, track_at}
@@ -18,16 +21,12 @@ use Rattle.rtk_rinex.specs.declared.epoch_table.Observed.{Observed}
 use Rattle.rtk_rinex.specs.declared.epoch_table.SatelliteRow.{SatelliteRow}
 use Rattle.rtk_convert.specs.Rows.{first_cell, observed_with, observed_after, or_nothing, row_if_any, rows_to}
 use Rattle.rtk_rinex.specs.RecordLines.{RecordLinesView, HasOpenLine}
-use Rattle.rtk_convert.specs.Steps.ShownCells.{MayStep, IsPlaceOf, IsLeastAt, HasFreeOf, IsFreeOf, ShowsRow, ShowsSome, StepsOver, TakesCells, track_after, shown_by, is_code}
-use Rattle.rtk_convert.proofs.CellOrderLemmas.{any_cell, or_later, first-append, some-before, none-both, range-empty, range-more, range-new, range-satellite, range-other, first-range, first-absent, place-first, place-later, place-between}
-use Rattle.rtk_convert.proofs.ThroughLemmas.{cells-same, taken-same, taken-more, may-same, may-more, shown-more}
+use Rattle.rtk_convert.specs.Steps.ShownCells.{IsSetOfCodes, MayStep, IsPlaceOf, IsLeastAt, HasFreeOf, IsFreeOf, ShowsRow, ShowsSome, StepsOver, TakesCells, track_after, shown_by, is_code}
+use Rattle.rtk_convert.proofs.CellOrderLemmas.{any_cell, same-code, other-code, some-signal, or_later, first-append, some-before, none-both, range-empty, range-more, range-new, range-satellite, range-other, first-range, first-absent, place-first, place-later, place-between}
+use Rattle.rtk_convert.proofs.ThroughLemmas.{cell-other, cells-same, taken-same, taken-more, may-same, may-more, shown-more}
 use Rattle.rtk_convert.proofs.RowsLemmas.{observed-same, row-with, free-of, rows-skip, rows-step}
 
 -- ---- the cells of a satellite, one by one
-
-pub none-some : (o : Option Cell) → is_some o ≡ false → o ≡ None
-none-some None h = refl
-none-some (Some x) h = cc
 
 shown-same : (old : List (Option Track)) (epoch : ℕ) (xs ys : List CellEntry) (s : ℕ) → ((c : Code) → first_cell ys s c ≡ first_cell xs s c) → (c : Code) → shown_by old epoch xs s c ≡ shown_by old epoch ys s c
 shown-same old epoch xs ys s same c = ap (observed_after (track_at old s c) c epoch) (sym (same c))
@@ -89,6 +88,45 @@ same-more xs begin end s h at k d a b =
       | inr l ↦ let e : end ≡ k = omega arith in subst (λ (i : ℕ). (get_or xs i d).satellite ≡ s) e (at d)
     ]
 
+-- ---- the set of the codes of the cells that are taken
+
+pub codes-none : (s : ℕ) → IsSetOfCodes 0 [] s
+codes-none s = record { some = λ c h. absurd (h (omega (arith, and_le_l 0 (2 ^ place_of c)))); none = λ c h. refl }
+
+pub codes-same : (codes : ℕ) (xs : List CellEntry) (e : CellEntry) (s : ℕ) → IsSatellite s → e.satellite ≡ s → is_some (first_cell xs s e.code) ≡ true → IsSetOfCodes codes xs s → IsSetOfCodes codes (xs ++ e ∷ []) s
+codes-same codes xs e s hs at there g =
+    let he : IsSatellite e.satellite = subst IsSatellite (sym at) hs in
+    let here : is_some (first_cell xs e.satellite e.code) ≡ true = subst (λ (n : ℕ). is_some (first_cell xs n e.code) ≡ true) (sym at) there in
+    let same : (c : Code) → first_cell (xs ++ e ∷ []) s c ≡ first_cell xs s c = λ c. cells-same xs e he here s c hs in
+    record { some = λ c h. ap is_some (same c) ∙ g.some c h; none = λ c h. same c ∙ g.none c h }
+
+some-last : (xs : List CellEntry) (e : CellEntry) (s : ℕ) → e.satellite ≡ s → is_some (first_cell (xs ++ e ∷ []) s e.code) ≡ true
+some-last xs e s at =
+    let last : get_or (xs ++ e ∷ []) (length xs) any_cell ≡ e = get_or-append_seam xs e [] any_cell in
+    some-signal (xs ++ e ∷ []) (length xs) s e.code any_cell (omega (arith, length-append xs (e ∷ []))) (ap (λ (x : CellEntry). x.satellite) last ∙ at) (ap (λ (x : CellEntry). x.code) last)
+
+first-other : (xs : List CellEntry) (e : CellEntry) (s : ℕ) (c : Code) → place_of e.code ≢ place_of c → first_cell (xs ++ e ∷ []) s c ≡ first_cell xs s c
+first-other xs e s c ne = cell-other xs e s c (other-code s c e (λ q. ne (ap place_of q)))
+
+pow-some : (k : ℕ) → 2 ^ k ≢ 0
+pow-some k h = omega (arith, pow_pos k)
+
+pub codes-more : (codes : ℕ) (xs : List CellEntry) (e : CellEntry) (s : ℕ) → e.satellite ≡ s → first_cell xs s e.code ≡ None → IsSetOfCodes codes xs s
+    → IsSetOfCodes (bit_or codes (2 ^ place_of e.code)) (xs ++ e ∷ []) s
+codes-more codes xs e s at free g = record {
+  some = λ c h. by_eq (place_of e.code) (place_of c)
+      (λ q. let same : e.code ≡ c = same-code e.code c q in
+      subst (λ (x : Code). is_some (first_cell (xs ++ e ∷ []) s x) ≡ true) same (some-last xs e s at))
+      (λ ne. ap is_some (first-other xs e s c ne) ∙ g.some c (λ z. h (and_or_apart (2 ^ place_of c) codes (2 ^ place_of e.code) (pow_apart (place_of e.code) (place_of c) ne) ∙ z)));
+  none = λ c h. by_eq (place_of e.code) (place_of c)
+      (λ q. absurd (pow-some (place_of e.code) (sym (and_or_self (2 ^ place_of e.code) codes) ∙ ap (λ (k : ℕ). bit_and (bit_or codes (2 ^ place_of e.code)) (2 ^ k)) q ∙ h)))
+      (λ ne. first-other xs e s c ne ∙ g.none c (sym (and_or_apart (2 ^ place_of c) codes (2 ^ place_of e.code) (pow_apart (place_of e.code) (place_of c) ne)) ∙ h));
+}
+
+pub codes-begin : (codes : ℕ) (earlier xs : List CellEntry) (begin s : ℕ) → IsSetOfCodes codes earlier s → IsSetOfCodes codes (earlier ++ slice_range xs begin begin) s
+codes-begin codes earlier xs begin s g =
+    subst (λ (ys : List CellEntry). IsSetOfCodes codes ys s) (sym (ap (λ (ys : List CellEntry). earlier ++ ys) (range-empty xs begin) ∙ append-nil earlier)) g
+
 module _ (epoch : ℕ) (earlier xs : List CellEntry) (begin end s : ℕ) (listed : List Code) (first : List (Option Track)) (before : RecordLinesView) (tracks : List (Option Track)) (lines : RecordLinesView)
     (g : TakesCells epoch earlier xs begin end s listed first before tracks lines) (hs : IsSatellite s) (l : end < length xs) (at : (d : CellEntry) → (get_or xs end d).satellite ≡ s) where
   next-is : (earlier ++ slice_range xs begin end) ++ get_or xs end any_cell ∷ [] ≡ earlier ++ slice_range xs begin (end + 1)
@@ -113,13 +151,27 @@ module _ (epoch : ℕ) (earlier xs : List CellEntry) (begin end s : ℕ) (listed
       }
 
   -- no earlier cell and none of this run has the satellite and code of the next one
-  pub takes-free : KeysRise xs → AreOfOneKind xs → is_some (first_cell earlier s (get_or xs end any_cell).code) ≡ false
+  pub takes-free : KeysRise xs → AreOfOneKind xs → first_cell earlier s (get_or xs end any_cell).code ≡ None
       → first_cell (earlier ++ slice_range xs begin end) (get_or xs end any_cell).satellite (get_or xs end any_cell).code ≡ None
   takes-free rises one free =
       let e : CellEntry = get_or xs end any_cell in
       let none : first_cell earlier e.satellite e.code ≡ None =
-      subst (λ (n : ℕ). first_cell earlier n e.code ≡ None) (sym (at any_cell)) (none-some (first_cell earlier s e.code) free) in
+      subst (λ (n : ℕ). first_cell earlier n e.code ≡ None) (sym (at any_cell)) free in
       none-both earlier (slice_range xs begin end) e.satellite e.code none (range-new xs begin end any_cell rises one l)
+
+  pub codes-repeat : (codes : ℕ) → is_some (first_cell earlier s (get_or xs end any_cell).code) ≡ true → IsSetOfCodes codes (earlier ++ slice_range xs begin end) s
+      → IsSetOfCodes codes (earlier ++ slice_range xs begin (end + 1)) s
+  codes-repeat codes there h =
+      let e : CellEntry = get_or xs end any_cell in
+      subst (λ (ys : List CellEntry). IsSetOfCodes codes ys s) next-is
+      (codes-same codes (earlier ++ slice_range xs begin end) e s hs (at any_cell) (some-before earlier (slice_range xs begin end) s e.code there) h)
+
+  pub codes-next : (codes : ℕ) → first_cell (earlier ++ slice_range xs begin end) (get_or xs end any_cell).satellite (get_or xs end any_cell).code ≡ None → IsSetOfCodes codes (earlier ++ slice_range xs begin end) s
+      → IsSetOfCodes (bit_or codes (2 ^ place_of (get_or xs end any_cell).code)) (earlier ++ slice_range xs begin (end + 1)) s
+  codes-next codes none h =
+      let e : CellEntry = get_or xs end any_cell in
+      subst (λ (ys : List CellEntry). IsSetOfCodes (bit_or codes (2 ^ place_of e.code)) ys s) next-is
+      (codes-more codes (earlier ++ slice_range xs begin end) e s (at any_cell) (subst (λ (n : ℕ). first_cell (earlier ++ slice_range xs begin end) n e.code ≡ None) (at any_cell) none) h)
 
   -- so a line is open in which its code shows nothing
   pub takes-open : first_cell (earlier ++ slice_range xs begin end) (get_or xs end any_cell).satellite (get_or xs end any_cell).code ≡ None

@@ -18,7 +18,7 @@ use Rattle.rtk_obs.proofs.PublicLaws.{same_signal}
 use Rattle.rtk_convert.proofs.PlacesLemmas.{by_eq, same_test, other_signal}
 
 -- a cell of another satellite or code changes nothing for them
-cell-other : (xs : List CellEntry) (e : CellEntry) (s : ℕ) (c : Code) → is_signal s c e ≡ false → first_cell (xs ++ e ∷ []) s c ≡ first_cell xs s c
+pub cell-other : (xs : List CellEntry) (e : CellEntry) (s : ℕ) (c : Code) → is_signal s c e ≡ false → first_cell (xs ++ e ∷ []) s c ≡ first_cell xs s c
 cell-other [] e s c h = rw h refl
 cell-other (x ∷ xs) e s c h = ap (λ (o : Option Cell). cond (is_signal s c x) (Some x.cell) o) (cell-other xs e s c h)
 

@@ -9,17 +9,18 @@
 //! cell of the MSM has. Each of them takes a step of the tracks, also if its code is not listed,
 //! since a later phase is compared with it.
 
-ghost use Rattle.std.specs.Prelude.{◌≡◌, ◌≢◌, ℕ, ◌+◌, ◌<◌, ◌≤◌, List, [], ◌∷◌, ◌++◌, map, length, Some, All, AllPairs, slice_range, is_some, None, IfSome, IfNone, OnOk};
+ghost use Rattle.std.specs.Prelude.{◌≡◌, ◌≢◌, ℕ, ◌+◌, ◌^◌, ◌<◌, ◌≤◌, List, [], ◌∷◌, ◌++◌, map, length, Some, AllPairs, slice_range, None, IfSome, IfNone, OnOk};
 ghost use Rattle.rtk_obs.specs.declared.cell.CellEntry.{CellEntry};
 ghost use Rattle.rtk_obs.specs.Cell.{IsInRange, IsSatellite};
+ghost use Rattle.rtk_obs.specs.Code.{place_of};
 ghost use Rattle.rtk_obs.specs.Tracks.{IsLater, track_at};
 ghost use Rattle.rtk_collect.specs.EpochSet.{EpochSetView};
 ghost use Rattle.rtk_rinex.specs.Header.{IsCodeList};
 ghost use Rattle.rtk_rinex.specs.declared.epoch_table.Observed.{Observed};
 ghost use Rattle.rtk_rinex.specs.RecordLines.{HasOpenLine, HoldsLines, KeepsLines};
-ghost use Rattle.rtk_convert.specs.Rows.{first_cell, rolled_or_none, observed_with, or_nothing, table_of};
+ghost use Rattle.rtk_convert.specs.Rows.{rolled_or_none, observed_with, or_nothing, table_of};
 ghost use Rattle.rtk_convert.specs.LastPhases.{HasLastPhases};
-ghost use Rattle.rtk_convert.specs.Steps.ShownCells.{AllBelow, MayStep, IsPlaceOf, IsLeastAt, HasCellsFrom, TellsSatellite, AreCellsTo, ShowsRow, ShowsSome, StepsOver, TakesCells, ArePlaces, HasFreeOf, IsFreeOf, with_code};
+ghost use Rattle.rtk_convert.specs.Steps.ShownCells.{AllBelow, MayStep, IsPlaceOf, IsLeastAt, HasCellsFrom, TellsSatellite, IsSetOfCodes, AreCellsTo, ShowsRow, ShowsSome, StepsOver, TakesCells, ArePlaces, HasFreeOf, IsFreeOf, with_code};
 
 use arrayvec::ArrayVec;
 use rtk_collect::EpochSet;
@@ -118,16 +119,11 @@ fn show_entry(
     put_listed(listed, &form.places, entry.code, &shown, lines);
 }
 
-// Has one of these cells, all of one satellite, this code?
-fn has_code(entries: &[CellEntry], code: Code) -> bool
-    ensures { (s : ℕ) → All (λ e. e.satellite ≡ s) entries.now → result ≡ is_some (first_cell entries.now s code) }
+// A code in a set of codes, whose bits are at their places.
+fn bit_of(code: Code) -> u32
+    ensures { result ≡ 2 ^ place_of code }
 {
-    for entry in entries {
-        if entry.code == code {
-            return true;
-        }
-    }
-    false
+    1 << code.place()
 }
 
 // Is there a cell of this satellite at this place?
@@ -159,40 +155,53 @@ fn next_satellite(
     Some(msm[msm_at].satellite.min(legacy[legacy_at].satellite))
 }
 
+// How far the cells of a satellite reach in a list, and the set of the codes that its cells have.
+#[derive(Clone, Copy)]
+struct Reach {
+    end: usize,
+    codes: u32,
+}
+
 // Takes the cells of a satellite from its place on, but for those whose code an earlier one of its
-// cells has; writes what they show into its line, and returns how far they reach. It stands where it is
-// called: for the first list, to which no cell is earlier, much of it falls away.
+// cells has; and writes what they show into its line. The earlier cells are there for the clauses alone:
+// the set has their codes. It stands where it is called: for the first list, to which no cell is earlier,
+// much of it falls away.
 #[inline(always)]
 fn show_cells(
     tracks: &mut Tracks,
     form: &RowForm,
     satellite: u8,
     earlier: &[CellEntry],
+    known: u32,
     entries: &[CellEntry],
     begin: usize,
     listed: &[Code],
     lines: &mut RecordLines,
-) -> usize
+) -> Reach
     requires satellite { IsSatellite satellite }
-    requires earlier { All (λ e. e.satellite ≡ satellite) earlier.now }
+    requires known { IsSetOfCodes known earlier.now satellite }
     requires cells { HasCellsFrom satellite entries.now begin }
     requires later { MayStep tracks.old earlier.now satellite form.now.epoch }
     requires places { ArePlaces listed.now form.now.places }
     requires shows { ShowsSome form.now.epoch earlier.now satellite listed.now tracks.old lines.old }
-    ensures takes { TakesCells form.now.epoch earlier.now entries.now begin result satellite listed.now
+    ensures takes { TakesCells form.now.epoch earlier.now entries.now begin result.end satellite listed.now
         tracks.old lines.old tracks.new lines.new }
-    ensures next { IsPlaceOf (satellite + 1) entries.now result }
+    ensures next { IsPlaceOf (satellite + 1) entries.now result.end }
+    ensures codes { IsSetOfCodes result.codes (earlier.now ++ slice_range entries.now begin result.end) satellite }
 {
+    let mut codes = known;
     let mut end = begin;
     'cells: while has_satellite(entries, end, satellite) {
-        if has_code(earlier, entries[end].code) {
+        let bit = bit_of(entries[end].code);
+        if known & bit != 0 {
             end += 1;
             continue;
         }
         show_entry(tracks, form, &entries[end], listed, lines);
+        codes |= bit;
         end += 1;
     }
-    end
+    Reach { end, codes }
 }
 
 // Takes the cells of a satellite, which has its place in two lists of cells: first those of an MSM,
@@ -221,23 +230,32 @@ fn fill_line(
     ensures msm { AreCellsTo satellite msm.now at.msm result.msm }
     ensures legacy { AreCellsTo satellite legacy.now at.legacy result.legacy }
 {
-    let msm_end = show_cells(
+    let first = show_cells(
         tracks,
         form,
         satellite,
         &msm[..0],
+        0,
         msm,
         at.msm,
         listed,
         lines,
     );
-    let own = &msm[at.msm..msm_end];
-    let legacy_end = show_cells(
-        tracks, form, satellite, own, legacy, at.legacy, listed, lines,
+    let own = &msm[at.msm..first.end];
+    let second = show_cells(
+        tracks,
+        form,
+        satellite,
+        own,
+        first.codes,
+        legacy,
+        at.legacy,
+        listed,
+        lines,
     );
     CellPlaces {
-        msm: msm_end,
-        legacy: legacy_end,
+        msm: first.end,
+        legacy: second.end,
     }
 }
 

@@ -1,6 +1,6 @@
 -- The cells of an epoch are taken one after another: what they show, and which phases are the last
 -- ones.
-use Rattle.std.specs.Prelude.{◌≡◌, ◌≢◌, ◌==◌, ◌<◌, ◌≤◌, ◌+◌, ℕ, Bool, true, false, List, [], ◌∷◌, ◌++◌, map, length, slice_index, slice_index_or, slice_range, Option, Some, None, not, ◌⊎◌, IsTrue, All, AllPairs, if◌then◌else◌}
+use Rattle.std.specs.Prelude.{◌≡◌, ◌≢◌, ◌==◌, ◌<◌, ◌≤◌, ◌+◌, ℕ, Bool, true, false, List, [], ◌∷◌, ◌++◌, map, length, slice_index, slice_index_or, slice_range, Option, Some, None, not, ◌⊎◌, IsTrue, IsBitSet, bit_and, ◌^◌, is_some, All, AllPairs, if◌then◌else◌}
 use Rattle.std.specs.List.{list_any}
 use Rattle.rtk_obs.specs.declared.cell.Cell.{Cell}
 use Rattle.rtk_obs.specs.declared.cell.CellEntry.{CellEntry}
@@ -59,6 +59,11 @@ pub record HasCellsFrom (satellite : ℕ) (cells : List CellEntry) (at : ℕ) : 
 pub record TellsSatellite (satellite : ℕ) (cells : List CellEntry) (at : ℕ) (answer : Bool) : Type 0 where
   pub yes : IsTrue answer → (at < length cells) × ((d : CellEntry) → (slice_index_or cells at d).satellite ≡ satellite)
   pub no : IsTrue (not answer) → at < length cells → ((d : CellEntry) → (slice_index_or cells at d).satellite ≢ satellite)
+
+-- a set of codes, whose bits are at their places: those of a satellite that have one of these cells
+pub record IsSetOfCodes (codes : ℕ) (cells : List CellEntry) (satellite : ℕ) : Type 0 where
+  pub some : (code : Code) → IsBitSet codes (place_of code) → is_some (first_cell cells satellite code) ≡ true
+  pub none : (code : Code) → bit_and codes (2 ^ place_of code) ≡ 0 → first_cell cells satellite code ≡ None
 
 -- this is the least satellite of the cells at these places of two lists
 pub record IsLeastAt (satellite : ℕ) (msm : List CellEntry) (i : ℕ) (legacy : List CellEntry) (j : ℕ) : Type 0 where
