@@ -10,7 +10,7 @@ use Rattle.rtk_obs.specs.Cell.{IsInRange, AreRising}
 use Rattle.rtk_obs.specs.declared.cell.CellSource.TheVariants.{Legacy}
 use Rattle.rtk_obs.specs.declared.cell.CellSource.{CellSource}
 use Rattle.rtk_collect.specs.Key.{key, Above, KeysRise}
-use Rattle.rtk_collect.specs.EpochSet.{AreKeptOf, AreLeft}
+use Rattle.rtk_collect.specs.EpochSet.{AreKeptOf, AreLeftBeside}
 use Rattle.rtk_collect.specs.Steps.First.{AreFirst}
 use Rattle.rtk_collect.proofs.RisingLemmas.{keys-rise}
 
@@ -38,7 +38,7 @@ pub all_left : (xs : List CellEntry) → cells_left [] xs ≡ xs
 all_left [] = refl
 all_left (x ∷ xs) = ap (λ (ys : List CellEntry). x ∷ ys) (all_left xs)
 
-pub left-none : (xs left : List CellEntry) → AreLeft [] xs left → left ≡ xs
+pub left-none : (xs left : List CellEntry) → AreLeftBeside [] xs left → left ≡ xs
 left-none xs left h = elim h [
   | inl same ↦ same
   | inr less ↦ less ∙ all_left xs
@@ -73,7 +73,7 @@ kept-filter s p xs k = record {
   kind = All-filter p (λ (c : CellEntry). c.cell.source ≡ s) xs k.kind;
 }
 
-pub kept-left : (s : CellSource) (known xs left : List CellEntry) → AreKeptOf s xs → AreLeft known xs left → AreKeptOf s left
+pub kept-left : (s : CellSource) (known xs left : List CellEntry) → AreKeptOf s xs → AreLeftBeside known xs left → AreKeptOf s left
 kept-left s known xs left k h = elim h [
   | inl same ↦ subst (AreKeptOf s) (sym same) k
   | inr less ↦ subst (AreKeptOf s) (sym less) (kept-filter s (λ (e : CellEntry). not (has_cell known e.satellite e.code)) xs k)

@@ -89,5 +89,5 @@ conflicts [] kept = []
 conflicts (c ∷ more) kept = conflict c (cell_under (key c) kept) ++ conflicts more (with_cell c kept)
 
 -- all cells, or those whose satellite and code none of the known cells has
-abbrev pub AreLeft : List CellEntry → List CellEntry → List CellEntry → Type 0
-AreLeft known cells left = (left ≡ cells) ⊎ (left ≡ cells_left known cells)
+abbrev pub AreLeftBeside : List CellEntry → List CellEntry → List CellEntry → Type 0
+AreLeftBeside known cells left = (left ≡ cells) ⊎ (left ≡ cells_left known cells)

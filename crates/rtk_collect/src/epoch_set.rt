@@ -6,7 +6,7 @@ ghost use Rattle.rtk_obs.specs.LegacyCells.{cells_of_1004};
 ghost use Rattle.rtk_obs.specs.declared.cell.CellSource.TheVariants.{Legacy, Msm};
 ghost use Rattle.rtk_obs.specs.MessageCells.{AreOfOneKind};
 ghost use Rattle.rtk_collect.specs.Key.{KeysRise};
-ghost use Rattle.rtk_collect.specs.EpochSet.{joined, fresh, conflicts, is_from, AreLeft};
+ghost use Rattle.rtk_collect.specs.EpochSet.{joined, fresh, conflicts, is_from, AreLeftBeside};
 ghost use Rattle.rtk_collect.specs.Steps.First.{AreFirst};
 ghost use Rattle.rtk_collect.specs.Steps.Room.{AreSpare};
 
@@ -135,7 +135,7 @@ impl EpochSet {
     /// The cells that came in a 1004, or those of them whose satellite and code no cell of an MSM
     /// has. If they are kept as satellites, they are put into this room.
     pub fn legacy_left<'a>(&'a self, room: &'a mut ArrayVec<CellEntry, 64>) -> &'a [CellEntry]
-        ensures left { AreLeft (filter (is_from Msm) self.now.cells) (filter (is_from Legacy) self.now.cells) result.now }
+        ensures left { AreLeftBeside (filter (is_from Msm) self.now.cells) (filter (is_from Legacy) self.now.cells) result.now }
         ensures rises { KeysRise result.now }
         ensures range { All IsInRange result.now }
         ensures kind { AreOfOneKind result.now }

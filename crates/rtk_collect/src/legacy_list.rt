@@ -4,12 +4,12 @@
 //! The cells are made if those of another 1004 join, in room that was taken before; or when the epoch
 //! closes, and then only those whose satellite and code no cell of an MSM has.
 
-ghost use Rattle.std.specs.Prelude.{◌≡◌, ◌<◌, ◌≤◌, ◌*◌, ◌++◌, [], not, length, IsTrue, IfOk, OnOk, OnErr, All, vec_capacity};
+ghost use Rattle.std.specs.Prelude.{◌≡◌, ◌<◌, ◌≤◌, ◌*◌, ◌++◌, [], length, IsTrue, IfOk, OnOk, OnErr, All, vec_capacity};
 ghost use Rattle.rtk_obs.specs.Cell.{IsInRange};
 ghost use Rattle.rtk_obs.specs.CellsLeft.{AreRisingSatellites};
 ghost use Rattle.rtk_obs.specs.LegacyCells.{cells_of_1004};
 ghost use Rattle.rtk_collect.specs.Key.{KeysRise};
-ghost use Rattle.rtk_collect.specs.EpochSet.{with_cells, fresh, conflicts, AreLeft};
+ghost use Rattle.rtk_collect.specs.EpochSet.{with_cells, fresh, conflicts, AreLeftBeside};
 
 use crate::conflicts::Conflicts;
 use crate::merging::join_list;
@@ -206,7 +206,7 @@ impl LegacyList {
         room: &'a mut ArrayVec<CellEntry, 64>,
     ) -> &'a [CellEntry]
         requires { All IsInRange known.now }
-        ensures { AreLeft known.now self.now result.now }
+        ensures { AreLeftBeside known.now self.now result.now }
     {
         if self.first.is_empty() {
             return &self.cells;

@@ -15,7 +15,8 @@ pub record HasLegacyWidths (s : Satellite) : Type 0 where
   pub l2_code : s.l2_code < 4
   pub l2_cnr : s.l2_cnr < 256
 
--- satellites greater than n that rise, to 32 at most
+-- constant
+-- satellites greater than n that rise, to 32 at most (RINEX 3.05, section 3.5)
 abbrev pub RiseAbove : ℕ → List Satellite → Type 0
 RiseAbove n [] = n ≤ 32
 RiseAbove n (s ∷ ss) = (n < s.satellite) × RiseAbove s.satellite ss
