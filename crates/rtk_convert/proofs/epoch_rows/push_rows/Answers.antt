@@ -138,7 +138,7 @@ returns-clause-lines c =
     let ms = c.msm_cells-msm.result.now in
     let ls = c.legacy_left-legacy.result.now in
     let turn = λ (s : ℕ) (k : Code). ap (λ (xs : List CellEntry). first_cell (xs ++ ls) s k) c.msm_cells-msm.ensures.value
-        ∙ first-left (filter (is_from Msm) set.cells) (filter (is_from Legacy) set.cells) ls s k c.legacy_left-legacy.ensures.left in
+    ∙ first-left (filter (is_from Msm) set.cells) (filter (is_from Legacy) set.cells) ls s k c.legacy_left-legacy.ensures.left in
     let none = c.in_default.ensures.none in
     let end = fills-end c.args.tracks.now c.epoch-epoch.result c.msm_cells-msm.result.now c.satellites.msm_at c.legacy_left-legacy.result.now c.satellites.legacy_at c.satellites.from c.satellites.tracks c.satellites.invariant.fills
     c.msm_cells-msm.ensures.rises c.legacy_left-legacy.ensures.rises c.satellites.invariant.last none.0 none.1 in
@@ -159,7 +159,7 @@ returns-clause-phases c =
     let ms = c.msm_cells-msm.result.now in
     let ls = c.legacy_left-legacy.result.now in
     let turn = λ (s : ℕ) (k : Code). ap (λ (xs : List CellEntry). first_cell (xs ++ ls) s k) c.msm_cells-msm.ensures.value
-        ∙ first-left (filter (is_from Msm) set.cells) (filter (is_from Legacy) set.cells) ls s k c.legacy_left-legacy.ensures.left in
+    ∙ first-left (filter (is_from Msm) set.cells) (filter (is_from Legacy) set.cells) ls s k c.legacy_left-legacy.ensures.left in
     let none = c.in_default.ensures.none in
     let end = fills-end c.args.tracks.now c.epoch-epoch.result c.msm_cells-msm.result.now c.satellites.msm_at c.legacy_left-legacy.result.now c.satellites.legacy_at c.satellites.from c.satellites.tracks c.satellites.invariant.fills
     c.msm_cells-msm.ensures.rises c.legacy_left-legacy.ensures.rises c.satellites.invariant.last none.0 none.1 in
