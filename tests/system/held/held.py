@@ -37,7 +37,7 @@ GATHERED = 2 * 65_536
 LEAST_BESIDE, MOST_BESIDE = 84_500, 89_500
 # What a summary holds: some 1.6 MB. `auto` holds as much besides what its conversion holds, and so much for each capture.
 LEAST_OF_SUMMARY, MOST_OF_SUMMARY = 1_580_000, 1_600_000
-LEAST_OF_AUTO, MOST_OF_AUTO = 1_430_000, 1_520_000
+LEAST_OF_AUTO, MOST_OF_AUTO = 1_400_000, 1_520_000
 CAPTURE = 600
 
 # The sizes of an input: a vector that doubles has just the room that it needs. A file of as many
