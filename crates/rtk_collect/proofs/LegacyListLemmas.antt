@@ -1,5 +1,5 @@
 -- The cells of a 1004 that are kept as satellites or in a list, and those that are left of them.
-use Rattle.std.proofs.Common.{◌≡◌, ℕ, ◌<◌, ◌==◌, Result, Ok, Err, OnOk, OnErr, is_ok, Option, None, Some, IfSome, Bool, true, false, not, cond, List, [], ◌∷◌, ◌++◌, length, filter, All, inl, inr, refl, sym, ◌∙◌, ap, subst, arith}
+use Rattle.std.proofs.Common.{◌≡◌, ℕ, ◌<◌, ◌==◌, Result, Ok, Err, OnOk, OnErr, Option, None, Some, IfSome, Bool, true, false, not, cond, List, [], ◌∷◌, ◌++◌, length, filter, All, inl, inr, refl, sym, ◌∙◌, ap, subst, arith}
 use Rattle.std.proofs.lemmas.List.Elements.{All-filter}
 use Rattle.std.proofs.lemmas.Bool.{ne_eqb}
 use Rattle.rtk_message.specs.declared.obs1004.Satellite.{Satellite}
@@ -26,12 +26,6 @@ no_satellites (s ∷ ss) e = cc
 -- with no satellites the list has all cells
 pub spelled : (first : List Satellite) (xs : List CellEntry) → first ≡ [] → cells_of_1004 first ++ xs ≡ xs
 spelled first xs e = ap (λ (ys : List CellEntry). ys ++ xs) (no_satellites first e)
-
--- satellites that are not taken leave no cell
-pub taken-err : {T E : Type 0} (r : Result T E) (first old more : List Satellite) (xs : List CellEntry) → first ≡ cond (is_ok r) (old ++ more) old → old ≡ [] → xs ≡ []
-    → OnErr r (cells_of_1004 first ++ xs ≡ [])
-taken-err (Ok v) first old more xs h o x = tt
-taken-err (Err e) first old more xs h o x = spelled first xs (h ∙ o) ∙ x
 
 -- all cells are left if none is known
 pub all_left : (xs : List CellEntry) → cells_left [] xs ≡ xs

@@ -1,8 +1,8 @@
 //! The collector: a window over the epochs of one station's messages.
 //!
-//! A new epoch reserves room for as many cells of each kind, and for as many satellites of a first 1004,
-//! as the epoch before it has, or as the message has if these are more. `hand_back` keeps the lists of one closed epoch, and the next
-//! epoch that wants just their room takes them.
+//! A new epoch reserves room for as many cells of each kind, and for as many satellites of a first
+//! 1004, as the epoch before it has, or as the message has if these are more. `hand_back` keeps the
+//! lists of one closed epoch, and the next epoch that wants just their room takes them.
 
 ghost use Rattle.std.specs.Prelude.{◌≡◌, ◌≤◌, List, [], length, take, IfOk, OnErr, None};
 ghost use Rattle.rtk_message.specs.Decoded.{IsValid, tow_of};

@@ -23,7 +23,8 @@ use std::mem::replace;
 /// An epoch with its cells: one for each satellite, code and kind of message, at most 1,024.
 ///
 /// Those that came in an MSM (1074 to 1077) stand in one list, those that came in a 1004 in another;
-/// each rises by satellite and code. Cells of the first 1004 alone are kept as its satellites. The satellites are 1 to 32; a strength is absent, or 250 to 63,750 thousandths
+/// each rises by satellite and code. As long as one 1004 came, and its satellites rise, these are kept
+/// in place of its cells. The satellites are 1 to 32; a strength is absent, or 250 to 63,750 thousandths
 /// of a dB-Hz in steps of 250.
 #[derive(Drop)]
 pub struct EpochSet {

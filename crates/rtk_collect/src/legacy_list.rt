@@ -172,8 +172,11 @@ impl LegacyList {
         if let Err(_) = self.cells.reserve(satellites.len() * 2) {
             return Err(AllocError);
         }
+        if let Err(_) = self.first.extend_from_slice(satellites) {
+            return Err(AllocError);
+        }
         self.satellites = satellites.len();
-        self.first.extend_from_slice(satellites)
+        Ok(())
     }
 
     /// Takes the cells whose keys are new, and says how many these are; those that conflict are added to

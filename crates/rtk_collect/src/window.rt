@@ -122,7 +122,8 @@ pub(crate) fn first_room(
 }
 
 /// Opens an epoch with cells at its place, if it can in the spare lists; those that conflict with one
-/// another are added to an empty list. If `rises`, the keys of the cells rise. All memory is taken before an epoch changes.
+/// another are added to an empty list. If `rises`, the keys of the cells rise. All memory is taken before
+/// an epoch changes.
 pub(crate) fn open_at(
     sets: &mut VecDeque<EpochSet>,
     at: usize,
@@ -194,8 +195,8 @@ pub(crate) fn close_least(sets: &mut VecDeque<EpochSet>, places: usize) -> Optio
 }
 
 /// Takes the new cells of an epoch, whose place is `at`, or opens it, in a window that has this number
-/// of places and spare lists; those that conflict are added to an empty list, which stays empty if memory is refused.
-/// If `rises`, the keys of the cells rise.
+/// of places and spare lists; those that conflict are added to an empty list, which stays empty if memory
+/// is refused. If `rises`, the keys of the cells rise.
 pub(crate) fn offer_cells(
     sets: &mut VecDeque<EpochSet>,
     places: usize,

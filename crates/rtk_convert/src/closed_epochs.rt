@@ -36,8 +36,8 @@ pub(crate) struct ClosedEpochs {
     count: u64,
 }
 
-// Clauses don't see the room and the lines, which are written anew for each epoch. The invariant names every
-// field, as that of a converter does.
+// Clauses don't see the room and the lines, which are written anew for each epoch. The invariant names
+// every field, as that of a converter does.
 impl Model for ClosedEpochs {
     ghost use Rattle.std.specs.Prelude.{◌≡◌};
     ghost use Rattle.rtk_convert.specs.ClosedEpochs.{ClosedEpochsView};

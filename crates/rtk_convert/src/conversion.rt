@@ -42,7 +42,7 @@ pub(crate) struct Conversion {
     closed_epochs: ClosedEpochs,
     counts: Counts,
     stopped: bool,
-    // The cells of the last message that conflict.
+    // The conflicting cells of the message that was offered last.
     conflicts: Conflicts,
 }
 

@@ -1,7 +1,6 @@
 //! The cells of a 1004 whose satellite and code no other cell has.
 //!
-//! If the satellites of a 1004 rise, each has its two cells, and it is not asked again which
-//! satellites came.
+//! If the satellites of a 1004 rise, none comes twice, and each has its two cells.
 
 ghost use Rattle.std.specs.Prelude.{◌≡◌, ◌≤◌, ◌<◌, ◌*◌, ◌+◌, List, [], ◌∷◌, ◌++◌, length, take, IsTrue, IfSome, unsigned_abs, if◌then◌else◌};
 ghost use Rattle.std.specs.List.{All};
@@ -35,7 +34,7 @@ fn are_rising(satellites: &[Satellite]) -> bool
     is_satellite(last)
 }
 
-/// The satellites of a 1004, if they rise and are from 1 to 32.
+/// The satellites of a 1004, if they rise and are from 1 to 32; `None` also if there are none.
 pub fn rising_satellites(message: &Obs1004) -> Option<&[Satellite]>
     requires { IsValid message.now }
     ensures value { IfSome result (λ satellites. satellites.now ≡ message.now.satellites) }

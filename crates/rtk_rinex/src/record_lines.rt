@@ -93,7 +93,7 @@ fn clear(part: &mut [u8])
     part.fill(b' ');
 }
 
-// Blanks a part of a text again, which ends where its blanks begin.
+// Blanks a text from a place on. From `end` on it is blank already.
 fn blank(text: &mut [u8], begin: usize, end: usize)
     requires from { begin ≤ end }
     requires within { end ≤ length text.old }
@@ -185,8 +185,8 @@ impl RecordLines {
         }
     }
 
-    /// Ends the open line, if an observation of it is written: it is the line of this satellite. In a
-    /// record of RINEX the satellites rise, and each line has the same codes; that is for the caller.
+    /// Ends the open line as that of this satellite. A line without a written observation is left out. In
+    /// a record of RINEX the satellites rise, and each line has the same codes; that is for the caller.
     pub fn close_line(&mut self, satellite: u8)
         requires { self.old.count < 32 }
         ensures { (rows : List SatelliteRow) (observed : List Observed) → HoldsLines self.old rows → HasOpenLine self.old observed
