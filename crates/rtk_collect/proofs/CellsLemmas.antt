@@ -16,7 +16,7 @@ use Rattle.rtk_obs.specs.Code.{place_of}
 use Rattle.rtk_collect.specs.Equal.{equal_cells}
 use Rattle.rtk_collect.specs.Key.{key, key_at, rank_of, Above, KeysRise}
 use Rattle.rtk_collect.proofs.EqualityLemmas.{place-less, rank-less}
-use Rattle.rtk_collect.specs.EpochSet.{with_cell, with_cells, cell_under, one_more, fresh, conflict, conflicts}
+use Rattle.rtk_collect.specs.EpochSet.{AreCellsOfEpoch, with_cell, with_cells, cell_under, one_more, fresh, conflict, conflicts}
 use Rattle.rtk_collect.specs.Steps.OrderedPlaces.{lower}
 
 -- some cell, for a list that wants one
@@ -364,6 +364,13 @@ satellites-few xs r a =
 
 pub cells-few : (xs : List CellEntry) → KeysRise xs → All IsInRange xs → length xs ≤ 1024
 cells-few xs r h = satellites-few xs r (range-satellites xs (recursion_from_All IsInRange xs h))
+
+-- the cells of an epoch, after those of a message
+pub cells-with : (cells kept : List CellEntry) → All IsInRange cells → AreCellsOfEpoch kept → AreCellsOfEpoch (with_cells cells kept)
+cells-with cells kept range k =
+    let rise : KeysRise (with_cells cells kept) = with_cells-rises cells kept k.rise in
+    let all : All IsInRange (with_cells cells kept) = with_cells-all IsInRange cells kept range k.range in
+    record { rise = rise; range = all; few = cells-few (with_cells cells kept) rise all }
 
 -- the parts of a key
 pub key-from : (c : CellEntry) (s p r : ℕ) → s ≡ c.satellite → p ≡ place_of c.code → r ≡ rank_of c.cell.source → (s * 16 + p) * 2 + r ≡ key c

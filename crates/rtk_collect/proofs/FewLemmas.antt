@@ -48,7 +48,7 @@ kept-are-few n arrivals = All-from_recursion (λ (x : EpochSetView). length x.ce
 
 -- the greatest
 
-epochs-keys : (xs : List EpochSetView) → map (λ (x : EpochSetView). x.epoch) xs ≡ keys xs
+pub epochs-keys : (xs : List EpochSetView) → map (λ (x : EpochSetView). x.epoch) xs ≡ keys xs
 epochs-keys [] = refl
 epochs-keys (x ∷ xs) = ap (λ t. x.epoch ∷ t) (epochs-keys xs)
 

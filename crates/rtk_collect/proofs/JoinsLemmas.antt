@@ -1,7 +1,9 @@
 -- The closed epochs, and an observation that joins the held ones.
-use Rattle.std.proofs.Common.{◌≡◌, ℕ, zero, suc, ◌+◌, ◌-◌, ◌<◌, ◌≤◌, Bool, true, false, List, [], ◌∷◌, ◌++◌, length, get_or, take, drop, Option, None, Some, refl, ap, sym, ◌∙◌, arith, inl, inr}
+use Rattle.std.proofs.Common.{◌≡◌, ℕ, zero, suc, ◌+◌, ◌-◌, ◌<◌, ◌≤◌, Bool, true, false, List, [], ◌∷◌, ◌++◌, length, get_or, take, drop, Option, None, Some, refl, ap, sym, ◌∙◌, arith, inl, inr, is_gt, nat_cmp}
 use Rattle.std.specs.Prelude.{nat_le, filter, option_to_list, min}
 use Rattle.std.proofs.lemmas.Bool.{lt-ltb, le-ltb, le-leb, lt-leb, cases_lt}
+use Rattle.std.specs.List.Sorted.{IsPartitionedBy}
+use Rattle.std.proofs.lemmas.Bool.Decides.{nat_tests}
 use Rattle.std.proofs.lemmas.Grind.{common_steps}
 use Rattle.std.proofs.Math.Seq.{drop-nil, take-append_seam, drop-append_seam}
 use Rattle.rtk_obs.specs.declared.cell.CellEntry.{CellEntry}
@@ -129,7 +131,16 @@ kept-found n e b sets before h f = cells_at-take n e b (kept n before) (rw h at 
 pub kept-none : (n e : ℕ) (sets : List EpochSetView) (before : List Arrival) → sets ≡ take n (kept n before) → leading e sets < n → cells_at e sets ≡ None → cells_at e (kept n before) ≡ None
 kept-none n e sets before h l f = cells_at-none n e (kept n before) (kept-falls n before) (leading-kept n e before (sets-open n e sets before h l)) (rw h at f)
 
--- the search for a place by halves
+-- the search for a place
+
+pub gt-past : (a b : ℕ) → is_gt (nat_cmp a b) ≡ true → b < a
+gt-past a b h = grind (arith, nat_tests)
+
+pub gt-stop : (a b : ℕ) → is_gt (nat_cmp a b) ≡ false → a ≤ b
+gt-stop a b h = grind (arith, nat_tests)
+
+gt-all : (a b : ℕ) → b < a → is_gt (nat_cmp a b) ≡ true
+gt-all a b h = grind (arith, nat_tests)
 
 pub leading-past : (e i : ℕ) (d : EpochSetView) (xs : List EpochSetView) → EpochsFall xs → i < length xs → e < (get_or xs i d).epoch → i < leading e xs
 leading-past e i d [] f l h = grind arith
@@ -146,3 +157,27 @@ leading-stop e (suc i) d (x ∷ xs) l h = elim (cases_lt e x.epoch) [
   | inl below ↦ rw (lt-ltb e x.epoch below) (let p : leading e xs ≤ i = leading-stop e i d xs (omega arith) h in omega arith)
   | inr over ↦ rw (le-ltb e x.epoch over) (omega arith)
 ]
+
+pub leading-between : (e i : ℕ) (d : EpochSetView) (xs : List EpochSetView) → EpochsFall xs → i ≤ length xs → ((k : ℕ) → k < i → e < (get_or xs k d).epoch) → (i < length xs → (get_or xs i d).epoch ≤ e) → i ≡ leading e xs
+leading-between e i d xs f l before after =
+    let most : leading e xs ≤ length xs = leading-length e xs in
+    let low : i ≤ leading e xs = reached i l before in
+    elim (cases_lt i (length xs)) [
+      | inl inside ↦ let high : leading e xs ≤ i = leading-stop e i d xs inside (after inside) in omega arith
+      | inr end ↦ omega arith
+    ]
+  where
+    reached : (k : ℕ) → k ≤ length xs → ((j : ℕ) → j < k → e < (get_or xs j d).epoch) → k ≤ leading e xs
+    reached zero l before = omega arith
+    reached (suc k) l before = let p : k < leading e xs = leading-past e k d xs f (omega arith) (before k (omega arith)) in omega arith
+
+-- the epochs that are greater than one stand before the others
+pub epochs-partitioned : (e : ℕ) (xs : List EpochSetView) → EpochsFall xs → IsPartitionedBy (λ (x : EpochSetView). is_gt (nat_cmp x.epoch e)) xs
+epochs-partitioned e [] f i j d l h past = grind arith
+epochs-partitioned e (x ∷ xs) f zero zero d l h past = past
+epochs-partitioned e (x ∷ xs) f zero (suc j) d l h past =
+    let y : ℕ = (get_or xs j d).epoch in
+    let less : y < x.epoch = under x xs f j d (omega arith) in
+    gt-all x.epoch e (omega (arith, gt-past y e past))
+epochs-partitioned e (x ∷ xs) f (suc i) zero d l h past = absurd (omega arith)
+epochs-partitioned e (x ∷ xs) f (suc i) (suc j) d l h past = epochs-partitioned e xs f.1 i j d (omega arith) (omega arith) past

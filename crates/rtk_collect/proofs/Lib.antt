@@ -20,5 +20,6 @@ mod MergesLemmas
 mod PreferredLemmas
 mod UnderLemmas
 mod FirstLemmas
+mod NextWindowLemmas
 mod DatedLemmas
 mod PositionLemmas

@@ -68,7 +68,7 @@ opening-conflicts-not m valid = distinct-none (cells_of m) (cells_of-distinct m 
 
 -- a message that closes an epoch opens one
 
-length-held : (e : ℕ) (cs b : List CellEntry) (xs : List EpochSetView) → EpochsFall xs → cells_at e xs ≡ Some b → length (with_arrival e cs xs) ≡ length xs
+pub length-held : (e : ℕ) (cs b : List CellEntry) (xs : List EpochSetView) → EpochsFall xs → cells_at e xs ≡ Some b → length (with_arrival e cs xs) ≡ length xs
 length-held e cs b [] f h = cc
 length-held e cs b (x ∷ xs) f h = elim (cases_order x.epoch e) [
   | inl same ↦ ap length (with_arrival-same e cs x xs (sym same))

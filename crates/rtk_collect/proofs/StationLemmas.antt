@@ -1,19 +1,21 @@
 -- Station messages: an excused one equals the kept one with its number.
 use Rattle.std.proofs.Common.{◌≡◌, ◌≢◌, ℕ, suc, ◌≤◌, Bool, true, false, List, [], ◌∷◌, ◌++◌, length, take, Option, None, Some, refl, ap, sym, ◌∙◌, arith, inl, inr, subst, eqb}
 use Rattle.std.specs.Prelude.{nat_lt, nat_le, ◌==◌, ◌&&◌, not, if◌then◌else◌, min, option_map, option_to_list}
-use Rattle.std.specs.Option.{ForSome, unwrap_or}
-use Rattle.std.proofs.lemmas.Bool.{lt-ltb, le-ltb, le-leb, lt-leb, cases_lt, cases_order, eq-eqb, ne_eqb, cases_eq}
+use Rattle.std.specs.Option.{ForSome, unwrap_or, option_or}
+use Rattle.std.proofs.lemmas.Bool.{lt-ltb, le-ltb, le-leb, lt-leb, cases_lt, cases_order, eq-eqb, ne_eqb, cases_eq, cases_Bool}
 use Rattle.std.proofs.lemmas.List.{length-take}
 use Rattle.rtk_message.specs.declared.any_message.AnyMessage.{AnyMessage as Message}
 use Rattle.rtk_message.specs.AnyDecoded.{number_of}
-use Rattle.rtk_collect.specs.declared.offer.Offer.{Offer}
-use Rattle.rtk_collect.specs.declared.offer.Offer.TheVariants.{Taken, Conflict, Repeat, Late}
+use Rattle.rtk_collect.specs.declared.outcome.Outcome.{Outcome}
+use Rattle.rtk_collect.specs.declared.outcome.Outcome.TheVariants.{Taken, Conflict, Repeat, Late}
 use Rattle.rtk_collect.specs.EpochSet.{EpochSetView}
 use Rattle.rtk_collect.specs.Equal.{equal_stations, is_first}
 use Rattle.rtk_collect.specs.Arrival.{Arrival, At}
 use Rattle.rtk_collect.specs.Late.{with_epoch, epochs, First, first_of, first_with, is_repeat_of, is_excused, late}
 use Rattle.rtk_collect.specs.Accepted.{station, first, kept, closed}
 use Rattle.rtk_collect.specs.Answer.{Class, LateClass, TakenClass, RepeatClass, ConflictClass, class_of_station, class_of, IsRightAnswer}
+use Rattle.rtk_collect.specs.NextWindow.{outcome_of_station}
+use Rattle.rtk_collect.specs.Steps.Observed.{ListsConflicts}
 use Rattle.rtk_collect.specs.Steps.Slot.{AnswersStationMessage}
 use Rattle.rtk_collect.proofs.ArrivalsLemmas.{keys, same_greatest, with_epoch-new, with_epoch-below, with_epoch-same}
 
@@ -131,13 +133,13 @@ module _ {T : Type 0} (wrap : T → Message) (eq : T → T → Bool) (same_eq : 
   kept_here full slot m = if not (full && not (is_first eq slot m)) then first (option_map wrap slot) (wrap m) else option_map wrap slot
 
   -- the answer, as a class
-  abbrev ClassOf : Offer → Class → Type 0
+  abbrev ClassOf : Outcome → Class → Type 0
   ClassOf Late c = c ≡ LateClass
   ClassOf (Taken out) c = (c ≡ TakenClass) × (out ≡ None)
   ClassOf Conflict c = c ≡ ConflictClass
   ClassOf Repeat c = c ≡ RepeatClass
 
-  slot-class : (slot new : Option T) (m : T) (full : Bool) (offer : Offer) → AnswersStationMessage eq slot m full offer new → ClassOf offer (class_here full slot m) × (option_map wrap new ≡ kept_here full slot m)
+  slot-class : (slot new : Option T) (m : T) (full : Bool) (offer : Outcome) → AnswersStationMessage eq slot m full offer new → ClassOf offer (class_here full slot m) × (option_map wrap new ≡ kept_here full slot m)
   slot-class slot new m full Late h = (rw (h.0, h.1) refl, ap (option_map wrap) h.2 ∙ rw (h.0, h.1) refl)
   slot-class slot new m full (Taken out) h = ((rw (h.0, h.1) refl, h.3), ap (option_map wrap) h.2 ∙ rw (h.0, h.1) refl)
   slot-class None new m full Conflict h = absurd h
@@ -145,17 +147,17 @@ module _ {T : Type 0} (wrap : T → Message) (eq : T → T → Bool) (same_eq : 
   slot-class None new m full Repeat h = let q = h.0 in cc
   slot-class (Some x) new m full Repeat h = (rw (h.0, and-none full, same_eq x m, h.0) refl, ap (option_map wrap) h.1 ∙ rw (h.0, and-none full) refl)
 
-  answers-from : (n : ℕ) (m : T) (before : List Arrival) (offer : Offer) → ClassOf offer (class_of n (At None (wrap m)) before) → IsRightAnswer n (At None (wrap m)) before offer []
+  answers-from : (n : ℕ) (m : T) (before : List Arrival) (offer : Outcome) → ClassOf offer (class_of n (At None (wrap m)) before) → IsRightAnswer n (At None (wrap m)) before offer []
   answers-from n m before Late h = (h, refl, refl)
   answers-from n m before (Taken out) h = (h.0, refl, ap (λ o. option_to_list o ++ closed n before) (sym h.1))
   answers-from n m before Conflict h = (h, refl, refl)
   answers-from n m before Repeat h = (h, refl, refl)
 
-  pub record StationStep (n k : ℕ) (m : T) (before : List Arrival) (offer : Offer) (slot : Option T) : Type 0 where
+  pub record StationStep (n k : ℕ) (m : T) (before : List Arrival) (offer : Outcome) (slot : Option T) : Type 0 where
     pub answers : IsRightAnswer n (At None (wrap m)) before offer []
     pub after : option_map wrap slot ≡ station n k (At None (wrap m) ∷ before)
 
-  pub slot-parts : (n k : ℕ) (m : T) (slot new : Option T) (full : Bool) (offer : Offer) (before : List Arrival) → number_of (wrap m) ≡ k → option_map wrap slot ≡ station n k before
+  pub slot-parts : (n k : ℕ) (m : T) (slot new : Option T) (full : Bool) (offer : Outcome) (before : List Arrival) → number_of (wrap m) ≡ k → option_map wrap slot ≡ station n k before
       → full ≡ nat_le n (length (epochs before)) → AnswersStationMessage eq slot m full offer new → StationStep n k m before offer new
   slot-parts n k m slot new full offer before num s f h =
       let p = slot-class slot new m full offer h in
@@ -172,14 +174,48 @@ module _ {T : Type 0} (wrap : T → Message) (eq : T → T → Bool) (same_eq : 
         after = p.1 ∙ sym kept_is;
       }
 
+  -- the answer and what is kept, by what was kept
+
+  abbrev pub late_here : Bool → Option T → T → Bool
+  late_here full slot m = full && not (is_first equal_stations (option_map wrap slot) (wrap m))
+
+  abbrev outcome_here : Option T → T → Outcome
+  outcome_here None m = Taken None
+  outcome_here (Some x) m = if eq x m then Repeat else Conflict
+
+  outcome-wrapped : (slot : Option T) (m : T) → outcome_of_station (wrap m) (option_map wrap slot) ≡ outcome_here slot m
+  outcome-wrapped None m = refl
+  outcome-wrapped (Some x) m = rw (same_eq x m) refl
+
+  answers-here : (slot : Option T) (m : T) (full : Bool) → AnswersStationMessage eq slot m full
+      (if full && not (is_first eq slot m) then Late else outcome_here slot m) (if full && not (is_first eq slot m) then slot else option_or slot (Some m))
+  answers-here None m true = (refl, refl, refl)
+  answers-here None m false = (refl, refl, refl, refl)
+  answers-here (Some x) m full = elim (cases_Bool (eq x m)) [
+    | inl same ↦ rw (same, and-none full) (same, refl)
+    | inr other ↦ rw other (elim full as (λ b. AnswersStationMessage eq (Some x) m b (if b && true then Late else Conflict) (if b && true then Some x else Some x)) [ true ↦ (refl, other, refl) | false ↦ (refl, other, refl) ])
+  ]
+
+  pub slot-next : (n k : ℕ) (m : T) (slot : Option T) (full : Bool) (before : List Arrival) → number_of (wrap m) ≡ k → option_map wrap slot ≡ station n k before → full ≡ nat_le n (length (epochs before))
+      → StationStep n k m before (if late_here full slot m then Late else outcome_of_station (wrap m) (option_map wrap slot)) (if late_here full slot m then slot else option_or slot (Some m))
+  slot-next n k m slot full before num s f =
+      rw (first-wrapped slot m, outcome-wrapped slot m) (slot-parts n k m slot _ full _ before num s f (answers-here slot m full))
+
 -- a message with another number leaves the kept one
 pub other-stays : (n k : ℕ) (m : Message) (before : List Arrival) → number_of m ≢ k → station n k (At None m ∷ before) ≡ station n k before
 other-stays n k m before h = ap (λ b. if b && not (late n (At None m) before) then first (station n k before) m else station n k before) (ne_eqb (number_of m) k h)
 
 -- the fields of the kept one fit, if the fields of the offered one do
-pub slot-fits : {T : Type 0} (eq : T → T → Bool) (P : T → Type 0) (slot new : Option T) (m : T) (full : Bool) (offer : Offer) → AnswersStationMessage eq slot m full offer new → ForSome slot P → P m → ForSome new P
+pub slot-fits : {T : Type 0} (eq : T → T → Bool) (P : T → Type 0) (slot new : Option T) (m : T) (full : Bool) (offer : Outcome) → AnswersStationMessage eq slot m full offer new → ForSome slot P → P m → ForSome new P
 slot-fits eq P slot new m full Late h f p = subst (λ o. ForSome o P) (sym h.2) f
 slot-fits eq P slot new m full (Taken out) h f p = subst (λ o. ForSome o P) (sym h.2) (λ x e. subst P (ap (λ o. unwrap_or o x) e) p)
 slot-fits eq P None new m full Conflict h f p = absurd h
 slot-fits eq P (Some x) new m full Conflict h f p = subst (λ o. ForSome o P) (sym h.2) f
 slot-fits eq P slot new m full Repeat h f p = subst (λ o. ForSome o P) (sym h.1) f
+
+-- the answer closes no epoch, and lists no conflict
+pub slot-lists : {T : Type 0} (eq : T → T → Bool) (slot new : Option T) (m : T) (full : Bool) (offer : Outcome) → AnswersStationMessage eq slot m full offer new → ListsConflicts offer []
+slot-lists eq slot new m full Late h = refl
+slot-lists eq slot new m full (Taken out) h = h.3
+slot-lists eq slot new m full Conflict h = tt
+slot-lists eq slot new m full Repeat h = refl

@@ -9,16 +9,17 @@ use Rattle.rtk_message.specs.declared.any_message.AnyMessage.{AnyMessage as Mess
 use Rattle.rtk_obs.specs.declared.cell.CellEntry.{CellEntry}
 use Rattle.rtk_obs.specs.MessageCells.{cells_of}
 use Rattle.rtk_collect.specs.declared.conflicts.SatelliteCode.{SatelliteCode}
-use Rattle.rtk_collect.specs.declared.offer.Offer.{Offer}
-use Rattle.rtk_collect.specs.declared.offer.Offer.TheVariants.{Taken, Conflict, Repeat, Late}
+use Rattle.rtk_collect.specs.declared.outcome.Outcome.{Outcome}
+use Rattle.rtk_collect.specs.declared.outcome.Outcome.TheVariants.{Taken, Conflict, Repeat, Late}
 use Rattle.rtk_collect.specs.EpochSet.{EpochSetView, joined, fresh, conflicts, EpochsFall}
 use Rattle.rtk_collect.specs.Arrival.{Arrival, At}
 use Rattle.rtk_collect.specs.Accepted.{with_arrival, kept, cells_at, closed}
 use Rattle.rtk_collect.specs.Late.{epochs}
 use Rattle.rtk_collect.specs.Steps.OrderedPlaces.{leading}
 use Rattle.rtk_collect.specs.Answer.{IsRightAnswer, TakenClass, RepeatClass, ConflictClass, class_of_cells, class_of}
-use Rattle.rtk_collect.specs.Steps.Observed.{IsAnswerOf, AddsCells}
-use Rattle.rtk_collect.specs.Offered.{ClosesBelow, ClosesLeast, NotBelow}
+use Rattle.rtk_collect.specs.Steps.Observed.{IsAnswerOf, AddsCells, WouldTakeCells}
+use Rattle.rtk_collect.specs.Collector.{CollectorView}
+use Rattle.rtk_collect.specs.Offered.{AnswersArrival, ClosesBelow, ClosesLeast, NotBelow, WouldBeTaken}
 use Rattle.rtk_collect.proofs.ArrivalsLemmas.{leadingN, late-false, sets-open, found-cells, absent-cells, opened, with_arrival-new, with_arrival-below, with_arrival-same}
 use Rattle.rtk_collect.proofs.JoinsLemmas.{leading-length, kept-found, kept-none, offer-late, parts, whole}
 use Rattle.rtk_collect.proofs.OffersLemmas.{length-insert, class-is, OpenStep, open-step, OpenParts, open-parts, NewStep, new-step, NewParts, new-parts, class-late, cells-taken, cells-stale, by-none, by-some}
@@ -101,7 +102,7 @@ new-least n i sets items new v (Some s) small l is grew split len =
     let last = insert-last sets i v new s (omega arith) (sym is ∙ split) in
     (full, last, last-not-below sets last.0 s last.1)
 
-open-least : (n count : ℕ) (found : List SatelliteCode) (offer : Offer) (sets : List EpochSetView) → IsAnswerOf count found offer → ClosesLeast n sets offer
+open-least : (n count : ℕ) (found : List SatelliteCode) (offer : Outcome) (sets : List EpochSetView) → IsAnswerOf count found offer → ClosesLeast n sets offer
 open-least n count found Late sets a = tt
 open-least n count found (Taken None) sets a = tt
 open-least n count found (Taken (Some s)) sets a = let q = a.1 in cc
@@ -144,14 +145,14 @@ split-parts n all front back e l = elim (cases_lt (length all) n) [
     no-length [] h = refl
     no-length (x ∷ xs) h = absurd (omega arith)
 
-open-below : (count : ℕ) (found : List SatelliteCode) (offer : Offer) (new : List EpochSetView) → IsAnswerOf count found offer → ClosesBelow offer new
+open-below : (count : ℕ) (found : List SatelliteCode) (offer : Outcome) (new : List EpochSetView) → IsAnswerOf count found offer → ClosesBelow offer new
 open-below count found Late new a = absurd a
 open-below count found (Taken None) new a = tt
 open-below count found (Taken (Some s)) new a = let q = a.1 in cc
 open-below count found Conflict new a = tt
 open-below count found Repeat new a = tt
 
-open-answers : (n e : ℕ) (m : Message) (before : List Arrival) (new : List EpochSetView) (b : List CellEntry) (count : ℕ) (found : List SatelliteCode) (offer : Offer) → OpenParts n e m before new b
+open-answers : (n e : ℕ) (m : Message) (before : List Arrival) (new : List EpochSetView) (b : List CellEntry) (count : ℕ) (found : List SatelliteCode) (offer : Outcome) → OpenParts n e m before new b
     → count ≡ fresh (cells_of m) b → found ≡ conflicts (cells_of m) b → IsAnswerOf count found offer → IsRightAnswer n (At (Some e) m) before offer found
 open-answers n e m before new b count found Late p c f a = absurd a
 open-answers n e m before new b count found (Taken out) p c f a =
@@ -161,7 +162,7 @@ open-answers n e m before new b count found Conflict p c f a =
 open-answers n e m before new b count found Repeat p c f a =
     (p.class RepeatClass (cells-stale (cells_of m) b count c (omega (arith, a.0)) ∙ by-none (conflicts (cells_of m) b) (sym f ∙ a.1)), a.1, p.joins.closing)
 
-pub open-branch : (n e at : ℕ) (cs : List CellEntry) (d : EpochSetView) (sets new : List EpochSetView) (count : ℕ) (found : List SatelliteCode) (offer : Offer) → EpochsFall sets → length sets ≤ n
+pub open-branch : (n e at : ℕ) (cs : List CellEntry) (d : EpochSetView) (sets new : List EpochSetView) (count : ℕ) (found : List SatelliteCode) (offer : Outcome) → EpochsFall sets → length sets ≤ n
     → at ≡ leading e sets → at < length sets → (get_or sets at d).epoch ≡ e → new ≡ set sets at (joined cs (get_or sets at d))
     → count ≡ fresh cs (get_or sets at d).cells → found ≡ conflicts cs (get_or sets at d).cells → IsAnswerOf count found offer → AddsCells n e cs sets new offer found
 open-branch n e at cs d sets new count found offer f small place l same is c g a =
@@ -220,3 +221,12 @@ new-branch n e at cs d sets items new closes found f small place other absent is
             All-from_recursion (λ (t : EpochSetView). x ≤ t.epoch) new (least-front x new (option_to_list closes) (subst (AtLeast x) split (subst (AtLeast x) (sym s.put) w))),
       );
     }
+
+-- what cells answer and leave, as what their message answers and leaves of a window
+
+pub observed-answers : (w : CollectorView) (e : ℕ) (m : Message) (cs : List CellEntry) (new : List EpochSetView) (offer : Outcome) (found : List SatelliteCode) → cells_of m ≡ cs → AddsCells w.places e cs w.sets new offer found
+    → AnswersArrival w (At (Some e) m) offer found (record w { sets = new })
+observed-answers w e m cs new offer found is h = λ before r. let p = h.answer m is before r.sets in (p.0, record { sets = p.1; arp1005 = r.arp1005; arp1006 = r.arp1006 })
+
+pub observed-taken : (w : CollectorView) (e : ℕ) (m : Message) (cs : List CellEntry) → cells_of m ≡ cs → WouldTakeCells w.places e cs w.sets → WouldBeTaken w (At (Some e) m)
+observed-taken w e m cs is h = λ before r. h m is before r.sets

@@ -5,8 +5,8 @@ use Rattle.rtk_message.specs.AnyDecoded.{number_of}
 use Rattle.rtk_obs.specs.declared.cell.CellEntry.{CellEntry}
 use Rattle.rtk_obs.specs.MessageCells.{cells_of}
 use Rattle.rtk_collect.specs.declared.conflicts.SatelliteCode.{SatelliteCode}
-use Rattle.rtk_collect.specs.declared.offer.Offer.{Offer}
-use Rattle.rtk_collect.specs.declared.offer.Offer.TheVariants.{Taken, Conflict, Repeat, Late}
+use Rattle.rtk_collect.specs.declared.outcome.Outcome.{Outcome}
+use Rattle.rtk_collect.specs.declared.outcome.Outcome.TheVariants.{Taken, Conflict, Repeat, Late}
 use Rattle.rtk_collect.specs.Arrival.{Arrival, At}
 use Rattle.rtk_collect.specs.Equal.{equal_stations}
 use Rattle.rtk_collect.specs.EpochSet.{fresh, conflicts}
@@ -56,7 +56,7 @@ conflicts_of n (At (Some e) m) before = conflicts_with (cells_of m) (cells_at e 
 
 -- the right answer to an arrival after the ones before it, and the conflicts that are listed with it:
 -- none with one that is late or a repeat. Only one that is taken closes an epoch
-abbrev pub IsRightAnswer : ℕ → Arrival → List Arrival → Offer → List SatelliteCode → Type 0
+abbrev pub IsRightAnswer : ℕ → Arrival → List Arrival → Outcome → List SatelliteCode → Type 0
 IsRightAnswer n a before Late listed = (class_of n a before ≡ LateClass) × (listed ≡ []) × (closed n (a ∷ before) ≡ closed n before)
 IsRightAnswer n a before (Taken done) listed = (class_of n a before ≡ TakenClass) × (listed ≡ conflicts_of n a before) × (closed n (a ∷ before) ≡ option_to_list done ++ closed n before)
 IsRightAnswer n a before Conflict listed = (class_of n a before ≡ ConflictClass) × (listed ≡ conflicts_of n a before) × (closed n (a ∷ before) ≡ closed n before)

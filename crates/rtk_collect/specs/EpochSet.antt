@@ -1,5 +1,5 @@
 -- The cells of an epoch: one for each satellite, code and kind of message, the first that came.
-use Rattle.std.specs.Prelude.{◌≡◌, ℕ, suc, ◌<◌, Bool, List, [], ◌∷◌, ◌++◌, ◌==◌, ◌&&◌, ◌⊎◌, nat_lt, Option, None, Some, All, if◌then◌else◌}
+use Rattle.std.specs.Prelude.{◌≡◌, ℕ, suc, ◌<◌, ◌≤◌, Bool, List, [], ◌∷◌, ◌++◌, ◌==◌, ◌&&◌, ◌⊎◌, length, nat_lt, Option, None, Some, All, if◌then◌else◌}
 use Rattle.rtk_obs.specs.Cell.{IsInRange}
 use Rattle.rtk_obs.specs.CellsLeft.{cells_left}
 use Rattle.rtk_obs.specs.Code.{place_of}
@@ -25,6 +25,12 @@ pub record AreKeptOf (source : CellSource) (cells : List CellEntry) : Type 0 whe
   pub rises : KeysRise cells
   pub range : All IsInRange cells
   pub kind : All (λ c. c.cell.source ≡ source) cells
+
+-- cells of an epoch: they rise, each is in range, and for 32 satellites, 16 codes and 2 kinds of message there are at most 1,024
+pub record AreCellsOfEpoch (cells : List CellEntry) : Type 0 where
+  pub rise : KeysRise cells
+  pub range : All IsInRange cells
+  pub few : length cells ≤ 1024
 
 -- the first of the epochs, if there is one, is less
 abbrev pub FirstIsBelow : ℕ → List EpochSetView → Type 0

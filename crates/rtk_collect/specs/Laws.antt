@@ -10,13 +10,17 @@ use Rattle.rtk_obs.specs.declared.cell.CellEntry.{CellEntry}
 use Rattle.rtk_obs.specs.declared.code.Code.{Code}
 use Rattle.rtk_obs.specs.MessageCells.{cells_of}
 use Rattle.rtk_collect.specs.declared.conflicts.SatelliteCode.{SatelliteCode}
-use Rattle.rtk_collect.specs.declared.offer.Offer.TheVariants.{Taken}
+use Rattle.rtk_collect.specs.declared.outcome.Outcome.{Outcome}
+use Rattle.rtk_collect.specs.declared.outcome.Outcome.TheVariants.{Taken}
 use Rattle.rtk_collect.specs.Key.{key, KeysRise}
 use Rattle.rtk_collect.specs.EpochSet.{EpochsFall, EpochSetView, joined, cell_under, cell_of, first_entry, conflicts}
 use Rattle.rtk_collect.specs.Equal.{equal_cells, equal_1005, equal_1006, equal_stations, is_first}
 use Rattle.rtk_collect.specs.Arrival.{Arrival, At, message_of}
 use Rattle.rtk_collect.specs.Late.{epochs, is_excused, late}
 use Rattle.rtk_collect.specs.Answer.{IsRightAnswer}
+use Rattle.rtk_collect.specs.Collector.{CollectorView, IsCollectorView, RepresentsArrivals}
+use Rattle.rtk_collect.specs.Offered.{AnswersArrival}
+use Rattle.rtk_collect.specs.NextWindow.{IsTimed, outcome_in, conflicts_in, next_window}
 use Rattle.rtk_collect.specs.Accepted.{station, no_cells, with_arrival, kept, cells_at, closed, IsTaken, AmongCells, IsTakenCell, IsConsistent}
 
 -- the arrivals without those that are late
@@ -194,3 +198,21 @@ first_taken n e k (At (Some x) m ∷ before) =
 -- if later ones differ from it
 abbrev pub FirstIsKept : Type 0
 FirstIsKept = (n e k : ℕ) (arrivals : List Arrival) → option_and_then (cell_under k) (cells_at e (kept n arrivals)) ≡ first_taken n e k arrivals
+
+-- what a window that represents arrivals answers to a further one, and is afterwards, follows from what
+-- it holds: it is the right answer, and the next window represents all of them
+abbrev pub WindowsAnswer : Type 0
+WindowsAnswer = (w : CollectorView) (a : Arrival) → IsCollectorView w → IsTimed a → AnswersArrival w a (outcome_in w a) (conflicts_in w a) (next_window w a)
+
+-- a right answer is the only one, with its conflicts
+abbrev pub AnswersAreUnique : Type 0
+AnswersAreUnique = (n : ℕ) (a : Arrival) (before : List Arrival) (one other : Outcome) (listed others : List SatelliteCode)
+    → IsRightAnswer n a before one listed → IsRightAnswer n a before other others → (one ≡ other) × (listed ≡ others)
+
+-- arrivals are represented by one window of each number of places
+abbrev pub WindowsAreUnique : Type 0
+WindowsAreUnique = (v w : CollectorView) (arrivals : List Arrival) → v.places ≡ w.places → RepresentsArrivals v arrivals → RepresentsArrivals w arrivals → v ≡ w
+
+-- an empty window represents no arrivals
+abbrev pub NewWindowIsEmpty : Type 0
+NewWindowIsEmpty = (n : ℕ) → RepresentsArrivals (record { places = n; sets = []; arp1005 = None; arp1006 = None }) []

@@ -8,5 +8,6 @@ pub mod Answer
 pub mod Collector
 pub mod StationPosition
 pub mod Offered
+pub mod NextWindow
 pub mod Steps
 pub mod Laws

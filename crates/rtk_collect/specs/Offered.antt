@@ -2,20 +2,36 @@
 use Rattle.std.specs.Prelude.{◌≡◌, ℕ, ◌≤◌, ◌<◌, List, [], ◌∷◌, ◌++◌, length, None, Some, All}
 use Rattle.rtk_collect.specs.declared.conflicts.SatelliteCode.{SatelliteCode}
 use Rattle.rtk_collect.specs.declared.offer.Offer.{Offer}
-use Rattle.rtk_collect.specs.declared.offer.Offer.TheVariants.{Taken, Conflict, Repeat, Late}
+use Rattle.rtk_collect.specs.declared.offer.Offer.TheVariants as offer
+use Rattle.rtk_collect.specs.declared.outcome.Outcome.{Outcome}
+use Rattle.rtk_collect.specs.declared.outcome.Outcome.TheVariants.{Taken, Conflict, Repeat, Late}
 use Rattle.rtk_collect.specs.EpochSet.{EpochSetView}
 use Rattle.rtk_collect.specs.Arrival.{Arrival}
 use Rattle.rtk_collect.specs.Answer.{IsRightAnswer, TakenClass, class_of}
 use Rattle.rtk_collect.specs.Collector.{CollectorView, RepresentsArrivals}
 
+-- what a collector answers without the conflicts, as a gatherer answers it
+abbrev pub outcome_of : Offer → Outcome
+outcome_of (offer.Taken done listed) = Taken done
+outcome_of offer.Repeat = Repeat
+outcome_of (offer.Conflict listed) = Conflict
+outcome_of offer.Late = Late
+
+-- the conflicts that a collector lists in its answer
+abbrev pub listed_by : Offer → List SatelliteCode
+listed_by (offer.Taken _ listed) = listed
+listed_by offer.Repeat = []
+listed_by (offer.Conflict listed) = listed
+listed_by offer.Late = []
+
 -- the right answer to an arrival with the list of its conflicts, after which the window represents it
 -- too, whatever came before
-abbrev pub AnswersArrival : CollectorView → Arrival → Offer → List SatelliteCode → CollectorView → Type 0
+abbrev pub AnswersArrival : CollectorView → Arrival → Outcome → List SatelliteCode → CollectorView → Type 0
 AnswersArrival old a offer listed new =
     (before : List Arrival) → RepresentsArrivals old before → IsRightAnswer old.places a before offer listed × RepresentsArrivals new (a ∷ before)
 
 -- a closed epoch is less than all of the window
-abbrev pub ClosesBelow : Offer → List EpochSetView → Type 0
+abbrev pub ClosesBelow : Outcome → List EpochSetView → Type 0
 ClosesBelow (Taken (Some set)) sets = All (λ x. set.epoch < x.epoch) sets
 ClosesBelow (Taken None) sets = Unit {0}
 ClosesBelow Conflict sets = Unit {0}
@@ -27,7 +43,7 @@ abbrev pub NotBelow : EpochSetView → List EpochSetView → Type 0
 NotBelow set sets = (e : ℕ) → All (λ x. e ≤ x.epoch) sets → e ≤ set.epoch
 
 -- an epoch closes only if the window of n places was full: its least epoch, with its cells
-abbrev pub ClosesLeast : ℕ → List EpochSetView → Offer → Type 0
+abbrev pub ClosesLeast : ℕ → List EpochSetView → Outcome → Type 0
 ClosesLeast n sets (Taken (Some set)) = (length sets ≡ n) × ((greater : List EpochSetView) × (sets ≡ greater ++ set ∷ [])) × NotBelow set sets
 ClosesLeast n sets (Taken None) = Unit {0}
 ClosesLeast n sets Conflict = Unit {0}

@@ -1,30 +1,24 @@
 //! The collector: a window over the epochs of one station's messages.
 //!
-//! A new epoch reserves room for as many cells of each kind, and for as many satellites of a first
-//! 1004, as the epoch before it has, or as the message has if these are more. `hand_back` keeps the
-//! lists of one closed epoch, and the next epoch that wants just their room takes them.
+//! It keeps each epoch in the form in which it gives it away: a list of its cells. So memory is taken
+//! when cells come, and none when an epoch closes or is left.
 
 ghost use Rattle.std.specs.Prelude.{◌≡◌, ◌≤◌, List, [], length, take, IfOk, OnErr, None};
-ghost use Rattle.rtk_message.specs.Decoded.{IsValid, tow_of};
-ghost use Rattle.rtk_message.specs.declared.any_message.AnyMessage.TheVariants as AnyMessage;
-ghost use Rattle.rtk_collect.specs.Arrival.{Arrival, At};
+ghost use Rattle.rtk_collect.specs.Arrival.{Arrival};
 ghost use Rattle.rtk_collect.specs.Accepted.{kept};
 ghost use Rattle.rtk_collect.specs.Collector.{RepresentsArrivals, KeepsStations};
 ghost use Rattle.rtk_collect.specs.StationPosition.{IsPosition, IsPositionOf};
-ghost use Rattle.rtk_collect.specs.Offered.{AnswersArrival, ClosesBelow, ClosesLeast, LeastNeverFalls, WouldBeTaken};
+ghost use Rattle.rtk_collect.specs.Offered.{AnswersArrival, ClosesBelow, ClosesLeast, LeastNeverFalls, WouldBeTaken, outcome_of, listed_by};
 
 use crate::conflicts::Conflicts;
-use crate::dated::{Borrowed, Dated};
-use crate::epoch_set::{EpochSet, Spare};
-use crate::first::{first_satellites, offer_first};
+use crate::dated::Dated;
+use crate::epoch_set::EpochSet;
+use crate::epochs::join_epochs;
 use crate::left::Left;
-use crate::legacy_list::LegacyList;
 use crate::offer::Offer;
-use crate::stations::{StationMessages, keep_station_message, position};
-use crate::window::{offer_cells, place_of_epoch};
+use crate::stations::{StationMessages, position};
 use arrayvec::ArrayVec;
-use rtk_message::Message;
-use rtk_obs::{CellEntry, Position};
+use rtk_obs::{Position, put_cells_of};
 use std::alloc::{AllocError, Global};
 use std::collections::VecDeque;
 use std::marker::Model;
@@ -32,12 +26,10 @@ use std::marker::Model;
 /// A window over the greatest epochs of one station's messages, with their kept cells, and the
 /// first 1005 and 1006.
 ///
-/// It holds at most as many epochs as it has places, each with at most 1,024 cells.
+/// It holds at most as many epochs as its window has places, each with at most 1,024 cells.
 ///
-/// Its caller offers one MSM number alone, of 1074 to 1077, beside 1004, 1005 and 1006. Cells of all
-/// four have the same keys. So if two of these numbers are offered, a cell of the second message
-/// conflicts with the cell that is kept of the first, if their values differ, though both be right;
-/// and the cells of one epoch may be of either number.
+/// A `Gatherer` makes the same promises. It borrows what it is offered and keeps epochs in less memory,
+/// for a caller who offers many messages.
 #[derive(Drop)]
 pub struct Collector {
     alloc: Global,
@@ -46,19 +38,13 @@ pub struct Collector {
     // The epochs, from the greatest to the least.
     sets: VecDeque<EpochSet>,
     stations: StationMessages,
-    // The cells of the message in hand.
-    cells: ArrayVec<CellEntry, 64>,
-    // The lists of the closed epoch that was handed back last, without cells.
-    spare: Spare,
 }
 
 // Clauses see the window: its places, its epochs from the greatest to the least, the 1005 and the
-// 1006. The first part of the invariant names every field, the third those of the station messages and
-// the fourth those of the spare lists, so that no field can be added in which messages are kept unseen.
+// 1006.
 impl Model for Collector {
     ghost use Rattle.std.specs.Prelude.{◌≡◌};
     ghost use Rattle.rtk_collect.specs.Collector.{CollectorView, IsCollectorView};
-    ghost use Rattle.rtk_collect.specs.Steps.Room.{AreSpare};
 
     ghost Value = { CollectorView };
 
@@ -69,127 +55,51 @@ impl Model for Collector {
       places = c.places;
       sets = c.sets;
       stations = c.stations;
-      cells = c.cells;
-      spare = c.spare;
     })
         × IsCollectorView (record { places = c.places; sets = c.sets.items; arp1005 = c.stations.arp1005; arp1006 = c.stations.arp1006 })
-        × (c.stations ≡ record { arp1005 = c.stations.arp1005; arp1006 = c.stations.arp1006 })
-        × (c.spare ≡ record { msm = c.spare.msm; legacy = c.spare.legacy })
-        × AreSpare c.spare };
+        × (c.stations ≡ record { arp1005 = c.stations.arp1005; arp1006 = c.stations.arp1006 }) };
 }
 
 impl Collector {
     /// A window with this number of places, which holds nothing. It takes no memory.
-    pub fn new(alloc: Global, places: usize) -> Collector
-        requires low { 2 ≤ places }
-        requires high { places ≤ 4096 }
-        ensures empty { result ≡ record { places = places; sets = []; arp1005 = None; arp1006 = None } }
+    pub fn new(alloc: Global, window: usize) -> Collector
+        requires low { 2 ≤ window }
+        requires high { window ≤ 4096 }
+        ensures empty { result ≡ record { places = window; sets = []; arp1005 = None; arp1006 = None } }
         ensures history { RepresentsArrivals result [] }
     {
         Collector {
             alloc,
-            places,
+            places: window,
             sets: VecDeque::new(alloc),
-            stations: StationMessages {
-                arp1005: None,
-                arp1006: None,
-            },
-            cells: ArrayVec::new(),
-            spare: Spare {
-                msm: Vec::new(alloc),
-                legacy: LegacyList::new(alloc),
-            },
+            stations: StationMessages::new(),
         }
     }
 
-    /// Takes what is new in a message, and says what became of it. `conflicts` then has the cells of
-    /// this message that conflict, in place of what it has: none if the message is late, a 1005 or
-    /// a 1006.
+    /// Takes what is new in a message, and says what became of it.
     ///
     /// Only a message that would be taken takes memory, all of it before anything changes. If
-    /// memory is refused, the collector is unchanged and `conflicts` is empty.
-    pub fn offer(
-        &mut self,
-        dated: Dated<'_>,
-        conflicts: &mut Conflicts,
-    ) -> Result<Offer, AllocError>
+    /// memory is refused, the collector is unchanged.
+    pub fn offer(&mut self, dated: Dated) -> Result<Offer, AllocError>
         ensures places { self.new.places ≡ self.old.places }
         ensures bound { length self.new.sets ≤ self.new.places }
         // Fails only if memory is refused: tests/system/calls, rows offer.
-        ensures answer { IfOk result (λ offer. AnswersArrival self.old dated.entry offer conflicts.new self.new) }
-        ensures closed { IfOk result (λ offer. ClosesBelow offer self.new.sets) }
-        ensures least_closes { IfOk result (λ offer. ClosesLeast self.old.places self.old.sets offer) }
+        ensures answer { IfOk result (λ offer. AnswersArrival self.old dated (outcome_of offer) (listed_by offer) self.new) }
+        ensures closed { IfOk result (λ offer. ClosesBelow (outcome_of offer) self.new.sets) }
+        ensures least_closes { IfOk result (λ offer. ClosesLeast self.old.places self.old.sets (outcome_of offer)) }
         ensures least { LeastNeverFalls self.old self.new }
         ensures err { OnErr result (self.new ≡ self.old) }
-        ensures refused { OnErr result (WouldBeTaken self.old dated.entry) }
-        ensures none { OnErr result (conflicts.new ≡ []) }
+        ensures refused { OnErr result (WouldBeTaken self.old dated) }
     {
-        conflicts.clear();
         let Some(epoch) = dated.epoch else {
-            let Borrowed::Message(message) = dated.message else {
-                unreachable!();
-            };
-            return Ok(self.offer_station_message(message));
+            let full = self.sets.len() == self.places;
+            let outcome = self.stations.offer(&dated.message, full);
+            return Ok(Offer::new(outcome, Conflicts::new()));
         };
-        let at = place_of_epoch(&self.sets, epoch);
-        let first = first_satellites(&self.sets, at, epoch, dated.message);
-        if let Some(satellites) = first {
-            let (sets, spare) = (&mut self.sets, &mut self.spare);
-            return offer_first(sets, self.places, self.alloc, at, epoch, satellites, spare);
-        }
-        let rises = dated.message.put_cells(&mut self.cells);
-        let cells = self.cells.as_slice();
-        let (sets, spare) = (&mut self.sets, &mut self.spare);
-        offer_cells(
-            sets,
-            self.places,
-            self.alloc,
-            at,
-            epoch,
-            cells,
-            rises,
-            spare,
-            conflicts,
-        )
-    }
-
-    // Takes a 1005 or 1006, if it is the first of its number and the window isn't full. It takes no
-    // memory, and no cell of it conflicts.
-    fn offer_station_message(&mut self, message: &Message) -> Offer
-        requires valid { IsValid message.now }
-        requires station { tow_of message.now ≡ None }
-        ensures places { self.new.places ≡ self.old.places }
-        ensures bound { length self.new.sets ≤ self.new.places }
-        ensures sets { self.new.sets ≡ self.old.sets }
-        ensures answer { AnswersArrival self.old (At None (AnyMessage.Message message.now)) result [] self.new }
-        ensures closed { ClosesBelow result self.new.sets }
-        ensures least_closes { ClosesLeast self.old.places self.old.sets result }
-    {
-        let full = self.sets.len() == self.places;
-        match message {
-            Message::Arp1005(message) => keep_station_message(
-                &mut self.stations.arp1005,
-                *message,
-                full,
-            ),
-            Message::Arp1006(message) => keep_station_message(
-                &mut self.stations.arp1006,
-                *message,
-                full,
-            ),
-            _ => unreachable!(),
-        }
-    }
-
-    /// Takes back a closed epoch whose cells nobody needs any more. The next epoch that opens has each
-    /// of its lists, for the cells of a kind of message or for the satellites of a first 1004, that has
-    /// just the room that is wanted: if all have, it takes no memory for them.
-    ///
-    /// The lists of one epoch are kept at most, until they are used, given up or replaced.
-    pub fn hand_back(&mut self, set: EpochSet)
-        ensures { self.new ≡ self.old }
-    {
-        self.spare = set.into_spare();
+        let mut cells = ArrayVec::new();
+        let rises = put_cells_of(&dated.message, &mut cells);
+        let cells = cells.as_slice();
+        join_epochs(&mut self.sets, self.places, self.alloc, epoch, cells, rises)
     }
 
     /// The position of the first 1006, else of the first 1005, else zeros, with the height of the

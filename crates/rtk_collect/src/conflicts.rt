@@ -1,9 +1,10 @@
 //! The cells of a message that conflict with the kept ones.
 
-ghost use Rattle.std.specs.Prelude.{◌≡◌, ◌<◌, ◌≤◌, ◌↔◌, [], ◌∷◌, ◌++◌, length, IsTrue};
+ghost use Rattle.std.specs.Prelude.{◌≡◌, ◌<◌, ◌≤◌, ◌↔◌, [], ◌∷◌, ◌++◌, length, IsTrue, OnOk, OnErr};
 
 use arrayvec::ArrayVec;
 use rtk_obs::Code;
+use std::alloc::AllocError;
 use std::marker::Model;
 
 /// The satellite and the code of a cell.
@@ -42,8 +43,16 @@ impl Conflicts {
         }
     }
 
-    /// Whether the list is empty.
-    pub(crate) fn is_empty(&self) -> bool
+    /// How many there are.
+    pub fn len(&self) -> usize
+        ensures value { result ≡ length self.now }
+        ensures few { result ≤ 64 }
+    {
+        self.list.len()
+    }
+
+    /// Whether there is none.
+    pub fn is_empty(&self) -> bool
         ensures { IsTrue result ↔ (self.now ≡ []) }
     {
         self.list.len() == 0
@@ -62,6 +71,22 @@ impl Conflicts {
         ensures { self.new ≡ [] }
     {
         self.list.clear();
+    }
+
+    /// The answer as it is. If memory is refused, all are taken out: a message that is not taken has
+    /// no conflicts.
+    pub(crate) fn cleared_if_refused<T>(
+        &mut self,
+        joined: Result<T, AllocError>,
+    ) -> Result<T, AllocError>
+        ensures same { result ≡ joined }
+        ensures ok { OnOk result (self.new ≡ self.old) }
+        ensures err { OnErr result (self.new ≡ []) }
+    {
+        if joined.is_err() {
+            self.clear();
+        }
+        joined
     }
 
     /// Adds one after the others.

@@ -14,9 +14,9 @@ ghost use Rattle.rtk_collect.specs.Steps.OrderedPlaces.{leading};
 ghost use Rattle.rtk_collect.specs.Steps.Room.{AreSpare};
 ghost use Rattle.rtk_collect.specs.Steps.Observed.{AddsCells, WouldTakeCells};
 
-use crate::dated::Borrowed;
-use crate::epoch_set::{EpochSet, Spare};
-use crate::offer::Offer;
+use crate::dated_ref::Borrowed;
+use crate::gathered_set::{GatheredSet, Spare};
+use crate::outcome::Outcome;
 use crate::window::{close_least, first_room, has_epoch, put_at};
 use rtk_message::{Message, Satellite};
 use rtk_obs::{CellSource, GpsMs, rising_satellites};
@@ -25,7 +25,7 @@ use std::collections::VecDeque;
 
 /// The satellites of a 1004, if they rise and its epoch, whose place is `at`, has no cell of a 1004 yet.
 pub(crate) fn first_satellites<'a>(
-    sets: &VecDeque<EpochSet>,
+    sets: &VecDeque<GatheredSet>,
     at: usize,
     epoch: GpsMs,
     message: Borrowed<'a>,
@@ -48,7 +48,7 @@ pub(crate) fn first_satellites<'a>(
 // Takes the satellites of the first 1004 of the epoch at a place. If memory is refused, no epoch
 // changes.
 fn take_first_at(
-    sets: &mut VecDeque<EpochSet>,
+    sets: &mut VecDeque<GatheredSet>,
     at: usize,
     satellites: &[Satellite],
 ) -> Result<(), AllocError>
@@ -67,7 +67,7 @@ fn take_first_at(
 
 // Opens an epoch with the satellites of its first 1004 at its place, as `open_at` does.
 fn open_first_at(
-    sets: &mut VecDeque<EpochSet>,
+    sets: &mut VecDeque<GatheredSet>,
     at: usize,
     alloc: Global,
     epoch: GpsMs,
@@ -83,26 +83,22 @@ fn open_first_at(
 {
     let mut room = first_room(sets, at, CellSource::Legacy, satellites.len() * 2);
     room.legacy.satellites = room.legacy.satellites.max(satellites.len());
-    let Ok(mut set) = EpochSet::with_room(alloc, epoch, room, spare) else {
-        return Err(AllocError);
-    };
-    if let Err(_) = set.take_first(satellites) {
-        return Err(AllocError);
-    }
+    let mut set = GatheredSet::with_room(alloc, epoch, room, spare)?;
+    set.take_first(satellites)?;
     put_at(sets, at, set)
 }
 
 /// Takes the satellites of the first 1004 of an epoch, or opens the epoch with them, as
 /// `offer_cells` takes their cells. None of the cells conflicts.
 pub(crate) fn offer_first(
-    sets: &mut VecDeque<EpochSet>,
+    sets: &mut VecDeque<GatheredSet>,
     places: usize,
     alloc: Global,
     at: usize,
     epoch: GpsMs,
     satellites: &[Satellite],
     spare: &mut Spare,
-) -> Result<Offer, AllocError>
+) -> Result<Outcome, AllocError>
     requires fits { length sets.old.items ≤ places }
     requires falls { EpochsFall sets.old.items }
     requires place { at ≡ leading epoch sets.old.items }
@@ -115,17 +111,13 @@ pub(crate) fn offer_first(
     ensures spare { AreSpare spare.new }
 {
     if has_epoch(sets, at, epoch) {
-        if let Err(_) = take_first_at(sets, at, satellites) {
-            return Err(AllocError);
-        }
-        return Ok(Offer::Taken { closed: None });
+        take_first_at(sets, at, satellites)?;
+        return Ok(Outcome::Taken { closed: None });
     }
     if at == places {
-        return Ok(Offer::Late);
+        return Ok(Outcome::Late);
     }
-    if let Err(_) = open_first_at(sets, at, alloc, epoch, satellites, spare) {
-        return Err(AllocError);
-    }
+    open_first_at(sets, at, alloc, epoch, satellites, spare)?;
     let closed = close_least(sets, places);
-    Ok(Offer::Taken { closed })
+    Ok(Outcome::Taken { closed })
 }

@@ -1,14 +1,25 @@
-//! Laws over the definitions: what late arrivals, repeats and the order of arrivals change; and a law
-//! of `==`.
+//! Laws over the definitions: what a window answers and becomes; what late arrivals, repeats and the
+//! order of arrivals change; and a law of `==`.
 //!
 //! Each function here does nothing. Its contract is the law, and a caller that calls it may cite
 //! it; proofs of other crates cite the same facts from `proofs/PublicLaws.antt`.
 
 ghost use Rattle.std.specs.Prelude.{◌≡◌, ◌↔◌, IsTrue};
 ghost use Rattle.rtk_collect.specs.declared.conflicts.SatelliteCode.{SatelliteCode};
-ghost use Rattle.rtk_collect.specs.Laws.{LateArrivalsChangeNothing, ClosedOnlyGrow, ClosedFall, ClosedAfter, ClosedAreRest, ClosedAreCounted, FirstIsPreferred, ExcusedIsKept, StationsAreFinal, KeptAreTaken, SetDecides, LateLeavesKept, InTimeJoinsKept, KeptOpensNone, GreaterOpens, LesserJoinsOthers, SameJoins, KeptFall, KeptRise, OrderedAreSame, KeptAreFew, KeptAreGreatest, OpeningConflictsNot, ClosingConflictsNot, KeysAreDistinct, EqualityDecides, FirstIsKept};
+ghost use Rattle.rtk_collect.specs.Laws.{LateArrivalsChangeNothing, ClosedOnlyGrow, ClosedFall, ClosedAfter, ClosedAreRest, ClosedAreCounted, FirstIsPreferred, ExcusedIsKept, StationsAreFinal, KeptAreTaken, SetDecides, LateLeavesKept, InTimeJoinsKept, KeptOpensNone, GreaterOpens, LesserJoinsOthers, SameJoins, KeptFall, KeptRise, OrderedAreSame, KeptAreFew, KeptAreGreatest, OpeningConflictsNot, ClosingConflictsNot, KeysAreDistinct, EqualityDecides, FirstIsKept, NewWindowIsEmpty, WindowsAnswer, AnswersAreUnique, WindowsAreUnique};
 
 use crate::conflicts::SatelliteCode;
+
+/// What an offer makes of what a window represents, and what it answers. A `Collector` and a `Gatherer`
+/// that hold nothing represent no arrivals. One that represents some answers a further one by what it
+/// holds (`outcome_in`, with the conflicts `conflicts_in`), and it represents all of them afterwards, when
+/// it is `next_window`. No other answer is right, and no other window represents them.
+pub fn collector_laws()
+    ensures new { NewWindowIsEmpty }
+    ensures answers { WindowsAnswer }
+    ensures one_answer { AnswersAreUnique }
+    ensures one_window { WindowsAreUnique }
+{}
 
 /// If all late arrivals are deleted, a further arrival is late exactly if it was late before the
 /// deletion, and what is kept is the same.

@@ -1,6 +1,6 @@
-//! What is left of a window at its end.
+//! What is left of a collector at its end.
 
-ghost use Rattle.std.specs.Prelude.{◌≡◌, ℕ, ◌<◌, List, [], ◌∷◌, ◌++◌, IfSome, IfNone, All, option_to_list};
+ghost use Rattle.std.specs.Prelude.{◌≡◌, ℕ, ◌<◌, List, [], ◌∷◌, ◌++◌, IfSome, IfNone, All};
 ghost use Rattle.rtk_collect.specs.Arrival.{Arrival};
 ghost use Rattle.rtk_collect.specs.Collector.{IsLeftView, KeepsStations};
 ghost use Rattle.rtk_collect.specs.Offered.{NotBelow};
@@ -8,19 +8,19 @@ ghost use Rattle.rtk_collect.specs.StationPosition.{IsPosition, IsPositionOf};
 
 use crate::epoch_set::EpochSet;
 use crate::stations::{StationMessages, position};
+use crate::window::take_last;
 use rtk_obs::Position;
 use std::collections::VecDeque;
 use std::marker::Model;
 
-/// The epochs that a window had at its end, with the first 1005 and 1006.
+/// The epochs that a collector had at its end, with the first 1005 and 1006.
 #[derive(Drop)]
 pub struct Left {
     sets: VecDeque<EpochSet>,
     stations: StationMessages,
 }
 
-// Clauses see the epochs that are left, from the greatest to the least, the 1005 and the 1006. The
-// invariant names every field, as that of a collector does.
+// Clauses see the epochs that are left, from the greatest to the least, the 1005 and the 1006.
 impl Model for Left {
     ghost use Rattle.std.specs.Prelude.{◌≡◌};
     ghost use Rattle.rtk_collect.specs.Collector.{LeftView, IsLeftView};
@@ -32,14 +32,6 @@ impl Model for Left {
     ghost invariant = { λ l. (l ≡ record { sets = l.sets; stations = l.stations })
         × IsLeftView (record { sets = l.sets.items; arp1005 = l.stations.arp1005; arp1006 = l.stations.arp1006 })
         × (l.stations ≡ record { arp1005 = l.stations.arp1005; arp1006 = l.stations.arp1006 }) };
-}
-
-// Takes out the epoch that stands last: the least one, since a window's epochs fall.
-fn take_last(sets: &mut VecDeque<EpochSet>) -> Option<EpochSet>
-    ensures order { sets.old.items ≡ sets.new.items ++ option_to_list result }
-    ensures none { IfNone result (sets.old.items ≡ []) }
-{
-    sets.pop_back()
 }
 
 impl Left {

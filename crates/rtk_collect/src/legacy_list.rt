@@ -116,12 +116,8 @@ impl LegacyList {
     {
         let mut first = if_of_room(alloc, self.first, room.satellites);
         let mut cells = if_of_room(alloc, self.cells, room.cells);
-        if let Err(_) = first.reserve_exact(room.satellites) {
-            return Err(AllocError);
-        }
-        if let Err(_) = cells.reserve(room.cells) {
-            return Err(AllocError);
-        }
+        first.reserve_exact(room.satellites)?;
+        cells.reserve(room.cells)?;
         Ok(LegacyList {
             first,
             cells,
@@ -169,12 +165,8 @@ impl LegacyList {
     {
         self.first.clear();
         self.cells.clear();
-        if let Err(_) = self.cells.reserve(satellites.len() * 2) {
-            return Err(AllocError);
-        }
-        if let Err(_) = self.first.extend_from_slice(satellites) {
-            return Err(AllocError);
-        }
+        self.cells.reserve(satellites.len() * 2)?;
+        self.first.extend_from_slice(satellites)?;
         self.satellites = satellites.len();
         Ok(())
     }

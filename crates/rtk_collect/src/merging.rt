@@ -57,10 +57,7 @@ pub(crate) fn join_list(
 {
     if rises && list.is_empty() {
         // The common case: the first message of its kind, whose cells are copied as they stand.
-        // `?` would do the same, but then the proof of each clause on `Err` is a step longer.
-        if let Err(_) = list.extend_from_slice(cells) {
-            return Err(AllocError);
-        }
+        list.extend_from_slice(cells)?;
         return Ok(cells.len());
     }
     let count = count_new(cells, list, found);
@@ -87,9 +84,7 @@ fn join_rising(
     ensures err { OnErr result (list.new.items ≡ list.old.items) }
 {
     let kept = list.len();
-    if let Err(_) = list.reserve_exact(count) {
-        return Err(AllocError);
-    }
+    list.reserve_exact(count)?;
     // What stands in the new places is overwritten.
     let Ok(()) = list.extend_from_slice(&cells[..count]) else {
         unreachable!()
@@ -113,9 +108,7 @@ fn join_other(
     ensures conflicts { IfOk result (λ n. found.new ≡ conflicts cells.now list.old.items) }
     ensures err { OnErr result (list.new.items ≡ list.old.items) }
 {
-    if let Err(_) = list.reserve(count) {
-        return Err(AllocError);
-    }
+    list.reserve(count)?;
     merge(list, cells, found);
     Ok(count)
 }

@@ -2,14 +2,20 @@
 
 ghost use Rattle.rtk_message.specs.Arp1005 as arp1005_spec;
 ghost use Rattle.rtk_message.specs.Arp1006 as arp1006_spec;
-ghost use Rattle.std.specs.Prelude.{◌≡◌};
+ghost use Rattle.rtk_message.specs.declared.any_message.AnyMessage.TheVariants as AnyMessage;
+ghost use Rattle.rtk_message.specs.Decoded.{IsValid, tow_of};
+ghost use Rattle.std.specs.Prelude.{◌≡◌, ◌==◌, ℕ, List, [], length, None};
 ghost use Rattle.std.specs.Option.{ForSome};
 ghost use Rattle.rtk_obs.specs.PositionFields.{HasFields};
+ghost use Rattle.rtk_collect.specs.Arrival.{At};
+ghost use Rattle.rtk_collect.specs.EpochSet.{EpochSetView};
+ghost use Rattle.rtk_collect.specs.Offered.{AnswersArrival};
 ghost use Rattle.rtk_collect.specs.StationPosition.{IsPosition};
-ghost use Rattle.rtk_collect.specs.Steps.Slot.{AnswersStationMessage};
+ghost use Rattle.rtk_collect.specs.Steps.Observed.{ListsConflicts};
+ghost use Rattle.rtk_collect.specs.Steps.Slot.{AnswersStationMessage, window_of};
 
-use crate::offer::Offer;
-use rtk_message::{Arp1005, Arp1006};
+use crate::outcome::Outcome;
+use rtk_message::{Arp1005, Arp1006, Message};
 use rtk_obs::Position;
 
 /// The first 1005 and the first 1006 of the one station whose messages come.
@@ -19,29 +25,61 @@ pub(crate) struct StationMessages {
     pub(crate) arp1006: Option<Arp1006>,
 }
 
-/// Keeps a station message if it is the first of its number and the window isn't full, and says
-/// what became of it.
-pub(crate) fn keep_station_message<T: PartialEq + Copy>(
+impl StationMessages {
+    /// No station message.
+    pub(crate) fn new() -> StationMessages
+        ensures { result ≡ record { arp1005 = None; arp1006 = None } }
+    {
+        StationMessages {
+            arp1005: None,
+            arp1006: None,
+        }
+    }
+
+    /// Takes a 1005 or 1006, if it is the first of its number and the window isn't full. No cell of it
+    /// conflicts.
+    pub(crate) fn offer(&mut self, message: &Message, full: bool) -> Outcome
+        requires valid { IsValid message.now }
+        requires station { tow_of message.now ≡ None }
+        requires fits_1005 { ForSome self.old.arp1005 arp1005_spec.IsValid }
+        requires fits_1006 { ForSome self.old.arp1006 arp1006_spec.IsValid }
+        ensures answer { (n : ℕ) (sets : List EpochSetView) → full ≡ (length sets == n)
+            → AnswersArrival (window_of n sets self.old) (At None (AnyMessage.Message message.now)) result [] (window_of n sets self.new) }
+        ensures fits_1005 { ForSome self.new.arp1005 arp1005_spec.IsValid }
+        ensures fits_1006 { ForSome self.new.arp1006 arp1006_spec.IsValid }
+        ensures none { ListsConflicts result [] }
+    {
+        match message {
+            Message::Arp1005(message) => { keep_station_message(&mut self.arp1005, *message, full) }
+            Message::Arp1006(message) => { keep_station_message(&mut self.arp1006, *message, full) }
+            _ => unreachable!(),
+        }
+    }
+}
+
+// Keeps a station message if it is the first of its number and the window isn't full, and says
+// what became of it.
+fn keep_station_message<T: PartialEq + Copy>(
     slot: &mut Option<T>,
     message: T,
     full: bool,
-) -> Offer
+) -> Outcome
     ensures { AnswersStationMessage T.eq slot.old message full result slot.new }
 {
     if let Some(first) = *slot {
         if first == message {
-            return Offer::Repeat;
+            return Outcome::Repeat;
         }
         if full {
-            return Offer::Late;
+            return Outcome::Late;
         }
-        return Offer::Conflict;
+        return Outcome::Conflict;
     }
     if full {
-        return Offer::Late;
+        return Outcome::Late;
     }
     *slot = Some(message);
-    Offer::Taken { closed: None }
+    Outcome::Taken { closed: None }
 }
 
 /// The position of the 1006, else of the 1005, else zeros, with the height of the 1006, else zero.

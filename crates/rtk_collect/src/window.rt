@@ -5,7 +5,7 @@
 //! full window is below a bound, then the epoch that closes is not below it; so the epochs that go
 //! out rise, and callers need no history for that.
 
-ghost use Rattle.std.specs.Prelude.{◌≡◌, ◌≢◌, ◌<◌, ◌≤◌, ◌+◌, ◌++◌, [], not, min, IsTrue, length, IfOk, OnErr, OnOk, All, slice_index_or, slice_set, option_to_list};
+ghost use Rattle.std.specs.Prelude.{◌≡◌, ◌≢◌, ◌<◌, ◌≤◌, ◌+◌, ◌++◌, [], not, min, IsTrue, length, IfNone, IfOk, OnErr, OnOk, All, slice_index_or, slice_set, option_to_list};
 ghost use Rattle.std.specs.List.{insert};
 ghost use Rattle.rtk_obs.specs.Cell.{IsInRange};
 ghost use Rattle.rtk_obs.specs.MessageCells.{AreOfOneKind};
@@ -17,16 +17,16 @@ ghost use Rattle.rtk_collect.specs.Steps.Room.{room_for, AreSpare};
 ghost use Rattle.rtk_collect.specs.Steps.Observed.{IsAnswerOf, AddsCells, WouldTakeCells};
 
 use crate::conflicts::Conflicts;
-use crate::epoch_set::{EpochSet, Room, Spare};
+use crate::gathered_set::{GatheredSet, Room, Spare};
 use crate::legacy_list::LegacyRoom;
 use crate::merging::source_of;
-use crate::offer::Offer;
+use crate::outcome::Outcome;
 use rtk_obs::{CellEntry, CellSource, GpsMs};
 use std::alloc::{AllocError, Global};
 use std::collections::VecDeque;
 
 /// The place of an epoch in the window: how many of the window's epochs are greater.
-pub(crate) fn place_of_epoch(sets: &VecDeque<EpochSet>, epoch: GpsMs) -> usize
+pub(crate) fn place_of_epoch(sets: &VecDeque<GatheredSet>, epoch: GpsMs) -> usize
     requires { EpochsFall sets.now.items }
     ensures { result ≡ leading epoch sets.now.items }
 {
@@ -48,7 +48,7 @@ pub(crate) fn place_of_epoch(sets: &VecDeque<EpochSet>, epoch: GpsMs) -> usize
 }
 
 /// Whether the window has this epoch, whose place is `at`.
-pub(crate) fn has_epoch(sets: &VecDeque<EpochSet>, at: usize, epoch: GpsMs) -> bool
+pub(crate) fn has_epoch(sets: &VecDeque<GatheredSet>, at: usize, epoch: GpsMs) -> bool
     requires place { at ≡ leading epoch sets.now.items }
     ensures found { IsTrue result → (at < length sets.now.items)
         × ((d : EpochSetView) → (slice_index_or sets.now.items at d).epoch ≡ epoch) }
@@ -61,7 +61,7 @@ pub(crate) fn has_epoch(sets: &VecDeque<EpochSet>, at: usize, epoch: GpsMs) -> b
 /// Joins cells to the epoch at a place, and says how many are new; those that conflict are added to
 /// an empty list. If `rises`, the keys of the cells rise. If memory is refused, no epoch changes.
 pub(crate) fn join_at(
-    sets: &mut VecDeque<EpochSet>,
+    sets: &mut VecDeque<GatheredSet>,
     at: usize,
     cells: &[CellEntry],
     rises: bool,
@@ -89,7 +89,7 @@ pub(crate) fn join_at(
 // same cells.
 #[inline(always)]
 pub(crate) fn first_room(
-    sets: &VecDeque<EpochSet>,
+    sets: &VecDeque<GatheredSet>,
     at: usize,
     source: CellSource,
     cells: usize,
@@ -125,7 +125,7 @@ pub(crate) fn first_room(
 /// another are added to an empty list. If `rises`, the keys of the cells rise. All memory is taken before
 /// an epoch changes.
 pub(crate) fn open_at(
-    sets: &mut VecDeque<EpochSet>,
+    sets: &mut VecDeque<GatheredSet>,
     at: usize,
     alloc: Global,
     epoch: GpsMs,
@@ -147,42 +147,30 @@ pub(crate) fn open_at(
     ensures spare { AreSpare spare.new }
 {
     let room = first_room(sets, at, source_of(cells), cells.len());
-    let Ok(mut set) = EpochSet::with_room(alloc, epoch, room, spare) else {
-        return Err(AllocError);
-    };
-    if let Err(_) = set.join(cells, rises, found) {
-        return Err(AllocError);
-    }
+    let mut set = GatheredSet::with_room(alloc, epoch, room, spare)?;
+    set.join(cells, rises, found)?;
     put_at(sets, at, set)
 }
 
-// Puts an epoch at a place.
+/// Puts an epoch at a place.
 #[inline(always)]
-pub(crate) fn put_at(
-    sets: &mut VecDeque<EpochSet>,
-    at: usize,
-    set: EpochSet,
-) -> Result<(), AllocError>
+pub(crate) fn put_at<S: Drop>(sets: &mut VecDeque<S>, at: usize, set: S) -> Result<(), AllocError>
     requires { at ≤ length sets.old.items }
     ensures items { OnOk result (sets.new.items ≡ insert sets.old.items at set) }
     ensures err { OnErr result (sets.new.items ≡ sets.old.items) }
 {
     // The common case: an epoch after all of the window.
     if at == 0 {
-        if let Err(_) = sets.push_front(set) {
-            return Err(AllocError);
-        }
+        sets.push_front(set)?;
         return Ok(());
     }
-    if let Err(_) = sets.insert(at, set) {
-        return Err(AllocError);
-    }
+    sets.insert(at, set)?;
     Ok(())
 }
 
 /// Takes out the least epoch, if there are more epochs than places.
 #[inline(always)]
-pub(crate) fn close_least(sets: &mut VecDeque<EpochSet>, places: usize) -> Option<EpochSet>
+pub(crate) fn close_least<S: Drop>(sets: &mut VecDeque<S>, places: usize) -> Option<S>
     requires { length sets.old.items ≤ places + 1 }
     ensures items { sets.old.items ≡ sets.new.items ++ option_to_list result }
     ensures few { length sets.new.items ≡ min places (length sets.old.items) }
@@ -194,11 +182,19 @@ pub(crate) fn close_least(sets: &mut VecDeque<EpochSet>, places: usize) -> Optio
     }
 }
 
+/// Takes out the epoch that stands last: the least one, since a window's epochs fall.
+pub(crate) fn take_last<S: Drop>(sets: &mut VecDeque<S>) -> Option<S>
+    ensures order { sets.old.items ≡ sets.new.items ++ option_to_list result }
+    ensures none { IfNone result (sets.old.items ≡ []) }
+{
+    sets.pop_back()
+}
+
 /// Takes the new cells of an epoch, whose place is `at`, or opens it, in a window that has this number
 /// of places and spare lists; those that conflict are added to an empty list, which stays empty if memory
 /// is refused. If `rises`, the keys of the cells rise.
 pub(crate) fn offer_cells(
-    sets: &mut VecDeque<EpochSet>,
+    sets: &mut VecDeque<GatheredSet>,
     places: usize,
     alloc: Global,
     at: usize,
@@ -207,7 +203,7 @@ pub(crate) fn offer_cells(
     rises: bool,
     spare: &mut Spare,
     found: &mut Conflicts,
-) -> Result<Offer, AllocError>
+) -> Result<Outcome, AllocError>
     requires fits { length sets.old.items ≤ places }
     requires falls { EpochsFall sets.old.items }
     requires place { at ≡ leading epoch sets.old.items }
@@ -224,32 +220,28 @@ pub(crate) fn offer_cells(
     ensures spare { AreSpare spare.new }
 {
     if has_epoch(sets, at, epoch) {
-        let Ok(fresh) = join_at(sets, at, cells, rises, found) else {
-            found.clear();
-            return Err(AllocError);
-        };
+        let joined = join_at(sets, at, cells, rises, found);
+        let fresh = found.cleared_if_refused(joined)?;
         return Ok(answer_of_joined(fresh, found));
     }
     if at == places {
-        return Ok(Offer::Late);
+        return Ok(Outcome::Late);
     }
-    if let Err(_) = open_at(sets, at, alloc, epoch, cells, rises, spare, found) {
-        found.clear();
-        return Err(AllocError);
-    }
+    let opened = open_at(sets, at, alloc, epoch, cells, rises, spare, found);
+    found.cleared_if_refused(opened)?;
     let closed = close_least(sets, places);
-    Ok(Offer::Taken { closed })
+    Ok(Outcome::Taken { closed })
 }
 
-// What became of cells that joined an epoch of the window, by how many were new and which conflict.
-fn answer_of_joined(fresh: usize, found: &Conflicts) -> Offer
+/// What became of cells that joined an epoch of the window, by how many were new and which conflict.
+pub(crate) fn answer_of_joined(fresh: usize, found: &Conflicts) -> Outcome
     ensures { IsAnswerOf fresh found.now result }
 {
     if fresh > 0 {
-        return Offer::Taken { closed: None };
+        return Outcome::Taken { closed: None };
     }
     if found.is_empty() {
-        return Offer::Repeat;
+        return Outcome::Repeat;
     }
-    Offer::Conflict
+    Outcome::Conflict
 }

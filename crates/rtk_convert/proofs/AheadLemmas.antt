@@ -5,8 +5,8 @@ use Rattle.std.specs.Prelude.{All}
 use Rattle.std.proofs.lemmas.List.Elements.{All-weaker}
 use Rattle.rtk_obs.specs.declared.track.Track.{Track}
 use Rattle.rtk_obs.specs.Tracks.{IsLater, track_at}
-use Rattle.rtk_collect.specs.declared.offer.Offer.{Offer}
-use Rattle.rtk_collect.specs.declared.offer.Offer.TheVariants.{Taken, Conflict, Repeat, Late}
+use Rattle.rtk_collect.specs.declared.outcome.Outcome.{Outcome}
+use Rattle.rtk_collect.specs.declared.outcome.Outcome.TheVariants.{Taken, Conflict, Repeat, Late}
 use Rattle.rtk_collect.specs.EpochSet.{EpochSetView}
 use Rattle.rtk_collect.specs.Collector.{CollectorView}
 use Rattle.rtk_collect.specs.Offered.{ClosesBelow, ClosesLeast, LeastNeverFalls, NotBelow}
@@ -41,14 +41,14 @@ same-set : (set e : EpochSetView) → Some set ≡ Some e → set ≡ e
 unfolding or_none
 same-set set e h = ap or_none h
 
-closes-least : (n : ℕ) (sets : List EpochSetView) (offer : Offer) (e : EpochSetView) → closed_by offer ≡ Some e → ClosesLeast n sets offer → (length sets ≡ n) × NotBelow e sets
+closes-least : (n : ℕ) (sets : List EpochSetView) (offer : Outcome) (e : EpochSetView) → closed_by offer ≡ Some e → ClosesLeast n sets offer → (length sets ≡ n) × NotBelow e sets
 closes-least n sets (Taken (Some set)) e some h = (h.0, subst (λ (x : EpochSetView). NotBelow x sets) (same-set set e some) h.2)
 closes-least n sets (Taken None) e some h = cc
 closes-least n sets Conflict e some h = cc
 closes-least n sets Repeat e some h = cc
 closes-least n sets Late e some h = cc
 
-closes-below : (sets : List EpochSetView) (offer : Offer) (e : EpochSetView) → closed_by offer ≡ Some e → ClosesBelow offer sets → All (λ x. e.epoch < x.epoch) sets
+closes-below : (sets : List EpochSetView) (offer : Outcome) (e : EpochSetView) → closed_by offer ≡ Some e → ClosesBelow offer sets → All (λ x. e.epoch < x.epoch) sets
 closes-below sets (Taken (Some set)) e some h = subst (λ (x : EpochSetView). All (λ y. x.epoch < y.epoch) sets) (same-set set e some) h
 closes-below sets (Taken None) e some h = cc
 closes-below sets Conflict e some h = cc
@@ -60,7 +60,7 @@ under-closes None w e least h = tt
 under-closes (Some t) w e least h = let l = least (suc t.epoch) (bound t.epoch w.sets h.1) in omega (arith, l)
 
 -- the epoch that closes is above all last phases
-pub ahead-closes : (old : CollectorView) (c : ClosedEpochsView) (offer : Offer) (e : EpochSetView) → closed_by offer ≡ Some e → ClosesLeast old.places old.sets offer → IsAhead old c → AllBelow c.tracks e.epoch
+pub ahead-closes : (old : CollectorView) (c : ClosedEpochsView) (offer : Outcome) (e : EpochSetView) → closed_by offer ≡ Some e → ClosesLeast old.places old.sets offer → IsAhead old c → AllBelow c.tracks e.epoch
 ahead-closes old c offer e some least h sat code hs =
     under-closes (track_at c.tracks sat code) old e (closes-least old.places old.sets offer e some least).1 (h sat code hs)
 
@@ -70,7 +70,7 @@ under-after (Some t) e w full below h =
     (full, All-weaker (λ (x : EpochSetView). e.epoch < x.epoch) (λ (x : EpochSetView). t.epoch < x.epoch) (λ x l. omega (arith, l, h)) w.sets below)
 
 -- and the window stays ahead of its phases too
-pub ahead-after : (old new : CollectorView) (c : ClosedEpochsView) (offer : Offer) (e : EpochSetView) → closed_by offer ≡ Some e → ClosesLeast old.places old.sets offer → ClosesBelow offer new.sets
+pub ahead-after : (old new : CollectorView) (c : ClosedEpochsView) (offer : Outcome) (e : EpochSetView) → closed_by offer ≡ Some e → ClosesLeast old.places old.sets offer → ClosesBelow offer new.sets
     → LeastNeverFalls old new → AllBelow c.tracks (suc e.epoch) → IsAhead new c
 ahead-after old new c offer e some least below never h sat code hs =
     under-after (track_at c.tracks sat code) e new (never (closes-least old.places old.sets offer e some least).0).0 (closes-below new.sets offer e some below) (h sat code hs)

@@ -6,7 +6,7 @@ use Rattle.std.proofs.lemmas.List.Elements.{All-take, All-set, All-replicate}
 use Rattle.rtk_frame.specs.Frames.{final_frames, frames, payloads, pending}
 use Rattle.rtk_frame.specs.ScannerView.{scanner_view}
 use Rattle.rtk_collect.specs.declared.conflicts.SatelliteCode.{SatelliteCode}
-use Rattle.rtk_collect.specs.declared.offer.Offer.{Offer}
+use Rattle.rtk_collect.specs.declared.outcome.Outcome.{Outcome}
 use Rattle.rtk_collect.specs.Accepted.{kept}
 use Rattle.rtk_collect.specs.Arrival.{Arrival}
 use Rattle.rtk_collect.specs.Collector.{CollectorView}
@@ -25,7 +25,7 @@ use Rattle.rtk_convert.proofs.ConverterLemmas.{converter, feeds, feeds-part, clo
 use Rattle.rtk_convert.proofs.WritingLemmas.{if_err-map}
 
 -- a window still holds what is kept of some arrivals once a message was offered
-pub held-offered : (w w' : CollectorView) (a : Arrival) (offer : Offer) (listed : List SatelliteCode) → AnswersArrival w a offer listed w' → HoldsArrivals w → HoldsArrivals w'
+pub held-offered : (w w' : CollectorView) (a : Arrival) (offer : Outcome) (listed : List SatelliteCode) → AnswersArrival w a offer listed w' → HoldsArrivals w → HoldsArrivals w'
 held-offered w w' a offer listed answers p = (a ∷ p.0, (answers p.0 p.1).1)
 
 -- the epochs of a window are among the kept ones, and each of these has few cells

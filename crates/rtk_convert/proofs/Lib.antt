@@ -36,3 +36,6 @@ mod CallsLemmas
 mod HistoryLemmas
 mod CountLemmas
 mod ReportLemmas
+mod SameWindowLemmas
+mod SameFoundLemmas
+mod SameHistoryLemmas

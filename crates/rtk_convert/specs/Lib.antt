@@ -28,4 +28,5 @@ pub mod Headline
 pub mod Kept
 pub mod CallLaws
 pub mod HistoryLaws
+pub mod ConverterLaws
 pub mod Steps

@@ -14,7 +14,7 @@ use crate::fault::ConvertFault;
 use crate::setup::Setup;
 use crate::writing::write_record;
 use arrayvec::ArrayVec;
-use rtk_collect::{EpochSet, Left};
+use rtk_collect::{GatheredSet, GatheredSets};
 use rtk_frame::Sink;
 use rtk_obs::{CellEntry, Position, Tracks};
 use rtk_rinex::RecordLines;
@@ -103,7 +103,7 @@ impl ClosedEpochs {
         alloc: Global,
         setup: &Setup,
         position: &Position,
-        set: &EpochSet,
+        set: &GatheredSet,
         out: &mut O,
     ) -> Result<(), ConvertFault>
         requires { AllBelow self.old.tracks set.now.epoch }
@@ -147,7 +147,7 @@ pub(crate) fn close_remaining<O: Sink>(
     setup: &Setup,
     position: &Position,
     closed_epochs: &mut ClosedEpochs,
-    left: &mut Left,
+    left: &mut GatheredSets,
     out: &mut O,
 ) -> Result<(), ConvertFault>
     requires above { AllAbove closed_epochs.old left.old.sets }

@@ -23,7 +23,7 @@ use crate::link_number::LinkNumber;
 use crate::report;
 use crate::setup::Setup;
 use crate::writing::{write_header_if_none, write_lines};
-use rtk_collect::{Collector, Conflicts, Dated, EpochSet, Offer};
+use rtk_collect::{Conflicts, DatedRef, GatheredSet, Gatherer, Outcome};
 use rtk_frame::Sink;
 use rtk_message::AnyDecoder;
 use rtk_obs::GpsMs;
@@ -38,7 +38,7 @@ use std::marker::Model;
 pub(crate) struct Conversion {
     alloc: Global,
     setup: Setup,
-    collector: Collector,
+    collector: Gatherer,
     closed_epochs: ClosedEpochs,
     counts: Counts,
     stopped: bool,
@@ -85,7 +85,7 @@ impl Conversion {
         ensures { IfOk result (IsNewConversion setup) }
     {
         let closed_epochs = ClosedEpochs::new(alloc)?;
-        let collector = Collector::new(alloc, setup.window());
+        let collector = Gatherer::new(alloc, setup.window());
         Ok(Conversion {
             alloc,
             setup,
@@ -187,7 +187,7 @@ impl Conversion {
     fn handle_message<O: Sink, L: Sink>(
         &mut self,
         link: LinkNumber,
-        dated: Dated<'_>,
+        dated: DatedRef<'_>,
         out: &mut O,
         log: &mut L,
     ) -> Result<(), ConvertFault>
@@ -245,23 +245,23 @@ impl Conversion {
 }
 
 // The epoch that is closed by a message with this answer.
-fn closed_by(offer: Offer) -> Option<EpochSet>
+fn closed_by(offer: Outcome) -> Option<GatheredSet>
     ensures { result ≡ closed_by offer }
 {
     match offer {
-        Offer::Taken { closed, .. } => closed,
+        Outcome::Taken { closed, .. } => closed,
         _ => None,
     }
 }
 
 // Counts a message with this answer.
-fn count_message(counts: &mut Counts, offer: &Offer)
+fn count_message(counts: &mut Counts, offer: &Outcome)
     ensures { counts.new ≡ counted_as (class_of_offer offer.now) counts.old }
 {
     match offer {
-        Offer::Late => counts.late = counts.late.saturating_add(1),
-        Offer::Taken { .. } => counts.taken = counts.taken.saturating_add(1),
-        Offer::Repeat => counts.repeat = counts.repeat.saturating_add(1),
-        Offer::Conflict => counts.conflict = counts.conflict.saturating_add(1),
+        Outcome::Late => counts.late = counts.late.saturating_add(1),
+        Outcome::Taken { .. } => counts.taken = counts.taken.saturating_add(1),
+        Outcome::Repeat => counts.repeat = counts.repeat.saturating_add(1),
+        Outcome::Conflict => counts.conflict = counts.conflict.saturating_add(1),
     }
 }

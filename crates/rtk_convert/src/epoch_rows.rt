@@ -23,7 +23,7 @@ ghost use Rattle.rtk_convert.specs.LastPhases.{HasLastPhases};
 ghost use Rattle.rtk_convert.specs.Steps.ShownCells.{AllBelow, MayStep, IsPlaceOf, IsLeastAt, HasCellsFrom, TellsSatellite, IsSetOfCodes, AreCellsTo, ShowsRow, ShowsSome, StepsOver, TakesCells, ArePlaces, HasFreeOf, IsFreeOf, with_code};
 
 use arrayvec::ArrayVec;
-use rtk_collect::EpochSet;
+use rtk_collect::GatheredSet;
 use rtk_obs::{Cell, CellEntry, Code, Digits, GpsMs, Tracks, rolled};
 use rtk_rinex::{Observed, RecordLines};
 use std::alloc::AllocError;
@@ -267,7 +267,7 @@ fn fill_line(
 /// memory is refused nothing is said of the lines and the last phases.
 pub(crate) fn push_rows(
     tracks: &mut Tracks,
-    set: &EpochSet,
+    set: &GatheredSet,
     listed: &[Code],
     lines: &mut RecordLines,
     room: &mut ArrayVec<CellEntry, 64>,

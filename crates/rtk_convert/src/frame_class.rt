@@ -7,7 +7,7 @@ ghost use Rattle.rtk_message.specs.AnyDecoded.{DecodesBy, IsValid};
 ghost use Rattle.rtk_convert.specs.FrameClass.{IsDatedMessage, IsClassOfReading};
 
 use crate::setup::Setup;
-use rtk_collect::Dated;
+use rtk_collect::DatedRef;
 use rtk_message::{Accepted, AnyDecoder, AnyFault, AnyMessage};
 use rtk_obs::date;
 
@@ -21,7 +21,7 @@ pub enum FrameClass<'a> {
     /// A message of another station.
     Foreign,
     /// A message of the chosen station, with its epoch.
-    Dated(Dated<'a>),
+    Dated(DatedRef<'a>),
 }
 
 /// What a payload is read as, by the messages that the setup takes. It is lent until the next call.
@@ -36,15 +36,15 @@ pub(crate) fn read_message<'a>(
 }
 
 // A message with its epoch: the moment of its time of week that is nearest to the reference.
-fn dated_message<'a>(setup: &Setup, message: &'a AnyMessage) -> Dated<'a>
+fn dated_message<'a>(setup: &Setup, message: &'a AnyMessage) -> DatedRef<'a>
     requires { IsValid message.now }
     ensures { IsDatedMessage setup.now message.now result }
 {
     let Some(tow) = message.tow() else {
-        return Dated::of_any(message, None);
+        return DatedRef::of_any(message, None);
     };
     let epoch = date(setup.near(), tow);
-    Dated::of_any(message, Some(epoch))
+    DatedRef::of_any(message, Some(epoch))
 }
 
 /// The class of a payload that is read so: of a message, which it borrows, or of a fault.

@@ -2,6 +2,7 @@
 
 ghost use Rattle.rtk_convert.specs.ArrivalLaws.{OneSetHasOneFile, LateLeaveFile, SoFarBegins, HeaderIsFinal, OthersLeaveFile, KeptFileIsTable, FrameAddsToOne};
 ghost use Rattle.rtk_convert.specs.CallLaws.{CallsKeepPromise, CallsWriteKept, CallsComeToTable};
+ghost use Rattle.rtk_convert.specs.ConverterLaws.{LinkDecidesRefusal, LinkHoldsNewest, WaitingDecidesFrames, HeldDecidesCall, HeldDecidesEnd};
 ghost use Rattle.rtk_convert.specs.CountLaws.{EachFrameInOneClass};
 ghost use Rattle.rtk_convert.specs.FileLaws.{FileIsTable};
 ghost use Rattle.rtk_convert.specs.Headline.{SetHasOneFile};
@@ -9,7 +10,9 @@ ghost use Rattle.rtk_convert.specs.HistoryLaws.{ComesToOne, FeedsToOne, ClosesTo
 ghost use Rattle.rtk_convert.specs.NumberLaws.{CountLinesTellCounts, ReportTellsCounts, EpochsAreRecords, EpochsAreOfTable};
 ghost use Rattle.rtk_convert.specs.SetupLaws.{DefaultTakesFour};
 
-use rtk_collect::{late_arrivals_change_nothing, set_decides};
+use rtk_collect::{
+    epochs_are_bounded, late_arrivals_change_nothing, set_decides, stations_are_final,
+};
 use rtk_message::decodes_by_four;
 use rtk_rinex::files_are_tables;
 
@@ -59,6 +62,22 @@ pub fn one_history_of_calls()
     ensures next { NextIsOne }
     ensures reads { ReadsComeToOne }
 {}
+
+/// What each call makes of the history that a converter has, and what it answers. `feed` and `close` are
+/// refused by what the history says of their link; `newest` answers what the link holds; `feed` and `close`
+/// find the frames of the bytes that wait on the link. What the converter holds decides the rest: whatever
+/// else the history was, the next history, what is written and the counts that `finish` answers come out
+/// the same.
+pub fn converter_laws()
+    ensures refused { LinkDecidesRefusal }
+    ensures newest { LinkHoldsNewest }
+    ensures found { WaitingDecidesFrames }
+    ensures call { HeldDecidesCall }
+    ensures end { HeldDecidesEnd }
+{
+    epochs_are_bounded();
+    stations_are_final();
+}
 
 /// What a frame adds goes to the file or to the report, never to both.
 pub fn frames_add_to_one()

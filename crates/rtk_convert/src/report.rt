@@ -8,7 +8,7 @@ ghost use Rattle.rtk_convert.specs.ReportText.{epoch_text, link_text, arrival_te
 
 use crate::counts::Counts;
 use crate::link_number::LinkNumber;
-use rtk_collect::{Offer, SatelliteCode};
+use rtk_collect::{Outcome, SatelliteCode};
 use rtk_message::{AnyFault, put_any_fault, put_named};
 use rtk_obs::{GpsMs, civil, put_civil, two_digits};
 use std::alloc::{AllocError, Global};
@@ -113,24 +113,24 @@ pub(crate) fn offer_lines(
     link: LinkNumber,
     number: u16,
     epoch: Option<GpsMs>,
-    offer: &Offer,
+    offer: &Outcome,
     conflicts: &[SatelliteCode],
 ) -> Result<Vec<u8>, AllocError>
     ensures { IfOk result (λ lines. lines.items ≡ offer_lines link number epoch offer.now conflicts.now) }
 {
     let mut lines = Vec::new(alloc);
     match offer {
-        Offer::Late => {
+        Outcome::Late => {
             put_message(&mut lines, link, b" late ", number, epoch)?;
             lines.push(b'\n')?;
         }
-        Offer::Taken { .. } => {
+        Outcome::Taken { .. } => {
             if !conflicts.is_empty() {
                 put_cell_conflicts(&mut lines, link, number, epoch, conflicts)?;
             }
         }
-        Offer::Conflict => put_conflicts(&mut lines, link, number, epoch, conflicts)?,
-        Offer::Repeat => {}
+        Outcome::Conflict => put_conflicts(&mut lines, link, number, epoch, conflicts)?,
+        Outcome::Repeat => {}
     }
     Ok(lines)
 }

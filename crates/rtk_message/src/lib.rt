@@ -7,23 +7,23 @@
 //! Its tests: tests/values/src/message.rt.in and message/
 //!
 //! ```rust
-//! use rtk_message::{Arp1005, Message, decode, encode};
+//! use rtk_message::{Message, decode, encode};
 //! use std::alloc::{AllocError, Global};
 //!
-//! // A 1005 of station 2003, written and read back.
+//! // The payload of a 1005 of station 2003.
+//! const PAYLOAD: [u8; 19] = [
+//!     0x3E, 0xD7, 0xD3, 0x02, 0x02, 0x98, 0x0E, 0xDE, 0xEF, 0x34, 0xB4, 0xBD, 0x62, 0xAC, 0x09,
+//!     0x41, 0x98, 0x6F, 0x33,
+//! ];
+//!
+//! // It is read, and written again. X is in 0.0001 m.
 //! fn example(alloc: Global) -> Result<bool, AllocError> {
-//!     let message = Message::Arp1005(Arp1005 {
-//!         station: 2003,
-//!         ..Arp1005::default()
-//!     });
-//!     if !message.fits() {
+//!     let Ok(Message::Arp1005(point)) = decode(&PAYLOAD) else {
 //!         return Ok(false);
-//!     }
-//!     let payload = encode(alloc, &message)?;
-//!     match decode(payload.as_slice()) {
-//!         Ok(read) => Ok(read.station() == 2003),
-//!         Err(_) => Ok(false),
-//!     }
+//!     };
+//!     let is_read = point.station == 2003 && point.x == 11_141_045_999;
+//!     let payload = encode(alloc, &Message::Arp1005(point))?;
+//!     Ok(is_read && payload.as_slice() == PAYLOAD.as_slice())
 //! }
 //! ```
 

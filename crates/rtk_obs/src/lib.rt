@@ -1,16 +1,33 @@
 //! Observations: GPS time, exact values of the cells of a message, loss of lock and rolls.
 //!
 //! ```rust
-//! use rtk_obs::{GpsMs, civil, date};
+//! use rtk_message::{Message, decode};
+//! use rtk_obs::{Code, GpsMs, cells_1004, civil, date};
 //! use std::alloc::{AllocError, Global};
 //!
-//! // Near 2024-03-17 00:00:00, a time of week (DF004, in ms) that is noon of that Sunday.
+//! // The payload of a 1004 with one satellite, 5.
+//! const PAYLOAD: [u8; 24] = [
+//!     0x3E, 0xC7, 0xD3, 0x71, 0x4B, 0xE8, 0x00, 0x10, 0x14, 0x98, 0x96, 0x80, 0x00, 0x00, 0x01,
+//!     0x51, 0xAD, 0x30, 0x19, 0x00, 0x00, 0x00, 0x2C, 0x60,
+//! ];
+//!
+//! // Near 2024-05-17 00:00:00 its time of week is noon of that Friday. Its pseudorange of L1 is
+//! // 21,085,472.060 m.
 //! fn example(_alloc: Global) -> Result<bool, AllocError> {
-//!     let Some(near) = GpsMs::new(1_394_668_800_000) else {
+//!     let Some(near) = GpsMs::new(1_399_939_200_000) else {
 //!         return Ok(false);
 //!     };
-//!     let noon = civil(date(near, 43_200_000));
-//!     Ok(noon.day == 17 && noon.hour == 12)
+//!     let Ok(Message::Obs1004(message)) = decode(&PAYLOAD) else {
+//!         return Ok(false);
+//!     };
+//!     let noon = civil(date(near, message.tow));
+//!     let cells = cells_1004(&message);
+//!     let has_range = cells.as_slice().iter().any(|entry| {
+//!         entry.satellite == 5
+//!             && entry.code == Code::C1C
+//!             && entry.cell.range_mm == Some(21_085_472_060)
+//!     });
+//!     Ok(noon.day == 17 && noon.hour == 12 && has_range)
 //! }
 //! ```
 //!

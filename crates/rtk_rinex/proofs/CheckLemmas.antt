@@ -16,7 +16,7 @@ use Rattle.rtk_rinex.specs.CheckLine.{IsNextSatellite, IsNextTime, IsEpochFault,
 use Rattle.rtk_rinex.specs.Lines.{IsLine}
 use Rattle.rtk_rinex.specs.CheckText.{BeginsWithFault, last_satellite, AreRows, last_time, AreEpochs, record_lines, satellite_lines}
 use Rattle.rtk_rinex.specs.declared.check_fault.Cause.{Cause}
-use Rattle.rtk_rinex.specs.declared.check_fault.Cause.TheVariants.{HeaderLine, Columns, Value, Order, Truncated}
+use Rattle.rtk_rinex.specs.declared.check_fault.Cause.TheVariants.{HeaderLine, Columns, Value, Order, Truncated, OutOfMemory}
 use Rattle.rtk_rinex.specs.declared.epoch_table.SatelliteRow.{SatelliteRow}
 use Rattle.rtk_rinex.proofs.RecordLemmas.{trim_end-front, lines_of-some}
 use Rattle.rtk_rinex.proofs.RowLemmas.{named}
@@ -81,6 +81,7 @@ satellite-fault n last text line rest Columns l e h = (line, rest, l, e, h)
 satellite-fault n last text line rest Value l e h = (line, rest, l, e, h)
 satellite-fault n last text line rest Order l e h = (line, rest, l, e, h)
 satellite-fault n last text line rest Truncated l e h = absurd h
+satellite-fault n last text line rest OutOfMemory l e h = (line, rest, l, e, h)
 
 pub epoch-fault : (first : ℕ) (last : Option ℕ) (text line rest : List ℕ) (cause : Cause) → IsLine line → text ≡ line ++ rest
     → IsEpochFault first last line cause → BeginsWithFault (IsEpochFault first last) text cause
@@ -89,6 +90,7 @@ epoch-fault first last text line rest Columns l e h = (line, rest, l, e, h)
 epoch-fault first last text line rest Value l e h = (line, rest, l, e, h)
 epoch-fault first last text line rest Order l e h = (line, rest, l, e, h)
 epoch-fault first last text line rest Truncated l e h = absurd h
+epoch-fault first last text line rest OutOfMemory l e h = (line, rest, l, e, h)
 
 -- ---- the rows of a record
 

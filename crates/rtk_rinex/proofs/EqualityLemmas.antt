@@ -6,12 +6,12 @@ use Rattle.std.proofs.lemmas.Bool.Decides.{Decides-and, Decides-like}
 use denote.Enum.Bare.{same_true, true_same}
 use Rattle.rtk_rinex.specs.declared.check_fault.Cause.{Cause}
 use Rattle.rtk_rinex.specs.declared.check_fault.CheckFault.{CheckFault}
-use Rattle.rtk_rinex.specs.declared.head.HeadFault.{HeadFault}
+use Rattle.rtk_rinex.specs.declared.head_fault.HeadFault.{HeadFault}
 use Rattle.rtk_rinex.specs.contracts.check_fault.Cause as cause_type
-use Rattle.rtk_rinex.specs.contracts.head.HeadFault as head_type
+use Rattle.rtk_rinex.specs.contracts.head_fault.HeadFault as head_type
 use Rattle.rtk_rinex.specs.contracts.check_fault.CausePartialEq.TheImpl as cause_eq
 use Rattle.rtk_rinex.specs.contracts.check_fault.CheckFaultPartialEq.TheImpl as fault_eq
-use Rattle.rtk_rinex.specs.contracts.head.HeadFaultPartialEq.TheImpl as head_eq
+use Rattle.rtk_rinex.specs.contracts.head_fault.HeadFaultPartialEq.TheImpl as head_eq
 
 pub cause_same : (a b : Cause) → Decides ((cause_eq.ghosts).eq a b) (a ≡ b)
 cause_same a b = (λ h. same_true cause_type.the_type (search rules) a b h, λ e. true_same cause_type.the_type a b e)

@@ -5,7 +5,7 @@ use Rattle.std.proofs.lemmas.Bool.Decides.{nat_tests}
 use Rattle.std.proofs.lemmas.List.{length-replicate}
 use Rattle.std.proofs.lemmas.Option.{get_or_from_slice_get}
 use Rattle.rtk_rinex.specs.declared.check_fault.Cause.{Cause}
-use Rattle.rtk_rinex.specs.declared.check_fault.Cause.TheVariants.{HeaderLine, Columns, Value, Order, Truncated}
+use Rattle.rtk_rinex.specs.declared.check_fault.Cause.TheVariants.{HeaderLine, Columns, Value, Order, Truncated, OutOfMemory}
 use Rattle.rtk_rinex.specs.declared.epoch_table.SatelliteRow.{SatelliteRow}
 use Rattle.rtk_obs.specs.CivilText.{last_digits}
 use Rattle.rtk_rinex.specs.Reading.{reading_of}
@@ -85,6 +85,7 @@ no_satellite_fault n last text Order r y b h next e =
     let satellite : r.satellite ≡ b.4.0 = one_satellite b.0 r.satellite b.4.0 h.satellite form.0 (named-row b.0 r same.0) form.1 in
     b.4.2 (rw satellite at next)
 no_satellite_fault n last text Truncated r y b h next e = no_line text (satellite_line r) y b (satellite_line-line r) e
+no_satellite_fault n last text OutOfMemory r y b h next e = b.4
 
 pub no_epoch_fault : (n first : ℕ) (last : Option ℕ) (text : List ℕ) (cause : Cause) (a : EpochTableView) (y : List ℕ)
     → BeginsWithFault (IsEpochFault first last) text cause → IsTableEpoch n a → IsNextTime first last a.time
@@ -101,3 +102,4 @@ no_epoch_fault n first last text Order a y b h next e =
     let one = one_epoch_line a.time t (length a.rows) b.4.1 h.time is.0 (count-of n a h) is.1 (sym same.0 ∙ is.2) in
     b.4.3 (rw one.0 at next)
 no_epoch_fault n first last text Truncated a y b h next e = no_line text (epoch_line (reading_of a.time) (length a.rows)) y b (epoch_line-of n a h) e
+no_epoch_fault n first last text OutOfMemory a y b h next e = b.4

@@ -1,6 +1,7 @@
 -- The lines of a header show its values.
-use Rattle.std.proofs.Common.{◌≡◌, ◌≢◌, ℕ, zero, suc, ◌+◌, ◌-◌, ◌*◌, ◌/◌, ◌%◌, ◌^◌, ◌<◌, ◌≤◌, List, [], ◌∷◌, ◌++◌, length, take, drop, replicate, get_or, slice_get, Some, None, MatchOption, IfSome, IsSomeAnd, Option, unwrap_or, decimal, codes, true, false, arith, refl, sym, ◌∙◌, ap, append_assoc, length-append, ℤ, pos, negsuc, unsigned_abs}
+use Rattle.std.proofs.Common.{◌≡◌, ◌≢◌, ℕ, zero, suc, ◌+◌, ◌-◌, ◌*◌, ◌/◌, ◌%◌, ◌^◌, ◌<◌, ◌≤◌, List, [], ◌∷◌, ◌++◌, length, take, drop, replicate, get_or, slice_get, Some, None, Result, Ok, Err, IfOk, IfErr, MatchOption, IfSome, IsSomeAnd, Option, unwrap_or, decimal, codes, true, false, arith, refl, sym, ◌∙◌, ap, subst, append_assoc, length-append, ℤ, pos, negsuc, unsigned_abs}
 use Rattle.std.specs.Int.{IsInRange}
+use Rattle.std.specs.Result.{result_ok}
 use Rattle.std.proofs.lemmas.Fmt.{length-decimal-le}
 use Rattle.std.proofs.lemmas.Int.{ints}
 use Rattle.std.proofs.lemmas.Option.{slice_get-get_or}
@@ -29,13 +30,13 @@ pub moment_read : (r : Option ℕ) (c : Civil) (t : ℕ) → IsMoment t → c �
 moment_read None c t m e h = absurd (h t m (rw e (reading-reads t m)))
 moment_read (Some u) c t m e h = ap Some (one_moment u t (reading_of t) (rw e at h) (reading-reads t m))
 
--- it is a whole second, if the reading has no milliseconds
-pub whole_read : (r : Option ℕ) (c : Civil) → c.millisecond ≡ 0
-    → MatchOption r ((t : ℕ) → IsMoment t → ¬ (ReadsAs t c)) (λ t. ReadsAs t c) → IfSome r (λ t. t % 1000 ≡ 0)
-whole_read None c e h = tt
-whole_read (Some u) c e h = omega (arith, e, h.1, h.2)
-
 -- ---- a part that a line shows, or any good one
+
+-- a call that refuses bad values alone gives a good one
+pub good_kept : {A E : Type 0} (Good : A → Type 0) (Fault : E → Type 0) (r : Result A E) (v w : A) → v ≡ w → Good w
+    → IfOk r (λ a. a ≡ v) → IfErr r (λ e. Fault e × ¬ (Good v)) → result_ok r ≡ Some w
+good_kept Good Fault (Ok a) v w e good given bad = ap Some (given ∙ e)
+good_kept Good Fault (Err x) v w e good given bad = absurd (bad.1 (subst Good (sym e) good))
 
 pub good_or : {A : Type 0} (P : A → Type 0) (r : Option A) (d : A) → IfSome r P → P d → P (unwrap_or r d)
 good_or P None d h g = g

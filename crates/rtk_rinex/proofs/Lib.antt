@@ -34,3 +34,4 @@ mod WrittenLemmas
 mod EqualityLemmas
 mod RecordsLemmas
 mod RecordLinesLemmas
+mod KeptLemmas

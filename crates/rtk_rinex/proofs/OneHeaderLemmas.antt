@@ -9,7 +9,7 @@ use Rattle.std.proofs.lemmas.List.Elements.{All-nil, All-head, All-tail}
 use Rattle.rtk_obs.specs.declared.time.Civil.{Civil}
 use Rattle.rtk_obs.specs.Calendar.{ReadsAs}
 use Rattle.rtk_rinex.specs.declared.check_fault.Cause.{Cause}
-use Rattle.rtk_rinex.specs.declared.check_fault.Cause.TheVariants.{HeaderLine, Columns, Value, Order, Truncated}
+use Rattle.rtk_rinex.specs.declared.check_fault.Cause.TheVariants.{HeaderLine, Columns, Value, Order, Truncated, OutOfMemory}
 use Rattle.rtk_rinex.specs.Reading.{reading_of}
 use Rattle.rtk_rinex.specs.Header.{HeadView, PositionView, header_line, first_text, header_text}
 use Rattle.rtk_rinex.specs.Steps.HeaderShown.{line_at}
@@ -163,6 +163,7 @@ no_next front rest Truncated l y x f is e h = no_front l y (rw e at f)
 no_next front rest Columns l y x f is e h = f
 no_next front rest Value l y x f is e h = f
 no_next front rest Order l y x f is e h = f
+no_next front rest OutOfMemory l y x f is e h = f
 
 more_lines : (ls ms : List (List ℕ)) → All HasNoEnd (ls ++ ms) → All HasNoEnd ms
 more_lines [] ms h = h
@@ -232,14 +233,17 @@ one_line_cause front other rest HeaderLine Truncated a b = absurd (no_front a.0 
 one_line_cause front other rest HeaderLine Columns a b = absurd b
 one_line_cause front other rest HeaderLine Value a b = absurd b
 one_line_cause front other rest HeaderLine Order a b = absurd b
+one_line_cause front other rest HeaderLine OutOfMemory a b = absurd b
 one_line_cause front other rest Truncated HeaderLine a b = absurd (no_front b.0 b.1 (rw b.3 at a))
 one_line_cause front other rest Truncated Truncated a b = refl
 one_line_cause front other rest Truncated Columns a b = absurd b
 one_line_cause front other rest Truncated Value a b = absurd b
 one_line_cause front other rest Truncated Order a b = absurd b
+one_line_cause front other rest Truncated OutOfMemory a b = absurd b
 one_line_cause front other rest Columns d a b = absurd a
 one_line_cause front other rest Value d a b = absurd a
 one_line_cause front other rest Order d a b = absurd a
+one_line_cause front other rest OutOfMemory d a b = absurd a
 
 lines_with_more : (n m : ℕ) (bytes : List ℕ) (c d : Cause) (a : HasFaultAfter n bytes c) (b : HasFaultAfter m bytes d) (more : List (List ℕ))
     → b.lines ≡ a.lines ++ more → a.rest ≡ text_of more ++ b.rest → (n ≡ m) × (c ≡ d)

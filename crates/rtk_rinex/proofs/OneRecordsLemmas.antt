@@ -6,7 +6,7 @@ use Rattle.std.proofs.lemmas.Bool.Decides.{leb_tells}
 use Rattle.std.proofs.lemmas.List.{append-nil}
 use Rattle.std.proofs.lemmas.List.Elements.{All-head, All-tail}
 use Rattle.rtk_rinex.specs.declared.check_fault.Cause.{Cause}
-use Rattle.rtk_rinex.specs.declared.check_fault.Cause.TheVariants.{HeaderLine, Columns, Value, Order, Truncated}
+use Rattle.rtk_rinex.specs.declared.check_fault.Cause.TheVariants.{HeaderLine, Columns, Value, Order, Truncated, OutOfMemory}
 use Rattle.rtk_rinex.specs.declared.check_fault.CheckFault.{CheckFault}
 use Rattle.rtk_rinex.specs.declared.epoch_table.SatelliteRow.{SatelliteRow}
 use Rattle.rtk_rinex.specs.Reading.{IsMoment, reading_of}
@@ -30,11 +30,13 @@ HasOneCause Fault = (line : List ℕ) (c d : Cause) → Fault line c → Fault l
 one_satellite_cause : (n : ℕ) (last : Option ℕ) → HasOneCause (IsSatelliteFault n last)
 one_satellite_cause n last line HeaderLine d a b = absurd a
 one_satellite_cause n last line Truncated d a b = absurd a
+one_satellite_cause n last line OutOfMemory d a b = absurd a
 one_satellite_cause n last line Columns HeaderLine a b = absurd b
 one_satellite_cause n last line Columns Columns a b = refl
 one_satellite_cause n last line Columns Value a b = absurd (a b.0 b.1)
 one_satellite_cause n last line Columns Order a b = absurd (a b.0 b.1)
 one_satellite_cause n last line Columns Truncated a b = absurd b
+one_satellite_cause n last line Columns OutOfMemory a b = absurd b
 one_satellite_cause n last line Value HeaderLine a b = absurd b
 one_satellite_cause n last line Value Columns a b = absurd (b a.0 a.1)
 one_satellite_cause n last line Value Value a b = refl
@@ -42,6 +44,7 @@ one_satellite_cause n last line Value Order a b =
     let same : a.0 ≡ b.0 = one_satellite line a.0 b.0 a.1.0 b.1.0 a.1.1 b.1.1 in
     absurd (b.2 (rw same at a.2))
 one_satellite_cause n last line Value Truncated a b = absurd b
+one_satellite_cause n last line Value OutOfMemory a b = absurd b
 one_satellite_cause n last line Order HeaderLine a b = absurd b
 one_satellite_cause n last line Order Columns a b = absurd (b a.0 a.1)
 one_satellite_cause n last line Order Value a b =
@@ -49,21 +52,25 @@ one_satellite_cause n last line Order Value a b =
     absurd (a.2 (rw same at b.2))
 one_satellite_cause n last line Order Order a b = refl
 one_satellite_cause n last line Order Truncated a b = absurd b
+one_satellite_cause n last line Order OutOfMemory a b = absurd b
 
 one_epoch_cause : (first : ℕ) (last : Option ℕ) → HasOneCause (IsEpochFault first last)
 one_epoch_cause first last line HeaderLine d a b = absurd a
 one_epoch_cause first last line Value d a b = absurd a
 one_epoch_cause first last line Truncated d a b = absurd a
+one_epoch_cause first last line OutOfMemory d a b = absurd a
 one_epoch_cause first last line Columns HeaderLine a b = absurd b
 one_epoch_cause first last line Columns Columns a b = refl
 one_epoch_cause first last line Columns Value a b = absurd b
 one_epoch_cause first last line Columns Order a b = absurd (a b.0 b.1 b.2)
 one_epoch_cause first last line Columns Truncated a b = absurd b
+one_epoch_cause first last line Columns OutOfMemory a b = absurd b
 one_epoch_cause first last line Order HeaderLine a b = absurd b
 one_epoch_cause first last line Order Columns a b = absurd (b a.0 a.1 a.2)
 one_epoch_cause first last line Order Value a b = absurd b
 one_epoch_cause first last line Order Order a b = refl
 one_epoch_cause first last line Order Truncated a b = absurd b
+one_epoch_cause first last line Order OutOfMemory a b = absurd b
 
 -- ---- a text in which a line is due has one cause
 
@@ -78,6 +85,7 @@ begun Fault text Columns b = inr b
 begun Fault text Value b = inr b
 begun Fault text Order b = inr b
 begun Fault text Truncated b = inl (refl, b)
+begun Fault text OutOfMemory b = inr b
 
 one_beginning : (Fault : List ℕ → Cause → Type 0) (text : List ℕ) (c d : Cause) → HasOneCause Fault
     → BeginsWithFault Fault text c → BeginsWithFault Fault text d → c ≡ d
@@ -152,6 +160,7 @@ good_line first last text Order t n y b m range next e =
     b.4.3 (rw one.0 at next)
 good_line first last text Truncated t n y b m range next e =
     no_line text (epoch_line (reading_of t) n) y b (epoch_line-line t n m (omega (arith, range))) e
+good_line first last text OutOfMemory t n y b m range next e = b.4
 
 line_or_rows : (n first : ℕ) (last : Option ℕ) (before : ℕ) (text : List ℕ) (f g : CheckFault) → IsFaultOfEpochLine first last before text f
     → IsFaultAfterEpochLine n first last before text g → ⊥

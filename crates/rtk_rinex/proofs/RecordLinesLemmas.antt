@@ -10,8 +10,8 @@ use Rattle.std.proofs.Math.Seq.{take-append-add, drop-append-add, get_or-append_
 use Rattle.rtk_obs.specs.declared.time.Civil.{Civil}
 use Rattle.rtk_rinex.specs.declared.epoch_table.Observed.{Observed}
 use Rattle.rtk_rinex.specs.declared.epoch_table.SatelliteRow.{SatelliteRow}
-use Rattle.rtk_rinex.specs.Record.{has_line, has_observation, observations, satellite_line, epoch_line, lines_of}
-use Rattle.rtk_rinex.specs.RecordLines.{RecordLinesView, HasOpenLine, HoldsLines, IsFreeIn, KeepsLines, no_observation}
+use Rattle.rtk_rinex.specs.Record.{has_line, has_observation, observations, satellite_line, epoch_line, lines_of, no_observation}
+use Rattle.rtk_rinex.specs.RecordLines.{RecordLinesView, HasOpenLine, HoldsLines, IsFreeIn, KeepsLines}
 use Rattle.rtk_rinex.proofs.RecordLemmas.{lines_of-none, lines_of-some}
 use Rattle.rtk_rinex.proofs.WrittenLemmas.{lines_of_rows, over-front, code-put, code-blank, code-none, any-put, codes-blank, none-written, columns-length}
 

@@ -7,8 +7,8 @@ use Rattle.std.proofs.Math.Seq.{set-append_seam, take-append-add, drop-append-ad
 use Rattle.rtk_rinex.specs.declared.epoch_table.Observed.{Observed}
 use Rattle.rtk_rinex.specs.declared.epoch_table.SatelliteRow.{SatelliteRow}
 use Rattle.rtk_obs.specs.CivilText.{last_digits}
-use Rattle.rtk_rinex.specs.Record.{is_written, is_present, observation, observations, lli_digit, strength_digit, strength_value, has_observation, has_line, trim_end, satellite_line}
-use Rattle.rtk_rinex.specs.RecordLines.{ended, no_observation}
+use Rattle.rtk_rinex.specs.Record.{is_written, is_present, observation, observations, lli_digit, strength_digit, strength_value, has_observation, has_line, trim_end, satellite_line, no_observation}
+use Rattle.rtk_rinex.specs.RecordLines.{ended}
 use Rattle.rtk_rinex.proofs.RecordLemmas.{trim_end-blank}
 use Rattle.rtk_rinex.proofs.RowLemmas.{IsTrimmed, trimmed}
 use Rattle.rtk_rinex.proofs.ValuesLemmas.{length-fixed}

@@ -66,7 +66,7 @@ OneTable = (t u : WellFormedTable) → IsWellFormedTable t → IsWellFormedTable
 abbrev pub table_view : WellFormedTable → TableView
 table_view t = record { text = table_text t; epochs = length t.epochs; satellites = satellite_lines t.epochs }
 
--- an answer as clauses of `check` have it: the table of this text, or a fault of the text
+-- an answer as clauses of `check_text` have it: the table of this text, or a fault of the text
 abbrev pub IsAnswerTo : List ℕ → Result TableView CheckFault → Type 0
 IsAnswerTo bytes (Ok t) = (t.text ≡ bytes) × HoldsTable bytes t.epochs t.satellites
 IsAnswerTo bytes (Err fault) = IsFault bytes fault

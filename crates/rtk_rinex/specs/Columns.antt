@@ -1,6 +1,7 @@
 -- Numbers and texts in columns, by the formats of RINEX 3.05, Tables A2 and A3: Fw.d, Iw, Aw.
 -- Source: RINEX 3.05, Tables A2 and A3
-use Rattle.std.specs.Prelude.{ℕ, ◌-◌, ◌/◌, ◌^◌, List, ◌∷◌, ◌++◌, length, replicate, ℤ, pos, negsuc, unsigned_abs, Bool, true, false, decimal}
+use Rattle.std.specs.Prelude.{◌≢◌, ◌≤◌, ℕ, ◌-◌, ◌/◌, ◌^◌, List, ◌∷◌, ◌++◌, length, replicate, ℤ, pos, negsuc, unsigned_abs, Bool, true, false, decimal, All, slice_get, Some}
+use Rattle.std.specs.Int.{IsInRange}
 use Rattle.std.specs.Fmt.{sign_text}
 use Rattle.rtk_obs.specs.CivilText.{last_digits}
 
@@ -13,6 +14,15 @@ right w text = replicate (w - length text) 32 ++ text
 -- a text at the left end of w columns, before blanks (Aw)
 unfoldable pub left : ℕ → List ℕ → List ℕ
 left w text = text ++ replicate (w - length text) 32
+
+-- formula
+-- a text that is read in w columns again (Aw): no more characters than columns, each from blank to
+-- tilde, the first and the last no blank; without a character the columns are blank (this project's
+-- rule)
+abbrev pub IsField : ℕ → List ℕ → Type 0
+IsField w text =
+    (length text ≤ w) × All (λ x. IsInRange 32 126 x) text
+    × (slice_get text 0 ≢ Some 32) × (slice_get text (length text - 1) ≢ Some 32)
 
 abbrev pub is_negative : ℤ → Bool
 is_negative (pos n) = false

@@ -1,8 +1,8 @@
 -- Why these parts make no head: the first cause that holds.
 use Rattle.std.specs.Prelude.{◌≢◌, ◌%◌}
 use Rattle.rtk_rinex.specs.Header.{HeadView, IsMarker, IsCodeList}
-use Rattle.rtk_rinex.specs.declared.head.HeadFault.{HeadFault}
-use Rattle.rtk_rinex.specs.declared.head.HeadFault.TheVariants.{Marker, Codes, Made}
+use Rattle.rtk_rinex.specs.declared.head_fault.HeadFault.{HeadFault}
+use Rattle.rtk_rinex.specs.declared.head_fault.HeadFault.TheVariants.{Marker, Codes, Made}
 
 -- formula
 -- a bad marker; or else bad codes; or else a moment that is no whole second

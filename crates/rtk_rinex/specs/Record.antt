@@ -77,6 +77,10 @@ observations o =
     ++ observation o.phase_millicycles (lli_digit o.slip o.half) (strength_digit o.strength_millidbhz)
     ++ observation (strength_value o.strength_millidbhz) 32 32
 
+-- what a code shows without any value
+abbrev pub no_observation : Observed
+no_observation = record { range_mm = None; phase_millicycles = None; strength_millidbhz = None; slip = false; half = false }
+
 -- there is a value, and it is written (this project's rule)
 abbrev pub is_present : Option ℤ → Bool
 is_present None = false

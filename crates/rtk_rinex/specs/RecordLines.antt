@@ -4,7 +4,7 @@ use Rattle.std.specs.List.{flat_map, filter, list_any}
 use Rattle.rtk_obs.specs.CivilText.{last_digits}
 use Rattle.rtk_rinex.specs.declared.epoch_table.Observed.{Observed}
 use Rattle.rtk_rinex.specs.declared.epoch_table.SatelliteRow.{SatelliteRow}
-use Rattle.rtk_rinex.specs.Record.{has_line, has_observation, observations, satellite_line, trim_end}
+use Rattle.rtk_rinex.specs.Record.{has_line, has_observation, no_observation, observations, satellite_line, trim_end}
 
 pub record RecordLinesView : Type 0 where
   -- the 36 columns of the epoch line and the lines of the satellites, or nothing without a satellite
@@ -29,10 +29,6 @@ pub record KeepsLines (old new : RecordLinesView) : Type 0 where
   pub count : new.count ≡ old.count
 
 -- ---- the line that is written code by code
-
--- what a code shows without any value
-abbrev pub no_observation : Observed
-no_observation = record { range_mm = None; phase_millicycles = None; strength_millidbhz = None; slip = false; half = false }
 
 -- the codes of the next line show these values: their columns stand after those of the satellite, and
 -- are followed by blanks, of which the first is for the line feed

@@ -1,5 +1,6 @@
-//! Why a text is not the text of a well-formed table.
+//! Why there is no table of a text.
 
+use std::alloc::AllocError;
 use thiserror::Error;
 
 /// What is wrong with a line.
@@ -21,6 +22,20 @@ pub enum Cause {
     /// The text ends although a line must follow, or the line has no LF.
     #[error("{}", self.as_str())]
     Truncated,
+    /// Memory is refused while the line is read. Only `check` answers it, which keeps the text.
+    #[error("{}", self.as_str())]
+    OutOfMemory,
+}
+
+impl From<AllocError> for Cause {
+    ghost use Rattle.std.specs.Prelude.{◌≡◌};
+    ghost use Rattle.rtk_rinex.specs.declared.check_fault.Cause.TheVariants.{OutOfMemory};
+
+    ghost from_gives = { λ _ cause. cause ≡ OutOfMemory };
+
+    fn from(_refused: AllocError) -> Cause {
+        Cause::OutOfMemory
+    }
 }
 
 impl Cause {
@@ -37,11 +52,13 @@ impl Cause {
             Cause::Value => "C3 Value",
             Cause::Order => "C4 Order",
             Cause::Truncated => "C5 Truncated",
+            Cause::OutOfMemory => "C6 OutOfMemory",
         }
     }
 }
 
-/// The first line of a text that has a fault, and its cause.
+/// The first line of a text that has a fault, and its cause; or the line that was being read when
+/// memory was refused.
 #[derive(Clone, Copy, Debug, PartialEq, Eq, Error)]
 #[error("line {line}: {cause}")]
 pub struct CheckFault {

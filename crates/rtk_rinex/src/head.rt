@@ -1,37 +1,23 @@
 //! What is known of a file before its observations.
 
-ghost use Rattle.std.specs.Prelude.{◌≡◌, ◌≢◌, ◌%◌, ℕ, ◌<◌, length, All, slice_index_or, Decides, IfOk, IfErr};
-ghost use Rattle.std.specs.Int.{IsInRange};
+ghost use Rattle.std.specs.Prelude.{◌≡◌, ◌≢◌, ◌%◌, ℕ, ◌<◌, length, slice_index_or, Decides, IfOk, IfErr};
 ghost use Rattle.rtk_obs.specs.declared.code.Code.{Code};
 ghost use Rattle.rtk_rinex.specs.Header.{IsMarker, IsCodeList, IsHeadView};
 
+use crate::creation_time::CreationTime;
+use crate::head_fault::HeadFault;
+use crate::marker_name::Marker;
 use arrayvec::ArrayVec;
 use rtk_obs::{Code, GpsMs};
 use std::marker::Model;
-use thiserror::Error;
-
-/// Why there is no head of these parts: the first cause that holds, in this order.
-#[derive(Clone, Copy, Debug, PartialEq, Eq, Error)]
-pub enum HeadFault {
-    /// The marker does not have 1 to 60 bytes, or one lies outside 0x20 to 0x7E, or the first or
-    /// the last one is a blank.
-    #[error("H1 bad marker")]
-    Marker,
-    /// There are not 1 to 16 codes, or one stands twice.
-    #[error("H2 bad codes")]
-    Codes,
-    /// The moment at which the file is made is no whole second.
-    #[error("H3 bad time of making")]
-    Made,
-}
 
 /// What is known of a file before its observations: the marker's name, the listed codes in their
 /// order, and the moment at which it is made, which the file shows as UTC.
 #[derive(Drop)]
 pub struct Head {
-    marker: ArrayVec<u8, 60>,
+    marker: Marker,
     listed: ArrayVec<Code, 16>,
-    made: GpsMs,
+    made: CreationTime,
 }
 
 impl Model for Head {
@@ -39,30 +25,9 @@ impl Model for Head {
 
     ghost Value = { HeadView };
 
-    ghost view = { λ h. record { marker = h.marker.items; listed = h.listed.items; made = h.made } };
+    ghost view = { λ h. record { marker = h.marker; listed = h.listed.items; made = h.made } };
 
-    ghost invariant = { λ h. IsHeadView (record { marker = h.marker.items; listed = h.listed.items; made = h.made }) };
-}
-
-fn is_printed(text: &[u8]) -> bool
-    ensures { Decides result (All (λ x. IsInRange 32 126 x) text.now) }
-{
-    for byte in text {
-        if *byte < 0x20 || *byte > 0x7E {
-            return false;
-        }
-    }
-    true
-}
-
-/// Is this a marker's name?
-pub(crate) fn is_marker(marker: &[u8]) -> bool
-    ensures { Decides result (IsMarker marker.now) }
-{
-    if marker.len() == 0 || marker.len() > 60 {
-        return false;
-    }
-    marker[0] != b' ' && marker[marker.len() - 1] != b' ' && is_printed(marker)
+    ghost invariant = { λ h. IsHeadView (record { marker = h.marker; listed = h.listed.items; made = h.made }) };
 }
 
 // Is the code at this place unlike all before it?
@@ -92,6 +57,22 @@ fn is_code_list(listed: &[Code]) -> bool
     true
 }
 
+// The list of these codes, if it is good.
+fn code_list(codes: &[Code]) -> Result<ArrayVec<Code, 16>, HeadFault>
+    ensures listed { IfOk result (λ listed. listed.items ≡ codes.now) }
+    ensures good { IfOk result (λ listed. IsCodeList listed.items) }
+    ensures fault { IfErr result (λ fault. (fault ≡ HeadFault.Codes) × ¬ (IsCodeList codes.now)) }
+{
+    if !is_code_list(codes) {
+        return Err(HeadFault::Codes);
+    }
+    let mut listed = ArrayVec::new();
+    if listed.try_extend_from_slice(codes).is_err() {
+        unreachable!();
+    }
+    Ok(listed)
+}
+
 impl Head {
     ghost use Rattle.rtk_rinex.specs.HeadFault.{IsHeadFault};
 
@@ -101,25 +82,25 @@ impl Head {
         ensures good { IfOk result IsHeadView }
         ensures fault { IfErr result (IsHeadFault (record { marker = marker.now; listed = codes.now; made = made })) }
     {
-        if !is_marker(marker) {
-            return Err(HeadFault::Marker);
-        }
-        if !is_code_list(codes) {
-            return Err(HeadFault::Codes);
-        }
-        if made.ms() % 1000 != 0 {
-            return Err(HeadFault::Made);
-        }
-        let mut name = ArrayVec::new();
-        let mut listed = ArrayVec::new();
-        if name.try_extend_from_slice(marker).is_err()
-            || listed.try_extend_from_slice(codes).is_err()
-        {
-            unreachable!();
-        }
+        let marker = Marker::new(marker)?;
+        let listed = code_list(codes)?;
+        let made = CreationTime::new(made)?;
         Ok(Head {
-            marker: name,
+            marker,
             listed,
+            made,
+        })
+    }
+
+    /// The head of parts of which only the codes can be bad: then `HeadFault::Codes`.
+    pub fn from_parts(marker: Marker, codes: &[Code], made: CreationTime) -> Result<Head, HeadFault>
+        ensures head { IfOk result (λ h. h ≡ record { marker = marker; listed = codes.now; made = made }) }
+        ensures good { IfOk result IsHeadView }
+        ensures fault { IfErr result (λ fault. (fault ≡ HeadFault.Codes) × ¬ (IsCodeList codes.now)) }
+    {
+        Ok(Head {
+            marker,
+            listed: code_list(codes)?,
             made,
         })
     }
@@ -129,7 +110,7 @@ impl Head {
         ensures value { result.now ≡ self.now.marker }
         ensures good { IsMarker result.now }
     {
-        self.marker.as_slice()
+        self.marker.as_bytes()
     }
 
     /// The codes, in the order in which they were handed in.
@@ -145,6 +126,6 @@ impl Head {
         ensures value { result ≡ self.now.made }
         ensures whole_second { result % 1000 ≡ 0 }
     {
-        self.made
+        self.made.moment()
     }
 }

@@ -12,13 +12,17 @@ ghost use Rattle.std.specs.Int.{IsInRange};
 ghost use Rattle.std.specs.Prelude.{◌≡◌, ◌≢◌, ℕ, ◌+◌, ◌*◌, ◌%◌, ◌/◌, ◌<◌, ◌≤◌, List, ◌++◌, length, take, drop, AllPairs, slice_index_or, Some, IfSome, IsSomeAnd, MatchOption, ◌^◌, ◌∷◌, Decides, IfOk, IfErr, OnErr};
 
 use crate::check_fault::{Cause, CheckFault};
+use crate::creation_time::CreationTime;
 use crate::digits::{columns_at, is_same, number_at, signed_number_at};
-use crate::head::{Head, is_marker};
+use crate::head::Head;
 use crate::header_text::header_lines;
+use crate::marker_name::Marker;
 use crate::record_text::trimmed_len;
 use memchr::memchr;
 use rtk_obs::{ALL_CODES, Civil, Code, GpsMs, Position, of_civil};
 
+// The date and time in the columns of the second line, whatever stands there: if they are no date, the
+// header that is written again differs in this line.
 fn made_reading(line: &[u8]) -> Civil
     ensures { result ≡ made_civil line.now }
 {
@@ -34,24 +38,19 @@ fn made_reading(line: &[u8]) -> Civil
 }
 
 // The moment that the second line shows; `None` only if it is the line of no moment.
-fn read_made(line: &[u8]) -> Option<GpsMs>
-    ensures whole_second { IfSome result (λ made. made % 1000 ≡ 0) }
-    ensures shown { (t : ℕ) → IsMadeLine t line.now → result ≡ Some t }
+fn read_made(line: &[u8]) -> Option<CreationTime>
+    ensures { (t : ℕ) → IsMadeLine t line.now → result ≡ Some t }
 {
-    of_civil(made_reading(line))
+    let moment = of_civil(made_reading(line))?;
+    CreationTime::new(moment).ok()
 }
 
-// The marker's name that the third line shows; `None` only if it is the line of no name.
-fn read_marker(line: &[u8]) -> Option<&[u8]>
-    ensures good { IfSome result (λ marker. IsMarker marker.now) }
-    ensures shown { (m : List ℕ) → IsMarkerLine m line.now → IsSomeAnd result (λ marker. marker.now ≡ m) }
+// The marker that the third line shows; `None` only if it is the line of no marker.
+fn read_marker(line: &[u8]) -> Option<Marker>
+    ensures { (m : List ℕ) → IsMarkerLine m line.now → result ≡ Some m }
 {
     let content = columns_at(line, 0, 60);
-    let marker = content.split_at(trimmed_len(content)).0;
-    if !is_marker(marker) {
-        return None;
-    }
-    Some(marker)
+    Marker::new(content.split_at(trimmed_len(content)).0).ok()
 }
 
 // The position that its line shows, with this height; `None` only if it is the line of no position.
@@ -162,7 +161,7 @@ fn move_named_code(all: &mut [Code; 16], name: &[u8], place: usize)
 
 // All codes in an order that begins with the codes that the text names, as long as they are good. A
 // header that shows the same names lists these codes. Codes change places in `ALL_CODES`, so all
-// stay distinct, and `Head::new` can't refuse the first ones.
+// stay distinct, and `Head::from_parts` can't refuse the first ones.
 fn read_codes(text: &[u8]) -> [Code; 16]
     ensures all { AreAllCodes result }
     ensures shown { (listed : List Code) (i : ℕ) (d : Code) → AllPairs (λ a b. a ≢ b) listed → i < length listed → i < 16
@@ -219,7 +218,7 @@ pub(crate) struct HeaderRead {
     pub used: usize,
 }
 
-// The moment 0, a whole second.
+// The moment 0.
 fn any_moment() -> GpsMs
     ensures { result ≡ 0 }
 {
@@ -227,6 +226,22 @@ fn any_moment() -> GpsMs
         unreachable!();
     };
     moment
+}
+
+// The moment 0, a whole second.
+fn any_creation_time() -> CreationTime {
+    let Ok(made) = CreationTime::new(any_moment()) else {
+        unreachable!();
+    };
+    made
+}
+
+// A marker whose name is a hyphen.
+fn any_marker() -> Marker {
+    let Ok(marker) = Marker::new(b"-") else {
+        unreachable!();
+    };
+    marker
 }
 
 // The earth's center, with this height.
@@ -253,13 +268,13 @@ fn read_header(text: &[u8]) -> HeaderRead
         → ((j : ℕ) → j ≤ k → line_at j (header_text h s first) ≡ line_at j text.now)
         → line_at k (header_text result.head (position_view result.position) result.first) ≡ line_at k text.now }
 {
-    let made = read_made(text_line(text, 1)).unwrap_or(any_moment());
-    let marker = read_marker(text_line(text, 2)).unwrap_or(b"-");
+    let made = read_made(text_line(text, 1)).unwrap_or(any_creation_time());
+    let marker = read_marker(text_line(text, 2)).unwrap_or(any_marker());
     let height = read_height(text_line(text, 8)).unwrap_or(0);
     let position = read_position(text_line(text, 7), height).unwrap_or(any_position(height));
     let count = read_code_count(text_line(text, 9)).unwrap_or(1);
     let codes = read_codes(text);
-    let Ok(head) = Head::new(marker, codes.as_slice().split_at(count).0, made) else {
+    let Ok(head) = Head::from_parts(marker, codes.as_slice().split_at(count).0, made) else {
         unreachable!();
     };
     // 13 lines, and those of the types: 12 columns for each code, 52 columns in each line.

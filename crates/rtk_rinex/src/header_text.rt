@@ -68,6 +68,8 @@ fn made_content(made: Civil) -> ArrayVec<u8, 60>
     content
 }
 
+// The lines up to the antenna's type. Observer, receiver and antenna are blank, since no message that is
+// converted tells them.
 fn put_first_lines(out: &mut ArrayVec<u8, LONGEST_HEADER>, marker: &[u8], made: Civil)
     requires marker { length marker.now ≤ 60 }
     requires room { length out.old.items + 567 ≤ 1377 }
@@ -181,6 +183,7 @@ fn put_continuation_line(out: &mut ArrayVec<u8, LONGEST_HEADER>, text: &[u8])
     }
 }
 
+// Thirteen types of four columns stand on a line, so 52 columns; 16 codes have 192 columns.
 fn put_types_lines(out: &mut ArrayVec<u8, LONGEST_HEADER>, listed: &[Code])
     requires listed { length listed.now ≤ 16 }
     requires room { length out.old.items + 324 ≤ 1377 }

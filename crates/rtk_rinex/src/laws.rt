@@ -7,14 +7,15 @@ ghost use Rattle.std.specs.Prelude.{◌≡◌, ◌↔◌, ℕ, IsTrue};
 ghost use Rattle.rtk_obs.specs.declared.time.Civil.{Civil};
 ghost use Rattle.rtk_obs.specs.Calendar.{ReadsAs};
 ghost use Rattle.rtk_rinex.specs.CheckTable.{OneFault, FaultMeansNoTable, OneTable, TextIsAccepted};
+ghost use Rattle.rtk_rinex.specs.KeptTable.{TextIsKept};
 ghost use Rattle.rtk_rinex.specs.Reading.{IsMoment, reading_of};
 ghost use Rattle.rtk_rinex.specs.Table.{RecordsAreOfTables, FilesAreTables};
 ghost use Rattle.rtk_rinex.specs.declared.check_fault.Cause.{Cause};
 ghost use Rattle.rtk_rinex.specs.declared.check_fault.CheckFault.{CheckFault};
-ghost use Rattle.rtk_rinex.specs.declared.head.HeadFault.{HeadFault};
+ghost use Rattle.rtk_rinex.specs.declared.head_fault.HeadFault.{HeadFault};
 
 use crate::check_fault::{Cause, CheckFault};
-use crate::head::HeadFault;
+use crate::head_fault::HeadFault;
 use rtk_obs::code_laws;
 
 /// A moment has one reading, which `reading_of` gives.
@@ -41,10 +42,11 @@ pub fn one_fault()
     ensures table { FaultMeansNoTable }
 {}
 
-/// What `check` answers to the text of a well-formed table is this table with its numbers; and two
-/// well-formed tables of one text are equal.
+/// What `check_text` answers to the text of a well-formed table is this table with its numbers, and so
+/// is what `check` answers, unless memory is refused; and two well-formed tables of one text are equal.
 pub fn text_of_a_table()
     ensures accepted { TextIsAccepted }
+    ensures kept { TextIsKept }
     ensures one { OneTable }
 {
     code_laws();

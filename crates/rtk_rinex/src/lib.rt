@@ -2,11 +2,11 @@
 //!
 //! ```rust
 //! use rtk_obs::{Code, GpsMs, Position};
-//! use rtk_rinex::{EpochTable, Head, Observed, check, header, record};
+//! use rtk_rinex::{EpochTable, Head, Observed, check, check_text, header, record, text};
 //! use std::alloc::{AllocError, Global};
 //!
-//! // A header and a record are the text of a table, which the checker accepts and whose records are
-//! // read one by one.
+//! // A header and a record are the text of a table. `check_text` finds the table in its text, and its
+//! // records are read one by one. `check` keeps the text, which `text` gives back.
 //! fn example(alloc: Global) -> Result<bool, AllocError> {
 //!     let Some(noon) = GpsMs::new(1_399_982_400_000) else {
 //!         return Ok(false);
@@ -23,13 +23,18 @@
 //!     };
 //!     let mut epoch = EpochTable::new(noon);
 //!     epoch.push_row(5, &[range]);
-//!     let mut text = header(alloc, &head, &position, noon)?;
-//!     text.extend_from_slice(record(alloc, &head, &epoch)?.as_slice())?;
-//!     let Ok(table) = check(text.as_slice()) else {
+//!     let mut file = header(alloc, &head, &position, noon)?;
+//!     file.extend_from_slice(record(alloc, &head, &epoch)?.as_slice())?;
+//!     let Ok(found) = check_text(file.as_slice()) else {
 //!         return Ok(false);
 //!     };
-//!     let mut records = table.records();
-//!     Ok(records.next(&mut epoch).is_some() && records.next(&mut epoch).is_none())
+//!     let mut records = found.records();
+//!     let is_one = records.next(&mut epoch).is_some() && records.next(&mut epoch).is_none();
+//!     let Ok(kept) = check(alloc, file.as_slice()) else {
+//!         return Ok(false);
+//!     };
+//!     let again = text(alloc, &kept)?;
+//!     Ok(is_one && kept.epochs() == 1 && again.as_slice() == file.as_slice())
 //! }
 //! ```
 //!
@@ -38,13 +43,18 @@
 
 mod check_fault;
 mod columns;
+mod creation_time;
 mod digits;
 mod epoch_line_check;
 mod epoch_table;
+mod field;
 mod head;
+mod head_fault;
 mod header_check;
 mod header_text;
 mod laws;
+mod marker_name;
+mod owned_table;
 mod record_lines;
 mod record_text;
 mod records;
@@ -55,12 +65,17 @@ mod table_check;
 mod value_check;
 
 pub use check_fault::{Cause, CheckFault};
+pub use creation_time::CreationTime;
 pub use epoch_table::{EpochTable, Observed, SatelliteRow};
-pub use head::{Head, HeadFault};
+pub use field::is_field;
+pub use head::Head;
+pub use head_fault::HeadFault;
 pub use header_text::header;
 pub use laws::{
     fault_laws, files_are_tables, one_fault, one_reading, records_are_of_tables, text_of_a_table,
 };
+pub use marker_name::Marker;
+pub use owned_table::{Table, check, text};
 pub use record_lines::{RecordLines, record};
 pub use records::Records;
-pub use table_check::{Heading, Table, check, text};
+pub use table_check::{Heading, TextTable, check_text};

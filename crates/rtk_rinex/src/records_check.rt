@@ -105,9 +105,9 @@ fn check_satellite_line(line: &[u8], code_count: usize, last: Option<u8>) -> Res
     Ok(satellite)
 }
 
-/// How many records a text has, and how many satellite lines.
+/// How many epoch lines a text has, one for each record, and how many satellite lines.
 #[derive(Clone, Copy)]
-pub(crate) struct RecordCounts {
+pub(crate) struct LineCounts {
     pub epochs: usize,
     pub satellites: usize,
 }
@@ -194,7 +194,7 @@ pub(crate) fn check_records(
     lines: usize,
     code_count: usize,
     first: GpsMs,
-) -> Result<RecordCounts, CheckFault>
+) -> Result<LineCounts, CheckFault>
     requires code_count { code_count ≤ 16 }
     requires lines { lines + length text.now + 1 < 2 ^ 64 }
     ensures records { IfOk result (λ c. ReadsRecords code_count first c.epochs c.satellites text.now) }
@@ -203,11 +203,12 @@ pub(crate) fn check_records(
     let mut rest = text;
     let mut line = lines;
     let mut last = None;
-    let mut counts = RecordCounts {
+    let mut counts = LineCounts {
         epochs: 0,
         satellites: 0,
     };
     while rest.len() > 0 {
+        // A `match`: the prover has no rule for `?` at a slice beside a moment.
         let (stamp, after) = match check_record(rest, line, code_count, first, last) {
             Ok(read) => read,
             Err(fault) => return Err(fault),

@@ -1,15 +1,14 @@
-//! The check of a whole text, and the table whose text it is.
+//! The check of a whole text, and the table that it is, in its place: without memory.
 
 ghost use Rattle.rtk_rinex.specs.CheckTable.{IsTableView, HoldsTable, IsFault, IsWithoutTable};
-ghost use Rattle.std.specs.Prelude.{◌≡◌, length, IfOk, IfErr, OnErr};
+ghost use Rattle.std.specs.Prelude.{◌≡◌, ◌≢◌, length, IfOk, IfErr, OnErr};
 
-use crate::check_fault::CheckFault;
+use crate::check_fault::{Cause, CheckFault};
 use crate::head::Head;
 use crate::header_check::check_header;
 use crate::records::Records;
-use crate::records_check::{RecordCounts, check_records};
+use crate::records_check::{LineCounts, check_records};
 use rtk_obs::{GpsMs, Position};
-use std::alloc::{AllocError, Global};
 use std::marker::Model;
 
 /// The parts of a file's header.
@@ -23,25 +22,24 @@ pub struct Heading {
     pub first: GpsMs,
 }
 
-/// A well-formed table of observations: its text, which it borrows, and how much it has.
+/// A well-formed table of observations in its text, which it borrows. It takes no memory.
 #[derive(Drop)]
-pub struct Table<'a> {
+pub struct TextTable<'a> {
     text: &'a [u8],
-    epochs: usize,
-    satellites: usize,
+    counts: LineCounts,
 }
 
-impl<'a> Model for Table<'a> {
+impl<'a> Model for TextTable<'a> {
     ghost use Rattle.rtk_rinex.specs.CheckTable.{TableView, IsTableView};
 
     ghost Value = { TableView };
 
-    ghost view = { λ t. record { text = t.text.now; epochs = t.epochs; satellites = t.satellites } };
+    ghost view = { λ t. record { text = t.text.now; epochs = t.counts.epochs; satellites = t.counts.satellites } };
 
-    ghost invariant = { λ t. IsTableView (record { text = t.text.now; epochs = t.epochs; satellites = t.satellites }) };
+    ghost invariant = { λ t. IsTableView (record { text = t.text.now; epochs = t.counts.epochs; satellites = t.counts.satellites }) };
 }
 
-impl<'a> Table<'a> {
+impl<'a> TextTable<'a> {
     ghost use Rattle.rtk_rinex.specs.CheckTable.{TableView, HoldsTable};
     ghost use Rattle.rtk_rinex.specs.Header.{IsHeadView, IsPositionView, position_view};
     ghost use Rattle.rtk_rinex.specs.Reading.{IsMoment};
@@ -49,29 +47,32 @@ impl<'a> Table<'a> {
     ghost use Rattle.rtk_rinex.specs.Table.{WellFormedTable, IsWellFormedTable, table_text};
 
     /// The table whose text this is.
-    pub(crate) fn of_text(text: &'a [u8], counts: RecordCounts) -> Table<'a>
-        requires table { HoldsTable text.now counts.epochs counts.satellites }
+    pub(crate) fn of_text(text: &'a [u8], counts: LineCounts) -> TextTable<'a>
+        requires { IsTableView (record { text = text.now; epochs = counts.epochs; satellites = counts.satellites }) }
         ensures { result ≡ record { text = text.now; epochs = counts.epochs; satellites = counts.satellites } }
     {
-        Table {
-            text,
-            epochs: counts.epochs,
-            satellites: counts.satellites,
-        }
+        TextTable { text, counts }
+    }
+
+    /// How many records and satellite lines it has.
+    pub(crate) fn counts(&self) -> LineCounts
+        ensures { result ≡ record { epochs = self.now.epochs; satellites = self.now.satellites } }
+    {
+        self.counts
     }
 
     /// How many records it has.
     pub fn epochs(&self) -> usize
         ensures { result ≡ self.now.epochs }
     {
-        self.epochs
+        self.counts.epochs
     }
 
     /// How many satellite lines its records have.
     pub fn satellites(&self) -> usize
         ensures { result ≡ self.now.satellites }
     {
-        self.satellites
+        self.counts.satellites
     }
 
     /// Its text.
@@ -112,29 +113,18 @@ impl<'a> Table<'a> {
     }
 }
 
-/// The well-formed table whose text this is, if there is one; else the first line that is wrong.
-pub fn check<'a>(bytes: &'a [u8]) -> Result<Table<'a>, CheckFault>
+/// The well-formed table whose text this is, in its place, if there is one; else the first line that is
+/// wrong. It takes no memory.
+pub fn check_text<'a>(bytes: &'a [u8]) -> Result<TextTable<'a>, CheckFault>
     ensures text { IfOk result (λ t. t.text ≡ bytes.now) }
     ensures table { IfOk result (λ t. HoldsTable bytes.now t.epochs t.satellites) }
     ensures fault { IfErr result (IsFault bytes.now) }
     ensures none { OnErr result (IsWithoutTable bytes.now) }
+    ensures in_place { IfErr result (λ fault. fault.cause ≢ Cause.OutOfMemory) }
 {
     let header = check_header(bytes)?;
     let (_, records) = bytes.split_at(header.used);
     let code_count = header.head.codes().len();
     let counts = check_records(records, header.lines, code_count, header.first)?;
-    Ok(Table::of_text(bytes, counts))
-}
-
-/// The text of a table, copied; memory is taken once. It is for a program that lets the checked
-/// bytes go.
-pub fn text(alloc: Global, table: &Table<'_>) -> Result<Vec<u8>, AllocError>
-    // Fails only if memory is refused: tests/system/calls, rows `text ..`.
-    ensures text { IfOk result (λ t. t.items ≡ table.now.text) }
-    ensures table { IsTableView table.now }
-{
-    let bytes = table.as_bytes();
-    let mut copy = Vec::with_capacity(alloc, bytes.len())?;
-    copy.extend_from_slice(bytes)?;
-    Ok(copy)
+    Ok(TextTable::of_text(bytes, counts))
 }

@@ -1,8 +1,8 @@
 -- Messages that are borrowed.
 use Rattle.rtk_message.specs.declared.any_message.AnyMessage.{AnyMessage}
 use Rattle.rtk_message.specs.declared.any_message.AnyMessage.TheVariants as any
-use Rattle.rtk_collect.specs.declared.dated.Borrowed.{Borrowed}
-use Rattle.rtk_collect.specs.declared.dated.Borrowed.TheVariants.{Message, Msm}
+use Rattle.rtk_collect.specs.declared.dated_ref.Borrowed.{Borrowed}
+use Rattle.rtk_collect.specs.declared.dated_ref.Borrowed.TheVariants.{Message, Msm}
 
 -- the message that is borrowed
 abbrev pub borrowed : Borrowed → AnyMessage

@@ -4,8 +4,8 @@ use Rattle.rtk_obs.specs.MessageCells.{cells_of}
 use Rattle.rtk_collect.specs.declared.conflicts.SatelliteCode.{SatelliteCode}
 use Rattle.rtk_message.specs.declared.any_message.AnyMessage.{AnyMessage as Message}
 use Rattle.rtk_obs.specs.declared.cell.CellEntry.{CellEntry}
-use Rattle.rtk_collect.specs.declared.offer.Offer.{Offer}
-use Rattle.rtk_collect.specs.declared.offer.Offer.TheVariants.{Taken, Conflict, Repeat, Late}
+use Rattle.rtk_collect.specs.declared.outcome.Outcome.{Outcome}
+use Rattle.rtk_collect.specs.declared.outcome.Outcome.TheVariants.{Taken, Conflict, Repeat, Late}
 use Rattle.rtk_collect.specs.EpochSet.{EpochSetView, EpochsFall}
 use Rattle.rtk_collect.specs.Arrival.{Arrival, At}
 use Rattle.rtk_collect.specs.Accepted.{kept}
@@ -14,7 +14,7 @@ use Rattle.rtk_collect.specs.Offered.{ClosesBelow, ClosesLeast}
 
 -- what an observation with these cells leaves of the epochs of a window of n places, with the right
 -- answer and the list of its conflicts, whatever came before
-pub record AddsCells (n e : ℕ) (cells : List CellEntry) (sets new : List EpochSetView) (offer : Offer) (listed : List SatelliteCode) : Type 0 where
+pub record AddsCells (n e : ℕ) (cells : List CellEntry) (sets new : List EpochSetView) (offer : Outcome) (listed : List SatelliteCode) : Type 0 where
   pub len : length new ≤ n
   pub falls : EpochsFall new
   pub answer : (m : Message) → cells_of m ≡ cells → (before : List Arrival) → sets ≡ take n (kept n before)
@@ -28,8 +28,15 @@ abbrev pub WouldTakeCells : ℕ → ℕ → List CellEntry → List EpochSetView
 WouldTakeCells n e cells sets =
     (m : Message) → cells_of m ≡ cells → (before : List Arrival) → sets ≡ take n (kept n before) → class_of n (At (Some e) m) before ≡ TakenClass
 
+-- an answer that closes no epoch may list these conflicts: none with one that is late or a repeat
+abbrev pub ListsConflicts : Outcome → List SatelliteCode → Type 0
+ListsConflicts Late listed = listed ≡ []
+ListsConflicts (Taken done) listed = done ≡ None
+ListsConflicts Conflict listed = Unit {0}
+ListsConflicts Repeat listed = listed ≡ []
+
 -- the answer to cells that joined an epoch of the window, by how many were new and which conflict
-abbrev pub IsAnswerOf : ℕ → List SatelliteCode → Offer → Type 0
+abbrev pub IsAnswerOf : ℕ → List SatelliteCode → Outcome → Type 0
 IsAnswerOf count found Late = ⊥
 IsAnswerOf count found (Taken done) = (0 < count) × (done ≡ None)
 IsAnswerOf count found Conflict = (count ≡ 0) × (found ≢ [])

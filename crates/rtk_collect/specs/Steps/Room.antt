@@ -2,8 +2,8 @@
 use Rattle.std.specs.Prelude.{◌≡◌, ℕ, []}
 use Rattle.rtk_obs.specs.declared.cell.CellSource.{CellSource}
 use Rattle.rtk_obs.specs.declared.cell.CellSource.TheVariants.{Legacy, Msm}
-use Rattle.rtk_collect.specs.declared.epoch_set.Room.{Room}
-use Rattle.rtk_collect.specs.declared.epoch_set.Spare.{Spare}
+use Rattle.rtk_collect.specs.declared.gathered_set.Room.{Room}
+use Rattle.rtk_collect.specs.declared.gathered_set.Spare.{Spare}
 
 -- the room for cells of a kind of message
 abbrev pub room_for : CellSource → Room → ℕ

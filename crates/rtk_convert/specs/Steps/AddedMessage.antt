@@ -1,8 +1,8 @@
 -- What an arrival changes in a conversion, apart from the count of all frames.
 use Rattle.std.specs.Prelude.{◌≡◌, ℕ, List, ◌∷◌, Option, None, Result, OnOk, OnErr, IfErr}
 use Rattle.rtk_frame.specs.Stream.{with_more, TakesPart}
-use Rattle.rtk_collect.specs.declared.offer.Offer.{Offer}
-use Rattle.rtk_collect.specs.declared.offer.Offer.TheVariants.{Taken, Conflict, Repeat, Late}
+use Rattle.rtk_collect.specs.declared.outcome.Outcome.{Outcome}
+use Rattle.rtk_collect.specs.declared.outcome.Outcome.TheVariants.{Taken, Conflict, Repeat, Late}
 use Rattle.rtk_collect.specs.EpochSet.{EpochSetView}
 use Rattle.rtk_collect.specs.Arrival.{Arrival}
 use Rattle.rtk_collect.specs.Accepted.{closed}
@@ -19,7 +19,7 @@ use Rattle.rtk_convert.specs.Writing.{Written, WritesRest}
 use Rattle.rtk_convert.specs.Steps.WritingInPart.{WritesPartOfRest}
 
 -- the epoch that is closed by an arrival with this answer
-abbrev pub closed_by : Offer → Option EpochSetView
+abbrev pub closed_by : Outcome → Option EpochSetView
 closed_by Late = None
 closed_by (Taken closing) = closing
 closed_by Conflict = None

@@ -1,18 +1,18 @@
 -- The class and the lines of an answer of the collector.
 use Rattle.std.specs.Prelude.{ℕ, List, Option}
 use Rattle.rtk_collect.specs.declared.conflicts.SatelliteCode.{SatelliteCode}
-use Rattle.rtk_collect.specs.declared.offer.Offer.{Offer}
-use Rattle.rtk_collect.specs.declared.offer.Offer.TheVariants.{Taken, Conflict, Repeat, Late}
+use Rattle.rtk_collect.specs.declared.outcome.Outcome.{Outcome}
+use Rattle.rtk_collect.specs.declared.outcome.Outcome.TheVariants.{Taken, Conflict, Repeat, Late}
 use Rattle.rtk_collect.specs.Answer.{Class, LateClass, TakenClass, RepeatClass, ConflictClass}
 use Rattle.rtk_convert.specs.Report.{class_lines}
 
 -- the class of an answer
-abbrev pub class_of_offer : Offer → Class
+abbrev pub class_of_offer : Outcome → Class
 class_of_offer Late = LateClass
 class_of_offer (Taken closing) = TakenClass
 class_of_offer Repeat = RepeatClass
 class_of_offer Conflict = ConflictClass
 
 -- the lines of a message with this answer and these cells in conflict
-abbrev pub offer_lines : ℕ → ℕ → Option ℕ → Offer → List SatelliteCode → List ℕ
+abbrev pub offer_lines : ℕ → ℕ → Option ℕ → Outcome → List SatelliteCode → List ℕ
 offer_lines link number epoch offer listed = class_lines link number epoch (class_of_offer offer) listed

@@ -1,4 +1,5 @@
 use Rattle.std.proofs.Common.{◌≡◌, arith, sym, ◌∙◌}
+use Rattle.std.proofs.lemmas.Result.{err_from_is_err_and}
 use Rattle.rtk_collect.specs.EpochSet.{fresh}
 use Rattle.rtk_collect.proofs.RisingLemmas.{no-cells, alone}
 use Rattle.rtk_collect.proofs.CellsLemmas.{with_cells-none}
@@ -6,15 +7,16 @@ use Rattle.rtk_collect.proofs.merging.join_list.Goals as goal
 
 -- cells that rise, if the list has no cell yet
 
-pub returns-in-Err-clause-refused : goal.returns-in-Err-clause-refused
-returns-in-Err-clause-refused c =
+pub returns-in_err-extend_from_slice-clause-refused : goal.returns-in_err-extend_from_slice-clause-refused
+returns-in_err-extend_from_slice-clause-refused c =
+    let p = err_from_is_err_and c.from_residual.result c.from_residual.ensures.1 in
     let a = alone c.args.cells.now c.args.list.now.items (no-cells c.args.list.now.items _ c.args.list.now.ok.0 (sym c.is_empty.ensures ∙ c.if-is_empty.true)) (c.requires.rising c.if-rises.true) in
-    omega (arith, c.in-Err.ensures.full, c.args.list.now.ok.1, a.fresh)
+    rw p.1 (omega (arith, c.in_err-extend_from_slice.ensures.full, c.args.list.now.ok.1, a.fresh))
 
 pub returns-then-is_empty-clause-items : goal.returns-then-is_empty-clause-items
 returns-then-is_empty-clause-items c =
     let a = alone c.args.cells.now c.args.list.now.items (no-cells c.args.list.now.items _ c.args.list.now.ok.0 (sym c.is_empty.ensures ∙ c.if-is_empty.true)) (c.requires.rising c.if-rises.true) in
-    c.in_default.ensures.items ∙ a.items
+    c.in_ok-extend_from_slice.ensures.items ∙ a.items
 
 pub returns-then-is_empty-clause-fresh : goal.returns-then-is_empty-clause-fresh
 returns-then-is_empty-clause-fresh c =

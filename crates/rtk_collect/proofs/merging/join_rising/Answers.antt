@@ -12,10 +12,10 @@ slice_bounds-extend_from_slice-end c =
 pub merge_rising-requires-clause-room : goal.merge_rising-requires-clause-room
 merge_rising-requires-clause-room c =
     grown-room c.args.cells.now c.args.list.now.items c.deref_mut.result.now c.len-kept.result c.args.count (c.len-kept.ensures ∙ c.args.list.now.ok.0) c.requires.count
-    (c.deref_mut.ensures.value ∙ c.in-Ok.ensures.items ∙ ap (λ t. t ++ take c.args.count c.args.cells.now) c.in_default.ensures.items)
+    (c.deref_mut.ensures.value ∙ c.in-Ok.ensures.items ∙ ap (λ t. t ++ take c.args.count c.args.cells.now) c.in_ok-reserve_exact.ensures.items)
 
 pub returns-clause-items : goal.returns-clause-items
 returns-clause-items c =
     grown-whole c.args.cells.now c.args.list.now.items c.deref_mut.result.now c.len-kept.result c.args.count (c.len-kept.ensures ∙ c.args.list.now.ok.0) c.requires.count
-    (c.deref_mut.ensures.value ∙ c.in-Ok.ensures.items ∙ ap (λ t. t ++ take c.args.count c.args.cells.now) c.in_default.ensures.items)
+    (c.deref_mut.ensures.value ∙ c.in-Ok.ensures.items ∙ ap (λ t. t ++ take c.args.count c.args.cells.now) c.in_ok-reserve_exact.ensures.items)
     c.merge_rising.new.list c.extend_from_slice.new.self.items c.extend_from_slice.new.self.len c.requires.rising c.requires.rises c.merge_rising.ensures (sym c.deref_mut.ensures.len)

@@ -37,9 +37,9 @@ shows : (c : goal.After-unwrap_or-first) (h : HeadView) (s : PositionView) (t : 
 shows c h s t g p m =
     record {
       made = λ e. ap (λ (h : HeadView). h.made) c.in-Ok.ensures.head
-          ∙ shown_or c.read_made.result _ c.unwrap_or-made.result h.made c.unwrap_or-made.ensures (c.read_made.ensures.shown h.made (g.2, g.3, c.text_line.ensures ∙ e));
+          ∙ shown_or c.read_made.result _ c.unwrap_or-made.result h.made c.unwrap_or-made.ensures (c.read_made.ensures h.made (g.2, g.3, c.text_line.ensures ∙ e));
       marker = λ e. ap (λ (h : HeadView). h.marker) c.in-Ok.ensures.head
-          ∙ some_or _ c.read_marker.result _ c.unwrap_or-marker.result c.unwrap_or-marker.ensures (c.read_marker.ensures.shown h.marker (g.0, c.text_line-2.ensures ∙ e));
+          ∙ shown_or c.read_marker.result _ c.unwrap_or-marker.result h.marker c.unwrap_or-marker.ensures (c.read_marker.ensures h.marker (g.0, c.text_line-2.ensures ∙ e));
       place = λ e. some_or _ c.read_position.result _ c.unwrap_or-position.result c.unwrap_or-position.ensures (c.read_position.ensures.shown s (p, c.text_line-4.ensures ∙ e));
       height = λ e. height_is c ∙ shown_or c.read_height.result _ c.unwrap_or-height.result s.height c.unwrap_or-height.ensures (c.read_height.ensures s.height (p.3, c.text_line-3.ensures ∙ e));
       count = λ e. count_is c

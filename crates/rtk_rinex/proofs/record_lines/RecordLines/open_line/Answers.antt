@@ -2,7 +2,8 @@ use Rattle.std.proofs.Common.{◌≡◌, ℕ, ◌-◌, ◌≤◌, ◌++◌, List
 use Rattle.std.specs.Prelude.{max}
 use Rattle.std.proofs.lemmas.Bool.{le-ltb}
 use Rattle.std.proofs.lemmas.List.{take_at, drop_at, length-drop, length-take}
-use Rattle.rtk_rinex.specs.RecordLines.{RecordLinesView, HasOpenLine, no_observation}
+use Rattle.rtk_rinex.specs.Record.{no_observation}
+use Rattle.rtk_rinex.specs.RecordLines.{RecordLinesView, HasOpenLine}
 use Rattle.rtk_rinex.proofs.RecordLinesLemmas.{blank-later, blank-longer, longer-than, open-line}
 use Rattle.rtk_rinex.proofs.record_lines.RecordLines.open_line.Goals as goal
 

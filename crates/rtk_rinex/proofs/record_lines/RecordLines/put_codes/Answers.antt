@@ -1,6 +1,7 @@
 use Rattle.std.proofs.Common.{◌-◌, ◌++◌, List, length, replicate, take, get_or, refl, subst, ◌∙◌}
 use Rattle.rtk_rinex.specs.declared.epoch_table.Observed.{Observed}
-use Rattle.rtk_rinex.specs.RecordLines.{HasOpenLine, no_observation}
+use Rattle.rtk_rinex.specs.Record.{no_observation}
+use Rattle.rtk_rinex.specs.RecordLines.{HasOpenLine}
 use Rattle.rtk_rinex.proofs.RecordLinesLemmas.{next-free, next-code}
 use Rattle.rtk_rinex.proofs.record_lines.RecordLines.put_codes.Goals as goal
 

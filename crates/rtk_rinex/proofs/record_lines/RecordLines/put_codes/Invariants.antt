@@ -1,5 +1,6 @@
 use Rattle.std.proofs.Common.{◌-◌, ◌++◌, length, replicate, take}
-use Rattle.rtk_rinex.specs.RecordLines.{HasOpenLine, KeepsLines, no_observation}
+use Rattle.rtk_rinex.specs.Record.{no_observation}
+use Rattle.rtk_rinex.specs.RecordLines.{HasOpenLine, KeepsLines}
 use Rattle.rtk_rinex.proofs.record_lines.RecordLines.put_codes.Given as goal
 
 abbrev pub invariant-loop-place : goal.invariant-loop-place

@@ -1,9 +1,0 @@
-use Rattle.std.proofs.Common.{ap, sym, ◌∙◌, filter}
-use Rattle.rtk_obs.specs.declared.cell.CellSource.TheVariants.{Legacy}
-use Rattle.rtk_collect.specs.EpochSet.{EpochSetView, is_from}
-use Rattle.rtk_collect.proofs.KindLemmas.{legacy-is}
-use Rattle.rtk_collect.proofs.epoch_set.EpochSet.has_no_legacy.Goals as goal
-
-pub returns : goal.returns
-returns c = λ none.
-    sym (legacy-is c.self.inside.msm.items c.self.inside.legacy c.self.invariant.1 c.self.invariant.2 ∙ ap (λ (s : EpochSetView). filter (is_from Legacy) s.cells) c.self.view_is) ∙ c.is_empty.ensures none

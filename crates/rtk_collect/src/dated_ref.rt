@@ -1,0 +1,127 @@
+//! A message with its epoch.
+
+ghost use Rattle.std.specs.Prelude.{◌≡◌, ◌≤◌, length, All, IfSome, IfNone, IsTrue};
+ghost use Rattle.std.specs.Option.{is_some};
+ghost use Rattle.rtk_message.specs.AnyDecoded as any;
+ghost use Rattle.rtk_message.specs.Decoded.{IsValid, tow_of};
+ghost use Rattle.rtk_obs.specs.Cell.{IsInRange, AreRising};
+ghost use Rattle.rtk_obs.specs.MessageCells.{cells_of};
+ghost use Rattle.rtk_collect.specs.Arrival.{At, epoch_of, message_of, IsWideMsm};
+ghost use Rattle.rtk_collect.specs.Steps.Borrowed.{borrowed};
+
+use arrayvec::ArrayVec;
+use rtk_message::{AnyMessage, Message, Msm};
+use rtk_obs::{CellEntry, GpsMs, put_cells_msm, put_cells_of};
+use std::marker::Model;
+
+/// A message whose fields fit, which it borrows, with its epoch: the moment of its time of week
+/// (DF004).
+///
+/// A 1005 or 1006 has no time, and so no epoch.
+#[derive(Drop)]
+pub struct DatedRef<'a> {
+    pub(crate) message: Borrowed<'a>,
+    pub(crate) epoch: Option<GpsMs>,
+}
+
+/// A borrowed message: one of the four types, or a 1075, 1076 or 1077. An `AnyMessage` owns its
+/// message, so a `&Message` can't be lent as one.
+#[derive(Clone, Copy, Drop)]
+pub(crate) enum Borrowed<'a> {
+    Message(&'a Message),
+    Msm(&'a Msm),
+}
+
+impl<'a> Borrowed<'a> {
+    /// Puts the cells of the message into a list, in place of what it has. If the result is `true`, they
+    /// rise.
+    pub(crate) fn put_cells(self, found: &mut ArrayVec<CellEntry, 64>) -> bool
+        requires { any.IsValid (borrowed self) }
+        ensures cells { found.new.items ≡ cells_of (borrowed self.entry) }
+        ensures ranges { All IsInRange found.new.items }
+        ensures few { length found.new.items ≤ 64 }
+        ensures rises { IsTrue result → AreRising found.new.items }
+    {
+        match self {
+            Borrowed::Message(message) => put_cells_of(message, found),
+            Borrowed::Msm(message) => put_cells_msm(message, found),
+        }
+    }
+}
+
+// Clauses see an arrival: the epoch in ms and the message.
+impl<'a> Model for DatedRef<'a> {
+    ghost use Rattle.std.specs.Prelude.{◌≡◌};
+    ghost use Rattle.std.specs.Option.{is_some};
+    ghost use Rattle.rtk_message.specs.AnyDecoded.{IsValid, tow_of};
+    ghost use Rattle.rtk_collect.specs.Arrival.{Arrival, At};
+    ghost use Rattle.rtk_collect.specs.Steps.Borrowed.{borrowed};
+
+    ghost Value = { Arrival };
+
+    ghost view = { λ d. At d.epoch (borrowed d.message) };
+
+    ghost invariant = { λ d. IsValid (borrowed d.message) × (is_some d.epoch ≡ is_some (tow_of (borrowed d.message))) };
+}
+
+impl<'a> DatedRef<'a> {
+    /// A message with its epoch, which is `None` exactly for 1005 and 1006.
+    pub fn new(message: &'a Message, epoch: Option<GpsMs>) -> DatedRef<'a>
+        requires fits { IsValid message.now }
+        requires has_epoch { is_some epoch ≡ is_some (tow_of message.now) }
+        ensures { result ≡ At epoch (AnyMessage.Message message.now) }
+    {
+        DatedRef {
+            message: Borrowed::Message(message),
+            epoch,
+        }
+    }
+
+    /// A message of a wider set with its epoch, which is `None` exactly for 1005 and 1006.
+    pub fn of_any(message: &'a AnyMessage, epoch: Option<GpsMs>) -> DatedRef<'a>
+        requires fits { any.IsValid message.now }
+        requires has_epoch { is_some epoch ≡ is_some (any.tow_of message.now) }
+        ensures { result ≡ At epoch message.now }
+    {
+        match message {
+            AnyMessage::Message(message) => DatedRef {
+                message: Borrowed::Message(message),
+                epoch,
+            },
+            AnyMessage::Msm(message) => DatedRef {
+                message: Borrowed::Msm(message),
+                epoch,
+            },
+        }
+    }
+
+    /// The message; `None` exactly for a 1075, 1076 or 1077.
+    pub fn message(&self) -> Option<&'a Message>
+        ensures value { IfSome result (λ m. AnyMessage.Message m.now ≡ message_of self.now) }
+        ensures fits { IfSome result (λ m. IsValid m.now) }
+        ensures none { IfNone result (IsWideMsm (message_of self.now)) }
+    {
+        match self.message {
+            Borrowed::Message(message) => Some(message),
+            Borrowed::Msm(_) => None,
+        }
+    }
+
+    /// The message number (DF002).
+    pub fn number(&self) -> u16
+        ensures { result ≡ any.number_of (message_of self.now) }
+    {
+        match self.message {
+            Borrowed::Message(message) => message.number(),
+            Borrowed::Msm(message) => message.kind.number(),
+        }
+    }
+
+    /// The epoch; `None` exactly for 1005 and 1006.
+    pub fn epoch(&self) -> Option<GpsMs>
+        ensures value { result ≡ epoch_of self.now }
+        ensures has_epoch { is_some result ≡ is_some (any.tow_of (message_of self.now)) }
+    {
+        self.epoch
+    }
+}

@@ -1,0 +1,192 @@
+//! An epoch with its cells.
+
+ghost use Rattle.std.specs.Prelude.{◌≡◌, ◌<◌, ◌≤◌, [], length, filter, IsTrue, IfOk, OnOk, OnErr, All};
+ghost use Rattle.rtk_obs.specs.Cell.{IsInRange};
+ghost use Rattle.rtk_obs.specs.LegacyCells.{cells_of_1004};
+ghost use Rattle.rtk_obs.specs.declared.cell.CellSource.TheVariants.{Legacy, Msm};
+ghost use Rattle.rtk_obs.specs.MessageCells.{AreOfOneKind};
+ghost use Rattle.rtk_collect.specs.Key.{KeysRise};
+ghost use Rattle.rtk_collect.specs.EpochSet.{joined, fresh, conflicts, is_from, AreLeftBeside};
+ghost use Rattle.rtk_collect.specs.Steps.First.{AreFirst};
+ghost use Rattle.rtk_collect.specs.Steps.Room.{AreSpare};
+
+use crate::conflicts::Conflicts;
+use crate::legacy_list::{LegacyList, LegacyRoom, if_of_room};
+use crate::merging::{join_list, source_of};
+use arrayvec::ArrayVec;
+use rtk_message::Satellite;
+use rtk_obs::{CellEntry, CellSource, GpsMs};
+use std::alloc::{AllocError, Global};
+use std::marker::Model;
+use std::mem::replace;
+
+/// An epoch with its cells: one for each satellite, code and kind of message, at most 1,024.
+///
+/// Those that came in an MSM (1074 to 1077) stand in one list, those that came in a 1004 in another;
+/// each rises by satellite and code. As long as one 1004 came, and its satellites rise, these are kept
+/// in place of its cells. The satellites are 1 to 32; a strength is absent, or 250 to 63,750 thousandths
+/// of a dB-Hz in steps of 250.
+#[derive(Drop)]
+pub struct GatheredSet {
+    epoch: GpsMs,
+    msm: Vec<CellEntry>,
+    legacy: LegacyList,
+}
+
+/// For how many cells of each kind of message there is room.
+#[derive(Clone, Copy)]
+pub(crate) struct Room {
+    pub(crate) msm: usize,
+    pub(crate) legacy: LegacyRoom,
+}
+
+/// Lists without cells, for an epoch that opens later.
+#[derive(Drop)]
+pub(crate) struct Spare {
+    pub(crate) msm: Vec<CellEntry>,
+    pub(crate) legacy: LegacyList,
+}
+
+// Clauses see the epoch in ms and one list of cells, in which each stands at its key.
+impl Model for GatheredSet {
+    ghost use Rattle.std.specs.Prelude.{◌≡◌};
+    ghost use Rattle.rtk_obs.specs.declared.cell.CellSource.TheVariants.{Legacy, Msm};
+    ghost use Rattle.rtk_collect.specs.EpochSet.{EpochSetView, AreKeptOf, with_cells};
+
+    ghost Value = { EpochSetView };
+
+    ghost view = { λ s. record { epoch = s.epoch; cells = with_cells s.legacy s.msm.items } };
+
+    ghost invariant = { λ s. (s ≡ record { epoch = s.epoch; msm = s.msm; legacy = s.legacy })
+        × AreKeptOf Msm s.msm.items × AreKeptOf Legacy s.legacy };
+}
+
+impl GatheredSet {
+    /// An epoch without cells, which has room for so many of each kind. It has each spare list that has
+    /// just the room that is wanted; any other is given up before memory is taken.
+    #[inline(always)]
+    pub(crate) fn with_room(
+        alloc: Global,
+        epoch: GpsMs,
+        room: Room,
+        spare: &mut Spare,
+    ) -> Result<GatheredSet, AllocError>
+        requires { AreSpare spare.old }
+        ensures set { IfOk result (λ set. set ≡ record { epoch = epoch; cells = [] }) }
+        ensures spare { AreSpare spare.new }
+    {
+        let mut msm = replace(&mut spare.msm, Vec::new(alloc));
+        let legacy = replace(&mut spare.legacy, LegacyList::new(alloc));
+        msm = if_of_room(alloc, msm, room.msm);
+        msm.reserve(room.msm)?;
+        let legacy = legacy.with_room(alloc, room.legacy)?;
+        Ok(GatheredSet { epoch, msm, legacy })
+    }
+
+    /// The lists of the cells without a cell, for an epoch that opens later.
+    pub(crate) fn into_spare(self) -> Spare
+        ensures { AreSpare result }
+    {
+        let mut msm = self.msm;
+        msm.clear();
+        Spare {
+            msm,
+            legacy: self.legacy.cleared(),
+        }
+    }
+
+    /// The epoch.
+    pub fn epoch(&self) -> GpsMs
+        ensures { result ≡ self.now.epoch }
+    {
+        self.epoch
+    }
+
+    /// The cells that came in an MSM (1074 to 1077).
+    pub fn msm_cells(&self) -> &[CellEntry]
+        ensures value { result.now ≡ filter (is_from Msm) self.now.cells }
+        ensures rises { KeysRise result.now }
+        ensures range { All IsInRange result.now }
+        ensures kind { AreOfOneKind result.now }
+        ensures all_rise { KeysRise self.now.cells }
+        ensures all_in_range { All IsInRange self.now.cells }
+        ensures few { length self.now.cells ≤ 1024 }
+    {
+        &self.msm
+    }
+
+    /// The cells that came in a 1004. If they are kept as satellites, they are put into this room.
+    pub fn legacy_cells<'a>(&'a self, room: &'a mut ArrayVec<CellEntry, 64>) -> &'a [CellEntry]
+        ensures value { result.now ≡ filter (is_from Legacy) self.now.cells }
+        ensures rises { KeysRise result.now }
+        ensures range { All IsInRange result.now }
+        ensures kind { AreOfOneKind result.now }
+        ensures all_rise { KeysRise self.now.cells }
+        ensures all_in_range { All IsInRange self.now.cells }
+        ensures few { length self.now.cells ≤ 1024 }
+    {
+        self.legacy.left(&[], room)
+    }
+
+    /// The cells that came in a 1004, or those of them whose satellite and code no cell of an MSM
+    /// has. If they are kept as satellites, they are put into this room.
+    pub fn legacy_left<'a>(&'a self, room: &'a mut ArrayVec<CellEntry, 64>) -> &'a [CellEntry]
+        ensures left { AreLeftBeside (filter (is_from Msm) self.now.cells) (filter (is_from Legacy) self.now.cells) result.now }
+        ensures rises { KeysRise result.now }
+        ensures range { All IsInRange result.now }
+        ensures kind { AreOfOneKind result.now }
+    {
+        self.legacy.left(&self.msm, room)
+    }
+
+    /// How much room the epoch needs for the cells of 1004.
+    pub(crate) fn legacy_room(&self) -> LegacyRoom {
+        self.legacy.room()
+    }
+
+    /// Whether no cell came in a 1004.
+    pub(crate) fn has_no_legacy(&self) -> bool
+        ensures { IsTrue result → filter (is_from Legacy) self.now.cells ≡ [] }
+    {
+        self.legacy.is_empty()
+    }
+
+    /// Takes the satellites of the first 1004. All memory is taken before.
+    #[inline(always)]
+    pub(crate) fn take_first(&mut self, satellites: &[Satellite]) -> Result<(), AllocError>
+        requires first { AreFirst satellites.now }
+        requires none { filter (is_from Legacy) self.old.cells ≡ [] }
+        ensures set { OnOk result (self.new ≡ joined (cells_of_1004 satellites.now) self.old) }
+        ensures fresh { 0 < fresh (cells_of_1004 satellites.now) self.old.cells }
+        ensures conflicts { conflicts (cells_of_1004 satellites.now) self.old.cells ≡ [] }
+        ensures err { OnErr result (self.new ≡ self.old) }
+    {
+        self.legacy.take_first(satellites)
+    }
+
+    /// Takes the cells of a message whose keys are new, and says how many these are; those that
+    /// conflict are added to an empty list. If `rises`, the keys of the cells rise. Memory is taken for
+    /// new cells alone, before the first one is added.
+    pub(crate) fn join(
+        &mut self,
+        cells: &[CellEntry],
+        rises: bool,
+        found: &mut Conflicts,
+    ) -> Result<usize, AllocError>
+        requires few { length cells.now ≤ 64 }
+        requires range { All IsInRange cells.now }
+        requires kind { AreOfOneKind cells.now }
+        requires rising { IsTrue rises → KeysRise cells.now }
+        requires empty { found.old ≡ [] }
+        ensures set { IfOk result (λ n. self.new ≡ joined cells.now self.old) }
+        ensures fresh { IfOk result (λ n. n ≡ fresh cells.now self.old.cells) }
+        ensures conflicts { IfOk result (λ n. found.new ≡ conflicts cells.now self.old.cells) }
+        ensures err { OnErr result (self.new ≡ self.old) }
+        ensures refused { OnErr result (0 < fresh cells.now self.old.cells) }
+    {
+        match source_of(cells) {
+            CellSource::Msm => join_list(&mut self.msm, cells, rises, found),
+            CellSource::Legacy => self.legacy.join_list(cells, rises, found),
+        }
+    }
+}

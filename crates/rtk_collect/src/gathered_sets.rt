@@ -1,0 +1,68 @@
+//! What is left of a gatherer at its end.
+
+ghost use Rattle.std.specs.Prelude.{◌≡◌, ℕ, ◌<◌, List, [], ◌∷◌, ◌++◌, IfSome, IfNone, All};
+ghost use Rattle.rtk_collect.specs.Arrival.{Arrival};
+ghost use Rattle.rtk_collect.specs.Collector.{IsLeftView, KeepsStations};
+ghost use Rattle.rtk_collect.specs.Offered.{NotBelow};
+ghost use Rattle.rtk_collect.specs.StationPosition.{IsPosition, IsPositionOf};
+
+use crate::gathered_set::GatheredSet;
+use crate::stations::{StationMessages, position};
+use crate::window::take_last;
+use rtk_obs::Position;
+use std::collections::VecDeque;
+use std::marker::Model;
+
+/// The epochs that a gatherer had at its end, with the first 1005 and 1006.
+#[derive(Drop)]
+pub struct GatheredSets {
+    sets: VecDeque<GatheredSet>,
+    stations: StationMessages,
+}
+
+// Clauses see the epochs that are left, from the greatest to the least, the 1005 and the 1006.
+impl Model for GatheredSets {
+    ghost use Rattle.std.specs.Prelude.{◌≡◌};
+    ghost use Rattle.rtk_collect.specs.Collector.{LeftView, IsLeftView};
+
+    ghost Value = { LeftView };
+
+    ghost view = { λ l. record { sets = l.sets.items; arp1005 = l.stations.arp1005; arp1006 = l.stations.arp1006 } };
+
+    ghost invariant = { λ l. (l ≡ record { sets = l.sets; stations = l.stations })
+        × IsLeftView (record { sets = l.sets.items; arp1005 = l.stations.arp1005; arp1006 = l.stations.arp1006 })
+        × (l.stations ≡ record { arp1005 = l.stations.arp1005; arp1006 = l.stations.arp1006 }) };
+}
+
+impl GatheredSets {
+    /// These epochs and station messages.
+    pub(crate) fn new(sets: VecDeque<GatheredSet>, stations: StationMessages) -> GatheredSets
+        requires { IsLeftView (record { sets = sets.items; arp1005 = stations.arp1005; arp1006 = stations.arp1006 }) }
+        ensures { result ≡ record { sets = sets.items; arp1005 = stations.arp1005; arp1006 = stations.arp1006 } }
+    {
+        GatheredSets { sets, stations }
+    }
+
+    /// The least epoch that is left, with its kept cells. `None` exactly if no epoch is left.
+    pub fn next_left(&mut self) -> Option<GatheredSet>
+        ensures next { IfSome result (λ set. self.old.sets ≡ self.new.sets ++ set ∷ []) }
+        ensures least { IfSome result (λ set. All (λ x. set.epoch < x.epoch) self.new.sets) }
+        ensures not_below { IfSome result (λ set. NotBelow set self.old.sets) }
+        ensures none { IfNone result (self.old.sets ≡ []) }
+        ensures stays { IfNone result (self.new ≡ self.old) }
+        ensures arp1005 { self.new.arp1005 ≡ self.old.arp1005 }
+        ensures arp1006 { self.new.arp1006 ≡ self.old.arp1006 }
+        ensures stations { (n : ℕ) (arrivals : List Arrival) → KeepsStations self.old n arrivals → KeepsStations self.new n arrivals }
+    {
+        take_last(&mut self.sets)
+    }
+
+    /// The position of the first 1006, else of the first 1005, else zeros, with the height of the
+    /// 1006, else zero.
+    pub fn station(&self) -> Position
+        ensures position { IsPosition self.now.arp1005 self.now.arp1006 result }
+        ensures kept { (n : ℕ) (arrivals : List Arrival) → KeepsStations self.now n arrivals → IsPositionOf n arrivals result }
+    {
+        position(self.stations)
+    }
+}

@@ -1,0 +1,342 @@
+-- A conversion represents two lists of found frames: the next frame adds the same to the files and the reports of both, and so
+-- does the end.
+use Rattle.std.proofs.Common.{◌≡◌, ℕ, List, [], ◌∷◌, ◌++◌, take, Option, None, Some, Result, Ok, Err, refl, ap, append_assoc, sym, ◌∙◌, arith, inl, inr}
+use Rattle.std.specs.Prelude.{is_some}
+use Rattle.std.proofs.lemmas.Bool.{cases_Bool}
+use Rattle.std.proofs.lemmas.List.{append-nil, append_cancel_left, take-append-drop}
+use Rattle.rtk_frame.specs.Stream.{with_more, count_after}
+use Rattle.rtk_message.specs.declared.any_message.AnyMessage.{AnyMessage as Message}
+use Rattle.rtk_message.specs.declared.any_message.AnyMessage.TheVariants as any
+use Rattle.rtk_message.specs.declared.message.Message.TheVariants.{Obs1004, Arp1005, Arp1006, Msm1074}
+use Rattle.rtk_message.specs.declared.any_fault.AnyFault.{AnyFault}
+use Rattle.rtk_message.specs.declared.any_fault.AnyFault.TheVariants.{NoNumber, Other, Short, EpochRange, TooManyCells}
+use Rattle.rtk_message.specs.AnyDecoded.{number_of, tow_of}
+use Rattle.rtk_obs.specs.declared.cell.Cell.{Cell}
+use Rattle.rtk_obs.specs.declared.code.Band.{Band}
+use Rattle.rtk_obs.specs.declared.code.Code.{Code}
+use Rattle.rtk_obs.specs.declared.track.Track.{Track}
+use Rattle.rtk_obs.specs.Cell.{IsSatellite}
+use Rattle.rtk_obs.specs.Code.{band_of}
+use Rattle.rtk_obs.specs.Rollover.{last_after, last_phase}
+use Rattle.rtk_obs.specs.Slip.{EpochCell, epoch_cell}
+use Rattle.rtk_collect.specs.Accepted.{station, kept, closed, no_cells}
+use Rattle.rtk_collect.specs.Answer.{Class, class_of, conflicts_of}
+use Rattle.rtk_collect.specs.Arrival.{Arrival, At, epoch_of, message_of}
+use Rattle.rtk_collect.specs.EpochSet.{EpochSetView}
+use Rattle.rtk_collect.specs.Late.{late}
+use Rattle.rtk_collect.specs.Laws.{KeptAreGreatest, ExcusedIsKept}
+use Rattle.rtk_collect.specs.declared.conflicts.SatelliteCode.{SatelliteCode}
+use Rattle.rtk_collect.proofs.PublicLaws.{closed-drop}
+use Rattle.rtk_rinex.specs.Header.{PositionView}
+use Rattle.rtk_rinex.specs.Record.{record_text}
+use Rattle.rtk_rinex.specs.declared.epoch_table.SatelliteRow.{SatelliteRow}
+use Rattle.rtk_convert.specs.declared.counts.Counts.{Counts}
+use Rattle.rtk_convert.specs.declared.frame_class.FrameClass.{FrameClass}
+use Rattle.rtk_convert.specs.declared.frame_class.FrameClass.TheVariants.{OtherMessage, Refused, Foreign, Dated}
+use Rattle.rtk_convert.specs.Conversion.{found_on}
+use Rattle.rtk_convert.specs.File.{record_of, first_or, first_time, one_more_if_any, record_count}
+use Rattle.rtk_convert.specs.FileOfArrivals.{site_of_stations, site_of_kept, kept_file, file_so_far}
+use Rattle.rtk_convert.specs.Finish.{all_counts, report_of}
+use Rattle.rtk_convert.specs.FrameClass.{IsEpochOf, IsClassOfReading, IsClassOfPayload, Found, arrivals}
+use Rattle.rtk_convert.specs.History.{Finds, newest_on}
+use Rattle.rtk_convert.specs.Report.{class_lines, frame_lines, lines, counted_as, one_frame_more, frame_counts}
+use Rattle.rtk_convert.specs.ReportText.{count_lines}
+use Rattle.rtk_convert.specs.Rows.{cell_at, and_below, last_phase_of, observed_after, observed_at}
+use Rattle.rtk_convert.specs.Setup.{SetupView}
+use Rattle.rtk_convert.specs.Steps.ClosedText.{header_before, closed_text, closing_text, closing}
+use Rattle.rtk_convert.specs.Writing.{WritesRest}
+use Rattle.rtk_convert.proofs.FileLemmas.{first_time-more, closed-more, file-closed}
+use Rattle.rtk_convert.proofs.RowsLemmas.{rows_to-same}
+use Rattle.rtk_convert.proofs.SameWindowLemmas.{SameWindow, HasStationNumber, AnsweredAlike, answered-alike, class-late}
+use Rattle.rtk_convert.proofs.SoFarLemmas.{so_far-is, text-final}
+
+-- ---- texts
+
+-- two texts went on with the same text
+pub record GoOnAlike (first first_after second second_after : List ℕ) : Type 0 where
+  pub more : List ℕ
+  pub first_is : first_after ≡ first ++ more
+  pub second_is : second_after ≡ second ++ more
+
+pub alike-none : (x y : List ℕ) → GoOnAlike x x y y
+alike-none x y = record { more = []; first_is = sym (append-nil x); second_is = sym (append-nil y) }
+
+pub alike-on : (a b c x y z : List ℕ) → GoOnAlike a b x y → GoOnAlike b c y z → GoOnAlike a c x z
+alike-on a b c x y z p q = record {
+  more = p.more ++ q.more;
+  first_is = q.first_is ∙ ap (λ t. t ++ q.more) p.first_is ∙ append_assoc a p.more q.more;
+  second_is = q.second_is ∙ ap (λ t. t ++ q.more) p.second_is ∙ append_assoc x p.more q.more;
+}
+
+pub rest-alike : (before after : Option (List ℕ)) (a b x y : List ℕ) → GoOnAlike a b x y → WritesRest before after a b → WritesRest before after x y
+rest-alike before after a b x y g w =
+    (g.more, g.second_is, w.2 ∙ ap (with_more before) (append_cancel_left a w.0 g.more (sym w.1 ∙ g.first_is)))
+
+-- ---- closed epochs
+
+-- the same phases are the last ones, both have a record or none, and as many records
+pub record SameClosed (listed : List Code) (first second : List EpochSetView) : Type 0 where
+  pub phases : (satellite : ℕ) (code : Code) → IsSatellite satellite → last_phase_of first satellite code ≡ last_phase_of second satellite code
+  pub header : is_some (first_time listed first) ≡ is_some (first_time listed second)
+  pub count : record_count listed first ≡ record_count listed second
+
+text_of : ℕ → List SatelliteRow → List ℕ
+text_of epoch rows = record_text (record { time = epoch; rows = rows })
+
+record-same : (listed : List Code) (e : EpochSetView) (first second : List EpochSetView) → SameClosed listed first second → record_of listed e first ≡ record_of listed e second
+unfolding text_of
+record-same listed e first second c =
+    ap (text_of e.epoch) (rows_to-same (observed_at e first) (observed_at e second) listed 32 (omega arith)
+    (λ s code is. ap (λ (t : Option Track). observed_after t code e.epoch (cell_at e.cells s code)) (c.phases s code is)))
+
+phase-step : (band : Band) (epoch : ℕ) (o : Option Cell) (xs ys : List EpochCell) → last_phase band xs ≡ last_phase band ys → last_phase band (and_below epoch o xs) ≡ last_phase band (and_below epoch o ys)
+phase-step band epoch None xs ys h = h
+phase-step band epoch (Some c) xs ys h = ap (λ (t : Option Track). last_after band t (epoch_cell epoch c)) h
+
+header-step : (o p : Option ℕ) (epoch : ℕ) (text : List ℕ) → is_some o ≡ is_some p → is_some (first_or o epoch text) ≡ is_some (first_or p epoch text)
+header-step None None epoch text h = refl
+header-step None (Some t) epoch text h = absurd cc
+header-step (Some t) None epoch text h = absurd cc
+header-step (Some t) (Some u) epoch text h = refl
+
+one-closed : (listed : List Code) (e : EpochSetView) (first second : List EpochSetView) → SameClosed listed first second → SameClosed listed (e ∷ first) (e ∷ second)
+unfolding record_count
+one-closed listed e first second c =
+    let same = record-same listed e first second c in
+    record {
+      phases = λ s code is. phase-step (band_of code) e.epoch (cell_at e.cells s code) _ _ (c.phases s code is);
+      header = ap is_some (first_time-more listed e first) ∙ header-step (first_time listed first) (first_time listed second) e.epoch (record_of listed e first) c.header
+          ∙ ap (λ t. is_some (first_or (first_time listed second) e.epoch t)) same ∙ ap is_some (sym (first_time-more listed e second));
+      count = ap (one_more_if_any (record_of listed e first)) c.count ∙ ap (λ t. one_more_if_any t (record_count listed second)) same;
+    }
+
+more-closed : (listed : List Code) (more first second : List EpochSetView) → SameClosed listed first second → SameClosed listed (more ++ first) (more ++ second)
+more-closed listed [] first second c = c
+more-closed listed (e ∷ more) first second c = one-closed listed e (more ++ first) (more ++ second) (more-closed listed more first second c)
+
+closing-same : (s : SetupView) (site : PositionView) (e : EpochSetView) (first second : List EpochSetView) → SameClosed s.head.listed first second → closing s site e first ≡ closing s site e second
+closing-same s site e first second c =
+    ap (λ b. closing_text s site e.epoch b (record_of s.head.listed e first)) c.header
+    ∙ ap (closing_text s site e.epoch (is_some (first_time s.head.listed second))) (record-same s.head.listed e first second c)
+
+closed-alike : (s : SetupView) (site : PositionView) (more first second : List EpochSetView) → SameClosed s.head.listed first second
+    → GoOnAlike (closed_text s site first) (closed_text s site (more ++ first)) (closed_text s site second) (closed_text s site (more ++ second))
+closed-alike s site [] first second c = alike-none (closed_text s site first) (closed_text s site second)
+closed-alike s site (e ∷ more) first second c =
+    alike-on (closed_text s site first) (closed_text s site (more ++ first)) (closed_text s site (e ∷ more ++ first))
+    (closed_text s site second) (closed_text s site (more ++ second)) (closed_text s site (e ∷ more ++ second))
+    (closed-alike s site more first second c)
+    (record {
+      more = closing s site e (more ++ first);
+      first_is = closed-more s site e (more ++ first);
+      second_is = closed-more s site e (more ++ second)
+          ∙ ap (λ t. closed_text s site (more ++ second) ++ t) (sym (closing-same s site e (more ++ first) (more ++ second) (more-closed s.head.listed more first second c)));
+    })
+
+-- ---- an arrival
+
+site-same : (n : ℕ) (first second : List Arrival) → SameWindow n first second → site_of_kept n first ≡ site_of_kept n second
+site-same n first second w =
+    ap (λ (m : Option Message). site_of_stations m (station n 1006 first)) w.arp1005 ∙ ap (site_of_stations (station n 1005 second)) w.arp1006
+
+arrival-alike : (s : SetupView) (a : Arrival) (first second : List Arrival) → AnsweredAlike s.window a first second → SameClosed s.head.listed (closed s.window first) (closed s.window second)
+    → GoOnAlike (file_so_far s first) (file_so_far s (a ∷ first)) (file_so_far s second) (file_so_far s (a ∷ second))
+arrival-alike s a first second alike c =
+    let site = site_of_kept s.window (a ∷ first) in
+    let same : site_of_kept s.window (a ∷ second) ≡ site = sym (site-same s.window (a ∷ first) (a ∷ second) alike.holds) in
+    let g = closed-alike s site alike.closes (closed s.window first) (closed s.window second) c in
+    record {
+      more = g.more;
+      first_is = so_far-is s (a ∷ first) ∙ ap (closed_text s site) alike.first_closes ∙ g.first_is
+          ∙ ap (λ t. t ++ g.more) (text-final s a first ∙ sym (so_far-is s first));
+      second_is = so_far-is s (a ∷ second) ∙ ap (λ (p : PositionView). closed_text s p (closed s.window (a ∷ second))) same ∙ ap (closed_text s site) alike.second_closes ∙ g.second_is
+          ∙ ap (λ t. t ++ g.more) (ap (λ (p : PositionView). closed_text s p (closed s.window second)) (sym same) ∙ text-final s a second ∙ sym (so_far-is s second));
+    }
+
+closed-after-same : (s : SetupView) (a : Arrival) (first second : List Arrival) → AnsweredAlike s.window a first second → SameClosed s.head.listed (closed s.window first) (closed s.window second)
+    → SameClosed s.head.listed (closed s.window (a ∷ first)) (closed s.window (a ∷ second))
+closed-after-same s a first second alike c =
+    let more = more-closed s.head.listed alike.closes (closed s.window first) (closed s.window second) c in
+    rw (alike.first_closes, alike.second_closes) more
+
+lines-same : (n link : ℕ) (a : Arrival) (first second : List Arrival) → AnsweredAlike n a first second → frame_lines n link (Dated a) first ≡ frame_lines n link (Dated a) second
+lines-same n link a first second alike =
+    let with_class = λ (c : Class) (cells : List SatelliteCode). class_lines link (number_of (message_of a)) (epoch_of a) c cells in
+    elim (cases_Bool (late n a first)) [
+      | inl over ↦
+          ap (λ (c : Class). with_class c (conflicts_of n a first)) (class-late n a first over)
+          ∙ ap (λ (c : Class). with_class c (conflicts_of n a second)) (sym (class-late n a second (sym alike.same_late ∙ over)))
+      | inr fresh ↦
+          ap (λ (c : Class). with_class c (conflicts_of n a first)) alike.same_class ∙ ap (with_class (class_of n a second)) (alike.same_conflicts fresh)
+    ]
+
+-- ---- a frame
+
+-- a conversion with this setup represents both
+pub record SameFound (s : SetupView) (first second : List Found) : Type 0 where
+  pub window : SameWindow s.window (arrivals first) (arrivals second)
+  pub closed : SameClosed s.head.listed (closed s.window (arrivals first)) (closed s.window (arrivals second))
+  pub counts : frame_counts s.window first ≡ frame_counts s.window second
+
+-- a frame adds the same to the files and the reports of both, and then they are the same for a conversion again
+pub record AddsAlike (s : SetupView) (first first_after second second_after : List Found) : Type 0 where
+  pub file : GoOnAlike (file_so_far s (arrivals first)) (file_so_far s (arrivals first_after)) (file_so_far s (arrivals second)) (file_so_far s (arrivals second_after))
+  pub report : GoOnAlike (lines s.window first) (lines s.window first_after) (lines s.window second) (lines s.window second_after)
+  pub same : SameFound s first_after second_after
+
+station-number : (near : ℕ) (m : Message) (e : Option ℕ) → IsEpochOf near (tow_of m) e → HasStationNumber (At e m)
+station-number near m (Some t) is = tt
+station-number near (any.Message (Obs1004 m)) None is = absurd is
+station-number near (any.Message (Arp1005 m)) None is = inl refl
+station-number near (any.Message (Arp1006 m)) None is = inr refl
+station-number near (any.Message (Msm1074 m)) None is = absurd is
+station-number near (any.Msm m) None is = absurd is
+
+message-number : (near : ℕ) (m : Message) (a : Arrival) (e : Option ℕ) (n : Message) → a ≡ At e n → n ≡ m → IsEpochOf near (tow_of m) e → HasStationNumber a
+message-number near m a e n is same epoch = rw (is, same) (station-number near m e epoch)
+
+numbered : (s : SetupView) (r : Result Message AnyFault) (a : Arrival) → IsClassOfReading s r (Dated a) → HasStationNumber a
+numbered s (Ok m) (At e n) is = message-number s.near m (At e n) e n refl is.1.0 is.1.1
+numbered s (Err NoNumber) a is = absurd cc
+numbered s (Err (Other number)) a is = absurd cc
+numbered s (Err (Short number)) a is = absurd cc
+numbered s (Err (EpochRange number)) a is = absurd cc
+numbered s (Err (TooManyCells number)) a is = absurd cc
+
+frame-alike : KeptAreGreatest → ExcusedIsKept → (s : SetupView) (link : ℕ) (payload : List ℕ) (f : FrameClass) (first second : List Found) → IsClassOfPayload s payload f → SameFound s first second
+    → AddsAlike s first (found_on link f ∷ first) second (found_on link f ∷ second)
+frame-alike greatest excused s link payload OtherMessage first second comes same = record {
+  file = alike-none (file_so_far s (arrivals first)) (file_so_far s (arrivals second));
+  report = record { more = []; first_is = refl; second_is = refl };
+  same = record { window = same.window; closed = same.closed; counts = ap (λ (c : Counts). record (one_frame_more c) { other = count_after c.other }) same.counts };
+}
+frame-alike greatest excused s link payload (Refused fault) first second comes same = record {
+  file = alike-none (file_so_far s (arrivals first)) (file_so_far s (arrivals second));
+  report = record { more = frame_lines s.window link (Refused fault) []; first_is = refl; second_is = refl };
+  same = record { window = same.window; closed = same.closed; counts = ap (λ (c : Counts). record (one_frame_more c) { refused = count_after c.refused }) same.counts };
+}
+frame-alike greatest excused s link payload Foreign first second comes same = record {
+  file = alike-none (file_so_far s (arrivals first)) (file_so_far s (arrivals second));
+  report = record { more = []; first_is = refl; second_is = refl };
+  same = record { window = same.window; closed = same.closed; counts = ap (λ (c : Counts). record (one_frame_more c) { foreign = count_after c.foreign }) same.counts };
+}
+frame-alike greatest excused s link payload (Dated a) first second comes same =
+    let alike = answered-alike greatest excused s.window a (arrivals first) (arrivals second) (numbered s comes.0 a comes.2) same.window in
+    record {
+      file = arrival-alike s a (arrivals first) (arrivals second) alike same.closed;
+      report = record {
+        more = frame_lines s.window link (Dated a) (arrivals first);
+        first_is = refl;
+        second_is = ap (λ t. lines s.window second ++ t) (sym (lines-same s.window link a (arrivals first) (arrivals second) alike));
+      };
+      same = record {
+        window = alike.holds;
+        closed = closed-after-same s a (arrivals first) (arrivals second) alike same.closed;
+        counts = ap (λ (c : Counts). counted_as (class_of s.window a (arrivals first)) (one_frame_more c)) same.counts
+            ∙ ap (λ (c : Class). counted_as c (one_frame_more (frame_counts s.window second))) alike.same_class;
+      };
+    }
+
+-- ---- the frames that a call finds
+
+-- frames with these payloads are found after both, and add the same
+pub record FindsAlike (s : SetupView) (link : ℕ) (ps : List (List ℕ)) (first first_after second : List Found) : Type 0 where
+  pub after : List Found
+  pub finds : Finds s link ps second after
+  pub adds : AddsAlike s first first_after second after
+  pub newest : (k : ℕ) → newest_on k first ≡ newest_on k second → newest_on k first_after ≡ newest_on k after
+
+adds-on : (s : SetupView) (a b c x y z : List Found) → AddsAlike s a b x y → AddsAlike s b c y z → AddsAlike s a c x z
+adds-on s a b c x y z p q = record {
+  file = alike-on (file_so_far s (arrivals a)) (file_so_far s (arrivals b)) (file_so_far s (arrivals c)) (file_so_far s (arrivals x)) (file_so_far s (arrivals y)) (file_so_far s (arrivals z)) p.file q.file;
+  report = alike-on (lines s.window a) (lines s.window b) (lines s.window c) (lines s.window x) (lines s.window y) (lines s.window z) p.report q.report;
+  same = q.same;
+}
+
+pub adds-none : (s : SetupView) (first second : List Found) → SameFound s first second → AddsAlike s first first second second
+adds-none s first second same = record {
+  file = alike-none (file_so_far s (arrivals first)) (file_so_far s (arrivals second));
+  report = alike-none (lines s.window first) (lines s.window second);
+  same = same;
+}
+
+newest-step : (link k : ℕ) (f : FrameClass) (first second : List Found) → newest_on k first ≡ newest_on k second → newest_on k (found_on link f ∷ first) ≡ newest_on k (found_on link f ∷ second)
+newest-step link k f first second h = rw h refl
+
+pub finds-alike : KeptAreGreatest → ExcusedIsKept → (s : SetupView) (link : ℕ) (ps : List (List ℕ)) (first first_after second : List Found) → Finds s link ps first first_after → SameFound s first second
+    → FindsAlike s link ps first first_after second
+finds-alike greatest excused s link [] first first_after second found same =
+    record {
+      after = second;
+      finds = refl;
+      adds = rw found (adds-none s first second same);
+      newest = λ k h. ap (newest_on k) found ∙ h;
+    }
+finds-alike greatest excused s link (p ∷ ps) first first_after second (f, comes, more) same =
+    let one = frame-alike greatest excused s link p f first second comes same in
+    let rest = finds-alike greatest excused s link ps (found_on link f ∷ first) first_after (found_on link f ∷ second) more one.same in
+    record {
+      after = rest.after;
+      finds = (f, comes, rest.finds);
+      adds = adds-on s first (found_on link f ∷ first) first_after second (found_on link f ∷ second) rest.after one rest.adds;
+      newest = λ k h. rest.newest k (newest-step link k f first second h);
+    }
+
+-- ---- the end
+
+none : EpochSetView
+none = no_cells 0
+
+window-and-closed : (n : ℕ) (before : List Arrival) → kept n before ≡ take n (kept n before) ++ closed n before
+window-and-closed n before = sym (take-append-drop n (kept n before)) ∙ ap (λ t. take n (kept n before) ++ t) (sym (closed-drop n none before))
+
+kept-same : (s : SetupView) (first second : List Arrival) → SameWindow s.window first second → SameClosed s.head.listed (closed s.window first) (closed s.window second)
+    → SameClosed s.head.listed (kept s.window first) (kept s.window second)
+kept-same s first second w c =
+    let more = more-closed s.head.listed (take s.window (kept s.window first)) (closed s.window first) (closed s.window second) c in
+    let one = window-and-closed s.window first in
+    let other : kept s.window second ≡ take s.window (kept s.window first) ++ closed s.window second = window-and-closed s.window second ∙ ap (λ t. t ++ closed s.window second) (sym w.sets) in
+    record {
+      phases = λ satellite code is. ap (λ (xs : List EpochSetView). last_phase_of xs satellite code) one ∙ more.phases satellite code is ∙ ap (λ (xs : List EpochSetView). last_phase_of xs satellite code) (sym other);
+      header = ap (λ (xs : List EpochSetView). is_some (first_time s.head.listed xs)) one ∙ more.header ∙ ap (λ (xs : List EpochSetView). is_some (first_time s.head.listed xs)) (sym other);
+      count = ap (record_count s.head.listed) one ∙ more.count ∙ ap (record_count s.head.listed) (sym other);
+    }
+
+pub counts-same : (s : SetupView) (first second : List Found) → SameFound s first second → all_counts s first ≡ all_counts s second
+counts-same s first second same =
+    let k = kept-same s (arrivals first) (arrivals second) same.window same.closed in
+    ap (λ (c : Counts). record c { epochs = record_count s.head.listed (kept s.window (arrivals first)) }) same.counts
+    ∙ ap (λ (n : ℕ). record (frame_counts s.window second) { epochs = n }) k.count
+
+pub file-ends-alike : (s : SetupView) (first second : List Found) → SameFound s first second
+    → GoOnAlike (file_so_far s (arrivals first)) (kept_file s (arrivals first)) (file_so_far s (arrivals second)) (kept_file s (arrivals second))
+file-ends-alike s first second same =
+    let A = arrivals first in
+    let B = arrivals second in
+    let site = site_of_kept s.window A in
+    let sites : site_of_kept s.window B ≡ site = sym (site-same s.window A B same.window) in
+    let sets = take s.window (kept s.window A) in
+    let k = kept-same s A B same.window same.closed in
+    let g = closed-alike s site sets (closed s.window A) (closed s.window B) same.closed in
+    let last = header_before s site s.near (is_some (first_time s.head.listed (kept s.window A))) in
+    let other : kept s.window B ≡ sets ++ closed s.window B = window-and-closed s.window B ∙ ap (λ t. t ++ closed s.window B) (sym same.window.sets) in
+    record {
+      more = g.more ++ last;
+      first_is = file-closed s site (kept s.window A)
+          ∙ ap (λ t. t ++ last) (ap (closed_text s site) (window-and-closed s.window A) ∙ g.first_is ∙ ap (λ t. t ++ g.more) (sym (so_far-is s A)))
+          ∙ append_assoc (file_so_far s A) g.more last;
+      second_is = file-closed s (site_of_kept s.window B) (kept s.window B)
+          ∙ ap (λ (p : PositionView). closed_text s p (kept s.window B) ++ header_before s p s.near (is_some (first_time s.head.listed (kept s.window B)))) sites
+          ∙ ap (λ b. closed_text s site (kept s.window B) ++ header_before s site s.near b) (sym k.header)
+          ∙ ap (λ t. t ++ last) (ap (closed_text s site) other ∙ g.second_is
+          ∙ ap (λ t. t ++ g.more) (ap (λ (p : PositionView). closed_text s p (closed s.window B)) (sym sites) ∙ sym (so_far-is s B)))
+          ∙ append_assoc (file_so_far s B) g.more last;
+    }
+
+pub report-ends-alike : (s : SetupView) (first second : List Found) → SameFound s first second
+    → GoOnAlike (lines s.window first) (report_of s first) (lines s.window second) (report_of s second)
+report-ends-alike s first second same = record {
+  more = count_lines (all_counts s first);
+  first_is = refl;
+  second_is = ap (λ (c : Counts). lines s.window second ++ count_lines c) (sym (counts-same s first second same));
+}
