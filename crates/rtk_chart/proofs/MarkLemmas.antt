@@ -9,11 +9,11 @@ use Rattle.std.proofs.lemmas.List.Sums.{sum_by-cons, count_by-le-length}
 use Rattle.rtk_rinex.specs.Record.{EpochTableView}
 use Rattle.rtk_tracking.specs.Epochs.{newest_moment, observed_in, shows_phase}
 use Rattle.rtk_tracking.specs.Passes.{Sighting, sightings_of, longest_gap, has_bit_0, is_known, is_slip, is_rise}
-use Rattle.rtk_tracking.specs.Interval.{steps_in, times_of_step, IsInterval, nearest_intervals, missing_in}
+use Rattle.rtk_tracking.specs.Interval.{steps_in, nearest_intervals, missing_in}
 use Rattle.rtk_chart.specs.Epochs.{sighting_of, is_seen, lacks_phase, has_bit_1, level_at, lesser, times_in_epoch, times_in, slips_in, rises_in}
 use Rattle.rtk_chart.specs.Scale.{bin_at}
 use Rattle.rtk_chart.specs.Grid.{no_bin, some_epoch, least_in, code_in, bin_in, bins_of, tracking_at, marks_at, has_missing_before, has_missing, gaps_of}
-use Rattle.rtk_chart.specs.MarkLaws.{IsCalledFor, IsMarkOf, is_at_most, ShowsEpochs, IsMissingIn, times_among, IsFirstOfMostFrequent}
+use Rattle.rtk_chart.specs.MarkLaws.{IsCalledFor, IsMarkOf, is_at_most, ShowsEpochs, IsMissingIn}
 use Rattle.rtk_chart.specs.declared.scale.Scale.{Scale}
 use Rattle.rtk_chart.specs.declared.code_marks.CodeMarks.{CodeMarks}
 use Rattle.rtk_chart.specs.declared.tracking.Tracking.{Tracking}
@@ -146,22 +146,6 @@ gaps-missing s es c inside = (
 )
 
 -- ---- counts
-
-plain : (steps : List ℕ) (step : ℕ) → length steps < 2 ^ 64 → times_of_step step steps ≡ times_among steps step
-plain steps step few =
-    let most = count_by-le-length (λ (s : ℕ). s == step) steps in
-    capped-is (times_among steps step) (omega (arith, most, few))
-
-pub most-frequent : (steps : List ℕ) (step : ℕ) → length steps < 2 ^ 64 → IsInterval steps (Some step) → IsFirstOfMostFrequent steps step
-most-frequent steps step few is =
-    let mine = plain steps step few in
-    record {
-      there = subst (λ (n : ℕ). 0 < n) mine is.there;
-      most = λ s.
-          let other = plain steps s few in
-          subst (λ (n : ℕ). n ≤ times_among steps step) other (subst (λ (n : ℕ). times_of_step s steps ≤ n) mine (is.most s));
-      least = λ s same. is.lesser s (plain steps s few ∙ same ∙ sym mine);
-    }
 
 turned : (a b : ℕ) → a + b ≡ b + a
 turned a b = omega arith

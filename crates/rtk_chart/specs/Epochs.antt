@@ -3,7 +3,7 @@ use Rattle.std.specs.Prelude.{ℕ, ◌+◌, ◌/◌, ◌==◌, Bool, false, not,
 use Rattle.std.specs.List.{range_with_len, sum_by}
 use Rattle.rtk_rinex.specs.Record.{EpochTableView}
 use Rattle.rtk_rinex.specs.declared.epoch_table.Observed.{Observed}
-use Rattle.rtk_tracking.specs.Epochs.{observed_in, shows_phase}
+use Rattle.rtk_tracking.specs.Epochs.{observed_in, shows_phase, shown_at}
 use Rattle.rtk_tracking.specs.Passes.{Sighting, sightings_of, has_phase, is_rise, is_slip}
 
 -- an epoch as a satellite is seen in it
@@ -13,13 +13,6 @@ sighting_of satellite e = record { time = e.time; observed = observed_in satelli
 -- the satellite has a row
 abbrev pub is_seen : List Observed → Bool
 is_seen os = not (length os == 0)
-
-abbrev pub nothing_observed : Observed
-nothing_observed = record { range_mm = None; phase_millicycles = None; strength_millidbhz = None; slip = false; half = false }
-
--- what the code at this place shows
-abbrev pub shown_at : ℕ → List Observed → Observed
-shown_at code os = get_or os code nothing_observed
 
 -- formula
 -- a code is missing: its phase is not there, and another phase of the satellite is

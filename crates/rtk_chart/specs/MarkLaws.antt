@@ -1,11 +1,11 @@
 -- Laws of marks and counts: each mark has its epochs, and each epoch its mark, however many there are.
-use Rattle.std.specs.Prelude.{◌≡◌, ◌≤◌, ◌<◌, ◌↔◌, ℕ, ◌+◌, ◌-◌, ◌^◌, ◌==◌, nat_le, Bool, true, false, List, ◌∷◌, ◌++◌, length, count_by, get_or, All, Option, None, Some}
+use Rattle.std.specs.Prelude.{◌≡◌, ◌≤◌, ◌<◌, ◌↔◌, ℕ, ◌+◌, ◌-◌, ◌==◌, nat_le, Bool, true, false, List, ◌∷◌, ◌++◌, length, count_by, get_or, All, Option, None, Some}
 use Rattle.std.specs.List.{list_any, sum_by}
 use Rattle.rtk_rinex.specs.Record.{EpochTableView}
 use Rattle.rtk_rinex.specs.Table.{IsTableEpoch}
 use Rattle.rtk_tracking.specs.Epochs.{newest_moment, observed_in, shows_phase}
 use Rattle.rtk_tracking.specs.Passes.{Sighting, sightings_of, longest_gap, is_rise, is_slip}
-use Rattle.rtk_tracking.specs.Interval.{steps_in, IsInterval, nearest_intervals, missing_in}
+use Rattle.rtk_tracking.specs.Interval.{steps_in, nearest_intervals, missing_in}
 use Rattle.rtk_chart.specs.Epochs.{sighting_of, is_seen, lacks_phase, has_bit_1, level_at, slips_in, rises_in}
 use Rattle.rtk_chart.specs.Scale.{bin_at}
 use Rattle.rtk_chart.specs.Grid.{no_bin, tracking_at, marks_at, bins_of, has_missing_before, gaps_of}
@@ -70,21 +70,6 @@ GapsAreMissing =
     (s : Scale) (es : List EpochTableView) (c : ℕ) → c < s.bins → (get_or (gaps_of s es) c false ≡ true) ↔ IsMissingIn s es c
 
 -- ---- counts
-
--- how often a step is among these
-abbrev pub times_among : List ℕ → ℕ → ℕ
-times_among steps step = count_by (λ s. s == step) steps
-
--- a step is among these, none is more frequent, and none as frequent is less
-pub record IsFirstOfMostFrequent (steps : List ℕ) (step : ℕ) : Type 0 where
-  pub there : 0 < times_among steps step
-  pub most : (s : ℕ) → times_among steps s ≤ times_among steps step
-  pub least : (s : ℕ) → times_among steps s ≡ times_among steps step → step ≤ s
-
--- the interval of a file is such a step, if there are fewer than 2^64
-abbrev pub IntervalIsMostFrequent : Type 0
-IntervalIsMostFrequent =
-    (steps : List ℕ) (step : ℕ) → length steps < 2 ^ 64 → IsInterval steps (Some step) → IsFirstOfMostFrequent steps step
 
 -- the missing epochs of a file are those of its steps
 abbrev pub MissingAreOfSteps : Type 0

@@ -8,7 +8,7 @@ use crate::passes::{fill_grid, survey_records};
 use crate::scale::{MOST_BINS, Scale};
 use crate::svg_picture::{svg_of_none, svg_picture};
 use crate::text_picture::{text_of_none, text_picture};
-use rtk_rinex::Table;
+use rtk_rinex::TextTable;
 use std::alloc::{AllocError, Global};
 
 // How many characters of a row are no bins: three of the label, and two bars, as in G05|5555|.
@@ -17,7 +17,7 @@ const FRAME: u16 = 5;
 /// The picture of a table in characters: a heading, a row for each satellite, with a character for each
 /// bin of time, the codes that satellites have nowhere, and what the signs mean. Rows are at most so many
 /// characters wide.
-pub fn chart_text(alloc: Global, table: &Table<'_>, width: u16) -> Result<Vec<u8>, AllocError>
+pub fn chart_text(alloc: Global, table: &TextTable<'_>, width: u16) -> Result<Vec<u8>, AllocError>
     requires { IsInRange 40 400 width }
     // Fails only if memory is refused: tests/system/calls, row chart_text.
     ensures { IfOk result (λ text. ShowsTable table.now.text width text.items) }
@@ -39,7 +39,7 @@ pub fn chart_text(alloc: Global, table: &Table<'_>, width: u16) -> Result<Vec<u8
 
 /// The picture of a table in SVG: a band for each satellite, and in it a bar for each code with its least
 /// strength, slips, rises and half cycles, in 1440 bins of time at most.
-pub fn chart_svg(alloc: Global, table: &Table<'_>) -> Result<Vec<u8>, AllocError>
+pub fn chart_svg(alloc: Global, table: &TextTable<'_>) -> Result<Vec<u8>, AllocError>
     // Fails only if memory is refused: tests/system/calls, row chart_svg.
     ensures { IfOk result (λ svg. ShowsTableInSvg table.now.text svg.items) }
 {

@@ -2,7 +2,7 @@
 //! epochs, where epochs are missing, and what a heading tells.
 
 ghost use Rattle.rtk_chart.specs.Laws.{BinsAreFew, ShorterBinsAreTooMany, ScalesFillRoom, RowsHaveAllBins, ColumnsFillWidth, MissingMarksAreEpochs};
-ghost use Rattle.rtk_chart.specs.MarkLaws.{CodesShowEpochs, SatellitesShowEpochs, CodesAreOfEpochs, GapsAreMissing, IntervalIsMostFrequent, MissingAreOfSteps, SlipsAndRisesAreDigits};
+ghost use Rattle.rtk_chart.specs.MarkLaws.{CodesShowEpochs, SatellitesShowEpochs, CodesAreOfEpochs, GapsAreMissing, MissingAreOfSteps, SlipsAndRisesAreDigits};
 ghost use Rattle.rtk_chart.specs.HeadingLaws.{TablesHaveNumbers, TextHasHeading, EqualTextHeadings, SvgHasHeading, EqualSvgHeadings};
 
 use rtk_rinex::one_reading;
@@ -39,10 +39,9 @@ pub fn marks_are_of_epochs()
     ensures gaps { GapsAreMissing }
 {}
 
-/// The interval is the step that came most often, and of two alike the lesser one. Missing epochs are
-/// counted step by step, and slips and rises digit by digit: each digit with bit 0 is one of the two.
+/// Missing epochs are counted step by step, and slips and rises digit by digit: each digit with bit 0 is
+/// one of the two.
 pub fn counts_are_of_epochs()
-    ensures interval { IntervalIsMostFrequent }
     ensures missing { MissingAreOfSteps }
     ensures slips { SlipsAndRisesAreDigits }
 {}

@@ -7,26 +7,43 @@
 //! ```rust
 //! use rtk_chart::chart_text;
 //! use rtk_obs::{Code, GpsMs, Position};
-//! use rtk_rinex::{Head, check, header};
+//! use rtk_rinex::{EpochTable, Head, Observed, check_text, header, record};
 //! use std::alloc::{AllocError, Global};
+//! use std::str;
 //!
-//! // The picture of a file without records says so.
+//! // Satellite 5 in three seconds, with a slip in the second one. A column is a second long, and shows a
+//! // slip or else the strength: 7 is 42 to 47 dB-Hz.
 //! fn example(alloc: Global) -> Result<bool, AllocError> {
-//!     let Some(noon) = GpsMs::new(1_399_982_400_000) else {
+//!     let (Some(noon), Some(position)) = (GpsMs::new(1_399_982_400_000), Position::new(0, 0, 0, 0))
+//!     else {
 //!         return Ok(false);
 //!     };
 //!     let Ok(head) = Head::new(b"BASE", &[Code::C1C], noon) else {
 //!         return Ok(false);
 //!     };
-//!     let Some(position) = Position::new(0, 0, 0, 0) else {
+//!     let mut file = header(alloc, &head, &position, noon)?;
+//!     for second in 0..3 {
+//!         let Some(time) = GpsMs::new(noon.ms() + 1000 * second) else {
+//!             return Ok(false);
+//!         };
+//!         let phase = Observed {
+//!             phase_millicycles: Some(110_804_903_547),
+//!             strength_millidbhz: Some(45_000),
+//!             slip: second == 1,
+//!             ..Observed::default()
+//!         };
+//!         let mut epoch = EpochTable::new(time);
+//!         epoch.push_row(5, &[phase]);
+//!         file.extend_from_slice(record(alloc, &head, &epoch)?.as_slice())?;
+//!     }
+//!     let Ok(table) = check_text(file.as_slice()) else {
 //!         return Ok(false);
 //!     };
-//!     let file = header(alloc, &head, &position, noon)?;
-//!     let Ok(table) = check(file.as_slice()) else {
+//!     let picture = chart_text(alloc, &table, 40)?;
+//!     let Ok(text) = str::from_utf8(picture.as_slice()) else {
 //!         return Ok(false);
 //!     };
-//!     let picture = chart_text(alloc, &table, 80)?;
-//!     Ok(picture.as_slice() == b"marker BASE\nno records\n".as_slice())
+//!     Ok(text.lines().any(|line| line == "G05|7S7|"))
 //! }
 //! ```
 

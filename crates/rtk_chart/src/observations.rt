@@ -2,7 +2,8 @@
 
 ghost use Rattle.std.specs.Prelude.{◌≡◌};
 ghost use Rattle.rtk_tracking.specs.Passes.{has_phase};
-ghost use Rattle.rtk_chart.specs.Epochs.{is_seen, shown_at, lesser, level_of};
+ghost use Rattle.rtk_tracking.specs.Epochs.{shown_at};
+ghost use Rattle.rtk_chart.specs.Epochs.{is_seen, lesser, level_of};
 
 use rtk_rinex::Observed;
 
@@ -38,7 +39,7 @@ pub(crate) fn level_of(strength_millidbhz: Option<u32>) -> Option<u8>
     }
 }
 
-/// The lesser of two levels.
+/// The lesser of two levels; if one of them is absent, the other.
 pub(crate) fn lesser(one: Option<u8>, other: Option<u8>) -> Option<u8>
     ensures { result ≡ lesser one other }
 {

@@ -6,19 +6,19 @@
 ghost use Rattle.std.specs.Prelude.{◌≡◌, length, IfOk};
 ghost use Rattle.rtk_chart.specs.Scale.{IsScale};
 ghost use Rattle.rtk_chart.specs.Steps.Standing.{StandsForSurvey, StandsForGrid};
-ghost use Rattle.rtk_chart.specs.Steps.Pictures.{HoldsOfEpochs};
+ghost use Rattle.rtk_tracking.specs.Epochs.{HoldsOfEpochs};
 
 use crate::grid::Grid;
 use crate::scale::Scale;
 use crate::survey::Survey;
 use rtk_obs::GpsMs;
-use rtk_rinex::{EpochTable, Table};
+use rtk_rinex::{EpochTable, TextTable};
 use std::alloc::{AllocError, Global};
 
 /// Surveys all records; the first moment is any that an epoch can have.
 pub(crate) fn survey_records(
     alloc: Global,
-    table: &Table<'_>,
+    table: &TextTable<'_>,
     first: GpsMs,
 ) -> Result<Survey, AllocError>
     ensures { IfOk result (λ survey. HoldsOfEpochs table.now.text (StandsForSurvey survey)) }
@@ -35,7 +35,7 @@ pub(crate) fn survey_records(
 /// The grid of all records.
 pub(crate) fn fill_grid(
     alloc: Global,
-    table: &Table<'_>,
+    table: &TextTable<'_>,
     scale: &Scale,
     first: GpsMs,
 ) -> Result<Grid, AllocError>

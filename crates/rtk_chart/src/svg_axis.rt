@@ -56,6 +56,7 @@ pub(crate) fn put_satellites(
     Ok(())
 }
 
+// A line at a tick, from below the heading through all bands, and its label under the line.
 fn put_tick(
     text: &mut Vec<u8>,
     top: u64,

@@ -36,6 +36,7 @@ fn put_column_numbers(
     Ok(())
 }
 
+// Each number is counted in the flags by which its layer is drawn, so that it says what can be seen.
 fn put_code_numbers(
     alloc: Global,
     text: &mut Vec<u8>,
@@ -74,6 +75,8 @@ fn put_drawn_bar(
     Ok(())
 }
 
+// A code that the satellite never has gets words in place of a bar: it is missing nowhere, since many
+// satellites don't send L2C or L5.
 fn put_bar(
     alloc: Global,
     text: &mut Vec<u8>,
@@ -93,6 +96,7 @@ fn put_bar(
     Ok(())
 }
 
+// The line of a code. The lines lie 22 apart, and the first one 7 below the top of the band.
 fn put_code_line(
     alloc: Global,
     text: &mut Vec<u8>,

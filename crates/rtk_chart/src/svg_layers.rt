@@ -9,7 +9,8 @@ use crate::svg_path::{put_marks, put_runs};
 use crate::time_bin::TimeBin;
 use std::alloc::{AllocError, Global};
 
-fn is_any(flags: &[bool]) -> bool
+// Is a bin flagged?
+fn is_any_flagged(flags: &[bool]) -> bool
     ensures { result ≡ list_any (λ b. b) flags.now }
 {
     flags.iter().any(|flag| *flag)
@@ -74,7 +75,7 @@ pub(crate) fn put_runs_layer(
     requires { length flags.now ≤ 1440 }
     ensures { OnOk result (text.new.items ≡ text.old.items ++ runs_layer class.now begin.now end.now flags.now) }
 {
-    if is_any(flags) {
+    if is_any_flagged(flags) {
         put_runs_path(text, class, begin, end, flags)?;
     }
     Ok(())
@@ -106,7 +107,7 @@ fn put_marks_layer(
     requires { length flags.now ≤ 1440 }
     ensures { OnOk result (text.new.items ≡ text.old.items ++ marks_layer class.now form.now flags.now) }
 {
-    if is_any(flags) {
+    if is_any_flagged(flags) {
         put_marks_path(text, class, form, flags)?;
     }
     Ok(())

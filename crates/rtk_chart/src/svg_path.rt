@@ -30,6 +30,8 @@ fn middle(bins: u64, bin: u64) -> u64
     (edge(bins, bin) + edge(bins, bin + 1)) / 2
 }
 
+// The part of a path between two bins: a run begins, or it ends. Within a run and outside of one the
+// path needs no part.
 fn put_run_part(
     text: &mut Vec<u8>,
     begin: &[u8],

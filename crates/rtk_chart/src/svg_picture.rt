@@ -76,6 +76,7 @@ pub(crate) const LEGEND: &[u8] = b"<text y='16'>GPS time</text>\
 <path class='l8' d='M1210 87h36'/><text x='1252' y='94'>48</text>\
 <path class='l9' d='M1320 87h36'/><text x='1362' y='94'>54</text>\n";
 
+// A file of one record has no interval, and so no column with a length.
 fn put_interval_words(
     text: &mut Vec<u8>,
     interval: Option<u64>,

@@ -75,6 +75,8 @@ pub(crate) fn drawn_before(bins: &[TimeBin], place: usize) -> u64
     count
 }
 
+// The row of a satellite. Which codes it had anywhere in the file is found first: only of these can one
+// be missing in a bin.
 fn put_row(text: &mut Vec<u8>, bins: &[TimeBin], place: usize) -> Result<(), AllocError>
     requires { place < 32 }
     ensures { OnOk result (text.new.items ≡ text.old.items ++ satellite_row bins.now place) }

@@ -67,6 +67,7 @@ fn put_label_text(text: &mut Vec<u8>, step: u64, tick: Option<GpsMs>) -> Result<
     }
 }
 
+// What a bin adds to the row of labels. A label is longer than its bin, so the bins under it add nothing.
 fn put_label_part(
     text: &mut Vec<u8>,
     scale: &Scale,

@@ -5,8 +5,8 @@ use Rattle.rtk_obs.specs.declared.time.TheConstants.{LAST_MS}
 use Rattle.rtk_obs.specs.Dating.{IsReference}
 use Rattle.rtk_rinex.specs.Header.{HeadView, IsMarker, IsCodeList, IsHeadView}
 use Rattle.rtk_rinex.specs.HeadFault.{IsHeadFault}
-use Rattle.rtk_rinex.specs.declared.head.HeadFault.{HeadFault}
-use Rattle.rtk_rinex.specs.declared.head.HeadFault.TheVariants.{Marker as BadMarker, Codes as BadCodes, Made as BadMade}
+use Rattle.rtk_rinex.specs.declared.head_fault.HeadFault.{HeadFault}
+use Rattle.rtk_rinex.specs.declared.head_fault.HeadFault.TheVariants.{Marker as BadMarker, Codes as BadCodes, Made as BadMade}
 use Rattle.rtk_convert.specs.Setup.{SetupView, IsStation, IsWindow}
 use Rattle.rtk_convert.specs.SetupFault.{IsSetupFault}
 use Rattle.rtk_convert.specs.declared.setup.SetupFault.{SetupFault}

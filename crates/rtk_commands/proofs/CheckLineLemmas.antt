@@ -6,7 +6,7 @@ use Rattle.rtk_rinex.specs.CheckTable.{HoldsTable, OneFault}
 use Rattle.rtk_rinex.specs.Table.{WellFormedTable}
 use Rattle.rtk_rinex.specs.CheckText.{satellite_lines}
 use Rattle.rtk_rinex.specs.declared.check_fault.Cause.{Cause}
-use Rattle.rtk_rinex.specs.declared.check_fault.Cause.TheVariants.{HeaderLine, Columns, Value, Order, Truncated}
+use Rattle.rtk_rinex.specs.declared.check_fault.Cause.TheVariants.{HeaderLine, Columns, Value, Order, Truncated, OutOfMemory}
 use Rattle.rtk_rinex.specs.declared.check_fault.CheckFault.{CheckFault}
 use Rattle.rtk_commands.specs.CheckInput.{valid_text, check_fault_text}
 use Rattle.rtk_commands.specs.CheckLaws.{ValidTellsNumbers, FaultTextTellsFault, YesTellsNumbers, NoTellsFault, NoLineSaysBoth}
@@ -31,7 +31,7 @@ valid-tells epochs satellites other_epochs other_satellites e s f t same =
 -- the cause, by the digit of its code
 cause_from : ℕ → Cause
 cause_from digit =
-    cond (digit == 49) HeaderLine (cond (digit == 50) Columns (cond (digit == 51) Value (cond (digit == 52) Order Truncated)))
+    cond (digit == 49) HeaderLine (cond (digit == 50) Columns (cond (digit == 51) Value (cond (digit == 52) Order (cond (digit == 53) Truncated OutOfMemory))))
 
 cause-back : (cause : Cause) → cause_from (get_or (cause_text cause) 1 0) ≡ cause
 unfolding cause_from
@@ -40,6 +40,7 @@ cause-back Columns = refl
 cause-back Value = refl
 cause-back Order = refl
 cause-back Truncated = refl
+cause-back OutOfMemory = refl
 
 one-cause : (cause other : Cause) → cause_text cause ≡ cause_text other → cause ≡ other
 one-cause cause other same =

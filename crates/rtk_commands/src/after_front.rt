@@ -11,7 +11,7 @@ use arrayvec::ArrayVec;
 use rtk_cut::{CutCounts, CutFault, Part, cut};
 use rtk_frame::{Sink, StreamFault};
 use rtk_label::PLAIN_FRONT;
-use rtk_rinex::Table;
+use rtk_rinex::TextTable;
 use rtk_streams::{Before, ToolFault};
 use std::alloc::Global;
 use std::marker::{Brand, Model, PhantomData};
@@ -87,7 +87,7 @@ impl<W: Sink, K: Before> Sink for AfterFront<W, K> {
 // Writes the part of a table.
 fn cut_table<W: Sink>(
     alloc: Global,
-    table: &Table<'_>,
+    table: &TextTable<'_>,
     part: Part,
     out: &mut W,
 ) -> Result<CutCounts, ToolFault>
@@ -109,7 +109,7 @@ fn cut_table<W: Sink>(
 // `cut_rest` by what `K` knows of the sink.
 fn cut_rest_by<W: Sink + Drop, K: Before>(
     alloc: Global,
-    table: &Table<'_>,
+    table: &TextTable<'_>,
     part: Part,
     out: W,
 ) -> (W, Result<CutCounts, ToolFault>)
@@ -130,7 +130,7 @@ fn cut_rest_by<W: Sink + Drop, K: Before>(
 /// Writes the part of a table without the nine lines that a label changes.
 pub(crate) fn cut_rest<W: Sink + Drop>(
     alloc: Global,
-    table: &Table<'_>,
+    table: &TextTable<'_>,
     part: Part,
     out: W,
 ) -> (W, Result<CutCounts, ToolFault>)

@@ -13,7 +13,7 @@ use crate::checking::CHECK_LIMIT;
 use crate::with_label::table_with_label;
 use rtk_frame::{Sink, Source, write_all};
 use rtk_quality::{Form, quality};
-use rtk_rinex::{CheckFault, Table};
+use rtk_rinex::{CheckFault, TextTable};
 use rtk_streams::{
     Before, DONE, NOT_VALID, Reads, ToolFault, Writes, fail, fail_to_open, open_input, read_whole,
     standard_output,
@@ -26,7 +26,7 @@ use std::marker::Brand;
 // Writes the numbers of a table.
 fn assess_table<W: Sink>(
     alloc: Global,
-    table: &Table<'_>,
+    table: &TextTable<'_>,
     form: Form,
     out: &mut W,
 ) -> Result<(), ToolFault>

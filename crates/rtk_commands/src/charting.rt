@@ -14,7 +14,7 @@ use crate::checking::CHECK_LIMIT;
 use crate::with_label::table_with_label;
 use rtk_chart::{chart_svg, chart_text};
 use rtk_frame::{Sink, Source, write_all};
-use rtk_rinex::{CheckFault, Table};
+use rtk_rinex::{CheckFault, TextTable};
 use rtk_streams::{
     Before, DONE, NOT_VALID, Reads, ToolFault, Writes, fail, fail_to_open, open_input, read_whole,
     standard_output,
@@ -25,7 +25,11 @@ use std::io::{Read, Write};
 use std::marker::Brand;
 
 // The picture of a table: in characters, if a width is given, else in SVG.
-fn picture_of(alloc: Global, table: &Table<'_>, width: Option<u16>) -> Result<Vec<u8>, AllocError>
+fn picture_of(
+    alloc: Global,
+    table: &TextTable<'_>,
+    width: Option<u16>,
+) -> Result<Vec<u8>, AllocError>
     requires { ForSome width IsWidth }
     ensures { IfOk result (λ picture. IsPicture width table.now.text picture.items) }
 {
@@ -38,7 +42,7 @@ fn picture_of(alloc: Global, table: &Table<'_>, width: Option<u16>) -> Result<Ve
 // Writes the picture of a table.
 fn chart_table<W: Sink>(
     alloc: Global,
-    table: &Table<'_>,
+    table: &TextTable<'_>,
     width: Option<u16>,
     out: &mut W,
 ) -> Result<(), ToolFault>

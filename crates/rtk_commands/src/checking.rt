@@ -13,7 +13,7 @@ ghost use Rattle.rtk_streams.specs.declared.fault.ToolFault.TheVariants.{OutOfMe
 
 use rtk_frame::{Sink, Source, write_all};
 use rtk_message::put_named;
-use rtk_rinex::{Cause, CheckFault, Table, check};
+use rtk_rinex::{Cause, CheckFault, TextTable, check_text};
 use rtk_streams::{
     Before, DONE, NOT_VALID, Reads, ToolFault, Writes, fail, fail_to_open, open_input, read_whole,
     standard_output,
@@ -34,7 +34,7 @@ struct Verdict {
     line: Vec<u8>,
 }
 
-fn valid_line(alloc: Global, table: &Table<'_>) -> Result<Vec<u8>, AllocError>
+fn valid_line(alloc: Global, table: &TextTable<'_>) -> Result<Vec<u8>, AllocError>
     ensures { IfOk result (λ line. line.items ≡ valid_text table.now.epochs table.now.satellites) }
 {
     let mut line = Vec::new(alloc);
@@ -67,7 +67,7 @@ fn verdict_of(alloc: Global, text: &[u8]) -> Result<Verdict, ToolFault>
     // Fails only if memory is refused: tests/system/calls, rows `check_file ..`.
     ensures memory { IfErr result (λ fault. fault ≡ OutOfMemory) }
 {
-    let (is_valid, line) = match check(text) {
+    let (is_valid, line) = match check_text(text) {
         Ok(table) => (true, valid_line(alloc, &table)),
         Err(fault) => (false, fault_line(alloc, fault)),
     };

@@ -16,7 +16,7 @@ use crate::cutting::if_out;
 use crate::with_label::table_with_label;
 use rtk_frame::{Sink, Source};
 use rtk_label::{Label, is_for, write_labelled};
-use rtk_rinex::{CheckFault, Table};
+use rtk_rinex::{CheckFault, TextTable};
 use rtk_streams::{
     Before, DONE, GATHERED, NOT_VALID, REFUSED, Reads, Resumed, ToolFault, Writes, fail,
     fail_to_open, open_input, read_whole, sink,
@@ -40,7 +40,7 @@ pub enum LabelRefusal {
 // Writes a table with a label, if it is for the table.
 fn label_table<W: Sink>(
     label: &Label,
-    table: &Table<'_>,
+    table: &TextTable<'_>,
     out: &mut W,
 ) -> Result<Option<LabelRefusal>, ToolFault>
     ensures told { IfOk result (λ refusal. LabelsPlain label.now refusal table.now.text (W.taken out.old) (W.taken out.new)) }

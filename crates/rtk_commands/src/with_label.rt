@@ -4,13 +4,13 @@ ghost use Rattle.std.specs.Prelude.{◌≡◌, ℕ, length, IfOk, IfErr};
 ghost use Rattle.rtk_commands.specs.WithLabel.{IsPartedTable, IsRefused};
 
 use rtk_label::{Label, unlabel};
-use rtk_rinex::{CheckFault, Table, check};
+use rtk_rinex::{CheckFault, TextTable, check_text};
 
 /// A file without its label, and the label.
 #[derive(Drop)]
 pub(crate) struct LabelledTable<'a> {
     pub(crate) label: Label,
-    pub(crate) table: Table<'a>,
+    pub(crate) table: TextTable<'a>,
 }
 
 /// The table of a text, whose label is taken from it in its place. Else the first fault, with the
@@ -21,7 +21,7 @@ pub(crate) fn table_with_label<'a>(text: &'a mut [u8]) -> Result<LabelledTable<'
 {
     let unlabelled = unlabel(text);
     let (_, plain) = text.split_at(unlabelled.from);
-    match check(plain) {
+    match check_text(plain) {
         Ok(table) => Ok(LabelledTable {
             label: unlabelled.label,
             table,

@@ -7,9 +7,9 @@ use Rattle.std.proofs.lemmas.List.Elements.{All-head, All-tail, All-map}
 use Rattle.std.proofs.lemmas.List.FromFn.{fill_by_all, length-map-range_with_len}
 use Rattle.rtk_rinex.specs.declared.epoch_table.Observed.{Observed}
 use Rattle.rtk_rinex.specs.declared.epoch_table.SatelliteRow.{SatelliteRow}
-use Rattle.rtk_rinex.specs.Record.{IsStrengthOrNone, has_observation, has_line}
+use Rattle.rtk_rinex.specs.Record.{IsStrengthOrNone, has_observation, has_line, no_observation}
 use Rattle.rtk_rinex.specs.Table.{IsLock, IsObserved, IsTableRow}
-use Rattle.rtk_cut.specs.Cut.{no_observation, code_at, with_slip, row_with_slips}
+use Rattle.rtk_cut.specs.Cut.{code_at, with_slip, row_with_slips}
 use Rattle.rtk_cut.proofs.TestLemmas.{map-agree_below}
 
 -- ---- one observation

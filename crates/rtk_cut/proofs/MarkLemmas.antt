@@ -10,8 +10,8 @@ use Rattle.std.proofs.lemmas.List.Folds.{list_any_more}
 use Rattle.std.proofs.lemmas.List.FromFn.{fill_by_all, length-map-range_with_len}
 use Rattle.rtk_rinex.specs.declared.epoch_table.Observed.{Observed}
 use Rattle.rtk_rinex.specs.declared.epoch_table.SatelliteRow.{SatelliteRow}
-use Rattle.rtk_rinex.specs.Record.{IsSatelliteRow, HasWidth}
-use Rattle.rtk_cut.specs.Cut.{Step, no_observation, code_at, with_slip}
+use Rattle.rtk_rinex.specs.Record.{IsSatelliteRow, HasWidth, no_observation}
+use Rattle.rtk_cut.specs.Cut.{Step, code_at, with_slip}
 use Rattle.rtk_cut.specs.Steps.Pending.{mark_of, MarksBecome, StandsForSlips, row_has_slip, row_has_phase, codes_with_marks, row_with_marks}
 use Rattle.rtk_cut.proofs.TestLemmas.{or-moved, and-nothing, map-agree_below}
 use Rattle.rtk_cut.proofs.CodeLemmas.{HasStrength, codes-strong, code-past, with_slip-strength}

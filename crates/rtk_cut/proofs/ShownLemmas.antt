@@ -8,9 +8,9 @@ use Rattle.std.proofs.lemmas.List.FromFn.{length-map-range_with_len, get_or-map-
 use Rattle.std.proofs.lemmas.Option.{slice_get_within, slice_get-get_or, get_or_from_slice_get}
 use Rattle.rtk_rinex.specs.declared.epoch_table.Observed.{Observed}
 use Rattle.rtk_rinex.specs.declared.epoch_table.SatelliteRow.{SatelliteRow}
-use Rattle.rtk_rinex.specs.Record.{EpochTableView}
+use Rattle.rtk_rinex.specs.Record.{EpochTableView, no_observation}
 use Rattle.rtk_rinex.specs.Table.{IsObserved, IsTableRow, IsTableEpoch}
-use Rattle.rtk_cut.specs.Cut.{Step, no_observation, code_at, has_phase_of, has_slip_of, has_slipped_since, with_slip, row_with_slips, cut_epoch}
+use Rattle.rtk_cut.specs.Cut.{Step, code_at, has_phase_of, has_slip_of, has_slipped_since, with_slip, row_with_slips, cut_epoch}
 use Rattle.rtk_cut.specs.CutLaws.{Observes, ShowsPhase, ShowsSlip, without_slip, row_without_slips, without_slips}
 use Rattle.rtk_cut.proofs.AnyLemmas.{any-weaker, any-where, any-map, any-unmap}
 use Rattle.rtk_cut.proofs.CodeLemmas.{codes-good, codes-own, code-past}

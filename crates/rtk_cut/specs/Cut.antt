@@ -5,7 +5,7 @@ use Rattle.std.specs.Int.{IsInRange}
 use Rattle.std.specs.List.{filter, list_any, take_while, range_with_len}
 use Rattle.rtk_rinex.specs.declared.epoch_table.Observed.{Observed}
 use Rattle.rtk_rinex.specs.declared.epoch_table.SatelliteRow.{SatelliteRow}
-use Rattle.rtk_rinex.specs.Record.{EpochTableView}
+use Rattle.rtk_rinex.specs.Record.{EpochTableView, no_observation}
 use Rattle.rtk_rinex.specs.Table.{WellFormedTable}
 use Rattle.rtk_tracking.specs.Interval.{interval_of_file, nearness_of}
 use Rattle.rtk_cut.specs.declared.part.Part.{Part}
@@ -67,9 +67,6 @@ abbrev pub is_chosen : Choice → EpochTableView → Bool
 is_chosen choice e = is_in_span choice.near_ms choice.from choice.until e
 
 -- ---- which slips
-
-abbrev pub no_observation : Observed
-no_observation = record { range_mm = None; phase_millicycles = None; strength_millidbhz = None; slip = false; half = false }
 
 -- what a satellite shows of the code at this place of the file's list
 abbrev pub code_at : ℕ → SatelliteRow → Observed

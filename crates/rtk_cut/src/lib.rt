@@ -7,22 +7,46 @@
 //! use rtk_cut::{Part, cut};
 //! use rtk_frame::MemSink;
 //! use rtk_obs::{Code, GpsMs, Position};
-//! use rtk_rinex::{Head, check, header};
+//! use rtk_rinex::{EpochTable, Head, Observed, check_text, header, record};
 //! use std::alloc::{AllocError, Global};
 //!
-//! // A file without records has no other records at 30 seconds.
+//! const NOON: u64 = 1_399_982_400_000;
+//!
+//! // The record of satellite 5 at a moment.
+//! fn record_at(alloc: Global, head: &Head, time: GpsMs, slip: bool) -> Result<Vec<u8>, AllocError> {
+//!     let phase = Observed {
+//!         phase_millicycles: Some(110_804_903_547),
+//!         slip,
+//!         ..Observed::default()
+//!     };
+//!     let mut epoch = EpochTable::new(time);
+//!     epoch.push_row(5, &[phase]);
+//!     record(alloc, head, &epoch)
+//! }
+//!
+//! // Of records at 0, 15 and 30 s the part at each 30 s: the record at 15 s is left out, and its slip is
+//! // shown at 30 s.
 //! fn example(alloc: Global) -> Result<bool, AllocError> {
-//!     let Some(noon) = GpsMs::new(1_399_982_400_000) else {
+//!     let (Some(first), Some(second), Some(third)) = (
+//!         GpsMs::new(NOON),
+//!         GpsMs::new(NOON + 15_000),
+//!         GpsMs::new(NOON + 30_000),
+//!     ) else {
 //!         return Ok(false);
 //!     };
-//!     let Ok(head) = Head::new(b"BASE", &[Code::C1C, Code::C2W], noon) else {
+//!     let Ok(head) = Head::new(b"BASE", &[Code::C1C], first) else {
 //!         return Ok(false);
 //!     };
 //!     let Some(position) = Position::new(0, 0, 0, 0) else {
 //!         return Ok(false);
 //!     };
-//!     let file = header(alloc, &head, &position, noon)?;
-//!     let Ok(table) = check(file.as_slice()) else {
+//!     let mut want = header(alloc, &head, &position, first)?;
+//!     want.extend_from_slice(record_at(alloc, &head, first, false)?.as_slice())?;
+//!     let mut file = Vec::from_slice(alloc, want.as_slice())?;
+//!     file.extend_from_slice(record_at(alloc, &head, second, true)?.as_slice())?;
+//!     file.extend_from_slice(record_at(alloc, &head, third, false)?.as_slice())?;
+//!     want.extend_from_slice(record_at(alloc, &head, third, true)?.as_slice())?;
+//!     let Ok(table) = check_text(file.as_slice()) else {
 //!         return Ok(false);
 //!     };
 //!     let part = Part {
@@ -32,7 +56,7 @@
 //!     };
 //!     let mut out = MemSink::new(alloc, 65_536, 4_096)?;
 //!     let is_cut = cut(alloc, &table, part, &mut out).is_ok();
-//!     Ok(is_cut && out.bytes() == file.as_slice())
+//!     Ok(is_cut && out.bytes() == want.as_slice())
 //! }
 //! ```
 

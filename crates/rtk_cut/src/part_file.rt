@@ -11,7 +11,7 @@ use crate::fault::CutFault;
 use crate::part::{Choice, Part};
 use crate::part_writer::{PartWriter, new_table};
 use rtk_frame::Sink;
-use rtk_rinex::Table;
+use rtk_rinex::TextTable;
 use rtk_tracking::{interval, nearness_ms};
 use std::alloc::Global;
 
@@ -22,7 +22,7 @@ use std::alloc::Global;
 /// not grow with the file.
 pub fn cut<W: Sink>(
     alloc: Global,
-    table: &Table<'_>,
+    table: &TextTable<'_>,
     part: Part,
     out: &mut W,
 ) -> Result<CutCounts, CutFault>

@@ -6,9 +6,9 @@
 
 ghost use Rattle.std.specs.Prelude.{◌≡◌, ℕ, ◌+◌, ◌*◌, ◌<◌, ◌≤◌, ◌||◌, ◌&&◌, ◌==◌, not, true, false, nat_lt, [], ◌∷◌, List, length, map, get_or, is_some, All, AllPairs};
 ghost use Rattle.std.specs.List.{list_any};
-ghost use Rattle.rtk_rinex.specs.Record.{EpochTableView, IsSatelliteRow, HasWidth};
+ghost use Rattle.rtk_rinex.specs.Record.{EpochTableView, IsSatelliteRow, HasWidth, no_observation};
 ghost use Rattle.rtk_rinex.specs.Table.{IsTableEpoch};
-ghost use Rattle.rtk_cut.specs.Cut.{Step, is_on_step, code_at, no_observation, with_slip, cut_epoch};
+ghost use Rattle.rtk_cut.specs.Cut.{Step, is_on_step, code_at, with_slip, cut_epoch};
 ghost use Rattle.rtk_cut.specs.Steps.Pending.{mark_of, MarksAt, MarksBecome, StandsForSlips, NotesSlips, ShowsSlipsIn, ClearsSlips, row_has_slip, row_has_phase, codes_with_marks, row_with_marks};
 
 use rtk_rinex::{EpochTable, Observed, SatelliteRow};

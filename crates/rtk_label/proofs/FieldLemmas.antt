@@ -3,9 +3,8 @@ use Rattle.std.proofs.Common.{◌≡◌, ◌≢◌, ◌≤◌, ℕ, ◌-◌, Lis
 use Rattle.std.specs.Int.{IsInRange}
 use Rattle.std.proofs.lemmas.List.{length-replicate}
 use Rattle.std.proofs.lemmas.List.Elements.{All-nil}
-use Rattle.rtk_rinex.specs.Columns.{left}
+use Rattle.rtk_rinex.specs.Columns.{left, IsField}
 use Rattle.rtk_rinex.specs.Record.{trim_end}
-use Rattle.rtk_label.specs.Fields.{IsField}
 use Rattle.rtk_label.specs.Steps.Shown.{IsFieldIn}
 use Rattle.rtk_label.specs.Steps.Fronts.{plain_columns}
 use Rattle.rtk_label.proofs.ChoiceLemmas.{if_blank, if_filled, none_is, blank_or_filled}

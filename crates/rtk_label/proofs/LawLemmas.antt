@@ -3,12 +3,12 @@ use Rattle.std.proofs.Common.{◌≡◌, ◌<◌, ℕ, List, [], ◌++◌, lengt
 use Rattle.std.specs.Prelude.{flat_map}
 use Rattle.std.proofs.lemmas.List.{take_at, drop_at, drop-drop}
 use Rattle.rtk_rinex.specs.CheckTable.{OneTable}
-use Rattle.rtk_rinex.specs.Columns.{left}
+use Rattle.rtk_rinex.specs.Columns.{left, IsField}
 use Rattle.rtk_rinex.specs.Header.{HeadView, IsMarker, IsPositionView, header_line}
 use Rattle.rtk_rinex.specs.Reading.{reading_of}
 use Rattle.rtk_rinex.specs.Record.{record_text}
 use Rattle.rtk_rinex.specs.Table.{WellFormedTable, IsWellFormedTable, table_text}
-use Rattle.rtk_label.specs.Fields.{IsField, marker_number_line}
+use Rattle.rtk_label.specs.Fields.{marker_number_line}
 use Rattle.rtk_label.specs.Labelled.{LabelView, IsLabel, IsFor, blank_label, top_lines, middle_lines, front_lines, labelled_text}
 use Rattle.rtk_label.specs.LabelLaws.{BlankIsFile, FrontIsChanged, LabelsAreTold, RecordsStay}
 use Rattle.rtk_label.specs.Steps.Shown.{IsNumberIn}

@@ -1,9 +1,9 @@
 -- The line of the marker's number.
 use Rattle.std.proofs.Common.{◌≡◌, ◌≢◌, ◌<◌, ◌≤◌, ℕ, List, [], ◌∷◌, ◌++◌, length, take, get_or, codes, ap, sym, arith, refl, ◌∙◌, append_assoc, replicate}
 use Rattle.std.proofs.lemmas.List.{take_at, get_or-append_right}
-use Rattle.rtk_rinex.specs.Columns.{left}
+use Rattle.rtk_rinex.specs.Columns.{left, IsField}
 use Rattle.rtk_rinex.specs.Header.{header_line}
-use Rattle.rtk_label.specs.Fields.{IsField, marker_number_line}
+use Rattle.rtk_label.specs.Fields.{marker_number_line}
 use Rattle.rtk_label.specs.Steps.Shown.{IsFieldIn, IsNumberIn}
 use Rattle.rtk_label.proofs.ChoiceLemmas.{if_filled}
 use Rattle.rtk_label.proofs.FieldLemmas.{blank_field, length-left}

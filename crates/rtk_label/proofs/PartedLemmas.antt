@@ -1,11 +1,11 @@
 -- A text that is parted into a label and a plain text.
 use Rattle.std.proofs.Common.{◌≡◌, ◌<◌, ◌≤◌, ℕ, ◌+◌, List, [], ◌++◌, length, take, drop, codes, ap, sym, arith, ◌∙◌, append_assoc, length-append, inl, inr}
 use Rattle.std.proofs.lemmas.List.{take_at, take-append-drop, length-take-le, append_cancel_left}
-use Rattle.rtk_rinex.specs.Columns.{left}
+use Rattle.rtk_rinex.specs.Columns.{left, IsField}
 use Rattle.rtk_rinex.specs.Header.{header_line}
 use Rattle.rtk_rinex.specs.Reading.{reading_of}
 use Rattle.rtk_rinex.specs.Table.{WellFormedTable, IsWellFormedTable, table_text}
-use Rattle.rtk_label.specs.Fields.{IsField, marker_number_line}
+use Rattle.rtk_label.specs.Fields.{marker_number_line}
 use Rattle.rtk_label.specs.Labelled.{LabelView, IsLabel, IsFor, blank_label, top_lines, middle_lines, labelled_text}
 use Rattle.rtk_label.specs.LabelWriting.{IsParted}
 use Rattle.rtk_label.specs.Steps.Shown.{IsNumberIn, IsLabelIn}

@@ -3,9 +3,9 @@ use Rattle.std.proofs.Common.{◌≡◌, ◌<◌, ◌≤◌, ℕ, ◌+◌, ◌/�
 use Rattle.std.proofs.lemmas.List.{append-nil}
 use Rattle.rtk_obs.specs.declared.time.Civil.{Civil}
 use Rattle.rtk_obs.specs.CivilText.{last_digits}
-use Rattle.rtk_rinex.specs.Columns.{left, right, fixed}
+use Rattle.rtk_rinex.specs.Columns.{left, right, fixed, IsField}
 use Rattle.rtk_rinex.specs.Header.{PositionView, IsMarker, IsPositionView}
-use Rattle.rtk_label.specs.Fields.{IsField, offset_columns}
+use Rattle.rtk_label.specs.Fields.{offset_columns}
 use Rattle.rtk_label.specs.Labelled.{LabelView, IsLabel, IsFor, blank_label, height_columns, top_lines, middle_lines}
 use Rattle.rtk_label.specs.Steps.Shown.{IsFieldIn, IsLabelIn}
 use Rattle.rtk_label.specs.Steps.Fronts.{filled_height, filled_middle, plain_columns, plain_offset, plain_middle}

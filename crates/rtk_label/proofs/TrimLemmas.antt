@@ -4,9 +4,8 @@ use Rattle.std.proofs.lemmas.Bool.Decides.{nat_tests}
 use Rattle.std.proofs.lemmas.Grind.{take_at_read}
 use Rattle.std.proofs.lemmas.Option.{slice_get-get_or}
 use Rattle.std.proofs.lemmas.List.{replicate-append-replicate, append-nil}
-use Rattle.rtk_rinex.specs.Columns.{left}
+use Rattle.rtk_rinex.specs.Columns.{left, IsField}
 use Rattle.rtk_rinex.specs.Record.{trim_end, before_trimmed}
-use Rattle.rtk_label.specs.Fields.{IsField}
 
 trim_end-blank : (xs : List ℕ) → trim_end (xs ++ 32 ∷ []) ≡ trim_end xs
 unfolding trim_end

@@ -1,17 +1,9 @@
--- Fields of a header that a label fills: what may stand in them, and how they stand in their columns.
+-- Fields of a header that a label fills: offsets, and how fields stand in their columns.
 -- Source: RINEX 3.05, Table A2
-use Rattle.std.specs.Prelude.{◌≡◌, ◌≢◌, ◌≤◌, ◌<◌, ◌⊎◌, ℕ, ◌+◌, ◌-◌, ◌==◌, List, [], length, take, drop, codes, All, slice_get, slice_index, Some, if◌then◌else◌}
+use Rattle.std.specs.Prelude.{◌≡◌, ◌<◌, ◌⊎◌, ℕ, ◌+◌, ◌-◌, ◌==◌, List, [], length, take, drop, codes, All, slice_index, if◌then◌else◌}
 use Rattle.std.specs.Int.{IsInRange}
 use Rattle.rtk_rinex.specs.Columns.{left, right}
 use Rattle.rtk_rinex.specs.Header.{header_line}
-
--- formula
--- a text for columns (Aw): no more characters than columns, each from blank to tilde, the first and
--- the last no blank; the field is blank if there is no character (this project's rule)
-abbrev pub IsField : ℕ → List ℕ → Type 0
-IsField width text =
-    (length text ≤ width) × All (λ x. IsInRange 32 126 x) text
-    × (slice_get text 0 ≢ Some 32) × (slice_get text (length text - 1) ≢ Some 32)
 
 -- formula
 -- plus or minus

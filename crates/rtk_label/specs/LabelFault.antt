@@ -1,5 +1,6 @@
 -- Why these parts make no label: the first field, in this order, that does not fit its columns.
-use Rattle.rtk_label.specs.Fields.{IsField, IsOffset}
+use Rattle.rtk_rinex.specs.Columns.{IsField}
+use Rattle.rtk_label.specs.Fields.{IsOffset}
 use Rattle.rtk_label.specs.Labelled.{LabelView}
 use Rattle.rtk_label.specs.declared.label_fault.LabelFault.{LabelFault}
 use Rattle.rtk_label.specs.declared.label_fault.LabelFault.TheVariants.{RunBy, MarkerNumber, Observer, Agency, ReceiverNumber, ReceiverType, ReceiverVersion, AntennaNumber, AntennaType, DeltaHeight, DeltaEast, DeltaNorth}

@@ -3,12 +3,12 @@
 -- Source: RINEX 3.05, Table A2
 use Rattle.std.specs.Prelude.{◌≡◌, ◌<◌, ℕ, ◌==◌, List, [], ◌++◌, length, codes, flat_map, pos, if◌then◌else◌}
 use Rattle.rtk_obs.specs.declared.time.Civil.{Civil}
-use Rattle.rtk_rinex.specs.Columns.{left, right, fixed}
+use Rattle.rtk_rinex.specs.Columns.{left, right, fixed, IsField}
 use Rattle.rtk_rinex.specs.Header.{HeadView, PositionView, header_line, made_text, types_lines, last_lines}
 use Rattle.rtk_rinex.specs.Reading.{reading_of}
 use Rattle.rtk_rinex.specs.Record.{record_text}
 use Rattle.rtk_rinex.specs.Table.{WellFormedTable}
-use Rattle.rtk_label.specs.Fields.{IsField, IsOffset, offset_columns, marker_number_line}
+use Rattle.rtk_label.specs.Fields.{IsOffset, offset_columns, marker_number_line}
 
 -- the fields of a header that no message of the stream tells; no characters stand for a blank field
 pub record LabelView : Type 0 where

@@ -3,10 +3,12 @@
 ghost use Rattle.std.specs.Prelude.{◌≡◌, ◌≢◌, ◌+◌, ◌≤◌, ◌<◌, length, take, drop, replicate, All, Decides, slice_index};
 ghost use Rattle.std.specs.Int.{IsInRange};
 ghost use Rattle.rtk_rinex.specs.Record.{trim_end};
-ghost use Rattle.rtk_label.specs.Fields.{IsField, IsSign, AreDigits, IsSigned, IsOffset};
+ghost use Rattle.rtk_rinex.specs.Columns.{IsField};
+ghost use Rattle.rtk_label.specs.Fields.{IsSign, AreDigits, IsSigned, IsOffset};
 ghost use Rattle.rtk_label.specs.Steps.Shown.{IsFieldIn, IsOffsetIn};
 
 use arrayvec::ArrayVec;
+use rtk_rinex::is_field;
 
 /// The bytes of a field; no bytes if it is blank.
 pub(crate) type Field = ArrayVec<u8, 40>;
@@ -40,35 +42,11 @@ pub(crate) fn columns_at(text: &[u8], from: usize, width: usize) -> &[u8]
     rest.split_at(rest.len().min(width)).0
 }
 
-fn is_printed(text: &[u8]) -> bool
-    ensures { Decides result (All (λ x. IsInRange 32 126 x) text.now) }
-{
-    for byte in text {
-        if *byte < 0x20 || *byte > 0x7E {
-            return false;
-        }
-    }
-    true
-}
-
 /// Are two texts the same?
 pub(crate) fn is_same(text: &[u8], other: &[u8]) -> bool
     ensures { Decides result (text.now ≡ other.now) }
 {
     text == other
-}
-
-/// Does a text fit this number of columns, or is it blank?
-pub(crate) fn is_field(text: &[u8], width: usize) -> bool
-    ensures { Decides result (IsField width text.now) }
-{
-    if text.len() == 0 {
-        return true;
-    }
-    if text.len() > width {
-        return false;
-    }
-    text[0] != b' ' && text[text.len() - 1] != b' ' && is_printed(text)
 }
 
 fn are_digits(text: &[u8]) -> bool
@@ -88,6 +66,7 @@ fn is_sign(byte: u8) -> bool
     byte == b'+' || byte == b'-'
 }
 
+// A sign, one to four digits, a point and four digits.
 fn is_signed(text: &[u8]) -> bool
     ensures { Decides result (IsSigned text.now) }
 {

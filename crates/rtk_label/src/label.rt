@@ -3,9 +3,10 @@
 ghost use Rattle.std.specs.Prelude.{◌≡◌, IfOk, IfErr, MatchOption};
 ghost use Rattle.rtk_label.specs.Labelled.{IsLabel, blank_label};
 
-use crate::fields::{Field, field_of, is_field, is_offset};
+use crate::fields::{Field, field_of, is_offset};
 use crate::label_fault::LabelFault;
 use arrayvec::ArrayVec;
+use rtk_rinex::is_field;
 use std::marker::Model;
 
 /// The texts of a label; an empty one is a blank field.

@@ -10,10 +10,10 @@ use crate::fields::after;
 use crate::front::filled;
 use crate::label::Label;
 use rtk_frame::{Sink, StreamFault, write_all};
-use rtk_rinex::Table;
+use rtk_rinex::TextTable;
 
 /// Is a label for this file? If the stream told the antenna's height, it is for none that has one.
-pub fn is_for(label: &Label, table: &Table<'_>) -> bool
+pub fn is_for(label: &Label, table: &TextTable<'_>) -> bool
     ensures { (t : WellFormedTable) → IsWellFormedTable t → table.now.text ≡ table_text t
         → Decides result (IsFor label.now t.site) }
 {
@@ -27,7 +27,7 @@ pub fn is_for(label: &Label, table: &Table<'_>) -> bool
 /// the rest is written from the table's text.
 pub fn write_labelled<W: Sink>(
     label: &Label,
-    table: &Table<'_>,
+    table: &TextTable<'_>,
     out: &mut W,
 ) -> Result<(), StreamFault>
     requires { IsForText label.now table.now.text }
@@ -48,7 +48,7 @@ pub fn write_labelled<W: Sink>(
 /// marker's number. What comes after the first `PLAIN_FRONT` bytes of the file is left to the caller.
 pub fn write_front<W: Sink>(
     label: &Label,
-    table: &Table<'_>,
+    table: &TextTable<'_>,
     out: &mut W,
 ) -> Result<(), StreamFault>
     ensures all { OnOk result (WritesFront table.now.text label.now (W.taken out.old) (W.taken out.new)) }

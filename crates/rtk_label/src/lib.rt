@@ -5,10 +5,10 @@
 //! use rtk_frame::MemSink;
 //! use rtk_label::{Label, LabelParts, is_for, unlabel, write_labelled};
 //! use rtk_obs::{Code, GpsMs, Position};
-//! use rtk_rinex::{Head, check, header};
+//! use rtk_rinex::{EpochTable, Head, Observed, check_text, header, record};
 //! use std::alloc::{AllocError, Global};
 //!
-//! // A file with an agency is no file of `check`, until the label is taken from it.
+//! // A file of one record with an agency is no file of `check`, until the label is taken from it.
 //! fn example(alloc: Global) -> Result<bool, AllocError> {
 //!     let Some(noon) = GpsMs::new(1_399_982_400_000) else {
 //!         return Ok(false);
@@ -19,8 +19,15 @@
 //!     let Some(position) = Position::new(0, 0, 0, 0) else {
 //!         return Ok(false);
 //!     };
-//!     let file = header(alloc, &head, &position, noon)?;
-//!     let Ok(table) = check(file.as_slice()) else {
+//!     let range = Observed {
+//!         range_mm: Some(21_085_472_060),
+//!         ..Observed::default()
+//!     };
+//!     let mut epoch = EpochTable::new(noon);
+//!     epoch.push_row(5, &[range]);
+//!     let mut file = header(alloc, &head, &position, noon)?;
+//!     file.extend_from_slice(record(alloc, &head, &epoch)?.as_slice())?;
+//!     let Ok(table) = check_text(file.as_slice()) else {
 //!         return Ok(false);
 //!     };
 //!     let parts = LabelParts {
@@ -34,10 +41,11 @@
 //!     if !is_for(&label, &table) || write_labelled(&label, &table, &mut out).is_err() {
 //!         return Ok(false);
 //!     }
+//!     let is_refused = check_text(out.bytes()).is_err();
 //!     let mut text = Vec::new(alloc);
 //!     text.extend_from_slice(out.bytes())?;
 //!     let unlabelled = unlabel(text.as_mut_slice());
-//!     Ok(text.as_slice().split_at(unlabelled.from).1 == file.as_slice())
+//!     Ok(is_refused && text.as_slice().split_at(unlabelled.from).1 == file.as_slice())
 //! }
 //! ```
 #![tactic(auto)]

@@ -4,7 +4,8 @@
 //! label fills stays as it is, so that `check` finds the first wrong line.
 
 ghost use Rattle.std.specs.Prelude.{◌≡◌, ◌+◌, ◌^◌, ◌<◌, ◌≤◌, ◌++◌, length, drop};
-ghost use Rattle.rtk_label.specs.Fields.{IsField, marker_number_line};
+ghost use Rattle.rtk_rinex.specs.Columns.{IsField};
+ghost use Rattle.rtk_label.specs.Fields.{marker_number_line};
 ghost use Rattle.rtk_label.specs.LabelWriting.{IsParted, line_in_text};
 ghost use Rattle.rtk_label.specs.Steps.Shown.{IsNumberIn, IsLabelIn};
 
@@ -91,7 +92,9 @@ struct Reading {
     front: ArrayVec<u8, FRONT>,
 }
 
-fn read(text: &[u8]) -> Reading
+// Reads a text of ten lines at least. Where the lines after the third stand depends on the marker's
+// number, since its line may be absent.
+fn reading_of(text: &[u8]) -> Reading
     requires { 810 ≤ length text.now }
     ensures parted { IsParted text.now (result.front.items ++ drop (result.unlabelled.from + 729) text.now) result.unlabelled.label }
     ensures from { result.unlabelled.from ≡ length (marker_number_line result.unlabelled.label.marker_number) }
@@ -125,7 +128,7 @@ pub fn unlabel(text: &mut [u8]) -> Unlabelled
             from: 0,
         };
     }
-    let reading = read(text);
+    let reading = reading_of(text);
     let from = reading.unlabelled.from;
     text[from..from + 729].copy_from_slice(reading.front.as_slice());
     reading.unlabelled

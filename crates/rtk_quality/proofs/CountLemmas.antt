@@ -9,7 +9,9 @@ use Rattle.rtk_rinex.specs.Reading.{reading_of}
 use Rattle.rtk_rinex.specs.declared.epoch_table.Observed.{Observed}
 use Rattle.rtk_tracking.specs.Passes.{Sighting, has_phase, has_bit_0, last_phase, is_away, begins_pass, is_known, is_slip}
 use Rattle.rtk_tracking.specs.Standing.{StandsForPass}
-use Rattle.rtk_quality.specs.Counts.{plus, Noted, nothing_observed, shown_at, is_observed, noted_of, tally, strength_total, least_strength, greatest_strength, counts_of, code_counts_of}
+use Rattle.rtk_tracking.specs.Epochs.{shown_at}
+use Rattle.rtk_rinex.specs.Record.{no_observation}
+use Rattle.rtk_quality.specs.Counts.{plus, Noted, is_observed, noted_of, tally, strength_total, least_strength, greatest_strength, counts_of, code_counts_of}
 use Rattle.rtk_quality.specs.SatellitePasses.{phases_in, slips_at, longer, passes_of, epochs_since_phase, epochs_in_passes}
 use Rattle.rtk_quality.specs.Standing.{newest_pass, with_epoch, absent_at, StandsForSatellite}
 use Rattle.rtk_quality.specs.declared.satellite_counts.PassCounts.{PassCounts}
@@ -59,7 +61,7 @@ total-none [] = refl
 total-none (n ∷ ns) = omega arith
 
 -- it changes no count
-pub nothing-more : (ns : List Noted) (known : Bool) → counts_of (record { observed = nothing_observed; known = known } ∷ ns) ≡ counts_of ns
+pub nothing-more : (ns : List Noted) (known : Bool) → counts_of (record { observed = no_observation; known = known } ∷ ns) ≡ counts_of ns
 nothing-more ns known =
     same-counts (list_any (λ n. is_observed n.observed) ns) _ _ _ _ _ _ _ _ _ _ _ _ _ _ (least_strength ns) (greatest_strength ns)
     (plus-none (λ n. is_some n.observed.phase_millicycles) ns)
@@ -74,12 +76,12 @@ nothing-more ns known =
 pub code-rest : (gap place : ℕ) (before : List Sighting) (s : Sighting) → length s.observed ≤ place
     → counts_of (noted_of gap place (s ∷ before)) ≡ counts_of (noted_of gap place before)
 code-rest gap place before s past =
-    ap (λ (o : Observed). counts_of (record { observed = o; known = is_known gap place before s } ∷ noted_of gap place before)) (get_or_past s.observed place nothing_observed past)
+    ap (λ (o : Observed). counts_of (record { observed = o; known = is_known gap place before s } ∷ noted_of gap place before)) (get_or_past s.observed place no_observation past)
     ∙ nothing-more (noted_of gap place before) (is_known gap place before s)
 
 pub no-slip : (gap place : ℕ) (before : List Sighting) (s : Sighting) → length s.observed ≤ place → is_slip gap place before s ≡ false
 no-slip gap place before s past =
-    ap (λ (b : Bool). b && is_known gap place before s) (bit-at place s.observed ∙ ap (λ (o : Observed). o.slip) (get_or_past s.observed place nothing_observed past))
+    ap (λ (b : Bool). b && is_known gap place before s) (bit-at place s.observed ∙ ap (λ (o : Observed). o.slip) (get_or_past s.observed place no_observation past))
 
 -- the codes of a satellite without a row
 pub same-codes : (gap t : ℕ) (before : List Sighting) → code_counts_of gap (absent_at t ∷ before) ≡ code_counts_of gap before

@@ -2,16 +2,9 @@
 use Rattle.std.specs.Prelude.{ℕ, ◌+◌, ◌*◌, ◌/◌, ◌==◌, Bool, false, not, ◌&&◌, ◌||◌, List, [], ◌∷◌, get_or, map, Option, None, Some, is_some, unwrap_or, min, max, if◌then◌else◌}
 use Rattle.std.specs.List.{list_any, range_with_len}
 use Rattle.rtk_rinex.specs.declared.epoch_table.Observed.{Observed}
-use Rattle.rtk_tracking.specs.Epochs.{capped}
+use Rattle.rtk_tracking.specs.Epochs.{capped, shown_at}
 use Rattle.rtk_tracking.specs.Passes.{Sighting, is_known}
 use Rattle.rtk_quality.specs.declared.code_counts.CodeCounts.{CodeCounts}
-
-abbrev pub nothing_observed : Observed
-nothing_observed = record { range_mm = None; phase_millicycles = None; strength_millidbhz = None; slip = false; half = false }
-
--- what the code at this place shows
-abbrev pub shown_at : ℕ → List Observed → Observed
-shown_at place os = get_or os place nothing_observed
 
 -- what a code shows in an epoch, and whether it had a phase earlier in the pass
 pub record Noted : Type 0 where
@@ -28,7 +21,7 @@ noted_of gap place (s ∷ before) =
 abbrev pub is_observed : Observed → Bool
 is_observed o = is_some o.range_mm || (is_some o.phase_millicycles || is_some o.strength_millidbhz)
 
--- the lesser and the greater of two numbers, if there are two
+-- the lesser and the greater of two numbers; of one number, this number
 abbrev pub lesser : Option ℕ → Option ℕ → Option ℕ
 lesser None b = b
 lesser (Some a) None = Some a

@@ -82,7 +82,3 @@ pub record StandsForFile (f : FileCounts) (gap unit : ℕ) (es : List EpochTable
   pub records : f.records ≡ record_counts_of unit es
   pub satellites : StandForSatellites f.satellites.items gap es
   pub ended : StandForEnded f.ended.items gap es
-
--- this holds of the epochs, newest first, of each table whose text the file is
-abbrev pub HoldsOfEpochs : List ℕ → (List EpochTableView → Type 0) → Type 0
-HoldsOfEpochs file Holds = (t : WellFormedTable) → IsWellFormedTable t → file ≡ table_text t → Holds (newest_first t.epochs)

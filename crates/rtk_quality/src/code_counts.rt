@@ -40,7 +40,7 @@ fn is_observed(observed: &Observed) -> bool
 }
 
 impl CodeCounts {
-    /// Nothing came.
+    /// Of a code that no epoch has: each count is 0, and there is no strength.
     pub(crate) fn new() -> CodeCounts
         ensures { result ≡ counts_of [] }
     {

@@ -12,7 +12,7 @@ use crate::form::{Form, put_end};
 use crate::heading::{put_heading, put_marker};
 use crate::sections::{Section, put_codes, put_section};
 use rtk_obs::{Code, GpsMs, civil};
-use rtk_rinex::Table;
+use rtk_rinex::TextTable;
 use rtk_tracking::interval;
 use std::alloc::{AllocError, Global};
 
@@ -82,7 +82,7 @@ fn text_of(
 /// with whole numbers in the units that its keys name.
 ///
 /// It tells nothing of multipath.
-pub fn quality(alloc: Global, form: Form, table: &Table<'_>) -> Result<Vec<u8>, AllocError>
+pub fn quality(alloc: Global, form: Form, table: &TextTable<'_>) -> Result<Vec<u8>, AllocError>
     // Fails only if memory is refused: tests/system/calls, row quality.
     ensures { IfOk result (λ text. TellsQuality form table.now.text text.items) }
 {

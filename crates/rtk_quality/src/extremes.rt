@@ -3,7 +3,7 @@
 ghost use Rattle.std.specs.Prelude.{◌≡◌};
 ghost use Rattle.rtk_quality.specs.Counts.{lesser, greater};
 
-/// The lesser of two numbers, if there are two.
+/// The lesser of two numbers; if one of them is absent, the other.
 pub(crate) fn lesser(one: Option<u32>, other: Option<u32>) -> Option<u32>
     ensures { result ≡ lesser one other }
 {
@@ -14,7 +14,7 @@ pub(crate) fn lesser(one: Option<u32>, other: Option<u32>) -> Option<u32>
     }
 }
 
-/// The greater of two numbers, if there are two.
+/// The greater of two numbers; if one of them is absent, the other.
 pub(crate) fn greater(one: Option<u32>, other: Option<u32>) -> Option<u32>
     ensures { result ≡ greater one other }
 {

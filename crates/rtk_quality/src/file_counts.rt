@@ -6,13 +6,14 @@ ghost use Rattle.rtk_rinex.specs.Record.{EpochTableView};
 ghost use Rattle.rtk_tracking.specs.Passes.{longest_gap};
 ghost use Rattle.rtk_quality.specs.Records.{unit_of};
 ghost use Rattle.rtk_quality.specs.Quality.{totals_of, satellites_in};
-ghost use Rattle.rtk_quality.specs.Standing.{without_rows, with_ended, StandForSatellites, StandForEnded, StandsForFile, HoldsOfEpochs};
+ghost use Rattle.rtk_tracking.specs.Epochs.{HoldsOfEpochs};
+ghost use Rattle.rtk_quality.specs.Standing.{without_rows, with_ended, StandForSatellites, StandForEnded, StandsForFile};
 
 use crate::code_numbers::CodeNumbers;
 use crate::record_counts::{RecordCounts, unit_ms};
 use crate::satellite_counts::{PassCounts, SatelliteCounts};
 use rtk_obs::civil;
-use rtk_rinex::{EpochTable, Table};
+use rtk_rinex::{EpochTable, TextTable};
 use rtk_tracking::longest_gap_ms;
 use std::alloc::{AllocError, Global};
 
@@ -113,7 +114,7 @@ pub(crate) fn satellites_in(satellites: &[SatelliteCounts]) -> usize
 }
 
 impl FileCounts {
-    /// Nothing came.
+    /// Of a file without records: 32 satellites, each of them without an epoch.
     pub(crate) fn new(alloc: Global) -> Result<FileCounts, AllocError>
         ensures size { IfOk result (λ counts. length counts.satellites.items ≡ 32) }
         ensures counts { IfOk result (λ counts. (gap : ℕ) (unit : ℕ) → StandsForFile counts gap unit []) }
@@ -148,7 +149,7 @@ impl FileCounts {
 /// Counts all records of a table with this interval.
 pub(crate) fn count_file(
     alloc: Global,
-    table: &Table<'_>,
+    table: &TextTable<'_>,
     interval: Option<u64>,
 ) -> Result<FileCounts, AllocError>
     ensures size { IfOk result (λ counts. length counts.satellites.items ≡ 32) }

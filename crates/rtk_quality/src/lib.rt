@@ -6,26 +6,43 @@
 //! ```rust
 //! use rtk_obs::{Code, GpsMs, Position};
 //! use rtk_quality::{Form, quality};
-//! use rtk_rinex::{Head, check, header};
+//! use rtk_rinex::{EpochTable, Head, Observed, check_text, header, record};
 //! use std::alloc::{AllocError, Global};
+//! use std::str;
 //!
-//! // A file without records has no other numbers.
+//! // Satellite 5 in three seconds, with a slip in the second one.
 //! fn example(alloc: Global) -> Result<bool, AllocError> {
-//!     let Some(noon) = GpsMs::new(1_399_982_400_000) else {
+//!     let (Some(noon), Some(position)) = (GpsMs::new(1_399_982_400_000), Position::new(0, 0, 0, 0))
+//!     else {
 //!         return Ok(false);
 //!     };
 //!     let Ok(head) = Head::new(b"BASE", &[Code::C1C], noon) else {
 //!         return Ok(false);
 //!     };
-//!     let Some(position) = Position::new(0, 0, 0, 0) else {
-//!         return Ok(false);
-//!     };
-//!     let text = header(alloc, &head, &position, noon)?;
-//!     let Ok(table) = check(text.as_slice()) else {
+//!     let mut file = header(alloc, &head, &position, noon)?;
+//!     for second in 0..3 {
+//!         let Some(time) = GpsMs::new(noon.ms() + 1000 * second) else {
+//!             return Ok(false);
+//!         };
+//!         let phase = Observed {
+//!             phase_millicycles: Some(110_804_903_547),
+//!             strength_millidbhz: Some(45_000),
+//!             slip: second == 1,
+//!             ..Observed::default()
+//!         };
+//!         let mut epoch = EpochTable::new(time);
+//!         epoch.push_row(5, &[phase]);
+//!         file.extend_from_slice(record(alloc, &head, &epoch)?.as_slice())?;
+//!     }
+//!     let Ok(table) = check_text(file.as_slice()) else {
 //!         return Ok(false);
 //!     };
 //!     let numbers = quality(alloc, Form::Lines, &table)?;
-//!     Ok(numbers.as_slice() == b"marker BASE\nrecords 0\n".as_slice())
+//!     let Ok(text) = str::from_utf8(numbers.as_slice()) else {
+//!         return Ok(false);
+//!     };
+//!     let code = "code 1C phases 3 of 3 percent 100.0 ranges-only 0 slips 1 rises 0 ";
+//!     Ok(text.lines().any(|line| line.starts_with(code)))
 //! }
 //! ```
 

@@ -5,7 +5,8 @@ ghost use Rattle.std.specs.List.{list_any};
 ghost use Rattle.rtk_rinex.specs.Reading.{reading_of};
 ghost use Rattle.rtk_tracking.specs.Passes.{Sighting, has_phase, is_known, is_slip};
 ghost use Rattle.rtk_tracking.specs.Standing.{AreMarked};
-ghost use Rattle.rtk_quality.specs.Counts.{plus, shown_at, code_counts_of};
+ghost use Rattle.rtk_tracking.specs.Epochs.{shown_at};
+ghost use Rattle.rtk_quality.specs.Counts.{plus, code_counts_of};
 ghost use Rattle.rtk_quality.specs.Quality.{numbers_of, is_in_file};
 ghost use Rattle.rtk_quality.specs.SatellitePasses.{phases_in, slips_at};
 ghost use Rattle.rtk_quality.specs.Standing.{with_epoch, absent_at, StandsForSatellite, StandsForEnded};
@@ -130,7 +131,7 @@ fn with_epoch(
 }
 
 impl SatelliteCounts {
-    /// Nothing came.
+    /// Of a satellite that no epoch has: no pass has begun, and each count is 0.
     pub(crate) fn new() -> SatelliteCounts
         ensures { (gap : ℕ) → StandsForSatellite result gap [] }
     {

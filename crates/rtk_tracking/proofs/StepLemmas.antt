@@ -1,11 +1,12 @@
 -- How often steps came, and the most frequent of them.
-use Rattle.std.proofs.Common.{◌≡◌, ◌≢◌, ◌<◌, ◌≤◌, ◌+◌, ℕ, Bool, true, false, ◌&&◌, cond, eqb, ltb, Option, Some, None, List, [], ◌∷◌, inl, inr, ◌⊎◌, refl, sym, ap, subst, ◌∙◌, arith}
+use Rattle.std.proofs.Common.{◌≡◌, ◌≢◌, ◌<◌, ◌≤◌, ◌+◌, ◌^◌, ◌==◌, ℕ, Bool, true, false, ◌&&◌, cond, eqb, ltb, Option, Some, None, List, [], ◌∷◌, length, inl, inr, ◌⊎◌, refl, sym, ap, subst, ◌∙◌, arith}
 use Rattle.std.proofs.lemmas.Bool.{cases_eq, cases_lt, cases_Bool, or_cases, or_parts, eq-eqb, ne_eqb, eqb-true, lt-ltb, ltb-true, ltb-false, and_parts, and_from, or_right, both_ways}
-use Rattle.std.proofs.lemmas.List.Sums.{sum_by-cons}
+use Rattle.std.proofs.lemmas.List.Sums.{sum_by-cons, count_by-le-length}
 use Rattle.std.specs.Prelude.{count_by}
 use Rattle.rtk_tracking.specs.Epochs.{capped}
 use Rattle.rtk_tracking.specs.Interval.{times_of_step, IsMostFrequent, IsInterval, more_frequent, interval_of}
 use Rattle.rtk_tracking.specs.Interval.{overtakes as ahead}
+use Rattle.rtk_tracking.specs.Laws.{times_among, IsFirstOfMostFrequent}
 
 -- 1 for a test that holds
 abbrev once : Bool → ℕ
@@ -159,3 +160,24 @@ one-interval steps (Some a) (Some b) is also =
     let below = is.lesser b same in
     let above = also.lesser a (sym same) in
     ap Some (omega (arith, below, above))
+
+-- ---- steps whose counts are below 2^64
+
+below_cap : (n : ℕ) → n < 2 ^ 64 → capped n ≡ n
+below_cap n h = omega (arith, h)
+
+plain : (steps : List ℕ) (step : ℕ) → length steps < 2 ^ 64 → times_of_step step steps ≡ times_among steps step
+plain steps step few =
+    let most = count_by-le-length (λ (s : ℕ). s == step) steps in
+    below_cap (times_among steps step) (omega (arith, most, few))
+
+pub most-frequent : (steps : List ℕ) (step : ℕ) → length steps < 2 ^ 64 → IsInterval steps (Some step) → IsFirstOfMostFrequent steps step
+most-frequent steps step few is =
+    let mine = plain steps step few in
+    record {
+      there = subst (λ (n : ℕ). 0 < n) mine is.there;
+      most = λ s.
+          let other = plain steps s few in
+          subst (λ (n : ℕ). n ≤ times_among steps step) other (subst (λ (n : ℕ). times_of_step s steps ≤ n) mine (is.most s));
+      least = λ s same. is.lesser s (plain steps s few ∙ same ∙ sym mine);
+    }

@@ -1,6 +1,7 @@
 -- The epochs of a file, newest first, and what they have of a satellite.
-use Rattle.std.specs.Prelude.{ℕ, zero, suc, ◌==◌, Bool, false, List, [], ◌∷◌, Option, None, Some, is_some, min, if◌then◌else◌}
-use Rattle.rtk_rinex.specs.Record.{EpochTableView}
+use Rattle.std.specs.Prelude.{◌≡◌, ℕ, zero, suc, ◌==◌, Bool, false, List, [], ◌∷◌, Option, None, Some, is_some, get_or, min, if◌then◌else◌}
+use Rattle.rtk_rinex.specs.Record.{EpochTableView, no_observation}
+use Rattle.rtk_rinex.specs.Table.{WellFormedTable, IsWellFormedTable, table_text}
 use Rattle.rtk_rinex.specs.declared.epoch_table.Observed.{Observed}
 use Rattle.rtk_rinex.specs.declared.epoch_table.SatelliteRow.{SatelliteRow}
 
@@ -31,3 +32,11 @@ abbrev pub shows_phase : ℕ → List Observed → Bool
 shows_phase place [] = false
 shows_phase zero (o ∷ os) = is_some o.phase_millicycles
 shows_phase (suc place) (o ∷ os) = shows_phase place os
+
+-- what the code at this place shows
+abbrev pub shown_at : ℕ → List Observed → Observed
+shown_at place os = get_or os place no_observation
+
+-- this holds of the epochs, newest first, of each table whose text the file is
+abbrev pub HoldsOfEpochs : List ℕ → (List EpochTableView → Type 0) → Type 0
+HoldsOfEpochs file Holds = (t : WellFormedTable) → IsWellFormedTable t → file ≡ table_text t → Holds (newest_first t.epochs)

@@ -6,7 +6,7 @@ ghost use Rattle.rtk_rinex.specs.Table.{WellFormedTable, IsWellFormedTable, tabl
 ghost use Rattle.rtk_tracking.specs.Interval.{interval_of_file, missing_before, nearness_of};
 
 use crate::steps::StepCounts;
-use rtk_rinex::Table;
+use rtk_rinex::TextTable;
 use std::alloc::{AllocError, Global};
 
 /// How far in ms an epoch may lie from a moment at most and still counts as being there.
@@ -14,7 +14,7 @@ const NEAREST_MS: u64 = 25;
 
 /// The interval in ms of a table; there is none with fewer than two records. It reads the moments of the
 /// records alone.
-pub fn interval(alloc: Global, table: &Table<'_>) -> Result<Option<u64>, AllocError>
+pub fn interval(alloc: Global, table: &TextTable<'_>) -> Result<Option<u64>, AllocError>
     // Fails only if memory is refused: tests/system/calls, row interval.
     ensures { IfOk result (λ interval. (t : WellFormedTable) → IsWellFormedTable t → table.now.text ≡ table_text t
         → interval ≡ interval_of_file t) }

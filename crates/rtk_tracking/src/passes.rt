@@ -57,7 +57,7 @@ fn add_phases(had: &mut [bool; 16], observed: &[Observed])
 }
 
 impl Pass {
-    /// Nothing came.
+    /// Before the first epoch: no phase came, and no pass has begun.
     pub fn new() -> Pass
         ensures { (gap : ℕ) → StandsForPass result gap [] }
     {

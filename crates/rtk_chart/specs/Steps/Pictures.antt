@@ -10,10 +10,6 @@ use Rattle.rtk_chart.specs.declared.scale.Scale.{Scale}
 use Rattle.rtk_chart.specs.declared.survey.Survey.{Survey}
 use Rattle.rtk_chart.specs.declared.grid.Grid.{Grid}
 
--- this holds of the epochs, newest first, of each table whose text the file is
-abbrev pub HoldsOfEpochs : List ℕ → (List EpochTableView → Type 0) → Type 0
-HoldsOfEpochs file Holds = (t : WellFormedTable) → IsWellFormedTable t → file ≡ table_text t → Holds (newest_first t.epochs)
-
 -- the numbers in the heading of a picture in characters
 abbrev pub numbers_of_grid : Scale → Survey → Grid → List ℕ
 numbers_of_grid s survey grid = number_lines s survey.records (satellites_in grid.bins.items) grid.slips grid.rises grid.missing

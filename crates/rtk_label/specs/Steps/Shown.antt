@@ -1,7 +1,7 @@
 -- What columns of a text show of a label.
 use Rattle.std.specs.Prelude.{◌≡◌, ◌<◌, ℕ, List, length, take, drop}
-use Rattle.rtk_rinex.specs.Columns.{left, right}
-use Rattle.rtk_label.specs.Fields.{IsField, IsSigned, IsOffset, marker_number_line}
+use Rattle.rtk_rinex.specs.Columns.{left, right, IsField}
+use Rattle.rtk_label.specs.Fields.{IsSigned, IsOffset, marker_number_line}
 use Rattle.rtk_label.specs.Labelled.{LabelView}
 
 -- the field whose columns these are; a blank one if they are the columns of none

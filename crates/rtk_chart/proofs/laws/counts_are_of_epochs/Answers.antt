@@ -1,10 +1,7 @@
 use Rattle.std.proofs.Common.{◌∙◌}
-use Rattle.rtk_chart.proofs.MarkLemmas.{most-frequent, missing-of-steps, slips-and-rises}
+use Rattle.rtk_chart.proofs.MarkLemmas.{missing-of-steps, slips-and-rises}
 use Rattle.rtk_chart.proofs.BitLemmas.{digits-counted}
 use Rattle.rtk_chart.proofs.laws.counts_are_of_epochs.Goals as goal
-
-pub returns-clause-interval : goal.returns-clause-interval
-returns-clause-interval c = most-frequent
 
 pub returns-clause-missing : goal.returns-clause-missing
 returns-clause-missing c = missing-of-steps

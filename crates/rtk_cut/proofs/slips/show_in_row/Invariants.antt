@@ -1,5 +1,6 @@
 use Rattle.std.proofs.Common.{◌≡◌, ◌<◌, ℕ, false, not, ◌&&◌, ◌||◌, ltb, length, get_or}
-use Rattle.rtk_cut.specs.Cut.{no_observation, code_at, with_slip}
+use Rattle.rtk_rinex.specs.Record.{no_observation}
+use Rattle.rtk_cut.specs.Cut.{code_at, with_slip}
 use Rattle.rtk_cut.specs.Steps.Pending.{mark_of, MarksBecome, row_has_phase}
 use Rattle.rtk_cut.proofs.slips.show_in_row.Given as goal
 

@@ -1,7 +1,8 @@
 use Rattle.std.proofs.Common.{◌<◌, ◌≤◌, ◌∷◌, [], ℕ, List, length, refl, sym, subst, arith}
 use Rattle.std.proofs.lemmas.List.{get_or_default}
 use Rattle.rtk_rinex.specs.declared.epoch_table.Observed.{Observed}
-use Rattle.rtk_quality.specs.Counts.{nothing_observed, noted_of, counts_of, code_counts_of}
+use Rattle.rtk_rinex.specs.Record.{no_observation}
+use Rattle.rtk_quality.specs.Counts.{noted_of, counts_of, code_counts_of}
 use Rattle.rtk_quality.specs.declared.code_counts.CodeCounts.{CodeCounts}
 use Rattle.rtk_quality.proofs.ListLemmas.{up_to-none, up_to-rest, up_to-here, up_to-more}
 use Rattle.rtk_quality.proofs.CountLemmas.{code-more, code-rest}
@@ -21,7 +22,7 @@ loop-place-preserved c = λ gap before s same marked are.
     let few : c.loop-place.place < 16 = omega (arith, c.loop-place-test.true) in
     let inside : c.loop-place.place < length c.args.observed.now = omega (arith, c.loop-place-test.true) in
     up_to-more new old c.loop-place.codes 16 c.loop-place.place c.loop-place.place c.note.new.self (counts_of []) refl few so_far
-    (code-more gap c.loop-place.place before s c.args.observed.now _ _ _ c.note.new.self same (get_or_default c.args.observed.now c.loop-place.place _ nothing_observed inside) (marked c.loop-place.place few)
+    (code-more gap c.loop-place.place before s c.args.observed.now _ _ _ c.note.new.self same (get_or_default c.args.observed.now c.loop-place.place _ no_observation inside) (marked c.loop-place.place few)
     (up_to-here new old c.loop-place.codes 16 c.loop-place.place c.loop-place.place _ refl few so_far) c.note.ensures)
 
 pub returns : goal.returns

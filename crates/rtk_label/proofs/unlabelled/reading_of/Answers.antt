@@ -1,7 +1,7 @@
 use Rattle.std.proofs.Common.{◌≡◌, ◌∙◌, ◌+◌, ◌++◌, List, ℕ, length, take, drop, ap, refl}
 use Rattle.rtk_label.specs.Steps.Shown.{IsNumberIn, IsLabelIn}
 use Rattle.rtk_label.proofs.PartedLemmas.{IsRead, front_of, within, from_is, label_good, length-front, parted}
-use Rattle.rtk_label.proofs.unlabelled.read.Goals as goal
+use Rattle.rtk_label.proofs.unlabelled.reading_of.Goals as goal
 
 reading : (c : goal.After-plain-front) → IsRead c.args.text.now c.read_number-number.result.items c.line_len-from.result c.read_label-label.result
 reading c =
