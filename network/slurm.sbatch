@@ -6,7 +6,7 @@
 #
 # Each task of the array takes every hundredth line of the list (of another array, every N-th), one after another, and writes
 # a line for each to slurm-JOB_TASK.out: its status, the line, and what it told. The last line has the counts of the task, as
-# `180 spans: 158 done, 22 unchanged, 0 no captures, 0 refused, 0 again`, and the status follows it: 75 if any span is to be
+# `192 spans: 170 done, 22 unchanged, 0 no captures, 0 refused, 0 again`, and the status follows it: 75 if any span is to be
 # tried again, else 4 if any was refused, else 0. The counts of the whole job, with the same status, are shown by
 #
 #     cat slurm-JOB_*.out | network/counts day.tasks

@@ -9,6 +9,7 @@ import sys
 from pathlib import Path
 from random import Random
 
+import dated_links
 import model
 import parts
 import station
@@ -108,9 +109,11 @@ def case(cases, name, links, window=64, codes="1C,2W", kind=None, told=None, lin
 def hold_to_examples():
     """What another program wrote of the examples."""
     first, second = example("session_link1.rtcm"), example("session_link2.rtcm")
+    dated = [example("dated_link1.rtcm"), example("dated_link2.rtcm")]
     for links, window, codes, text, said in (
         ([example("session.rtcm")], 64, "1C,2W,5X", "session.rnx", "session.report"),
         ([first, second], 64, "1C,2W,5X", "session.rnx", "session_links.report"),
+        (dated, 64, "1C,2W,5X", "session.rnx", None),
         ([example("late.rtcm")], 2, "1C,2W", "late.rnx", "late.report"),
         ([BASE], 64, "1C,2W", "base.rnx", None),
     ):
@@ -120,6 +123,7 @@ def hold_to_examples():
     session = example("session.rtcm")
     third = frames_of(session)[2].end
     assert example("dated.rtcm") == session[:third] + station.date(43_201) + session[third:]
+    assert dated == dated_links.links_of(example("dated.rtcm"))
 
 
 # ---------------------------------------------------------------- small captures, each with its report in words

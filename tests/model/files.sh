@@ -7,11 +7,12 @@ options='--station 2003 --near 2024-05-17T12:00:00 --made 2024-05-17T13:00:00 --
 python3 -B "$root/tests/model/cases.py" "$root/examples" || exit 1
 
 # The captures, each with its file and its report.
-while read -r name codes words; do
+while read -r name codes words <&3; do
     "$program" convert $options --codes "$codes" $words >out 2>err </dev/null
     status=$?
     leaves "$name" 0 "$name.rnx" "$name.report"
-done <cases
+done 3<cases
+for list in cases summaries; do [ -s $list ] || wrong "$list" 'there are none'; done
 
 # The long capture through standard input, as a file and in pieces.
 codes=$(sed -n 's/^long_capture \([^ ]*\) .*/\1/p' cases)
@@ -89,4 +90,4 @@ for columns in 121 600; do
     leaves chart_of_${columns}_columns 0 columns_$columns.svg /dev/null
 done
 
-ends 91
+ends

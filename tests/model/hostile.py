@@ -34,7 +34,8 @@ from wire import crc24q
 CAPTURES = 12_000  # so that the false preambles stand at each distance, from 0 to 1,029 bytes
 SEED = 20260524
 MORE_EACH = 4  # of the properties that few captures meet, or many, if none are drawn
-SECONDS_EACH = 120
+SECONDS_EACH = 120  # of processor time, for the model; a run of the program may take as much
+ASLEEP = 3600  # by the clock: what takes longer sleeps for ever, however busy the machine is
 SHOWN = 5  # captures on which a property has failed
 
 
@@ -65,17 +66,20 @@ def begin_worker(folder: str, path: str) -> None:
     global program
     os.chdir(tempfile.mkdtemp(dir=folder))
     program = Program(path)
-    signal.signal(signal.SIGALRM, out_of_time)
+    for number in (signal.SIGPROF, signal.SIGALRM):
+        signal.signal(number, out_of_time)
 
 
 def look(task: Task) -> Looked:
     """Checks a capture; what raises an exception has failed."""
-    signal.alarm(SECONDS_EACH)
+    signal.setitimer(signal.ITIMER_PROF, SECONDS_EACH)
+    signal.alarm(ASLEEP)
     try:
         return _look(task)
     except Exception as fault:  # also that it took too long
         return Looked(task.number, "", [], {FREE[0].name: repr(fault)})
     finally:
+        signal.setitimer(signal.ITIMER_PROF, 0)
         signal.alarm(0)
 
 

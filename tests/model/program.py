@@ -3,12 +3,14 @@
 from __future__ import annotations
 
 import os
+import resource
 import signal
 from typing import NamedTuple
 
 from model import Setup
 
 WRITES = os.O_RDWR | os.O_CREAT | os.O_TRUNC
+SECONDS = 120  # of processor time: a run that takes more does not end
 
 
 class Ended(NamedTuple):
@@ -48,7 +50,8 @@ class Program:
             (os.POSIX_SPAWN_DUP2, self.out.file, 1),
             (os.POSIX_SPAWN_DUP2, self.err.file, 2),
         )
-        child = os.posix_spawn(self.path, [self.path, *words], {}, file_actions=streams)
+        child = os.posix_spawn(self.path, [self.path, *words], {}, file_actions=streams, setsigdef=[signal.SIGXCPU])
+        resource.prlimit(child, resource.RLIMIT_CPU, (SECONDS, resource.getrlimit(resource.RLIMIT_CPU)[1]))
         try:
             status = os.waitstatus_to_exitcode(os.waitpid(child, 0)[1])
         except TimeoutError:

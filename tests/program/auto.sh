@@ -13,12 +13,12 @@ auto() { run auto --made $made "$@"; }
 unfinished() { ls | grep '^file' >>err; rm -f file*; }
 
 # The words, the captures, or what they hold, are refused; no file is there then. A row: the status, the words, and what is said.
-while IFS='|' read -r want words lines; do
+while IFS='|' read -r want words lines <&3; do
     eval "auto -o file.rnx $words"
     unfinished
     # pins: words_and_name, look_text, count_line_of, unread_line, unread_gps, unread_glonass_to_sbas, unread_qzss_to_navic, all_unread, marked_line, number_and_station, date_message_text, is_told_later
     expect "refused_$(echo "$words" | tr ' ' _)" "$want" '' "rtcm2rinex: $(printf '%b' "$lines")"
-done <<'ROWS'
+done 3<<'ROWS'
 1|nowhere|cannot open nowhere
 1|one out.rnx|cannot open out.rnx; to write it, say -o out.rnx
 1|one 20240517.obs|cannot open 20240517.obs; to write it, say -o 20240517.obs
@@ -120,6 +120,10 @@ run auto --made 2024-05-17T13:00:00 --marker BASE "$examples/dated.rtcm"
 leaves the_dated_example 0 "$examples/session.rnx" err
 sed 's/^frames 54/frames 55/; s/^other 1/other 2/' "$examples/session.report" >want
 tail -n 9 err >counts; same counts_of_the_dated_example counts want
+for links in "1 2" "2 1"; do
+    run auto --made 2024-05-17T13:00:00 --marker BASE "$examples/dated_link${links% *}.rtcm" "$examples/dated_link${links#* }.rtcm"
+    leaves "the_dated_links_$links" 0 "$examples/session.rnx" err
+done
 
 # finds WORDS SPAN COMMAND COUNTS STATUS FILE [LINES]: what is found, of captures and words that are odd; the file is that of the
 # model, or else any, and the command that is said writes it too
@@ -300,4 +304,4 @@ done
 "$program" auto --made $made one >/dev/full 2>err; status=$?; : >out
 leaves a_full_output 1 /dev/null want
 
-ends 195
+ends

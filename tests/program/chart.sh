@@ -69,4 +69,4 @@ twice() {
 twice --text --text
 twice '--columns <N>' --columns 80
 
-ends 17
+ends

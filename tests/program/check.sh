@@ -52,4 +52,4 @@ sed '$s/0.001/0.000/' many >many_and_zero
 check many;          expect seventy_thousand_epochs 0 'valid: 70000 epochs, 70000 satellite lines' ''
 check many_and_zero; expect a_fault_beyond_65535_lines 3 'line 140014: C3 Value' ''
 
-ends 21
+ends

@@ -249,4 +249,4 @@ for command in show summary check chart quality cut label convert; do
     esac
 done
 
-ends 465
+ends

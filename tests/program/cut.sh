@@ -158,4 +158,4 @@ for option in 'from T until' 'until T every' 'every SECONDS from'; do
     expect "$1_before_another_option" 2 '' "$(error "a value is required for '--$1 <$2>' but none was supplied")"
 done
 
-ends 46
+ends

@@ -127,4 +127,4 @@ expect blank_and_a_field 2 '' "$(error "the argument '--blank' cannot be used wi
 label --agency Survey --agency Survey "$file"
 expect an_option_twice 2 '' "$(error "the argument '--agency <TEXT>' cannot be used multiple times" "$usage")"
 
-ends 113
+ends

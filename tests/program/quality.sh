@@ -66,4 +66,4 @@ quality --text "$file"; head -n 1 err >line
 echo "error: unexpected argument '--text' found" >want
 same quality_in_no_such_form line want
 
-ends 19
+ends

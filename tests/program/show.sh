@@ -126,4 +126,4 @@ head -c 8192 frames >some; head -c 512 lines >part; echo 'rtcm2rinex: write fail
 limited 512 "$program" show some >out 2>err; status=$?
 leaves start_show_with_a_limit_of_size 1 part part_err
 
-ends 49
+ends

@@ -81,4 +81,4 @@ WANT
 # pins: hex_digit, shown_byte, text_line, text_lines, setup_line, setup_lines, antenna_lines, receiver_lines, equipment_lines, told_lines
 run summary equipped; leaves summary_of_equipment 0 want /dev/null
 
-ends 6
+ends

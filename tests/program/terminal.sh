@@ -31,7 +31,7 @@ sed '16s/45.000/45.100/' base.rnx >wrong.rnx
 options='--station 2003 --near 2024-05-17T12:00:00 --made 2024-05-17T13:00:00 --marker BASE'
 cp "$root/examples/arp1005.hex" typed
 : >empty
-while read -r words; do
+while read -r words <&3; do
     "$program" $words >out 2>err <typed; status=$?
     others=
     for streams in 012 01 02 12 0 1 2; do
@@ -51,7 +51,7 @@ while read -r words; do
         RTCM2RINEX_QUIET=1 RTCM2RINEX_HOME=/ COLUMNS=40 LINES=2 TERM=xterm-256color NO_COLOR=1 CLICOLOR_FORCE=1 LANG=de_DE.UTF-8 \
         LC_ALL=tr_TR.UTF-8 TZ=Asia/Tokyo HOME=/nowhere PATH=/nowhere TMPDIR=/nowhere RUST_BACKTRACE=full RUST_LOG=trace \
         POSIXLY_CORRECT=1
-done <<WORDS
+done 3<<WORDS
 show base.rtcm
 show --hex base.rtcm
 show nowhere
@@ -80,4 +80,4 @@ cut --every 30 stdin
 convert $options --codes 1C,2W stdin
 WORDS
 
-ends 97
+ends

@@ -11,6 +11,8 @@ import sys
 import tempfile
 from pathlib import Path
 
+import commands
+
 ROOT = Path(sys.argv[1]).resolve()
 PROGRAM = Path(sys.argv[2]).resolve()
 COMPLETE = ROOT / "tests/repository/documents/complete.bash"
@@ -27,6 +29,11 @@ def compare(name, got, want):
     else:
         failed += 1
         print(f"FAILED {name}: {got}, and not {want}")
+
+
+def all_are(name, things, is_good):
+    """Each of the things is good, and there are such things."""
+    compare(name, [it for it in things if not is_good(it)] if things else "none is found", [])
 
 
 def output(*words):
@@ -95,7 +102,7 @@ def test_manuals():
     compare("the statuses are told", statuses[:3], ["0", "1", "2"])
     compare("the help has the statuses of the manual", statuses_of_help(), statuses)
     each = {command: statuses_of_help(command) for command in WORKING}
-    compare("the help of each command has statuses of the manual", [c for c in WORKING if not set("012") <= set(each[c]) <= set(statuses)], [])
+    all_are("the help of each command has statuses of the manual", WORKING, lambda it: set("012") <= set(each[it]) <= set(statuses))
     several = [command for command in WORKING if "3" in each[command]]
     told = re.search(r"(?m)^\| 3 \|(.*)\|$", MANUAL).group(1)
     compare("the manual names the commands that have status 3", list(dict.fromkeys(re.findall(r"`([a-z]+)`", told))), several)
@@ -135,9 +142,9 @@ def test_bash():
     os.chdir(ROOT / "examples")
     files = sorted(str(path) for path in Path(".").glob("base*"))
     long = {c: sorted({"--help"} | {o for o in OPTIONS[c] if o.startswith("--")}) for c in WORKING}
-    compare("a run of bash gives the commands", [word for word in COMMANDS if word not in completed("")], [])
+    all_are("a run of bash gives the commands", COMMANDS, lambda it: it in completed(""))
     compare("a run of bash gives the options", {c: completed(c, "--") for c in WORKING}, long)
-    compare("a run of bash gives files", {c: completed(c, "base") for c in WORKING}, {c: files for c in WORKING})
+    compare("a run of bash gives files", {c: completed(c, "base") or "none" for c in WORKING}, {c: files for c in WORKING})
     compare("a run of bash gives standard input", {c: completed(c, "std") for c in WORKING},
         {c: [] if "<CAPTURE>..." in section(help_of(c), "Arguments") else ["stdin"] for c in WORKING})
     compare("a run of bash gives an option once", {c: completed(c, "--help", "--") for c in WORKING},
@@ -168,9 +175,9 @@ def copied(folder):
 def test_index(copy):
     compare("bin/index makes the index", output(copy / "bin/index"), (0, "", ""))
     index = (copy / "out/INDEX.md").read_text()
-    compare("the index has public calls", index.count("#### `") > 100, True)
+    compare("the index has public calls", "#### `" in index, True)
     edits = len(list(ROOT.glob("crates/*/must-fail/*.edit")))
-    compare("the index has each must-fail edit", len(re.findall(r"(?m)^- refused: ", index)), edits)
+    compare("the index has each must-fail edit", (len(re.findall(r"(?m)^- refused: ", index)), edits > 0), (edits, True))
 
 
 def test_evidence(copy):
@@ -180,9 +187,9 @@ def test_evidence(copy):
     marks = sum(len(re.findall(r"(?m)^(?:--|//) (?:constant|table|formula)$", path.read_text()))
         for pattern in ("crates/*/specs/**/*.antt", "crates/*/src/**/*.rt") for path in copy.glob(pattern))
     rows = len(re.findall(r"(?m)^\| \[", (copy / "out/PINS.md").read_text()))
-    compare("bin/evidence has a row for each of them", (rows, marks > 300), (marks, True))
+    compare("bin/evidence has a row for each of them", (rows, marks > 0), (marks, True))
     bodies = (copy / "out/REFUSED.md").read_text().count("\n| ") - 1
-    compare("bin/evidence has the wrong bodies", bodies > 100, True)
+    compare("bin/evidence has the wrong bodies", bodies > 0, True)
     row = output(script, "generator")
     compare("bin/evidence prints the pins of a definition", (row[0], row[1].split(",")[0], "known_checksums" in row[1]), (0, "constant generator", True))
     for name, change, told in (
@@ -210,9 +217,9 @@ def test_proof():
     rows = rows[:next(at for at, cells in enumerate(rows) if len(cells) != 6)]
     definitions, files = names_of_definitions(), {path.name for path in ROOT.glob("crates/*/specs/**/*.antt")}
     named = [name for cells in rows for name in re.findall(r"`(\w+)`", cells[2])]
-    compare("the definitions that PROOF.md says to read are there", [name for name in named if name not in definitions], [])
+    all_are("the definitions that PROOF.md says to read are there", named, lambda it: it in definitions)
     named = [name for cells in rows for name in re.findall(r"`(?:[\w/]+/)?(\w+\.antt)`", cells[3])]
-    compare("the files that PROOF.md says to read are there", [name for name in named if name not in files], [])
+    all_are("the files that PROOF.md says to read are there", named, lambda it: it in files)
 
 
 def read_specs():
@@ -255,8 +262,7 @@ def test_sources():
     names = {name for _, name in own}
     compare("the generator restates a standard, and the code of a signal does not", ("generator" in names, "code_of_signal" in names), (False, True))
     marks = [line for path in ROOT.glob("crates/*/specs/**/*.antt") for line in re.findall(r"(?m)^-- Source:.*", path.read_text())]
-    compare("each source names a standard and a place in it", [m for m in marks if not re.match(r"-- Source: (RTCM 10403\.3|RINEX 3\.05), \S", m)], [])
-    compare("there are sources", len(marks) > 20, True)
+    all_are("each source names a standard and a place in it", marks, lambda it: re.match(r"-- Source: (RTCM 10403\.3|RINEX 3\.05), \S", it))
 
 
 def test_believe():
@@ -276,7 +282,7 @@ def test_believe():
     names = {name for _, name in listed}
     fields = {field for text in texts.values() for field in re.findall(r"(?m)^  pub (\w+) :", text)}
     compare("bin/believe lists the definitions that PROOF.md names phrase by phrase", sorted(named - names - fields), [])
-    compare("there are such definitions", len(named & names) > 10 and len(reached) > 50, True)
+    compare("there are such definitions", (named & names != set(), reached != set()), (True, True))
 
 
 def anchors_of(text):
@@ -299,43 +305,13 @@ def broken_links(path):
             yield f"{path.relative_to(ROOT)}: {target}"
 
 
-# The most words that a document may have.
-BUDGETS = {
-    "README.md": 881,
-    "docs/TUTORIAL.md": 827,
-    "docs/MANUAL.md": 3638,
-    "docs/NETWORKS.md": 1440,
-    "docs/LIBRARY.md": 660,
-    "docs/ARCHITECTURE.md": 2576,
-    "docs/PROOF.md": 1921,
-    "docs/DECISIONS.md": 914,
-    "docs/STYLE.md": 838,
-    "CONTRIBUTING.md": 240,
-    "bench/README.md": 291,
-    "examples/README.md": 499,
-    "tests/README.md": 275,
-}
-NOT_COUNTED = ["CHANGELOG.md"]
-
-
 def pages():
     return [path for pattern in ("*.md", "docs/*.md", "bench/*.md", "examples/*.md", "tests/*.md") for path in sorted(ROOT.glob(pattern))]
 
 
-def words_of_prose(path):
-    """The words of a page, with those of its tables and of code within a line. Blocks of code and the bars of tables are none."""
-    text = re.sub(r"(?ms)^(```|~~~).*?^\1\s*$|^ {4}[^\n]*$", "", path.read_text())
-    text = re.sub(r"(?m)^\|[-| :]+\|$", "", text)
-    return len(text.replace("|", " ").split())
-
-
 def test_pages():
+    compare("there are documents", len(pages()) > 0, True)
     compare("the links of the documents lead somewhere", [link for page in pages() for link in broken_links(page)], [])
-    counted = {str(page.relative_to(ROOT)): words_of_prose(page) for page in pages()}
-    compare("each document has a budget of words", [name for name in counted if name not in BUDGETS and name not in NOT_COUNTED], [])
-    wordy = {name: counted[name] for name in counted if counted[name] > BUDGETS.get(name, 0) and name not in NOT_COUNTED}
-    compare("no document has more words than it may", wordy, {})
-    compare("the budgets are 15,000 words in all", sum(BUDGETS.values()), 15_000)
 
 
 for test in (test_made, test_manuals, test_completions, test_bash, test_proof, test_believe, test_sources, test_pages):
@@ -344,5 +320,6 @@ with tempfile.TemporaryDirectory() as work:
     copied(Path(work))
     test_index(Path(work))
     test_evidence(Path(work))
+commands.test_commands(compare, ROOT, PROGRAM)
 print(f"{passed} passed, {failed} failed")
 sys.exit(failed > 0)

@@ -1,4 +1,5 @@
-"""Each refusal of memory that a body makes stands in the branch of a call that was refused. Run by `run` beside it.
+"""Each refusal of memory that a body makes stands in the branch of a call that was refused. Run by `run` beside it, with the
+names of the crates whose bodies write refusals out; in the other crates a refusal travels by `?` alone, as `run` looks after.
 
 No clause says so, since none knows the memory of the machine. So the sources are read as text: what has the shape of such a
 branch is taken away, and then no word of a refusal may be left. What has another shape is refused, whatever it means. A list of
@@ -6,6 +7,7 @@ all sizes that are asked for shows that none is there to be refused.
 """
 
 import re
+import sys
 from sources import ANY_BLOCK, TEXTS, bare, nested, tell
 
 WORD = "(?:OutOfMemory|AllocError)"
@@ -22,19 +24,16 @@ OF_CRATES = {"Scanner::new", "Findings::new", "Conversion::new", "sink", "set.jo
 NAME = r"(?:\(\)|(?:mut )?(?!true|false)[a-z]\w*)"
 FAULT = r"(?:\w+::OutOfMemory|AllocError)"
 ANSWER = rf"(?:return )?(?:{FAULT}|fail\(rt, {FAULT}\)|Err\((?:{FAULT}|fail\(rt, {FAULT}\))\))"
-EMPTIES = r"(?:\w+\.clear\(\); )?"  # of rtk_collect: the list of conflicts is empty if memory is refused
 
 # What requests name as their sizes.
 SIZES = {
-    "::with_capacity(": {"alloc, len + AROUND_PAYLOAD", "alloc, 2 * LONGEST_FRAME", "alloc, bytes.len()", "alloc, LONGEST_HEADER",
-        "alloc, text.len()", "alloc, readers.len()", "rt.alloc(), READ_AT_ONCE, capture", "alloc, READ_AT_ONCE, joined",
+    "::with_capacity(": {"alloc, text.len()", "alloc, readers.len()", "rt.alloc(), READ_AT_ONCE, capture", "alloc, READ_AT_ONCE, joined",
         "alloc, room, Resumed::new(to)"},
-    ".reserve(": {"9", "count", "room.msm", "room.cells", "satellites.len() * 2"},
-    ".reserve_exact(": {"count", "len - text.len()", "room", "room.satellites"},
-    ".resize(": {"satellites", "count", "len, b' '", "room, b' '"},
-    "vec![in alloc; ": {"TimeBin::new(); scale.bins as usize", "false; scale.bins as usize", "0u8; room", "0u8; PIECE", "0; NUMBERS",
-        "Station::new(); NUMBERS", "StationDates::new(); NUMBERS", "0; WEEKS", "false; STATIONS", "Heard::nothing(); STATIONS",
-        "PhaseCount::nothing(); PLACES", "SatelliteCounts::new(); 32"},
+    ".reserve(": set(),
+    ".reserve_exact(": set(),
+    ".resize(": set(),
+    "vec![in alloc; ": {"0u8; PIECE", "0; NUMBERS", "Station::new(); NUMBERS", "StationDates::new(); NUMBERS", "0; WEEKS",
+        "false; STATIONS", "Heard::nothing(); STATIONS", "PhaseCount::nothing(); PLACES"},
 }
 
 # Code that may not stand in a body.
@@ -91,14 +90,14 @@ def branches(sources):
         r"impl From<AllocError> for (\w+) \{ fn from\(_\w+: AllocError\) -> (?:Self|\1) \{ \1::OutOfMemory \} \}",
         r", AllocError>",
         rf"\bif (?:(?:(?!{WORD})[^{{}};|])*&& )?{call}\.is_err\(\) \{{ {ANSWER}; \}}",
-        rf"\bif let Err\(_\) = {call} \{{ {EMPTIES}{ANSWER}; \}}",
-        rf"\blet Ok\({NAME}\) = {call} else \{{ {EMPTIES}{ANSWER}; \}}",
+        rf"\bif let Err\(_\) = {call} \{{ {ANSWER}; \}}",
+        rf"\blet Ok\({NAME}\) = {call} else \{{ {ANSWER}; \}}",
         rf"(?<=[=;{{] ){call}\.map_err\(\|_\| {FAULT}\)\?",
         rf"(?<=; )keep{ARGUMENTS}\.ok_or\({FAULT}\)",  # of rtk_find: None if a push was refused
         # of rtk_equipment: a push was refused, and so it is said later
         rf"\bif take_message{ARGUMENTS}\.is_err\(\) \{{ self\.is_refused = true; \}}", r"\bif self\.is_refused \{ return Err\(AllocError\); \}",
         rf"\bmatch {call} \{{ Ok\({NAME}\) => {CODE}, Err\(_\) => {ANSWER}, \}}",
-        rf"= match check\(text\) \{{ Ok\(table\) => \(true, {call}\), Err\(fault\) => \(false, {call}\), \}}; "
+        rf"= match check_text\(text\) \{{ Ok\(table\) => \(true, {call}\), Err\(fault\) => \(false, {call}\), \}}; "
         rf"match line \{{ Ok\(line\) => {CODE}, Err\(_\) => {ANSWER}, \}}",
         rf"\blet text = if [^{{}};]* \{{ format!{ARGUMENTS} \}} else \{{ format!{ARGUMENTS} \}}; "
         rf"match text \{{ Ok\(text\) => {CODE}, Err\(_\) => {ANSWER}, \}}",
@@ -121,11 +120,13 @@ def faults(text, shapes):
     return ["".join(it) for it in requests if it[1] not in SIZES[it[0]]] + [text[max(0, it.start() - 60):it.end() + 20] for it in left]
 
 
-sources = {file: source(text) for file, text in TEXTS.items()}
-shapes = branches(sources.values())
+crates = sys.argv[1:]
+texts = {file: text for file, text in TEXTS.items() if re.search(r"/crates/(\w+)/", file)[1] in crates}
+sources = {file: source(text) for file, text in texts.items()}
+shapes = branches([source(text) for text in TEXTS.values()])
 tell("each_refusal_of_memory_is_that_of_a_call", [f"{file}: {it}" for file, text in sources.items() for it in faults(text, shapes)])
 # refuses: a body that gives up for want of memory where no call was refused it
-bodies = [text for text in TEXTS.values() if "\n    let " in text]
+bodies = [text for text in texts.values() if "\n    let " in text]
 planted = [(it, bodies[7 * at % len(bodies)].replace("\n    let ", f"\n    {it}\n    let ", 1)) for at, it in enumerate(PLANTS)]
 tell("another_refusal_of_memory_is_seen", [it for it, text in planted if not faults(source(text), shapes)])
-tell("refusals_of_memory_are_there", [] if sum(len(re.findall(WORD, it)) for it in sources.values()) > 300 else ["few"])
+tell("each_of_these_crates_has_some", [it for it in crates if not re.search(WORD, "".join(text for file, text in sources.items() if f"/crates/{it}/" in file))])

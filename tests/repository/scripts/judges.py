@@ -11,7 +11,6 @@ from contextlib import redirect_stdout
 from pathlib import Path
 
 TESTS = Path(__file__).resolve().parents[2]
-# This folder has a numbers.py, and Python's own libraries one too.
 sys.path[:1] = [str(TESTS / name) for name in ("system/held", "system/streams", "system/memory", "model")]
 sys.argv = ["judges", tempfile.gettempdir(), "/bin/true"]
 

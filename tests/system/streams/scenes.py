@@ -33,7 +33,8 @@ SHIM = os.path.join(WORK, "cut.so")
 CALLS = os.path.join(WORK, "calls.so")
 NOTHING = os.devnull
 
-SECONDS = 60  # a run that takes longer does not end
+SECONDS = 60  # of processor time: a run that takes more does not end
+ASLEEP = 3600  # by the clock: a run that takes longer sleeps for ever, however busy the machine is
 GATHERED = 65_536  # so many bytes of a file are gathered before a write
 READ_AT_ONCE = 32_768  # so many bytes of a link, or of an input of `summary`, are read at once
 READ_IN_PIECES = 4096  # so many bytes of an input of `show` or of a command that takes a file are read at once
@@ -95,7 +96,8 @@ def own():
 
 
 def start(case, disturbance, seconds=SECONDS):
-    """Starts a run, and answers its number and the files of its standard output and error. One that takes too long is ended."""
+    """Starts a run, and answers its number and the files of its standard output and error. One that takes more processor time, or
+    sleeps for ever, is ended."""
     out, err = f"{own()}.out", f"{own()}.err"
     made = os.O_WRONLY | os.O_CREAT | os.O_TRUNC
     for name in [out, err]:
@@ -111,14 +113,15 @@ def start(case, disturbance, seconds=SECONDS):
     before = {kind: resource.getrlimit(kind) for kind in disturbance.limits}
     for kind, limit in disturbance.limits.items():
         resource.setrlimit(kind, (limit, before[kind][1]))
-    signals = [] if disturbance.ignored else [signal.SIGPIPE, signal.SIGXFSZ]
+    signals = [signal.SIGXCPU] if disturbance.ignored else [signal.SIGXCPU, signal.SIGPIPE, signal.SIGXFSZ]
     try:
         running = os.posix_spawn(PROGRAM, ["rtcm2rinex", *case.words], environment, file_actions=streams, setsigdef=signals)
     finally:
         for kind, limit in before.items():
             resource.setrlimit(kind, limit)
+    resource.prlimit(running, resource.RLIMIT_CPU, (seconds, resource.getrlimit(resource.RLIMIT_CPU)[1]))
     signal.signal(signal.SIGALRM, lambda *_: os.kill(running, signal.SIGKILL))
-    signal.setitimer(signal.ITIMER_REAL, seconds)
+    signal.setitimer(signal.ITIMER_REAL, ASLEEP)
     return running, out, err
 
 
