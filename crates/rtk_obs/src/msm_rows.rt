@@ -36,20 +36,20 @@ pub(crate) trait CellsOfMsm {
     /// The cell at a place in the message, of the satellite of a row, on a band.
     ghost cell_of: { Self → ℕ → ℕ → Band → Cell };
 
-    /// The fields before the cell mask.
+    /// Returns the fields before the cell mask.
     fn header(&self) -> MsmHeader
         ensures { result ≡ header self.now };
 
-    /// How many cells the message has.
+    /// Returns how many cells the message has.
     fn cells(&self) -> usize
         requires { IsValid self.now }
         ensures { result ≡ cells_in (cell_mask self.now) };
 
-    /// The rows of the cell mask (DF396).
+    /// Returns the rows of the cell mask (DF396).
     fn cell_mask(&self) -> &[u32]
         ensures { result.now ≡ cell_mask self.now };
 
-    /// The rough range of the satellite of a row, in 2^-29 ms.
+    /// Returns the rough range of the satellite of a row, in 2^-29 ms.
     fn rough(&self, row: usize) -> Option<i64>
         requires valid { IsValid self.now }
         requires row { row < satellite_count (header self.now) }
@@ -130,7 +130,7 @@ struct Progress {
     count: usize,
 }
 
-// The code of a signal identifier.
+// Returns the code of a signal identifier.
 fn signal_code(signal: u8) -> Option<Code>
     requires { signal ≤ 32 }
     ensures { result ≡ code_of_signal signal }
@@ -138,7 +138,7 @@ fn signal_code(signal: u8) -> Option<Code>
     SIGNAL_CODES[usize::from(signal)]
 }
 
-// The signal identifiers of the message (DF395), rising.
+// Returns the signal identifiers of the message (DF395). They rise.
 fn signal_identifiers(header: MsmHeader) -> ArrayVec<u8, 64>
     ensures value { result.items ≡ signals_of header }
     ensures bounds { All (λ p. (1 ≤ p) × (p ≤ 32)) result.items }
@@ -146,15 +146,15 @@ fn signal_identifiers(header: MsmHeader) -> ArrayVec<u8, 64>
     places_of_bits(u64::from(header.signal_mask), 32)
 }
 
-/// Whether each signal of the message is below 30 (DF395). The codes of such signals rise with them;
-/// the signals from 30 to 32 have codes of L1, whose places are before those of L2.
+/// Returns whether each signal of the message is below 30 (DF395). The codes of such signals rise
+/// with them. The signals from 30 to 32 have codes of L1, whose places are before those of L2.
 pub(crate) fn has_rising_codes(signal_mask: u32) -> bool
     ensures { IsTrue result → AllByRecursion (λ p. p < 30) (set_bits 32 signal_mask) }
 {
     signal_mask % 8 == 0
 }
 
-// The satellite of a row.
+// Returns the satellite of a row with its rough range.
 fn row_of<M: CellsOfMsm>(message: &M, numbers: &[u8], row: usize) -> Row
     requires valid { M.IsValid message.now }
     requires mask { IsCellMask (M.header message.now) (M.cell_mask message.now) }
