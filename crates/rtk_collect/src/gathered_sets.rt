@@ -35,7 +35,7 @@ impl Model for GatheredSets {
 }
 
 impl GatheredSets {
-    /// These epochs and station messages.
+    /// Makes what is left, with these epochs and station messages.
     pub(crate) fn new(sets: VecDeque<GatheredSet>, stations: StationMessages) -> GatheredSets
         requires { IsLeftView (record { sets = sets.items; arp1005 = stations.arp1005; arp1006 = stations.arp1006 }) }
         ensures { result ≡ record { sets = sets.items; arp1005 = stations.arp1005; arp1006 = stations.arp1006 } }
@@ -43,7 +43,8 @@ impl GatheredSets {
         GatheredSets { sets, stations }
     }
 
-    /// The least epoch that is left, with its kept cells. `None` exactly if no epoch is left.
+    /// Takes out the least epoch that is left, with its kept cells. The answer is `None` exactly if
+    /// no epoch is left.
     pub fn next_left(&mut self) -> Option<GatheredSet>
         ensures next { IfSome result (λ set. self.old.sets ≡ self.new.sets ++ set ∷ []) }
         ensures least { IfSome result (λ set. All (λ x. set.epoch < x.epoch) self.new.sets) }
@@ -57,8 +58,8 @@ impl GatheredSets {
         take_last(&mut self.sets)
     }
 
-    /// The position of the first 1006, else of the first 1005, else zeros, with the height of the
-    /// 1006, else zero.
+    /// Returns the position of the first 1006, else of the first 1005, else zeros. Its height is
+    /// that of the 1006, else zero.
     pub fn station(&self) -> Position
         ensures position { IsPosition self.now.arp1005 self.now.arp1006 result }
         ensures kept { (n : ℕ) (arrivals : List Arrival) → KeepsStations self.now n arrivals → IsPositionOf n arrivals result }
