@@ -1,6 +1,6 @@
 //! Which satellite and which signal each cell of an MSM has, row by row of its cell mask.
 
-ghost use Rattle.std.specs.Prelude.{◌≡◌, ℕ, ℤ, ◌+◌, ◌^◌, ◌≤◌, ◌<◌, ◌++◌, List, Option, length, take, true, IfSome, IsTrue, unsigned_abs};
+ghost use Rattle.std.specs.Prelude.{◌≡◌, ℕ, ℤ, ◌+◌, ◌^◌, ◌≤◌, ◌<◌, ◌++◌, List, Option, length, take, true, IfSome, IsTrue, count_ones, unsigned_abs};
 ghost use Rattle.std.specs.List.{All, AllByRecursion};
 ghost use Rattle.rtk_message.specs.declared.msm1074.MsmHeader.{MsmHeader};
 ghost use Rattle.rtk_message.specs.Msm1074.{satellite_count};
@@ -102,16 +102,6 @@ static SIGNAL_CODES: [Option<Code>; 33] = [
     Some(Code::C1X),
 ];
 
-// Which signal of which satellite a cell is.
-#[derive(Clone, Copy, Default)]
-struct Slot {
-    // The place of the satellite among the satellites of the message, from 0. Clauses alone read
-    // it.
-    row: u8,
-    // The signal identifier (DF395).
-    signal: u8,
-}
-
 // A satellite of the message.
 #[derive(Clone, Copy)]
 struct Row {
@@ -168,27 +158,29 @@ fn row_of<M: CellsOfMsm>(message: &M, numbers: &[u8], row: usize) -> Row
     }
 }
 
-// Puts the cell of a slot, if its signal has a code. The result is how many entries stand then.
+// Puts the cell of a satellite and a signal, if the signal has a code. The result is how many entries
+// stand then.
 fn put_cell<M: CellsOfMsm>(
     found: &mut ArrayVec<CellEntry, 64>,
     count: usize,
     message: &M,
     cell: usize,
     row: Row,
-    slot: Slot,
+    signal: u8,
 ) -> usize
     requires valid { M.IsValid message.now }
     requires cell { cell < cells_in (M.cell_mask message.now) }
-    requires row { IsMaskRow (M.header message.now) (M.rough_at message.now) slot.row row }
+    requires rough { IfSome row.rough (λ r. unsigned_abs r ≤ 2 ^ 38) }
     requires satellite { is_satellite row.satellite ≡ true }
-    requires signal { slot.signal ≤ 32 }
+    requires signal { signal ≤ 32 }
     requires room { count < length found.old.items }
-    ensures entries { take result found.new.items
-        ≡ take count found.old.items ++ slot_entry (M.header message.now) (M.cell_of message.now) cell slot }
+    ensures entries { (place : ℕ) → IsMaskRow (M.header message.now) (M.rough_at message.now) place row
+        → take result found.new.items ≡ take count found.old.items
+        ++ slot_entry (M.header message.now) (M.cell_of message.now) cell (record { row = place; signal = signal }) }
     ensures room { length found.new.items ≡ length found.old.items }
     ensures one { result ≤ count + 1 }
 {
-    let Some(code) = signal_code(slot.signal) else {
+    let Some(code) = signal_code(signal) else {
         return count;
     };
     let entry = &mut found.as_mut_slice()[count];
@@ -204,22 +196,22 @@ fn put_row<M: CellsOfMsm>(
     start: Progress,
     message: &M,
     row: Row,
-    place: u8,
     signals: &[u8],
     bits: u32,
 ) -> Progress
     requires valid { M.IsValid message.now }
     requires mask { IsCellMask (M.header message.now) (M.cell_mask message.now) }
-    requires row { IsMaskRow (M.header message.now) (M.rough_at message.now) place row }
+    requires rough { IfSome row.rough (λ r. unsigned_abs r ≤ 2 ^ 38) }
     requires signals { signals.now ≡ signals_of (M.header message.now) }
     requires bounds { All (λ p. (1 ≤ p) × (p ≤ 32)) signals.now }
     requires fits { bits < 2 ^ length signals.now }
-    requires cells { start.cell + length (row_slots signals.now place bits) ≤ cells_in (M.cell_mask message.now) }
+    requires cells { start.cell + count_ones bits ≤ cells_in (M.cell_mask message.now) }
     requires room { cells_in (M.cell_mask message.now) ≤ length found.old.items }
     requires few { start.count ≤ start.cell }
-    ensures entries { take result.count found.new.items ≡ take start.count found.old.items
+    ensures entries { (place : ℕ) → IsMaskRow (M.header message.now) (M.rough_at message.now) place row
+        → take result.count found.new.items ≡ take start.count found.old.items
         ++ join_from (slot_entry (M.header message.now) (M.cell_of message.now)) start.cell (row_slots signals.now place bits) }
-    ensures cells { result.cell ≡ start.cell + length (row_slots signals.now place bits) }
+    ensures cells { result.cell ≡ start.cell + count_ones bits }
     ensures room { length found.new.items ≡ length found.old.items }
     ensures few { result.count ≤ result.cell }
 {
@@ -236,8 +228,7 @@ fn put_row<M: CellsOfMsm>(
     while rest != 0 {
         let top = top_bit(rest);
         let signal = signals[width - 1 - top as usize];
-        let slot = Slot { row: place, signal };
-        count = put_cell(found, count, message, cell, row, slot);
+        count = put_cell(found, count, message, cell, row, signal);
         cell += 1;
         rest -= 1 << top;
     }
@@ -261,7 +252,7 @@ pub(crate) fn put_cells<M: CellsOfMsm>(found: &mut ArrayVec<CellEntry, 64>, mess
     let mut progress = Progress { cell: 0, count: 0 };
     for (place, bits) in masks.iter().enumerate() {
         let row = row_of(message, numbers, place);
-        progress = put_row(found, progress, message, row, place as u8, signals, *bits);
+        progress = put_row(found, progress, message, row, signals, *bits);
     }
     progress.count
 }
