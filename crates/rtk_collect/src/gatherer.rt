@@ -15,7 +15,7 @@ use crate::conflicts::Conflicts;
 use crate::dated_ref::{Borrowed, DatedRef};
 use crate::first::{first_satellites, offer_first};
 use crate::gathered_set::{GatheredSet, Spare};
-use crate::gathered_sets::GatheredSets;
+use crate::left::GatheredSets;
 use crate::legacy_list::LegacyList;
 use crate::outcome::Outcome;
 use crate::stations::{StationMessages, position};
