@@ -39,8 +39,9 @@ pub struct Scanner {
     ended: bool,
 }
 
-// Clauses see the pending bytes, and whether the stream has ended. The first part of the
-// invariant names every field, so that no field can be added in which bytes are kept unseen.
+// Clauses see the pending bytes, and whether the stream has ended. The first part of the invariant
+// names every field, so nobody can add a field in which bytes are kept unseen: the equation would then
+// fail to check.
 impl Model for Scanner {
     ghost use Rattle.std.specs.Prelude.{◌≡◌, drop};
     ghost use Rattle.rtk_frame.specs.ScannerView.{ScannerView, scanner_view, scanner_view_code};

@@ -36,9 +36,9 @@ pub struct RecordLines {
     count: usize,
 }
 
-// Clauses see the text, the count and what is written of the next line. The last part of the invariant
-// names every field, so that no field can be added in which records are kept unseen; the part before
-// it bounds what is kept.
+// Clauses see the text, the count and what is written of the next line. The first part of the invariant
+// bounds what is kept. The last part names every field, so nobody can add a field in which records are
+// kept unseen: the equation would then fail to check.
 impl Model for RecordLines {
     ghost use Rattle.std.specs.Prelude.{◌≡◌, drop, max, nat_lt, take};
     ghost use Rattle.rtk_rinex.specs.RecordLines.{IsKeptText, RecordLinesView};
