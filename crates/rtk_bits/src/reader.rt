@@ -31,7 +31,7 @@ impl<'a> Model for BitReader<'a> {
 }
 
 impl<'a> BitReader<'a> {
-    /// A reader at the first bit of the bytes.
+    /// Makes a reader at the first bit of the bytes.
     pub fn new(bytes: &'a [u8]) -> BitReader<'a>
         ensures { result ≡ bits bytes.now }
     {
@@ -41,7 +41,7 @@ impl<'a> BitReader<'a> {
         }
     }
 
-    /// How many bits are left. A slice may have more bits than a `usize` counts.
+    /// Returns how many bits are left. A slice may have more bits than a `usize` counts.
     pub fn remaining(&self) -> u128
         ensures { result ≡ length self.now }
     {
@@ -106,7 +106,7 @@ impl<'a> BitReader<'a> {
     }
 }
 
-// The number of the `width` bits after the first `skip` bits.
+// Returns the number of the `width` bits after the first `skip` bits.
 //
 // It comes from one load of eight bytes. If there are fewer than eight bytes, or if the field ends
 // in the ninth one, it comes from the bytes up to the end of the field.
@@ -128,8 +128,8 @@ fn field_at(bytes: &[u8], skip: usize, width: usize) -> u64
     }
 }
 
-// The number of the `width` bits after the first `skip` bits, from the bytes up to the end of the
-// field. It is not inlined, since it is seldom called: by the last fields of a payload.
+// Returns the number of the `width` bits after the first `skip` bits, from the bytes up to the end
+// of the field. It is not inlined, since only the last fields of a payload call it.
 #[inline(never)]
 fn field_of_bytes(bytes: &[u8], skip: usize, width: usize) -> u64
     requires low { (skip < 8) × (1 ≤ width) × (width ≤ 64) }
@@ -143,7 +143,8 @@ fn field_of_bytes(bytes: &[u8], skip: usize, width: usize) -> u64
     ((word >> (8 * count - end)) & mask as u128) as u64
 }
 
-// The number that the bytes spell, the most significant byte first: at most sixteen of them.
+// Returns the number that the bytes spell, the most significant byte first. There are at most
+// sixteen of them.
 fn big_endian(bytes: &[u8]) -> u128
     requires { length bytes.now ≤ 16 }
     ensures { result ≡ unsigned (bits bytes.now) }

@@ -36,7 +36,7 @@ impl Model for BitWriter {
 }
 
 impl BitWriter {
-    /// A writer with no bits. It takes no memory before the first field is put.
+    /// Makes a writer with no bits. It takes no memory before the first field is put.
     pub fn new(alloc: Global) -> BitWriter
         ensures { result ≡ [] }
     {
@@ -52,7 +52,7 @@ impl BitWriter {
     ///
     /// # Errors
     ///
-    /// If memory is refused. The writer is then unchanged.
+    /// The call fails if memory is refused. The writer is then unchanged.
     pub fn put_u(&mut self, width: usize, value: u64) -> Result<(), AllocError>
         requires width { (1 ≤ width) × (width ≤ 64) }
         requires value { value < 2 ^ width }
@@ -77,7 +77,7 @@ impl BitWriter {
     ///
     /// # Errors
     ///
-    /// If memory is refused. The writer is then unchanged.
+    /// The call fails if memory is refused. The writer is then unchanged.
     pub fn put_i(&mut self, width: usize, value: i64) -> Result<(), AllocError>
         requires width { (1 ≤ width) × (width ≤ 64) }
         requires value { FitsSigned width value }
@@ -88,7 +88,8 @@ impl BitWriter {
         self.put_u(width, value.cast_unsigned() & (u64::MAX >> (64 - width)))
     }
 
-    /// The bytes of the bits that were put, with zero bits up to a whole byte. It takes no memory.
+    /// Returns the bytes of the bits that were put, with zero bits up to a whole byte. It takes no
+    /// memory.
     pub fn finish(self) -> Vec<u8>
         ensures { bits result.items ≡ self ++ padding (length self) }
     {

@@ -8,11 +8,12 @@ use Rattle.std.proofs.lemmas.List.FromFn.{fill_by_all, get_or-map-range_with_len
 use Rattle.rtk_rinex.specs.Record.{EpochTableView}
 use Rattle.rtk_rinex.specs.declared.epoch_table.Observed.{Observed}
 use Rattle.rtk_tracking.specs.Epochs.{capped, newest_moment, shows_phase, observed_in, shown_at}
+use Rattle.rtk_tracking.specs.Extremes.{lesser}
 use Rattle.rtk_tracking.specs.Passes.{Sighting, sightings_of, longest_gap, has_phase, has_bit_0, is_known, is_slip, is_rise}
 use Rattle.rtk_tracking.specs.Standing.{AreMarked, StandsForPass}
 use Rattle.rtk_tracking.specs.Interval.{missing_before, missing_in}
 use Rattle.rtk_tracking.specs.declared.passes.Pass.{Pass}
-use Rattle.rtk_chart.specs.Epochs.{sighting_of, is_seen, lacks_phase, has_bit_1, level_at, level_of, lesser, times_in_epoch}
+use Rattle.rtk_chart.specs.Epochs.{sighting_of, is_seen, lacks_phase, has_bit_1, level_at, level_of, times_in_epoch}
 use Rattle.rtk_chart.specs.Scale.{bin_at}
 use Rattle.rtk_chart.specs.Grid.{no_marks, no_tracking, no_bin, code_in, codes_in, tracking_in, trackings_in, bin_in, bins_of, has_missing_before, has_missing, gaps_of}
 use Rattle.rtk_chart.specs.Steps.Standing.{AddsMarks, StandForPasses}

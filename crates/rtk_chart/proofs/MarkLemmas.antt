@@ -1,16 +1,18 @@
 -- Each mark of a picture has its epochs, and each epoch its mark.
-use Rattle.std.proofs.Common.{◌≡◌, ◌≤◌, ◌<◌, ◌+◌, ◌-◌, ◌^◌, ◌==◌, ℕ, Bool, true, false, cond, not, ◌&&◌, ◌||◌, inl, inr, Option, None, Some, min, List, [], ◌∷◌, ◌++◌, length, get_or, refl, sym, ap, subst, ◌∙◌, arith}
-use Rattle.std.specs.Prelude.{nat_le, ◌↔◌, count_by}
+use Rattle.std.proofs.Common.{Less, Equal, Greater, ◌≡◌, ◌<◌, ◌+◌, ◌-◌, ◌==◌, ℕ, Bool, true, false, cond, not, ◌&&◌, ◌||◌, inl, inr, Option, None, Some, List, [], ◌∷◌, ◌++◌, get_or, refl, sym, ap, ◌∙◌, arith}
+use Rattle.std.specs.Prelude.{nat_le, nat_lt, ◌↔◌, count_by}
+use Rattle.std.specs.Ordering.{nat_cmp, is_lt, ord_min}
 use Rattle.std.specs.List.{range_with_len, sum_by}
 use Rattle.std.proofs.lemmas.Bool.{or_cases, or_left, or_right, and_parts, and_from, eq-eqb, eqb-true}
 use Rattle.std.proofs.lemmas.Bool.Decides.{nat_tests}
 use Rattle.std.proofs.lemmas.List.FromFn.{get_or-map-range_with_len}
-use Rattle.std.proofs.lemmas.List.Sums.{sum_by-cons, count_by-le-length}
+use Rattle.std.proofs.lemmas.List.Sums.{sum_by-cons}
 use Rattle.rtk_rinex.specs.Record.{EpochTableView}
 use Rattle.rtk_tracking.specs.Epochs.{newest_moment, observed_in, shows_phase}
+use Rattle.rtk_tracking.specs.Extremes.{lesser}
 use Rattle.rtk_tracking.specs.Passes.{Sighting, sightings_of, longest_gap, has_bit_0, is_known, is_slip, is_rise}
 use Rattle.rtk_tracking.specs.Interval.{steps_in, nearest_intervals, missing_in}
-use Rattle.rtk_chart.specs.Epochs.{sighting_of, is_seen, lacks_phase, has_bit_1, level_at, lesser, times_in_epoch, times_in, slips_in, rises_in}
+use Rattle.rtk_chart.specs.Epochs.{sighting_of, is_seen, lacks_phase, has_bit_1, level_at, times_in_epoch, times_in, slips_in, rises_in}
 use Rattle.rtk_chart.specs.Scale.{bin_at}
 use Rattle.rtk_chart.specs.Grid.{no_bin, some_epoch, least_in, code_in, bin_in, bins_of, tracking_at, marks_at, has_missing_before, has_missing, gaps_of}
 use Rattle.rtk_chart.specs.MarkLaws.{IsCalledFor, IsMarkOf, is_at_most, ShowsEpochs, IsMissingIn}
@@ -18,7 +20,6 @@ use Rattle.rtk_chart.specs.declared.scale.Scale.{Scale}
 use Rattle.rtk_chart.specs.declared.code_marks.CodeMarks.{CodeMarks}
 use Rattle.rtk_chart.specs.declared.tracking.Tracking.{Tracking}
 use Rattle.rtk_chart.specs.declared.time_bin.TimeBin.{TimeBin}
-use Rattle.rtk_chart.proofs.PieceLemmas.{capped-is}
 use Rattle.rtk_chart.proofs.ListLemmas.{sum-both}
 use Rattle.rtk_chart.proofs.GridLemmas.{at-place}
 use Rattle.rtk_chart.proofs.SeenLemmas.{tracking-of-bin, marks-of-tracking}
@@ -57,8 +58,13 @@ mark-of test s satellite es c mark is = (
 
 -- ---- the least digit
 
-at-most-min : (level a b : ℕ) → nat_le (min a b) level ≡ (nat_le a level || nat_le b level)
-at-most-min level a b = grind (arith, nat_tests)
+at-most-of : (level a b : ℕ) (less same : Bool) → less ≡ nat_lt b a → nat_le (cond (is_lt (cond less Less (cond same Equal Greater))) b a) level ≡ (nat_le a level || nat_le b level)
+at-most-of level a b true same e = grind (arith, nat_tests)
+at-most-of level a b false true e = grind (arith, nat_tests)
+at-most-of level a b false false e = grind (arith, nat_tests)
+
+at-most-min : (level a b : ℕ) → nat_le (ord_min nat_cmp a b) level ≡ (nat_le a level || nat_le b level)
+at-most-min level a b = at-most-of level a b (nat_lt b a) (b == a) refl
 
 or-false : (b : Bool) → (b || false) ≡ b
 or-false true = refl

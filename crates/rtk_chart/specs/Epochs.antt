@@ -1,5 +1,5 @@
 -- What the epochs of a file, newest first, have of a satellite.
-use Rattle.std.specs.Prelude.{ℕ, ◌+◌, ◌/◌, ◌==◌, Bool, false, not, ◌&&◌, List, [], ◌∷◌, get_or, length, count_by, Option, None, Some, min, max}
+use Rattle.std.specs.Prelude.{ℕ, ◌+◌, ◌/◌, ◌==◌, Bool, not, ◌&&◌, List, [], ◌∷◌, length, count_by, Option, None, Some, min, max}
 use Rattle.std.specs.List.{range_with_len, sum_by}
 use Rattle.rtk_rinex.specs.Record.{EpochTableView}
 use Rattle.rtk_rinex.specs.declared.epoch_table.Observed.{Observed}
@@ -34,11 +34,6 @@ level_of (Some s) = Some (min (max (s / 6000) 1) 9)
 -- the signal strength digit of a code
 abbrev pub level_at : ℕ → List Observed → Option ℕ
 level_at code os = level_of (shown_at code os).strength_millidbhz
-
-abbrev pub lesser : Option ℕ → Option ℕ → Option ℕ
-lesser None b = b
-lesser (Some a) None = Some a
-lesser (Some a) (Some b) = Some (min a b)
 
 -- ---- counts
 

@@ -1,5 +1,5 @@
 -- Laws of marks and counts: each mark has its epochs, and each epoch its mark, however many there are.
-use Rattle.std.specs.Prelude.{◌≡◌, ◌≤◌, ◌<◌, ◌↔◌, ℕ, ◌+◌, ◌-◌, ◌==◌, nat_le, Bool, true, false, List, ◌∷◌, ◌++◌, length, count_by, get_or, All, Option, None, Some}
+use Rattle.std.specs.Prelude.{◌≡◌, ◌≤◌, ◌<◌, ◌↔◌, ℕ, ◌+◌, ◌-◌, nat_le, Bool, true, false, List, ◌∷◌, ◌++◌, count_by, get_or, All, Option, None, Some}
 use Rattle.std.specs.List.{list_any, sum_by}
 use Rattle.rtk_rinex.specs.Record.{EpochTableView}
 use Rattle.rtk_rinex.specs.Table.{IsTableEpoch}

@@ -2,7 +2,7 @@
 -- project's rule).
 use Rattle.std.specs.Prelude.{ℕ, Bool, not, ◌&&◌, List, None, Option}
 use Rattle.std.specs.List.{fold, list_any, range_with_len}
-use Rattle.rtk_chart.specs.Epochs.{lesser}
+use Rattle.rtk_tracking.specs.Extremes.{lesser}
 use Rattle.rtk_chart.specs.Grid.{tracking_at, marks_at}
 use Rattle.rtk_chart.specs.declared.tracking.Tracking.{Tracking}
 use Rattle.rtk_chart.specs.declared.time_bin.TimeBin.{TimeBin}

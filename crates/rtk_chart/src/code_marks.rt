@@ -4,8 +4,9 @@ ghost use Rattle.std.specs.Prelude.{◌≡◌};
 ghost use Rattle.rtk_chart.specs.Grid.{no_marks};
 ghost use Rattle.rtk_chart.specs.Steps.Shown.{called_for, both_marks};
 
-use crate::observations::{lesser, level_of};
+use crate::observations::level_of;
 use rtk_rinex::Observed;
+use rtk_tracking::lesser;
 
 /// What the epochs of a bin call for.
 #[derive(Clone, Copy)]

@@ -3,7 +3,7 @@
 ghost use Rattle.std.specs.Prelude.{◌≡◌};
 ghost use Rattle.rtk_tracking.specs.Passes.{has_phase};
 ghost use Rattle.rtk_tracking.specs.Epochs.{shown_at};
-ghost use Rattle.rtk_chart.specs.Epochs.{is_seen, lesser, level_of};
+ghost use Rattle.rtk_chart.specs.Epochs.{is_seen, level_of};
 
 use rtk_rinex::Observed;
 
@@ -36,16 +36,5 @@ pub(crate) fn level_of(strength_millidbhz: Option<u32>) -> Option<u8>
     match strength_millidbhz {
         Some(strength) => Some((strength / 6000).max(1).min(9) as u8),
         None => None,
-    }
-}
-
-/// The lesser of two levels; if one of them is absent, the other.
-pub(crate) fn lesser(one: Option<u8>, other: Option<u8>) -> Option<u8>
-    ensures { result ≡ lesser one other }
-{
-    match (one, other) {
-        (Some(one), Some(other)) => Some(one.min(other)),
-        (Some(one), None) => Some(one),
-        (None, other) => other,
     }
 }

@@ -6,9 +6,9 @@ ghost use Rattle.rtk_chart.specs.Grid.{tracking_at, marks_at};
 ghost use Rattle.rtk_chart.specs.Signs.{is_tracked, has_slip, has_rise, has_half, least_level, is_drawn, has_code, is_never, is_missing};
 
 use crate::code_marks::CodeMarks;
-use crate::observations::lesser;
 use crate::time_bin::TimeBin;
 use crate::tracking::Tracking;
+use rtk_tracking::lesser;
 
 /// Some phase stands.
 pub(crate) fn is_tracked(tracking: &Tracking) -> bool

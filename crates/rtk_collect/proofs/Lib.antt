@@ -11,6 +11,7 @@ mod OpeningLemmas
 mod OffersLemmas
 mod StationLemmas
 mod WindowLemmas
+mod LeftLemmas
 mod LateLemmas
 mod MembersLemmas
 mod SetsLemmas

@@ -11,7 +11,6 @@ use Rattle.rtk_message.specs.declared.arp1006.Arp1006.{Arp1006 as Message1006}
 use Rattle.rtk_obs.specs.MessageCells.{cells_of}
 use Rattle.rtk_obs.specs.declared.cell.CellEntry.{CellEntry}
 use Rattle.rtk_collect.specs.declared.conflicts.SatelliteCode.{SatelliteCode}
-use Rattle.rtk_collect.specs.declared.outcome.Outcome.{Outcome}
 use Rattle.rtk_collect.specs.declared.outcome.Outcome.TheVariants.{Taken, Conflict, Repeat, Late}
 use Rattle.rtk_collect.specs.Equal.{equal_1005, equal_1006}
 use Rattle.rtk_collect.specs.EpochSet.{EpochSetView, fresh, conflicts, EpochsFall}
@@ -20,7 +19,6 @@ use Rattle.rtk_collect.specs.Late.{epochs, greater}
 use Rattle.rtk_collect.specs.Accepted.{station, with_arrival, kept, cells_at, closed}
 use Rattle.rtk_collect.specs.Answer.{LateClass, TakenClass, RepeatClass, ConflictClass, conflicts_with, IsRightAnswer}
 use Rattle.rtk_collect.specs.Collector.{CollectorView, IsCollectorView, RepresentsArrivals}
-use Rattle.rtk_collect.specs.Offered.{AnswersArrival}
 use Rattle.rtk_collect.specs.NextWindow.{late_in, outcome_by, outcome_of_cells, outcome_in, conflicts_in, next_window}
 use Rattle.rtk_collect.specs.Laws.{WindowsAnswer, AnswersAreUnique, WindowsAreUnique, NewWindowIsEmpty}
 use Rattle.rtk_collect.specs.Steps.OrderedPlaces.{leading}

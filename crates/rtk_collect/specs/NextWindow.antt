@@ -1,6 +1,6 @@
 -- What a window answers to an arrival, and what it is afterwards: by what it holds, without the
 -- arrivals before.
-use Rattle.std.specs.Prelude.{◌≡◌, ℕ, Bool, false, not, ◌&&◌, List, [], map, take, nat_lt, nat_le, Option, None, Some, option_map, slice_get, if◌then◌else◌}
+use Rattle.std.specs.Prelude.{◌≡◌, Bool, false, not, ◌&&◌, List, [], map, take, nat_lt, nat_le, Option, None, Some, option_map, slice_get, if◌then◌else◌}
 use Rattle.std.specs.Option.{is_some, option_or}
 use Rattle.rtk_message.specs.AnyDecoded.{tow_of}
 use Rattle.rtk_message.specs.declared.any_message.AnyMessage.{AnyMessage as Message}

@@ -61,7 +61,7 @@ impl Model for Collector {
 }
 
 impl Collector {
-    /// A window with this number of places, which holds nothing. It takes no memory.
+    /// Makes a window with this number of places, which holds nothing. It takes no memory.
     pub fn new(alloc: Global, window: usize) -> Collector
         requires low { 2 ≤ window }
         requires high { window ≤ 4096 }
@@ -102,8 +102,8 @@ impl Collector {
         join_epochs(&mut self.sets, self.places, self.alloc, epoch, cells, rises)
     }
 
-    /// The position of the first 1006, else of the first 1005, else zeros, with the height of the
-    /// 1006, else zero.
+    /// Returns the position of the first 1006, else of the first 1005, else zeros. Its height is
+    /// that of the 1006, else zero.
     pub fn station(&self) -> Position
         ensures position { IsPosition self.now.arp1005 self.now.arp1006 result }
         ensures kept { (before : List Arrival) → RepresentsArrivals self.now before → IsPositionOf self.now.places before result }
@@ -111,7 +111,7 @@ impl Collector {
         position(self.stations)
     }
 
-    /// Ends the collection: the epochs of the window are left.
+    /// Ends the collection. The epochs of the window are left.
     pub fn close(self) -> Left
         ensures sets { result.sets ≡ self.sets }
         ensures arp1005 { result.arp1005 ≡ self.arp1005 }

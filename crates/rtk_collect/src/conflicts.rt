@@ -34,7 +34,7 @@ impl Model for Conflicts {
 }
 
 impl Conflicts {
-    /// The empty list.
+    /// Makes an empty list.
     pub fn new() -> Conflicts
         ensures { result ≡ [] }
     {
@@ -43,7 +43,7 @@ impl Conflicts {
         }
     }
 
-    /// How many there are.
+    /// Returns how many satellites and codes conflict.
     pub fn len(&self) -> usize
         ensures value { result ≡ length self.now }
         ensures few { result ≤ 64 }
@@ -51,14 +51,14 @@ impl Conflicts {
         self.list.len()
     }
 
-    /// Whether there is none.
+    /// Returns whether no satellite and code conflicts.
     pub fn is_empty(&self) -> bool
         ensures { IsTrue result ↔ (self.now ≡ []) }
     {
         self.list.len() == 0
     }
 
-    /// The satellites and codes, in the order of the message.
+    /// Returns the satellites and codes, in the order of the message.
     pub fn as_slice(&self) -> &[SatelliteCode]
         ensures value { result.now ≡ self.now }
         ensures few { length result.now ≤ 64 }
@@ -66,15 +66,15 @@ impl Conflicts {
         self.list.as_slice()
     }
 
-    /// Takes all out.
+    /// Makes the list empty.
     pub(crate) fn clear(&mut self)
         ensures { self.new ≡ [] }
     {
         self.list.clear();
     }
 
-    /// The answer as it is. If memory is refused, all are taken out: a message that is not taken has
-    /// no conflicts.
+    /// Hands the answer on, and makes the list empty if memory is refused, since a message that is
+    /// not taken has no conflicts.
     pub(crate) fn cleared_if_refused<T>(
         &mut self,
         joined: Result<T, AllocError>,
@@ -89,7 +89,7 @@ impl Conflicts {
         joined
     }
 
-    /// Adds one after the others.
+    /// Adds a satellite and code after the others.
     pub(crate) fn push(&mut self, cell: SatelliteCode)
         requires { length self.old < 64 }
         ensures { self.new ≡ self.old ++ cell ∷ [] }

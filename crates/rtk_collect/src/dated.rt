@@ -35,7 +35,7 @@ impl Model for Dated {
 }
 
 impl Dated {
-    /// A message with its epoch, which is `None` exactly for 1005 and 1006.
+    /// Makes a message with its epoch, which is `None` exactly for 1005 and 1006.
     pub fn new(message: Message, epoch: Option<GpsMs>) -> Dated
         requires fits { IsValid message }
         requires has_epoch { is_some epoch ≡ is_some (tow_of message) }
@@ -44,7 +44,7 @@ impl Dated {
         Dated { message, epoch }
     }
 
-    /// The message.
+    /// Returns the message.
     pub fn message(&self) -> &Message
         ensures value { AnyMessage.Message result.now ≡ message_of self.now }
         ensures fits { IsValid result.now }
@@ -52,7 +52,7 @@ impl Dated {
         &self.message
     }
 
-    /// The epoch; `None` exactly for 1005 and 1006.
+    /// Returns the epoch, which is `None` exactly for 1005 and 1006.
     pub fn epoch(&self) -> Option<GpsMs>
         ensures { result ≡ epoch_of self.now }
     {

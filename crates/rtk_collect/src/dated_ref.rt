@@ -65,7 +65,7 @@ impl<'a> Model for DatedRef<'a> {
 }
 
 impl<'a> DatedRef<'a> {
-    /// A message with its epoch, which is `None` exactly for 1005 and 1006.
+    /// Makes a message with its epoch, which is `None` exactly for 1005 and 1006.
     pub fn new(message: &'a Message, epoch: Option<GpsMs>) -> DatedRef<'a>
         requires fits { IsValid message.now }
         requires has_epoch { is_some epoch ≡ is_some (tow_of message.now) }
@@ -77,7 +77,7 @@ impl<'a> DatedRef<'a> {
         }
     }
 
-    /// A message of a wider set with its epoch, which is `None` exactly for 1005 and 1006.
+    /// Makes a message of a wider set with its epoch, which is `None` exactly for 1005 and 1006.
     pub fn of_any(message: &'a AnyMessage, epoch: Option<GpsMs>) -> DatedRef<'a>
         requires fits { any.IsValid message.now }
         requires has_epoch { is_some epoch ≡ is_some (any.tow_of message.now) }
@@ -95,7 +95,7 @@ impl<'a> DatedRef<'a> {
         }
     }
 
-    /// The message; `None` exactly for a 1075, 1076 or 1077.
+    /// Returns the message, or `None` exactly for a 1075, 1076 or 1077.
     pub fn message(&self) -> Option<&'a Message>
         ensures value { IfSome result (λ m. AnyMessage.Message m.now ≡ message_of self.now) }
         ensures fits { IfSome result (λ m. IsValid m.now) }
@@ -107,7 +107,7 @@ impl<'a> DatedRef<'a> {
         }
     }
 
-    /// The message number (DF002).
+    /// Returns the message number (DF002).
     pub fn number(&self) -> u16
         ensures { result ≡ any.number_of (message_of self.now) }
     {
@@ -117,7 +117,7 @@ impl<'a> DatedRef<'a> {
         }
     }
 
-    /// The epoch; `None` exactly for 1005 and 1006.
+    /// Returns the epoch, which is `None` exactly for 1005 and 1006.
     pub fn epoch(&self) -> Option<GpsMs>
         ensures value { result ≡ epoch_of self.now }
         ensures has_epoch { is_some result ≡ is_some (any.tow_of (message_of self.now)) }

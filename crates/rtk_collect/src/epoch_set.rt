@@ -36,8 +36,8 @@ impl Model for EpochSet {
 }
 
 impl EpochSet {
-    /// An epoch with the cells of its first message; those that conflict with one another are added to
-    /// an empty list. If `rises`, the keys of the cells rise.
+    /// Opens an epoch with the cells of its first message. Those that conflict with one another are
+    /// added to an empty list. If `rises`, the keys of the cells rise.
     pub(crate) fn open(
         alloc: Global,
         epoch: GpsMs,
@@ -60,9 +60,9 @@ impl EpochSet {
         Ok(set)
     }
 
-    /// Takes the cells of a message whose keys are new, and says how many these are; those that
-    /// conflict are added to an empty list. If `rises`, the keys of the cells rise. Memory is taken for
-    /// new cells alone, before the first one is added.
+    /// Takes the cells of a message whose keys are new, and says how many these are. Those that
+    /// conflict are added to an empty list. If `rises`, the keys of the cells rise. Memory is taken
+    /// for new cells alone, before the first one is added.
     pub(crate) fn join(
         &mut self,
         cells: &[CellEntry],

@@ -16,7 +16,7 @@ use rtk_obs::{CellEntry, GpsMs};
 use std::alloc::{AllocError, Global};
 use std::collections::VecDeque;
 
-// The place of an epoch: how many epochs are greater.
+// Returns the place of an epoch, which is how many epochs are greater.
 fn place_among(sets: &VecDeque<EpochSet>, epoch: GpsMs) -> usize
     requires { EpochsFall sets.now.items }
     ensures { result ≡ leading epoch sets.now.items }
@@ -24,7 +24,7 @@ fn place_among(sets: &VecDeque<EpochSet>, epoch: GpsMs) -> usize
     sets.partition_point(|set| set.epoch > epoch)
 }
 
-// Whether this epoch stands at its place.
+// Returns whether this epoch is open at its place.
 fn is_open(sets: &VecDeque<EpochSet>, at: usize, epoch: GpsMs) -> bool
     requires place { at ≡ leading epoch sets.now.items }
     ensures found { IsTrue result → (at < length sets.now.items)

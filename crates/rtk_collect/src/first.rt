@@ -23,7 +23,8 @@ use rtk_obs::{CellSource, GpsMs, rising_satellites};
 use std::alloc::{AllocError, Global};
 use std::collections::VecDeque;
 
-/// The satellites of a 1004, if they rise and its epoch, whose place is `at`, has no cell of a 1004 yet.
+/// Returns the satellites of a 1004, if they rise and its epoch, whose place is `at`, has no cell
+/// of a 1004 yet.
 pub(crate) fn first_satellites<'a>(
     sets: &VecDeque<GatheredSet>,
     at: usize,

@@ -62,8 +62,9 @@ impl Model for GatheredSet {
 }
 
 impl GatheredSet {
-    /// An epoch without cells, which has room for so many of each kind. It has each spare list that has
-    /// just the room that is wanted; any other is given up before memory is taken.
+    /// Makes an epoch without cells, which has room for so many of each kind. It has each spare
+    /// list that has just the room that is wanted. Any other spare list is given up before memory
+    /// is taken.
     #[inline(always)]
     pub(crate) fn with_room(
         alloc: Global,
@@ -83,7 +84,7 @@ impl GatheredSet {
         Ok(GatheredSet { epoch, msm, legacy })
     }
 
-    /// The lists of the cells without a cell, for an epoch that opens later.
+    /// Empties the lists of the cells and returns them, for an epoch that opens later.
     pub(crate) fn into_spare(self) -> Spare
         ensures { AreSpare result }
     {
@@ -95,14 +96,14 @@ impl GatheredSet {
         }
     }
 
-    /// The epoch.
+    /// Returns the epoch.
     pub fn epoch(&self) -> GpsMs
         ensures { result ≡ self.now.epoch }
     {
         self.epoch
     }
 
-    /// The cells that came in an MSM (1074 to 1077).
+    /// Returns the cells that came in an MSM (1074 to 1077).
     pub fn msm_cells(&self) -> &[CellEntry]
         ensures value { result.now ≡ filter (is_from Msm) self.now.cells }
         ensures rises { KeysRise result.now }
@@ -115,7 +116,8 @@ impl GatheredSet {
         &self.msm
     }
 
-    /// The cells that came in a 1004. If they are kept as satellites, they are put into this room.
+    /// Returns the cells that came in a 1004. If they are kept as satellites, they are put into
+    /// this room.
     pub fn legacy_cells<'a>(&'a self, room: &'a mut ArrayVec<CellEntry, 64>) -> &'a [CellEntry]
         ensures value { result.now ≡ filter (is_from Legacy) self.now.cells }
         ensures rises { KeysRise result.now }
@@ -128,8 +130,8 @@ impl GatheredSet {
         self.legacy.left(&[], room)
     }
 
-    /// The cells that came in a 1004, or those of them whose satellite and code no cell of an MSM
-    /// has. If they are kept as satellites, they are put into this room.
+    /// Returns the cells that came in a 1004, or those of them whose satellite and code no cell of
+    /// an MSM has. If they are kept as satellites, they are put into this room.
     pub fn legacy_left<'a>(&'a self, room: &'a mut ArrayVec<CellEntry, 64>) -> &'a [CellEntry]
         ensures left { AreLeftBeside (filter (is_from Msm) self.now.cells) (filter (is_from Legacy) self.now.cells) result.now }
         ensures rises { KeysRise result.now }
@@ -139,12 +141,12 @@ impl GatheredSet {
         self.legacy.left(&self.msm, room)
     }
 
-    /// How much room the epoch needs for the cells of 1004.
+    /// Returns how much room the epoch needs for the cells of 1004.
     pub(crate) fn legacy_room(&self) -> LegacyRoom {
         self.legacy.room()
     }
 
-    /// Whether no cell came in a 1004.
+    /// Returns whether no cell came in a 1004.
     pub(crate) fn has_no_legacy(&self) -> bool
         ensures { IsTrue result → filter (is_from Legacy) self.now.cells ≡ [] }
     {
@@ -164,9 +166,9 @@ impl GatheredSet {
         self.legacy.take_first(satellites)
     }
 
-    /// Takes the cells of a message whose keys are new, and says how many these are; those that
-    /// conflict are added to an empty list. If `rises`, the keys of the cells rise. Memory is taken for
-    /// new cells alone, before the first one is added.
+    /// Takes the cells of a message whose keys are new, and says how many these are. Those that
+    /// conflict are added to an empty list. If `rises`, the keys of the cells rise. Memory is taken
+    /// for new cells alone, before the first one is added.
     pub(crate) fn join(
         &mut self,
         cells: &[CellEntry],

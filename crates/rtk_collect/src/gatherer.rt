@@ -15,7 +15,7 @@ use crate::conflicts::Conflicts;
 use crate::dated_ref::{Borrowed, DatedRef};
 use crate::first::{first_satellites, offer_first};
 use crate::gathered_set::{GatheredSet, Spare};
-use crate::gathered_sets::GatheredSets;
+use crate::left::GatheredSets;
 use crate::legacy_list::LegacyList;
 use crate::outcome::Outcome;
 use crate::stations::{StationMessages, position};
@@ -76,7 +76,7 @@ impl Model for Gatherer {
 }
 
 impl Gatherer {
-    /// A window with this number of places, which holds nothing. It takes no memory.
+    /// Makes a window with this number of places, which holds nothing. It takes no memory.
     pub fn new(alloc: Global, places: usize) -> Gatherer
         requires low { 2 ≤ places }
         requires high { places ≤ 4096 }
@@ -159,8 +159,8 @@ impl Gatherer {
         self.spare = set.into_spare();
     }
 
-    /// The position of the first 1006, else of the first 1005, else zeros, with the height of the
-    /// 1006, else zero.
+    /// Returns the position of the first 1006, else of the first 1005, else zeros. Its height is
+    /// that of the 1006, else zero.
     pub fn station(&self) -> Position
         ensures position { IsPosition self.now.arp1005 self.now.arp1006 result }
         ensures kept { (before : List Arrival) → RepresentsArrivals self.now before → IsPositionOf self.now.places before result }
@@ -168,7 +168,7 @@ impl Gatherer {
         position(self.stations)
     }
 
-    /// Ends the collection: the epochs of the window are left.
+    /// Ends the collection. The epochs of the window are left.
     pub fn close(self) -> GatheredSets
         ensures sets { result.sets ≡ self.sets }
         ensures arp1005 { result.arp1005 ≡ self.arp1005 }

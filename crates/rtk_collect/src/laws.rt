@@ -10,10 +10,11 @@ ghost use Rattle.rtk_collect.specs.Laws.{LateArrivalsChangeNothing, ClosedOnlyGr
 
 use crate::conflicts::SatelliteCode;
 
-/// What an offer makes of what a window represents, and what it answers. A `Collector` and a `Gatherer`
-/// that hold nothing represent no arrivals. One that represents some answers a further one by what it
-/// holds (`outcome_in`, with the conflicts `conflicts_in`), and it represents all of them afterwards, when
-/// it is `next_window`. No other answer is right, and no other window represents them.
+/// An offer makes the next window of what a window represents, and answers by it. A `Collector` and
+/// a `Gatherer` that hold nothing represent no arrivals. One that represents some answers a further
+/// one by what it holds (`outcome_in`, with the conflicts `conflicts_in`), and it represents all of
+/// them afterwards, when it is `next_window`. No other answer is right, and no other window
+/// represents them.
 pub fn collector_laws()
     ensures new { NewWindowIsEmpty }
     ensures answers { WindowsAnswer }

@@ -1,53 +1,76 @@
-//! What is left of a collector at its end.
+//! What is left of a collector or a gatherer at its end.
 
-ghost use Rattle.std.specs.Prelude.{◌≡◌, ℕ, ◌<◌, List, [], ◌∷◌, ◌++◌, IfSome, IfNone, All};
+ghost use Rattle.std.specs.Prelude.{◌≡◌, ℕ, ◌<◌, List, [], ◌∷◌, ◌++◌, map, IfSome, IfNone, All};
 ghost use Rattle.rtk_collect.specs.Arrival.{Arrival};
 ghost use Rattle.rtk_collect.specs.Collector.{IsLeftView, KeepsStations};
+ghost use Rattle.rtk_collect.specs.EpochSet.{EpochSetView};
 ghost use Rattle.rtk_collect.specs.Offered.{NotBelow};
 ghost use Rattle.rtk_collect.specs.StationPosition.{IsPosition, IsPositionOf};
 
 use crate::epoch_set::EpochSet;
+use crate::gathered_set::GatheredSet;
 use crate::stations::{StationMessages, position};
 use crate::window::take_last;
 use rtk_obs::Position;
 use std::collections::VecDeque;
 use std::marker::Model;
 
-/// The epochs that a collector had at its end, with the first 1005 and 1006.
+/// An epoch with its cells, in whatever lists it keeps them.
+pub trait KeptSet: Drop {
+    /// The epoch in ms and its cells.
+    ghost epoch_set: { Self → EpochSetView };
+}
+
+impl KeptSet for EpochSet {
+    ghost epoch_set = { λ set. set };
+}
+
+impl KeptSet for GatheredSet {
+    ghost epoch_set = { λ set. set };
+}
+
+/// The epochs that a window had at its end, with the first 1005 and 1006.
 #[derive(Drop)]
-pub struct Left {
-    sets: VecDeque<EpochSet>,
+pub struct LeftSets<S: KeptSet> {
+    sets: VecDeque<S>,
     stations: StationMessages,
 }
 
+/// What is left of a collector.
+pub type Left = LeftSets<EpochSet>;
+
+/// What is left of a gatherer.
+pub type GatheredSets = LeftSets<GatheredSet>;
+
 // Clauses see the epochs that are left, from the greatest to the least, the 1005 and the 1006.
-impl Model for Left {
-    ghost use Rattle.std.specs.Prelude.{◌≡◌};
+impl<S: KeptSet> Model for LeftSets<S> {
+    ghost use Rattle.std.specs.Prelude.{◌≡◌, map};
     ghost use Rattle.rtk_collect.specs.Collector.{LeftView, IsLeftView};
 
     ghost Value = { LeftView };
 
-    ghost view = { λ l. record { sets = l.sets.items; arp1005 = l.stations.arp1005; arp1006 = l.stations.arp1006 } };
+    ghost view = { λ l. record { sets = map S.epoch_set l.sets.items; arp1005 = l.stations.arp1005; arp1006 = l.stations.arp1006 } };
 
     ghost invariant = { λ l. (l ≡ record { sets = l.sets; stations = l.stations })
-        × IsLeftView (record { sets = l.sets.items; arp1005 = l.stations.arp1005; arp1006 = l.stations.arp1006 })
+        × IsLeftView (record { sets = map S.epoch_set l.sets.items; arp1005 = l.stations.arp1005; arp1006 = l.stations.arp1006 })
         × (l.stations ≡ record { arp1005 = l.stations.arp1005; arp1006 = l.stations.arp1006 }) };
 }
 
-impl Left {
-    /// These epochs and station messages.
-    pub(crate) fn new(sets: VecDeque<EpochSet>, stations: StationMessages) -> Left
-        requires { IsLeftView (record { sets = sets.items; arp1005 = stations.arp1005; arp1006 = stations.arp1006 }) }
-        ensures { result ≡ record { sets = sets.items; arp1005 = stations.arp1005; arp1006 = stations.arp1006 } }
+impl<S: KeptSet> LeftSets<S> {
+    /// Makes what is left, with these epochs and station messages.
+    pub(crate) fn new(sets: VecDeque<S>, stations: StationMessages) -> LeftSets<S>
+        requires { IsLeftView (record { sets = map S.epoch_set sets.items; arp1005 = stations.arp1005; arp1006 = stations.arp1006 }) }
+        ensures { result ≡ record { sets = map S.epoch_set sets.items; arp1005 = stations.arp1005; arp1006 = stations.arp1006 } }
     {
-        Left { sets, stations }
+        LeftSets { sets, stations }
     }
 
-    /// The least epoch that is left, with its kept cells. `None` exactly if no epoch is left.
-    pub fn next_left(&mut self) -> Option<EpochSet>
-        ensures next { IfSome result (λ set. self.old.sets ≡ self.new.sets ++ set ∷ []) }
-        ensures least { IfSome result (λ set. All (λ x. set.epoch < x.epoch) self.new.sets) }
-        ensures not_below { IfSome result (λ set. NotBelow set self.old.sets) }
+    /// Takes out the least epoch that is left, with its kept cells. The answer is `None` exactly if
+    /// no epoch is left.
+    pub fn next_left(&mut self) -> Option<S>
+        ensures next { IfSome result (λ set. self.old.sets ≡ self.new.sets ++ S.epoch_set set ∷ []) }
+        ensures least { IfSome result (λ set. All (λ x. (S.epoch_set set).epoch < x.epoch) self.new.sets) }
+        ensures not_below { IfSome result (λ set. NotBelow (S.epoch_set set) self.old.sets) }
         ensures none { IfNone result (self.old.sets ≡ []) }
         ensures stays { IfNone result (self.new ≡ self.old) }
         ensures arp1005 { self.new.arp1005 ≡ self.old.arp1005 }
@@ -57,8 +80,8 @@ impl Left {
         take_last(&mut self.sets)
     }
 
-    /// The position of the first 1006, else of the first 1005, else zeros, with the height of the
-    /// 1006, else zero.
+    /// Returns the position of the first 1006, else of the first 1005, else zeros. Its height is
+    /// that of the 1006, else zero.
     pub fn station(&self) -> Position
         ensures position { IsPosition self.now.arp1005 self.now.arp1006 result }
         ensures kept { (n : ℕ) (arrivals : List Arrival) → KeepsStations self.now n arrivals → IsPositionOf n arrivals result }

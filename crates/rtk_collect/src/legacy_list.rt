@@ -54,7 +54,7 @@ impl Model for LegacyList {
         × (0 < length l.first.items → l.cells.items ≡ []) };
 }
 
-/// The list without elements, if it has just this room; else one that has taken no memory.
+/// Returns the list without elements if it has just this room, else one that has taken no memory.
 pub(crate) fn if_of_room<T: Drop>(alloc: Global, mut list: Vec<T>, room: usize) -> Vec<T>
     ensures { result.items ≡ [] }
 {
@@ -97,7 +97,7 @@ fn spell_out(first: &mut Vec<Satellite>, cells: &mut Vec<CellEntry>)
 }
 
 impl LegacyList {
-    /// No cell, in no memory.
+    /// Makes a list without cells, which has taken no memory.
     pub(crate) fn new(alloc: Global) -> LegacyList
         ensures { result ≡ [] }
     {
@@ -108,8 +108,9 @@ impl LegacyList {
         }
     }
 
-    /// No cell, with this room: in the memory of another list, of which each part that has just the
-    /// room that is wanted is used, and any other is given up before memory is taken.
+    /// Makes a list without cells that has this room, in the memory of another list. Each part of
+    /// that list that has just the room that is wanted is used. Any other part is given up before
+    /// memory is taken.
     #[inline(always)]
     pub(crate) fn with_room(self, alloc: Global, room: LegacyRoom) -> Result<LegacyList, AllocError>
         ensures { IfOk result (λ list. list ≡ []) }
@@ -125,7 +126,7 @@ impl LegacyList {
         })
     }
 
-    /// The list without a cell, for an epoch that opens later.
+    /// Empties the list and returns it, for an epoch that opens later.
     pub(crate) fn cleared(self) -> LegacyList
         ensures { result ≡ [] }
     {
@@ -140,7 +141,7 @@ impl LegacyList {
         }
     }
 
-    /// How much room the list needs.
+    /// Returns how much room the list needs.
     pub(crate) fn room(&self) -> LegacyRoom {
         LegacyRoom {
             satellites: self.satellites,
@@ -148,7 +149,7 @@ impl LegacyList {
         }
     }
 
-    /// Whether there is no cell.
+    /// Returns whether there is no cell.
     pub(crate) fn is_empty(&self) -> bool
         ensures { IsTrue result → self.now ≡ [] }
     {
@@ -171,9 +172,9 @@ impl LegacyList {
         Ok(())
     }
 
-    /// Takes the cells whose keys are new, and says how many these are; those that conflict are added to
-    /// an empty list. If `rises`, the keys of the cells rise. Memory is taken for new cells alone, before
-    /// the first one is added.
+    /// Takes the cells whose keys are new, and says how many these are. Those that conflict are
+    /// added to an empty list. If `rises`, the keys of the cells rise. Memory is taken for new
+    /// cells alone, before the first one is added.
     pub(crate) fn join_list(
         &mut self,
         cells: &[CellEntry],
@@ -194,7 +195,7 @@ impl LegacyList {
         join_list(&mut self.cells, cells, rises, found)
     }
 
-    /// The cells, or those of them whose satellite and code no known cell has.
+    /// Returns the cells, or those of them whose satellite and code no known cell has.
     pub(crate) fn left<'a>(
         &'a self,
         known: &[CellEntry],

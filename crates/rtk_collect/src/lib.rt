@@ -60,7 +60,6 @@ mod epoch_set;
 mod epochs;
 mod first;
 mod gathered_set;
-mod gathered_sets;
 mod gatherer;
 mod laws;
 mod left;
@@ -77,7 +76,6 @@ pub use dated::Dated;
 pub use dated_ref::DatedRef;
 pub use epoch_set::EpochSet;
 pub use gathered_set::GatheredSet;
-pub use gathered_sets::GatheredSets;
 pub use gatherer::Gatherer;
 pub use laws::{
     cells_join_epochs, closed_epochs_are_the_rest, closed_epochs_only_grow, collector_laws,
@@ -85,6 +83,6 @@ pub use laws::{
     kept_epochs_are_ordered, kept_epochs_of_arrivals, late_arrivals_change_nothing,
     openings_do_not_conflict, satellite_code_laws, set_decides, stations_are_final,
 };
-pub use left::Left;
+pub use left::{GatheredSets, KeptSet, Left, LeftSets};
 pub use offer::Offer;
 pub use outcome::Outcome;

@@ -14,9 +14,9 @@ use crate::conflicts::{Conflicts, SatelliteCode};
 use rtk_obs::{CellEntry, CellSource};
 use std::alloc::AllocError;
 
-// The key of a cell, by which the cells of an epoch rise: satellite, code and kind of message. It
-// has the kind since clauses see one list of both kinds; in the list of a kind all cells have the
-// same.
+// Returns the key of a cell, by which the cells of an epoch rise: satellite, code and kind of
+// message. It has the kind since clauses see one list of both kinds. In the list of a kind all
+// cells have the same.
 fn key_of(entry: &CellEntry) -> usize
     ensures { result ≡ key entry.now }
 {
@@ -25,7 +25,7 @@ fn key_of(entry: &CellEntry) -> usize
     place * 2 + 1 - entry.cell.source as usize
 }
 
-/// What cells of one kind came in. Of no cells it is a 1004.
+/// Returns the kind of message that cells of one kind came in, which is a 1004 if there is no cell.
 pub(crate) fn source_of(cells: &[CellEntry]) -> CellSource
     requires { AreOfOneKind cells.now }
     ensures { All (λ c. c.cell.source ≡ result) cells.now }
@@ -36,9 +36,9 @@ pub(crate) fn source_of(cells: &[CellEntry]) -> CellSource
     cells[0].cell.source
 }
 
-/// Takes the cells whose keys are new into a list, and says how many these are; those that conflict are
-/// added to an empty list. If `rises`, the keys of the cells rise. Memory is taken for new cells alone,
-/// before the first one is added.
+/// Takes the cells whose keys are new into a list, and says how many these are. Those that conflict
+/// are added to an empty list. If `rises`, the keys of the cells rise. Memory is taken for new
+/// cells alone, before the first one is added.
 pub(crate) fn join_list(
     list: &mut Vec<CellEntry>,
     cells: &[CellEntry],
@@ -113,8 +113,8 @@ fn join_other(
     Ok(count)
 }
 
-// How many of the cells are new: no kept cell has their key. If none is new or the keys of the cells
-// rise, those that conflict are added to an empty list.
+// Returns how many of the cells are new, which means that no kept cell has their key. If none is
+// new or the keys of the cells rise, those that conflict are added to an empty list.
 fn count_new(cells: &[CellEntry], kept: &[CellEntry], found: &mut Conflicts) -> usize
     requires rises { KeysRise kept.now }
     requires few { length cells.now ≤ 64 }
@@ -191,7 +191,7 @@ fn merge_rising(list: &mut [CellEntry], kept: usize, cells: &[CellEntry])
     put_first(list, &cells[..next]);
 }
 
-// The key of the cell before a place. At the first place it is asked for and not looked at.
+// Returns the key of the cell before a place. At the first place it is asked for and not looked at.
 fn key_before(cells: &[CellEntry], at: usize) -> usize
     requires { at ≤ length cells.now }
     ensures { 0 < at → ((d : CellEntry) → result ≡ key (slice_index_or cells.now (at - 1) d)) }
@@ -214,7 +214,7 @@ fn put_first(list: &mut [CellEntry], cells: &[CellEntry])
     }
 }
 
-// The satellite and the code of a cell.
+// Returns the satellite and the code of a cell.
 fn satellite_code(entry: &CellEntry) -> SatelliteCode
     ensures { result ≡ record { satellite = entry.now.satellite; code = entry.now.code } }
 {
@@ -243,7 +243,8 @@ fn add_new(kept: &mut Vec<CellEntry>, at: usize, entry: CellEntry) -> bool
     false
 }
 
-// The place of a key: how many cells have a lesser one. The search begins at a guess.
+// Returns the place of a key, which is how many cells have a lesser one. The search begins at a
+// guess.
 fn place_of_key(kept: &[CellEntry], guess: usize, key: usize) -> usize
     requires guess { guess ≤ length kept.now }
     requires rises { KeysRise kept.now }
@@ -259,7 +260,7 @@ fn place_of_key(kept: &[CellEntry], guess: usize, key: usize) -> usize
     at
 }
 
-// The kept cell with this key, whose place is `at`.
+// Returns the kept cell with this key, whose place is `at`.
 fn kept_cell(kept: &[CellEntry], at: usize, key: usize) -> Option<CellEntry>
     requires rises { KeysRise kept.now }
     requires place { at ≡ lower key kept.now }

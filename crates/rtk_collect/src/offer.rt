@@ -32,7 +32,7 @@ pub enum Offer {
 }
 
 impl Offer {
-    /// The answer with this outcome, which closes no epoch, and with these conflicts.
+    /// Makes the answer with this outcome, which closes no epoch, and with these conflicts.
     pub(crate) fn new(outcome: Outcome, conflicts: Conflicts) -> Offer
         requires { ListsConflicts outcome conflicts }
         ensures outcome { outcome_of result ≡ outcome }

@@ -26,7 +26,7 @@ pub(crate) struct StationMessages {
 }
 
 impl StationMessages {
-    /// No station message.
+    /// Makes the state without a station message.
     pub(crate) fn new() -> StationMessages
         ensures { result ≡ record { arp1005 = None; arp1006 = None } }
     {
@@ -82,7 +82,8 @@ fn keep_station_message<T: PartialEq + Copy>(
     Outcome::Taken { closed: None }
 }
 
-/// The position of the 1006, else of the 1005, else zeros, with the height of the 1006, else zero.
+/// Returns the position of the 1006, else of the 1005, else zeros. Its height is that of the 1006,
+/// else zero.
 pub(crate) fn position(stations: StationMessages) -> Position
     requires fits_1005 { ForSome stations.arp1005 arp1005_spec.IsValid }
     requires fits_1006 { ForSome stations.arp1006 arp1006_spec.IsValid }
@@ -102,8 +103,8 @@ pub(crate) fn position(stations: StationMessages) -> Position
     }
 }
 
-// The antenna reference point with this height. It is passed by value, so that the prover knows the
-// range of each field's type.
+// Returns the antenna reference point with this height. It is passed by value, so that the prover
+// knows the range of each field's type.
 fn position_of(arp: Arp1005, height: u16) -> Position
     requires { arp1005_spec.IsValid arp }
     ensures { HasFields arp.x arp.y arp.z height result }

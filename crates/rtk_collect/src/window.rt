@@ -25,7 +25,8 @@ use rtk_obs::{CellEntry, CellSource, GpsMs};
 use std::alloc::{AllocError, Global};
 use std::collections::VecDeque;
 
-/// The place of an epoch in the window: how many of the window's epochs are greater.
+/// Returns the place of an epoch in the window, which is how many of the window's epochs are
+/// greater.
 pub(crate) fn place_of_epoch(sets: &VecDeque<GatheredSet>, epoch: GpsMs) -> usize
     requires { EpochsFall sets.now.items }
     ensures { result ≡ leading epoch sets.now.items }
@@ -47,7 +48,7 @@ pub(crate) fn place_of_epoch(sets: &VecDeque<GatheredSet>, epoch: GpsMs) -> usiz
     low
 }
 
-/// Whether the window has this epoch, whose place is `at`.
+/// Returns whether the window has this epoch, whose place is `at`.
 pub(crate) fn has_epoch(sets: &VecDeque<GatheredSet>, at: usize, epoch: GpsMs) -> bool
     requires place { at ≡ leading epoch sets.now.items }
     ensures found { IsTrue result → (at < length sets.now.items)
@@ -58,7 +59,7 @@ pub(crate) fn has_epoch(sets: &VecDeque<GatheredSet>, at: usize, epoch: GpsMs) -
     at < sets.len() && sets[at].epoch() == epoch
 }
 
-/// Joins cells to the epoch at a place, and says how many are new; those that conflict are added to
+/// Joins cells to the epoch at a place, and says how many are new. Those that conflict are added to
 /// an empty list. If `rises`, the keys of the cells rise. If memory is refused, no epoch changes.
 pub(crate) fn join_at(
     sets: &mut VecDeque<GatheredSet>,
@@ -84,9 +85,9 @@ pub(crate) fn join_at(
     set.join(cells, rises, found)
 }
 
-// For how many cells of each kind an epoch that opens at a place has room: for those of its first
-// message, and for as many as the epoch before it has, since messages of each epoch mostly have the
-// same cells.
+// Returns for how many cells of each kind an epoch that opens at a place has room: for those of its
+// first message, and for as many as the epoch before it has, since messages of each epoch mostly
+// have the same cells.
 #[inline(always)]
 pub(crate) fn first_room(
     sets: &VecDeque<GatheredSet>,
@@ -121,9 +122,9 @@ pub(crate) fn first_room(
     }
 }
 
-/// Opens an epoch with cells at its place, if it can in the spare lists; those that conflict with one
-/// another are added to an empty list. If `rises`, the keys of the cells rise. All memory is taken before
-/// an epoch changes.
+/// Opens an epoch with cells at its place, in the spare lists if it can. Those that conflict with
+/// one another are added to an empty list. If `rises`, the keys of the cells rise. All memory is
+/// taken before an epoch changes.
 pub(crate) fn open_at(
     sets: &mut VecDeque<GatheredSet>,
     at: usize,
@@ -182,7 +183,7 @@ pub(crate) fn close_least<S: Drop>(sets: &mut VecDeque<S>, places: usize) -> Opt
     }
 }
 
-/// Takes out the epoch that stands last: the least one, since a window's epochs fall.
+/// Takes out the epoch that stands last, which is the least one, since a window's epochs fall.
 pub(crate) fn take_last<S: Drop>(sets: &mut VecDeque<S>) -> Option<S>
     ensures order { sets.old.items ≡ sets.new.items ++ option_to_list result }
     ensures none { IfNone result (sets.old.items ≡ []) }
@@ -190,9 +191,9 @@ pub(crate) fn take_last<S: Drop>(sets: &mut VecDeque<S>) -> Option<S>
     sets.pop_back()
 }
 
-/// Takes the new cells of an epoch, whose place is `at`, or opens it, in a window that has this number
-/// of places and spare lists; those that conflict are added to an empty list, which stays empty if memory
-/// is refused. If `rises`, the keys of the cells rise.
+/// Takes the new cells of an epoch, whose place is `at`, or opens it, in a window that has this
+/// number of places and spare lists. Those that conflict are added to an empty list, which stays
+/// empty if memory is refused. If `rises`, the keys of the cells rise.
 pub(crate) fn offer_cells(
     sets: &mut VecDeque<GatheredSet>,
     places: usize,
@@ -233,7 +234,8 @@ pub(crate) fn offer_cells(
     Ok(Outcome::Taken { closed })
 }
 
-/// What became of cells that joined an epoch of the window, by how many were new and which conflict.
+/// Returns what became of cells that joined an epoch of the window, by how many were new and which
+/// conflict.
 pub(crate) fn answer_of_joined(fresh: usize, found: &Conflicts) -> Outcome
     ensures { IsAnswerOf fresh found.now result }
 {

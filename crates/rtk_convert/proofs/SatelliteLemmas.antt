@@ -20,7 +20,7 @@ use Rattle.rtk_collect.specs.Key.{KeysRise}
 use Rattle.rtk_rinex.specs.declared.epoch_table.Observed.{Observed}
 use Rattle.rtk_rinex.specs.declared.epoch_table.SatelliteRow.{SatelliteRow}
 use Rattle.rtk_convert.specs.Rows.{first_cell, observed_with, observed_after, or_nothing, row_if_any, rows_to}
-use Rattle.rtk_rinex.specs.RecordLines.{RecordLinesView, HasOpenLine}
+use Rattle.rtk_rinex.specs.RecordLines.{RecordLinesView, HasOpenLine, HoldsLines}
 use Rattle.rtk_convert.specs.Steps.ShownCells.{IsSetOfCodes, MayStep, IsPlaceOf, IsLeastAt, HasFreeOf, IsFreeOf, ShowsRow, ShowsSome, StepsOver, TakesCells, track_after, shown_by, is_code}
 use Rattle.rtk_convert.proofs.CellOrderLemmas.{any_cell, same-code, other-code, some-signal, or_later, first-append, some-before, none-both, range-empty, range-more, range-new, range-satellite, range-other, first-range, first-absent, place-first, place-later, place-between}
 use Rattle.rtk_convert.proofs.ThroughLemmas.{cell-other, cells-same, taken-same, taken-more, may-same, may-more, shown-more}
@@ -334,3 +334,30 @@ module _ (before : List (Option Track)) (epoch : ℕ) (ms : List CellEntry) (i :
 pub rows-next : (f : ℕ → Code → Option Observed) (listed : List Code) (s : ℕ) (rows more : List SatelliteRow) → 1 ≤ s → rows ≡ rows_to f listed (s - 1) → more ≡ row_if_any f listed s
     → rows ++ more ≡ rows_to f listed (s + 1 - 1)
 rows-next f listed s rows more l e m = let same : s ≡ s + 1 - 1 = omega arith in rows-more f listed s rows more l e m ∙ ap (rows_to f listed) same
+
+-- ---- the satellites so far
+
+-- the satellites below one are written
+pub record ShowsBelow (before : List (Option Track)) (epoch : ℕ) (ms : List CellEntry) (i : ℕ) (ls : List CellEntry) (j : ℕ) (listed : List Code) (tracks : List (Option Track)) (lines : RecordLinesView) : Type 0 where
+  pub from : ℕ
+  pub one : 1 ≤ from
+  pub last : from ≤ 33
+  pub fills : FillsRows before epoch ms i ls j from tracks
+  pub holds : HoldsLines lines (rows_to (shown_by before epoch (ms ++ ls)) listed (from - 1))
+
+-- the cells of the next satellite are no longer left
+pub cells-fall : {s i j end last : ℕ} {ms ls : List CellEntry} → IsLeastAt s ms i ls j → i ≤ end → IsPlaceOf (s + 1) ms end → j ≤ last → IsPlaceOf (s + 1) ls last
+    → (length ms - end) + (length ls - last) < (length ms - i) + (length ls - j)
+cells-fall {s} {i} {j} {end} {last} {ms} {ls} h from p more q =
+    elim (h.one any_cell) [
+      | inl a ↦
+          elim (cases_lt i end) [
+            | inl b ↦ omega (arith, a.0, b, from, more)
+            | inr b ↦ absurd (omega (arith, p.others i any_cell b a.0, a.1))
+          ]
+      | inr a ↦
+          elim (cases_lt j last) [
+            | inl b ↦ omega (arith, a.0, b, from, more)
+            | inr b ↦ absurd (omega (arith, q.others j any_cell b a.0, a.1))
+          ]
+    ]

@@ -36,8 +36,8 @@ pub(crate) struct ClosedEpochs {
     count: u64,
 }
 
-// Clauses don't see the room and the lines, which are written anew for each epoch. The invariant names
-// every field, as that of a converter does.
+// Clauses don't see the room and the lines, which are written anew for each epoch. The reason why the
+// invariant names every field stands at `Converter`.
 impl Model for ClosedEpochs {
     ghost use Rattle.std.specs.Prelude.{◌≡◌};
     ghost use Rattle.rtk_convert.specs.ClosedEpochs.{ClosedEpochsView};
@@ -49,8 +49,8 @@ impl Model for ClosedEpochs {
     ghost invariant = { λ r. r ≡ record { tracks = r.tracks; room = r.room; lines = r.lines; is_header_out = r.is_header_out; count = r.count } };
 }
 
-// Tracks without a phase. This function is alone in needing the stack for them, which is gone when
-// it returns.
+// Makes tracks without a phase. This function is alone in needing the stack for them, which is gone
+// when it returns.
 #[inline(never)]
 fn new_tracks(alloc: Global) -> Result<Box<Tracks>, AllocError>
     ensures { IfOk result (λ tracks. RepresentsSteps tracks.value []) }
@@ -58,7 +58,7 @@ fn new_tracks(alloc: Global) -> Result<Box<Tracks>, AllocError>
     Ok(Box::new(alloc, Tracks::new())?)
 }
 
-// Room for cells, of which none stands there yet.
+// Makes room for cells, in which none stands yet.
 #[inline(never)]
 fn new_room(alloc: Global) -> Result<Box<ArrayVec<CellEntry, 64>>, AllocError>
     ensures { IfOk result (λ room. room.value.items ≡ []) }
@@ -67,7 +67,7 @@ fn new_room(alloc: Global) -> Result<Box<ArrayVec<CellEntry, 64>>, AllocError>
 }
 
 impl ClosedEpochs {
-    /// Nothing is closed yet.
+    /// Makes the state in which no epoch is closed.
     pub(crate) fn new(alloc: Global) -> Result<ClosedEpochs, AllocError>
         ensures follows { IfOk result (λ r. (listed : List Code) → HasClosed r listed []) }
         ensures below { IfOk result (λ r. (epoch : ℕ) → AllBelow r.tracks epoch) }
@@ -81,14 +81,14 @@ impl ClosedEpochs {
         })
     }
 
-    /// Whether the header is written.
+    /// Returns whether the header is written.
     pub(crate) fn is_header_out(&self) -> bool
         ensures { result ≡ self.now.is_header_out }
     {
         self.is_header_out
     }
 
-    /// How many records are written.
+    /// Returns how many records are written.
     pub(crate) fn count(&self) -> u64
         ensures { result ≡ self.now.count }
     {

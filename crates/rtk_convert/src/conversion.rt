@@ -46,7 +46,8 @@ pub(crate) struct Conversion {
     conflicts: Conflicts,
 }
 
-// The first part of the invariant names every field, as that of a converter does.
+// Clauses don't see the allocator, nor the conflicts, which each message replaces. The reason why the
+// invariant names every field stands at `Converter`.
 impl Model for Conversion {
     ghost use Rattle.std.specs.Prelude.{◌≡◌};
     ghost use Rattle.rtk_convert.specs.Conversion.{ConversionView, IsConversionView};
@@ -80,7 +81,7 @@ impl Model for Conversion {
 }
 
 impl Conversion {
-    /// A conversion that has found no frame yet.
+    /// Makes a conversion that has found no frame yet.
     pub(crate) fn new(alloc: Global, setup: Setup) -> Result<Conversion, AllocError>
         ensures { IfOk result (IsNewConversion setup) }
     {
@@ -107,16 +108,16 @@ impl Conversion {
         })
     }
 
-    /// Whether a call broke off.
+    /// Returns whether a call broke off.
     pub(crate) fn is_stopped(&self) -> bool
         ensures { result ≡ self.now.stopped }
     {
         self.stopped
     }
 
-    /// Takes the payload of a frame that was found on a link: writes the record of
-    /// the epoch that it closes to `out`, and its lines to `log`. Answers its epoch, if it is an
-    /// observation of the chosen station, whether it is late or not.
+    /// Takes the payload of a frame that was found on a link. It writes the record of the epoch
+    /// that the payload closes to `out`, and its lines to `log`. It answers the epoch of the
+    /// payload if this is an observation of the chosen station, whether it is late or not.
     ///
     /// A converter asks beforehand whether the conversion has stopped; this call has no such
     /// condition, so it asks too, and so does `finish`.
@@ -215,8 +216,8 @@ impl Conversion {
 }
 
 impl Conversion {
-    /// Ends the conversion: writes the records of the epochs that are open, rising, and the header
-    /// if it is not out, to `out`, and the counts to `log`.
+    /// Ends the conversion. It writes the records of the epochs that are open, rising, and the
+    /// header if it is not out, to `out`, and the counts to `log`.
     pub(crate) fn finish<O: Sink, L: Sink>(
         self,
         out: &mut O,
@@ -244,7 +245,7 @@ impl Conversion {
     }
 }
 
-// The epoch that is closed by a message with this answer.
+// Returns the epoch that is closed by a message with this answer.
 fn closed_by(offer: Outcome) -> Option<GatheredSet>
     ensures { result ≡ closed_by offer }
 {

@@ -2,7 +2,7 @@
 //!
 //! Frames are taken one by one, straight from the bytes of a scanner; no payload is copied.
 
-ghost use Rattle.std.specs.Prelude.{◌≡◌, ◌<◌, ◌↔◌, [], true, false, None, length, replicate, IsErrOf, IfOk, IfErr, IfSome, Decides};
+ghost use Rattle.std.specs.Prelude.{◌≡◌, ◌<◌, ◌↔◌, [], ◌∷◌, ◌++◌, true, false, None, length, replicate, IsErrOf, IfOk, IfErr, IfSome, OnOk, Decides};
 ghost use Rattle.rtk_frame.specs.ScannerView.{scanner_view};
 ghost use Rattle.rtk_convert.specs.Converter.{IsLinkCount, IsNewConverter, RepresentsHistory, refusal, FeedsLink, EndsLink, LeavesConverter, EndsConverter};
 ghost use Rattle.rtk_convert.specs.Steps.AllLinks.{ClosesLinks};
@@ -19,7 +19,7 @@ use crate::setup::Setup;
 use rtk_frame::{Scanner, Sink};
 use rtk_message::AnyDecoder;
 use rtk_obs::GpsMs;
-use std::alloc::Global;
+use std::alloc::{AllocError, Global};
 use std::marker::Model;
 
 /// Converts what 1 to 16 links carry of one station to a file and a report.
@@ -34,8 +34,9 @@ pub struct Converter {
     links: Vec<LinkState>,
 }
 
-// The first part of the invariant names every field: a field that holds more bytes can't be added
-// beside those whose bounds the clauses see. The decoder's bytes are its own, and don't grow.
+// Clauses see the conversion and the links, and bound what they hold. The decoder keeps the last message
+// of each kind and does not grow. The first part of the invariant names every field, so nobody can add a
+// field that holds bytes without a bound: the equation would then fail to check.
 impl Model for Converter {
     ghost use Rattle.std.specs.Prelude.{◌≡◌};
     ghost use Rattle.rtk_convert.specs.Converter.{ConverterView, IsConverterView};
@@ -48,23 +49,25 @@ impl Model for Converter {
         × IsConverterView (record { conversion = c.conversion; links = c.links.items }) };
 }
 
-// New links: each is open, and nothing was fed on it.
+// Adds a link that is open, and on which nothing was fed.
+fn add_link(links: &mut Vec<LinkState>, scanner: Scanner) -> Result<(), AllocError>
+    ensures { OnOk result (links.new.items ≡ links.old.items ++ record { scanner = scanner; newest = None } ∷ []) }
+{
+    links.push(LinkState {
+        scanner,
+        newest: None,
+    })?;
+    Ok(())
+}
+
+// Makes links that are open, and on which nothing was fed.
 fn new_links(alloc: Global, count: usize) -> Result<Vec<LinkState>, ConvertFault>
     ensures new { IfOk result (λ links. links.items ≡ replicate count (record { scanner = scanner_view [] false; newest = None })) }
     ensures fault { IfErr result (λ fault. fault ≡ ConvertFault.OutOfMemory) }
 {
     let mut links = Vec::new(alloc);
     for _ in 0..count {
-        let Ok(scanner) = Scanner::new(alloc) else {
-            return Err(ConvertFault::OutOfMemory);
-        };
-        let link = LinkState {
-            scanner,
-            newest: None,
-        };
-        let Ok(()) = links.push(link) else {
-            return Err(ConvertFault::OutOfMemory);
-        };
+        add_link(&mut links, Scanner::new(alloc)?)?;
     }
     Ok(links)
 }
@@ -73,7 +76,7 @@ impl Converter {
     ghost use Rattle.std.specs.Prelude.{slice_get};
     ghost use Rattle.rtk_convert.specs.Converter.{link_refusal};
 
-    /// A converter whose links are open and empty. Links are counted from 0.
+    /// Makes a converter whose links are open and empty. Links are counted from 0.
     pub fn new(alloc: Global, setup: Setup, links: usize) -> Result<Converter, ConvertFault>
         ensures ok { IfOk result (IsNewConverter setup links) }
         ensures link_count { IsErrOf result ConvertFault.Setup ↔ ¬ (IsLinkCount links) }
@@ -92,7 +95,7 @@ impl Converter {
         })
     }
 
-    /// How many links there are.
+    /// Returns how many links there are.
     pub fn links(&self) -> usize
         ensures value { result ≡ length self.now.links }
         ensures of_history { (h : History) → RepresentsHistory self.now h → result ≡ length h.links }
@@ -100,7 +103,7 @@ impl Converter {
         self.links.len()
     }
 
-    /// Whether the link exists and is open.
+    /// Returns whether the link exists and is open.
     pub fn is_open(&self, link: usize) -> bool
         ensures of_history { (h : History) → RepresentsHistory self.now h → Decides result (IsOpen h link) }
         // Whatever came before, also after a call that broke off: no call is refused for its link.
@@ -112,7 +115,7 @@ impl Converter {
         }
     }
 
-    /// The greatest observation epoch that came on the link, late messages included.
+    /// Returns the greatest observation epoch that came on the link, late messages included.
     pub fn newest(&self, link: usize) -> Option<GpsMs>
         requires { link < length self.now.links }
         ensures { (h : History) → RepresentsHistory self.now h → result ≡ newest_on link h.found }
@@ -120,8 +123,9 @@ impl Converter {
         self.links[link].newest
     }
 
-    // Why a call on the link is refused at once. That the conversion has stopped is asked here,
-    // since it comes before the faults of a link, and a refused call must not change the link.
+    // Returns why a call on the link is refused at once. That the conversion has stopped is asked
+    // here, since it comes before the faults of a link, and a refused call must not change the
+    // link.
     fn refusal(&self, link: usize) -> Option<ConvertFault>
         ensures { result ≡ refusal self.now link }
     {
@@ -137,7 +141,7 @@ impl Converter {
         None
     }
 
-    /// Takes the next bytes of a link: the frames that they complete arrive.
+    /// Takes the next bytes of a link. The frames that they complete arrive.
     pub fn feed<O: Sink, L: Sink>(
         &mut self,
         link: usize,
@@ -170,7 +174,7 @@ impl Converter {
         )
     }
 
-    /// Closes a link: no more bytes will come, and the frames that are left in it arrive.
+    /// Closes a link. No more bytes will come, and the frames that are left in it arrive.
     pub fn close<O: Sink, L: Sink>(
         &mut self,
         link: usize,

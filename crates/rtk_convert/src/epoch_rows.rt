@@ -28,6 +28,8 @@ use rtk_obs::{Cell, CellEntry, Code, Digits, GpsMs, Tracks, rolled};
 use rtk_rinex::{Observed, RecordLines};
 use std::alloc::AllocError;
 
+// Returns a phase with its rolls, or `None` if there is no phase or it is outside the limits of an
+// observation then.
 fn rolled_or_none(phase: Option<i64>, rolls: i64) -> Option<i64>
     ensures { result ≡ rolled_or_none phase rolls }
 {
@@ -37,6 +39,7 @@ fn rolled_or_none(phase: Option<i64>, rolls: i64) -> Option<i64>
     }
 }
 
+// Returns what the file shows of a cell with these digits.
 fn observed(cell: &Cell, digits: Digits) -> Observed
     ensures { result ≡ observed_with cell.now digits }
 {
@@ -49,8 +52,8 @@ fn observed(cell: &Cell, digits: Digits) -> Observed
     }
 }
 
-// The place of each code among the listed ones, or 16: a list has at most 16 codes, whose places
-// are 0 to 15, so 16 is the place of no listed code.
+// Returns the place of each code among the listed ones, or 16. A list has at most 16 codes, whose
+// places are 0 to 15, so 16 is the place of no listed code.
 fn places_of(listed: &[Code]) -> [u8; 16]
     requires few { length listed.now ≤ 16 }
     requires distinct { AllPairs (λ a b. a ≢ b) listed.now }
@@ -119,21 +122,21 @@ fn show_entry(
     put_listed(listed, &form.places, entry.code, &shown, lines);
 }
 
-// A code in a set of codes, whose bits are at their places.
+// Returns the set that has only this code. The bit of a code in a set of codes is at its place.
 fn bit_of(code: Code) -> u32
     ensures { result ≡ 2 ^ place_of code }
 {
     1 << code.place()
 }
 
-// Is there a cell of this satellite at this place?
+// Returns whether there is a cell of this satellite at this place.
 fn has_satellite(entries: &[CellEntry], at: usize, satellite: u8) -> bool
     ensures { TellsSatellite satellite entries.now at result }
 {
     at < entries.len() && entries[at].satellite == satellite
 }
 
-// The least satellite that has a cell at these places of two lists.
+// Returns the least satellite that has a cell at these places of two lists.
 fn next_satellite(
     msm: &[CellEntry],
     msm_at: usize,
@@ -162,10 +165,10 @@ struct Reach {
     codes: u32,
 }
 
-// Takes the cells of a satellite from its place on, but for those whose code an earlier one of its
-// cells has; and writes what they show into its line. The earlier cells are there for the clauses alone:
-// the set has their codes. It stands where it is called: for the first list, to which no cell is earlier,
-// much of it falls away.
+// Takes the cells of a satellite from its place on, except those whose code an earlier one of its
+// cells has, and writes what they show into its line. The earlier cells are there for the clauses
+// alone, since the set has their codes. The function is inlined, because much of it falls away for
+// the first list, to which no cell is earlier.
 #[inline(always)]
 fn show_cells(
     tracks: &mut Tracks,
@@ -204,9 +207,9 @@ fn show_cells(
     Reach { end, codes }
 }
 
-// Takes the cells of a satellite, which has its place in two lists of cells: first those of an MSM,
-// then those of a 1004 whose code none of an MSM has. Writes its line, which is open, and returns how
-// far the cells reach.
+// Takes the cells of a satellite, which has its place in two lists of cells. It takes first those
+// of an MSM, then those of a 1004 whose code none of an MSM has. It writes the line of the
+// satellite, which is open, and returns how far the cells reach.
 fn fill_line(
     tracks: &mut Tracks,
     form: &RowForm,
@@ -288,23 +291,11 @@ pub(crate) fn push_rows(
         epoch,
         places: places_of(listed),
     };
-    let mut msm_at = 0;
-    let mut legacy_at = 0;
-    // The satellites before this one are written. Only the proof reads it.
-    let mut from = 1;
-    'satellites: while let Some(satellite) = next_satellite(msm, msm_at, legacy, legacy_at) {
-        let at = CellPlaces {
-            msm: msm_at,
-            legacy: legacy_at,
-        };
-        if let Err(_) = lines.open_line(listed.len()) {
-            return Err(AllocError);
-        }
-        let filled = fill_line(tracks, &form, satellite, msm, legacy, at, listed, lines);
+    let mut at = CellPlaces { msm: 0, legacy: 0 };
+    'satellites: while let Some(satellite) = next_satellite(msm, at.msm, legacy, at.legacy) {
+        lines.open_line(listed.len())?;
+        at = fill_line(tracks, &form, satellite, msm, legacy, at, listed, lines);
         lines.close_line(satellite);
-        msm_at = filled.msm;
-        legacy_at = filled.legacy;
-        from = satellite + 1;
     }
     Ok(())
 }

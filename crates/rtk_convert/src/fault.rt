@@ -1,5 +1,6 @@
 //! Why a conversion does not go on.
 
+use rtk_frame::FrameFault;
 use std::alloc::AllocError;
 use thiserror::Error;
 
@@ -48,6 +49,18 @@ impl From<AllocError> for ConvertFault {
     ghost from_gives = { λ _ e. e ≡ OutOfMemory };
 
     fn from(_refused: AllocError) -> Self {
+        ConvertFault::OutOfMemory
+    }
+}
+
+// A converter makes scanners and no frames, and a scanner is refused only if memory is.
+impl From<FrameFault> for ConvertFault {
+    ghost use Rattle.std.specs.Prelude.{◌≡◌};
+    ghost use Rattle.rtk_convert.specs.declared.fault.ConvertFault.TheVariants.{OutOfMemory};
+
+    ghost from_gives = { λ _ e. e ≡ OutOfMemory };
+
+    fn from(_refused: FrameFault) -> Self {
         ConvertFault::OutOfMemory
     }
 }

@@ -24,7 +24,8 @@ pub enum FrameClass<'a> {
     Dated(DatedRef<'a>),
 }
 
-/// What a payload is read as, by the messages that the setup takes. It is lent until the next call.
+/// Returns what a payload is read as, by the messages that the setup takes. It is lent until the
+/// next call.
 pub(crate) fn read_message<'a>(
     setup: &Setup,
     decoder: &'a mut AnyDecoder,
@@ -35,7 +36,8 @@ pub(crate) fn read_message<'a>(
     decoder.read(Accepted::only(setup.msm()), payload)
 }
 
-// A message with its epoch: the moment of its time of week that is nearest to the reference.
+// Returns a message with its epoch, which is the moment of its time of week that is nearest to the
+// reference.
 fn dated_message<'a>(setup: &Setup, message: &'a AnyMessage) -> DatedRef<'a>
     requires { IsValid message.now }
     ensures { IsDatedMessage setup.now message.now result }
@@ -47,7 +49,8 @@ fn dated_message<'a>(setup: &Setup, message: &'a AnyMessage) -> DatedRef<'a>
     DatedRef::of_any(message, Some(epoch))
 }
 
-/// The class of a payload that is read so: of a message, which it borrows, or of a fault.
+/// Returns the class of a payload that is read so, which is a message that the class borrows, or a
+/// fault.
 pub(crate) fn classify<'a>(
     setup: &Setup,
     reading: &'a Result<AnyMessage, AnyFault>,

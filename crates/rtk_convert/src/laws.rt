@@ -63,10 +63,10 @@ pub fn one_history_of_calls()
     ensures reads { ReadsComeToOne }
 {}
 
-/// What each call makes of the history that a converter has, and what it answers. `feed` and `close` are
-/// refused by what the history says of their link; `newest` answers what the link holds; `feed` and `close`
-/// find the frames of the bytes that wait on the link. What the converter holds decides the rest: whatever
-/// else the history was, the next history, what is written and the counts that `finish` answers come out
+/// What a converter holds decides what each call makes of its history and what the call answers.
+/// `feed` and `close` are refused by what the history says of their link. `newest` answers what the
+/// link holds. `feed` and `close` find the frames of the bytes that wait on the link. Whatever else
+/// the history was, the next history, what is written and the counts that `finish` answers come out
 /// the same.
 pub fn converter_laws()
     ensures refused { LinkDecidesRefusal }

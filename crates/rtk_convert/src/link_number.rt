@@ -24,7 +24,7 @@ impl Model for LinkNumber {
 }
 
 impl LinkNumber {
-    /// The number of one of at most 16 links.
+    /// Returns the number of one of at most 16 links.
     pub(crate) fn new(link: usize) -> Self
         requires { link < 16 }
         ensures { result ≡ link }
@@ -34,14 +34,14 @@ impl LinkNumber {
         }
     }
 
-    /// The number as a fault tells it, counted from 0.
+    /// Returns the number as a fault tells it, counted from 0.
     pub(crate) fn from_zero(self) -> u8
         ensures { result ≡ self }
     {
         self.from_zero
     }
 
-    /// The number as a report shows it, counted from 1.
+    /// Returns the number as a report shows it, counted from 1.
     pub(crate) fn shown(self) -> u64
         ensures { result ≡ self + 1 }
     {

@@ -24,7 +24,7 @@ pub(crate) struct LinkState {
     pub(crate) newest: Option<GpsMs>,
 }
 
-// The later of two epochs.
+// Returns the later of two epochs.
 fn later_of(a: Option<GpsMs>, b: Option<GpsMs>) -> Option<GpsMs>
     ensures { result ≡ later_of a b }
 {

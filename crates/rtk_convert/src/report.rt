@@ -13,7 +13,7 @@ use rtk_message::{AnyFault, put_any_fault, put_named};
 use rtk_obs::{GpsMs, civil, put_civil, two_digits};
 use std::alloc::{AllocError, Global};
 
-// The epoch of a message; a hyphen if it has none.
+// Appends the epoch of a message, or a hyphen if it has none.
 fn put_epoch(line: &mut Vec<u8>, epoch: Option<GpsMs>) -> Result<(), AllocError>
     ensures { OnOk result (line.new.items ≡ line.old.items ++ epoch_text epoch) }
 {
@@ -24,7 +24,7 @@ fn put_epoch(line: &mut Vec<u8>, epoch: Option<GpsMs>) -> Result<(), AllocError>
     Ok(())
 }
 
-// The link, what became of the message, its number and its epoch.
+// Appends the link, what became of the message, its number and its epoch.
 fn put_message(
     line: &mut Vec<u8>,
     link: LinkNumber,
@@ -41,7 +41,7 @@ fn put_message(
     Ok(())
 }
 
-// The satellite and the code of a cell.
+// Appends the satellite and the code of a cell.
 fn put_signal(line: &mut Vec<u8>, cell: SatelliteCode) -> Result<(), AllocError>
     ensures { OnOk result (line.new.items ≡ line.old.items ++ signal_text cell.satellite cell.code) }
 {
@@ -52,7 +52,7 @@ fn put_signal(line: &mut Vec<u8>, cell: SatelliteCode) -> Result<(), AllocError>
     Ok(())
 }
 
-// The line of a cell that differs from the kept one.
+// Appends the line of a cell that differs from the kept one.
 fn put_conflict(
     lines: &mut Vec<u8>,
     link: LinkNumber,
@@ -68,7 +68,7 @@ fn put_conflict(
     Ok(())
 }
 
-// A line for each cell that differs from the kept one.
+// Appends a line for each cell that differs from the kept one.
 fn put_cell_conflicts(
     lines: &mut Vec<u8>,
     link: LinkNumber,
@@ -87,8 +87,8 @@ fn put_cell_conflicts(
     Ok(())
 }
 
-// For a station message the line that it differs from the kept one; for an observation a line for
-// each cell that does.
+// Appends the line that a station message differs from the kept one, or a line for each cell of an
+// observation that does.
 fn put_conflicts(
     lines: &mut Vec<u8>,
     link: LinkNumber,
@@ -106,8 +106,8 @@ fn put_conflicts(
     Ok(())
 }
 
-/// The lines of a message, from its number, its epoch, the answer that it got and its cells that
-/// conflict. A message without a line takes no memory.
+/// Returns the lines of a message, from its number, its epoch, the answer that it got and its cells
+/// that conflict. A message without a line takes no memory.
 pub(crate) fn offer_lines(
     alloc: Global,
     link: LinkNumber,
@@ -135,7 +135,7 @@ pub(crate) fn offer_lines(
     Ok(lines)
 }
 
-/// The line of a payload that is refused.
+/// Returns the line of a payload that is refused.
 pub(crate) fn refused_line(
     alloc: Global,
     link: LinkNumber,
@@ -151,6 +151,7 @@ pub(crate) fn refused_line(
     Ok(line)
 }
 
+// Appends the line of a count.
 fn put_count(lines: &mut Vec<u8>, name: &[u8], count: u64) -> Result<(), AllocError>
     ensures { OnOk result (lines.new.items ≡ lines.old.items ++ count_line name.now count) }
 {
@@ -159,7 +160,7 @@ fn put_count(lines: &mut Vec<u8>, name: &[u8], count: u64) -> Result<(), AllocEr
     Ok(())
 }
 
-/// The lines of the counts, at the end of the report.
+/// Returns the lines of the counts, at the end of the report.
 pub(crate) fn count_lines(alloc: Global, counts: &Counts) -> Result<Vec<u8>, AllocError>
     ensures { IfOk result (λ lines. lines.items ≡ count_lines counts.now) }
 {

@@ -26,7 +26,7 @@ use std::alloc::Global;
 // How many bytes a read asks for.
 const PIECE: usize = 512;
 
-// Is an epoch before another one? `None` is before all epochs.
+// Returns whether an epoch is before another one. `None` is before all epochs.
 fn is_before(epoch: Option<GpsMs>, other: Option<GpsMs>) -> bool
     ensures { Decides result (¬ (IsUpTo other epoch)) }
 {
@@ -37,7 +37,7 @@ fn is_before(epoch: Option<GpsMs>, other: Option<GpsMs>) -> bool
     }
 }
 
-// The link that is read next, unless all are closed.
+// Returns the link that is read next, or `None` if all are closed.
 fn next_link(converter: &Converter) -> Option<usize>
     ensures next { (h : History) → RepresentsHistory converter.now h → MatchOption result (AllClosed h) (λ link. IsNextLink h link) }
     ensures within { IfSome result (λ link. link < length converter.now.links) }
@@ -58,7 +58,7 @@ fn next_link(converter: &Converter) -> Option<usize>
     next
 }
 
-// Reads a link once: feeds the bytes, or closes the link if there are none.
+// Reads a link once. It feeds the bytes, or closes the link if there are none.
 fn read_link<R: Source, O: Sink, L: Sink>(
     converter: &mut Converter,
     link: usize,
@@ -126,8 +126,8 @@ fn read_all<R: Source, O: Sink, L: Sink>(
     }
 }
 
-/// Converts what the sources give, each of them a link: the file goes to `out`, the report to
-/// `log`.
+/// Converts what the sources give, each of which is a link. The file goes to `out`, and the report
+/// to `log`.
 ///
 /// The next read is of the open link whose newest epoch is the least; a link that had no epoch yet
 /// comes first, and of links with equal ones the one with the lowest number. A read asks for 512

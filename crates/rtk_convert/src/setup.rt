@@ -62,8 +62,8 @@ impl Model for Setup {
 impl Setup {
     ghost use Rattle.rtk_convert.specs.SetupFault.{IsSetupFault};
 
-    /// The setup of these parts, if they are good; else the first cause why there is none. Its MSM is
-    /// 1074.
+    /// Returns the setup of these parts if they are good, else the first cause why there is none.
+    /// Its MSM is 1074.
     pub fn new(station: u16, near: GpsMs, head: Head, window: usize) -> Result<Setup, SetupFault>
         ensures setup { IfOk result (λ s. s ≡ setup_of station near head window) }
         ensures good { IfOk result IsSetupView }
@@ -87,14 +87,14 @@ impl Setup {
         })
     }
 
-    /// This setup with another MSM.
+    /// Returns this setup with another MSM.
     pub fn with_msm(self, msm: MsmKind) -> Setup
         ensures { result ≡ record self { msm = msm } }
     {
         Setup { msm, ..self }
     }
 
-    /// The station whose messages are converted (DF003).
+    /// Returns the station whose messages are converted (DF003).
     pub fn station(&self) -> u16
         ensures value { result ≡ self.now.station }
         ensures good { IsStation result }
@@ -102,7 +102,7 @@ impl Setup {
         self.station
     }
 
-    /// The reference near which times of week are dated.
+    /// Returns the reference near which times of week are dated.
     pub fn near(&self) -> GpsMs
         ensures value { result ≡ self.now.near }
         ensures good { IsReference result }
@@ -110,7 +110,7 @@ impl Setup {
         self.near
     }
 
-    /// What is known of the file before its observations.
+    /// Returns what is known of the file before its observations.
     pub fn head(&self) -> &Head
         ensures value { result.now ≡ self.now.head }
         ensures good { IsHeadView result.now }
@@ -118,7 +118,7 @@ impl Setup {
         &self.head
     }
 
-    /// How many epochs are kept open.
+    /// Returns how many epochs are kept open.
     pub fn window(&self) -> usize
         ensures value { result ≡ self.now.window }
         ensures good { IsWindow result }
@@ -126,7 +126,7 @@ impl Setup {
         self.window
     }
 
-    /// Which MSM is converted beside 1004.
+    /// Returns the MSM that is converted beside 1004.
     pub fn msm(&self) -> MsmKind
         ensures { result ≡ self.now.msm }
     {
@@ -140,7 +140,7 @@ const FIRST_REFERENCE_MS: u64 = WEEK_MS;
 // 2099-12-31 23:59:59.999.
 const LAST_REFERENCE_MS: u64 = 3_786_479_999_999;
 
-// Can times of week be dated near this moment?
+// Returns whether times of week can be dated near this moment.
 fn is_reference(near: GpsMs) -> bool
     ensures { Decides result (IsReference near) }
 {

@@ -28,7 +28,8 @@ fn write_text<O: Sink>(out: &mut O, text: &[u8]) -> Result<(), ConvertFault>
     }
 }
 
-// The header and then the text of a record; the first time of the header is the record's time.
+// Returns the header and then the text of a record. The first time of the header is the time of the
+// record.
 fn with_header(
     alloc: Global,
     setup: &Setup,

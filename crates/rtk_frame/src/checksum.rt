@@ -11,8 +11,8 @@ use crate::checksum_far_tables::FAR_TABLES;
 use crate::checksum_powers::POWERS;
 use crate::checksum_tables::TABLES;
 
-/// The checksum CRC-24Q of the bytes: 24 bits, with the generator 1864CFB, from the state 0, the
-/// most significant bit first.
+/// Returns the checksum CRC-24Q of the bytes. It has 24 bits, the generator 1864CFB and the state 0
+/// at first, and takes the most significant bit first.
 ///
 /// Source: RTCM 10403.3, transport layer.
 pub fn crc24q(bytes: &[u8]) -> u32
@@ -35,8 +35,8 @@ pub fn crc24q(bytes: &[u8]) -> u32
     state >> 8
 }
 
-// The state after sixteen bytes more. Its upper 24 bits are the remainder so far, its lower 8 bits
-// are zero.
+// Returns the state after sixteen bytes more. Its upper 24 bits are the remainder so far, its lower
+// 8 bits are zero.
 fn after_sixteen(state: u32, bytes: &[u8; 16]) -> u32
     ensures { (rest : List ℕ) → remainder result rest ≡ remainder state (bytes.now ++ rest) }
 {
@@ -59,7 +59,7 @@ fn after_sixteen(state: u32, bytes: &[u8; 16]) -> u32
         ^ entry(0, bytes[15])
 }
 
-// The state after eight bytes more.
+// Returns the state after eight bytes more.
 fn after_eight(state: u32, bytes: &[u8; 8]) -> u32
     ensures { (rest : List ℕ) → remainder result rest ≡ remainder state (bytes.now ++ rest) }
 {
@@ -74,15 +74,15 @@ fn after_eight(state: u32, bytes: &[u8; 8]) -> u32
         ^ entry(0, bytes[7])
 }
 
-// The state after one byte more.
+// Returns the state after one byte more.
 fn after_byte(state: u32, byte: u8) -> u32
     ensures { (rest : List ℕ) → remainder result rest ≡ remainder state (byte ∷ rest) }
 {
     state << 8 ^ entry(0, (state >> 24) as u8 ^ byte)
 }
 
-// What the tables have for a byte and so many zero bytes after it. They are two arrays, since the
-// prover takes long for one of 4,096 entries.
+// Returns what the tables have for a byte and so many zero bytes after it. They are two arrays,
+// since the prover takes long for one of 4,096 entries.
 fn entry(zeros: usize, byte: u8) -> u32
     requires { zeros < 16 }
     ensures { result ≡ word_of zeros byte }
@@ -95,7 +95,7 @@ fn entry(zeros: usize, byte: u8) -> u32
     }
 }
 
-/// The checksum of a text with one byte more, from the checksum of the text.
+/// Returns the checksum of a text with one byte more, from the checksum of the text.
 pub(crate) fn checksum_with(checksum: u32, byte: u8) -> u32
     requires { checksum < 2 ^ 24 }
     ensures value { (text : List ℕ) → checksum ≡ crc text → result ≡ crc (text ++ byte ∷ []) }
@@ -104,8 +104,8 @@ pub(crate) fn checksum_with(checksum: u32, byte: u8) -> u32
     after_byte(checksum << 8, byte) >> 8
 }
 
-/// The checksum of the last `count` bytes of a text, from the checksum of the whole text and that
-/// of the bytes before them.
+/// Returns the checksum of the last `count` bytes of a text, from the checksum of the whole text
+/// and that of the bytes before them.
 ///
 /// A text is the sum of its first bytes with `count` zero bytes after them, and of its last bytes;
 /// and the remainder of a sum is the sum of the remainders.
@@ -117,8 +117,9 @@ pub(crate) fn checksum_of_last(whole: u32, before: u32, count: usize) -> u32
     whole ^ reduced(product(before, POWERS[count]))
 }
 
-// The product of two polynomials over the field of two elements, each of 24 bits. If the right one is
-// the remainder of x^(8n), then it leaves what the left one with n zero bytes after it leaves.
+// Returns the product of two polynomials over the field of two elements, each of 24 bits. If the
+// right one is the remainder of x^(8n), then it leaves what the left one with n zero bytes after it
+// leaves.
 fn product(left: u32, right: u32) -> u64
     requires { (left < 2 ^ 24) × (right < 2 ^ 24) }
     ensures rest { (n : ℕ) → IsPower n right → rest_of result ≡ after_zeros n left }
@@ -132,7 +133,7 @@ fn product(left: u32, right: u32) -> u64
     sum
 }
 
-// The remainder of a polynomial of 48 bits by the generator.
+// Returns the remainder of a polynomial of 48 bits by the generator.
 fn reduced(polynomial: u64) -> u32
     requires { polynomial < 2 ^ 48 }
     ensures rest { bits_of 24 result ≡ rest_of polynomial }

@@ -44,8 +44,8 @@ impl From<AllocError> for FrameFault {
     }
 }
 
-/// The frame with this payload: the preamble D3, six reserved bits that are zero, the length in ten
-/// bits, the payload of at most 1,023 bytes, and the checksum of all these bytes.
+/// Returns the frame with this payload: the preamble D3, six reserved bits that are zero, the
+/// length in ten bits, the payload of at most 1,023 bytes, and the checksum of all these bytes.
 ///
 /// Source: RTCM 10403.3, transport layer.
 pub fn encode_frame(alloc: Global, payload: &[u8]) -> Result<Vec<u8>, FrameFault>
@@ -92,7 +92,7 @@ pub(crate) enum Start {
     Other,
 }
 
-/// What the bytes begin with, but for the checksum.
+/// Returns what the bytes begin with, but for the checksum.
 pub(crate) fn start_of(bytes: &[u8]) -> Start
     ensures { IsStart bytes.now result }
 {
@@ -113,7 +113,7 @@ pub(crate) fn start_of(bytes: &[u8]) -> Start
     }
 }
 
-/// What is at the front of the bytes.
+/// Returns what is at the front of the bytes.
 pub(crate) fn front_of(bytes: &[u8]) -> Front
     ensures { IsFront bytes.now result }
 {
@@ -130,7 +130,7 @@ pub(crate) fn front_of(bytes: &[u8]) -> Front
     }
 }
 
-/// Whether the three bytes after the first `covered` bytes are their checksum.
+/// Returns whether the three bytes after the first `covered` bytes are their checksum.
 pub(crate) fn has_checksum(bytes: &[u8], covered: usize) -> bool
     requires { covered + 3 ≤ length bytes.now }
     ensures { result ≡ (crc (take covered bytes.now) == three_bytes (drop covered bytes.now)) }
@@ -138,7 +138,7 @@ pub(crate) fn has_checksum(bytes: &[u8], covered: usize) -> bool
     crc24q(&bytes[..covered]) == stored_checksum(&bytes[covered..])
 }
 
-/// The number of the first three bytes, the most significant first.
+/// Returns the number of the first three bytes, the most significant first.
 pub(crate) fn stored_checksum(bytes: &[u8]) -> u32
     requires { 3 ≤ length bytes.now }
     ensures { result ≡ three_bytes bytes.now }
@@ -146,7 +146,8 @@ pub(crate) fn stored_checksum(bytes: &[u8]) -> u32
     bytes[0] as u32 * 0x10000 + bytes[1] as u32 * 0x100 + bytes[2] as u32
 }
 
-/// How many bytes stand before the first preamble: all of them if there is no preamble.
+/// Returns how many bytes stand before the first preamble, which are all of them if there is no
+/// preamble.
 pub(crate) fn before_preamble(bytes: &[u8]) -> usize
     ensures within { result ≤ length bytes.now }
     ensures none { (i : ℕ) → i < result → slice_index bytes.now i ≢ 0xD3 }
@@ -158,7 +159,7 @@ pub(crate) fn before_preamble(bytes: &[u8]) -> usize
     }
 }
 
-/// The place of the first preamble from a place on: the end if there is no preamble.
+/// Returns the place of the first preamble from a place on, or the end if there is no preamble.
 pub(crate) fn next_preamble(bytes: &[u8], from: usize) -> usize
     requires { from ≤ length bytes.now }
     ensures within { (from ≤ result) × (result ≤ length bytes.now) }

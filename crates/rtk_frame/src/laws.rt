@@ -25,9 +25,8 @@ pub fn frame_of_a_payload()
     ensures length { (payload : List ℕ) → length (framed payload) ≡ length payload + 6 }
 {}
 
-/// What the frames of a text are: a frame is at the place of each of them, no frame overlaps the
-/// one before it, and no frame begins at any other place that they leave free. No other list has
-/// these properties.
+/// A frame is at the place of each of the frames of a text, no frame overlaps the one before it,
+/// and no frame begins at any other place that they leave free. No other list has these properties.
 pub fn frames_of_a_text()
     ensures are { (b : List ℕ) → IsFramesFrom b 0 (frames b) }
     ensures only { (b : List ℕ) (fs : List Frame) → IsFramesFrom b 0 fs → fs ≡ frames b }
@@ -88,9 +87,9 @@ pub fn final_frames_after_the_first()
         × (pending b ≡ pending rest) }
 {}
 
-/// What a caller of `feed` needs: if the pending bytes h and the used bytes of a piece begin with a
-/// final frame, then the bytes after this frame have the other final frames and the same pending
-/// bytes.
+/// If the pending bytes h and the used bytes of a piece begin with a final frame, then the bytes
+/// after this frame have the other final frames and the same pending bytes. A caller of `feed`
+/// needs this law.
 pub fn final_frames_after_found()
     ensures { (h piece : List ℕ) (used : ℕ) (payload rest : List ℕ)
         → IsFirst (final_frames (h ++ take used piece)) (h ++ take used piece) payload rest
@@ -99,7 +98,7 @@ pub fn final_frames_after_found()
         × (pending (h ++ piece) ≡ pending (rest ++ drop used piece)) }
 {}
 
-/// If no more bytes pass, nothing changes; bytes that passed in two parts have passed as one text.
+/// If no more bytes pass, nothing changes. Bytes that passed in two parts have passed as one text.
 pub fn passed_bytes_join()
     ensures none { (known : Option (List ℕ)) → with_more known [] ≡ known }
     ensures parts { (known : Option (List ℕ)) (more rest : List ℕ)

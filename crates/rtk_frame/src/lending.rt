@@ -6,7 +6,7 @@ ghost use Rattle.rtk_frame.specs.Steps.Ring.{RingEndsAs, LendsBytes, with_bytes}
 
 use circular_buffer::HeapCircularBuffer;
 
-// All bytes of the ring, in one slice to write to.
+// Returns all bytes of the ring, in one slice to write to.
 fn all_bytes_mut(ring: &mut HeapCircularBuffer<u8>) -> &mut [u8]
     ensures* writes_back { sem 𝓛 (LendsBytes ring.entry result) }
     ensures value { result.now ≡ ring.old.items }
@@ -15,7 +15,7 @@ fn all_bytes_mut(ring: &mut HeapCircularBuffer<u8>) -> &mut [u8]
     ring.make_contiguous()
 }
 
-/// All bytes of the ring, in one slice. The ring stays as it is.
+/// Returns all bytes of the ring, in one slice. The ring stays as it is.
 ///
 /// The prover has no rule for a `&mut` that is given to the caller as a `&`, so the proof is
 /// written by hand.

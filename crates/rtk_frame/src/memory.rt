@@ -55,7 +55,7 @@ impl Model for MemSource {
 impl MemSource {
     ghost use Rattle.rtk_frame.specs.Memory.{new_source};
 
-    /// A source of a copy of the bytes. Each read gives at most `per_read` of them.
+    /// Makes a source of a copy of the bytes. Each read gives at most `per_read` of them.
     pub fn new(
         alloc: Global,
         bytes: &[u8],
@@ -164,7 +164,8 @@ impl Model for MemSink {
 impl MemSink {
     ghost use Rattle.rtk_frame.specs.Memory.{new_sink};
 
-    /// An empty sink. It takes `room` bytes in all, and at most `per_write` of them in each write.
+    /// Makes an empty sink. It takes `room` bytes in all, and at most `per_write` of them in each
+    /// write.
     pub fn new(alloc: Global, room: usize, per_write: usize) -> Result<MemSink, AllocError>
         requires per_write { 1 ≤ per_write }
         // Fails only if memory is refused: tests/system/calls, rows MemSink::new.
@@ -178,7 +179,7 @@ impl MemSink {
         })
     }
 
-    /// The bytes that it took.
+    /// Returns the bytes that it took.
     pub fn bytes(&self) -> &[u8]
         ensures { result.now ≡ self.now.taken }
     {

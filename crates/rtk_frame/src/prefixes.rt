@@ -22,7 +22,7 @@ use arrayvec::ArrayVec;
 /// The most checksums of prefixes: those of the first 0 to 2,058 bytes.
 pub(crate) const MOST_PREFIXES: usize = 2059;
 
-/// What is at the place, as `front_of` says of the bytes from there on.
+/// Returns what is at the place, as `front_of` says of the bytes from there on.
 ///
 /// The first candidate is tested by its bytes. Once one has failed, each further candidate is tested
 /// by the checksums of prefixes, so that bytes of many candidates are read once.
@@ -49,7 +49,8 @@ pub(crate) fn front_at(
     }
 }
 
-// Whether the bytes from the place on have their checksum after the first `covered` of them.
+// Returns whether the bytes from the place on have their checksum after the first `covered` of
+// them.
 fn has_checksum_at(
     bytes: &[u8],
     place: usize,

@@ -39,8 +39,9 @@ pub struct Scanner {
     ended: bool,
 }
 
-// Clauses see the pending bytes, and whether the stream has ended. The first part of the
-// invariant names every field, so that no field can be added in which bytes are kept unseen.
+// Clauses see the pending bytes, and whether the stream has ended. The first part of the invariant
+// names every field, so nobody can add a field in which bytes are kept unseen: the equation would then
+// fail to check.
 impl Model for Scanner {
     ghost use Rattle.std.specs.Prelude.{◌≡◌, drop};
     ghost use Rattle.rtk_frame.specs.ScannerView.{ScannerView, scanner_view, scanner_view_code};
@@ -84,7 +85,7 @@ impl Scanner {
     ghost use Rattle.rtk_frame.specs.declared.frame.FrameFault.TheVariants.{OutOfMemory};
     ghost use Rattle.rtk_frame.specs.declared.frame.TheConstants.{LONGEST_FRAME};
 
-    /// A scanner at the start of a stream. All the memory that it ever has is taken here.
+    /// Makes a scanner at the start of a stream. All the memory that it ever has is taken here.
     pub fn new(alloc: Global) -> Result<Scanner, FrameFault>
         // Fails only if memory is refused: tests/system/calls, row Scanner::new.
         ensures start { IfOk result (λ scanner. scanner ≡ scanner_view [] false) }
@@ -129,7 +130,7 @@ impl Scanner {
         }
     }
 
-    /// Ends the stream, and gives the next frame of the pending bytes, since no more will come.
+    /// Ends the stream and gives the next frame of the pending bytes, since no more will come.
     ///
     /// The payload is borrowed from the scanner until its next call. After a `None` the answer is
     /// always `None`.
@@ -151,7 +152,7 @@ impl Scanner {
         }
     }
 
-    /// Whether `rest` was called.
+    /// Returns whether `rest` was called.
     pub fn ended(&self) -> bool
         ensures { result ≡ self.now.ended }
     {
@@ -267,8 +268,8 @@ fn pass_to_preamble(ring: &mut HeapCircularBuffer<u8>, passed: &mut usize)
     *passed = next_preamble(ring.make_contiguous(), *passed + 1);
 }
 
-// How many bytes of the piece need not enter the ring: if it has no bytes but passed ones, the bytes
-// before the piece's first preamble.
+// Returns how many bytes of the piece need not enter the ring. If the ring has only passed bytes,
+// these are the bytes before the piece's first preamble, else there are none.
 fn bytes_to_pass(ring: &HeapCircularBuffer<u8>, passed: usize, piece: &[u8]) -> usize
     requires { passed ≤ length ring.now.items }
     ensures within { result ≤ length piece.now }
@@ -321,8 +322,8 @@ fn copy_rest(bytes: &[u8], place: usize, room: &mut [u8])
     room[..rest.len()].copy_from_slice(rest);
 }
 
-// Room for checksums of prefixes. It is not inlined, so that only its own frame on the stack has the
-// room that becomes a box.
+// Makes room for checksums of prefixes. It is not inlined, so that only its own frame on the stack
+// has the room that becomes a box.
 #[inline(never)]
 fn new_prefixes(alloc: Global) -> Result<Box<ArrayVec<u32, MOST_PREFIXES>>, AllocError>
     ensures { IfOk result (λ prefixes. prefixes.value.items ≡ []) }

@@ -23,8 +23,8 @@ pub struct Placed<'a> {
     pub payload: &'a [u8],
 }
 
-/// The first frame that begins at the place `from` or after it, or `None` if there is no such
-/// frame.
+/// Returns the first frame that begins at the place `from` or after it, or `None` if there is no
+/// such frame.
 ///
 /// A frame is `payload.len() + 6` bytes long, so the next one that doesn't overlap it is looked for
 /// from `place + payload.len() + 6` on.
@@ -48,8 +48,8 @@ pub fn next_frame(bytes: &[u8], from: usize) -> Option<Placed<'_>>
     }
 }
 
-// The first frame from the place on, by checksums of prefixes. It is not inlined, so that their room
-// is blanked only if there is a candidate that fails.
+// Returns the first frame from the place on, by checksums of prefixes. It is not inlined, so that
+// their room is blanked only if there is a candidate that fails.
 #[inline(never)]
 fn next_frame_of_many(bytes: &[u8], from: usize) -> Option<Placed<'_>>
     requires { from ≤ length bytes.now }
@@ -62,7 +62,8 @@ fn next_frame_of_many(bytes: &[u8], from: usize) -> Option<Placed<'_>>
     search(bytes, from, &mut start, &mut prefixes)
 }
 
-// The first frame from the place on, by checksums of prefixes of the bytes from the place `start` on.
+// Returns the first frame from the place on, by checksums of prefixes of the bytes from the place
+// `start` on.
 fn search<'a>(
     bytes: &'a [u8],
     from: usize,
@@ -101,7 +102,7 @@ fn restart_if_far(place: usize, start: &mut usize, prefixes: &mut ArrayVec<u32, 
     }
 }
 
-// The frame at the place.
+// Returns the frame at the place.
 fn found_at(bytes: &[u8], place: usize, payload_len: usize) -> Placed<'_>
     requires { place + payload_len + 6 ≤ length bytes.now }
     ensures { (result.place ≡ place) × (result.payload.now ≡ take payload_len (drop 3 (drop place bytes.now))) }
@@ -148,7 +149,7 @@ impl<'a> Model for Frames<'a> {
 impl<'a> Frames<'a> {
     ghost use Rattle.rtk_frame.specs.FramesView.{frames_view};
 
-    /// The frames of the text, none of which was given.
+    /// Makes the iteration over the frames of the text, none of which was given.
     pub fn new(bytes: &'a [u8]) -> Frames<'a>
         ensures { result ≡ frames_view bytes.now 0 }
     {
@@ -160,7 +161,7 @@ impl<'a> Frames<'a> {
         }
     }
 
-    /// The next frame, or `None` if there is no further one.
+    /// Returns the next frame, or `None` if there is no further one.
     pub fn next_frame(&mut self) -> Option<Placed<'a>>
         ensures text { self.new.text ≡ self.old.text }
         ensures least { IsNextFrame self.old.text self.old.from result }

@@ -75,9 +75,9 @@ pub fn write_all<W: Sink>(sink: &mut W, bytes: &[u8]) -> Result<(), StreamFault>
     Ok(())
 }
 
-/// Reads once, from one of many sources; the others stay as they are. If the buffer has room and
-/// the read gave nothing, the source that was read is at its end. It only hands on, and is here for
-/// its clauses.
+/// Reads once from one of many sources. The other sources stay as they are. If the buffer has room
+/// and the read gave nothing, the source that was read is at its end. The function only hands on,
+/// and it is here for its clauses.
 pub fn read_one<R: Source>(
     sources: &mut [R],
     link: usize,

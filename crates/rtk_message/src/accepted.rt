@@ -36,7 +36,7 @@ impl Accepted {
         msm7: true,
     };
 
-    /// 1004, 1005, 1006 and the MSM of this kind.
+    /// Returns the set of 1004, 1005, 1006 and the MSM of this kind.
     pub fn only(kind: MsmKind) -> Accepted
         ensures { result ≡ only kind }
     {
@@ -48,7 +48,7 @@ impl Accepted {
         }
     }
 
-    /// Whether a message of this number (DF002) is read.
+    /// Returns whether a message of this number (DF002) is read.
     pub fn accepts(self, number: u16) -> bool
         ensures { result ≡ accepts self number }
     {

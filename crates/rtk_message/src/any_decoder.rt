@@ -20,8 +20,8 @@ use crate::msm1074::Msm1074;
 use crate::obs1004::Obs1004;
 use rtk_bits::BitReader;
 
-/// The message of the set that the payload begins with. If it begins with no message of the set, the
-/// answer is the first fault; `AnyFault` says in which order faults are looked for.
+/// Returns the message of the set that the payload begins with. If it begins with no message of the
+/// set, the answer is the first fault; `AnyFault` says in which order faults are looked for.
 ///
 /// Bits after the last field are not part of the message. No memory is allocated. With the set
 /// `Accepted::FOUR` the answer is that of `decode`.
@@ -61,7 +61,7 @@ pub struct AnyDecoder {
 }
 
 impl AnyDecoder {
-    /// A decoder that has read nothing yet. It takes no memory.
+    /// Makes a decoder that has read nothing yet. It takes no memory.
     pub fn new() -> AnyDecoder {
         AnyDecoder {
             obs1004: Err(AnyFault::NoNumber),
@@ -73,9 +73,9 @@ impl AnyDecoder {
         }
     }
 
-    /// The message of the set that the payload begins with, or the first fault: the answer of
-    /// `decode_any`, whatever was read before and by which set. It is lent until the next call. No
-    /// memory is allocated.
+    /// Returns the message of the set that the payload begins with, or the first fault. This is the
+    /// answer of `decode_any`, whatever was read before and by which set. It is lent until the next
+    /// call. No memory is allocated.
     #[inline(never)]
     pub fn read(&mut self, accepted: Accepted, payload: &[u8]) -> &Result<AnyMessage, AnyFault>
         ensures { DecodesBy accepted (bits payload.now) result.now }
@@ -214,6 +214,7 @@ fn keep_msm(kept: &mut Result<AnyMessage, AnyFault>, kind: MsmKind, mut reader: 
 // These have a reading among their locals, which a function clears when it is called. They are not
 // inlined, so that this is done only if one of them is called.
 
+// Keeps a new reading of a message of this number.
 #[inline(never)]
 fn keep_new(kept: &mut Result<AnyMessage, AnyFault>, number: u16, reader: BitReader<'_>)
     ensures message { IfOk kept.new (λ m. BeginsAfterAnyNumber number reader.entry m) }
@@ -222,6 +223,7 @@ fn keep_new(kept: &mut Result<AnyMessage, AnyFault>, number: u16, reader: BitRea
     *kept = read_any_by_number(number, reader);
 }
 
+// Keeps a new reading of a 1075, 1076 or 1077.
 #[inline(never)]
 fn keep_new_msm(kept: &mut Result<AnyMessage, AnyFault>, kind: MsmKind, reader: BitReader<'_>)
     requires { IsWide kind }
@@ -231,6 +233,7 @@ fn keep_new_msm(kept: &mut Result<AnyMessage, AnyFault>, kind: MsmKind, reader: 
     *kept = read_msm(kind, reader);
 }
 
+// Keeps a fault in place of a reading.
 #[inline(never)]
 fn keep_fault(kept: &mut Result<AnyMessage, AnyFault>, fault: AnyFault)
     ensures { kept.new ≡ Err fault }
@@ -249,7 +252,7 @@ fn read_any_by_number(number: u16, reader: BitReader<'_>) -> Result<AnyMessage, 
     }
 }
 
-// A reading of one of the four messages, as one of the wider set.
+// Returns a reading of one of the four messages as a reading of the wider set.
 fn widened(reading: Result<Message, DecodeFault>) -> Result<AnyMessage, AnyFault>
     ensures { result ≡ any_of reading }
 {
@@ -259,6 +262,7 @@ fn widened(reading: Result<Message, DecodeFault>) -> Result<AnyMessage, AnyFault
     }
 }
 
+// Reads a 1075, 1076 or 1077 after its number.
 #[inline(never)]
 fn read_msm(kind: MsmKind, mut reader: BitReader<'_>) -> Result<AnyMessage, AnyFault>
     requires { IsWide kind }

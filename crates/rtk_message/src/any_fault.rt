@@ -50,7 +50,7 @@ impl AnyFault {
     ghost use Rattle.std.specs.Prelude.{◌≡◌};
     ghost use Rattle.rtk_message.specs.AnyFaultCode.{any_fault_code, any_fault_number};
 
-    /// The code of the cause, as texts show it: `M1` to `M5`, in the order of the variants.
+    /// Returns the code of the cause, as texts show it: `M1` to `M5`, in the order of the variants.
     pub fn code(&self) -> &'static str
         ensures { result.now ≡ any_fault_code self.now }
     {
@@ -63,7 +63,7 @@ impl AnyFault {
         }
     }
 
-    /// The number of the message (DF002); `None` exactly if the payload has none.
+    /// Returns the number of the message (DF002), or `None` exactly if the payload has none.
     pub fn number(&self) -> Option<u16>
         ensures { result ≡ any_fault_number self.now }
     {

@@ -17,9 +17,9 @@ pub enum AnyMessage {
 }
 
 impl AnyMessage {
-    /// Whether the message can be written as bits: each field fits its width, list lengths agree
-    /// with counts and masks, the time of week is less than 604,800,000 ms, and the cell mask has
-    /// at most 64 bits. An `Msm` of the kind MSM4 can't: a 1074 is a `Msm1074`.
+    /// Returns whether the message can be written as bits: each field fits its width, list lengths
+    /// agree with counts and masks, the time of week is less than 604,800,000 ms, and the cell mask
+    /// has at most 64 bits. An `Msm` of the kind MSM4 can't: a 1074 is a `Msm1074`.
     pub fn fits(&self) -> bool
         ensures { IsTrue result ↔ IsValid self.now }
     {
@@ -29,7 +29,7 @@ impl AnyMessage {
         }
     }
 
-    /// The reference station ID (DF003), 0 to 4095 in a message that fits.
+    /// Returns the reference station ID (DF003), which is 0 to 4095 in a message that fits.
     pub fn station(&self) -> u16
         ensures { result ≡ station_of self.now }
     {
@@ -39,7 +39,7 @@ impl AnyMessage {
         }
     }
 
-    /// The message number (DF002).
+    /// Returns the message number (DF002).
     pub fn number(&self) -> u16
         ensures { result ≡ number_of self.now }
     {
@@ -49,8 +49,8 @@ impl AnyMessage {
         }
     }
 
-    /// The GPS time of week (DF004) in ms. It is `None` exactly for 1005 and 1006, which have no
-    /// time.
+    /// Returns the GPS time of week (DF004) in ms. It is `None` exactly for 1005 and 1006, which
+    /// have no time.
     pub fn tow(&self) -> Option<u32>
         ensures { result ≡ tow_of self.now }
     {

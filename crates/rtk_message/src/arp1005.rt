@@ -96,8 +96,8 @@ impl Layout for Arp1005 {
     ghost unique = { is_unique };
 }
 
-/// The antenna reference point in the next 140 bits: all fields of a 1005, and the first ones of a
-/// 1006.
+/// Reads the antenna reference point in the next 140 bits, which are all fields of a 1005 and the
+/// first fields of a 1006.
 pub(crate) fn next_reference_point(reader: &mut BitReader<'_>) -> Arp1005
     requires { 140 ≤ length reader.old }
     ensures fields { TakesAll (table result) reader.old reader.new }

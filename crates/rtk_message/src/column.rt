@@ -59,7 +59,7 @@ pub(crate) fn put_mask(
     Ok(())
 }
 
-/// How many cells the mask has: the bits that are set in its rows.
+/// Returns how many cells the mask has, which is how many bits are set in its rows.
 pub(crate) fn count_cells(mask: &Column<u32>) -> u32
     ensures { result ≡ sum_by count_ones mask.now }
 {
@@ -91,7 +91,7 @@ impl<T> Model for Column<T> {
 impl<T: Copy + Default> Column<T> {
     ghost use Rattle.std.specs.Prelude.{[], ◌∷◌, slice_set};
 
-    /// No values.
+    /// Makes a column without values.
     pub fn new() -> Column<T>
         ensures { result ≡ [] }
     {
@@ -100,7 +100,7 @@ impl<T: Copy + Default> Column<T> {
         }
     }
 
-    /// How many values there are.
+    /// Returns how many values there are.
     pub fn len(&self) -> usize
         ensures value { result ≡ length self.now }
         ensures few { result ≤ 64 }
@@ -108,7 +108,7 @@ impl<T: Copy + Default> Column<T> {
         self.list.len()
     }
 
-    /// The values in their order.
+    /// Returns the values in their order.
     pub fn as_slice(&self) -> &[T]
         ensures value { result.now ≡ self.now }
         ensures few { length result.now ≤ 64 }
@@ -116,7 +116,7 @@ impl<T: Copy + Default> Column<T> {
         self.list.as_slice()
     }
 
-    /// Makes the list this long: it leaves out the last values, or adds some that are to be set.
+    /// Makes the list this long. It leaves out the last values, or adds some that are to be set.
     pub(crate) fn resize(&mut self, count: usize)
         requires { count ≤ 64 }
         ensures { length self.new ≡ count }
@@ -166,10 +166,10 @@ impl<T: Eq> Eq for Column<T> {
 // they lie in eight bytes, which a reader loads in one step.
 const AT_ONCE: usize = 57;
 
-/// Reads `count` fields of one width as the values of a column, in place of those that it has: as
-/// many at once as 57 bits hold.
+/// Reads `count` fields of one width as the values of a column, in place of those that it has. As
+/// many fields are read at once as 57 bits hold.
 ///
-/// Inlined, so that each column is read by code for its own width.
+/// It is inlined, so that each column is read by code for its own width.
 #[inline(always)]
 pub(crate) fn read_column<T: FieldValue>(
     column: &mut Column<T>,
@@ -263,7 +263,7 @@ pub(crate) fn put_column<T: FieldValue>(
     Ok(())
 }
 
-/// Whether each value fits the width.
+/// Returns whether each value fits the width.
 pub(crate) fn column_fits<T: FieldValue>(column: &Column<T>, width: usize) -> bool
     requires width { T.IsWidth width }
     ensures { IsTrue result ↔ FieldsFit (map (T.field width) column.now) }

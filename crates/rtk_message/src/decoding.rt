@@ -7,8 +7,8 @@ use crate::fault::DecodeFault;
 use crate::message::{Message, read_by_number};
 use rtk_bits::BitReader;
 
-/// The message that the payload begins with. If it begins with no message, the answer is the first
-/// fault; `DecodeFault` says in which order faults are looked for.
+/// Returns the message that the payload begins with. If it begins with no message, the answer is
+/// the first fault; `DecodeFault` says in which order faults are looked for.
 ///
 /// Bits after the last field are not part of the message. No memory is allocated.
 #[inline(never)]

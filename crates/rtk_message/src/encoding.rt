@@ -22,8 +22,8 @@ use crate::msm::Msm;
 use rtk_bits::BitWriter;
 use std::alloc::{AllocError, Global};
 
-/// The bytes of a payload: the fields of the message, filled up to a whole byte with zero bits. An
-/// `Err` means that memory was refused.
+/// Returns the bytes of a payload, which are the fields of the message, filled up to a whole byte
+/// with zero bits. An `Err` means that memory was refused.
 pub fn encode(alloc: Global, message: &Message) -> Result<Vec<u8>, AllocError>
     requires { IsValid message.now }
     // Fails only if memory is refused: tests/system/calls, rows encode.
@@ -34,7 +34,7 @@ pub fn encode(alloc: Global, message: &Message) -> Result<Vec<u8>, AllocError>
     Ok(writer.finish())
 }
 
-/// The bytes of a payload of a message of the wider set, as `encode` makes them.
+/// Returns the bytes of a payload of a message of the wider set, as `encode` makes them.
 pub fn encode_any(alloc: Global, message: &AnyMessage) -> Result<Vec<u8>, AllocError>
     requires { any.IsValid message.now }
     ensures { IfOk result (λ payload. any.IsPayloadOf message.now payload.items) }

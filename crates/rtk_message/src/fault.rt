@@ -35,7 +35,7 @@ impl DecodeFault {
     ghost use Rattle.std.specs.Prelude.{◌≡◌};
     ghost use Rattle.rtk_message.specs.FaultCode.{fault_code, fault_number};
 
-    /// The code of the cause, as texts show it: `M1` to `M5`, in the order of the variants.
+    /// Returns the code of the cause, as texts show it: `M1` to `M5`, in the order of the variants.
     pub fn code(&self) -> &'static str
         ensures { result.now ≡ fault_code self.now }
     {
@@ -48,7 +48,7 @@ impl DecodeFault {
         }
     }
 
-    /// The number of the message (DF002); `None` exactly if the payload has none.
+    /// Returns the number of the message (DF002), or `None` exactly if the payload has none.
     pub fn number(&self) -> Option<u16>
         ensures { result ≡ fault_number self.now }
     {

@@ -51,7 +51,7 @@ pub(crate) fn next_word(reader: &mut BitReader<'_>, width: usize) -> Word
 }
 
 impl Word {
-    /// How many of the bits are set.
+    /// Returns how many of the bits are set.
     pub(crate) fn count_ones(&self) -> u32
         requires { 1 ≤ length self.now }
         ensures { result ≡ count_ones (unsigned self.now) }
@@ -59,7 +59,7 @@ impl Word {
         (self.bits & (u64::MAX >> (64 - self.left))).count_ones()
     }
 
-    /// The next unsigned field.
+    /// Reads the next unsigned field.
     pub(crate) fn next_u64(&mut self, width: usize) -> u64
         requires width { (1 ≤ width) × (width ≤ 64) }
         requires enough { width ≤ length self.old }
@@ -70,7 +70,7 @@ impl Word {
         (self.bits >> self.left) & (u64::MAX >> (64 - width))
     }
 
-    /// The next unsigned field of at most 32 bits.
+    /// Reads the next unsigned field of at most 32 bits.
     pub(crate) fn next_u32(&mut self, width: usize) -> u32
         requires width { (1 ≤ width) × (width ≤ 32) }
         requires enough { width ≤ length self.old }
@@ -80,7 +80,7 @@ impl Word {
         self.next_u64(width) as u32
     }
 
-    /// The next unsigned field of at most 16 bits.
+    /// Reads the next unsigned field of at most 16 bits.
     pub(crate) fn next_u16(&mut self, width: usize) -> u16
         requires width { (1 ≤ width) × (width ≤ 16) }
         requires enough { width ≤ length self.old }
@@ -90,7 +90,7 @@ impl Word {
         self.next_u64(width) as u16
     }
 
-    /// The next unsigned field of at most 8 bits.
+    /// Reads the next unsigned field of at most 8 bits.
     pub(crate) fn next_u8(&mut self, width: usize) -> u8
         requires width { (1 ≤ width) × (width ≤ 8) }
         requires enough { width ≤ length self.old }
@@ -100,7 +100,7 @@ impl Word {
         self.next_u64(width) as u8
     }
 
-    /// The next field of one bit.
+    /// Reads the next field of one bit.
     pub(crate) fn next_flag(&mut self) -> bool
         requires { 1 ≤ length self.old }
         ensures taken { TakesField (flag result) self.old self.new }
@@ -109,7 +109,7 @@ impl Word {
         self.next_u64(1) == 1
     }
 
-    /// The next two's complement field.
+    /// Reads the next two's complement field.
     pub(crate) fn next_i64(&mut self, width: usize) -> i64
         requires width { (1 ≤ width) × (width ≤ 63) }
         requires enough { width ≤ length self.old }
@@ -119,7 +119,7 @@ impl Word {
         signed_of(self.next_u64(width), width)
     }
 
-    /// The next two's complement field of at most 32 bits.
+    /// Reads the next two's complement field of at most 32 bits.
     pub(crate) fn next_i32(&mut self, width: usize) -> i32
         requires width { (1 ≤ width) × (width ≤ 32) }
         requires enough { width ≤ length self.old }
@@ -129,7 +129,7 @@ impl Word {
         self.next_i64(width) as i32
     }
 
-    /// The next two's complement field of at most 16 bits.
+    /// Reads the next two's complement field of at most 16 bits.
     pub(crate) fn next_i16(&mut self, width: usize) -> i16
         requires width { (1 ≤ width) × (width ≤ 16) }
         requires enough { width ≤ length self.old }
@@ -140,7 +140,7 @@ impl Word {
     }
 }
 
-// The two's complement number that the `width` bits spell.
+// Returns the two's complement number that the `width` bits spell.
 fn signed_of(bits: u64, width: usize) -> i64
     requires width { (1 ≤ width) × (width ≤ 63) }
     requires bits { bits < 2 ^ width }
@@ -159,7 +159,7 @@ pub(crate) trait FieldValue: Copy + Default {
     /// The widths that a field of this type may have.
     ghost IsWidth: { ℕ → Type 0 };
 
-    /// The next field.
+    /// Reads the next field.
     fn next(word: &mut Word, width: usize) -> Self
         requires width { IsWidth width }
         requires some { 1 ≤ width }
@@ -174,7 +174,7 @@ pub(crate) trait FieldValue: Copy + Default {
         requires fits { FieldFits (field width self.now) }
         ensures { OnOk result (Puts (field width self.now) writer.old writer.new) };
 
-    /// Whether the value fits the width.
+    /// Returns whether the value fits the width.
     fn fits(&self, width: usize) -> bool
         requires width { IsWidth width }
         ensures { IsTrue result ↔ FieldFits (field width self.now) };
@@ -318,7 +318,7 @@ pub(crate) fn put_u(writer: &mut BitWriter, width: usize, value: u64) -> Result<
     Ok(())
 }
 
-/// Puts a two's complement field.
+/// Puts a two's complement field of at most 64 bits.
 pub(crate) fn put_i64(writer: &mut BitWriter, width: usize, value: &i64) -> Result<(), AllocError>
     requires width { (1 ≤ width) × (width ≤ 64) }
     requires value { FitsSigned width value.now }
@@ -328,7 +328,7 @@ pub(crate) fn put_i64(writer: &mut BitWriter, width: usize, value: &i64) -> Resu
     Ok(())
 }
 
-/// Puts a two's complement field.
+/// Puts a two's complement field of at most 32 bits.
 pub(crate) fn put_i32(writer: &mut BitWriter, width: usize, value: &i32) -> Result<(), AllocError>
     requires width { (1 ≤ width) × (width ≤ 64) }
     requires value { FitsSigned width value.now }
@@ -338,7 +338,7 @@ pub(crate) fn put_i32(writer: &mut BitWriter, width: usize, value: &i32) -> Resu
     Ok(())
 }
 
-/// Puts a two's complement field.
+/// Puts a two's complement field of at most 16 bits.
 pub(crate) fn put_i16(writer: &mut BitWriter, width: usize, value: &i16) -> Result<(), AllocError>
     requires width { (1 ≤ width) × (width ≤ 64) }
     requires value { FitsSigned width value.now }
@@ -356,7 +356,7 @@ pub(crate) fn put_flag(writer: &mut BitWriter, value: bool) -> Result<(), AllocE
     Ok(())
 }
 
-/// Whether a number fits an unsigned field of this width.
+/// Returns whether a number fits an unsigned field of this width.
 pub(crate) fn fits_u(value: u64, width: usize) -> bool
     requires { width ≤ 63 }
     ensures { IsTrue result ↔ (value < 2 ^ width) }
@@ -367,7 +367,7 @@ pub(crate) fn fits_u(value: u64, width: usize) -> bool
     true
 }
 
-/// Whether a number fits a two's complement field of this width.
+/// Returns whether a number fits a two's complement field of this width.
 pub(crate) fn fits_i(value: i64, width: usize) -> bool
     requires { (1 ≤ width) × (width ≤ 64) }
     ensures { IsTrue result ↔ FitsSigned width value }

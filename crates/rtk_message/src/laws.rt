@@ -83,7 +83,7 @@ pub fn form_of_1074()
     ensures fault { (bs : List Bool) → if_any_fault_of (msm1074.first_fault bs) ≡ form.first_fault Msm4 bs }
 {}
 
-/// A law: which messages the two named sets have.
+/// A law: the named set `FOUR` has 1004, 1005, 1006 and 1074, and `ALL` has all messages.
 pub fn named_sets()
     ensures of_four { Accepted.FOUR ≡ four }
     ensures of_all { Accepted.ALL ≡ all }

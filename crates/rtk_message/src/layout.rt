@@ -30,7 +30,8 @@ pub trait Layout: Sized {
     /// Which values have no satellites and no cells.
     ghost IsEmpty: { Self → Type 0 };
 
-    /// An empty message, which `read` fills: its fields are 0, it has no satellites and no cells.
+    /// Makes an empty message, which `read` fills: its fields are 0, it has no satellites and no
+    /// cells.
     fn empty() -> Self
         ensures empty { IsEmpty result }
         ensures zero { FieldsAreZero (table result) };
@@ -50,7 +51,7 @@ pub trait Layout: Sized {
         requires { IsValid self.now }
         ensures { OnOk result (writer.new ≡ writer.old ++ bits_of_fields (table self.now)) };
 
-    /// Whether the value can be written as bits.
+    /// Returns whether the value can be written as bits.
     fn fits(&self) -> bool
         ensures { IsTrue result ↔ IsValid self.now };
 

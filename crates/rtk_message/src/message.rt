@@ -30,9 +30,9 @@ pub enum Message {
 }
 
 impl Message {
-    /// Whether the message can be written as bits: each field fits its width, list lengths agree
-    /// with counts and masks, the time of week is less than 604,800,000 ms, and the cell mask has
-    /// at most 64 bits.
+    /// Returns whether the message can be written as bits: each field fits its width, list lengths
+    /// agree with counts and masks, the time of week is less than 604,800,000 ms, and the cell mask
+    /// has at most 64 bits.
     pub fn fits(&self) -> bool
         ensures { IsTrue result ↔ IsValid self.now }
     {
@@ -44,7 +44,7 @@ impl Message {
         }
     }
 
-    /// The reference station ID (DF003), 0 to 4095 in a message that fits.
+    /// Returns the reference station ID (DF003), which is 0 to 4095 in a message that fits.
     pub fn station(&self) -> u16
         ensures { result ≡ station_of self.now }
     {
@@ -56,7 +56,7 @@ impl Message {
         }
     }
 
-    /// The message number (DF002).
+    /// Returns the message number (DF002).
     pub fn number(&self) -> u16
         ensures { result ≡ number_of self.now }
     {
@@ -68,8 +68,8 @@ impl Message {
         }
     }
 
-    /// The GPS time of week (DF004) in ms. It is `None` exactly for 1005 and 1006, which have no
-    /// time.
+    /// Returns the GPS time of week (DF004) in ms. It is `None` exactly for 1005 and 1006, which
+    /// have no time.
     pub fn tow(&self) -> Option<u32>
         ensures { result ≡ tow_of self.now }
     {
@@ -105,7 +105,7 @@ fn write_as<T: Layout>(writer: &mut BitWriter, message: &T) -> Result<(), AllocE
     Ok(())
 }
 
-/// The message after this number, which was read already.
+/// Reads the message after its number, which was read already.
 pub(crate) fn read_by_number(number: u16, reader: BitReader<'_>) -> Result<Message, DecodeFault>
     ensures message { IfOk result (λ m. BeginsAfterNumber number reader.entry m) }
     ensures fault { IfErr result (λ f. fault_after_number number reader.entry ≡ Some f) }
@@ -119,10 +119,11 @@ pub(crate) fn read_by_number(number: u16, reader: BitReader<'_>) -> Result<Messa
     }
 }
 
-// Each message type has a function of its own that is not inlined, for two reasons. A function
-// clears the memory of its locals when it is called: here this is the memory of one message, and in
-// `read_by_number` it would be that of all four. And a function that is not inlined writes its result where
-// its caller wants it, so a message of a thousand bytes is moved once less.
+// Reads a 1004 after its number. Each message type has a function of its own that is not inlined,
+// for two reasons. A function clears the memory of its locals when it is called: here this is the
+// memory of one message, and in `read_by_number` it would be that of all four. And a function that
+// is not inlined writes its result where its caller wants it, so a message of a thousand bytes is
+// moved once less.
 #[inline(never)]
 fn read_1004(mut reader: BitReader<'_>) -> Result<Message, DecodeFault>
     ensures message { IfOk result (λ m. BeginsAfterNumber 1004 reader.entry m) }
@@ -133,6 +134,7 @@ fn read_1004(mut reader: BitReader<'_>) -> Result<Message, DecodeFault>
     Ok(Message::Obs1004(message))
 }
 
+// Reads a 1005 after its number.
 #[inline(never)]
 fn read_1005(mut reader: BitReader<'_>) -> Result<Message, DecodeFault>
     ensures message { IfOk result (λ m. BeginsAfterNumber 1005 reader.entry m) }
@@ -143,6 +145,7 @@ fn read_1005(mut reader: BitReader<'_>) -> Result<Message, DecodeFault>
     Ok(Message::Arp1005(message))
 }
 
+// Reads a 1006 after its number.
 #[inline(never)]
 fn read_1006(mut reader: BitReader<'_>) -> Result<Message, DecodeFault>
     ensures message { IfOk result (λ m. BeginsAfterNumber 1006 reader.entry m) }
@@ -153,6 +156,7 @@ fn read_1006(mut reader: BitReader<'_>) -> Result<Message, DecodeFault>
     Ok(Message::Arp1006(message))
 }
 
+// Reads a 1074 after its number.
 #[inline(never)]
 fn read_1074(mut reader: BitReader<'_>) -> Result<Message, DecodeFault>
     ensures message { IfOk result (λ m. BeginsAfterNumber 1074 reader.entry m) }

@@ -62,7 +62,7 @@ pub struct Msm {
 }
 
 impl Msm {
-    /// An empty message of this kind: its fields are 0, it has no satellites and no cells.
+    /// Makes an empty message of this kind: its fields are 0, it has no satellites and no cells.
     pub fn empty(kind: MsmKind) -> Msm
         ensures kind { result.kind ≡ kind }
         ensures empty { HasNoCells result }
@@ -218,9 +218,9 @@ impl Msm {
         Ok(())
     }
 
-    /// Whether the message can be written as bits: it is no MSM4, each field fits its width, the
-    /// columns have their lengths, the time of week is less than 604,800,000 ms, and the cell mask
-    /// has at most 64 bits.
+    /// Returns whether the message can be written as bits: it is no MSM4, each field fits its
+    /// width, the columns have their lengths, the time of week is less than 604,800,000 ms, and the
+    /// cell mask has at most 64 bits.
     pub fn fits(&self) -> bool
         ensures { IsTrue result ↔ IsValid self.now }
     {
@@ -236,7 +236,7 @@ impl Msm {
         self.satellites_fit() && self.cells_fit(self.kind.form())
     }
 
-    // Whether each column of the satellites has its length.
+    // Returns whether each column of the satellites has its length.
     fn satellites_have_lengths(&self) -> bool
         ensures { IsTrue result ↔ HaveSatelliteLengths self.now }
     {
@@ -249,7 +249,7 @@ impl Msm {
             && self.rough_rate.len() == rates
     }
 
-    // Whether each column of the cells has its length.
+    // Returns whether each column of the cells has its length.
     fn cells_have_lengths(&self) -> bool
         ensures { IsTrue result ↔ HasCells (cell_count self.now) (if_rates self.now.kind (cell_count self.now)) self.now }
     {
@@ -265,7 +265,7 @@ impl Msm {
             && self.fine_rate.len() == self.kind.if_rates(cells)
     }
 
-    // Whether the rows of the cell mask and the columns of the satellites fit their widths.
+    // Returns whether the rows of the cell mask and the columns of the satellites fit their widths.
     fn satellites_fit(&self) -> bool
         ensures { IsTrue result ↔ SatellitesFit self.now }
     {
@@ -278,7 +278,7 @@ impl Msm {
         column_fits(&self.rough_fraction, 10) && column_fits(&self.rough_rate, 14)
     }
 
-    // Whether the columns of the cells fit their widths.
+    // Returns whether the columns of the cells fit their widths.
     fn cells_fit(&self, form: MsmForm) -> bool
         requires { form ≡ form_of self.now.kind }
         ensures { IsTrue result ↔ CellsFit form self.now }

@@ -76,7 +76,7 @@ pub struct Msm1074 {
 }
 
 impl MsmHeader {
-    /// How many satellites the satellite mask has.
+    /// Returns how many satellites the satellite mask has.
     pub fn satellite_count(self) -> usize
         ensures value { result ≡ count_ones self.satellite_mask }
         ensures few { result ≤ 64 }
@@ -84,7 +84,7 @@ impl MsmHeader {
         self.satellite_mask.count_ones() as usize
     }
 
-    /// How many signals the signal mask has.
+    /// Returns how many signals the signal mask has.
     pub fn signal_count(self) -> usize
         ensures value { result ≡ count_ones self.signal_mask }
         ensures few { result ≤ 32 }
@@ -92,6 +92,8 @@ impl MsmHeader {
         self.signal_mask.count_ones() as usize
     }
 
+    /// Puts the fields after the number and before the cell mask. An `Err` means that memory was
+    /// refused; some of the fields may have been put before.
     pub(crate) fn put(self, writer: &mut BitWriter) -> Result<(), AllocError>
         requires { FieldsFit (header_table self) }
         ensures { OnOk result (PutsAll (header_table self) writer.old writer.new) }
@@ -110,7 +112,7 @@ impl MsmHeader {
         Ok(())
     }
 
-    // Whether each field fits its width, and the time of week is less than a week.
+    // Returns whether each field fits its width, and the time of week is less than a week.
     pub(crate) fn fits(self) -> bool
         ensures { IsTrue result ↔ (FieldsFit (header_table self) × (self.tow < week_ms)) }
     {
@@ -124,7 +126,7 @@ impl MsmHeader {
     }
 }
 
-/// The fields of a 1074 to 1077 after its number and before its cell mask.
+/// Reads the fields of a 1074 to 1077 after its number and before its cell mask.
 #[inline(always)]
 pub(crate) fn next_header(reader: &mut BitReader<'_>) -> MsmHeader
     requires { 157 ≤ length reader.old }
@@ -150,7 +152,7 @@ pub(crate) fn next_header(reader: &mut BitReader<'_>) -> MsmHeader
     }
 }
 
-// Whether the cell mask of these satellites and signals would have more than 64 bits.
+// Returns whether the cell mask of these satellites and signals would have more than 64 bits.
 pub(crate) fn has_too_many_cells(satellites: usize, signals: usize) -> bool
     requires few { (satellites ≤ 64) × (signals ≤ 32) }
     ensures { IsTrue result ↔ (64 < satellites * signals) }
@@ -260,7 +262,7 @@ impl Msm1074 {
         Ok(())
     }
 
-    // Whether each column has as many entries as the masks have satellites or cells.
+    // Returns whether each column has as many entries as the masks have satellites or cells.
     fn has_lengths(&self) -> bool
         ensures { IsTrue result ↔ HasLengths self.now }
     {
@@ -281,6 +283,7 @@ impl Msm1074 {
         self.half_cycle.len() == cells && self.cnr.len() == cells
     }
 
+    // Returns whether each entry of the columns fits its width.
     fn columns_fit(&self) -> bool
         ensures { IsTrue result ↔ EachFits self.now }
     {

@@ -36,7 +36,7 @@ pub(crate) struct MsmForm {
 }
 
 impl MsmKind {
-    /// The message number (DF002).
+    /// Returns the message number (DF002).
     pub fn number(self) -> u16
         ensures { result ≡ number_of_kind self }
     {
@@ -48,7 +48,7 @@ impl MsmKind {
         }
     }
 
-    /// The kind of this message number (DF002), if it is 1075, 1076 or 1077.
+    /// Returns the kind of this message number (DF002), if it is 1075, 1076 or 1077.
     pub(crate) fn msm5_to_7(number: u16) -> Option<MsmKind>
         ensures some { IfSome result (λ k. IsWide k × (number ≡ number_of_kind k)) }
         ensures none { IfNone result ((k : MsmKind) → IsWide k → number ≢ number_of_kind k) }
@@ -61,7 +61,7 @@ impl MsmKind {
         }
     }
 
-    /// The widths of the fields.
+    /// Returns the widths of the fields.
     #[inline(always)]
     pub(crate) fn form(self) -> MsmForm
         ensures { result ≡ form_of self }
@@ -82,7 +82,7 @@ impl MsmKind {
         }
     }
 
-    /// This number for a kind with range rates, and 0 for another kind.
+    /// Returns this number for a kind with range rates, and 0 for another kind.
     #[inline(always)]
     pub(crate) fn if_rates(self, count: usize) -> usize
         ensures { result ≡ if_rates self count }
@@ -93,7 +93,7 @@ impl MsmKind {
         }
     }
 
-    /// How many bits a satellite has after the cell mask.
+    /// Returns how many bits a satellite has after the cell mask.
     #[inline(always)]
     pub(crate) fn satellite_bits(self) -> usize
         ensures value { result ≡ satellite_bits self }
@@ -105,7 +105,7 @@ impl MsmKind {
         }
     }
 
-    /// How many bits a cell has after the cell mask.
+    /// Returns how many bits a cell has after the cell mask.
     #[inline(always)]
     pub(crate) fn cell_bits(self) -> usize
         ensures value { result ≡ cell_bits self }

@@ -134,6 +134,8 @@ fn read_satellites(satellites: &mut Satellites, reader: &mut BitReader<'_>, coun
     }
 }
 
+// Reads the next satellite. Its fields come from three words, so that each is one shift and one
+// mask.
 #[inline(always)]
 fn next_satellite(reader: &mut BitReader<'_>) -> Satellite
     requires { 125 ≤ length reader.old }
@@ -159,6 +161,7 @@ fn next_satellite(reader: &mut BitReader<'_>) -> Satellite
     }
 }
 
+// Puts the fields of the satellites, one satellite after another.
 fn put_satellites(writer: &mut BitWriter, satellites: &[Satellite]) -> Result<(), AllocError>
     requires { FieldsFit (flat_map satellite_table satellites.now) }
     ensures { OnOk result (PutsAll (flat_map satellite_table satellites.now) writer.old writer.new) }
@@ -169,6 +172,7 @@ fn put_satellites(writer: &mut BitWriter, satellites: &[Satellite]) -> Result<()
     Ok(())
 }
 
+// Returns whether each field of the satellites fits its width.
 fn satellites_fit(satellites: &[Satellite]) -> bool
     ensures { IsTrue result ↔ FieldsFit (flat_map satellite_table satellites.now) }
 {
@@ -181,6 +185,7 @@ fn satellites_fit(satellites: &[Satellite]) -> bool
 }
 
 impl Satellite {
+    // Puts the fields of a satellite. An `Err` means that memory was refused.
     fn put(&self, writer: &mut BitWriter) -> Result<(), AllocError>
         requires { FieldsFit (satellite_table self.now) }
         ensures { OnOk result (PutsAll (satellite_table self.now) writer.old writer.new) }
@@ -200,6 +205,7 @@ impl Satellite {
         Ok(())
     }
 
+    // Returns whether each field of a satellite fits its width.
     fn fits(self) -> bool
         ensures { IsTrue result ↔ FieldsFit (satellite_table self) }
     {
@@ -270,7 +276,7 @@ impl Model for Satellites {
 }
 
 impl Satellites {
-    /// No satellites.
+    /// Makes a list without satellites.
     pub fn new() -> Satellites
         ensures { result ≡ [] }
     {
@@ -279,7 +285,7 @@ impl Satellites {
         }
     }
 
-    /// How many satellites there are.
+    /// Returns how many satellites there are.
     pub fn len(&self) -> usize
         ensures value { result ≡ length self.now }
         ensures few { result ≤ 31 }
@@ -287,7 +293,7 @@ impl Satellites {
         self.list.len()
     }
 
-    /// The satellites in their order.
+    /// Returns the satellites in their order.
     pub fn as_slice(&self) -> &[Satellite]
         ensures value { result.now ≡ self.now }
         ensures few { length result.now ≤ 31 }

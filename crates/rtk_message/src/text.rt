@@ -29,22 +29,22 @@ pub fn put_named(line: &mut Vec<u8>, name: &[u8], number: u64) -> Result<(), All
     put_number(line, number)
 }
 
-/// Appends the code of a fault, and the number of the message; a hyphen if it has none.
+/// Appends the code of a fault and the number of the message, or a hyphen if it has none.
 pub fn put_fault(line: &mut Vec<u8>, fault: DecodeFault) -> Result<(), AllocError>
     ensures { OnOk result (line.new.items ≡ line.old.items ++ fault_text fault) }
 {
     put_cause(line, fault.code(), fault.number())
 }
 
-/// Appends the code of a fault of the wider set, and the number of the message; a hyphen if it has
-/// none.
+/// Appends the code of a fault of the wider set and the number of the message, or a hyphen if it
+/// has none.
 pub fn put_any_fault(line: &mut Vec<u8>, fault: AnyFault) -> Result<(), AllocError>
     ensures { OnOk result (line.new.items ≡ line.old.items ++ any_fault_text fault) }
 {
     put_cause(line, fault.code(), fault.number())
 }
 
-// Appends a code and the number of a message; a hyphen if there is none.
+// Appends a code and the number of a message, or a hyphen if there is none.
 fn put_cause(line: &mut Vec<u8>, code: &str, number: Option<u16>) -> Result<(), AllocError>
     ensures { OnOk result (line.new.items ≡ line.old.items ++ (code.now ++ codes " " ++ number_text number)) }
 {
@@ -56,39 +56,43 @@ fn put_cause(line: &mut Vec<u8>, code: &str, number: Option<u16>) -> Result<(), 
     Ok(())
 }
 
+// Returns whether a byte is a digit or a letter of ASCII.
 fn is_alphanumeric(byte: u8) -> bool
     ensures { result ≡ shell.is_alphanumeric byte }
 {
     b'0' <= byte && byte <= b'9' || b'A' <= byte && byte <= b'Z' || b'a' <= byte && byte <= b'z'
 }
 
-// One of % + , - . /.
+// Returns whether a byte is one of % + , - . /.
 fn is_plain_mark(byte: u8) -> bool
     ensures { result ≡ shell.is_plain_mark byte }
 {
     byte == b'%' || byte == b'+' || b',' <= byte && byte <= b'/'
 }
 
-// One of : = @ _.
+// Returns whether a byte is one of : = @ _.
 fn is_other_mark(byte: u8) -> bool
     ensures { result ≡ shell.is_other_mark byte }
 {
     byte == b':' || byte == b'=' || byte == b'@' || byte == b'_'
 }
 
-// Is it a byte of a word that sh takes as it stands?
+// Returns whether sh takes a byte of a word as it stands.
 fn is_plain(byte: u8) -> bool
     ensures { result ≡ shell.is_plain byte }
 {
     is_alphanumeric(byte) || is_plain_mark(byte) || is_other_mark(byte)
 }
 
+// Returns whether sh takes each byte of a name as it stands.
 fn are_plain(name: &[u8]) -> bool
     ensures { result ≡ list_all shell.is_plain name.now }
 {
     name.iter().all(|byte| is_plain(*byte))
 }
 
+// Appends a byte as it stands between single quotes. A single quote can't, so it ends the quotes,
+// stands behind a backslash, and begins them again.
 fn put_quoted_byte(line: &mut Vec<u8>, byte: u8) -> Result<(), AllocError>
     ensures { OnOk result (line.new.items ≡ line.old.items ++ shell.quoted_byte byte) }
 {
@@ -99,6 +103,7 @@ fn put_quoted_byte(line: &mut Vec<u8>, byte: u8) -> Result<(), AllocError>
     Ok(())
 }
 
+// Appends bytes as they stand between single quotes.
 fn put_quoted_bytes(line: &mut Vec<u8>, name: &[u8]) -> Result<(), AllocError>
     ensures { OnOk result (line.new.items ≡ line.old.items ++ flat_map shell.quoted_byte name.now) }
 {
@@ -108,6 +113,7 @@ fn put_quoted_bytes(line: &mut Vec<u8>, name: &[u8]) -> Result<(), AllocError>
     Ok(())
 }
 
+// Appends a name in single quotes.
 fn put_quoted(line: &mut Vec<u8>, name: &[u8]) -> Result<(), AllocError>
     ensures { OnOk result (line.new.items ≡ line.old.items ++ shell.quoted name.now) }
 {
@@ -117,6 +123,7 @@ fn put_quoted(line: &mut Vec<u8>, name: &[u8]) -> Result<(), AllocError>
     Ok(())
 }
 
+// Appends a name, in single quotes if it is empty or sh would not take it as it stands.
 fn put_quoted_if_needed(line: &mut Vec<u8>, name: &[u8]) -> Result<(), AllocError>
     ensures { OnOk result (line.new.items ≡ line.old.items ++ shell.quoted_if_needed name.now) }
 {
@@ -127,6 +134,8 @@ fn put_quoted_if_needed(line: &mut Vec<u8>, name: &[u8]) -> Result<(), AllocErro
     }
 }
 
+// Appends the present folder before a name that begins with a hyphen, since a command would take it
+// for an option.
 fn put_folder_before(line: &mut Vec<u8>, name: &[u8]) -> Result<(), AllocError>
     ensures { OnOk result (line.new.items ≡ line.old.items ++ shell.folder_before name.now) }
 {

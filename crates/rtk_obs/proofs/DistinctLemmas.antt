@@ -16,12 +16,11 @@ use Rattle.rtk_obs.specs.declared.code.Code.{Code}
 use Rattle.rtk_obs.specs.declared.code.Code.TheVariants.{C1C, C1P, C1W, C1S, C1L, C1X, C2C, C2D, C2P, C2W, C2S, C2L, C2X, C5I, C5Q, C5X}
 use Rattle.rtk_obs.specs.declared.cell.Cell.{Cell}
 use Rattle.rtk_obs.specs.declared.cell.CellEntry.{CellEntry}
-use Rattle.rtk_obs.specs.declared.msm_rows.Slot.{Slot}
 use Rattle.rtk_obs.specs.Code.{place_of}
 use Rattle.rtk_obs.specs.Cell.{is_satellite, entry_of, AreDifferentSignals, AreDistinct, IsBefore, AreRising}
 use Rattle.rtk_obs.specs.Mask.{set_bits_from, set_bits, join_from}
 use Rattle.rtk_obs.specs.LegacyCells.{first_entries, has_number, satellite_entries, cells_of_1004, l1_code_of, l2_code_of, l1_cell_of, l2_cell_of}
-use Rattle.rtk_obs.specs.MsmCells.{satellites_of, signals_of, row_slots, slots_of, coded_entry, slot_entry, msm_entries, code_of_signal, cell_of_1074, cells_of_1074, cell_of_msm, cells_of_msm}
+use Rattle.rtk_obs.specs.MsmCells.{Slot, satellites_of, signals_of, row_slots, slots_of, coded_entry, slot_entry, msm_entries, code_of_signal, cell_of_1074, cells_of_1074, cell_of_msm, cells_of_msm}
 use Rattle.rtk_obs.specs.Steps.MsmRows.{IsCellMask}
 use Rattle.rtk_obs.proofs.PairsLemmas.{Pairs, all_append, all_filter, all_from, all_pairs, pairs-append, pairs_filter}
 use Rattle.rtk_obs.proofs.MaskLemmas.{set_bits_from-bounds, set_bits_from-early}

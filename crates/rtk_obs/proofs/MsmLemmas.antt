@@ -10,11 +10,10 @@ use Rattle.rtk_obs.specs.declared.code.Band.{Band}
 use Rattle.rtk_obs.specs.declared.code.Code.{Code}
 use Rattle.rtk_obs.specs.declared.cell.Cell.{Cell}
 use Rattle.rtk_obs.specs.declared.cell.CellEntry.{CellEntry}
-use Rattle.rtk_obs.specs.declared.msm_rows.Slot.{Slot}
 use Rattle.rtk_obs.specs.Cell.{is_satellite, entry_of, IsSatellite}
 use Rattle.rtk_obs.specs.Code.{band_of}
 use Rattle.rtk_obs.specs.Mask.{set_bits, join_from}
-use Rattle.rtk_obs.specs.MsmCells.{satellites_of, signals_of, row_slots, slots_of, coded_entry, slot_entry, msm_entries, code_of_signal}
+use Rattle.rtk_obs.specs.MsmCells.{Slot, satellites_of, signals_of, row_slots, slots_of, coded_entry, slot_entry, msm_entries, code_of_signal}
 use Rattle.rtk_obs.specs.Steps.MsmRows.{IsCellMask, cells_in}
 use Rattle.rtk_obs.proofs.MaskLemmas.{set_bits-none, set_bits-step, set_bits_from-length, count-set_bits_from, length-join_from, join_from-length, join_from-room, join_from-first, join_from-empty, join_from-append, join_from-more, all-join_from}
 
@@ -95,6 +94,14 @@ no_slots ss row rest none = ap (λ (r : ℕ). length (row_slots ss row r)) none 
 
 pub count-row_slots : (ss : List ℕ) (row bits : ℕ) → bits < 2 ^ length ss → length (row_slots ss row bits) ≡ count_ones bits
 count-row_slots ss row bits fits = length-row_slots ss row bits ∙ count-set_bits_from 1 (length ss) bits fits
+
+-- and their number, as it is counted in the bits
+pub next_count : (ss : List ℕ) (rest top : ℕ) → (top < length ss) × (2 ^ top ≤ rest) × (rest < 2 ^ suc top) → rest < 2 ^ length ss → count_ones rest ≡ suc (count_ones (rest - 2 ^ top))
+next_count ss rest top bit fits =
+    sym (count-row_slots ss 0 rest fits) ∙ (next_length ss 0 rest top bit ∙ ap suc (count-row_slots ss 0 (rest - 2 ^ top) (omega (arith, fits))))
+
+pub no_count : (ss : List ℕ) (rest : ℕ) → rest ≡ 0 → rest < 2 ^ length ss → count_ones rest ≡ 0
+no_count ss rest none fits = sym (count-row_slots ss 0 rest fits) ∙ no_slots ss 0 rest none
 
 module _ (f : ℕ → Slot → List CellEntry) where
   -- the entries that stand and those of the bits that are left are the same after a bit

@@ -13,7 +13,6 @@ use Rattle.rtk_obs.specs.declared.code.Code.TheVariants.{C1C, C1P, C1W, C1S, C1L
 use Rattle.rtk_obs.specs.declared.cell.CellSource.TheVariants.{Msm as SourceMsm}
 use Rattle.rtk_obs.specs.declared.cell.Cell.{Cell}
 use Rattle.rtk_obs.specs.declared.cell.CellEntry.{CellEntry}
-use Rattle.rtk_obs.specs.declared.msm_rows.Slot.{Slot}
 use Rattle.rtk_obs.specs.Cell.{is_satellite, entry_of}
 use Rattle.rtk_obs.specs.Code.{band_of}
 use Rattle.rtk_obs.specs.LockTime.{least_lock_of_msm, least_lock_of_extended}
@@ -42,6 +41,11 @@ satellites_of h = set_bits 64 h.satellite_mask
 -- the signals of the message, by DF395
 abbrev pub signals_of : MsmHeader → List ℕ
 signals_of h = set_bits 32 h.signal_mask
+
+-- which signal of which satellite a cell is: the row of the satellite in the cell mask, and the signal identifier (DF395)
+pub record Slot : Type 0 where
+  pub row : ℕ
+  pub signal : ℕ
 
 -- the cells of a row of the cell mask: its bit of place p is the p-th signal of the message
 abbrev pub row_slots : List ℕ → ℕ → ℕ → List Slot

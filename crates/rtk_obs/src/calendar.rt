@@ -14,7 +14,7 @@ const DAY_MS: u64 = 86_400_000;
 // The days from jiff's first day, -9999-01-01, to 1980-01-06.
 const FIRST_DAY: u32 = 4_371_587 + 3657;
 
-// The year of a date that isn't before the year 0.
+// Returns the year of a date that isn't before the year 0.
 fn year_of(date: Date) -> u16
     requires { pos 0 ≤ℤ date.year }
     ensures { pos result ≡ date.year }
@@ -22,7 +22,7 @@ fn year_of(date: Date) -> u16
     date.year.unsigned_abs()
 }
 
-/// The civil reading of a moment, in GPS time: days of 86,400 seconds.
+/// Returns the civil reading of a moment in GPS time, whose days have 86,400 seconds.
 pub fn civil(time: GpsMs) -> Civil
     ensures reading { ReadsAs time result }
     ensures years { IsInYears result.year }
@@ -41,8 +41,8 @@ pub fn civil(time: GpsMs) -> Civil
     }
 }
 
-// The days from 1980-01-06 to the day of a reading, if the calendar has that day and it isn't
-// before 1980-01-06.
+// Returns how many days lie between 1980-01-06 and the day of a reading, if the calendar has that
+// day and it isn't before 1980-01-06.
 fn day_of(reading: Civil) -> Option<u32>
     ensures { MatchOption result ((k : ℕ) → ¬ (IsOnDay k reading)) (λ k. IsOnDay k reading) }
 {
@@ -61,7 +61,7 @@ fn day_of(reading: Civil) -> Option<u32>
     date.days_since_min().checked_sub(FIRST_DAY)
 }
 
-// The milliseconds since midnight of a reading, if it shows a time of day.
+// Returns the milliseconds since midnight of a reading, if it shows a time of day.
 fn time_of_day(reading: Civil) -> Option<u32>
     ensures { SomeIff result (IsTimeOfDay reading) (ms_of_day reading) }
 {
@@ -77,8 +77,8 @@ fn time_of_day(reading: Civil) -> Option<u32>
     Some(seconds * 1000 + u32::from(reading.millisecond))
 }
 
-/// The moment that a reading names; `None` exactly if the calendar has no such day, the clock
-/// has no such time, or the moment lies outside `GpsMs`.
+/// Returns the moment that a reading names, or `None` exactly if the calendar has no such day, the
+/// clock has no such time, or the moment lies outside `GpsMs`.
 pub fn of_civil(reading: Civil) -> Option<GpsMs>
     ensures { MatchOption result ((t : ℕ) → t ≤ LAST_MS → ¬ (ReadsAs t reading)) (λ t. ReadsAs t reading) }
 {

@@ -52,7 +52,7 @@ pub struct CellEntry {
     pub cell: Cell,
 }
 
-/// Is this a satellite of GPS that RINEX has?
+/// Returns whether this is a satellite of GPS that RINEX has.
 pub(crate) fn is_satellite(satellite: u8) -> bool
     ensures { result ≡ is_satellite satellite }
 {

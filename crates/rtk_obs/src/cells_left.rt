@@ -19,7 +19,7 @@ use crate::tracks::{SIGNALS, place_of_signal};
 use arrayvec::ArrayVec;
 use rtk_message::{Obs1004, Satellite};
 
-// Whether there are satellites, and they rise.
+// Returns whether there are satellites and they rise.
 fn are_rising(satellites: &[Satellite]) -> bool
     ensures rise { IsTrue result → RiseAbove 0 satellites.now }
     ensures some { IsTrue result → 0 < length satellites.now }
@@ -34,7 +34,8 @@ fn are_rising(satellites: &[Satellite]) -> bool
     is_satellite(last)
 }
 
-/// The satellites of a 1004, if they rise and are from 1 to 32; `None` also if there are none.
+/// Returns the satellites of a 1004 if they rise and are from 1 to 32, or `None` if they don't or
+/// there are none.
 pub fn rising_satellites(message: &Obs1004) -> Option<&[Satellite]>
     requires { IsValid message.now }
     ensures value { IfSome result (λ satellites. satellites.now ≡ message.now.satellites) }

@@ -8,14 +8,14 @@ ghost use Rattle.rtk_obs.specs.CivilText.{last_digits, date_text, clock_text, ci
 use crate::time::Civil;
 use std::alloc::AllocError;
 
-/// The digits of tens and ones.
+/// Returns the digits of tens and ones.
 pub fn two_digits(number: u8) -> [u8; 2]
     ensures { result ≡ last_digits 2 number }
 {
     [b'0' + number / 10 % 10, b'0' + number % 10]
 }
 
-/// The digits of hundreds, tens and ones.
+/// Returns the digits of hundreds, tens and ones.
 pub fn three_digits(number: u16) -> [u8; 3]
     ensures { result ≡ last_digits 3 number }
 {
@@ -23,6 +23,7 @@ pub fn three_digits(number: u16) -> [u8; 3]
     [digit(number / 10 / 10), digit(number / 10), digit(number)]
 }
 
+// Returns the digits of thousands, hundreds, tens and ones.
 fn four_digits(number: u16) -> [u8; 4]
     ensures { result ≡ last_digits 4 number }
 {

@@ -19,7 +19,7 @@ pub enum Band {
 impl Band {
     ghost use Rattle.rtk_obs.specs.Code.{frequency_of};
 
-    /// The frequency of the carrier, in Hz.
+    /// Returns the frequency of the carrier, in Hz.
     pub fn frequency(self) -> u32
         ensures { result ≡ frequency_of self }
     {
@@ -92,7 +92,7 @@ pub const ALL_CODES: [Code; 16] = [
 impl Code {
     ghost use Rattle.rtk_obs.specs.Code.{band_of, place_of};
 
-    /// The two characters of the code in RINEX: the band, then the attribute.
+    /// Returns the two characters of the code in RINEX: the band, then the attribute.
     pub fn name(self) -> [u8; 2]
         ensures { result ≡ name_of self }
     {
@@ -116,7 +116,7 @@ impl Code {
         }
     }
 
-    /// The code of this name; `None` exactly if none of the sixteen codes has it.
+    /// Returns the code of this name, or `None` exactly if none of the sixteen codes has it.
     pub fn from_name(name: &[u8]) -> Option<Code>
         ensures { MatchOption result ((c : Code) → name.now ≢ name_of c) (λ c. name.now ≡ name_of c) }
     {
@@ -141,7 +141,7 @@ impl Code {
         }
     }
 
-    /// The band, which is the first character of the name.
+    /// Returns the band, which is the first character of the name.
     pub fn band(self) -> Band
         ensures { result ≡ band_of self }
     {
@@ -152,7 +152,7 @@ impl Code {
         }
     }
 
-    /// The place of the code in `ALL_CODES`, from 0.
+    /// Returns the place of the code in `ALL_CODES`, from 0.
     pub fn place(self) -> usize
         ensures value { result ≡ place_of self }
         ensures bound { result < 16 }

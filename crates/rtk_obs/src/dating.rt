@@ -11,7 +11,7 @@ pub const WEEK_MS: u64 = rtk_message::WEEK_MS as u64;
 /// Half a week of GPS time, in ms.
 pub const HALF_WEEK_MS: u64 = WEEK_MS / 2;
 
-/// The moment with this time of week (DF004, in ms) that lies nearest to a reference. If
+/// Returns the moment with this time of week (DF004, in ms) that lies nearest to a reference. If
 /// two moments are half a week away, it is the one before the reference.
 pub fn date(near: GpsMs, tow: u32) -> GpsMs
     requires reference { IsReference near }

@@ -131,7 +131,9 @@ pub fn places_are_distinct()
         → (a ≡ b) × (c ≡ d) }
 {}
 
-/// Laws on the last phase and on what a `Tracks` represents.
+/// If phases come at rising epochs, the last one is the phase at the greatest epoch. An epoch after
+/// each earlier phase of a satellite and code is one that a step may have, and so is an epoch after
+/// a step.
 pub fn tracks_laws()
     ensures greatest { LastIsGreatest }
     ensures later { LaterThanSteps }

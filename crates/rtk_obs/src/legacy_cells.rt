@@ -29,6 +29,7 @@ const NO_RANGE: i32 = -8192;
 // Thousandths of a dB-Hz in a step of DF015 and DF020.
 const LEGACY_STRENGTH_STEP: u32 = 250;
 
+/// Returns the code of L1 at an indicator (DF010).
 pub(crate) fn l1_code(indicator: bool) -> Code
     ensures { result ≡ l1_code_of indicator }
 {
@@ -38,6 +39,7 @@ pub(crate) fn l1_code(indicator: bool) -> Code
 // The codes of L2 at the indicators of DF016 from 0 on.
 static L2_CODES: [Code; 4] = [Code::C2X, Code::C2P, Code::C2D, Code::C2W];
 
+/// Returns the code of L2 at an indicator (DF016).
 pub(crate) fn l2_code(indicator: u8) -> Code
     requires { indicator < 4 }
     ensures { result ≡ l2_code_of indicator }
@@ -45,7 +47,7 @@ pub(crate) fn l2_code(indicator: u8) -> Code
     L2_CODES[usize::from(indicator)]
 }
 
-// The pseudorange of L1, in 0.0005 m.
+// Returns the pseudorange of L1, in 0.0005 m.
 pub(crate) fn l1_length(satellite: &Satellite) -> i64
     requires { satellite.now.l1_range < 2 ^ 24 }
     ensures value { result ≡ length_of satellite.now }
@@ -54,7 +56,7 @@ pub(crate) fn l1_length(satellite: &Satellite) -> i64
     RANGE_STEP * i64::from(satellite.l1_range) + MODULUS * i64::from(satellite.modulus_ambiguity)
 }
 
-// The range of L1; an invalid mark of its phase (DF012) leaves out the range too.
+// Returns the range of L1. An invalid mark of its phase (DF012) leaves out the range too.
 fn l1_range(length: i64, offset: Option<i32>) -> Option<i64>
     ensures { result ≡ l1_range_of length offset }
 {
@@ -64,7 +66,7 @@ fn l1_range(length: i64, offset: Option<i32>) -> Option<i64>
     }
 }
 
-// The pseudorange of L2, in 0.0005 m.
+// Returns the pseudorange of L2, in 0.0005 m.
 fn l2_length(length: i64, difference: i32) -> i64
     requires { unsigned_abs length ≤ LONGEST_RANGE }
     ensures { result ≡ l2_length length difference }
@@ -72,6 +74,7 @@ fn l2_length(length: i64, difference: i32) -> i64
     length + RANGE_STEP * i64::from(difference)
 }
 
+// Returns the range of L2 in mm, or `None` if its difference (DF017) has its invalid mark.
 fn l2_range(length: i64, difference: Option<i32>) -> Option<i64>
     requires { unsigned_abs length ≤ LONGEST_RANGE }
     ensures { result ≡ l2_range_of length difference }
@@ -82,6 +85,8 @@ fn l2_range(length: i64, difference: Option<i32>) -> Option<i64>
     }
 }
 
+// Returns the phase of a band in millicycles, or `None` if its offset (DF012, DF018) has its
+// invalid mark.
 fn legacy_phase(band: Band, length: i64, offset: Option<i32>) -> Option<i64>
     requires { unsigned_abs length ≤ LONGEST_RANGE }
     ensures { result ≡ legacy_phase_of band length offset }
@@ -203,8 +208,8 @@ fn put_satellites(found: &mut ArrayVec<CellEntry, 64>, satellites: &[Satellite])
     (count, rises)
 }
 
-/// Puts the cells of a 1004 into a list, in place of what it has: see `cells_1004`. If the satellites
-/// of the message rise, so do the cells, and the result is `true`.
+/// Puts the cells of a 1004 into a list in place of what it has, as `cells_1004` gives them. If the
+/// satellites of the message rise, so do the cells, and the result is `true`.
 pub fn put_cells_1004(message: &Obs1004, found: &mut ArrayVec<CellEntry, 64>) -> bool
     requires { IsValid message.now }
     ensures cells { found.new.items ≡ cells_of_1004 message.now.satellites }
@@ -218,8 +223,8 @@ pub fn put_cells_1004(message: &Obs1004, found: &mut ArrayVec<CellEntry, 64>) ->
     rises
 }
 
-/// The cells of a 1004 in the order of the message: one of L1 and one of L2 for each satellite
-/// from 1 to 32, by its first entry.
+/// Returns the cells of a 1004 in the order of the message. Each satellite from 1 to 32 has a cell
+/// of L1 and one of L2, by its first entry.
 pub fn cells_1004(message: &Obs1004) -> ArrayVec<CellEntry, 64>
     requires { IsValid message.now }
     ensures cells { result.items ≡ cells_of_1004 message.now.satellites }

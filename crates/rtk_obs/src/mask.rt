@@ -6,7 +6,7 @@ ghost use Rattle.rtk_obs.specs.Mask.{set_bits};
 
 use arrayvec::ArrayVec;
 
-/// The place of the greatest set bit, from 0 for the least significant one.
+/// Returns the place of the greatest set bit, from 0 for the least significant one.
 pub(crate) fn top_bit(mask: u64) -> u32
     requires { mask ≢ 0 }
     ensures from { 2 ^ result ≤ mask }
@@ -16,8 +16,8 @@ pub(crate) fn top_bit(mask: u64) -> u32
     63 - mask.leading_zeros()
 }
 
-/// The places of the set bits of a mask that is `width` bits wide, rising. The first bit is the
-/// most significant one and has place 1.
+/// Returns the places of the set bits of a mask that is `width` bits wide. They rise. The first bit
+/// is the most significant one and has place 1.
 pub(crate) fn places_of_bits(mask: u64, width: u32) -> ArrayVec<u8, 64>
     requires width { width ≤ 64 }
     requires fits { mask < 2 ^ width }

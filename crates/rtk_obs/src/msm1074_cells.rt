@@ -16,7 +16,7 @@ use crate::scaling::strength_from_steps;
 use arrayvec::ArrayVec;
 use rtk_message::{Msm1074, MsmHeader};
 
-// The least lock time of the cell at this place.
+// Returns the least lock time of the cell at this place.
 fn lock_time(message: &Msm1074, cell: usize) -> u32
     requires valid { IsValid message.now }
     requires cell { cell < cell_count message.now }
@@ -70,8 +70,8 @@ impl CellsOfMsm for Msm1074 {
     }
 }
 
-/// Puts the cells of a 1074 into a list, in place of what it has: see `cells_1074`. If the message has
-/// no signal from 30 to 32, the cells rise, and the result is `true`.
+/// Puts the cells of a 1074 into a list in place of what it has, as `cells_1074` gives them. If the
+/// message has no signal from 30 to 32, the cells rise, and the result is `true`.
 pub fn put_cells_1074(message: &Msm1074, found: &mut ArrayVec<CellEntry, 64>) -> bool
     requires { IsValid message.now }
     ensures cells { found.new.items ≡ cells_of_1074 message.now }
@@ -85,8 +85,8 @@ pub fn put_cells_1074(message: &Msm1074, found: &mut ArrayVec<CellEntry, 64>) ->
     has_rising_codes(message.header.signal_mask)
 }
 
-/// The cells of a 1074 in the order of the message, for the satellites from 1 to 32 and the fifteen
-/// signals that have a code.
+/// Returns the cells of a 1074 in the order of the message, for the satellites from 1 to 32 and the
+/// fifteen signals that have a code.
 pub fn cells_1074(message: &Msm1074) -> ArrayVec<CellEntry, 64>
     requires { IsValid message.now }
     ensures cells { result.items ≡ cells_of_1074 message.now }

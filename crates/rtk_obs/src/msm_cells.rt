@@ -17,7 +17,8 @@ use crate::scaling::{strength_from_sixteenths, strength_from_steps};
 use arrayvec::ArrayVec;
 use rtk_message::{Msm, MsmHeader, MsmKind};
 
-// Do the fields have extended resolution: DF405 to DF408 in the place of DF400 to DF403?
+// Returns whether the fields have extended resolution: DF405 to DF408 in the place of DF400 to
+// DF403.
 fn has_extended_resolution(kind: MsmKind) -> bool
     ensures { result ≡ has_extended_resolution kind }
 {
@@ -80,8 +81,8 @@ impl CellsOfMsm for Msm {
     }
 }
 
-/// Puts the cells of a 1075, 1076 or 1077 into a list, in place of what it has: see `cells_msm`. If the
-/// message has no signal from 30 to 32, the cells rise, and the result is `true`.
+/// Puts the cells of a 1075, 1076 or 1077 into a list in place of what it has, as `cells_msm` gives
+/// them. If the message has no signal from 30 to 32, the cells rise, and the result is `true`.
 pub fn put_cells_msm(message: &Msm, found: &mut ArrayVec<CellEntry, 64>) -> bool
     requires { IsValid message.now }
     ensures cells { found.new.items ≡ cells_of_msm message.now }
@@ -95,8 +96,8 @@ pub fn put_cells_msm(message: &Msm, found: &mut ArrayVec<CellEntry, 64>) -> bool
     has_rising_codes(message.header.signal_mask)
 }
 
-/// The cells of a 1075, 1076 or 1077 in the order of the message, for the satellites from 1 to 32
-/// and the fifteen signals that have a code.
+/// Returns the cells of a 1075, 1076 or 1077 in the order of the message, for the satellites from 1
+/// to 32 and the fifteen signals that have a code.
 pub fn cells_msm(message: &Msm) -> ArrayVec<CellEntry, 64>
     requires { IsValid message.now }
     ensures cells { result.items ≡ cells_of_msm message.now }

@@ -1,6 +1,6 @@
 //! Which satellite and which signal each cell of an MSM has, row by row of its cell mask.
 
-ghost use Rattle.std.specs.Prelude.{◌≡◌, ℕ, ℤ, ◌+◌, ◌^◌, ◌≤◌, ◌<◌, ◌++◌, List, Option, length, take, true, IfSome, IsTrue, unsigned_abs};
+ghost use Rattle.std.specs.Prelude.{◌≡◌, ℕ, ℤ, ◌+◌, ◌^◌, ◌≤◌, ◌<◌, ◌++◌, List, Option, length, take, true, IfSome, IsTrue, count_ones, unsigned_abs};
 ghost use Rattle.std.specs.List.{All, AllByRecursion};
 ghost use Rattle.rtk_message.specs.declared.msm1074.MsmHeader.{MsmHeader};
 ghost use Rattle.rtk_message.specs.Msm1074.{satellite_count};
@@ -36,20 +36,20 @@ pub(crate) trait CellsOfMsm {
     /// The cell at a place in the message, of the satellite of a row, on a band.
     ghost cell_of: { Self → ℕ → ℕ → Band → Cell };
 
-    /// The fields before the cell mask.
+    /// Returns the fields before the cell mask.
     fn header(&self) -> MsmHeader
         ensures { result ≡ header self.now };
 
-    /// How many cells the message has.
+    /// Returns how many cells the message has.
     fn cells(&self) -> usize
         requires { IsValid self.now }
         ensures { result ≡ cells_in (cell_mask self.now) };
 
-    /// The rows of the cell mask (DF396).
+    /// Returns the rows of the cell mask (DF396).
     fn cell_mask(&self) -> &[u32]
         ensures { result.now ≡ cell_mask self.now };
 
-    /// The rough range of the satellite of a row, in 2^-29 ms.
+    /// Returns the rough range of the satellite of a row, in 2^-29 ms.
     fn rough(&self, row: usize) -> Option<i64>
         requires valid { IsValid self.now }
         requires row { row < satellite_count (header self.now) }
@@ -102,16 +102,6 @@ static SIGNAL_CODES: [Option<Code>; 33] = [
     Some(Code::C1X),
 ];
 
-// Which signal of which satellite a cell is.
-#[derive(Clone, Copy, Default)]
-struct Slot {
-    // The place of the satellite among the satellites of the message, from 0. Clauses alone read
-    // it.
-    row: u8,
-    // The signal identifier (DF395).
-    signal: u8,
-}
-
 // A satellite of the message.
 #[derive(Clone, Copy)]
 struct Row {
@@ -130,7 +120,7 @@ struct Progress {
     count: usize,
 }
 
-// The code of a signal identifier.
+// Returns the code of a signal identifier.
 fn signal_code(signal: u8) -> Option<Code>
     requires { signal ≤ 32 }
     ensures { result ≡ code_of_signal signal }
@@ -138,7 +128,7 @@ fn signal_code(signal: u8) -> Option<Code>
     SIGNAL_CODES[usize::from(signal)]
 }
 
-// The signal identifiers of the message (DF395), rising.
+// Returns the signal identifiers of the message (DF395). They rise.
 fn signal_identifiers(header: MsmHeader) -> ArrayVec<u8, 64>
     ensures value { result.items ≡ signals_of header }
     ensures bounds { All (λ p. (1 ≤ p) × (p ≤ 32)) result.items }
@@ -146,15 +136,15 @@ fn signal_identifiers(header: MsmHeader) -> ArrayVec<u8, 64>
     places_of_bits(u64::from(header.signal_mask), 32)
 }
 
-/// Whether each signal of the message is below 30 (DF395). The codes of such signals rise with them;
-/// the signals from 30 to 32 have codes of L1, whose places are before those of L2.
+/// Returns whether each signal of the message is below 30 (DF395). The codes of such signals rise
+/// with them. The signals from 30 to 32 have codes of L1, whose places are before those of L2.
 pub(crate) fn has_rising_codes(signal_mask: u32) -> bool
     ensures { IsTrue result → AllByRecursion (λ p. p < 30) (set_bits 32 signal_mask) }
 {
     signal_mask % 8 == 0
 }
 
-// The satellite of a row.
+// Returns the satellite of a row with its rough range.
 fn row_of<M: CellsOfMsm>(message: &M, numbers: &[u8], row: usize) -> Row
     requires valid { M.IsValid message.now }
     requires mask { IsCellMask (M.header message.now) (M.cell_mask message.now) }
@@ -168,27 +158,29 @@ fn row_of<M: CellsOfMsm>(message: &M, numbers: &[u8], row: usize) -> Row
     }
 }
 
-// Puts the cell of a slot, if its signal has a code. The result is how many entries stand then.
+// Puts the cell of a satellite and a signal, if the signal has a code. The result is how many entries
+// stand then.
 fn put_cell<M: CellsOfMsm>(
     found: &mut ArrayVec<CellEntry, 64>,
     count: usize,
     message: &M,
     cell: usize,
     row: Row,
-    slot: Slot,
+    signal: u8,
 ) -> usize
     requires valid { M.IsValid message.now }
     requires cell { cell < cells_in (M.cell_mask message.now) }
-    requires row { IsMaskRow (M.header message.now) (M.rough_at message.now) slot.row row }
+    requires rough { IfSome row.rough (λ r. unsigned_abs r ≤ 2 ^ 38) }
     requires satellite { is_satellite row.satellite ≡ true }
-    requires signal { slot.signal ≤ 32 }
+    requires signal { signal ≤ 32 }
     requires room { count < length found.old.items }
-    ensures entries { take result found.new.items
-        ≡ take count found.old.items ++ slot_entry (M.header message.now) (M.cell_of message.now) cell slot }
+    ensures entries { (place : ℕ) → IsMaskRow (M.header message.now) (M.rough_at message.now) place row
+        → take result found.new.items ≡ take count found.old.items
+        ++ slot_entry (M.header message.now) (M.cell_of message.now) cell (record { row = place; signal = signal }) }
     ensures room { length found.new.items ≡ length found.old.items }
     ensures one { result ≤ count + 1 }
 {
-    let Some(code) = signal_code(slot.signal) else {
+    let Some(code) = signal_code(signal) else {
         return count;
     };
     let entry = &mut found.as_mut_slice()[count];
@@ -204,22 +196,22 @@ fn put_row<M: CellsOfMsm>(
     start: Progress,
     message: &M,
     row: Row,
-    place: u8,
     signals: &[u8],
     bits: u32,
 ) -> Progress
     requires valid { M.IsValid message.now }
     requires mask { IsCellMask (M.header message.now) (M.cell_mask message.now) }
-    requires row { IsMaskRow (M.header message.now) (M.rough_at message.now) place row }
+    requires rough { IfSome row.rough (λ r. unsigned_abs r ≤ 2 ^ 38) }
     requires signals { signals.now ≡ signals_of (M.header message.now) }
     requires bounds { All (λ p. (1 ≤ p) × (p ≤ 32)) signals.now }
     requires fits { bits < 2 ^ length signals.now }
-    requires cells { start.cell + length (row_slots signals.now place bits) ≤ cells_in (M.cell_mask message.now) }
+    requires cells { start.cell + count_ones bits ≤ cells_in (M.cell_mask message.now) }
     requires room { cells_in (M.cell_mask message.now) ≤ length found.old.items }
     requires few { start.count ≤ start.cell }
-    ensures entries { take result.count found.new.items ≡ take start.count found.old.items
+    ensures entries { (place : ℕ) → IsMaskRow (M.header message.now) (M.rough_at message.now) place row
+        → take result.count found.new.items ≡ take start.count found.old.items
         ++ join_from (slot_entry (M.header message.now) (M.cell_of message.now)) start.cell (row_slots signals.now place bits) }
-    ensures cells { result.cell ≡ start.cell + length (row_slots signals.now place bits) }
+    ensures cells { result.cell ≡ start.cell + count_ones bits }
     ensures room { length found.new.items ≡ length found.old.items }
     ensures few { result.count ≤ result.cell }
 {
@@ -236,8 +228,7 @@ fn put_row<M: CellsOfMsm>(
     while rest != 0 {
         let top = top_bit(rest);
         let signal = signals[width - 1 - top as usize];
-        let slot = Slot { row: place, signal };
-        count = put_cell(found, count, message, cell, row, slot);
+        count = put_cell(found, count, message, cell, row, signal);
         cell += 1;
         rest -= 1 << top;
     }
@@ -261,7 +252,7 @@ pub(crate) fn put_cells<M: CellsOfMsm>(found: &mut ArrayVec<CellEntry, 64>, mess
     let mut progress = Progress { cell: 0, count: 0 };
     for (place, bits) in masks.iter().enumerate() {
         let row = row_of(message, numbers, place);
-        progress = put_row(found, progress, message, row, place as u8, signals, *bits);
+        progress = put_row(found, progress, message, row, signals, *bits);
     }
     progress.count
 }

@@ -26,7 +26,7 @@ const NO_EXTENDED_PHASE: i32 = -8_388_608;
 /// Thousandths of a dB-Hz in a step of DF403.
 pub(crate) const MSM_STRENGTH_STEP: u32 = 1000;
 
-/// The rough range, in 2^-29 ms, from DF397 and DF398.
+/// Returns the rough range, in 2^-29 ms, from DF397 and DF398.
 pub(crate) fn rough_range(ms: u8, fraction: u16) -> Option<i64>
     ensures value { result ≡ rough_of ms fraction }
     ensures bound { IfSome result (λ r. unsigned_abs r ≤ 2 ^ 38) }
@@ -37,7 +37,7 @@ pub(crate) fn rough_range(ms: u8, fraction: u16) -> Option<i64>
     Some(536_870_912 * i64::from(ms) + 524_288 * i64::from(fraction))
 }
 
-// The travel time of the signal, from the rough range and a fine one, in 2^-29 ms.
+// Returns the travel time of the signal, from the rough range and a fine one, in 2^-29 ms.
 fn fine_time(rough: i64, fine: i32) -> i64
     requires { unsigned_abs rough ≤ 2 ^ 38 }
     ensures value { result ≡ range_time rough fine }
@@ -46,6 +46,8 @@ fn fine_time(rough: i64, fine: i32) -> i64
     rough + 32 * i64::from(fine)
 }
 
+// Returns the pseudorange in mm, from the rough range in 2^-29 ms and a fine one (DF400), or `None`
+// without a fine one.
 fn fine_range(rough: i64, fine: Option<i32>) -> Option<i64>
     requires { unsigned_abs rough ≤ 2 ^ 38 }
     ensures { result ≡ fine_range_of rough fine }
@@ -56,7 +58,7 @@ fn fine_range(rough: i64, fine: Option<i32>) -> Option<i64>
     }
 }
 
-/// The pseudorange in mm, from the rough range in 2^-29 ms and DF400.
+/// Returns the pseudorange in mm, from the rough range in 2^-29 ms and DF400.
 pub(crate) fn msm_range(rough: Option<i64>, fine: i32) -> Option<i64>
     requires { IfSome rough (λ r. unsigned_abs r ≤ 2 ^ 38) }
     ensures { result ≡ msm_range_of rough fine }
@@ -67,7 +69,9 @@ pub(crate) fn msm_range(rough: Option<i64>, fine: i32) -> Option<i64>
     }
 }
 
-// The band is asked for here, so that the code is looked up in one table of frequencies.
+// Returns the phase in millicycles, from the rough range in 2^-29 ms and a fine one (DF401), or
+// `None` without a fine one. The band is asked for here, so that the code is looked up in one table
+// of frequencies.
 fn fine_phase(code: Code, rough: i64, fine: Option<i32>) -> Option<i64>
     requires { unsigned_abs rough ≤ 2 ^ 38 }
     ensures { result ≡ fine_phase_of (band_of code) rough fine }
@@ -78,7 +82,7 @@ fn fine_phase(code: Code, rough: i64, fine: Option<i32>) -> Option<i64>
     }
 }
 
-/// The phase in millicycles, from the rough range in 2^-29 ms and DF401.
+/// Returns the phase in millicycles, from the rough range in 2^-29 ms and DF401.
 pub(crate) fn msm_phase(code: Code, rough: Option<i64>, fine: i32) -> Option<i64>
     requires { IfSome rough (λ r. unsigned_abs r ≤ 2 ^ 38) }
     ensures { result ≡ msm_phase_of (band_of code) rough fine }
@@ -89,6 +93,8 @@ pub(crate) fn msm_phase(code: Code, rough: Option<i64>, fine: i32) -> Option<i64
     }
 }
 
+// Returns the pseudorange in mm, from the rough range in 2^-29 ms and a fine one (DF405), or `None`
+// without a fine one.
 fn extended_fine_range(rough: i64, fine: Option<i32>) -> Option<i64>
     requires { unsigned_abs rough ≤ 2 ^ 38 }
     ensures { result ≡ extended_fine_range_of rough fine }
@@ -99,7 +105,7 @@ fn extended_fine_range(rough: i64, fine: Option<i32>) -> Option<i64>
     }
 }
 
-/// The pseudorange in mm, from the rough range in 2^-29 ms and DF405.
+/// Returns the pseudorange in mm, from the rough range in 2^-29 ms and DF405.
 pub(crate) fn extended_range(rough: Option<i64>, fine: i32) -> Option<i64>
     requires { IfSome rough (λ r. unsigned_abs r ≤ 2 ^ 38) }
     ensures { result ≡ extended_range_of rough fine }
@@ -110,7 +116,7 @@ pub(crate) fn extended_range(rough: Option<i64>, fine: i32) -> Option<i64>
     }
 }
 
-// The travel time of the carrier, from the rough range in 2^-29 ms and DF406, in 2^-31 ms.
+// Returns the travel time of the carrier, from the rough range in 2^-29 ms and DF406, in 2^-31 ms.
 fn extended_time(rough: i64, fine: i32) -> i64
     requires { unsigned_abs rough ≤ 2 ^ 38 }
     ensures value { result ≡ extended_phase_time rough fine }
@@ -119,6 +125,8 @@ fn extended_time(rough: i64, fine: i32) -> i64
     4 * rough + i64::from(fine)
 }
 
+// Returns the phase in millicycles, from the rough range in 2^-29 ms and a fine one (DF406), or
+// `None` without a fine one.
 fn extended_fine_phase(code: Code, rough: i64, fine: Option<i32>) -> Option<i64>
     requires { unsigned_abs rough ≤ 2 ^ 38 }
     ensures { result ≡ extended_fine_phase_of (band_of code) rough fine }
@@ -129,7 +137,7 @@ fn extended_fine_phase(code: Code, rough: i64, fine: Option<i32>) -> Option<i64>
     }
 }
 
-/// The phase in millicycles, from the rough range in 2^-29 ms and DF406.
+/// Returns the phase in millicycles, from the rough range in 2^-29 ms and DF406.
 pub(crate) fn extended_phase(code: Code, rough: Option<i64>, fine: i32) -> Option<i64>
     requires { IfSome rough (λ r. unsigned_abs r ≤ 2 ^ 38) }
     ensures { result ≡ extended_phase_of (band_of code) rough fine }

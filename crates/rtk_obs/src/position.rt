@@ -22,7 +22,7 @@ pub struct Position {
     ghost z_fits: { IsCoordinate z },
 }
 
-// Does a coordinate fit 38 bits?
+// Returns whether a coordinate fits 38 bits.
 fn is_coordinate(v: i64) -> bool
     ensures { IsTrue result ↔ IsCoordinate v }
 {
@@ -33,7 +33,8 @@ impl Position {
     ghost use Rattle.rtk_obs.specs.Coordinates.{AreCoordinates};
     ghost use Rattle.rtk_obs.specs.PositionFields.{HasFields};
 
-    /// The position with these fields; `None` exactly if a coordinate doesn't fit 38 bits.
+    /// Returns the position with these fields, or `None` exactly if a coordinate doesn't fit 38
+    /// bits.
     pub fn new(x: i64, y: i64, z: i64, height: u16) -> Option<Position>
         ensures { MatchOption result (¬ (AreCoordinates x y z)) (HasFields x y z height) }
     {

@@ -13,7 +13,7 @@ use crate::track::Track;
 // 750 cycles as an offset, in 0.0005 m, times a frequency, in Hz: 1,500,000 * 299,792,458.
 const HALF_ROLL: i64 = 449_688_687_000_000;
 
-// The roll that this change of the offset shows: -1, 0 or 1.
+// Returns the roll that this change of the offset shows, which is -1, 0 or 1.
 fn roll(band: Band, change: i64) -> i64
     requires low { negsuc 4_294_967_295 ≤ℤ change }
     requires high { change ≤ℤ pos 4_294_967_295 }
@@ -30,7 +30,7 @@ fn roll(band: Band, change: i64) -> i64
     }
 }
 
-// The roll count from one offset to the next.
+// Returns the roll count from one offset to the next.
 fn rolls_from(band: Band, rolls: i64, last: Option<i32>, offset: Option<i32>) -> i64
     requires { unsigned_abs rolls ≤ LAST_MS }
     ensures value { result ≡ rolls_between band rolls last offset }
@@ -42,14 +42,15 @@ fn rolls_from(band: Band, rolls: i64, last: Option<i32>, offset: Option<i32>) ->
     }
 }
 
-// Do both phases come in a 1004?
+// Returns whether both phases come in a 1004.
 fn are_legacy(last: CellSource, source: CellSource) -> bool
     ensures { result ≡ (is_legacy last && is_legacy source) }
 {
     matches!((last, source), (CellSource::Legacy, CellSource::Legacy))
 }
 
-/// The roll count of a phase that comes after the last one, with or without a slip between them.
+/// Returns the roll count of a phase that comes after the last one, with or without a slip between
+/// them.
 pub(crate) fn rolls_after(code: Code, last: &Track, slip: bool, cell: &Cell) -> i64
     requires bounded { unsigned_abs last.now.rolls ≤ LAST_MS }
     ensures value { (epoch : ℕ) → slip ≡ has_slipped last.now (epoch_cell epoch cell.now)
@@ -62,7 +63,7 @@ pub(crate) fn rolls_after(code: Code, last: &Track, slip: bool, cell: &Cell) -> 
     rolls_from(code.band(), last.rolls, last.offset, cell.offset)
 }
 
-// The value, if it is within the limits of an observation.
+// Returns the value if it is within the limits of an observation, else `None`.
 fn within_limits(value: i128) -> Option<i64>
     ensures { result ≡ within_limits value }
 {
@@ -75,14 +76,14 @@ fn within_limits(value: i128) -> Option<i64>
     Some(value as i64)
 }
 
-// The phase with 1500 cycles added for each roll, if that is within the limits.
+// Returns the phase with 1500 cycles added for each roll if that is within the limits, else `None`.
 fn with_rolls(phase: i64, rolls: i64) -> Option<i64>
     ensures { result ≡ rolled_phase phase rolls }
 {
     within_limits(i128::from(phase) + 1_500_000 * i128::from(rolls))
 }
 
-// The phase without rolls, if that is within the limits.
+// Returns the phase without rolls if that is within the limits, else `None`.
 fn without_rolls(phase: i64) -> Option<i64>
     ensures { result ≡ within_limits phase }
 {
@@ -92,8 +93,8 @@ fn without_rolls(phase: i64) -> Option<i64>
     Some(phase)
 }
 
-/// A phase in millicycles with 1500 cycles added for each roll; `None` exactly if that is
-/// outside the limits of an observation, -999,999,999,999 to 9,999,999,999,999.
+/// Returns a phase in millicycles with 1500 cycles added for each roll, or `None` exactly if that
+/// is outside the limits of an observation, -999,999,999,999 to 9,999,999,999,999.
 ///
 /// The test is here since the sum may not fit an `i64`. rtk_rinex tests each value that it writes
 /// again (`is_written_value`), since other programs may give it any.

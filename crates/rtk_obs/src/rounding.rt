@@ -6,7 +6,7 @@
 ghost use Rattle.std.specs.Prelude.{◌≡◌, ℕ, ℤ, ◌^◌, ◌<◌, ◌≤◌, ◌↔◌, ◌<ℤ◌, pos, unsigned_abs};
 ghost use Rattle.rtk_obs.specs.Rounding.{IsRounded, rounded_magnitude, rounded};
 
-// The whole number nearest to n / d; of two equally near, the greater one.
+// Returns the whole number nearest to n / d, and the greater one if two are equally near.
 fn round_magnitude(n: u128, d: u128) -> u128
     requires positive { 0 < d }
     requires small { n ≤ 2 ^ 127 }
@@ -18,7 +18,7 @@ fn round_magnitude(n: u128, d: u128) -> u128
     if rest >= d - rest { whole + 1 } else { whole }
 }
 
-/// The whole number nearest to `n / d`; of two equally near, the one further from 0.
+/// Returns the whole number nearest to `n / d`, and the one further from 0 if two are equally near.
 pub fn round_div(n: i128, d: i128) -> i128
     requires { pos 0 <ℤ d }
     ensures { result ≡ rounded n (unsigned_abs d) }

@@ -35,7 +35,7 @@ const LONGEST_PHASE: u64 = LONGEST_RANGE + 2_147_483_648;
 // 2^29: so many units of a travel time are a ms.
 const MS: u32 = 536_870_912;
 
-// The whole number nearest to n * factor / divisor, a tie going up, in 64 bits.
+// Returns the whole number nearest to n * factor / divisor in 64 bits. A tie goes up.
 fn scaled_magnitude(n: u64, factor: u32, divisor: u32) -> u64
     requires positive { 0 < divisor }
     requires fits { rounded_magnitude (n * factor) divisor < 2 ^ 63 }
@@ -48,7 +48,7 @@ fn scaled_magnitude(n: u64, factor: u32, divisor: u32) -> u64
     whole + (rest + divisor / 2) / divisor
 }
 
-// The whole number nearest to value * factor / divisor, a tie going away from 0.
+// Returns the whole number nearest to value * factor / divisor. A tie goes away from 0.
 fn scaled(value: i64, factor: u32, divisor: u32) -> i64
     requires factor { 0 < factor }
     requires divisor { 0 < divisor }
@@ -61,7 +61,7 @@ fn scaled(value: i64, factor: u32, divisor: u32) -> i64
     scaled_magnitude(value as u64, factor, divisor) as i64
 }
 
-// The whole number nearest to n * factor / 2^29, a tie going up.
+// Returns the whole number nearest to n * factor / 2^29. A tie goes up.
 fn time_magnitude(n: u64, factor: u32) -> u64
     requires { n ≤ 2 ^ 41 }
     ensures value { result ≡ rounded_magnitude (n * factor) MS }
@@ -71,7 +71,7 @@ fn time_magnitude(n: u64, factor: u32) -> u64
     ((product + u128::from(MS / 2)) / u128::from(MS)) as u64
 }
 
-// The whole number nearest to time * factor / 2^29, a tie going away from 0.
+// Returns the whole number nearest to time * factor / 2^29. A tie goes away from 0.
 fn scaled_time(time: i64, factor: u32) -> i64
     requires { unsigned_abs time ≤ 2 ^ 41 }
     ensures { result ≡ rounded (time *ℤ pos factor) MS }
@@ -82,16 +82,16 @@ fn scaled_time(time: i64, factor: u32) -> i64
     time_magnitude(time as u64, factor) as i64
 }
 
-/// A length in 0.0005 m as a range in mm.
+/// Returns a length in 0.0005 m as a range in mm.
 pub(crate) fn range_from_length(length: i64) -> i64
     ensures { result ≡ range_of_length length }
 {
     scaled(length, 1, 2)
 }
 
-// The whole number nearest to n * f / (2 * c), where f is the frequency of the band. For the bands
-// of a 1004 both are halved twice, and the whole times that c / 2 goes into f / 4 are taken out: so
-// one division by a constant is left, whose dividend fits 64 bits.
+// Returns the whole number nearest to n * f / (2 * c), where f is the frequency of the band. For
+// the bands of a 1004 both are halved twice, and the whole times that c / 2 goes into f / 4 are
+// taken out. So one division by a constant is left, whose dividend fits 64 bits.
 fn length_magnitude(band: Band, n: u64) -> u64
     requires { n ≤ LONGEST_PHASE }
     ensures value { result ≡ rounded_magnitude (n * frequency_of band) TWICE_LIGHT }
@@ -104,7 +104,7 @@ fn length_magnitude(band: Band, n: u64) -> u64
     }
 }
 
-/// A length in 0.0005 m as a phase in millicycles.
+/// Returns a length in 0.0005 m as a phase in millicycles.
 pub(crate) fn phase_from_length(band: Band, length: i64) -> i64
     requires { unsigned_abs length ≤ LONGEST_PHASE }
     ensures { result ≡ phase_of_length band length }
@@ -115,7 +115,7 @@ pub(crate) fn phase_from_length(band: Band, length: i64) -> i64
     length_magnitude(band, length as u64) as i64
 }
 
-/// A travel time of the signal, in 2^-29 ms, as a range in mm.
+/// Returns a travel time of the signal, in 2^-29 ms, as a range in mm.
 pub(crate) fn range_from_time(time: i64) -> i64
     requires { unsigned_abs time ≤ 2 ^ 40 }
     ensures { result ≡ range_of_time time }
@@ -123,7 +123,7 @@ pub(crate) fn range_from_time(time: i64) -> i64
     scaled_time(time, LIGHT)
 }
 
-/// A travel time of the signal, in 2^-29 ms, as a phase in millicycles.
+/// Returns a travel time of the signal, in 2^-29 ms, as a phase in millicycles.
 pub(crate) fn phase_from_time(band: Band, time: i64) -> i64
     requires { unsigned_abs time ≤ 2 ^ 40 }
     ensures { result ≡ phase_of_time band time }
@@ -131,7 +131,7 @@ pub(crate) fn phase_from_time(band: Band, time: i64) -> i64
     scaled_time(time, band.frequency())
 }
 
-/// A travel time of the signal, in 2^-31 ms, as a phase in millicycles.
+/// Returns a travel time of the signal, in 2^-31 ms, as a phase in millicycles.
 pub(crate) fn phase_from_extended_time(band: Band, time: i64) -> i64
     requires { unsigned_abs time ≤ 2 ^ 41 }
     ensures { result ≡ phase_of_extended_time band time }
@@ -140,8 +140,8 @@ pub(crate) fn phase_from_extended_time(band: Band, time: i64) -> i64
     scaled_time(time, band.frequency() / 4)
 }
 
-/// A signal strength in thousandths of a dB-Hz, from its number of steps; 0 steps mean that it is
-/// not given.
+/// Returns a signal strength in thousandths of a dB-Hz, from its number of steps. If there are 0
+/// steps, the strength is not given.
 pub(crate) fn strength_from_steps(step: u32, steps: u8) -> Option<u32>
     requires { step ≤ 1000 }
     ensures { result ≡ strength_of step steps }
@@ -152,8 +152,9 @@ pub(crate) fn strength_from_steps(step: u32, steps: u8) -> Option<u32>
     }
 }
 
-/// A signal strength in thousandths of a dB-Hz, from sixteenths of a dB-Hz (DF408); 0 means that it
-/// is not given. It is the nearest quarter of a dB-Hz, from 0.25 to 63.75.
+/// Returns a signal strength in thousandths of a dB-Hz, from sixteenths of a dB-Hz (DF408). If
+/// there are 0, the strength is not given. It is the nearest quarter of a dB-Hz, from 0.25 to
+/// 63.75.
 pub(crate) fn strength_from_sixteenths(sixteenths: u16) -> Option<u32>
     ensures { result ≡ strength_of_sixteenths sixteenths }
 {
@@ -163,7 +164,7 @@ pub(crate) fn strength_from_sixteenths(sixteenths: u16) -> Option<u32>
     }
 }
 
-/// A field, or `None` if it has its invalid mark.
+/// Returns a field, or `None` if it has its invalid mark.
 pub(crate) fn unless_mark(field: i32, mark: i32) -> Option<i32>
     ensures { result ≡ unless_invalid mark field }
 {

@@ -6,8 +6,8 @@ ghost use Rattle.rtk_obs.specs.Slip.{has_slipped, epoch_cell};
 use crate::cell::Cell;
 use crate::track::Track;
 
-/// Is the lock time shorter than the time since the last phase? Or did the last phase come in the
-/// same kind of message, with a longer lock time?
+/// Returns whether the phase has slipped. It has if the lock time is shorter than the time since
+/// the last phase, or if the last phase came in the same kind of message with a longer lock time.
 pub(crate) fn has_slipped(last: &Track, epoch: u64, cell: &Cell) -> bool
     requires { last.now.epoch ≤ epoch }
     ensures { result ≡ has_slipped last.now (epoch_cell epoch cell.now) }

@@ -28,7 +28,7 @@ impl Model for GpsMs {
 }
 
 impl GpsMs {
-    /// The moment with this number of milliseconds; `None` after 2100.
+    /// Returns the moment with this number of milliseconds, or `None` if it is after 2100.
     pub fn new(ms: u64) -> Option<Self>
         ensures { SomeIff result (ms ≤ LAST_MS) ms }
     {
@@ -39,7 +39,7 @@ impl GpsMs {
         }
     }
 
-    /// The moment with this number of milliseconds.
+    /// Returns the moment with this number of milliseconds.
     pub(crate) fn at(ms: u64) -> Self
         requires { ms ≤ LAST_MS }
         ensures { result ≡ ms }
@@ -47,7 +47,7 @@ impl GpsMs {
         GpsMs { ms }
     }
 
-    /// The milliseconds since 1980-01-06 00:00:00.000.
+    /// Returns the milliseconds since 1980-01-06 00:00:00.000.
     pub fn ms(self) -> u64
         ensures value { result ≡ self }
         ensures bound { result ≤ LAST_MS }

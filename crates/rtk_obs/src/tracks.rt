@@ -47,7 +47,7 @@ impl Model for Tracks {
     ghost invariant = { λ t. HasPlaces t.last };
 }
 
-/// The place of a satellite and code among all signals, from 0.
+/// Returns the place of a satellite and code among all signals, from 0.
 pub fn place_of_signal(satellite: u8, code: Code) -> usize
     requires { IsSatellite satellite }
     ensures value { result ≡ place_of_signal satellite code }
@@ -56,7 +56,7 @@ pub fn place_of_signal(satellite: u8, code: Code) -> usize
     usize::from(satellite - 1) * 16 + code.place()
 }
 
-// The digits of a cell with a phase, which is compared with the last one.
+// Returns the digits of a cell whose phase is compared with the last one.
 fn digits_after(code: Code, last: &Option<Track>, epoch: u64, cell: &Cell) -> Digits
     requires phase { has_phase (epoch_cell epoch cell.now) ≡ true }
     requires later { IsLater last.now epoch }
@@ -82,7 +82,7 @@ fn digits_after(code: Code, last: &Option<Track>, epoch: u64, cell: &Cell) -> Di
     }
 }
 
-// What is remembered of a cell with a phase.
+// Returns what is remembered of a cell with a phase.
 fn track_of(cell: &Cell, epoch: u64, rolls: i64) -> Track
     ensures value { (band : Band) (last : Option Track) → rolls ≡ rolls_since band last (epoch_cell epoch cell.now)
         → result ≡ track_of band last (epoch_cell epoch cell.now) }
@@ -98,7 +98,7 @@ fn track_of(cell: &Cell, epoch: u64, rolls: i64) -> Track
 }
 
 impl Tracks {
-    /// No phase came yet.
+    /// Makes tracks to which no phase came yet.
     pub fn new() -> Tracks
         ensures represents { RepresentsSteps result [] }
         ensures empty { (satellite : ℕ) (code : Code) → track_at result satellite code ≡ None }
@@ -108,7 +108,8 @@ impl Tracks {
         }
     }
 
-    /// The digits of a cell of a satellite and code, whose phase is the last one from then on.
+    /// Returns the digits of a cell of a satellite and code. The phase of the cell is the last one
+    /// from then on.
     ///
     /// A cell without a phase has neither slip nor half-cycle mark nor rolls, and changes nothing.
     #[inline(always)]

@@ -1,8 +1,9 @@
 -- The counts of a code (this project's rule). What came of the code is listed newest first.
-use Rattle.std.specs.Prelude.{ℕ, ◌+◌, ◌*◌, ◌/◌, ◌==◌, Bool, false, not, ◌&&◌, ◌||◌, List, [], ◌∷◌, get_or, map, Option, None, Some, is_some, unwrap_or, min, max, if◌then◌else◌}
+use Rattle.std.specs.Prelude.{ℕ, ◌+◌, ◌*◌, ◌/◌, ◌==◌, Bool, not, ◌&&◌, ◌||◌, List, [], ◌∷◌, map, Option, None, Some, is_some, unwrap_or, if◌then◌else◌}
 use Rattle.std.specs.List.{list_any, range_with_len}
 use Rattle.rtk_rinex.specs.declared.epoch_table.Observed.{Observed}
 use Rattle.rtk_tracking.specs.Epochs.{capped, shown_at}
+use Rattle.rtk_tracking.specs.Extremes.{lesser, greater}
 use Rattle.rtk_tracking.specs.Passes.{Sighting, is_known}
 use Rattle.rtk_quality.specs.declared.code_counts.CodeCounts.{CodeCounts}
 
@@ -20,17 +21,6 @@ noted_of gap place (s ∷ before) =
 -- the code has a range, a phase or a strength
 abbrev pub is_observed : Observed → Bool
 is_observed o = is_some o.range_mm || (is_some o.phase_millicycles || is_some o.strength_millidbhz)
-
--- the lesser and the greater of two numbers; of one number, this number
-abbrev pub lesser : Option ℕ → Option ℕ → Option ℕ
-lesser None b = b
-lesser (Some a) None = Some a
-lesser (Some a) (Some b) = Some (min a b)
-
-abbrev pub greater : Option ℕ → Option ℕ → Option ℕ
-greater None b = b
-greater (Some a) None = Some a
-greater (Some a) (Some b) = Some (max a b)
 
 abbrev pub least_strength : List Noted → Option ℕ
 least_strength [] = None

@@ -2,8 +2,9 @@
 use Rattle.std.specs.Prelude.{ℕ, Bool, true, List, [], count_by, if◌then◌else◌}
 use Rattle.std.specs.List.{list_any, fold, range_with_len}
 use Rattle.rtk_rinex.specs.Record.{EpochTableView}
+use Rattle.rtk_tracking.specs.Extremes.{lesser, greater}
 use Rattle.rtk_tracking.specs.Passes.{Sighting, sightings_of}
-use Rattle.rtk_quality.specs.Counts.{plus, noted_of, counts_of, lesser, greater}
+use Rattle.rtk_quality.specs.Counts.{plus, noted_of, counts_of}
 use Rattle.rtk_quality.specs.SatellitePasses.{epochs_in_passes}
 use Rattle.rtk_quality.specs.declared.code_counts.CodeCounts.{CodeCounts}
 use Rattle.rtk_quality.specs.declared.code_numbers.CodeNumbers.{CodeNumbers}

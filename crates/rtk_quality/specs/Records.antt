@@ -2,8 +2,9 @@
 use Rattle.std.specs.Prelude.{ℕ, List, [], ◌∷◌, length, Option, None, Some, max}
 use Rattle.rtk_rinex.specs.Record.{EpochTableView}
 use Rattle.rtk_tracking.specs.Epochs.{capped, newest_moment}
+use Rattle.rtk_tracking.specs.Extremes.{lesser, greater}
 use Rattle.rtk_tracking.specs.Interval.{missing_in}
-use Rattle.rtk_quality.specs.Counts.{plus, lesser, greater}
+use Rattle.rtk_quality.specs.Counts.{plus}
 use Rattle.rtk_quality.specs.declared.record_counts.RecordCounts.{RecordCounts}
 
 -- the length in ms by which missing epochs are counted: the interval. A single epoch misses none by any.

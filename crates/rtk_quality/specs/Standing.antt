@@ -2,8 +2,6 @@
 use Rattle.std.specs.Prelude.{◌≡◌, ◌<◌, ℕ, ◌+◌, ◌==◌, Bool, true, false, List, [], ◌∷◌, ◌++◌, length, reverse, get_or, Option, None, Some, if◌then◌else◌}
 use Rattle.rtk_obs.specs.declared.time.Civil.{Civil}
 use Rattle.rtk_rinex.specs.Record.{EpochTableView}
-use Rattle.rtk_rinex.specs.Table.{WellFormedTable, IsWellFormedTable, table_text}
-use Rattle.rtk_tracking.specs.Epochs.{newest_first}
 use Rattle.rtk_tracking.specs.Passes.{Sighting, sightings_of, begins_pass}
 use Rattle.rtk_tracking.specs.Standing.{StandsForPass}
 use Rattle.rtk_quality.specs.Counts.{plus, code_counts_of}

@@ -3,8 +3,8 @@
 ghost use Rattle.std.specs.Prelude.{◌≡◌, List, [], ◌∷◌, if◌then◌else◌};
 ghost use Rattle.rtk_quality.specs.Counts.{Noted, plus, is_observed, counts_of};
 
-use crate::extremes::{greater, lesser};
 use rtk_rinex::Observed;
+use rtk_tracking::{greater, lesser};
 
 /// What came of a code: counts, and the least and the greatest strength in thousandths of a dB-Hz.
 #[derive(Clone, Copy)]

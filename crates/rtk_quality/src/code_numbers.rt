@@ -6,7 +6,7 @@ ghost use Rattle.rtk_quality.specs.Counts.{rounded_fraction, percent_tenths, pha
 ghost use Rattle.rtk_quality.specs.Quality.{together, no_numbers, with_satellite};
 
 use crate::code_counts::CodeCounts;
-use crate::extremes::{greater, lesser};
+use rtk_tracking::{greater, lesser};
 
 /// The counts of a code, and how many phases could be there.
 #[derive(Clone, Copy)]

@@ -3,7 +3,6 @@
 ghost use Rattle.std.specs.Prelude.{◌≡◌, ◌++◌, OnOk};
 ghost use Rattle.rtk_quality.specs.Forms.{point_text, line_number, json_number, value_text, moment_text, name_text, start_text, end_text, json_character, json_text};
 
-use crate::extremes::widened;
 use rtk_message::put_number;
 use rtk_obs::{Civil, put_civil, three_digits, two_digits};
 use std::alloc::AllocError;
@@ -92,6 +91,16 @@ pub(crate) fn put_value(
             text.extend_from_slice(key)?;
             put_json_number(text, number)
         }
+    }
+}
+
+// Returns the same number in 64 bits.
+fn widened(number: Option<u32>) -> Option<u64>
+    ensures { result ≡ number }
+{
+    match number {
+        Some(number) => Some(u64::from(number)),
+        None => None,
     }
 }
 

@@ -52,7 +52,6 @@ mod code_counts;
 mod code_numbers;
 mod document;
 mod entries;
-mod extremes;
 mod file_counts;
 mod form;
 mod heading;

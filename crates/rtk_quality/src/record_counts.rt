@@ -6,10 +6,9 @@ ghost use Rattle.rtk_tracking.specs.Epochs.{capped, newest_moment};
 ghost use Rattle.rtk_tracking.specs.Interval.{missing_in};
 ghost use Rattle.rtk_quality.specs.Records.{unit_of, record_counts_of};
 
-use crate::extremes::{greater, lesser};
 use rtk_obs::GpsMs;
 use rtk_rinex::EpochTable;
-use rtk_tracking::missing_between;
+use rtk_tracking::{greater, lesser, missing_between};
 
 /// The records so far, the epochs that are missing, the moment of the last record, and the satellites of
 /// all records together, of the record with the fewest, and of the one with the most.

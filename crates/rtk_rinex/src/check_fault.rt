@@ -42,7 +42,7 @@ impl Cause {
     ghost use Rattle.std.specs.Prelude.{◌≡◌};
     ghost use Rattle.rtk_rinex.specs.CauseText.{cause_text};
 
-    /// The code and the name of the cause, as the program shows them: `C1 HeaderLine`.
+    /// Returns the code and the name of the cause, as the program shows them: `C1 HeaderLine`.
     pub fn as_str(&self) -> &'static str
         ensures { result.now ≡ cause_text self.now }
     {

@@ -273,7 +273,7 @@ pub(crate) fn put_long_14_3(field: &mut [u8], value: i64)
     put_magnitude_14_3(field, value.unsigned_abs());
 }
 
-// F14.4 of a sign and a magnitude in ten-thousandths.
+// Returns a sign and a magnitude in ten-thousandths as F14.4.
 fn signed_14_4(negative: bool, magnitude: u64) -> [u8; 14]
     requires { magnitude < 10 ^ 12 }
     ensures { result ≡ right 14 (decimals 4 negative magnitude) }
@@ -288,7 +288,7 @@ fn signed_14_4(negative: bool, magnitude: u64) -> [u8; 14]
     field
 }
 
-/// F14.4 of a number of ten-thousandths.
+/// Returns a number of ten-thousandths as F14.4.
 pub(crate) fn fixed_14_4(value: i64) -> [u8; 14]
     requires low { negsuc 999_999_999_998 ≤ℤ value }
     requires high { value ≤ℤ pos 999_999_999_999 }
@@ -297,7 +297,7 @@ pub(crate) fn fixed_14_4(value: i64) -> [u8; 14]
     signed_14_4(value < 0, value.unsigned_abs())
 }
 
-/// F13.7 of a number of ten-millionths.
+/// Returns a number of ten-millionths as F13.7.
 pub(crate) fn unsigned_13_7(magnitude: u64) -> [u8; 13]
     requires { magnitude < 10 ^ 12 }
     ensures { result ≡ right 13 (decimals 7 false magnitude) }
@@ -309,7 +309,7 @@ pub(crate) fn unsigned_13_7(magnitude: u64) -> [u8; 13]
     field
 }
 
-/// I6.
+/// Returns a number as I6.
 pub(crate) fn integer_6(number: u64) -> [u8; 6]
     requires { number < 10 ^ 6 }
     ensures { result ≡ right 6 (decimal number) }
@@ -319,7 +319,7 @@ pub(crate) fn integer_6(number: u64) -> [u8; 6]
     field
 }
 
-/// I3.
+/// Returns a number as I3.
 pub(crate) fn integer_3(number: u64) -> [u8; 3]
     requires { number < 10 ^ 3 }
     ensures { result ≡ right 3 (decimal number) }
@@ -329,7 +329,7 @@ pub(crate) fn integer_3(number: u64) -> [u8; 3]
     field
 }
 
-/// The seconds of a date and time in units of 10^-7 s.
+/// Returns the seconds of a date and time in units of 10^-7 s.
 pub(crate) fn seconds(time: Civil) -> u64
     requires second { time.second < 60 }
     requires millisecond { time.millisecond < 1000 }

@@ -26,7 +26,8 @@ impl Model for CreationTime {
 }
 
 impl CreationTime {
-    /// This moment, if it is a whole second; else `HeadFault::Made`.
+    /// Makes the creation time of this moment if it is a whole second, else answers
+    /// `HeadFault::Made`.
     pub fn new(moment: GpsMs) -> Result<CreationTime, HeadFault>
         ensures moment { IfOk result (λ made. made ≡ moment) }
         ensures whole_second { IfOk result (λ made. made % 1000 ≡ 0) }
@@ -38,7 +39,7 @@ impl CreationTime {
         Ok(CreationTime { moment })
     }
 
-    /// The moment.
+    /// Returns the moment.
     pub fn moment(self) -> GpsMs
         ensures value { result ≡ self }
         ensures whole_second { result % 1000 ≡ 0 }

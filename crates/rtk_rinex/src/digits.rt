@@ -6,7 +6,7 @@ ghost use Rattle.std.specs.Prelude.{◌≡◌, ℕ, ◌+◌, ◌*◌, ◌^◌, �
 ghost use Rattle.rtk_rinex.specs.Steps.Digits.{digits_from, has_minus, number_in};
 ghost use Rattle.rtk_rinex.specs.Steps.Digits as spec;
 
-/// The first bytes of a text: as many as `width`, or all if it has fewer.
+/// Returns the first bytes of a text, as many as `width`, or all if it has fewer.
 pub(crate) fn front(text: &[u8], width: usize) -> &[u8]
     ensures value { result.now ≡ take width text.now }
     ensures len { length result.now ≤ width }
@@ -17,14 +17,15 @@ pub(crate) fn front(text: &[u8], width: usize) -> &[u8]
     text.split_at(width).0
 }
 
-/// The bytes of a text from a place on; no bytes if the text ends before it.
+/// Returns the bytes of a text from a place on, or no bytes if the text ends before it.
 pub(crate) fn after(text: &[u8], from: usize) -> &[u8]
     ensures { result.now ≡ drop from text.now }
 {
     text.split_at(text.len().min(from)).1
 }
 
-/// The bytes of a text in `width` columns after the first `from`, as far as the text has them.
+/// Returns the bytes of a text in `width` columns after the first `from`, as far as the text has
+/// them.
 pub(crate) fn columns_at(text: &[u8], from: usize, width: usize) -> &[u8]
     ensures value { result.now ≡ take width (drop from text.now) }
     ensures len { length result.now ≤ width }
@@ -32,14 +33,16 @@ pub(crate) fn columns_at(text: &[u8], from: usize, width: usize) -> &[u8]
     front(after(text, from), width)
 }
 
-/// Are two texts the same? It only hands on, and is here for its clause.
+/// Returns whether two texts are the same. The function only hands on, and it is here for its
+/// clause.
 pub(crate) fn is_same(text: &[u8], other: &[u8]) -> bool
     ensures { Decides result (text.now ≡ other.now) }
 {
     text == other
 }
 
-// The number after one more character: a digit is added to it, any other is passed over.
+// Returns the number after one more character. A digit is added to it, and any other character is
+// passed over.
 fn with_digit(value: u64, byte: u8) -> u64
     requires { value < 10 ^ 18 }
     ensures value { result ≡ spec.with_digit value byte }
@@ -52,7 +55,7 @@ fn with_digit(value: u64, byte: u8) -> u64
     }
 }
 
-/// The number that the digits of a text write, whatever stands between them.
+/// Returns the number that the digits of a text write, whatever stands between them.
 pub(crate) fn number_of_digits(text: &[u8]) -> u64
     requires { length text.now ≤ 18 }
     ensures value { result ≡ digits_from 0 text.now }
@@ -66,6 +69,7 @@ pub(crate) fn number_of_digits(text: &[u8]) -> u64
     value
 }
 
+// Returns whether a text has a minus sign.
 #[tactic(auto, unfolding(crate::specs::Steps::Digits::has_minus))]
 fn contains_minus(text: &[u8]) -> bool
     ensures { result ≡ has_minus text.now }
@@ -78,7 +82,7 @@ fn contains_minus(text: &[u8]) -> bool
     false
 }
 
-// The number that the digits of a text write, negative if it has a minus sign.
+// Returns the number that the digits of a text write, negative if it has a minus sign.
 fn number_in(text: &[u8]) -> i64
     requires { length text.now ≤ 18 }
     ensures { result ≡ number_in text.now }
@@ -91,7 +95,7 @@ fn number_in(text: &[u8]) -> i64
     }
 }
 
-/// The number that the digits in these columns write.
+/// Returns the number that the digits in these columns write.
 pub(crate) fn number_at(line: &[u8], from: usize, width: usize) -> u64
     requires { width ≤ 18 }
     ensures value { result ≡ digits_from 0 (take width (drop from line.now)) }
@@ -100,7 +104,7 @@ pub(crate) fn number_at(line: &[u8], from: usize, width: usize) -> u64
     number_of_digits(columns_at(line, from, width))
 }
 
-/// The number in 14 columns, negative if they have a minus sign.
+/// Returns the number in 14 columns, negative if they have a minus sign.
 pub(crate) fn signed_number_at(line: &[u8], from: usize) -> i64
     ensures { result ≡ number_in (take 14 (drop from line.now)) }
 {

@@ -22,7 +22,7 @@ pub(crate) struct EpochStamp {
     pub count: usize,
 }
 
-// The date and time that an epoch line shows; its seconds have been read before.
+// Returns the date and time that an epoch line shows. Its seconds have been read before.
 fn reading_in(line: &[u8], seconds: u64) -> Civil
     requires line { length line.now ≡ 35 }
     requires seconds { seconds ≡ seconds_in line.now }
@@ -40,8 +40,8 @@ fn reading_in(line: &[u8], seconds: u64) -> Civil
     }
 }
 
-/// The moment and count in the columns of an epoch line, read without a test of their form. If the
-/// columns are an epoch line, they are the line of this moment and this count.
+/// Returns the moment and count in the columns of an epoch line, read without a test of their form.
+/// If the columns are an epoch line, they are the line of this moment and this count.
 pub(crate) fn stamp_in(columns: &[u8]) -> Option<EpochStamp>
     requires { length columns.now ≡ 35 }
     ensures { MatchOption result
@@ -66,8 +66,8 @@ pub(crate) fn stamp_in(columns: &[u8]) -> Option<EpochStamp>
     })
 }
 
-/// The moment and count of an epoch line, which ends in LF; `None` exactly if the line is no epoch
-/// line.
+/// Returns the moment and count of an epoch line, which ends in LF, or `None` exactly if the line
+/// is no epoch line.
 pub(crate) fn read_epoch_line(line: &[u8]) -> Option<EpochStamp>
     ensures { MatchOption result
         ((t n : ℕ) → IsMoment t → IsInRange 1 32 n → line.now ≢ epoch_line (reading_of t) n)

@@ -81,7 +81,7 @@ fn put_observed(kept: &mut ArrayVec<Observed, 16>, observed: &[Observed])
 impl EpochTable {
     ghost use Rattle.rtk_rinex.specs.Record.{EpochTableView, IsEpochTableView, IsSatelliteRow};
 
-    /// The table of an epoch without satellites.
+    /// Makes the table of an epoch without satellites.
     pub fn new(time: GpsMs) -> EpochTable
         ensures { result ≡ record { time = time; rows = [] } }
     {
@@ -117,14 +117,14 @@ impl EpochTable {
         self.count += 1;
     }
 
-    /// The moment of the epoch.
+    /// Returns the moment of the epoch.
     pub fn time(&self) -> GpsMs
         ensures { result ≡ self.now.time }
     {
         self.time
     }
 
-    /// The rows of the satellites, rising.
+    /// Returns the rows of the satellites, which rise.
     pub fn rows(&self) -> &[SatelliteRow]
         ensures value { result.now ≡ self.now.rows }
         ensures good { IsEpochTableView self.now }

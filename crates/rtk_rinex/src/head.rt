@@ -30,7 +30,7 @@ impl Model for Head {
     ghost invariant = { λ h. IsHeadView (record { marker = h.marker; listed = h.listed.items; made = h.made }) };
 }
 
-// Is the code at this place unlike all before it?
+// Returns whether the code at this place is unlike all before it.
 fn is_new(listed: &[Code], at: usize) -> bool
     requires { at < length listed.now }
     ensures { Decides result ((k : ℕ) (d : Code) → k < at → slice_index_or listed.now k d ≢ slice_index_or listed.now at d) }
@@ -43,6 +43,7 @@ fn is_new(listed: &[Code], at: usize) -> bool
     true
 }
 
+// Returns whether there are 1 to 16 codes and none stands twice.
 fn is_code_list(listed: &[Code]) -> bool
     ensures { Decides result (IsCodeList listed.now) }
 {
@@ -57,7 +58,7 @@ fn is_code_list(listed: &[Code]) -> bool
     true
 }
 
-// The list of these codes, if it is good.
+// Returns the list of these codes if it is good, else `HeadFault::Codes`.
 fn code_list(codes: &[Code]) -> Result<ArrayVec<Code, 16>, HeadFault>
     ensures listed { IfOk result (λ listed. listed.items ≡ codes.now) }
     ensures good { IfOk result (λ listed. IsCodeList listed.items) }
@@ -76,7 +77,8 @@ fn code_list(codes: &[Code]) -> Result<ArrayVec<Code, 16>, HeadFault>
 impl Head {
     ghost use Rattle.rtk_rinex.specs.HeadFault.{IsHeadFault};
 
-    /// The head of these parts if they are good, else the first cause why they make no head.
+    /// Makes the head of these parts if they are good, else answers the first cause why they make
+    /// no head.
     pub fn new(marker: &[u8], codes: &[Code], made: GpsMs) -> Result<Head, HeadFault>
         ensures head { IfOk result (λ h. h ≡ record { marker = marker.now; listed = codes.now; made = made }) }
         ensures good { IfOk result IsHeadView }
@@ -92,7 +94,8 @@ impl Head {
         })
     }
 
-    /// The head of parts of which only the codes can be bad: then `HeadFault::Codes`.
+    /// Makes the head of parts of which only the codes can be bad. Then the answer is
+    /// `HeadFault::Codes`.
     pub fn from_parts(marker: Marker, codes: &[Code], made: CreationTime) -> Result<Head, HeadFault>
         ensures head { IfOk result (λ h. h ≡ record { marker = marker; listed = codes.now; made = made }) }
         ensures good { IfOk result IsHeadView }
@@ -105,7 +108,7 @@ impl Head {
         })
     }
 
-    /// The marker's name.
+    /// Returns the marker's name.
     pub fn marker(&self) -> &[u8]
         ensures value { result.now ≡ self.now.marker }
         ensures good { IsMarker result.now }
@@ -113,7 +116,7 @@ impl Head {
         self.marker.as_bytes()
     }
 
-    /// The codes, in the order in which they were handed in.
+    /// Returns the codes, in the order in which they were handed in.
     pub fn codes(&self) -> &[Code]
         ensures value { result.now ≡ self.now.listed }
         ensures good { IsCodeList result.now }
@@ -121,7 +124,7 @@ impl Head {
         self.listed.as_slice()
     }
 
-    /// The moment at which the file is made.
+    /// Returns the moment at which the file is made.
     pub fn made(&self) -> GpsMs
         ensures value { result ≡ self.now.made }
         ensures whole_second { result % 1000 ≡ 0 }

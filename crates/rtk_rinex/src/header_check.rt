@@ -21,8 +21,8 @@ use crate::record_text::trimmed_len;
 use memchr::memchr;
 use rtk_obs::{ALL_CODES, Civil, Code, GpsMs, Position, of_civil};
 
-// The date and time in the columns of the second line, whatever stands there: if they are no date, the
-// header that is written again differs in this line.
+// Returns the date and time in the columns of the second line, whatever stands there. If they are
+// no date, the header that is written again differs in this line.
 fn made_reading(line: &[u8]) -> Civil
     ensures { result ≡ made_civil line.now }
 {
@@ -37,7 +37,7 @@ fn made_reading(line: &[u8]) -> Civil
     }
 }
 
-// The moment that the second line shows; `None` only if it is the line of no moment.
+// Returns the moment that the second line shows, or `None` only if it is the line of no moment.
 fn read_made(line: &[u8]) -> Option<CreationTime>
     ensures { (t : ℕ) → IsMadeLine t line.now → result ≡ Some t }
 {
@@ -45,7 +45,7 @@ fn read_made(line: &[u8]) -> Option<CreationTime>
     CreationTime::new(moment).ok()
 }
 
-// The marker that the third line shows; `None` only if it is the line of no marker.
+// Returns the marker that the third line shows, or `None` only if it is the line of no marker.
 fn read_marker(line: &[u8]) -> Option<Marker>
     ensures { (m : List ℕ) → IsMarkerLine m line.now → result ≡ Some m }
 {
@@ -53,7 +53,8 @@ fn read_marker(line: &[u8]) -> Option<Marker>
     Marker::new(content.split_at(trimmed_len(content)).0).ok()
 }
 
-// The position that its line shows, with this height; `None` only if it is the line of no position.
+// Returns the position that its line shows, with this height, or `None` only if it is the line of
+// no position.
 fn read_position(line: &[u8], height: u16) -> Option<Position>
     ensures height { IfSome result (λ position. position.height ≡ height) }
     ensures shown { (s : PositionView) → IsPlaceLine s line.now
@@ -67,7 +68,8 @@ fn read_position(line: &[u8], height: u16) -> Option<Position>
     )
 }
 
-// The antenna's height that its line shows, in 0.0001 m; `None` only if it is the line of no height.
+// Returns the antenna's height that its line shows, in 0.0001 m, or `None` only if it is the line
+// of no height.
 fn read_height(line: &[u8]) -> Option<u16>
     ensures { (h : ℕ) → IsHeightLine h line.now → result ≡ Some h }
 {
@@ -78,8 +80,8 @@ fn read_height(line: &[u8]) -> Option<u16>
     Some(height as u16)
 }
 
-// How many codes the first line of the observation types shows; `None` only if it is the first line
-// of no number of codes.
+// Returns how many codes the first line of the observation types shows, or `None` only if it is the
+// first line of no number of codes.
 fn read_code_count(line: &[u8]) -> Option<usize>
     ensures good { IfSome result (IsInRange 1 16) }
     ensures shown { (n : ℕ) → IsCountLine n line.now → result ≡ Some n }
@@ -94,7 +96,7 @@ fn read_code_count(line: &[u8]) -> Option<usize>
 // The bytes of a line of a header, its LF included.
 const HEADER_LINE: usize = 81;
 
-// The line of a text that follows this number of lines of a header.
+// Returns the line of a text that follows this number of lines of a header.
 fn text_line(text: &[u8], lines: usize) -> &[u8]
     requires { 81 * lines < 2 ^ 64 }
     ensures { result.now ≡ line_at lines text.now }
@@ -102,7 +104,7 @@ fn text_line(text: &[u8], lines: usize) -> &[u8]
     columns_at(text, HEADER_LINE * lines, HEADER_LINE)
 }
 
-// The name of the code that follows `before` codes in the lines of observation types.
+// Returns the name of the code that follows `before` codes in the lines of observation types.
 fn read_name(text: &[u8], before: usize) -> &[u8]
     requires { before < 16 }
     ensures { result.now ≡ name_at before text.now }
@@ -115,7 +117,7 @@ fn read_name(text: &[u8], before: usize) -> &[u8]
     )
 }
 
-// The place of a code in a list of all codes.
+// Returns the place of a code in a list of all codes.
 fn place_in(all: &[Code; 16], code: Code) -> Option<usize>
     ensures { MatchOption result ((k : ℕ) → k < 16 → slice_index_or all.now k code ≢ code)
         (λ k. (k < 16) × (slice_index_or all.now k code ≡ code)) }
@@ -159,9 +161,9 @@ fn move_named_code(all: &mut [Code; 16], name: &[u8], place: usize)
     }
 }
 
-// All codes in an order that begins with the codes that the text names, as long as they are good. A
-// header that shows the same names lists these codes. Codes change places in `ALL_CODES`, so all
-// stay distinct, and `Head::from_parts` can't refuse the first ones.
+// Returns all codes in an order that begins with the codes that the text names, as long as they are
+// good. A header that shows the same names lists these codes. Codes change places in `ALL_CODES`,
+// so all stay distinct, and `Head::from_parts` can't refuse the first ones.
 fn read_codes(text: &[u8]) -> [Code; 16]
     ensures all { AreAllCodes result }
     ensures shown { (listed : List Code) (i : ℕ) (d : Code) → AllPairs (λ a b. a ≢ b) listed → i < length listed → i < 16
@@ -175,7 +177,8 @@ fn read_codes(text: &[u8]) -> [Code; 16]
     all
 }
 
-// The date and time in the line of the first observation; its seconds have been read before.
+// Returns the date and time in the line of the first observation. Its seconds have been read
+// before.
 fn first_reading(line: &[u8], seconds: u64) -> Civil
     requires seconds { seconds ≡ number_at 30 13 line.now }
     requires minute { seconds < 600_000_000 }
@@ -192,7 +195,8 @@ fn first_reading(line: &[u8], seconds: u64) -> Civil
     }
 }
 
-// The moment that the line of the first observation shows; `None` only if it is the line of no moment.
+// Returns the moment that the line of the first observation shows, or `None` only if it is the line
+// of no moment.
 fn read_first(line: &[u8]) -> Option<GpsMs>
     ensures { (t : ℕ) → IsFirstLine t line.now → result ≡ Some t }
 {
@@ -218,7 +222,7 @@ pub(crate) struct HeaderRead {
     pub used: usize,
 }
 
-// The moment 0.
+// Returns the moment 0.
 fn any_moment() -> GpsMs
     ensures { result ≡ 0 }
 {
@@ -228,7 +232,7 @@ fn any_moment() -> GpsMs
     moment
 }
 
-// The moment 0, a whole second.
+// Returns the moment 0, which is a whole second.
 fn any_creation_time() -> CreationTime {
     let Ok(made) = CreationTime::new(any_moment()) else {
         unreachable!();
@@ -236,7 +240,7 @@ fn any_creation_time() -> CreationTime {
     made
 }
 
-// A marker whose name is a hyphen.
+// Returns a marker whose name is a hyphen.
 fn any_marker() -> Marker {
     let Ok(marker) = Marker::new(b"-") else {
         unreachable!();
@@ -244,7 +248,7 @@ fn any_marker() -> Marker {
     marker
 }
 
-// The earth's center, with this height.
+// Returns the earth's center with this height.
 fn any_position(height: u16) -> Position
     ensures { result.height ≡ height }
 {
@@ -254,8 +258,8 @@ fn any_position(height: u16) -> Position
     center
 }
 
-// A header of the parts that the lines of a text show. If the text begins with a header, it is this
-// one.
+// Returns a header of the parts that the lines of a text show. If the text begins with a header, it
+// is this one.
 //
 // A line that shows no part is the line of no part. So a header with any part in its place is unlike
 // the text in this line, as each header is.
@@ -289,6 +293,7 @@ fn read_header(text: &[u8]) -> HeaderRead
     }
 }
 
+// Returns whether a header and a text have the same line after this number of lines.
 fn have_same_line(header: &[u8], text: &[u8], lines: usize) -> bool
     requires { 81 * lines < 2 ^ 64 }
     ensures { Decides result (line_at lines header.now ≡ line_at lines text.now) }
@@ -296,7 +301,7 @@ fn have_same_line(header: &[u8], text: &[u8], lines: usize) -> bool
     is_same(text_line(header, lines), text_line(text, lines))
 }
 
-// The first line of a header that a text doesn't have, counted from 0.
+// Returns the first line of a header that a text doesn't have, counted from 0.
 fn unlike_line(header: &[u8], text: &[u8]) -> Option<usize>
     requires { length header.now % 81 ≡ 0 }
     ensures { MatchOption result
@@ -312,7 +317,7 @@ fn unlike_line(header: &[u8], text: &[u8]) -> Option<usize>
     None
 }
 
-/// The place of the LF that ends the first line of a text, if one does.
+/// Returns the place of the LF that ends the first line of a text, or `None` if no LF does.
 pub(crate) fn line_end(text: &[u8]) -> Option<usize>
     ensures parts { MatchOption result (HasNoEnd text.now)
         (λ n. HasNoEnd (take n text.now) × (text.now ≡ take n text.now ++ 10 ∷ drop (n + 1) text.now)) }
@@ -321,7 +326,7 @@ pub(crate) fn line_end(text: &[u8]) -> Option<usize>
     memchr(b'\n', text)
 }
 
-/// The parts of the header with which a text begins, else its first wrong line.
+/// Returns the parts of the header with which a text begins, else its first wrong line.
 pub(crate) fn check_header(text: &[u8]) -> Result<HeaderRead, CheckFault>
     ensures good { IfOk result (λ r. IsHeadView r.head × IsPositionView (position_view r.position) × IsMoment r.first) }
     ensures text { IfOk result (λ r. text.now ≡ header_text r.head (position_view r.position) r.first ++ drop r.used text.now) }

@@ -45,6 +45,7 @@ fn put_header_line(out: &mut ArrayVec<u8, LONGEST_HEADER>, content: &[u8], label
     append(out, b"\n");
 }
 
+// Returns the 20 columns of the date and time at which the file is made.
 fn made_field(made: Civil) -> [u8; 20]
     ensures { result ≡ made_text made }
 {
@@ -58,6 +59,7 @@ fn made_field(made: Civil) -> [u8; 20]
     field
 }
 
+// Returns the columns of the line with the program and the time at which the file is made.
 fn made_content(made: Civil) -> ArrayVec<u8, 60>
     ensures value { result.items ≡ codes "rtcm2rinex                              " ++ made_text made }
     ensures len { length result.items ≤ 60 }
@@ -68,8 +70,8 @@ fn made_content(made: Civil) -> ArrayVec<u8, 60>
     content
 }
 
-// The lines up to the antenna's type. Observer, receiver and antenna are blank, since no message that is
-// converted tells them.
+// Puts the lines up to the antenna's type. Observer, receiver and antenna are blank, since no
+// message that is converted tells them.
 fn put_first_lines(out: &mut ArrayVec<u8, LONGEST_HEADER>, marker: &[u8], made: Civil)
     requires marker { length marker.now ≤ 60 }
     requires room { length out.old.items + 567 ≤ 1377 }
@@ -89,6 +91,7 @@ fn put_first_lines(out: &mut ArrayVec<u8, LONGEST_HEADER>, marker: &[u8], made: 
     put_header_line(out, b"", b"ANT # / TYPE");
 }
 
+// Returns the columns of the line with the position.
 fn position_content(position: &Position) -> ArrayVec<u8, 60>
     ensures value { result.items ≡ fixed 4 14 position.now.x ++ fixed 4 14 position.now.y ++ fixed 4 14 position.now.z }
     ensures len { length result.items ≤ 60 }
@@ -100,6 +103,8 @@ fn position_content(position: &Position) -> ArrayVec<u8, 60>
     content
 }
 
+// Returns the columns of the line with the antenna's height. Its offsets to the east and to the
+// north are zero.
 fn height_content(height: u16) -> ArrayVec<u8, 60>
     ensures value { result.items ≡ fixed 4 14 (pos height) ++ codes "        0.0000        0.0000" }
     ensures len { length result.items ≤ 60 }
@@ -110,6 +115,7 @@ fn height_content(height: u16) -> ArrayVec<u8, 60>
     content
 }
 
+// Puts the lines of the position and of the antenna's height.
 fn put_position_lines(out: &mut ArrayVec<u8, LONGEST_HEADER>, position: &Position)
     requires room { length out.old.items + 162 ≤ 1377 }
     ensures items { out.new.items ≡ out.old.items ++ position_lines (position_view position.now) }
@@ -127,6 +133,8 @@ fn put_position_lines(out: &mut ArrayVec<u8, LONGEST_HEADER>, position: &Positio
     );
 }
 
+// Returns the observation types of a code: its pseudorange, its phase and its strength, four
+// columns each.
 fn types_of_code(code: Code) -> [u8; 12]
     ensures { result ≡ types_of code }
 {
@@ -136,7 +144,7 @@ fn types_of_code(code: Code) -> [u8; 12]
     ]
 }
 
-// The observation types of the codes, four columns each.
+// Returns the observation types of the codes, four columns each.
 fn types_of_codes(listed: &[Code]) -> ArrayVec<u8, 192>
     requires { length listed.now ≤ 16 }
     ensures value { result.items ≡ types listed.now }
@@ -149,6 +157,8 @@ fn types_of_codes(listed: &[Code]) -> ArrayVec<u8, 192>
     text
 }
 
+// Returns the columns of the first line of observation types: how many types there are, and those
+// that it shows.
 fn types_content(count: usize, shown: &[u8]) -> ArrayVec<u8, 60>
     requires count { count ≤ 48 }
     requires shown { length shown.now ≤ 52 }
@@ -162,6 +172,7 @@ fn types_content(count: usize, shown: &[u8]) -> ArrayVec<u8, 60>
     content
 }
 
+// Returns the columns of a further line of observation types.
 fn continuation_content(text: &[u8]) -> ArrayVec<u8, 60>
     ensures value { result.items ≡ codes "      " ++ take 52 text.now }
     ensures len { length result.items ≤ 60 }
@@ -172,7 +183,7 @@ fn continuation_content(text: &[u8]) -> ArrayVec<u8, 60>
     content
 }
 
-// A further line of types, if any types are left.
+// Puts a further line of observation types if any types are left.
 fn put_continuation_line(out: &mut ArrayVec<u8, LONGEST_HEADER>, text: &[u8])
     requires room { length out.old.items + 81 ≤ 1377 }
     ensures items { out.new.items ≡ out.old.items ++ continuation_line text.now }
@@ -183,7 +194,8 @@ fn put_continuation_line(out: &mut ArrayVec<u8, LONGEST_HEADER>, text: &[u8])
     }
 }
 
-// Thirteen types of four columns stand on a line, so 52 columns; 16 codes have 192 columns.
+// Puts the lines of the observation types. Thirteen types of four columns stand on a line, which
+// are 52 columns. 16 codes have 192 columns.
 fn put_types_lines(out: &mut ArrayVec<u8, LONGEST_HEADER>, listed: &[Code])
     requires listed { length listed.now ≤ 16 }
     requires room { length out.old.items + 324 ≤ 1377 }
@@ -202,6 +214,7 @@ fn put_types_lines(out: &mut ArrayVec<u8, LONGEST_HEADER>, listed: &[Code])
     put_continuation_line(out, after(text, 156));
 }
 
+// Returns the columns of the line with the time of the first observation.
 fn first_content(first: Civil) -> ArrayVec<u8, 60>
     requires second { first.second < 60 }
     requires millisecond { first.millisecond < 1000 }
@@ -219,6 +232,7 @@ fn first_content(first: Civil) -> ArrayVec<u8, 60>
     content
 }
 
+// Puts the lines after the observation types.
 fn put_last_lines(out: &mut ArrayVec<u8, LONGEST_HEADER>, first: Civil)
     requires second { first.second < 60 }
     requires millisecond { first.millisecond < 1000 }
@@ -232,7 +246,7 @@ fn put_last_lines(out: &mut ArrayVec<u8, LONGEST_HEADER>, first: Civil)
     put_header_line(out, b"", b"END OF HEADER");
 }
 
-/// The header of a file of this head, whose first observation is at `first`.
+/// Returns the header of a file of this head, whose first observation is at `first`.
 pub(crate) fn header_lines(
     head: &Head,
     position: &Position,
@@ -248,7 +262,7 @@ pub(crate) fn header_lines(
     out
 }
 
-/// The header of a file of this head, whose first observation is at `first`.
+/// Returns the header of a file of this head, whose first observation is at `first`.
 ///
 /// The position is the antenna reference point, and its height is the antenna's height above it.
 /// Memory is taken once. Source: RINEX 3.05, Table A2.

@@ -30,7 +30,7 @@ impl Model for Marker {
 }
 
 impl Marker {
-    /// The marker of this name, if it is good; else `HeadFault::Marker`.
+    /// Makes the marker of this name if it is good, else answers `HeadFault::Marker`.
     pub fn new(name: &[u8]) -> Result<Marker, HeadFault>
         ensures name { IfOk result (λ marker. marker ≡ name.now) }
         ensures good { IfOk result IsMarker }
@@ -46,7 +46,7 @@ impl Marker {
         Ok(Marker { name: kept })
     }
 
-    /// The bytes of the name.
+    /// Returns the bytes of the name.
     pub fn as_bytes(&self) -> &[u8]
         ensures value { result.now ≡ self.now }
         ensures good { IsMarker self.now }

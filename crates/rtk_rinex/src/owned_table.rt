@@ -29,21 +29,21 @@ impl Model for Table {
 }
 
 impl Table {
-    /// How many records it has.
+    /// Returns how many records the table has.
     pub fn epochs(&self) -> usize
         ensures { result ≡ self.now.epochs }
     {
         self.counts.epochs
     }
 
-    /// How many satellite lines its records have.
+    /// Returns how many satellite lines the records of the table have.
     pub fn satellites(&self) -> usize
         ensures { result ≡ self.now.satellites }
     {
         self.counts.satellites
     }
 
-    /// The same table, for the calls that read one in its text.
+    /// Returns the same table, for the calls that read one in its text.
     pub fn as_text_table(&self) -> TextTable<'_>
         ensures { result ≡ self.now }
     {
@@ -51,7 +51,7 @@ impl Table {
     }
 }
 
-// The first line of a text, with its LF if it has one, and the text after the line.
+// Returns the first line of a text, with its LF if it has one, and the text after the line.
 fn first_line(text: &[u8]) -> (&[u8], &[u8])
     requires { text.now ≢ [] }
     ensures text { text.now ≡ result.0.now ++ result.1.now }
@@ -75,7 +75,8 @@ fn keep_line(text: &mut Vec<u8>, line: &[u8], number: usize) -> Result<(), Check
     })
 }
 
-// A copy of a text. It takes memory line by line, so that a refusal can say which line was read.
+// Returns a copy of a text. It takes memory line by line, so that a refusal can say which line was
+// read.
 fn kept_text(alloc: Global, bytes: &[u8]) -> Result<Vec<u8>, CheckFault>
     ensures text { IfOk result (λ text. text.items ≡ bytes.now) }
     ensures memory { IfErr result (λ fault. (fault.cause ≡ Cause.OutOfMemory) × HasLine bytes.now fault.line) }
@@ -92,7 +93,8 @@ fn kept_text(alloc: Global, bytes: &[u8]) -> Result<Vec<u8>, CheckFault>
     Ok(text)
 }
 
-/// The well-formed table whose text this is, if there is one; else the first line that is wrong.
+/// Returns the well-formed table whose text this is if there is one, else the first line that is
+/// wrong.
 ///
 /// The text is checked in its place, as by `check_text`, and then kept line by line. So a text with a
 /// fault is refused with this fault, whether there is memory or not.
@@ -111,7 +113,7 @@ pub fn check(alloc: Global, bytes: &[u8]) -> Result<Table, CheckFault>
     })
 }
 
-/// The text of a table; memory is taken once.
+/// Returns the text of a table. Memory is taken once.
 pub fn text(alloc: Global, table: &Table) -> Result<Vec<u8>, AllocError>
     // Fails only if memory is refused: tests/system/calls, rows `text ..`.
     ensures text { IfOk result (λ t. t.items ≡ table.now.text) }

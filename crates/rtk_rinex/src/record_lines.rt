@@ -36,9 +36,9 @@ pub struct RecordLines {
     count: usize,
 }
 
-// Clauses see the text, the count and what is written of the next line. The last part of the invariant
-// names every field, so that no field can be added in which records are kept unseen; the part before
-// it bounds what is kept.
+// Clauses see the text, the count and what is written of the next line. The first part of the invariant
+// bounds what is kept. The last part names every field, so nobody can add a field in which records are
+// kept unseen: the equation would then fail to check.
 impl Model for RecordLines {
     ghost use Rattle.std.specs.Prelude.{◌≡◌, drop, max, nat_lt, take};
     ghost use Rattle.rtk_rinex.specs.RecordLines.{IsKeptText, RecordLinesView};
@@ -128,7 +128,7 @@ fn end_line_at(text: &mut [u8], at: usize, satellite: u8, end: usize) -> usize
 }
 
 impl RecordLines {
-    /// No satellite yet. It takes no memory.
+    /// Makes a text without satellites. It takes no memory.
     pub fn new(alloc: Global) -> RecordLines
         ensures { HoldsLines result [] }
     {
@@ -185,8 +185,9 @@ impl RecordLines {
         }
     }
 
-    /// Ends the open line as that of this satellite. A line without a written observation is left out. In
-    /// a record of RINEX the satellites rise, and each line has the same codes; that is for the caller.
+    /// Ends the open line as that of this satellite. A line without a written observation is left
+    /// out. In a record of RINEX the satellites rise, and each line has the same codes. The caller
+    /// has to see to that.
     pub fn close_line(&mut self, satellite: u8)
         requires { self.old.count < 32 }
         ensures { (rows : List SatelliteRow) (observed : List Observed) → HoldsLines self.old rows → HasOpenLine self.old observed
@@ -211,8 +212,8 @@ impl RecordLines {
         }
     }
 
-    /// Adds the line of a satellite, if an observation of it is written. In a record of RINEX the
-    /// satellites rise, and each line has the same codes; that is for the caller.
+    /// Adds the line of a satellite if an observation of it is written. In a record of RINEX the
+    /// satellites rise, and each line has the same codes. The caller has to see to that.
     ///
     /// Memory is taken only if the text has no room for a line with each value.
     pub fn push_row(&mut self, satellite: u8, observed: &[Observed]) -> Result<(), AllocError>
@@ -228,7 +229,7 @@ impl RecordLines {
         Ok(())
     }
 
-    /// Writes the epoch line before the lines, if there are any: the text is the record.
+    /// Writes the epoch line before the lines if there are any. The text is the record then.
     pub fn finish(&mut self, time: GpsMs)
         ensures text { (rows : List SatelliteRow) → HoldsLines self.old rows
             → self.new.text ≡ record_text (record { time = time; rows = rows }) }
@@ -239,7 +240,8 @@ impl RecordLines {
         }
     }
 
-    /// The text: after `finish` that of the record, or no bytes if no observation is written.
+    /// Returns the text. After `finish` it is the text of the record, or no bytes if no observation
+    /// is written.
     pub fn text(&self) -> &[u8]
         ensures { result.now ≡ self.now.text }
     {
@@ -258,7 +260,7 @@ impl RecordLines {
         Ok(())
     }
 
-    // The text, with its memory.
+    // Returns the text, with its memory.
     fn into_text(self) -> Vec<u8>
         ensures { result.items ≡ self.text }
     {
@@ -268,7 +270,7 @@ impl RecordLines {
     }
 }
 
-/// The record of an epoch, in a file of this head; no bytes if no observation is written.
+/// Returns the record of an epoch in a file of this head, or no bytes if no observation is written.
 ///
 /// Satellites without a written observation are left out, and not counted on the epoch line. Memory
 /// is taken at most once. Source: RINEX 3.05, Table A3.

@@ -19,8 +19,9 @@ const LEAST_F14_3: i64 = -999_999_999_999;
 // The greatest value that F14.3 has room for, in thousandths.
 const GREATEST_F14_3: i64 = 9_999_999_999_999;
 
-// Is it a value that F14.3 has room for, in thousandths, and not 0? A phase with rolls was tested
-// by `rolled` of rtk_obs, but an `Observed` of any program may have any value.
+// Returns whether a value in thousandths is written, which means that F14.3 has room for it and it
+// is not 0. A phase with rolls was tested by `rolled` of rtk_obs, but an `Observed` of any program
+// may have any value.
 fn is_written_value(value: i64) -> bool
     ensures { result ≡ is_written value }
 {
@@ -62,8 +63,8 @@ fn put_observation(field: &mut [u8], value: Option<i64>, first: u8, second: u8)
     }
 }
 
-/// The signal strength digit of a strength in thousandths of a dB-Hz. `level_of` in observations.rt
-/// of rtk_chart gives it as a number.
+/// Returns the signal strength digit of a strength in thousandths of a dB-Hz. `level_of` in
+/// observations.rt of rtk_chart gives it as a number.
 pub(crate) fn digit_of_strength(strength: Option<u32>) -> u8
     ensures { result ≡ strength_digit strength }
 {
@@ -73,6 +74,8 @@ pub(crate) fn digit_of_strength(strength: Option<u32>) -> u8
     }
 }
 
+// Returns the loss-of-lock digit of a slip and a half-cycle ambiguity, or a blank if there is
+// neither.
 fn digit_of_lock(slip: bool, half: bool) -> u8
     ensures { result ≡ lli_digit slip half }
 {
@@ -83,6 +86,7 @@ fn digit_of_lock(slip: bool, half: bool) -> u8
     }
 }
 
+// Returns a signal strength in thousandths of a dB-Hz as a value of an observation.
 fn value_of_strength(strength: Option<u32>) -> Option<i64>
     ensures { result ≡ strength_value strength }
 {
@@ -124,7 +128,8 @@ pub(crate) fn put_columns(columns: &mut [u8], observed: &Observed)
     put_strength(&mut columns[32..], observed.strength_millidbhz);
 }
 
-// Do two blanks stand at the end, and no third one? So the columns of a strength end.
+// Returns whether two blanks stand at the end and no third one, as at the end of the columns of a
+// strength.
 fn has_two_blanks(bytes: &[u8]) -> bool
     ensures { IsTrue result → (2 ≤ length bytes.now) × (take (length bytes.now - 2) bytes.now ≡ trim_end bytes.now) }
 {
@@ -135,7 +140,7 @@ fn has_two_blanks(bytes: &[u8]) -> bool
     bytes[len - 1] == b' '
 }
 
-/// The number of bytes before the blanks at the end.
+/// Returns the number of bytes before the blanks at the end.
 pub(crate) fn trimmed_len(bytes: &[u8]) -> usize
     ensures within { result ≤ length bytes.now }
     ensures value { take result bytes.now ≡ trim_end bytes.now }
@@ -150,6 +155,7 @@ pub(crate) fn trimmed_len(bytes: &[u8]) -> usize
     end
 }
 
+// Returns whether there is a value and it is written.
 fn is_present(value: Option<i64>) -> bool
     ensures { result ≡ is_present value }
 {
@@ -159,7 +165,7 @@ fn is_present(value: Option<i64>) -> bool
     }
 }
 
-/// Is an observation of the code written?
+/// Returns whether an observation of the code is written.
 #[inline(always)]
 pub(crate) fn has_observation(observed: &Observed) -> bool
     ensures { result ≡ has_observation observed.now }
@@ -169,7 +175,7 @@ pub(crate) fn has_observation(observed: &Observed) -> bool
         || is_present(observed.phase_millicycles)
 }
 
-/// Is an observation of the satellite written, so that it has a line?
+/// Returns whether an observation of the satellite is written, so that it has a line.
 pub(crate) fn has_line(row: &SatelliteRow) -> bool
     ensures { result ≡ has_line row.now }
 {
@@ -252,7 +258,7 @@ pub(crate) fn put_epoch_line(text: &mut [u8], time: Civil, count: usize)
     put_count(&mut text[29..EPOCH_LINE], count);
 }
 
-/// The epoch line of a date and time and a count of satellites.
+/// Returns the epoch line of a date and time and a count of satellites.
 pub(crate) fn epoch_line(time: Civil, count: usize) -> [u8; EPOCH_LINE]
     requires year { time.year < 10_000 }
     requires date { (time.month < 100) × (time.day < 100) }

@@ -82,7 +82,7 @@ fn read_record<'a>(text: &'a [u8], code_count: usize, epoch: &mut EpochTable) ->
     read_rows(after, code_count, stamp.count, epoch)
 }
 
-// The text after `count` satellite lines.
+// Returns the text after `count` satellite lines.
 fn skip_rows<'a>(text: &'a [u8], count: usize) -> &'a [u8]
     requires { ∥ BeginsWithRows count text.now ∥₁ }
     ensures { (rows : List SatelliteRow) (rest : List ℕ) → length rows ≡ count → text.now ≡ flat_map satellite_line rows ++ rest
@@ -98,7 +98,8 @@ fn skip_rows<'a>(text: &'a [u8], count: usize) -> &'a [u8]
     rest
 }
 
-// The moment of the record that begins a text, and the text after the record, whose values are not read.
+// Returns the moment of the record that begins a text, and the text after the record, whose values
+// are not read.
 fn skip_record<'a>(text: &'a [u8]) -> (GpsMs, &'a [u8])
     requires { ∥ ((code_count : ℕ) × BeginsWithRecord code_count text.now) ∥₁ }
     ensures { (code_count : ℕ) (e : EpochTableView) (rest : List ℕ) → IsTableEpoch code_count e → text.now ≡ record_text e ++ rest
@@ -116,7 +117,7 @@ fn skip_record<'a>(text: &'a [u8]) -> (GpsMs, &'a [u8])
 impl<'a> Records<'a> {
     ghost use Rattle.rtk_rinex.specs.Records.{RecordsView, AreLeft, IsRecordsView, IsNextOf, IsNextTimeOf};
 
-    /// The records that a text is, in a file of `code_count` codes.
+    /// Makes the iteration over the records that a text is, in a file of `code_count` codes.
     pub(crate) fn of_text(text: &'a [u8], code_count: usize) -> Records<'a>
         requires { IsRecordsView (record { code_count = code_count; text = text.now }) }
         ensures { result ≡ record { code_count = code_count; text = text.now } }
@@ -127,8 +128,8 @@ impl<'a> Records<'a> {
         }
     }
 
-    /// Reads the next record into `epoch`, and returns its text; after the last one `None`, and
-    /// `epoch` stays as it was.
+    /// Reads the next record into `epoch`, and returns its text. After the last record the answer
+    /// is `None`, and `epoch` stays as it was.
     ///
     /// The rows have an `Observed` for each code of the header, in its order; a value that is blank
     /// in the file is `None`.
@@ -151,8 +152,8 @@ impl<'a> Records<'a> {
         Some(text)
     }
 
-    /// Reads the moment of the next record, and goes on after the record, whose values are not read; after
-    /// the last one `None`.
+    /// Reads the moment of the next record, and goes on after the record, whose values are not
+    /// read. After the last record the answer is `None`.
     pub fn next_time(&mut self) -> Option<GpsMs>
         ensures next { (epochs : List EpochTableView) → AreLeft self.old epochs
             → MatchOption result (epochs ≡ []) (λ time. IsNextTimeOf epochs time self.new) }

@@ -18,6 +18,8 @@ use crate::header_check::line_end;
 use crate::satellite_line_check::is_row_line;
 use rtk_obs::GpsMs;
 
+// Returns whether a record at this time may follow the record `last`, or be the first one at the
+// time `first`.
 fn is_next_time(first: GpsMs, last: Option<GpsMs>, time: GpsMs) -> bool
     ensures { IsTrue result ↔ IsNextTime first last time }
 {
@@ -27,8 +29,8 @@ fn is_next_time(first: GpsMs, last: Option<GpsMs>, time: GpsMs) -> bool
     }
 }
 
-// The moment and count of an epoch line that follows the epoch `last`, in a file of this first
-// time; else the cause of its fault.
+// Returns the moment and count of an epoch line that follows the epoch `last`, in a file of this
+// first time, else the cause of its fault.
 fn check_epoch_line(line: &[u8], first: GpsMs, last: Option<GpsMs>) -> Result<EpochStamp, Cause>
     ensures line { IfOk result (λ s. IsEpochLine line.now s.time s.count × IsNextTime first last s.time) }
     ensures fault { IfErr result (IsEpochFault first last line.now) }
@@ -42,7 +44,7 @@ fn check_epoch_line(line: &[u8], first: GpsMs, last: Option<GpsMs>) -> Result<Ep
     Ok(stamp)
 }
 
-// The satellite that a line names in its first three columns.
+// Returns the satellite that a line names in its first three columns.
 fn satellite_named(line: &[u8]) -> Option<u8>
     ensures { MatchOption result
         ((s : ℕ) → IsInRange 1 32 s → take 3 line.now ≢ 71 ∷ last_digits 2 s)
@@ -61,7 +63,7 @@ fn satellite_named(line: &[u8]) -> Option<u8>
     Some(satellite)
 }
 
-/// The satellite of a line that has the form of a satellite line.
+/// Returns the satellite of a line that has the form of a satellite line.
 pub(crate) fn satellite_of_form(line: &[u8], code_count: usize) -> Option<u8>
     requires { code_count ≤ 16 }
     ensures { MatchOption result
@@ -75,6 +77,7 @@ pub(crate) fn satellite_of_form(line: &[u8], code_count: usize) -> Option<u8>
     Some(satellite)
 }
 
+// Returns whether the line of this satellite may follow the line of the satellite `last`.
 fn is_next_satellite(last: Option<u8>, satellite: u8) -> bool
     ensures { IsTrue result ↔ IsNextSatellite last satellite }
 {
@@ -84,8 +87,8 @@ fn is_next_satellite(last: Option<u8>, satellite: u8) -> bool
     }
 }
 
-// The satellite of a satellite line that follows the line of the satellite `last`, in a file of
-// `code_count` codes; else the cause of its fault.
+// Returns the satellite of a satellite line that follows the line of the satellite `last`, in a
+// file of `code_count` codes, else the cause of its fault.
 fn check_satellite_line(line: &[u8], code_count: usize, last: Option<u8>) -> Result<u8, Cause>
     requires code_count { code_count ≤ 16 }
     requires line { IsLine line.now }
@@ -112,7 +115,8 @@ pub(crate) struct LineCounts {
     pub satellites: usize,
 }
 
-/// The first line of a text with its LF, and the text after it; `None` if no LF ends the line.
+/// Returns the first line of a text with its LF and the text after it, or `None` if no LF ends the
+/// line.
 pub(crate) fn next_line(text: &[u8]) -> Option<(&[u8], &[u8])>
     ensures { MatchOption result
         (HasNoEnd text.now)

@@ -26,7 +26,7 @@ const NOTHING: Observed = Observed {
     half: false,
 };
 
-// The columns of a code, of which blanks at the end may be missing.
+// Returns the columns of a code, of which blanks at the end may be missing.
 fn padded(columns: &[u8]) -> ArrayVec<u8, CODE_COLUMNS>
     requires { length columns.now ≤ 48 }
     ensures value { result.items ≡ left 48 columns.now }
@@ -39,8 +39,8 @@ fn padded(columns: &[u8]) -> ArrayVec<u8, CODE_COLUMNS>
     whole
 }
 
-/// What the columns of a code show, of which blanks at the end may be missing; `None` exactly if
-/// nothing that a code can show is written so.
+/// Returns what the columns of a code show, of which blanks at the end may be missing, or `None`
+/// exactly if nothing that a code can show is written so.
 pub(crate) fn shown_cell(columns: &[u8]) -> Option<Observed>
     requires { length columns.now ≤ 48 }
     ensures { MatchOption result
@@ -56,7 +56,7 @@ pub(crate) fn shown_cell(columns: &[u8]) -> Option<Observed>
     shown_observed(padded(columns).as_slice())
 }
 
-// Do these columns show what a code can show? Blanks at the end may be missing.
+// Returns whether these columns show what a code can show. Blanks at the end may be missing.
 fn is_cell(columns: &[u8]) -> bool
     requires { length columns.now ≤ 48 }
     ensures { IsTrue result ↔ IsCell columns.now }
@@ -64,7 +64,8 @@ fn is_cell(columns: &[u8]) -> bool
     shown_cell(columns).is_some()
 }
 
-// Do these columns show `code_count` codes, one after another? Blanks at the end may be missing.
+// Returns whether these columns show `code_count` codes, one after another. Blanks at the end may
+// be missing.
 fn are_cells(columns: &[u8], code_count: usize) -> bool
     requires code_count { code_count ≤ 16 }
     requires few { length columns.now ≤ 48 * code_count }
@@ -78,8 +79,8 @@ fn are_cells(columns: &[u8], code_count: usize) -> bool
     true
 }
 
-/// Is this line, which has the form of a satellite line, the line of a row of a file with `code_count`
-/// codes?
+/// Returns whether this line, which has the form of a satellite line, is the line of a row of a
+/// file with `code_count` codes.
 pub(crate) fn is_row_line(line: &[u8], code_count: usize) -> bool
     requires code_count { code_count ≤ 16 }
     requires line { IsLine line.now }

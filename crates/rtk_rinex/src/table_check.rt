@@ -46,7 +46,7 @@ impl<'a> TextTable<'a> {
     ghost use Rattle.rtk_rinex.specs.Records.{AreLeft, IsRecordsView};
     ghost use Rattle.rtk_rinex.specs.Table.{WellFormedTable, IsWellFormedTable, table_text};
 
-    /// The table whose text this is.
+    /// Returns the table whose text this is.
     pub(crate) fn of_text(text: &'a [u8], counts: LineCounts) -> TextTable<'a>
         requires { IsTableView (record { text = text.now; epochs = counts.epochs; satellites = counts.satellites }) }
         ensures { result ≡ record { text = text.now; epochs = counts.epochs; satellites = counts.satellites } }
@@ -54,28 +54,28 @@ impl<'a> TextTable<'a> {
         TextTable { text, counts }
     }
 
-    /// How many records and satellite lines it has.
+    /// Returns how many records and satellite lines the table has.
     pub(crate) fn counts(&self) -> LineCounts
         ensures { result ≡ record { epochs = self.now.epochs; satellites = self.now.satellites } }
     {
         self.counts
     }
 
-    /// How many records it has.
+    /// Returns how many records the table has.
     pub fn epochs(&self) -> usize
         ensures { result ≡ self.now.epochs }
     {
         self.counts.epochs
     }
 
-    /// How many satellite lines its records have.
+    /// Returns how many satellite lines the records of the table have.
     pub fn satellites(&self) -> usize
         ensures { result ≡ self.now.satellites }
     {
         self.counts.satellites
     }
 
-    /// Its text.
+    /// Returns the text of the table.
     pub fn as_bytes(&self) -> &'a [u8]
         ensures value { result.now ≡ self.now.text }
         ensures table { IsTableView self.now }
@@ -83,7 +83,7 @@ impl<'a> TextTable<'a> {
         self.text
     }
 
-    /// The parts of its header.
+    /// Returns the parts of the table's header.
     pub fn heading(&self) -> Heading
         ensures parts { (t : WellFormedTable) → IsWellFormedTable t → self.now.text ≡ table_text t
             → (result.head ≡ t.head) × (position_view result.position ≡ t.site) × (result.first ≡ t.first) }
@@ -99,7 +99,7 @@ impl<'a> TextTable<'a> {
         }
     }
 
-    /// Its records, from the first one.
+    /// Returns the records of the table, from the first one.
     pub fn records(&self) -> Records<'a>
         ensures records { (t : WellFormedTable) → IsWellFormedTable t → self.now.text ≡ table_text t
             → (result.code_count ≡ length t.head.listed) × AreLeft result t.epochs }
@@ -113,8 +113,8 @@ impl<'a> TextTable<'a> {
     }
 }
 
-/// The well-formed table whose text this is, in its place, if there is one; else the first line that is
-/// wrong. It takes no memory.
+/// Returns the well-formed table whose text this is, in its place, if there is one, else the first
+/// line that is wrong. It takes no memory.
 pub fn check_text<'a>(bytes: &'a [u8]) -> Result<TextTable<'a>, CheckFault>
     ensures text { IfOk result (λ t. t.text ≡ bytes.now) }
     ensures table { IfOk result (λ t. HoldsTable bytes.now t.epochs t.satellites) }

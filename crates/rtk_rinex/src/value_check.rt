@@ -22,7 +22,7 @@ const GREATEST_STRENGTH: u64 = 63_750;
 // The columns of a value that is not written, and of its digits.
 const BLANKS: [u8; 16] = [b' '; 16];
 
-// The digit that a character writes.
+// Returns the digit that a character writes.
 fn digit_of(byte: u8) -> Option<u64>
     ensures { MatchOption result ((d : ℕ) → d < 10 → byte ≢ 48 + d) (λ d. (d < 10) × (byte ≡ 48 + d)) }
 {
@@ -33,7 +33,7 @@ fn digit_of(byte: u8) -> Option<u64>
     }
 }
 
-// The text after the blanks at its front.
+// Returns the text after the blanks at its front.
 fn after_blanks(text: &[u8]) -> &[u8]
     ensures blanks { (k : ℕ) × (text.now ≡ replicate k 32 ++ result.now) × (slice_get result.now 0 ≢ Some 32) }
     ensures len { length result.now ≤ length text.now }
@@ -45,7 +45,7 @@ fn after_blanks(text: &[u8]) -> &[u8]
     text.split_at(start).1
 }
 
-// The number whose decimal digits a text is.
+// Returns the number whose decimal digits a text is.
 fn number_of_decimal(text: &[u8]) -> Option<u64>
     requires { length text.now ≤ 10 }
     ensures value { MatchOption result ((n : ℕ) → n < 10 ^ 10 → text.now ≢ decimal n) (λ n. text.now ≡ decimal n) }
@@ -67,7 +67,7 @@ fn number_of_decimal(text: &[u8]) -> Option<u64>
     Some(number)
 }
 
-// The sign and the number that stand at the right end of ten columns.
+// Returns the sign and the number that stand at the right end of ten columns.
 fn signed_number(columns: &[u8]) -> Option<(bool, u64)>
     requires { length columns.now ≡ 10 }
     ensures value { MatchOption result
@@ -83,7 +83,7 @@ fn signed_number(columns: &[u8]) -> Option<(bool, u64)>
     }
 }
 
-// The number below 1000 whose three digits a text is.
+// Returns the number below 1000 whose three digits a text is.
 fn number_of_three(text: &[u8]) -> Option<u64>
     ensures { MatchOption result ((n : ℕ) → text.now ≢ last_digits 3 n) (λ n. (n < 1000) × (text.now ≡ last_digits 3 n)) }
 {
@@ -93,7 +93,7 @@ fn number_of_three(text: &[u8]) -> Option<u64>
     Some(digit_of(*hundreds)? * 100 + digit_of(*tens)? * 10 + digit_of(*units)?)
 }
 
-// A number with this sign.
+// Returns a number with this sign.
 fn with_sign(negative: bool, magnitude: u64) -> i64
     requires { magnitude < 10 ^ 13 }
     ensures { result ≡ (if negative then neg_ℤ (pos magnitude) else pos magnitude) }
@@ -102,7 +102,7 @@ fn with_sign(negative: bool, magnitude: u64) -> i64
     if negative { -number } else { number }
 }
 
-// The value in thousandths that stands in 14 columns as F14.3.
+// Returns the value in thousandths that stands in 14 columns as F14.3.
 fn written_value(field: &[u8]) -> Option<i64>
     requires { length field.now ≡ 14 }
     ensures { MatchOption result
@@ -121,7 +121,7 @@ fn written_value(field: &[u8]) -> Option<i64>
     Some(with_sign(negative, magnitude))
 }
 
-// The value that 16 columns show, with these digits after it; or that they show none.
+// Returns the value that 16 columns show, with these digits after it, or that they show none.
 fn shown_observation(columns: &[u8], first: u8, second: u8) -> Option<Option<i64>>
     requires { length columns.now ≡ 16 }
     ensures { MatchOption result
@@ -138,14 +138,14 @@ fn shown_observation(columns: &[u8], first: u8, second: u8) -> Option<Option<i64
     Some(Some(written_value(field)?))
 }
 
-// Is this a signal strength of a message, in thousandths of a dB-Hz?
+// Returns whether this is a signal strength of a message, in thousandths of a dB-Hz.
 fn is_strength(strength: u64) -> bool
     ensures { IsTrue result ↔ IsStrengthOrNone (Some strength) }
 {
     strength >= LEAST_STRENGTH && strength <= GREATEST_STRENGTH && strength % LEAST_STRENGTH == 0
 }
 
-// The signal strength of a message that a value is.
+// Returns the signal strength of a message that a value is.
 fn strength_of(value: i64) -> Option<u32>
     ensures { MatchOption result
         ((s : ℕ) → IsStrengthOrNone (Some s) → value ≢ pos s)
@@ -161,7 +161,8 @@ fn strength_of(value: i64) -> Option<u32>
     Some(strength as u32)
 }
 
-// The signal strength in thousandths of a dB-Hz that 16 columns show; or that they show none.
+// Returns the signal strength in thousandths of a dB-Hz that 16 columns show, or that they show
+// none.
 fn shown_strength(columns: &[u8]) -> Option<Option<u32>>
     requires { length columns.now ≡ 16 }
     ensures { MatchOption result
@@ -174,7 +175,7 @@ fn shown_strength(columns: &[u8]) -> Option<Option<u32>>
     Some(Some(strength_of(value)?))
 }
 
-// The slip and the half-cycle ambiguity that a loss-of-lock digit shows.
+// Returns the slip and the half-cycle ambiguity that a loss-of-lock digit shows.
 fn shown_lock(digit: u8) -> Option<(bool, bool)>
     ensures { MatchOption result
         ((slip half : Bool) → digit ≢ lli_digit slip half)
@@ -189,7 +190,8 @@ fn shown_lock(digit: u8) -> Option<(bool, bool)>
     }
 }
 
-/// What 48 columns show of a code; `None` exactly if nothing that a code can show is written so.
+/// Returns what 48 columns show of a code, or `None` exactly if nothing that a code can show is
+/// written so.
 pub(crate) fn shown_observed(columns: &[u8]) -> Option<Observed>
     requires { length columns.now ≡ 48 }
     ensures { MatchOption result

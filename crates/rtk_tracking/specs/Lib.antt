@@ -1,4 +1,5 @@
 pub mod Epochs
+pub mod Extremes
 pub mod Interval
 pub mod Laws
 pub mod Passes

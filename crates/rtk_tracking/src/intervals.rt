@@ -12,8 +12,8 @@ use std::alloc::{AllocError, Global};
 /// How far in ms an epoch may lie from a moment at most and still counts as being there.
 const NEAREST_MS: u64 = 25;
 
-/// The interval in ms of a table; there is none with fewer than two records. It reads the moments of the
-/// records alone.
+/// Returns the interval in ms of a table, or `None` if it has fewer than two records. It reads the
+/// moments of the records alone.
 pub fn interval(alloc: Global, table: &TextTable<'_>) -> Result<Option<u64>, AllocError>
     // Fails only if memory is refused: tests/system/calls, row interval.
     ensures { IfOk result (λ interval. (t : WellFormedTable) → IsWellFormedTable t → table.now.text ≡ table_text t
@@ -27,8 +27,8 @@ pub fn interval(alloc: Global, table: &TextTable<'_>) -> Result<Option<u64>, All
     Ok(steps.interval())
 }
 
-/// How far in ms an epoch of a file with this interval may lie from a moment and still counts as being
-/// there.
+/// Returns how far in ms an epoch of a file with this interval may lie from a moment and still
+/// counts as being there.
 pub fn nearness_ms(interval: Option<u64>) -> u64
     ensures value { result ≡ nearness_of interval }
     ensures few { result ≤ 25 }
@@ -39,7 +39,7 @@ pub fn nearness_ms(interval: Option<u64>) -> u64
     }
 }
 
-/// How many epochs are missing between two moments in ms.
+/// Returns how many epochs are missing between two moments in ms.
 pub fn missing_between(interval_ms: u64, before_ms: u64, time_ms: u64) -> u64
     requires interval { 0 < interval_ms }
     requires time { IsMoment time_ms }

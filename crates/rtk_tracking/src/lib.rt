@@ -16,12 +16,14 @@
 
 #![tactic(auto)]
 
+mod extremes;
 mod intervals;
 mod laws;
 mod observations;
 mod passes;
 mod steps;
 
+pub use extremes::{greater, lesser};
 pub use intervals::{interval, missing_between, nearness_ms};
 pub use laws::interval_is_most_frequent;
 pub use observations::{observed_in, shows_phase};

@@ -5,7 +5,7 @@ ghost use Rattle.rtk_tracking.specs.Epochs.{observed_in, shows_phase};
 
 use rtk_rinex::{Observed, SatelliteRow};
 
-/// What the codes of a satellite show, by the rows of an epoch; nothing if it has no row.
+/// Returns what the codes of a satellite show by the rows of an epoch, or nothing if it has no row.
 pub fn observed_in(rows: &[SatelliteRow], satellite: u8) -> &[Observed]
     ensures { result.now ≡ observed_in satellite rows.now }
 {
@@ -17,7 +17,7 @@ pub fn observed_in(rows: &[SatelliteRow], satellite: u8) -> &[Observed]
     &[]
 }
 
-/// The phase of the code at this place stands.
+/// Returns whether the code at this place shows a phase.
 pub fn shows_phase(observed: &[Observed], place: usize) -> bool
     ensures { result ≡ shows_phase place observed.now }
 {

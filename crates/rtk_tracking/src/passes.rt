@@ -20,7 +20,8 @@ pub struct Pass {
     pub had: [bool; 16],
 }
 
-/// How long in ms a satellite of a file with this interval may be without a phase within a pass.
+/// Returns how long in ms a satellite of a file with this interval may be without a phase within a
+/// pass.
 pub fn longest_gap_ms(interval: Option<u64>) -> u64
     ensures { result ≡ longest_gap interval }
 {
@@ -30,14 +31,14 @@ pub fn longest_gap_ms(interval: Option<u64>) -> u64
     }
 }
 
-// Some code has a phase.
+// Returns whether some code has a phase.
 fn has_phase(observed: &[Observed]) -> bool
     ensures { result ≡ has_phase observed.now }
 {
     observed.iter().any(|o| o.phase_millicycles.is_some())
 }
 
-// No phase came before, or the last one lies more than the longest gap back.
+// Returns whether no phase came before, or the last one lies more than the longest gap back.
 fn is_away(gap_ms: u64, last_ms: Option<u64>, time_ms: u64) -> bool
     ensures { result ≡ is_away gap_ms last_ms time_ms }
 {
@@ -57,7 +58,7 @@ fn add_phases(had: &mut [bool; 16], observed: &[Observed])
 }
 
 impl Pass {
-    /// Before the first epoch: no phase came, and no pass has begun.
+    /// Makes the state before the first epoch, in which no phase came and no pass has begun.
     pub fn new() -> Pass
         ensures { (gap : ℕ) → StandsForPass result gap [] }
     {
@@ -67,7 +68,7 @@ impl Pass {
         }
     }
 
-    /// Does a pass begin with the next epoch?
+    /// Returns whether a pass begins with the next epoch.
     pub fn begins(&self, gap_ms: u64, time_ms: u64, observed: &[Observed]) -> bool
         ensures { (before : List Sighting) → StandsForPass self.now gap_ms before
             → result ≡ begins_pass gap_ms before (record { time = time_ms; observed = observed.now }) }
@@ -75,7 +76,7 @@ impl Pass {
         has_phase(observed) && is_away(gap_ms, self.last_ms, time_ms)
     }
 
-    /// Which codes had a phase earlier in the pass of the next epoch.
+    /// Returns which codes had a phase earlier in the pass of the next epoch.
     pub fn known(&self, gap_ms: u64, time_ms: u64, observed: &[Observed]) -> [bool; 16]
         ensures { (before : List Sighting) → StandsForPass self.now gap_ms before
             → AreMarked result (λ place. is_known gap_ms place before (record { time = time_ms; observed = observed.now })) }

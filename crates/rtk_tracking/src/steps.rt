@@ -39,8 +39,8 @@ fn count_step(counts: &mut BTreeMap<u64, u64>, step: u64) -> Result<u64, AllocEr
     Ok(count)
 }
 
-// A step that came so often is more frequent than the most frequent one so far, or as frequent and
-// less.
+// Returns whether a step that came so often is more frequent than the most frequent one so far, or
+// as frequent and less.
 fn overtakes(best: Frequent, step: u64, count: u64) -> bool
     ensures yes { result ≡ true → (best.count < count) ⊎ ((count ≡ best.count) × (step < best.step)) }
     ensures no { result ≡ false → (count ≤ best.count) × (count ≡ best.count → best.step ≤ step) }
@@ -51,7 +51,7 @@ fn overtakes(best: Frequent, step: u64, count: u64) -> bool
     count > best.count
 }
 
-// The more frequent of the most frequent step so far and the one that came again.
+// Returns the more frequent of the most frequent step so far and the one that came again.
 fn more_frequent(best: Option<Frequent>, step: u64, count: u64) -> Option<Frequent>
     ensures { (steps : List ℕ) → IsFrequent best steps → count ≡ times_of_step step (step ∷ steps)
         → IsFrequent result (step ∷ steps) }
@@ -66,7 +66,7 @@ fn more_frequent(best: Option<Frequent>, step: u64, count: u64) -> Option<Freque
 }
 
 impl Steps {
-    /// No step came.
+    /// Makes the state in which no step came.
     pub(crate) fn new(alloc: Global) -> Steps
         ensures { StandsForSteps result [] }
     {
@@ -85,7 +85,7 @@ impl Steps {
         Ok(())
     }
 
-    /// The interval.
+    /// Returns the step that came most often, and of two alike the lesser one.
     pub(crate) fn interval(&self) -> Option<u64>
         ensures { (steps : List ℕ) → StandsForSteps self.now steps → IsInterval steps result }
     {
@@ -104,7 +104,7 @@ pub struct StepCounts {
 }
 
 impl StepCounts {
-    /// No epoch came.
+    /// Makes the state in which no epoch came.
     pub fn new(alloc: Global) -> StepCounts
         ensures { StandsForStepsBetween result [] }
     {
@@ -135,14 +135,15 @@ impl StepCounts {
         Ok(())
     }
 
-    /// The interval in ms: the step that came most often, and of two alike the lesser one.
+    /// Returns the interval in ms, which is the step that came most often, and of two alike the
+    /// lesser one.
     pub fn interval(&self) -> Option<u64>
         ensures { (es : List EpochTableView) → StandsForStepsBetween self.now es → result ≡ interval_of (steps_in es) }
     {
         self.steps.interval()
     }
 
-    /// The moment of the last epoch.
+    /// Returns the moment of the last epoch.
     pub fn last(&self) -> Option<GpsMs>
         ensures { (es : List EpochTableView) → StandsForStepsBetween self.now es → result ≡ newest_moment es }
     {

@@ -20,7 +20,7 @@ CODE = rf"(?:(?!{WORD})[^{{}}]|{BLOCK})*?"
 # Calls of std and clap that fail for want of memory alone; and those of these crates of which name and type of fault don't say so.
 OF_STD = {"with_capacity", "from_slice", "push", "push_front", "insert", "reserve", "reserve_exact", "extend_from_slice", "to_string", "error",
     "render_long_help"}
-OF_CRATES = {"Scanner::new", "Findings::new", "Conversion::new", "sink", "set.join", "lines.open_line", "header"}
+OF_CRATES = {"Scanner::new", "Findings::new", "sink"}
 NAME = r"(?:\(\)|(?:mut )?(?!true|false)[a-z]\w*)"
 FAULT = r"(?:\w+::OutOfMemory|AllocError)"
 ANSWER = rf"(?:return )?(?:{FAULT}|fail\(rt, {FAULT}\)|Err\((?:{FAULT}|fail\(rt, {FAULT}\))\))"

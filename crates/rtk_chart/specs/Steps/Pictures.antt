@@ -1,9 +1,6 @@
 -- What is made of a file's records: it holds of their epochs, and gives the picture.
-use Rattle.std.specs.Prelude.{◌≡◌, ℕ, List}
+use Rattle.std.specs.Prelude.{ℕ, List}
 use Rattle.rtk_obs.specs.declared.code.Code.{Code}
-use Rattle.rtk_rinex.specs.Record.{EpochTableView}
-use Rattle.rtk_rinex.specs.Table.{WellFormedTable, IsWellFormedTable, table_text}
-use Rattle.rtk_tracking.specs.Epochs.{newest_first}
 use Rattle.rtk_chart.specs.TextPicture.{satellites_in, number_lines, text_body, text_picture}
 use Rattle.rtk_chart.specs.SvgPicture.{svg_picture}
 use Rattle.rtk_chart.specs.declared.scale.Scale.{Scale}

@@ -3,9 +3,10 @@ use Rattle.std.specs.Prelude.{ℕ, ◌+◌, Bool, true, false, not, ◌&&◌, �
 use Rattle.std.specs.List.{range_with_len}
 use Rattle.rtk_rinex.specs.Record.{EpochTableView}
 use Rattle.rtk_rinex.specs.declared.epoch_table.Observed.{Observed}
+use Rattle.rtk_tracking.specs.Extremes.{lesser}
 use Rattle.rtk_tracking.specs.Passes.{Sighting, sightings_of, has_phase, is_known}
 use Rattle.rtk_tracking.specs.Epochs.{shown_at}
-use Rattle.rtk_chart.specs.Epochs.{sighting_of, is_seen, level_of, lesser}
+use Rattle.rtk_chart.specs.Epochs.{sighting_of, is_seen, level_of}
 use Rattle.rtk_chart.specs.Grid.{no_marks, no_tracking}
 use Rattle.rtk_chart.specs.declared.code_marks.CodeMarks.{CodeMarks}
 use Rattle.rtk_chart.specs.declared.tracking.Tracking.{Tracking}

@@ -1,6 +1,6 @@
 use Rattle.std.proofs.Common.{◌≡◌, None, take}
 use Rattle.std.specs.List.{fold}
-use Rattle.rtk_chart.specs.Epochs.{lesser}
+use Rattle.rtk_tracking.specs.Extremes.{lesser}
 use Rattle.rtk_chart.proofs.signs.least_level.Given as goal
 
 abbrev pub invariant-loop-marks : goal.invariant-loop-marks

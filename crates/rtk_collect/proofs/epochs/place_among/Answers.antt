@@ -1,4 +1,4 @@
-use Rattle.std.proofs.Common.{arith, rules, is_gt, nat_cmp, ◌∙◌}
+use Rattle.std.proofs.Common.{arith, rules, is_gt, nat_cmp}
 use Rattle.std.proofs.lemmas.List.Sorted.{IsPartitionPoint-from_clause}
 use Rattle.rtk_collect.specs.Accepted.{no_cells}
 use Rattle.rtk_collect.specs.EpochSet.{EpochSetView}

@@ -1,4 +1,4 @@
-use Rattle.std.proofs.Common.{◌≡◌, ◌≤◌, ◌<◌, ◌+◌, ◌-◌, ◌/◌, ap, arith, sym, ◌∙◌}
+use Rattle.std.proofs.Common.{◌+◌, ◌-◌, ◌/◌, ap, arith, sym, ◌∙◌}
 use Rattle.rtk_collect.specs.EpochSet.{EpochSetView}
 use Rattle.rtk_collect.proofs.JoinsLemmas.{leading-length, leading-past, leading-stop, gt-past, gt-stop}
 use Rattle.rtk_collect.proofs.window.place_of_epoch.Goals as goal

@@ -4,22 +4,19 @@ use Rattle.std.proofs.lemmas.Grind.{common_steps}
 use Rattle.rtk_obs.specs.Cell.{is_satellite}
 use Rattle.rtk_obs.specs.MsmCells.{slot_entry}
 use Rattle.rtk_obs.proofs.MaskLemmas.{bit_within}
-use Rattle.rtk_obs.proofs.MsmLemmas.{next_entries, next_length, all_entries, no_slots, count-row_slots, no_entries, few_in_message}
+use Rattle.rtk_obs.proofs.MsmLemmas.{next_entries, next_count, all_entries, no_count, no_entries, few_in_message}
 use Rattle.rtk_obs.proofs.msm_rows.put_row.Goals as goal
 
 pub overflow_add-result : goal.overflow_add-result
-overflow_add-result g c = omega (arith, count-row_slots c.args.signals.now c.args.place c.args.bits c.requires.fits, few_in_message (g.M.CellsOfMsm.header c.args.message.now) (g.M.CellsOfMsm.cell_mask c.args.message.now) c.requires.mask)
+overflow_add-result g c = omega (arith, c.requires.cells, few_in_message (g.M.CellsOfMsm.header c.args.message.now) (g.M.CellsOfMsm.cell_mask c.args.message.now) c.requires.mask)
 
 pub returns-then-not-is_satellite-clause-entries : goal.returns-then-not-is_satellite-clause-entries
-returns-then-not-is_satellite-clause-entries g c =
+returns-then-not-is_satellite-clause-entries g c = λ place is.
     let unknown : is_satellite c.args.row.satellite ≡ false = grind (arith, common_steps) in
-    no_entries (g.M.CellsOfMsm.header c.args.message.now) (g.M.CellsOfMsm.cell_of c.args.message.now) c.args.signals.now c.args.start.cell c.args.place c.args.bits c.args.row.satellite (take c.args.start.count c.args.found.now.items) c.requires.row.satellite unknown
-
-pub returns-then-not-is_satellite-clause-cells : goal.returns-then-not-is_satellite-clause-cells
-returns-then-not-is_satellite-clause-cells g c = omega (arith, count-row_slots c.args.signals.now c.args.place c.args.bits c.requires.fits)
+    no_entries (g.M.CellsOfMsm.header c.args.message.now) (g.M.CellsOfMsm.cell_of c.args.message.now) c.args.signals.now c.args.start.cell place c.args.bits c.args.row.satellite (take c.args.start.count c.args.found.now.items) is.satellite unknown
 
 pub loop-rest-init : goal.loop-rest-init
-loop-rest-init g c = rw c.from-rest.ensures (record { entries = refl; cells = refl; room = refl; few = c.requires.few; fits = c.requires.fits })
+loop-rest-init g c = rw c.from-rest.ensures (record { entries = λ place is. refl; cells = refl; room = refl; few = c.requires.few; fits = c.requires.fits })
 
 pub overflow_sub-signal : goal.overflow_sub-signal
 overflow_sub-signal g c =
@@ -39,37 +36,37 @@ bounds-signals-width g c =
 pub put_cell-count-requires-clause-cell : goal.put_cell-count-requires-clause-cell
 put_cell-count-requires-clause-cell g c =
     let bit = bit_within (length c.args.signals.now) c.loop-rest.rest c.top_bit-top.result c.loop-rest.invariant.fits c.top_bit-top.ensures.from c.top_bit-top.ensures.below in
-    omega (arith, next_length c.args.signals.now c.args.place c.loop-rest.rest c.top_bit-top.result bit, c.loop-rest.invariant.cells, c.requires.cells)
+    omega (arith, next_count c.args.signals.now c.loop-rest.rest c.top_bit-top.result bit c.loop-rest.invariant.fits, c.loop-rest.invariant.cells, c.requires.cells)
 
 pub put_cell-count-requires-clause-room : goal.put_cell-count-requires-clause-room
 put_cell-count-requires-clause-room g c =
     let bit = bit_within (length c.args.signals.now) c.loop-rest.rest c.top_bit-top.result c.loop-rest.invariant.fits c.top_bit-top.ensures.from c.top_bit-top.ensures.below in
-    omega (arith, next_length c.args.signals.now c.args.place c.loop-rest.rest c.top_bit-top.result bit, c.loop-rest.invariant.cells, c.loop-rest.invariant.few, c.requires.cells, c.requires.room, c.loop-rest.invariant.room)
+    omega (arith, next_count c.args.signals.now c.loop-rest.rest c.top_bit-top.result bit c.loop-rest.invariant.fits, c.loop-rest.invariant.cells, c.loop-rest.invariant.few, c.requires.cells, c.requires.room, c.loop-rest.invariant.room)
 
 pub overflow_add-cell : goal.overflow_add-cell
 overflow_add-cell g c =
     let bit = bit_within (length c.args.signals.now) c.loop-rest.rest c.top_bit-top.result c.loop-rest.invariant.fits c.top_bit-top.ensures.from c.top_bit-top.ensures.below in
-    omega (arith, next_length c.args.signals.now c.args.place c.loop-rest.rest c.top_bit-top.result bit, c.loop-rest.invariant.cells, c.requires.cells, few_in_message (g.M.CellsOfMsm.header c.args.message.now) (g.M.CellsOfMsm.cell_mask c.args.message.now) c.requires.mask)
+    omega (arith, next_count c.args.signals.now c.loop-rest.rest c.top_bit-top.result bit c.loop-rest.invariant.fits, c.loop-rest.invariant.cells, c.requires.cells, few_in_message (g.M.CellsOfMsm.header c.args.message.now) (g.M.CellsOfMsm.cell_mask c.args.message.now) c.requires.mask)
 
 pub loop-rest-preserved : goal.loop-rest-preserved
 loop-rest-preserved g c =
     let bit = bit_within (length c.args.signals.now) c.loop-rest.rest c.top_bit-top.result c.loop-rest.invariant.fits c.top_bit-top.ensures.from c.top_bit-top.ensures.below in
     let one = one_shl c.top_bit-top.result 64 (omega arith) in
     rw one (record {
-      entries = next_entries (slot_entry (g.M.CellsOfMsm.header c.args.message.now) (g.M.CellsOfMsm.cell_of c.args.message.now)) c.args.signals.now c.args.place c.loop-rest.cell c.loop-rest.rest c.top_bit-top.result (get_or c.args.signals.now (length c.args.signals.now - 1 - c.top_bit-top.result) 0)
-          (take c.loop-rest.count c.loop-rest.found.items) (take c.put_cell-count.result c.put_cell-count.new.found.items) _ bit refl c.put_cell-count.ensures.entries c.loop-rest.invariant.entries;
-      cells = omega (arith, next_length c.args.signals.now c.args.place c.loop-rest.rest c.top_bit-top.result bit, c.loop-rest.invariant.cells);
+      entries = λ place is. next_entries (slot_entry (g.M.CellsOfMsm.header c.args.message.now) (g.M.CellsOfMsm.cell_of c.args.message.now)) c.args.signals.now place c.loop-rest.cell c.loop-rest.rest c.top_bit-top.result (get_or c.args.signals.now (length c.args.signals.now - 1 - c.top_bit-top.result) 0)
+          (take c.loop-rest.count c.loop-rest.found.items) (take c.put_cell-count.result c.put_cell-count.new.found.items) _ bit refl (c.put_cell-count.ensures.entries place is) (c.loop-rest.invariant.entries place is);
+      cells = omega (arith, next_count c.args.signals.now c.loop-rest.rest c.top_bit-top.result bit c.loop-rest.invariant.fits, c.loop-rest.invariant.cells);
       room = omega (arith, c.put_cell-count.ensures.room, c.loop-rest.invariant.room);
       few = omega (arith, c.put_cell-count.ensures.one, c.loop-rest.invariant.few);
       fits = omega (arith, c.loop-rest.invariant.fits);
     })
 
 pub returns-clause-entries : goal.returns-clause-entries
-returns-clause-entries g c =
-    all_entries (slot_entry (g.M.CellsOfMsm.header c.args.message.now) (g.M.CellsOfMsm.cell_of c.args.message.now)) c.args.signals.now c.args.place c.loop-rest.cell c.loop-rest.rest (take c.loop-rest.count c.loop-rest.found.items) _ c.loop-rest-test.false c.loop-rest.invariant.entries
+returns-clause-entries g c = λ place is.
+    all_entries (slot_entry (g.M.CellsOfMsm.header c.args.message.now) (g.M.CellsOfMsm.cell_of c.args.message.now)) c.args.signals.now place c.loop-rest.cell c.loop-rest.rest (take c.loop-rest.count c.loop-rest.found.items) _ c.loop-rest-test.false (c.loop-rest.invariant.entries place is)
 
 pub returns-clause-cells : goal.returns-clause-cells
-returns-clause-cells g c = omega (arith, no_slots c.args.signals.now c.args.place c.loop-rest.rest c.loop-rest-test.false, c.loop-rest.invariant.cells)
+returns-clause-cells g c = omega (arith, no_count c.args.signals.now c.loop-rest.rest c.loop-rest-test.false c.loop-rest.invariant.fits, c.loop-rest.invariant.cells)
 
 pub returns-clause-room : goal.returns-clause-room
 returns-clause-room g c = c.loop-rest.invariant.room
