@@ -1,5 +1,5 @@
--- Why the words of `convert` are refused.
-use Rattle.std.proofs.Common.{◌≡◌, ◌≢◌, ℕ, ◌≤◌, ◌%◌, List, inl, refl, sym, ◌∙◌, subst}
+-- Why words are refused.
+use Rattle.std.proofs.Common.{◌≡◌, ℕ, ◌≤◌, ◌%◌, List, refl, sym, ◌∙◌, subst}
 use Rattle.rtk_obs.specs.declared.code.Code.{Code}
 use Rattle.rtk_obs.specs.declared.time.TheConstants.{LAST_MS}
 use Rattle.rtk_obs.specs.Dating.{IsReference}
@@ -13,16 +13,33 @@ use Rattle.rtk_convert.specs.declared.setup.SetupFault.{SetupFault}
 use Rattle.rtk_convert.specs.declared.setup.SetupFault.TheVariants.{Station as BadStation, Near as BadNear, Window as BadWindow}
 use Rattle.rtk_args.specs.declared.options.ConvertOptions.{ConvertOptions}
 use Rattle.rtk_cli.specs.declared.words.BadWords.{BadWords}
-use Rattle.rtk_cli.specs.declared.words.BadWords.TheVariants.{Near, Made, Codes, Marker, Links, From, Until, Field}
 use Rattle.rtk_cli.specs.declared.words.WordsFault.{WordsFault}
 use Rattle.rtk_cli.specs.declared.words.WordsFault.TheVariants.{Clap, Bad, OutOfMemory}
+use Rattle.rtk_cli.specs.FaultLines.{TellsCause, HasCause}
+use Rattle.rtk_cli.specs.Words.{IsWordsFault}
 use Rattle.rtk_cli.specs.Steps.CodeList.{Lists}
 use Rattle.rtk_cli.specs.Steps.MomentText.{WritesMoment}
 use Rattle.rtk_cli.specs.Steps.ConvertWords.{HasMoment, HasTimes, HasNames, HasHead, IsFirstCause, RefusesConversion}
 
 -- a fault with the line of the first cause
-pub refused-by : (o : ConvertOptions) (names : List (List ℕ)) (line : BadWords) (fault : WordsFault) → fault ≡ Bad line → IsFirstCause o names line → RefusesConversion o names fault
-refused-by o names line fault e cause = subst (RefusesConversion o names) (sym e) cause
+pub refused-by : (o : ConvertOptions) (names : List (List ℕ)) (cause : BadWords) (fault : WordsFault) → TellsCause cause fault → IsFirstCause o names cause → RefusesConversion o names fault
+refused-by o names cause (Clap text status) tells first = absurd tells
+refused-by o names cause (Bad line) tells first = (cause, first, tells)
+refused-by o names cause OutOfMemory tells first = tt
+
+-- a fault line is that of its cause
+pub tells-cause : (cause : BadWords) (fault : WordsFault) → TellsCause cause fault → IsWordsFault fault
+tells-cause cause (Clap text status) tells = absurd tells
+tells-cause cause (Bad line) tells = (cause, tells)
+tells-cause cause OutOfMemory tells = tt
+
+pub has-cause : (IsCause : BadWords → Type 0) (fault : WordsFault) → HasCause IsCause fault → IsWordsFault fault
+has-cause IsCause fault (cause, is, tells) = tells-cause cause fault tells
+
+pub refuses : (o : ConvertOptions) (names : List (List ℕ)) (fault : WordsFault) → RefusesConversion o names fault → IsWordsFault fault
+refuses o names (Clap text status) has = has-cause (IsFirstCause o names) (Clap text status) has
+refuses o names (Bad line) has = has-cause (IsFirstCause o names) (Bad line) has
+refuses o names OutOfMemory has = tt
 
 pub has-moment : (written text : List ℕ) (t : ℕ) → text ≡ written → t ≤ LAST_MS → WritesMoment text t → HasMoment written
 has-moment written text t same within writes = (t, within, subst (λ (x : List ℕ). WritesMoment x t) same writes)
@@ -37,22 +54,6 @@ pub has-times : (o : ConvertOptions) (near made : List ℕ) (t u : ℕ) → near
     → made ≡ o.made.now → u ≤ LAST_MS → WritesMoment made u → HasTimes o
 has-times o near made t u same within writes same₂ within₂ writes₂ =
     (has-moment o.near.now near t same within writes, has-moment o.made.now made u same₂ within₂ writes₂)
-
--- a text of codes that is no list, or refused memory
-pub codes-refused : (o : ConvertOptions) (names : List (List ℕ)) (text : List ℕ) → text ≡ o.codes.now → HasTimes o → (fault : WordsFault)
-    → (fault ≡ Bad Codes → (listed : List Code) → ¬ (Lists text listed)) → (fault ≢ Bad Codes → fault ≡ OutOfMemory)
-    → RefusesConversion o names fault
-codes-refused o names text same times (Clap t status) none memory = let no : Clap t status ≡ OutOfMemory = memory (λ e. cc) in cc
-codes-refused o names text same times (Bad Near) none memory = let no : Bad Near ≡ OutOfMemory = memory (λ e. cc) in cc
-codes-refused o names text same times (Bad Made) none memory = let no : Bad Made ≡ OutOfMemory = memory (λ e. cc) in cc
-codes-refused o names text same times (Bad Codes) none memory =
-    inl (times, λ listed lists. none refl listed (lists-same text o.codes.now listed (sym same) lists))
-codes-refused o names text same times (Bad Marker) none memory = let no : Bad Marker ≡ OutOfMemory = memory (λ e. cc) in cc
-codes-refused o names text same times (Bad Links) none memory = let no : Bad Links ≡ OutOfMemory = memory (λ e. cc) in cc
-codes-refused o names text same times (Bad From) none memory = let no : Bad From ≡ OutOfMemory = memory (λ e. cc) in cc
-codes-refused o names text same times (Bad Until) none memory = let no : Bad Until ≡ OutOfMemory = memory (λ e. cc) in cc
-codes-refused o names text same times (Bad (Field fault)) none memory = let no : Bad (Field fault) ≡ OutOfMemory = memory (λ e. cc) in cc
-codes-refused o names text same times OutOfMemory none memory = tt
 
 -- the words give a good head
 pub has-head : (o : ConvertOptions) → HasNames o → (h : HeadView) (listed : List Code) (marker : List ℕ) → Lists o.codes.now listed
