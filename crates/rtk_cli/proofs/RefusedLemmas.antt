@@ -1,5 +1,7 @@
--- Why words are refused.
-use Rattle.std.proofs.Common.{◌≡◌, ℕ, ◌≤◌, ◌%◌, List, refl, sym, ◌∙◌, subst}
+-- Why the words of `convert` are refused.
+use Rattle.std.proofs.Common.{◌≡◌, ℕ, ◌≤◌, ◌%◌, List, Option, None, Some, Result, Err, IsErrAnd, IfErr, IfSome, MatchOption, ok_or, refl, sym, ◌∙◌, subst}
+use Rattle.std.proofs.lemmas.Option.{MatchOption-at_some}
+use Rattle.std.proofs.lemmas.Result.{err_from_is_err_and}
 use Rattle.rtk_obs.specs.declared.code.Code.{Code}
 use Rattle.rtk_obs.specs.declared.time.TheConstants.{LAST_MS}
 use Rattle.rtk_obs.specs.Dating.{IsReference}
@@ -15,8 +17,7 @@ use Rattle.rtk_args.specs.declared.options.ConvertOptions.{ConvertOptions}
 use Rattle.rtk_cli.specs.declared.words.BadWords.{BadWords}
 use Rattle.rtk_cli.specs.declared.words.WordsFault.{WordsFault}
 use Rattle.rtk_cli.specs.declared.words.WordsFault.TheVariants.{Clap, Bad, OutOfMemory}
-use Rattle.rtk_cli.specs.FaultLines.{TellsCause, HasCause}
-use Rattle.rtk_cli.specs.Words.{IsWordsFault}
+use Rattle.rtk_cli.specs.FaultLines.{TellsCause}
 use Rattle.rtk_cli.specs.Steps.CodeList.{Lists}
 use Rattle.rtk_cli.specs.Steps.MomentText.{WritesMoment}
 use Rattle.rtk_cli.specs.Steps.ConvertWords.{HasMoment, HasTimes, HasNames, HasHead, IsFirstCause, RefusesConversion}
@@ -27,33 +28,29 @@ refused-by o names cause (Clap text status) tells first = absurd tells
 refused-by o names cause (Bad line) tells first = (cause, first, tells)
 refused-by o names cause OutOfMemory tells first = tt
 
--- a fault line is that of its cause
-pub tells-cause : (cause : BadWords) (fault : WordsFault) → TellsCause cause fault → IsWordsFault fault
-tells-cause cause (Clap text status) tells = absurd tells
-tells-cause cause (Bad line) tells = (cause, tells)
-tells-cause cause OutOfMemory tells = tt
+-- the exit of a `?` after `ok_or`
+pub exit-by : {A T : Type 0} (o : ConvertOptions) (names : List (List ℕ)) (value : Option A) (cause told : BadWords) (r : Result T WordsFault) → value ≡ None
+    → Err told ≡ ok_or value cause → IsErrAnd r (TellsCause told) → IsFirstCause o names cause → IfErr r (RefusesConversion o names)
+exit-by o names value cause told r none is exits first =
+    let p = err_from_is_err_and r exits in
+    let same : told ≡ cause = let is' = rw none at is in cc in
+    rw p.1 (refused-by o names cause p.0 (subst (λ (c : BadWords). TellsCause c p.0) same p.2) first)
 
-pub has-cause : (IsCause : BadWords → Type 0) (fault : WordsFault) → HasCause IsCause fault → IsWordsFault fault
-has-cause IsCause fault (cause, is, tells) = tells-cause cause fault tells
-
-pub refuses : (o : ConvertOptions) (names : List (List ℕ)) (fault : WordsFault) → RefusesConversion o names fault → IsWordsFault fault
-refuses o names (Clap text status) has = has-cause (IsFirstCause o names) (Clap text status) has
-refuses o names (Bad line) has = has-cause (IsFirstCause o names) (Bad line) has
-refuses o names OutOfMemory has = tt
-
-pub has-moment : (written text : List ℕ) (t : ℕ) → text ≡ written → t ≤ LAST_MS → WritesMoment text t → HasMoment written
-has-moment written text t same within writes = (t, within, subst (λ (x : List ℕ). WritesMoment x t) same writes)
-
+-- what `moment_of` says of the text that the words write
 pub no-moment : (written text : List ℕ) → text ≡ written → ((t : ℕ) → t ≤ LAST_MS → ¬ (WritesMoment text t)) → ¬ (HasMoment written)
 no-moment written text same none (t, within, writes) = none t within (subst (λ (x : List ℕ). WritesMoment x t) (sym same) writes)
 
+pub has-moment : (written text : List ℕ) (o : Option ℕ) (t : ℕ) → text ≡ written → o ≡ Some t → IfSome o (λ (t : ℕ). t ≤ LAST_MS)
+    → MatchOption o ((t : ℕ) → t ≤ LAST_MS → ¬ (WritesMoment text t)) (λ (t : ℕ). WritesMoment text t) → HasMoment written
+has-moment written text o t same some within writes =
+    (t, MatchOption-at_some _ _ t some within, subst (λ (x : List ℕ). WritesMoment x t) same (MatchOption-at_some _ _ t some writes))
+
+-- what `codes_of` says of the text that the words write
 pub lists-same : (written text : List ℕ) (listed : List Code) → text ≡ written → Lists text listed → Lists written listed
 lists-same written text listed same lists = subst (λ (x : List ℕ). Lists x listed) same lists
 
-pub has-times : (o : ConvertOptions) (near made : List ℕ) (t u : ℕ) → near ≡ o.near.now → t ≤ LAST_MS → WritesMoment near t
-    → made ≡ o.made.now → u ≤ LAST_MS → WritesMoment made u → HasTimes o
-has-times o near made t u same within writes same₂ within₂ writes₂ =
-    (has-moment o.near.now near t same within writes, has-moment o.made.now made u same₂ within₂ writes₂)
+pub no-list : (written text : List ℕ) → text ≡ written → ((listed : List Code) → ¬ (Lists text listed)) → (listed : List Code) → ¬ (Lists written listed)
+no-list written text same none listed lists = none listed (subst (λ (x : List ℕ). Lists x listed) (sym same) lists)
 
 -- the words give a good head
 pub has-head : (o : ConvertOptions) → HasNames o → (h : HeadView) (listed : List Code) (marker : List ℕ) → Lists o.codes.now listed

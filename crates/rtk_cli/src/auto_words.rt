@@ -31,8 +31,7 @@ fn moment_if_any(text: Option<&str>, cause: BadWords) -> Result<Option<GpsMs>, B
 fn codes_listed(alloc: Global, text: &str) -> Result<Vec<Code>, WordsFault>
     ensures { IfErr result IsWordsFault }
 {
-    let listed = codes_of(alloc, text.as_bytes())?;
-    Ok(listed.ok_or(BadWords::Codes)?)
+    Ok(codes_of(alloc, text.as_bytes())?.ok_or(BadWords::Codes)?)
 }
 
 fn codes_if_any(alloc: Global, text: Option<&str>) -> Result<Option<Vec<Code>>, WordsFault>

@@ -37,8 +37,7 @@ pub(crate) fn convert_job<'a>(
 {
     let near = moment_of(options.near.as_bytes()).ok_or(BadWords::Near)?;
     let made = moment_of(options.made.as_bytes()).ok_or(BadWords::Made)?;
-    let listed = codes_of(alloc, options.codes.as_bytes())?;
-    let codes = listed.ok_or(BadWords::Codes)?;
+    let codes = codes_of(alloc, options.codes.as_bytes())?.ok_or(BadWords::Codes)?;
     let head = match Head::new(options.marker.as_bytes(), codes.as_slice(), made) {
         Ok(head) => head,
         Err(HeadFault::Marker) => return Err(BadWords::Marker.into()),

@@ -39,9 +39,13 @@ pub enum Job<'a> {
         file: &'a str,
     },
     /// Whether a text is one of this project's files.
-    Check { file: &'a str },
+    Check {
+        file: &'a str,
+    },
     /// What a capture holds.
-    Summary { file: &'a str },
+    Summary {
+        file: &'a str,
+    },
     /// A picture of a file.
     Chart {
         /// How many characters wide the picture is, 40 to 400; `None` is a picture in SVG.
@@ -55,9 +59,15 @@ pub enum Job<'a> {
         file: &'a str,
     },
     /// A part of a file.
-    Cut { part: Part, file: &'a str },
+    Cut {
+        part: Part,
+        file: &'a str,
+    },
     /// A file with more fields in its header.
-    Label { label: Label, file: &'a str },
+    Label {
+        label: Label,
+        file: &'a str,
+    },
 }
 
 /// Why words that clap takes give no conversion, no part or no label: the first cause that holds, in this
