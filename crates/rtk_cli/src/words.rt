@@ -141,7 +141,7 @@ pub enum WordsFault {
     },
     /// Words that clap takes give no conversion, no part or no label (status 2).
     Bad {
-        /// The fault line, which follows the name of the program.
+        /// The fault line, as `bad --near`.
         line: &'static str,
     },
     /// No memory for reading the words.
