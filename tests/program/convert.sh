@@ -337,12 +337,12 @@ run convert --station 2003 --near $near --made -2024-05-17T13:00:00 --marker BAS
 expect made_of_a_word_with_a_hyphen 2 '' "$(error "unexpected argument '-2' found" "$usage" "to pass '-2' as a value, use '-- -2'")"
 run convert --station -1 a
 expect station_below_0 2 '' "$(error "unexpected argument '-1' found" "$usage" "to pass '-1' as a value, use '-- -1'")"
-# pins: IsTask, IsWithinLimits
+# pins: IsWithinLimits
 bad_value station_of_4096 --station 4096 '4096 is not in 0..=4095'
 bad_value station_of_no_digits --station x 'invalid digit found in string'
 # refuses: a first part of a number that is taken for all of it
 bad_value station_with_a_tail --station 2003x 'invalid digit found in string'
-# pins: IsTask, IsWithinLimits
+# pins: IsWithinLimits
 bad_value window_of_1 --window 1 '1 is not in 2..=4096'
 bad_value window_of_4097 --window 4097 '4097 is not in 2..=4096'
 bad_value msm_of_3 --msm 3 '3 is not in 4..=7'

@@ -110,7 +110,7 @@ pub(crate) fn label_request<'a>(matches: &ArgMatches<'a>) -> Option<Request<'a>>
     ensures { IfSome result IsRequest }
 {
     let file = matches.get_str("FILE")?;
-    let label = LabelOptions {
+    let options = LabelOptions {
         run_by: matches.get_str("run-by"),
         marker_number: matches.get_str("marker-number"),
         observer: matches.get_str("observer"),
@@ -124,5 +124,5 @@ pub(crate) fn label_request<'a>(matches: &ArgMatches<'a>) -> Option<Request<'a>>
         delta_east: matches.get_str("delta-east"),
         delta_north: matches.get_str("delta-north"),
     };
-    Some(Request::Label { label, file })
+    Some(Request::Label { options, file })
 }

@@ -37,5 +37,5 @@ pub use auto_options::AutoOptions;
 pub use label_options::LabelOptions;
 pub use limits::{GREATEST_STATION, LEAST_WINDOW, MOST_WINDOW};
 pub use options::{ConvertOptions, CutOptions, MsmOption};
-pub use request::{Request, Task};
+pub use request::Request;
 pub use word_reading::read_words;

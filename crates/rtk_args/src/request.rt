@@ -4,22 +4,22 @@ use crate::auto_options::AutoOptions;
 use crate::label_options::LabelOptions;
 use crate::options::{ConvertOptions, CutOptions};
 
-/// Which command the words ask for, with what its options and names say: as clap gives it, in a
-/// [`Request`], or once it is read.
+/// Which command the words ask for, with the values of its options as clap gives them. What their texts
+/// say is not yet read.
 #[derive(Drop)]
-pub enum Task<'a, S: Drop, P: Drop, A: Drop, F: Drop> {
+pub enum Request<'a> {
     /// `auto OPTIONS CAPTURE..`: captures of one station to a file; what `convert` wants to be told is
     /// found in them.
     Auto {
-        /// What the options say.
-        options: A,
+        /// The values of the options.
+        options: AutoOptions<'a>,
         /// The names of the captures.
         captures: Vec<&'a str>,
     },
     /// `convert OPTIONS LINK..`: captures of one station to a file and a report.
     Convert {
-        /// What the options say.
-        setup: S,
+        /// The values of the options.
+        options: ConvertOptions<'a>,
         /// The names of the captures, however many; `stdin` is standard input.
         links: Vec<&'a str>,
     },
@@ -56,25 +56,16 @@ pub enum Task<'a, S: Drop, P: Drop, A: Drop, F: Drop> {
     },
     /// `cut OPTIONS FILE`: a part of a file.
     Cut {
-        /// What the options say.
-        part: P,
+        /// The values of the options.
+        options: CutOptions<'a>,
         /// The name of the file; `stdin` is standard input.
         file: &'a str,
     },
     /// `label OPTIONS FILE`: a file with more fields in its header.
     Label {
-        /// What the options say.
-        label: F,
+        /// The values of the options.
+        options: LabelOptions<'a>,
         /// The name of the file; `stdin` is standard input.
         file: &'a str,
     },
 }
-
-/// The task with the values of its options. What their texts say is not yet read.
-pub type Request<'a> = Task<
-    'a,
-    ConvertOptions<'a>,
-    CutOptions<'a>,
-    AutoOptions<'a>,
-    LabelOptions<'a>,
->;

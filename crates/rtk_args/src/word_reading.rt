@@ -1,11 +1,8 @@
 //! Reads the words of a command line.
 
 ghost use Rattle.std.specs.Prelude.{◌≡◌, ℕ, IfOk, IfErr, IfSome};
-ghost use Rattle.std.specs.Int.{IsInRange};
-ghost use Rattle.std.specs.Option.{ForSome};
 ghost use Rattle.clap.specs.Values.{kind_of};
-ghost use Rattle.rtk_args.specs.Requests.{HasClapStatus, IsRequest};
-ghost use Rattle.rtk_args.specs.declared.limits.TheConstants.{LEAST_WIDTH, MOST_WIDTH};
+ghost use Rattle.rtk_args.specs.Requests.{HasClapStatus, IsRequest, IsWidthOrNone};
 ghost use Rattle.rtk_args.specs.Steps.ClapStatus.{IsStatusOf};
 ghost use Rattle.rtk_args.specs.declared.answer.ClapAnswer.TheVariants.{Text};
 
@@ -102,7 +99,7 @@ fn summary_request<'a>(matches: &ArgMatches<'a>) -> Option<Request<'a>>
 
 // The width of a picture in characters, if it is one. clap refuses a width that is out of range.
 fn width_of(text: bool, columns: Option<u32>) -> Option<Option<u16>>
-    ensures { IfSome result (λ width. ForSome width (IsInRange LEAST_WIDTH MOST_WIDTH)) }
+    ensures { IfSome result IsWidthOrNone }
 {
     if !text {
         return Some(None);
@@ -150,10 +147,7 @@ fn cut_request<'a>(matches: &ArgMatches<'a>) -> Option<Request<'a>>
 {
     let options = cut_option_values(matches)?;
     let file = matches.get_str("FILE")?;
-    Some(Request::Cut {
-        part: options,
-        file,
-    })
+    Some(Request::Cut { options, file })
 }
 
 // No words of `convert` are refused here for how many links they name.
@@ -167,10 +161,7 @@ fn convert_request<'a>(
         return Ok(None);
     };
     let links = Vec::from_slice(alloc, matches.get_strs("LINK").unwrap_or(&[]))?;
-    Ok(Some(Request::Convert {
-        setup: options,
-        links,
-    }))
+    Ok(Some(Request::Convert { options, links }))
 }
 
 // What the words that clap took ask for; `None` if one is missing that clap should have asked for.

@@ -1,5 +1,7 @@
 -- Why the words of `convert` are refused.
-use Rattle.std.proofs.Common.{◌≡◌, ◌≢◌, ℕ, ◌≤◌, ◌%◌, List, inl, refl, sym, ◌∙◌, subst}
+use Rattle.std.proofs.Common.{◌≡◌, ℕ, ◌≤◌, ◌%◌, List, Option, None, Some, Result, Err, IsErrAnd, IfErr, IfSome, MatchOption, ok_or, refl, sym, ◌∙◌, subst}
+use Rattle.std.proofs.lemmas.Option.{MatchOption-at_some}
+use Rattle.std.proofs.lemmas.Result.{err_from_is_err_and}
 use Rattle.rtk_obs.specs.declared.code.Code.{Code}
 use Rattle.rtk_obs.specs.declared.time.TheConstants.{LAST_MS}
 use Rattle.rtk_obs.specs.Dating.{IsReference}
@@ -13,46 +15,42 @@ use Rattle.rtk_convert.specs.declared.setup.SetupFault.{SetupFault}
 use Rattle.rtk_convert.specs.declared.setup.SetupFault.TheVariants.{Station as BadStation, Near as BadNear, Window as BadWindow}
 use Rattle.rtk_args.specs.declared.options.ConvertOptions.{ConvertOptions}
 use Rattle.rtk_cli.specs.declared.words.BadWords.{BadWords}
-use Rattle.rtk_cli.specs.declared.words.BadWords.TheVariants.{Near, Made, Codes, Marker, Links, From, Until, Field}
 use Rattle.rtk_cli.specs.declared.words.WordsFault.{WordsFault}
 use Rattle.rtk_cli.specs.declared.words.WordsFault.TheVariants.{Clap, Bad, OutOfMemory}
+use Rattle.rtk_cli.specs.FaultLines.{TellsCause}
 use Rattle.rtk_cli.specs.Steps.CodeList.{Lists}
 use Rattle.rtk_cli.specs.Steps.MomentText.{WritesMoment}
 use Rattle.rtk_cli.specs.Steps.ConvertWords.{HasMoment, HasTimes, HasNames, HasHead, IsFirstCause, RefusesConversion}
 
 -- a fault with the line of the first cause
-pub refused-by : (o : ConvertOptions) (names : List (List ℕ)) (line : BadWords) (fault : WordsFault) → fault ≡ Bad line → IsFirstCause o names line → RefusesConversion o names fault
-refused-by o names line fault e cause = subst (RefusesConversion o names) (sym e) cause
+pub refused-by : (o : ConvertOptions) (names : List (List ℕ)) (cause : BadWords) (fault : WordsFault) → TellsCause cause fault → IsFirstCause o names cause → RefusesConversion o names fault
+refused-by o names cause (Clap text status) tells first = absurd tells
+refused-by o names cause (Bad line) tells first = (cause, first, tells)
+refused-by o names cause OutOfMemory tells first = tt
 
-pub has-moment : (written text : List ℕ) (t : ℕ) → text ≡ written → t ≤ LAST_MS → WritesMoment text t → HasMoment written
-has-moment written text t same within writes = (t, within, subst (λ (x : List ℕ). WritesMoment x t) same writes)
+-- the exit of a `?` after `ok_or`
+pub exit-by : {A T : Type 0} (o : ConvertOptions) (names : List (List ℕ)) (value : Option A) (cause told : BadWords) (r : Result T WordsFault) → value ≡ None
+    → Err told ≡ ok_or value cause → IsErrAnd r (TellsCause told) → IsFirstCause o names cause → IfErr r (RefusesConversion o names)
+exit-by o names value cause told r none is exits first =
+    let p = err_from_is_err_and r exits in
+    let same : told ≡ cause = let is' = rw none at is in cc in
+    rw p.1 (refused-by o names cause p.0 (subst (λ (c : BadWords). TellsCause c p.0) same p.2) first)
 
+-- what `moment_of` says of the text that the words write
 pub no-moment : (written text : List ℕ) → text ≡ written → ((t : ℕ) → t ≤ LAST_MS → ¬ (WritesMoment text t)) → ¬ (HasMoment written)
 no-moment written text same none (t, within, writes) = none t within (subst (λ (x : List ℕ). WritesMoment x t) (sym same) writes)
 
+pub has-moment : (written text : List ℕ) (o : Option ℕ) (t : ℕ) → text ≡ written → o ≡ Some t → IfSome o (λ (t : ℕ). t ≤ LAST_MS)
+    → MatchOption o ((t : ℕ) → t ≤ LAST_MS → ¬ (WritesMoment text t)) (λ (t : ℕ). WritesMoment text t) → HasMoment written
+has-moment written text o t same some within writes =
+    (t, MatchOption-at_some _ _ t some within, subst (λ (x : List ℕ). WritesMoment x t) same (MatchOption-at_some _ _ t some writes))
+
+-- what `codes_of` says of the text that the words write
 pub lists-same : (written text : List ℕ) (listed : List Code) → text ≡ written → Lists text listed → Lists written listed
 lists-same written text listed same lists = subst (λ (x : List ℕ). Lists x listed) same lists
 
-pub has-times : (o : ConvertOptions) (near made : List ℕ) (t u : ℕ) → near ≡ o.near.now → t ≤ LAST_MS → WritesMoment near t
-    → made ≡ o.made.now → u ≤ LAST_MS → WritesMoment made u → HasTimes o
-has-times o near made t u same within writes same₂ within₂ writes₂ =
-    (has-moment o.near.now near t same within writes, has-moment o.made.now made u same₂ within₂ writes₂)
-
--- a text of codes that is no list, or refused memory
-pub codes-refused : (o : ConvertOptions) (names : List (List ℕ)) (text : List ℕ) → text ≡ o.codes.now → HasTimes o → (fault : WordsFault)
-    → (fault ≡ Bad Codes → (listed : List Code) → ¬ (Lists text listed)) → (fault ≢ Bad Codes → fault ≡ OutOfMemory)
-    → RefusesConversion o names fault
-codes-refused o names text same times (Clap t status) none memory = let no : Clap t status ≡ OutOfMemory = memory (λ e. cc) in cc
-codes-refused o names text same times (Bad Near) none memory = let no : Bad Near ≡ OutOfMemory = memory (λ e. cc) in cc
-codes-refused o names text same times (Bad Made) none memory = let no : Bad Made ≡ OutOfMemory = memory (λ e. cc) in cc
-codes-refused o names text same times (Bad Codes) none memory =
-    inl (times, λ listed lists. none refl listed (lists-same text o.codes.now listed (sym same) lists))
-codes-refused o names text same times (Bad Marker) none memory = let no : Bad Marker ≡ OutOfMemory = memory (λ e. cc) in cc
-codes-refused o names text same times (Bad Links) none memory = let no : Bad Links ≡ OutOfMemory = memory (λ e. cc) in cc
-codes-refused o names text same times (Bad From) none memory = let no : Bad From ≡ OutOfMemory = memory (λ e. cc) in cc
-codes-refused o names text same times (Bad Until) none memory = let no : Bad Until ≡ OutOfMemory = memory (λ e. cc) in cc
-codes-refused o names text same times (Bad (Field fault)) none memory = let no : Bad (Field fault) ≡ OutOfMemory = memory (λ e. cc) in cc
-codes-refused o names text same times OutOfMemory none memory = tt
+pub no-list : (written text : List ℕ) → text ≡ written → ((listed : List Code) → ¬ (Lists text listed)) → (listed : List Code) → ¬ (Lists written listed)
+no-list written text same none listed lists = none listed (subst (λ (x : List ℕ). Lists x listed) (sym same) lists)
 
 -- the words give a good head
 pub has-head : (o : ConvertOptions) → HasNames o → (h : HeadView) (listed : List Code) (marker : List ℕ) → Lists o.codes.now listed

@@ -2,13 +2,13 @@
 use Rattle.std.specs.Prelude.{◌≡◌, ◌⊎◌, ℕ, ◌≤◌, Bool, nat_eq, List, length, map, count_by, codes}
 use Rattle.std.specs.Cmp.Lexicographic.{pointwise}
 use Rattle.rtk_convert.specs.Converter.{IsLinkCount}
-use Rattle.rtk_convert.specs.Setup.{SetupView, IsStation, IsWindow}
-use Rattle.rtk_cut.specs.declared.part.Part.{Part}
+use Rattle.rtk_convert.specs.Setup.{IsStation, IsWindow}
 use Rattle.rtk_cut.specs.Cut.{IsStepOrNone}
-use Rattle.rtk_label.specs.Labelled.{LabelView}
-use Rattle.rtk_args.specs.declared.request.Task.{Task}
-use Rattle.rtk_args.specs.Requests.{IsTask}
-use Rattle.rtk_cli.specs.declared.words.AutoWords.{AutoWords}
+use Rattle.rtk_args.specs.Requests.{IsWidthOrNone}
+use Rattle.rtk_cli.specs.FaultLines.{fault_line}
+use Rattle.rtk_cli.specs.declared.words.BadWords.{BadWords}
+use Rattle.rtk_cli.specs.declared.words.Job.{Job}
+use Rattle.rtk_cli.specs.declared.words.Job.TheVariants.{Convert, Chart, Cut}
 use Rattle.rtk_cli.specs.declared.words.WordsFault.{WordsFault}
 use Rattle.rtk_cli.specs.declared.words.WordsFault.TheVariants.{Clap, Bad, OutOfMemory}
 
@@ -22,22 +22,20 @@ is_stdin word = pointwise nat_eq word (codes "stdin")
 abbrev pub AreLinkNames : List (List ℕ) → Type 0
 AreLinkNames links = IsLinkCount (length links) × (count_by is_stdin links ≤ 1)
 
--- what the words ask for
-abbrev pub JobView : Type 0
-JobView = Task SetupView Part AutoWords LabelView
-
 -- formula
 -- a conversion is of a station, a window and links within their limits; so is the width of a picture
 -- in characters, and the step of a part
-abbrev pub IsWithinLimits : JobView → Type 0
-IsWithinLimits job =
-    IsTask (λ setup links. IsStation setup.station × IsWindow setup.window × AreLinkNames (map (λ link. link.now) links))
-    (λ part. IsStepOrNone part.every) job
+abbrev pub IsWithinLimits : Job → Type 0
+IsWithinLimits (Convert setup links) =
+    IsStation setup.station × IsWindow setup.window × AreLinkNames (map (λ link. link.now) links.items)
+IsWithinLimits (Chart width file) = IsWidthOrNone width
+IsWithinLimits (Cut part file) = IsStepOrNone part.every
+IsWithinLimits _ = Unit {0}
 
 -- table
--- after a text of clap's the program ends with status 0 or 2; which of them is not said here
--- (this project's rule)
-abbrev pub HasStatus : WordsFault → Type 0
-HasStatus (Clap text status) = (status ≡ 0) ⊎ (status ≡ 2)
-HasStatus (Bad line) = Unit {0}
-HasStatus OutOfMemory = Unit {0}
+-- after a text of clap's the program ends with status 0 or 2; which of them is not said here. A fault
+-- line is that of a cause (this project's rule)
+abbrev pub IsWordsFault : WordsFault → Type 0
+IsWordsFault (Clap text status) = (status ≡ 0) ⊎ (status ≡ 2)
+IsWordsFault (Bad line) = (cause : BadWords) × (line.now ≡ fault_line cause)
+IsWordsFault OutOfMemory = Unit {0}

@@ -2,10 +2,10 @@
 
 ghost use Rattle.std.specs.Prelude.{◌≡◌, IfErr};
 ghost use Rattle.rtk_message.specs.Fields.{week_ms};
-ghost use Rattle.rtk_cli.specs.Words.{HasStatus};
+ghost use Rattle.rtk_cli.specs.Words.{IsWordsFault};
 
 use crate::code_list::codes_of;
-use crate::convert_words::{kind_of, words_fault};
+use crate::convert_words::kind_of;
 use crate::moment_text::moment_of;
 use crate::words::{AutoWords, BadWords, WordsFault};
 use rtk_args::{AutoOptions, MsmOption};
@@ -20,39 +20,27 @@ use std::alloc::Global;
 const MOST_WINDOW: u16 = 4096;
 
 // The moment that an option writes, if it is given.
-fn moment_if_any(text: Option<&str>, line: BadWords) -> Result<Option<GpsMs>, WordsFault>
-    ensures { IfErr result HasStatus }
-{
+fn moment_if_any(text: Option<&str>, cause: BadWords) -> Result<Option<GpsMs>, BadWords> {
     let Some(text) = text else {
         return Ok(None);
     };
-    match moment_of(text.as_bytes()) {
-        Some(moment) => Ok(Some(moment)),
-        None => Err(words_fault(line)),
-    }
+    Ok(Some(moment_of(text.as_bytes()).ok_or(cause)?))
 }
 
 // The codes that a text lists.
 fn codes_listed(alloc: Global, text: &str) -> Result<Vec<Code>, WordsFault>
-    ensures { IfErr result HasStatus }
+    ensures { IfErr result IsWordsFault }
 {
-    match codes_of(alloc, text.as_bytes()) {
-        Ok(codes) => Ok(codes),
-        Err(WordsFault::OutOfMemory) => Err(WordsFault::OutOfMemory),
-        Err(_) => Err(words_fault(BadWords::Codes)),
-    }
+    Ok(codes_of(alloc, text.as_bytes())?.ok_or(BadWords::Codes)?)
 }
 
 fn codes_if_any(alloc: Global, text: Option<&str>) -> Result<Option<Vec<Code>>, WordsFault>
-    ensures { IfErr result HasStatus }
+    ensures { IfErr result IsWordsFault }
 {
     let Some(text) = text else {
         return Ok(None);
     };
-    match codes_listed(alloc, text) {
-        Ok(codes) => Ok(Some(codes)),
-        Err(fault) => Err(fault),
-    }
+    Ok(Some(codes_listed(alloc, text)?))
 }
 
 fn msm_if_any(msm: Option<MsmOption>) -> Option<MsmKind> {
@@ -74,36 +62,31 @@ fn first_reference() -> GpsMs
 
 // The codes that an option lists; one code stands for those that are to be found.
 fn codes_or_one(alloc: Global, text: Option<&str>) -> Result<Vec<Code>, WordsFault>
-    ensures { IfErr result HasStatus }
+    ensures { IfErr result IsWordsFault }
 {
     let Some(text) = text else {
-        return match Vec::from_slice(alloc, &[Code::C1C]) {
-            Ok(codes) => Ok(codes),
-            Err(_) => Err(WordsFault::OutOfMemory),
-        };
+        return Ok(Vec::from_slice(alloc, &[Code::C1C])?);
     };
     codes_listed(alloc, text)
 }
 
 // The head of a file with this marker and these codes; others stand for what is not given.
 fn head_of(alloc: Global, marker: Option<&str>, codes: Option<&str>) -> Result<Head, WordsFault>
-    ensures { IfErr result HasStatus }
+    ensures { IfErr result IsWordsFault }
 {
     let codes = codes_or_one(alloc, codes)?;
     let marker = marker.unwrap_or("0000");
     match Head::new(marker.as_bytes(), codes.as_slice(), first_reference()) {
         Ok(head) => Ok(head),
-        Err(HeadFault::Marker) => Err(words_fault(BadWords::Marker)),
-        Err(HeadFault::Codes) => Err(words_fault(BadWords::Codes)),
+        Err(HeadFault::Marker) => Err(BadWords::Marker.into()),
+        Err(HeadFault::Codes) => Err(BadWords::Codes.into()),
         // The moment is a whole second.
         Err(HeadFault::Made) => unreachable!(),
     }
 }
 
 // The time of making, if it is given. The form of the reference is looked at first.
-fn made_of(options: &AutoOptions<'_>) -> Result<Option<GpsMs>, WordsFault>
-    ensures { IfErr result HasStatus }
-{
+fn made_of(options: &AutoOptions<'_>) -> Result<Option<GpsMs>, BadWords> {
     let _near = moment_if_any(options.near, BadWords::Near)?;
     moment_if_any(options.made, BadWords::Made)
 }
@@ -111,7 +94,7 @@ fn made_of(options: &AutoOptions<'_>) -> Result<Option<GpsMs>, WordsFault>
 // The reference, if it is given. The codes and the marker are looked at first, then whether a
 // conversion dates near it.
 fn near_of(alloc: Global, options: &AutoOptions<'_>) -> Result<Option<GpsMs>, WordsFault>
-    ensures { IfErr result HasStatus }
+    ensures { IfErr result IsWordsFault }
 {
     let head = head_of(alloc, options.marker, options.codes)?;
     let Some(near) = moment_if_any(options.near, BadWords::Near)? else {
@@ -119,7 +102,7 @@ fn near_of(alloc: Global, options: &AutoOptions<'_>) -> Result<Option<GpsMs>, Wo
     };
     match Setup::new(0, near, head, 2) {
         Ok(_) => Ok(Some(near)),
-        Err(_) => Err(words_fault(BadWords::Near)),
+        Err(_) => Err(BadWords::Near.into()),
     }
 }
 
@@ -156,7 +139,7 @@ fn words_at<'a>(
     near: Option<GpsMs>,
     made: Option<GpsMs>,
 ) -> Result<AutoWords<'a>, WordsFault>
-    ensures { IfErr result HasStatus }
+    ensures { IfErr result IsWordsFault }
 {
     let codes = codes_if_any(alloc, options.codes)?;
     let wanted = wanted_of(options, near, codes);
@@ -169,7 +152,7 @@ pub(crate) fn auto_words<'a>(
     alloc: Global,
     options: &AutoOptions<'a>,
 ) -> Result<AutoWords<'a>, WordsFault>
-    ensures { IfErr result HasStatus }
+    ensures { IfErr result IsWordsFault }
 {
     let made = made_of(options)?;
     let near = near_of(alloc, options)?;

@@ -4,8 +4,7 @@ ghost use Rattle.std.specs.Prelude.{◌≡◌, ◌+◌, map, IfOk, IfErr, Decide
 ghost use Rattle.rtk_message.specs.MsmForm.{number_of_kind};
 ghost use Rattle.rtk_args.specs.Requests.{number_of_msm};
 ghost use Rattle.rtk_cli.specs.Steps.ConvertWords.{SaysConversion, RefusesConversion};
-ghost use Rattle.rtk_cli.specs.declared.words.WordsFault.TheVariants.{Bad};
-ghost use Rattle.rtk_cli.specs.Words.{AreLinkNames, HasStatus, IsWithinLimits};
+ghost use Rattle.rtk_cli.specs.Words.{AreLinkNames, IsWithinLimits};
 
 use crate::code_list::codes_of;
 use crate::moment_text::moment_of;
@@ -35,26 +34,18 @@ pub(crate) fn convert_job<'a>(
     ensures limits { IfOk result IsWithinLimits }
     // `OutOfMemory` comes only if memory is refused: tests/system/calls, rows `job of convert ..`.
     ensures refused { IfErr result (RefusesConversion options.now (map (λ link. link.now) links.entry.items)) }
-    ensures status { IfErr result HasStatus }
 {
-    let Some(near) = moment_of(options.near.as_bytes()) else {
-        return Err(words_fault(BadWords::Near));
-    };
-    let Some(made) = moment_of(options.made.as_bytes()) else {
-        return Err(words_fault(BadWords::Made));
-    };
-    let codes = match codes_of(alloc, options.codes.as_bytes()) {
-        Ok(codes) => codes,
-        Err(fault) => return Err(fault),
-    };
+    let near = moment_of(options.near.as_bytes()).ok_or(BadWords::Near)?;
+    let made = moment_of(options.made.as_bytes()).ok_or(BadWords::Made)?;
+    let codes = codes_of(alloc, options.codes.as_bytes())?.ok_or(BadWords::Codes)?;
     let head = match Head::new(options.marker.as_bytes(), codes.as_slice(), made) {
         Ok(head) => head,
-        Err(HeadFault::Marker) => return Err(words_fault(BadWords::Marker)),
-        Err(HeadFault::Codes) => return Err(words_fault(BadWords::Codes)),
-        Err(HeadFault::Made) => return Err(words_fault(BadWords::Made)),
+        Err(HeadFault::Marker) => return Err(BadWords::Marker.into()),
+        Err(HeadFault::Codes) => return Err(BadWords::Codes.into()),
+        Err(HeadFault::Made) => return Err(BadWords::Made.into()),
     };
     if !are_links(links.as_slice()) {
-        return Err(words_fault(BadWords::Links));
+        return Err(BadWords::Links.into());
     }
     match Setup::new(options.station, near, head, options.window) {
         Ok(setup) => Ok(Job::Convert {
@@ -62,15 +53,8 @@ pub(crate) fn convert_job<'a>(
             links,
         }),
         // Not the station or the window: those of the options are within their limits.
-        Err(_) => Err(words_fault(BadWords::Near)),
+        Err(_) => Err(BadWords::Near.into()),
     }
-}
-
-/// The fault of words that clap takes.
-pub(crate) fn words_fault(line: BadWords) -> WordsFault
-    ensures { result ≡ Bad line }
-{
-    WordsFault::Bad { line }
 }
 
 /// The MSM that the option says.

@@ -180,7 +180,7 @@ pub fn conversion_status<R: Eprint>(rt: &R, done: Result<Counts, ConvertFault>, 
         Err(ConvertFault::Read { .. }) => fail(rt, ToolFault::Input),
         Err(ConvertFault::Endless) => fail_to_end(rt),
         // Not 1 to 16 links.
-        Err(ConvertFault::Setup) => refuse(rt, BadWords::Links),
+        Err(ConvertFault::Setup) => refuse(rt, BadWords::Links.line()),
         // Faults of calls on one link: `IsRunFault` says that a whole conversion has none of them.
         Err(ConvertFault::NoLink | ConvertFault::LinkClosed | ConvertFault::Stopped) =>
             unreachable!(),

@@ -1,7 +1,10 @@
 //! The job that the words of a command line ask for.
 
 ghost use Rattle.std.specs.Prelude.{IfOk, IfErr};
-ghost use Rattle.rtk_cli.specs.Words.{HasStatus, IsWithinLimits};
+ghost use Rattle.rtk_cli.specs.FaultLines.{HasCause};
+ghost use Rattle.rtk_cli.specs.Steps.CutWords.{RefusesPart};
+ghost use Rattle.rtk_cli.specs.Steps.LabelWords.{RefusesLabel};
+ghost use Rattle.rtk_cli.specs.Words.{IsWithinLimits, IsWordsFault};
 
 use crate::auto_words::auto_words;
 use crate::convert_words::convert_job;
@@ -15,12 +18,10 @@ use std::alloc::Global;
 #[tactic(auto, using(crate::proofs::StepLemmas::step_of))]
 fn cut_job<'a>(options: &CutOptions<'a>, file: &'a str) -> Result<Job<'a>, WordsFault>
     ensures limits { IfOk result IsWithinLimits }
-    ensures status { IfErr result HasStatus }
+    ensures refused { IfErr result (HasCause (RefusesPart options.now)) }
 {
-    match part_of(options) {
-        Ok(part) => Ok(Job::Cut { part, file }),
-        Err(line) => Err(WordsFault::Bad { line }),
-    }
+    let part = part_of(options)?;
+    Ok(Job::Cut { part, file })
 }
 
 // What the options of `auto` say, of these captures.
@@ -30,41 +31,37 @@ fn auto_job<'a>(
     captures: Vec<&'a str>,
 ) -> Result<Job<'a>, WordsFault>
     ensures limits { IfOk result IsWithinLimits }
-    ensures status { IfErr result HasStatus }
+    ensures fault { IfErr result IsWordsFault }
 {
-    match auto_words(alloc, options) {
-        Ok(options) => Ok(Job::Auto { options, captures }),
-        Err(fault) => Err(fault),
-    }
+    let options = auto_words(alloc, options)?;
+    Ok(Job::Auto { options, captures })
 }
 
 // The label that the options say, for this file.
 fn label_job<'a>(options: &LabelOptions<'a>, file: &'a str) -> Result<Job<'a>, WordsFault>
     ensures limits { IfOk result IsWithinLimits }
-    ensures status { IfErr result HasStatus }
+    ensures refused { IfErr result (HasCause (RefusesLabel options.now)) }
 {
-    match label_of(options) {
-        Ok(label) => Ok(Job::Label { label, file }),
-        Err(line) => Err(WordsFault::Bad { line }),
-    }
+    let label = label_of(options)?;
+    Ok(Job::Label { label, file })
 }
 
 /// What the words of a command line ask for. They begin after the name of the program.
 pub fn job<'a>(alloc: Global, words: &'a [&'a str]) -> Result<Job<'a>, WordsFault>
     // `OutOfMemory` comes only if memory is refused: tests/system/calls, rows `job ..`.
     ensures limits { IfOk result IsWithinLimits }
-    ensures status { IfErr result HasStatus }
+    ensures fault { IfErr result IsWordsFault }
 {
     match read_words(alloc, words) {
         Ok(Request::Auto { options, captures }) => auto_job(alloc, &options, captures),
-        Ok(Request::Convert { setup, links }) => convert_job(alloc, &setup, links),
+        Ok(Request::Convert { options, links }) => convert_job(alloc, &options, links),
         Ok(Request::Show { hex, file }) => Ok(Job::Show { hex, file }),
         Ok(Request::Check { file }) => Ok(Job::Check { file }),
         Ok(Request::Summary { file }) => Ok(Job::Summary { file }),
         Ok(Request::Chart { width, file }) => Ok(Job::Chart { width, file }),
         Ok(Request::Quality { json, file }) => Ok(Job::Quality { json, file }),
-        Ok(Request::Cut { part, file }) => cut_job(&part, file),
-        Ok(Request::Label { label, file }) => label_job(&label, file),
+        Ok(Request::Cut { options, file }) => cut_job(&options, file),
+        Ok(Request::Label { options, file }) => label_job(&options, file),
         Err(ClapAnswer::Text { text, status }) => Err(WordsFault::Clap { text, status }),
         Err(ClapAnswer::OutOfMemory) => Err(WordsFault::OutOfMemory),
     }

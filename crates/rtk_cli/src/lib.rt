@@ -1,13 +1,13 @@
 //! The commands of the program: the words of a command line, and the work that each asks for.
 //!
 //! ```rust
-//! use rtk_cli::{BadWords, WordsFault, job};
+//! use rtk_cli::{WordsFault, job};
 //! use std::alloc::{AllocError, Global};
 //!
 //! // A part of a file can't begin at a moment that is written in another form.
 //! fn example(alloc: Global) -> Result<bool, AllocError> {
 //!     match job(alloc, &["cut", "--from", "noon", "day.rnx"]) {
-//!         Err(WordsFault::Bad { line }) => Ok(line == BadWords::From),
+//!         Err(WordsFault::Bad { line }) => Ok(line == "bad --from"),
 //!         _ => Ok(false),
 //!     }
 //! }
@@ -41,4 +41,4 @@ pub use jobs::job;
 pub use rtk_commands::{CHECK_LIMIT, SHOW_LIMIT, check_file, show, show_line};
 pub use rtk_streams::ToolFault;
 pub use running::run_program;
-pub use words::{AutoWords, BadWords, Job, WordsFault};
+pub use words::{AutoWords, Job, WordsFault};

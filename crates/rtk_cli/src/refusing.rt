@@ -3,13 +3,13 @@
 ghost use Rattle.std.specs.Prelude.{◌≡◌, ◌≤◌};
 ghost use Rattle.rtk_streams.specs.declared.exit_status.TheConstants.{REFUSED};
 
-use crate::words::{BadWords, WordsFault};
+use crate::words::WordsFault;
 use rtk_frame::write_all;
 use rtk_streams::{DONE, REFUSED, Resumed, ToolFault, Writes, fail, standard_output};
 use std::io::Printer;
 
 /// Says why words that clap takes are refused.
-pub(crate) fn refuse<R: Eprint>(rt: &R, line: BadWords) -> u8
+pub(crate) fn refuse<R: Eprint>(rt: &R, line: &str) -> u8
     ensures { result ≡ REFUSED }
 {
     let _printed = eprintln!(rt; "rtcm2rinex: {line}");

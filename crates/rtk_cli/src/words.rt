@@ -1,12 +1,11 @@
 //! What the words of a command line ask for, and why a command is not done.
 
-use rtk_args::Task;
 use rtk_auto::{Wanted, Ways};
 use rtk_convert::Setup;
 use rtk_cut::Part;
 use rtk_label::{Label, LabelFault};
 use rtk_obs::GpsMs;
-use thiserror::Error;
+use std::alloc::AllocError;
 
 /// What the words of `auto` say.
 #[derive(Drop)]
@@ -19,62 +18,114 @@ pub struct AutoWords<'a> {
     pub ways: Ways<'a>,
 }
 
-/// What the words ask for: what `auto` is to find; the station, the reference, the file's head and the
-/// window of a conversion, and its 1 to 16 links, standard input once at most; the span and the step
-/// of a part; the fields of a label.
-pub type Job<'a> = Task<'a, Setup, Part, AutoWords<'a>, Label>;
-
-// The option that fills the field of a fault.
-fn option_of(fault: LabelFault) -> &'static str {
-    match fault {
-        LabelFault::RunBy => "run-by",
-        LabelFault::MarkerNumber => "marker-number",
-        LabelFault::Observer => "observer",
-        LabelFault::Agency => "agency",
-        LabelFault::ReceiverNumber => "receiver-number",
-        LabelFault::ReceiverType => "receiver-type",
-        LabelFault::ReceiverVersion => "receiver-version",
-        LabelFault::AntennaNumber => "antenna-number",
-        LabelFault::AntennaType => "antenna-type",
-        LabelFault::DeltaHeight => "delta-height",
-        LabelFault::DeltaEast => "delta-east",
-        LabelFault::DeltaNorth => "delta-north",
-    }
+/// What the words ask for. A capture, a link or a file is given by its name; `stdin` is standard input.
+#[derive(Drop)]
+pub enum Job<'a> {
+    /// Captures of one station go to a file; what `convert` wants to be told is found in them.
+    Auto {
+        options: AutoWords<'a>,
+        captures: Vec<&'a str>,
+    },
+    /// Captures of one station go to a file and a report.
+    Convert {
+        setup: Setup,
+        /// 1 to 16 links, standard input once at most.
+        links: Vec<&'a str>,
+    },
+    /// The lines of a capture, one for each frame.
+    Show {
+        /// The capture is hex text.
+        hex: bool,
+        file: &'a str,
+    },
+    /// Whether a text is one of this project's files.
+    Check {
+        file: &'a str,
+    },
+    /// What a capture holds.
+    Summary {
+        file: &'a str,
+    },
+    /// A picture of a file.
+    Chart {
+        /// How many characters wide the picture is, 40 to 400; `None` is a picture in SVG.
+        width: Option<u16>,
+        file: &'a str,
+    },
+    /// The numbers of a file.
+    Quality {
+        /// They are told as JSON.
+        json: bool,
+        file: &'a str,
+    },
+    /// A part of a file.
+    Cut {
+        part: Part,
+        file: &'a str,
+    },
+    /// A file with more fields in its header.
+    Label {
+        label: Label,
+        file: &'a str,
+    },
 }
 
 /// Why words that clap takes give no conversion, no part or no label: the first cause that holds, in this
-/// order; but that no time is dated near the reference is found last. Displayed, it is the fault
-/// line of the program.
-#[derive(Clone, Copy, Debug, PartialEq, Eq, Error)]
-pub enum BadWords {
+/// order; but that no time is dated near the reference is found last.
+#[derive(Clone, Copy)]
+pub(crate) enum BadWords {
     /// The reference is written in another form, or there is no such moment, or times can't be
     /// dated near it.
-    #[error("bad --near")]
     Near,
     /// The time of making is written in another form, or there is no such moment.
-    #[error("bad --made")]
     Made,
     /// A name is no observation code. Or, once the marker is known to be good: the codes are not
     /// 1 to 16, or one stands twice.
-    #[error("bad --codes")]
     Codes,
     /// The marker's name does not have 1 to 60 printable characters of ASCII, or the first or the
     /// last one is a blank.
-    #[error("bad --marker")]
     Marker,
     /// The links are not 1 to 16, or standard input stands twice.
-    #[error("bad links")]
     Links,
     /// The begin of a part is written in another form, or there is no such moment.
-    #[error("bad --from")]
     From,
     /// The end of a part is written in another form, or there is no such moment, or it is before the
     /// begin.
-    #[error("bad --until")]
     Until,
     /// A field of a label does not fit its columns.
-    #[error("bad --{}", option_of(*.0))]
     Field(LabelFault),
+}
+
+impl BadWords {
+    ghost use Rattle.std.specs.Prelude.{◌≡◌};
+    ghost use Rattle.rtk_cli.specs.FaultLines.{fault_line};
+
+    /// The fault line of the program.
+    pub(crate) fn line(self) -> &'static str
+        ensures { result.now ≡ fault_line self }
+    {
+        match self {
+            BadWords::Near => "bad --near",
+            BadWords::Made => "bad --made",
+            BadWords::Codes => "bad --codes",
+            BadWords::Marker => "bad --marker",
+            BadWords::Links => "bad links",
+            BadWords::From => "bad --from",
+            BadWords::Until => "bad --until",
+            BadWords::Field(LabelFault::RunBy) => "bad --run-by",
+            BadWords::Field(LabelFault::MarkerNumber) => "bad --marker-number",
+            BadWords::Field(LabelFault::Observer) => "bad --observer",
+            BadWords::Field(LabelFault::Agency) => "bad --agency",
+            BadWords::Field(LabelFault::ReceiverNumber) => "bad --receiver-number",
+            BadWords::Field(LabelFault::ReceiverType) => "bad --receiver-type",
+            BadWords::Field(LabelFault::ReceiverVersion) => "bad --receiver-version",
+            BadWords::Field(LabelFault::AntennaNumber) => "bad --antenna-number",
+            BadWords::Field(LabelFault::AntennaType) => "bad --antenna-type",
+            BadWords::Field(LabelFault::DeltaHeight) => "bad --delta-height",
+            BadWords::Field(LabelFault::DeltaEast) => "bad --delta-east",
+            BadWords::Field(LabelFault::DeltaNorth) => "bad --delta-north",
+        }
+    }
 }
 
 /// Why the words give no job.
@@ -90,9 +141,30 @@ pub enum WordsFault {
     },
     /// Words that clap takes give no conversion, no part or no label (status 2).
     Bad {
-        /// The fault line.
-        line: BadWords,
+        /// The fault line, as `bad --near`.
+        line: &'static str,
     },
     /// No memory for reading the words.
     OutOfMemory,
+}
+
+impl From<BadWords> for WordsFault {
+    ghost use Rattle.rtk_cli.specs.FaultLines.{TellsCause};
+
+    ghost from_gives = { TellsCause };
+
+    fn from(cause: BadWords) -> WordsFault {
+        WordsFault::Bad { line: cause.line() }
+    }
+}
+
+impl From<AllocError> for WordsFault {
+    ghost use Rattle.std.specs.Prelude.{◌≡◌};
+    ghost use Rattle.rtk_cli.specs.declared.words.WordsFault.TheVariants.{OutOfMemory};
+
+    ghost from_gives = { λ _ fault. fault ≡ OutOfMemory };
+
+    fn from(_refused: AllocError) -> WordsFault {
+        WordsFault::OutOfMemory
+    }
 }

@@ -7,13 +7,15 @@ use Rattle.rtk_obs.specs.declared.time.TheConstants.{LAST_MS}
 use Rattle.rtk_rinex.specs.Header.{IsMarker, IsCodeList}
 use Rattle.rtk_convert.specs.Setup.{SetupView}
 use Rattle.rtk_args.specs.declared.options.ConvertOptions.{ConvertOptions}
-use Rattle.rtk_args.specs.declared.request.Task.TheVariants.{Convert}
 use Rattle.rtk_args.specs.Requests.{number_of_msm}
 use Rattle.rtk_cli.specs.declared.words.BadWords.{BadWords}
 use Rattle.rtk_cli.specs.declared.words.BadWords.TheVariants.{Near, Made, Codes, Marker, Links}
+use Rattle.rtk_cli.specs.declared.words.Job.{Job}
+use Rattle.rtk_cli.specs.declared.words.Job.TheVariants.{Convert}
 use Rattle.rtk_cli.specs.declared.words.WordsFault.{WordsFault}
-use Rattle.rtk_cli.specs.declared.words.WordsFault.TheVariants.{Clap, Bad, OutOfMemory}
-use Rattle.rtk_cli.specs.Words.{AreLinkNames, JobView}
+use Rattle.rtk_cli.specs.declared.words.WordsFault.TheVariants.{OutOfMemory}
+use Rattle.rtk_cli.specs.FaultLines.{HasCause}
+use Rattle.rtk_cli.specs.Words.{AreLinkNames}
 use Rattle.rtk_cli.specs.Steps.CodeList.{Lists}
 use Rattle.rtk_cli.specs.Steps.MomentText.{WritesMoment}
 
@@ -26,7 +28,7 @@ SaysSetup o s =
     × (number_of_kind s.msm ≡ 1070 + number_of_msm o.msm)
 
 -- the job is the conversion that the options and the names of the links say
-abbrev pub SaysConversion : ConvertOptions → List (List ℕ) → JobView → Type 0
+abbrev pub SaysConversion : ConvertOptions → List (List ℕ) → Job → Type 0
 SaysConversion o names (Convert setup links) = SaysSetup o setup × (map (λ link. link.now) links.items ≡ names)
 SaysConversion o names _ = ⊥
 
@@ -66,8 +68,8 @@ IsFirstCause o names Marker = HasNames o × ¬ (IsMarker o.marker.now)
 IsFirstCause o names Links = HasHead o × ¬ (AreLinkNames names)
 IsFirstCause o names _ = ⊥
 
--- why the words give no conversion: the first cause, or refused memory; no text of clap's
+-- why the words give no conversion: the first cause, by its fault line, or refused memory; no text of
+-- clap's
 abbrev pub RefusesConversion : ConvertOptions → List (List ℕ) → WordsFault → Type 0
-RefusesConversion o names (Clap text status) = ⊥
-RefusesConversion o names (Bad line) = IsFirstCause o names line
 RefusesConversion o names OutOfMemory = Unit {0}
+RefusesConversion o names fault = HasCause (IsFirstCause o names) fault

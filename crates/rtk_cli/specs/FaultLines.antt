@@ -1,0 +1,39 @@
+-- The fault lines of words that clap takes: what follows the name of the program and a colon.
+use Rattle.std.specs.Prelude.{◌≡◌, ℕ, List, codes}
+use Rattle.rtk_label.specs.declared.label_fault.LabelFault.TheVariants.{RunBy, MarkerNumber, Observer, Agency, ReceiverNumber, ReceiverType, ReceiverVersion, AntennaNumber, AntennaType, DeltaHeight, DeltaEast, DeltaNorth}
+use Rattle.rtk_cli.specs.declared.words.BadWords.{BadWords}
+use Rattle.rtk_cli.specs.declared.words.BadWords.TheVariants.{Near, Made, Codes, Marker, Links, From, Until, Field}
+use Rattle.rtk_cli.specs.declared.words.WordsFault.{WordsFault}
+use Rattle.rtk_cli.specs.declared.words.WordsFault.TheVariants.{Bad}
+
+-- table
+-- the fault line of a cause (this project's rule)
+abbrev pub fault_line : BadWords → List ℕ
+fault_line Near = codes "bad --near"
+fault_line Made = codes "bad --made"
+fault_line Codes = codes "bad --codes"
+fault_line Marker = codes "bad --marker"
+fault_line Links = codes "bad links"
+fault_line From = codes "bad --from"
+fault_line Until = codes "bad --until"
+fault_line (Field RunBy) = codes "bad --run-by"
+fault_line (Field MarkerNumber) = codes "bad --marker-number"
+fault_line (Field Observer) = codes "bad --observer"
+fault_line (Field Agency) = codes "bad --agency"
+fault_line (Field ReceiverNumber) = codes "bad --receiver-number"
+fault_line (Field ReceiverType) = codes "bad --receiver-type"
+fault_line (Field ReceiverVersion) = codes "bad --receiver-version"
+fault_line (Field AntennaNumber) = codes "bad --antenna-number"
+fault_line (Field AntennaType) = codes "bad --antenna-type"
+fault_line (Field DeltaHeight) = codes "bad --delta-height"
+fault_line (Field DeltaEast) = codes "bad --delta-east"
+fault_line (Field DeltaNorth) = codes "bad --delta-north"
+
+-- the words are refused by the fault line of this cause
+abbrev pub TellsCause : BadWords → WordsFault → Type 0
+TellsCause cause (Bad line) = line.now ≡ fault_line cause
+TellsCause cause _ = ⊥
+
+-- the words are refused by the fault line of a cause that there is
+abbrev pub HasCause : (BadWords → Type 0) → WordsFault → Type 0
+HasCause IsCause fault = (cause : BadWords) × IsCause cause × TellsCause cause fault
