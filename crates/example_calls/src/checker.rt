@@ -1,18 +1,18 @@
 //! The calls that check a file.
 
 use crate::example;
-use rtk_rinex::{CheckCause, check, text};
+use rtk_rinex::{Cause, check, text};
 use std::alloc::Global;
 use std::io;
 
-fn cause_name(cause: CheckCause) -> &'static str {
+fn cause_name(cause: Cause) -> &'static str {
     match cause {
-        CheckCause::HeaderLine => "HeaderLine",
-        CheckCause::Columns => "Columns",
-        CheckCause::Value => "Value",
-        CheckCause::Order => "Order",
-        CheckCause::Truncated => "Truncated",
-        CheckCause::OutOfMemory => "OutOfMemory",
+        Cause::HeaderLine => "HeaderLine",
+        Cause::Columns => "Columns",
+        Cause::Value => "Value",
+        Cause::Order => "Order",
+        Cause::Truncated => "Truncated",
+        Cause::OutOfMemory => "OutOfMemory",
     }
 }
 

@@ -5,9 +5,9 @@ use crate::payloads::{
     self, Arp, LEGACY_5, LegacySatellite, MSM_5, MSM_CELL, MSM_SATELLITE, Msm, MsmCell, POSITION,
     SATELLITE_5, SATELLITE_7,
 };
-use rtk_collect::{Collector, Dated, EpochSet, Offer};
+use rtk_collect::{Collector, Conflicts, Dated, EpochSet, Offer};
 use rtk_message::Message;
-use rtk_obs::{Code, Position};
+use rtk_obs::Position;
 use std::alloc::{AllocError, Global};
 use std::{io, str};
 
@@ -31,10 +31,11 @@ fn print_closed(rt: &HostRuntime, closed: &Option<EpochSet>) -> io::Result<()> {
     }
 }
 
-fn print_conflicts(rt: &HostRuntime, conflicts: &[(u8, Code)]) -> io::Result<()> {
-    for (satellite, code) in conflicts {
-        let name = code.name();
-        print!(rt; ", G{satellite:02} {} conflicts", str::from_utf8(&name).unwrap_or("?"))?;
+fn print_conflicts(rt: &HostRuntime, conflicts: &Conflicts) -> io::Result<()> {
+    for cell in conflicts.as_slice() {
+        let name = cell.code.name();
+        let code = str::from_utf8(&name).unwrap_or("?");
+        print!(rt; ", G{:02} {code} conflicts", cell.satellite)?;
     }
     Ok(())
 }

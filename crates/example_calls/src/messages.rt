@@ -107,16 +107,21 @@ fn print_bytes(rt: &HostRuntime) -> io::Result<()> {
     println!(rt; "decode with a byte behind the last field gives the same: {same}")
 }
 
-// Reads a message by its layout, and writes it again.
-fn print_layout<L: Layout>(rt: &HostRuntime, payload: &[u8]) -> io::Result<()> {
+// Reads the number of a message and its fields by their layout, and writes them again.
+fn print_layout<L: Layout + Drop>(rt: &HostRuntime, payload: &[u8]) -> io::Result<()> {
     let mut reader = BitReader::new(payload);
-    let Some(message) = L::read(&mut reader) else {
-        return println!(rt; "read of a {}: None", L::NUMBER);
+    let number = reader.take_u(12);
+    let mut message = L::empty();
+    let read = message.read(&mut reader);
+    println!(rt; "read of a {}: {}, {} bits left", L::NUMBER, read.is_ok(), reader.remaining())?;
+    let (Some(number), true) = (number, read.is_ok()) else {
+        return Ok(());
     };
     let mut writer = BitWriter::new(rt.alloc());
+    writer.put_u(12, number)?;
     message.write(&mut writer)?;
     let same = writer.finish().as_slice() == payload;
-    println!(rt; "read of a {}: {} bits left; write: the same {same}", L::NUMBER, reader.remaining())
+    println!(rt; "write: the same {same}")
 }
 
 fn print_layouts(rt: &HostRuntime) -> io::Result<()> {

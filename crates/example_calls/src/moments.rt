@@ -56,6 +56,7 @@ pub(crate) fn near_noon(tow: u32) -> io::Result<GpsMs> {
 }
 
 /// Prints a moment as its date and time of day.
+#[derive(Clone, Copy)]
 pub(crate) struct Shown(pub(crate) GpsMs);
 
 impl fmt::Display for Shown {

@@ -107,7 +107,7 @@ fn print_cells(rt: &HostRuntime, cells: &[CellEntry]) -> io::Result<()> {
             str::from_utf8(&name).unwrap_or("?"),
             entry.cell.range_mm,
             entry.cell.phase_millicycles,
-            entry.cell.strength,
+            entry.cell.strength_millidbhz,
             entry.cell.lock_time_ms,
             entry.cell.half,
             entry.cell.offset

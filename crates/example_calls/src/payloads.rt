@@ -33,8 +33,8 @@ pub(crate) const SIGNAL_1C: u32 = 1 << 30;
 // A field of a message: its width in bits, and its value.
 #[derive(Clone, Copy)]
 enum Field {
-    Unsigned(u32, u64),
-    Signed(u32, i64),
+    Unsigned(usize, u64),
+    Signed(usize, i64),
 }
 
 use Field::{Signed, Unsigned};

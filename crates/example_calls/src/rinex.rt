@@ -2,8 +2,8 @@
 
 use crate::moments;
 use crate::payloads::STATION;
-use rtk_obs::{Code, Digits, GpsMs, Position};
-use rtk_rinex::{EpochTable, Head, HeadFault, Observation, SatelliteRow, header, record};
+use rtk_obs::{Code, GpsMs, Position};
+use rtk_rinex::{EpochTable, Head, HeadFault, Observed, header, record};
 use std::{io, str};
 
 /// The position of the station, in 0.0001 m.
@@ -77,44 +77,51 @@ fn print_headers(rt: &HostRuntime) -> io::Result<()> {
 
     println!(rt; "header with a height")?;
     let raised = Position {
+        x: POSITION.x,
+        y: POSITION.y,
+        z: POSITION.z,
         height: 15_000,
-        ..POSITION
     };
     print_labelled(rt, &header(rt.alloc(), &five, &raised, noon)?, "ANTENNA: DELTA")
 }
 
-const NO_DIGITS: Digits = Digits {
-    slip: false,
-    half: false,
-    rolls: 0,
-};
-
 // The same range and phase, or none, and a strength, or none, each in thousandths.
-fn observation(value: Option<i64>, strength: Option<u32>) -> Observation {
-    Observation {
-        range: value,
-        phase: value,
-        strength,
-        digits: NO_DIGITS,
+fn observed(value: Option<i64>, strength: Option<u32>) -> Observed {
+    Observed {
+        range_mm: value,
+        phase_millicycles: value,
+        strength_millidbhz: strength,
+        slip: false,
+        half: false,
     }
 }
 
-// Prints the record of satellite 5 at noon with this observation of code 1C.
-fn print_record(rt: &HostRuntime, observation: Observation) -> io::Result<()> {
-    let mut observations = ArrayVec::new();
-    observations.push(observation);
-    let mut satellites = ArrayVec::new();
-    satellites.push(SatelliteRow {
-        satellite: 5,
-        observations,
-    });
-    let table = EpochTable {
-        epoch: moments::noon()?,
-        satellites,
-    };
-    let text = record(rt.alloc(), &head(&[Code::C1C])?, &table)?;
+// Prints the record of satellite 5 at noon.
+fn print_record(rt: &HostRuntime, codes: &[Code], observed: &[Observed]) -> io::Result<()> {
+    let mut table = EpochTable::new(moments::noon()?);
+    table.push_row(5, observed);
+    let text = record(rt.alloc(), &head(codes)?, &table)?;
     println!(rt; "record: {} bytes", text.len())?;
     print_text(rt, &text)
+}
+
+// Both codes of the example.
+fn print_example(rt: &HostRuntime) -> io::Result<()> {
+    let l1 = Observed {
+        range_mm: Some(21_085_472_060),
+        phase_millicycles: Some(110_804_903_547),
+        strength_millidbhz: Some(45_000),
+        slip: false,
+        half: false,
+    };
+    let l2 = Observed {
+        range_mm: Some(21_085_474_060),
+        phase_millicycles: Some(86_341_483_283),
+        strength_millidbhz: Some(35_000),
+        slip: false,
+        half: false,
+    };
+    print_record(rt, &[Code::C1C, Code::C2W], &[l1, l2])
 }
 
 fn print_values(rt: &HostRuntime) -> io::Result<()> {
@@ -126,41 +133,12 @@ fn print_values(rt: &HostRuntime) -> io::Result<()> {
         0,
     ];
     for value in values {
-        print_record(rt, observation(Some(value), Some(5_000)))?;
+        print_record(rt, &[Code::C1C], &[observed(Some(value), Some(5_000))])?;
     }
     for strength in [53_750, 54_000, 63_750] {
-        print_record(rt, observation(Some(1_000), Some(strength)))?;
+        print_record(rt, &[Code::C1C], &[observed(Some(1_000), Some(strength))])?;
     }
-    print_record(rt, observation(None, None))
-}
-
-// The table of satellite 5 with codes 1C and 2W.
-fn print_example(rt: &HostRuntime) -> io::Result<()> {
-    let mut observations = ArrayVec::new();
-    observations.push(Observation {
-        range: Some(21_085_472_060),
-        phase: Some(110_804_903_547),
-        strength: Some(45_000),
-        digits: NO_DIGITS,
-    });
-    observations.push(Observation {
-        range: Some(21_085_474_060),
-        phase: Some(86_341_483_283),
-        strength: Some(35_000),
-        digits: NO_DIGITS,
-    });
-    let mut satellites = ArrayVec::new();
-    satellites.push(SatelliteRow {
-        satellite: 5,
-        observations,
-    });
-    let table = EpochTable {
-        epoch: moments::noon()?,
-        satellites,
-    };
-    let text = record(rt.alloc(), &head_1c_2w()?, &table)?;
-    println!(rt; "record: {} bytes", text.len())?;
-    print_text(rt, &text)
+    print_record(rt, &[Code::C1C], &[observed(None, None)])
 }
 
 pub(crate) fn print_calls(rt: &HostRuntime) -> io::Result<()> {
