@@ -27,7 +27,11 @@ pub(crate) fn print_checked(rt: &HostRuntime, name: &str, file: &[u8]) -> io::Re
                 table.satellites()
             )
         }
-        Err(fault) => println!(rt; "check of {name}: line {}, {}", fault.line, cause_name(fault.cause)),
+        Err(fault) => println!(rt;
+            "check of {name}: line {}, {}",
+            fault.line,
+            cause_name(fault.cause)
+        ),
     }
 }
 
@@ -44,7 +48,12 @@ fn print_changes(rt: &HostRuntime) -> io::Result<()> {
     print_replaced(rt, "a strength between two steps", "45.000", "45.100")?;
     print_replaced(rt, "a count of 0", "00  0  1", "00  0  0")?;
     print_replaced(rt, "a count of 2", "00  0  1", "00  0  2")?;
-    print_replaced(rt, "another minute", "> 2024 05 17 12 00", "> 2024 05 17 12 01")?;
+    print_replaced(
+        rt,
+        "another minute",
+        "> 2024 05 17 12 00",
+        "> 2024 05 17 12 01",
+    )?;
     print_replaced(rt, "a blank at the end", "35.000\n", "35.000 \n")
 }
 

@@ -26,7 +26,11 @@ fn dated(message: Message) -> io::Result<Dated> {
 
 fn print_closed(rt: &HostRuntime, closed: &Option<EpochSet>) -> io::Result<()> {
     match closed {
-        Some(set) => print!(rt; ", closed {} of {} cells", Shown(set.epoch), set.cells.len()),
+        Some(set) => print!(rt;
+            ", closed {} of {} cells",
+            Shown(set.epoch),
+            set.cells.len()
+        ),
         None => Ok(()),
     }
 }
@@ -60,10 +64,7 @@ fn print_offer(rt: &HostRuntime, offer: Result<Offer, AllocError>) -> io::Result
 fn print_position(rt: &HostRuntime, name: &str, position: &Position) -> io::Result<()> {
     println!(rt;
         "{name}: x {}, y {}, z {}, height {}",
-        position.x,
-        position.y,
-        position.z,
-        position.height
+        position.x, position.y, position.z, position.height
     )
 }
 
@@ -72,7 +73,7 @@ fn print_offers(rt: &HostRuntime, name: &str, payloads: &[Vec<u8>]) -> io::Resul
     println!(rt; "Collector::new, {name}")?;
     let mut collector = Collector::new(rt.alloc(), WINDOW);
     for payload in payloads {
-        let message = payloads::message(payload)?;
+        let message = payloads::message_of(payload)?;
         print_offer(rt, collector.offer(dated(message)?))?;
     }
     print_position(rt, "station", &collector.station())?;
@@ -81,7 +82,11 @@ fn print_offers(rt: &HostRuntime, name: &str, payloads: &[Vec<u8>]) -> io::Resul
     for _ in 0..=WINDOW {
         match left.next_left() {
             Some(set) => {
-                println!(rt; "next_left: {} of {} cells", Shown(set.epoch), set.cells.len())?
+                println!(rt;
+                    "next_left: {} of {} cells",
+                    Shown(set.epoch),
+                    set.cells.len()
+                )?
             }
             None => println!(rt; "next_left: None")?,
         }
@@ -94,7 +99,7 @@ fn print_seconds(rt: &HostRuntime, name: &str, seconds: &[u32]) -> io::Result<()
     let mut messages = Vec::new(rt.alloc());
     for second in seconds {
         let tow = second.saturating_mul(1_000).saturating_add(NOON_TOW);
-        messages.push(payloads::legacy(rt.alloc(), tow, &[])?)?;
+        messages.push(payloads::legacy_payload(rt.alloc(), tow, &[])?)?;
     }
     print_offers(rt, name, &messages)
 }
@@ -109,12 +114,16 @@ fn print_windows(rt: &HostRuntime) -> io::Result<()> {
 }
 
 fn second(alloc: Global, after: u32) -> io::Result<Vec<u8>> {
-    payloads::legacy(alloc, NOON_TOW.saturating_add(after.saturating_mul(1_000)), &[])
+    payloads::legacy_payload(
+        alloc,
+        NOON_TOW.saturating_add(after.saturating_mul(1_000)),
+        &[],
+    )
 }
 
 fn print_positions(rt: &HostRuntime) -> io::Result<()> {
     let alloc = rt.alloc();
-    let position = payloads::arp(alloc, POSITION)?;
+    let position = payloads::arp_payload(alloc, POSITION)?;
     let messages = [second(alloc, 1)?, second(alloc, 2)?, position];
     print_offers(rt, "seconds 1, 2, a position", &messages)?;
 
@@ -124,21 +133,25 @@ fn print_positions(rt: &HostRuntime) -> io::Result<()> {
     };
     let messages = [
         second(alloc, 1)?,
-        payloads::arp(alloc, POSITION)?,
+        payloads::arp_payload(alloc, POSITION)?,
         second(alloc, 2)?,
-        payloads::arp(alloc, POSITION)?,
-        payloads::arp(alloc, other)?,
+        payloads::arp_payload(alloc, POSITION)?,
+        payloads::arp_payload(alloc, other)?,
     ];
-    print_offers(rt, "second 1, a position, second 2, the position, another", &messages)?;
+    print_offers(
+        rt,
+        "second 1, a position, second 2, the position, another",
+        &messages,
+    )?;
 
     let raised = Arp {
         height: Some(15_000),
         ..POSITION
     };
     let messages = [
-        payloads::arp(alloc, raised)?,
-        payloads::arp(alloc, POSITION)?,
-        payloads::arp(alloc, other)?,
+        payloads::arp_payload(alloc, raised)?,
+        payloads::arp_payload(alloc, POSITION)?,
+        payloads::arp_payload(alloc, other)?,
     ];
     print_offers(rt, "a position and height, a position, another", &messages)
 }
@@ -149,7 +162,7 @@ fn one_cell(alloc: Global, satellite_mask: u64) -> io::Result<Vec<u8>> {
         satellite_mask,
         ..MSM_5
     };
-    payloads::msm(alloc, &message)
+    payloads::msm_payload(alloc, &message)
 }
 
 // A 1074 of satellites 5 and 7 at noon, whose cell of satellite 5 has a strength.
@@ -164,7 +177,7 @@ fn two_cells(alloc: Global) -> io::Result<Vec<u8>> {
         cells: &[strong, MSM_CELL],
         ..MSM_5
     };
-    payloads::msm(alloc, &message)
+    payloads::msm_payload(alloc, &message)
 }
 
 fn print_parts(rt: &HostRuntime) -> io::Result<()> {
@@ -172,9 +185,13 @@ fn print_parts(rt: &HostRuntime) -> io::Result<()> {
     let messages = [one_cell(alloc, SATELLITE_5)?, one_cell(alloc, SATELLITE_7)?];
     print_offers(rt, "an epoch in two 1074", &messages)?;
     let messages = [one_cell(alloc, SATELLITE_5)?, two_cells(alloc)?];
-    print_offers(rt, "a second 1074 with another cell of satellite 5", &messages)?;
+    print_offers(
+        rt,
+        "a second 1074 with another cell of satellite 5",
+        &messages,
+    )?;
 
-    let observations = payloads::observations(alloc, NOON_TOW)?;
+    let observations = payloads::observation_payload(alloc, NOON_TOW)?;
     let messages = [observations, one_cell(alloc, SATELLITE_5)?];
     print_offers(rt, "a 1004 and a 1074 of satellite 5", &messages)?;
 
@@ -183,9 +200,9 @@ fn print_parts(rt: &HostRuntime) -> io::Result<()> {
         ..LEGACY_5
     };
     let messages = [
-        payloads::observations(alloc, NOON_TOW)?,
-        payloads::legacy(alloc, NOON_TOW, &[stronger])?,
-        payloads::smoothed_legacy(alloc, NOON_TOW, 1, &[LEGACY_5])?,
+        payloads::observation_payload(alloc, NOON_TOW)?,
+        payloads::legacy_payload(alloc, NOON_TOW, &[stronger])?,
+        payloads::smoothed_payload(alloc, NOON_TOW, 1, &[LEGACY_5])?,
     ];
     print_offers(rt, "a 1004, another strength, another smoothing", &messages)
 }
@@ -199,7 +216,7 @@ fn no_cells(alloc: Global, tow: u32) -> io::Result<Vec<u8>> {
         cells: &[],
         ..MSM_5
     };
-    payloads::msm(alloc, &message)
+    payloads::msm_payload(alloc, &message)
 }
 
 fn print_empty(rt: &HostRuntime) -> io::Result<()> {
@@ -211,7 +228,11 @@ fn print_empty(rt: &HostRuntime) -> io::Result<()> {
         second(alloc, 2)?,
         one_cell(alloc, SATELLITE_5)?,
     ];
-    print_offers(rt, "a 1074 without cells, again, two seconds, a cell", &messages)
+    print_offers(
+        rt,
+        "a 1074 without cells, again, two seconds, a cell",
+        &messages,
+    )
 }
 
 pub(crate) fn print_calls(rt: &HostRuntime) -> io::Result<()> {

@@ -1,6 +1,6 @@
 //! Files and reports of a few frames.
 
-use crate::converter::{self, observations};
+use crate::converter::{self, observation_frame};
 use crate::moments::NOON_TOW;
 use crate::payloads::{
     self, Arp, LEGACY_5, LegacySatellite, MSM_5, MSM_CELL, MSM_SATELLITE, Msm, MsmCell,
@@ -14,7 +14,9 @@ fn print_file(rt: &HostRuntime, file: &[u8]) -> io::Result<()> {
     let text = str::from_utf8(file).unwrap_or("no text");
     for line in text.lines() {
         let is_shown = ["> ", "G0"].iter().any(|start| line.starts_with(*start))
-            || ["APPROX POSITION", "FIRST OBS"].iter().any(|label| line.contains(*label));
+            || ["APPROX POSITION", "FIRST OBS"]
+                .iter()
+                .any(|label| line.contains(*label));
         if is_shown {
             println!(rt; "  {}", line.trim_end())?;
         }
@@ -52,13 +54,13 @@ fn print_conversion(rt: &HostRuntime, name: &str, frames: &[Vec<u8>]) -> io::Res
 }
 
 // The frame of a 1004.
-fn legacy(alloc: Global, tow: u32, satellites: &[LegacySatellite]) -> io::Result<Vec<u8>> {
-    payloads::frame(alloc, &payloads::legacy(alloc, tow, satellites)?)
+fn legacy_frame(alloc: Global, tow: u32, satellites: &[LegacySatellite]) -> io::Result<Vec<u8>> {
+    payloads::frame_of(alloc, &payloads::legacy_payload(alloc, tow, satellites)?)
 }
 
 // The frame of a 1074.
-fn msm(alloc: Global, message: &Msm) -> io::Result<Vec<u8>> {
-    payloads::frame(alloc, &payloads::msm(alloc, message)?)
+fn msm_frame(alloc: Global, message: &Msm) -> io::Result<Vec<u8>> {
+    payloads::frame_of(alloc, &payloads::msm_payload(alloc, message)?)
 }
 
 // The frame of the position.
@@ -72,7 +74,7 @@ pub(crate) fn other_position(alloc: Global) -> io::Result<Vec<u8>> {
         itrf_year: 1,
         ..POSITION
     };
-    payloads::frame(alloc, &payloads::arp(alloc, other)?)
+    payloads::frame_of(alloc, &payloads::arp_payload(alloc, other)?)
 }
 
 // A 1004 and a 1074 of one epoch, each twice, in both orders.
@@ -85,17 +87,17 @@ fn print_both(rt: &HostRuntime, name: &str, message: &Msm) -> io::Result<()> {
     let satellites = [LEGACY_5, outside];
     println!(rt; "{name}")?;
     let frames = [
-        legacy(alloc, NOON_TOW, &satellites)?,
-        legacy(alloc, NOON_TOW, &satellites)?,
-        msm(alloc, message)?,
-        msm(alloc, message)?,
+        legacy_frame(alloc, NOON_TOW, &satellites)?,
+        legacy_frame(alloc, NOON_TOW, &satellites)?,
+        msm_frame(alloc, message)?,
+        msm_frame(alloc, message)?,
     ];
     print_conversion(rt, "1004 first", &frames)?;
     let frames = [
-        msm(alloc, message)?,
-        msm(alloc, message)?,
-        legacy(alloc, NOON_TOW, &satellites)?,
-        legacy(alloc, NOON_TOW, &satellites)?,
+        msm_frame(alloc, message)?,
+        msm_frame(alloc, message)?,
+        legacy_frame(alloc, NOON_TOW, &satellites)?,
+        legacy_frame(alloc, NOON_TOW, &satellites)?,
     ];
     print_conversion(rt, "1074 first", &frames)
 }
@@ -115,14 +117,18 @@ fn print_choices(rt: &HostRuntime) -> io::Result<()> {
 
 fn print_classes(rt: &HostRuntime) -> io::Result<()> {
     let alloc = rt.alloc();
-    print_conversion(rt, "two positions", &[position(alloc)?, other_position(alloc)?])?;
+    print_conversion(
+        rt,
+        "two positions",
+        &[position(alloc)?, other_position(alloc)?],
+    )?;
     let foreign = Arp {
         station: 7,
         ..POSITION
     };
     let frames = [
-        payloads::frame(alloc, &[0x3F, 0xB0])?,
-        payloads::frame(alloc, &payloads::arp(alloc, foreign)?)?,
+        payloads::frame_of(alloc, &[0x3F, 0xB0])?,
+        payloads::frame_of(alloc, &payloads::arp_payload(alloc, foreign)?)?,
     ];
     print_conversion(rt, "a 1019 and another station", &frames)?;
     let too_many = Msm {
@@ -133,9 +139,9 @@ fn print_classes(rt: &HostRuntime) -> io::Result<()> {
         ..MSM_5
     };
     let frames = [
-        msm(alloc, &too_many)?,
-        payloads::frame(alloc, &[0x3E, 0xC7, 0xD3, 0x90, 0x32, 0x10, 0x00, 0x10])?,
-        payloads::frame(alloc, &[0x00])?,
+        msm_frame(alloc, &too_many)?,
+        payloads::frame_of(alloc, &[0x3E, 0xC7, 0xD3, 0x90, 0x32, 0x10, 0x00, 0x10])?,
+        payloads::frame_of(alloc, &[0x00])?,
     ];
     print_conversion(rt, "three messages that are refused", &frames)
 }
@@ -148,15 +154,15 @@ fn print_repeats(rt: &HostRuntime) -> io::Result<()> {
     };
     let frames = [
         position(alloc)?,
-        observations(alloc, NOON_TOW)?,
-        legacy(alloc, NOON_TOW, &[stronger])?,
+        observation_frame(alloc, NOON_TOW)?,
+        legacy_frame(alloc, NOON_TOW, &[stronger])?,
     ];
     print_conversion(rt, "observations and another strength", &frames)?;
-    let smoothed = payloads::smoothed_legacy(alloc, NOON_TOW, 1, &[LEGACY_5])?;
+    let smoothed = payloads::smoothed_payload(alloc, NOON_TOW, 1, &[LEGACY_5])?;
     let frames = [
         position(alloc)?,
-        observations(alloc, NOON_TOW)?,
-        payloads::frame(alloc, &smoothed)?,
+        observation_frame(alloc, NOON_TOW)?,
+        payloads::frame_of(alloc, &smoothed)?,
     ];
     print_conversion(rt, "observations and another smoothing", &frames)
 }
@@ -168,9 +174,9 @@ fn print_parts(rt: &HostRuntime) -> io::Result<()> {
         satellite_mask: SATELLITE_7,
         ..MSM_5
     };
-    let frames = [msm(alloc, &MSM_5)?, msm(alloc, &seven)?];
+    let frames = [msm_frame(alloc, &MSM_5)?, msm_frame(alloc, &seven)?];
     print_conversion(rt, "satellite 5, then satellite 7", &frames)?;
-    let frames = [msm(alloc, &seven)?, msm(alloc, &MSM_5)?];
+    let frames = [msm_frame(alloc, &seven)?, msm_frame(alloc, &MSM_5)?];
     print_conversion(rt, "satellite 7, then satellite 5", &frames)?;
     let strong = MsmCell {
         cnr: 40,
@@ -182,7 +188,7 @@ fn print_parts(rt: &HostRuntime) -> io::Result<()> {
         cells: &[strong, MSM_CELL],
         ..MSM_5
     };
-    let frames = [msm(alloc, &MSM_5)?, msm(alloc, &both)?];
+    let frames = [msm_frame(alloc, &MSM_5)?, msm_frame(alloc, &both)?];
     print_conversion(rt, "satellite 5, then both with another strength", &frames)
 }
 
@@ -198,16 +204,16 @@ fn print_rolls(rt: &HostRuntime) -> io::Result<()> {
         l1_lock_indicator: 6,
         ..LEGACY_5
     };
-    let first = legacy(alloc, NOON_TOW, &[high])?;
-    let frames = [first, legacy(alloc, NOON_TOW + 1_000, &[low])?];
+    let first = legacy_frame(alloc, NOON_TOW, &[high])?;
+    let frames = [first, legacy_frame(alloc, NOON_TOW + 1_000, &[low])?];
     print_conversion(rt, "an offset that rolls", &frames)?;
 
     let slipped = LegacySatellite {
         l1_lock_indicator: 0,
         ..low
     };
-    let first = legacy(alloc, NOON_TOW, &[high])?;
-    let frames = [first, legacy(alloc, NOON_TOW + 1_000, &[slipped])?];
+    let first = legacy_frame(alloc, NOON_TOW, &[high])?;
+    let frames = [first, legacy_frame(alloc, NOON_TOW + 1_000, &[slipped])?];
     print_conversion(rt, "an offset that rolls with a slip", &frames)?;
 
     let locked = MsmCell {
@@ -219,9 +225,9 @@ fn print_rolls(rt: &HostRuntime) -> io::Result<()> {
         cells: &[locked],
         ..MSM_5
     };
-    let first = legacy(alloc, NOON_TOW, &[high])?;
-    let last = legacy(alloc, NOON_TOW + 1_000, &[low])?;
-    let frames = [first, msm(alloc, &between)?, last];
+    let first = legacy_frame(alloc, NOON_TOW, &[high])?;
+    let last = legacy_frame(alloc, NOON_TOW + 1_000, &[low])?;
+    let frames = [first, msm_frame(alloc, &between)?, last];
     print_conversion(rt, "an offset that rolls after a 1074", &frames)
 }
 

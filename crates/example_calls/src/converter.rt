@@ -1,9 +1,8 @@
 //! The calls that convert pieces of links.
 
-use crate::conversions;
 use crate::moments::{self, NOON_TOW, Shown};
 use crate::payloads::{self, POSITION_FRAME, STATION};
-use crate::rinex;
+use crate::{conversions, rinex};
 use rtk_convert::{ConvertFault, Converter, Counts, Setup, SetupFault, Stream};
 use rtk_frame::MemSink;
 use rtk_obs::GpsMs;
@@ -11,7 +10,9 @@ use std::alloc::Global;
 use std::{io, str};
 
 const WINDOW: usize = 2;
+
 const ROOM: usize = 65_536;
+
 const PER_WRITE: usize = 4_096;
 
 /// The setup of the example file.
@@ -42,8 +43,12 @@ pub(crate) fn print_fault(rt: &HostRuntime, name: &str, fault: &ConvertFault) ->
         ConvertFault::NoLink => println!(rt; "{name}: NoLink"),
         ConvertFault::LinkClosed => println!(rt; "{name}: LinkClosed"),
         ConvertFault::OutOfMemory => println!(rt; "{name}: OutOfMemory"),
-        ConvertFault::Write { stream: Stream::Out } => println!(rt; "{name}: Write Out"),
-        ConvertFault::Write { stream: Stream::Log } => println!(rt; "{name}: Write Log"),
+        ConvertFault::Write {
+            stream: Stream::Out,
+        } => println!(rt; "{name}: Write Out"),
+        ConvertFault::Write {
+            stream: Stream::Log,
+        } => println!(rt; "{name}: Write Log"),
         ConvertFault::Read { link } => println!(rt; "{name}: Read, link {link}"),
         ConvertFault::Endless => println!(rt; "{name}: Endless"),
         ConvertFault::Stopped => println!(rt; "{name}: Stopped"),
@@ -87,7 +92,13 @@ pub(crate) fn print_lines(rt: &HostRuntime, text: &[u8]) -> io::Result<()> {
     Ok(())
 }
 
-fn print_setup(rt: &HostRuntime, name: &str, station: u16, near: GpsMs, window: usize) -> io::Result<()> {
+fn print_setup(
+    rt: &HostRuntime,
+    name: &str,
+    station: u16,
+    near: GpsMs,
+    window: usize,
+) -> io::Result<()> {
     match Setup::new(station, near, rinex::head_1c_2w()?, window) {
         Ok(_) => println!(rt; "Setup::new, {name}: Ok"),
         Err(SetupFault::Station) => println!(rt; "Setup::new, {name}: Station"),
@@ -100,7 +111,13 @@ fn print_setups(rt: &HostRuntime) -> io::Result<()> {
     let noon = moments::noon()?;
     print_setup(rt, "station 2003", STATION, noon, WINDOW)?;
     print_setup(rt, "station 4096", 4_096, noon, WINDOW)?;
-    print_setup(rt, "a reference in 2100", STATION, moments::new_year_2100()?, WINDOW)?;
+    print_setup(
+        rt,
+        "a reference in 2100",
+        STATION,
+        moments::new_year_2100()?,
+        WINDOW,
+    )?;
     print_setup(rt, "window 1", STATION, noon, 1)?;
     print_setup(rt, "window 4097", STATION, noon, 4_097)?;
     for links in [0, 1, 16, 17] {
@@ -114,8 +131,8 @@ fn print_setups(rt: &HostRuntime) -> io::Result<()> {
 }
 
 /// The frame of the 1004 of satellite 5.
-pub(crate) fn observations(alloc: Global, tow: u32) -> io::Result<Vec<u8>> {
-    payloads::frame(alloc, &payloads::observations(alloc, tow)?)
+pub(crate) fn observation_frame(alloc: Global, tow: u32) -> io::Result<Vec<u8>> {
+    payloads::frame_of(alloc, &payloads::observation_payload(alloc, tow)?)
 }
 
 fn print_newest(rt: &HostRuntime, newest: Option<GpsMs>) -> io::Result<()> {
@@ -133,8 +150,12 @@ fn print_growth(rt: &HostRuntime) -> io::Result<()> {
     let mut converter = converter(rt.alloc(), 1)?;
     print_newest(rt, converter.newest(0))?;
     for tow in [NOON_TOW, NOON_TOW + 1_000, NOON_TOW + 2_000, NOON_TOW] {
-        let piece = observations(rt.alloc(), tow)?;
-        print_answer(rt, "feed", converter.feed(0, &piece, &mut file, &mut report))?;
+        let piece = observation_frame(rt.alloc(), tow)?;
+        print_answer(
+            rt,
+            "feed",
+            converter.feed(0, &piece, &mut file, &mut report),
+        )?;
         println!(rt; "  {} bytes of the file", file.bytes().len())?;
         print_lines(rt, report.bytes())?;
     }
@@ -153,14 +174,26 @@ fn print_links(rt: &HostRuntime) -> io::Result<()> {
     let mut report = sink(rt.alloc())?;
     let mut converter = converter(rt.alloc(), 2)?;
     let mut piece = Vec::from_slice(rt.alloc(), &[0xD3, 0x03, 0xFF])?;
-    piece.extend_from_slice(&observations(rt.alloc(), NOON_TOW)?)?;
-    print_answer(rt, "feed(2)", converter.feed(2, &piece, &mut file, &mut report))?;
+    piece.extend_from_slice(&observation_frame(rt.alloc(), NOON_TOW)?)?;
+    print_answer(
+        rt,
+        "feed(2)",
+        converter.feed(2, &piece, &mut file, &mut report),
+    )?;
     print_answer(rt, "close(2)", converter.close(2, &mut file, &mut report))?;
-    print_answer(rt, "feed(0)", converter.feed(0, &piece, &mut file, &mut report))?;
+    print_answer(
+        rt,
+        "feed(0)",
+        converter.feed(0, &piece, &mut file, &mut report),
+    )?;
     print_newest(rt, converter.newest(0))?;
     print_answer(rt, "close(0)", converter.close(0, &mut file, &mut report))?;
     print_newest(rt, converter.newest(0))?;
-    print_answer(rt, "feed(0)", converter.feed(0, &piece, &mut file, &mut report))?;
+    print_answer(
+        rt,
+        "feed(0)",
+        converter.feed(0, &piece, &mut file, &mut report),
+    )?;
     print_answer(rt, "close(0)", converter.close(0, &mut file, &mut report))?;
     match converter.finish(&mut file, &mut report) {
         Ok(counts) => print_counts(rt, &counts),
@@ -191,17 +224,27 @@ fn print_stops(rt: &HostRuntime) -> io::Result<()> {
     let alloc = rt.alloc();
     println!(rt; "Converter::new, a file that fails")?;
     let frames = [
-        observations(alloc, NOON_TOW)?,
-        observations(alloc, NOON_TOW + 1_000)?,
-        observations(alloc, NOON_TOW + 2_000)?,
+        observation_frame(alloc, NOON_TOW)?,
+        observation_frame(alloc, NOON_TOW + 1_000)?,
+        observation_frame(alloc, NOON_TOW + 2_000)?,
     ];
-    print_stop(rt, &frames, MemSink::new(alloc, 0, PER_WRITE)?, sink(alloc)?)?;
+    print_stop(
+        rt,
+        &frames,
+        MemSink::new(alloc, 0, PER_WRITE)?,
+        sink(alloc)?,
+    )?;
     println!(rt; "Converter::new, a report that fails")?;
     let frames = [
         Vec::from_slice(alloc, &POSITION_FRAME)?,
         conversions::other_position(alloc)?,
     ];
-    print_stop(rt, &frames, sink(alloc)?, MemSink::new(alloc, 0, PER_WRITE)?)
+    print_stop(
+        rt,
+        &frames,
+        sink(alloc)?,
+        MemSink::new(alloc, 0, PER_WRITE)?,
+    )
 }
 
 pub(crate) fn print_calls(rt: &HostRuntime) -> io::Result<()> {

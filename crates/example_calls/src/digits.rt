@@ -1,9 +1,11 @@
 //! The digits of phases: slips, half cycles and rolls.
 
 use crate::moments::{self, NOON_TOW};
-use crate::payloads::{self, LEGACY_5, LegacySatellite, MSM_5, MSM_CELL, Msm, MsmCell, NO_PHASE_1004};
-use rtk_message::Message;
-use rtk_obs::{Cell, Code, Digits, GpsMs, Tracks, cells_1004, cells_1074};
+use crate::observations;
+use crate::payloads::{
+    self, LEGACY_5, LegacySatellite, MSM_5, MSM_CELL, Msm, MsmCell, NO_PHASE_1004,
+};
+use rtk_obs::{Cell, Code, Digits, GpsMs, Tracks};
 use std::alloc::Global;
 use std::io;
 
@@ -16,28 +18,18 @@ struct Observed {
     cell: Cell,
 }
 
-// The cell of a code in a message.
-fn cell_of(message: &Message, code: Code) -> io::Result<Cell> {
-    let cells = match message {
-        Message::Obs1004(message) => cells_1004(message),
-        Message::Msm1074(message) => cells_1074(message),
-        _ => return Err(io::Error::other("no observations")),
-    };
-    for entry in &cells {
-        if entry.code == code {
-            return Ok(entry.cell);
-        }
-    }
-    Err(io::Error::other("no cell"))
-}
-
 // What a 1004 says of a code, some milliseconds after noon.
-fn legacy(alloc: Global, after: u32, code: Code, satellite: LegacySatellite) -> io::Result<Observed> {
+fn seen_in_1004(
+    alloc: Global,
+    after: u32,
+    code: Code,
+    satellite: LegacySatellite,
+) -> io::Result<Observed> {
     let tow = NOON_TOW.saturating_add(after);
-    let payload = payloads::legacy(alloc, tow, &[satellite])?;
+    let payload = payloads::legacy_payload(alloc, tow, &[satellite])?;
     Ok(Observed {
         time: moments::near_noon(tow)?,
-        cell: cell_of(&payloads::message(&payload)?, code)?,
+        cell: observations::cell_of(&payload, code)?,
     })
 }
 
@@ -47,11 +39,11 @@ fn locked(alloc: Global, after: u32, l1_lock_indicator: u8) -> io::Result<Observ
         l1_lock_indicator,
         ..LEGACY_5
     };
-    legacy(alloc, after, Code::C1C, satellite)
+    seen_in_1004(alloc, after, Code::C1C, satellite)
 }
 
 // The phase of code 1C in a 1074.
-fn msm(alloc: Global, after: u32, lock_indicator: u8, half: bool) -> io::Result<Observed> {
+fn seen_in_1074(alloc: Global, after: u32, lock_indicator: u8, half: bool) -> io::Result<Observed> {
     let tow = NOON_TOW.saturating_add(after);
     let cell = MsmCell {
         lock_indicator,
@@ -63,10 +55,10 @@ fn msm(alloc: Global, after: u32, lock_indicator: u8, half: bool) -> io::Result<
         cells: &[cell],
         ..MSM_5
     };
-    let payload = payloads::msm(alloc, &message)?;
+    let payload = payloads::msm_payload(alloc, &message)?;
     Ok(Observed {
         time: moments::near_noon(tow)?,
-        cell: cell_of(&payloads::message(&payload)?, Code::C1C)?,
+        cell: observations::cell_of(&payload, Code::C1C)?,
     })
 }
 
@@ -85,9 +77,7 @@ fn third_digits(code: Code, cells: [Observed; 3]) -> io::Result<Digits> {
 fn print_digits(rt: &HostRuntime, name: &str, digits: Digits) -> io::Result<()> {
     println!(rt;
         "step, {name}: slip {}, half {}, rolls {}",
-        digits.slip,
-        digits.half,
-        digits.rolls
+        digits.slip, digits.half, digits.rolls
     )
 }
 
@@ -97,7 +87,7 @@ fn print_second(rt: &HostRuntime, name: &str, first: Observed, second: Observed)
         l1_phase_offset: NO_PHASE_1004,
         ..LEGACY_5
     };
-    let between = legacy(rt.alloc(), 500, Code::C1C, no_phase)?;
+    let between = seen_in_1004(rt.alloc(), 500, Code::C1C, no_phase)?;
     print_digits(rt, name, third_digits(Code::C1C, [first, between, second])?)
 }
 
@@ -113,12 +103,32 @@ fn print_slips(rt: &HostRuntime) -> io::Result<()> {
     let first = locked(alloc, 0, 5)?;
     print_second(rt, "5 s of lock, then 0 s", first, locked(alloc, 1_000, 0)?)?;
     print_second(rt, "5 s of lock, then 6 s", first, locked(alloc, 1_000, 6)?)?;
-    print_second(rt, "30 s of lock after 31 s", first, locked(alloc, 31_000, 27)?)?;
-    let first = msm(alloc, 0, 15, false)?;
-    print_second(rt, "524.288 s of lock, then 65.536 s", first, msm(alloc, 1_000, 12, false)?)?;
-    print_second(rt, "the same with a half cycle", first, msm(alloc, 1_000, 12, true)?)?;
+    print_second(
+        rt,
+        "30 s of lock after 31 s",
+        first,
+        locked(alloc, 31_000, 27)?,
+    )?;
+    let first = seen_in_1074(alloc, 0, 15, false)?;
+    print_second(
+        rt,
+        "524.288 s of lock, then 65.536 s",
+        first,
+        seen_in_1074(alloc, 1_000, 12, false)?,
+    )?;
+    print_second(
+        rt,
+        "the same with a half cycle",
+        first,
+        seen_in_1074(alloc, 1_000, 12, true)?,
+    )?;
     let first = locked(alloc, 0, 127)?;
-    print_second(rt, "937 s by 1004, then 16.384 s by 1074", first, msm(alloc, 1_000, 10, false)?)
+    print_second(
+        rt,
+        "937 s by 1004, then 16.384 s by 1074",
+        first,
+        seen_in_1074(alloc, 1_000, 10, false)?,
+    )
 }
 
 // The rolls of a code between an offset of 0 and this offset, one second later.
@@ -129,9 +139,9 @@ fn print_rolls(rt: &HostRuntime, code: Code, offset: i32) -> io::Result<()> {
         ..LEGACY_5
     };
     let cells = [
-        legacy(rt.alloc(), 0, code, LEGACY_5)?,
-        legacy(rt.alloc(), 500, code, LEGACY_5)?,
-        legacy(rt.alloc(), 1_000, code, later)?,
+        seen_in_1004(rt.alloc(), 0, code, LEGACY_5)?,
+        seen_in_1004(rt.alloc(), 500, code, LEGACY_5)?,
+        seen_in_1004(rt.alloc(), 1_000, code, later)?,
     ];
     let digits = third_digits(code, cells)?;
     println!(rt; "step, from offset 0 to {offset}: rolls {}", digits.rolls)
@@ -148,10 +158,10 @@ fn print_mixed(rt: &HostRuntime) -> io::Result<()> {
         l1_lock_indicator: 6,
         ..LEGACY_5
     };
-    let first = legacy(rt.alloc(), 0, Code::C1C, high)?;
-    let last = legacy(rt.alloc(), 1_000, Code::C1C, low)?;
+    let first = seen_in_1004(rt.alloc(), 0, Code::C1C, high)?;
+    let last = seen_in_1004(rt.alloc(), 1_000, Code::C1C, low)?;
     print_second(rt, "a roll between two 1004", first, last)?;
-    let between = msm(rt.alloc(), 500, 10, false)?;
+    let between = seen_in_1074(rt.alloc(), 500, 10, false)?;
     let digits = third_digits(Code::C1C, [first, between, last])?;
     print_digits(rt, "a roll with a 1074 between", digits)
 }

@@ -11,7 +11,10 @@ fn print_checksums(rt: &HostRuntime) -> io::Result<()> {
 
 fn print_encoded(rt: &HostRuntime, name: &str, payload: &[u8]) -> io::Result<()> {
     match encode_frame(rt.alloc(), payload) {
-        Ok(frame) => println!(rt; "encode_frame of {name}: {}", hex::encode(rt.alloc(), &frame)?),
+        Ok(frame) => println!(rt;
+            "encode_frame of {name}: {}",
+            hex::encode(rt.alloc(), &frame)?
+        ),
         Err(FrameFault::TooLong) => println!(rt; "encode_frame of {name}: TooLong"),
         Err(FrameFault::OutOfMemory) => println!(rt; "encode_frame of {name}: OutOfMemory"),
     }
@@ -40,12 +43,20 @@ fn print_places(rt: &HostRuntime) -> io::Result<()> {
 
     let mut bytes = Vec::from_slice(rt.alloc(), &[0xD3, 0x00, 0x16])?;
     bytes.extend_from_slice(&POSITION_FRAME)?;
-    print_place(rt, "within a frame with a bad checksum", next_frame(&bytes, 0))?;
+    print_place(
+        rt,
+        "within a frame with a bad checksum",
+        next_frame(&bytes, 0),
+    )?;
 
     let mut bytes = Vec::from_slice(rt.alloc(), &POSITION_FRAME[..24])?;
     bytes.push(0x99)?;
     bytes.extend_from_slice(&POSITION_FRAME)?;
-    print_place(rt, "after a frame with a bad checksum", next_frame(&bytes, 0))
+    print_place(
+        rt,
+        "after a frame with a bad checksum",
+        next_frame(&bytes, 0),
+    )
 }
 
 fn print_far_place(rt: &HostRuntime) -> io::Result<()> {

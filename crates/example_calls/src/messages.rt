@@ -5,7 +5,9 @@ use crate::payloads::{
     self, Arp, LEGACY_5, MSM_5, MSM_CELL, MSM_SATELLITE, Msm, POSITION, POSITION_PAYLOAD,
 };
 use rtk_bits::{BitReader, BitWriter};
-use rtk_message::{Arp1005, Arp1006, DecodeFault, Layout, Message, Msm1074, Obs1004, decode, encode};
+use rtk_message::{
+    Arp1005, Arp1006, DecodeFault, Layout, Message, Msm1074, Obs1004, decode, encode,
+};
 use std::alloc::Global;
 use std::io;
 
@@ -24,7 +26,7 @@ fn print_decoded(rt: &HostRuntime, name: &str, payload: &[u8]) -> io::Result<()>
 
 // A 1074 whose masks have 65 bits of cells, and only its header.
 fn too_many_cells(alloc: Global) -> io::Result<Vec<u8>> {
-    payloads::msm(
+    payloads::msm_payload(
         alloc,
         &Msm {
             tow: NOON_TOW,
@@ -38,7 +40,7 @@ fn too_many_cells(alloc: Global) -> io::Result<Vec<u8>> {
 
 // A 1074 of 16 satellites and 4 signals.
 fn all_cells(alloc: Global) -> io::Result<Vec<u8>> {
-    payloads::msm(
+    payloads::msm_payload(
         alloc,
         &Msm {
             tow: NOON_TOW,
@@ -67,7 +69,7 @@ fn print_faults(rt: &HostRuntime) -> io::Result<()> {
 }
 
 fn print_message(rt: &HostRuntime, name: &str, payload: &[u8]) -> io::Result<()> {
-    let message = payloads::message(payload)?;
+    let message = payloads::message_of(payload)?;
     let fits = message.fits();
     println!(rt;
         "{name}: number {}, station {}, tow {:?}, fits {fits}",
@@ -77,8 +79,12 @@ fn print_message(rt: &HostRuntime, name: &str, payload: &[u8]) -> io::Result<()>
     )?;
     if fits {
         let bytes = encode(rt.alloc(), &message)?;
-        println!(rt; "encode: {} bytes, the same: {}", bytes.len(), bytes.as_slice() == payload)?;
-        let same = payloads::message(&bytes)? == message;
+        println!(rt;
+            "encode: {} bytes, the same: {}",
+            bytes.len(),
+            bytes.as_slice() == payload
+        )?;
+        let same = payloads::message_of(&bytes)? == message;
         println!(rt; "decode of them gives the message: {same}")?;
     }
     Ok(())
@@ -86,24 +92,36 @@ fn print_message(rt: &HostRuntime, name: &str, payload: &[u8]) -> io::Result<()>
 
 fn print_messages(rt: &HostRuntime) -> io::Result<()> {
     let alloc = rt.alloc();
-    print_message(rt, "observations", &payloads::observations(alloc, NOON_TOW)?)?;
-    print_message(rt, "31 satellites", &payloads::legacy(alloc, NOON_TOW, &[LEGACY_5; 31])?)?;
-    print_message(rt, "position", &payloads::arp(alloc, POSITION)?)?;
+    print_message(
+        rt,
+        "observations",
+        &payloads::observation_payload(alloc, NOON_TOW)?,
+    )?;
+    print_message(
+        rt,
+        "31 satellites",
+        &payloads::legacy_payload(alloc, NOON_TOW, &[LEGACY_5; 31])?,
+    )?;
+    print_message(rt, "position", &payloads::arp_payload(alloc, POSITION)?)?;
     let raised = Arp {
         height: Some(15_000),
         ..POSITION
     };
-    print_message(rt, "position and height", &payloads::arp(alloc, raised)?)?;
-    print_message(rt, "one cell", &payloads::msm(alloc, &MSM_5)?)?;
+    print_message(
+        rt,
+        "position and height",
+        &payloads::arp_payload(alloc, raised)?,
+    )?;
+    print_message(rt, "one cell", &payloads::msm_payload(alloc, &MSM_5)?)?;
     print_message(rt, "64 cells", &all_cells(alloc)?)
 }
 
 fn print_bytes(rt: &HostRuntime) -> io::Result<()> {
-    let bytes = payloads::observations(rt.alloc(), NOON_TOW)?;
+    let bytes = payloads::observation_payload(rt.alloc(), NOON_TOW)?;
     println!(rt; "observations: {}", hex::encode(rt.alloc(), &bytes)?)?;
     let mut longer = Vec::from_slice(rt.alloc(), &POSITION_PAYLOAD)?;
     longer.push(0xFF)?;
-    let same = payloads::message(&longer)? == payloads::message(&POSITION_PAYLOAD)?;
+    let same = payloads::message_of(&longer)? == payloads::message_of(&POSITION_PAYLOAD)?;
     println!(rt; "decode with a byte behind the last field gives the same: {same}")
 }
 
@@ -113,7 +131,12 @@ fn print_layout<L: Layout + Drop>(rt: &HostRuntime, payload: &[u8]) -> io::Resul
     let number = reader.take_u(12);
     let mut message = L::empty();
     let read = message.read(&mut reader);
-    println!(rt; "read of a {}: {}, {} bits left", L::NUMBER, read.is_ok(), reader.remaining())?;
+    println!(rt;
+        "read of a {}: {}, {} bits left",
+        L::NUMBER,
+        read.is_ok(),
+        reader.remaining()
+    )?;
     let (Some(number), true) = (number, read.is_ok()) else {
         return Ok(());
     };
@@ -126,14 +149,14 @@ fn print_layout<L: Layout + Drop>(rt: &HostRuntime, payload: &[u8]) -> io::Resul
 
 fn print_layouts(rt: &HostRuntime) -> io::Result<()> {
     let alloc = rt.alloc();
-    print_layout::<Obs1004>(rt, &payloads::observations(alloc, NOON_TOW)?)?;
+    print_layout::<Obs1004>(rt, &payloads::observation_payload(alloc, NOON_TOW)?)?;
     print_layout::<Arp1005>(rt, &POSITION_PAYLOAD)?;
     let raised = Arp {
         height: Some(15_000),
         ..POSITION
     };
-    print_layout::<Arp1006>(rt, &payloads::arp(alloc, raised)?)?;
-    print_layout::<Msm1074>(rt, &payloads::msm(alloc, &MSM_5)?)
+    print_layout::<Arp1006>(rt, &payloads::arp_payload(alloc, raised)?)?;
+    print_layout::<Msm1074>(rt, &payloads::msm_payload(alloc, &MSM_5)?)
 }
 
 pub(crate) fn print_calls(rt: &HostRuntime) -> io::Result<()> {

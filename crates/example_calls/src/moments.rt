@@ -10,6 +10,7 @@ const LAST_TOW: u32 = 604_799_999;
 
 // The references that `date` takes: from 13 January 1980 to the end of 2099.
 const FIRST_REFERENCE_MS: u64 = 604_800_000;
+
 const LAST_REFERENCE_MS: u64 = 3_786_479_999_999;
 
 /// A full hour of the day, and some milliseconds.

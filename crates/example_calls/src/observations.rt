@@ -7,8 +7,8 @@ use crate::payloads::{
 };
 use rtk_message::Message;
 use rtk_obs::{
-    CellEntry, Civil, Code, cells_1004, cells_1074, least_lock_legacy, least_lock_msm, of_civil,
-    rolled, round_div,
+    Cell, CellEntry, CellSource, Civil, Code, cells_1004, cells_1074, least_lock_legacy,
+    least_lock_msm, of_civil, rolled, round_div,
 };
 use std::{io, str};
 
@@ -58,7 +58,10 @@ fn print_times(rt: &HostRuntime) -> io::Result<()> {
 
 fn print_dates(rt: &HostRuntime) -> io::Result<()> {
     for tow in [475_200_000, 172_800_000, 172_799_999] {
-        println!(rt; "date of {tow} near noon: {}", Shown(moments::near_noon(tow)?))?;
+        println!(rt;
+            "date of {tow} near noon: {}",
+            Shown(moments::near_noon(tow)?)
+        )?;
     }
     Ok(())
 }
@@ -73,9 +76,18 @@ fn print_numbers(rt: &HostRuntime) -> io::Result<()> {
     for i in [0, 1, 15] {
         println!(rt; "least_lock_msm({i}): {} ms", least_lock_msm(i))?;
     }
-    println!(rt; "rolled(9999999999999, 0): {:?}", rolled(9_999_999_999_999, 0))?;
-    println!(rt; "rolled(9999999999999, 1): {:?}", rolled(9_999_999_999_999, 1))?;
-    println!(rt; "rolled(-999999999999, -1): {:?}", rolled(-999_999_999_999, -1))
+    println!(rt;
+        "rolled(9999999999999, 0): {:?}",
+        rolled(9_999_999_999_999, 0)
+    )?;
+    println!(rt;
+        "rolled(9999999999999, 1): {:?}",
+        rolled(9_999_999_999_999, 1)
+    )?;
+    println!(rt;
+        "rolled(-999999999999, -1): {:?}",
+        rolled(-999_999_999_999, -1)
+    )
 }
 
 // The codes by their names, each with the name that it answers.
@@ -88,7 +100,10 @@ fn print_codes(rt: &HostRuntime) -> io::Result<()> {
         match Code::from_name(name.as_bytes()) {
             Some(code) => {
                 let answer = code.name();
-                println!(rt; "from_name {name}: {}", str::from_utf8(&answer).unwrap_or("?"))?;
+                println!(rt;
+                    "from_name {name}: {}",
+                    str::from_utf8(&answer).unwrap_or("?")
+                )?;
             }
             None => println!(rt; "from_name {name}: None")?,
         }
@@ -98,26 +113,67 @@ fn print_codes(rt: &HostRuntime) -> io::Result<()> {
     println!(rt; "1C is 1C: {same}, 1C is 2W: {other}")
 }
 
+fn print_cell(rt: &HostRuntime, cell: &Cell) -> io::Result<()> {
+    let source = match cell.source {
+        CellSource::Legacy => "1004",
+        CellSource::Msm => "1074",
+    };
+    println!(rt;
+        "    lock {} ms, half {}, source {source}, offset {:?}",
+        cell.lock_time_ms, cell.half, cell.offset
+    )
+}
+
 fn print_cells(rt: &HostRuntime, cells: &[CellEntry]) -> io::Result<()> {
     for entry in cells {
         let name = entry.code.name();
         println!(rt;
-            "  G{:02} {} range {:?} phase {:?} strength {:?} lock {} half {} offset {:?}",
+            "  G{:02} {}: range {:?}, phase {:?}, strength {:?}",
             entry.satellite,
             str::from_utf8(&name).unwrap_or("?"),
             entry.cell.range_mm,
             entry.cell.phase_millicycles,
-            entry.cell.strength_millidbhz,
-            entry.cell.lock_time_ms,
-            entry.cell.half,
-            entry.cell.offset
+            entry.cell.strength_millidbhz
         )?;
+        print_cell(rt, &entry.cell)?;
     }
     Ok(())
 }
 
+/// The cell of a code in a payload.
+pub(crate) fn cell_of(payload: &[u8], code: Code) -> io::Result<Cell> {
+    let cells = match payloads::message_of(payload)? {
+        Message::Obs1004(message) => cells_1004(&message),
+        Message::Msm1074(message) => cells_1074(&message),
+        _ => return Err(io::Error::other("no observations")),
+    };
+    for entry in &cells {
+        if entry.code == code {
+            return Ok(entry.cell);
+        }
+    }
+    Err(io::Error::other("no cell"))
+}
+
+fn print_equality(rt: &HostRuntime) -> io::Result<()> {
+    let stronger = LegacySatellite {
+        l1_cnr: 181,
+        ..LEGACY_5
+    };
+    let cell = cell_of(
+        &payloads::observation_payload(rt.alloc(), NOON_TOW)?,
+        Code::C1C,
+    )?;
+    let payload = payloads::legacy_payload(rt.alloc(), NOON_TOW, &[stronger])?;
+    println!(rt; "a cell is itself: {}", cell == cell)?;
+    println!(rt;
+        "a cell is a stronger one: {}",
+        cell == cell_of(&payload, Code::C1C)?
+    )
+}
+
 fn print_observed(rt: &HostRuntime, name: &str, payload: &[u8]) -> io::Result<()> {
-    match payloads::message(payload)? {
+    match payloads::message_of(payload)? {
         Message::Obs1004(message) => {
             println!(rt; "cells_1004 of {name}")?;
             print_cells(rt, &cells_1004(&message))
@@ -131,7 +187,7 @@ fn print_observed(rt: &HostRuntime, name: &str, payload: &[u8]) -> io::Result<()
 }
 
 fn print_legacy(rt: &HostRuntime, name: &str, satellites: &[LegacySatellite]) -> io::Result<()> {
-    let payload = payloads::legacy(rt.alloc(), NOON_TOW, satellites)?;
+    let payload = payloads::legacy_payload(rt.alloc(), NOON_TOW, satellites)?;
     print_observed(rt, name, &payload)
 }
 
@@ -160,7 +216,7 @@ fn print_msm(rt: &HostRuntime, name: &str, satellite: MsmSatellite) -> io::Resul
         satellites: &[satellite],
         ..MSM_5
     };
-    print_observed(rt, name, &payloads::msm(rt.alloc(), &message)?)
+    print_observed(rt, name, &payloads::msm_payload(rt.alloc(), &message)?)
 }
 
 fn print_msms(rt: &HostRuntime) -> io::Result<()> {
@@ -183,5 +239,6 @@ pub(crate) fn print_calls(rt: &HostRuntime) -> io::Result<()> {
     print_numbers(rt)?;
     print_codes(rt)?;
     print_legacies(rt)?;
-    print_msms(rt)
+    print_msms(rt)?;
+    print_equality(rt)
 }

@@ -15,6 +15,7 @@ pub(crate) const POSITION_PAYLOAD: [u8; 19] = [
     0x3E, 0xD7, 0xD3, 0x02, 0x02, 0x98, 0x0E, 0xDE, 0xEF, 0x34, 0xB4, 0xBD, 0x62, 0xAC, 0x09, 0x41,
     0x98, 0x6F, 0x33,
 ];
+
 pub(crate) const POSITION_FRAME: [u8; 25] = [
     0xD3, 0x00, 0x13, 0x3E, 0xD7, 0xD3, 0x02, 0x02, 0x98, 0x0E, 0xDE, 0xEF, 0x34, 0xB4, 0xBD, 0x62,
     0xAC, 0x09, 0x41, 0x98, 0x6F, 0x33, 0x36, 0x0B, 0x98,
@@ -22,12 +23,16 @@ pub(crate) const POSITION_FRAME: [u8; 25] = [
 
 /// The marks of a value that a sender does not give.
 pub(crate) const NO_PHASE_1004: i32 = -524_288;
+
 pub(crate) const NO_L2_RANGE: i16 = -8_192;
+
 pub(crate) const NO_ROUGH_RANGE: u8 = 255;
 
 /// The mask bits of satellites 5 and 7, and of the signal of code 1C.
 pub(crate) const SATELLITE_5: u64 = 1 << 59;
+
 pub(crate) const SATELLITE_7: u64 = 1 << 57;
+
 pub(crate) const SIGNAL_1C: u32 = 1 << 30;
 
 // A field of a message: its width in bits, and its value.
@@ -47,10 +52,10 @@ fn put(bits: &mut BitWriter, field: Field) -> io::Result<()> {
             bits.put_u(width, value)?
         }
         Signed(width, value)
-            if 0 < width && width < 64 && -(1 << (width - 1)) <= value && value < 1 << (width - 1) =>
-        {
-            bits.put_i(width, value)?
-        }
+            if 0 < width
+                && width < 64
+                && -(1 << (width - 1)) <= value
+                && value < 1 << (width - 1) => { bits.put_i(width, value)? }
         _ => return Err(io::Error::other("a value that does not fit its field")),
     }
     Ok(())
@@ -125,7 +130,7 @@ fn put_satellite(bits: &mut BitWriter, satellite: &LegacySatellite) -> io::Resul
 }
 
 /// The payload of a 1004 with this smoothing interval.
-pub(crate) fn smoothed_legacy(
+pub(crate) fn smoothed_payload(
     alloc: Global,
     tow: u32,
     smoothing: u8,
@@ -151,17 +156,17 @@ pub(crate) fn smoothed_legacy(
 }
 
 /// The payload of a 1004 without smoothing.
-pub(crate) fn legacy(
+pub(crate) fn legacy_payload(
     alloc: Global,
     tow: u32,
     satellites: &[LegacySatellite],
 ) -> io::Result<Vec<u8>> {
-    smoothed_legacy(alloc, tow, 0, satellites)
+    smoothed_payload(alloc, tow, 0, satellites)
 }
 
 /// The payload of the 1004 of satellite 5.
-pub(crate) fn observations(alloc: Global, tow: u32) -> io::Result<Vec<u8>> {
-    legacy(alloc, tow, &[LEGACY_5])
+pub(crate) fn observation_payload(alloc: Global, tow: u32) -> io::Result<Vec<u8>> {
+    legacy_payload(alloc, tow, &[LEGACY_5])
 }
 
 /// What a 1074 says of a satellite: whole ms of the rough range, and 2^-10 ms.
@@ -212,7 +217,7 @@ pub(crate) const MSM_5: Msm<'static> = Msm {
 };
 
 /// The payload of a 1074.
-pub(crate) fn msm(alloc: Global, message: &Msm) -> io::Result<Vec<u8>> {
+pub(crate) fn msm_payload(alloc: Global, message: &Msm) -> io::Result<Vec<u8>> {
     let mut bits = BitWriter::new(alloc);
     put_all(
         &mut bits,
@@ -266,8 +271,12 @@ pub(crate) const POSITION: Arp = Arp {
 };
 
 /// The payload of a 1005, or of a 1006 if there is a height.
-pub(crate) fn arp(alloc: Global, position: Arp) -> io::Result<Vec<u8>> {
-    let number = if position.height.is_some() { 1006 } else { 1005 };
+pub(crate) fn arp_payload(alloc: Global, position: Arp) -> io::Result<Vec<u8>> {
+    let number = if position.height.is_some() {
+        1006
+    } else {
+        1005
+    };
     let mut bits = BitWriter::new(alloc);
     put_all(
         &mut bits,
@@ -294,7 +303,7 @@ pub(crate) fn arp(alloc: Global, position: Arp) -> io::Result<Vec<u8>> {
 }
 
 /// The frame of a payload.
-pub(crate) fn frame(alloc: Global, payload: &[u8]) -> io::Result<Vec<u8>> {
+pub(crate) fn frame_of(alloc: Global, payload: &[u8]) -> io::Result<Vec<u8>> {
     match encode_frame(alloc, payload) {
         Ok(frame) => Ok(frame),
         Err(_) => Err(io::Error::other("no frame")),
@@ -302,7 +311,7 @@ pub(crate) fn frame(alloc: Global, payload: &[u8]) -> io::Result<Vec<u8>> {
 }
 
 /// The message of a payload.
-pub(crate) fn message(payload: &[u8]) -> io::Result<Message> {
+pub(crate) fn message_of(payload: &[u8]) -> io::Result<Message> {
     match decode(payload) {
         Ok(message) => Ok(message),
         Err(_) => Err(io::Error::other("no message")),

@@ -27,7 +27,13 @@ pub(crate) fn head_1c_2w() -> io::Result<Head> {
     head(&[Code::C1C, Code::C2W])
 }
 
-fn print_head(rt: &HostRuntime, name: &str, marker: &[u8], codes: &[Code], made: GpsMs) -> io::Result<()> {
+fn print_head(
+    rt: &HostRuntime,
+    name: &str,
+    marker: &[u8],
+    codes: &[Code],
+    made: GpsMs,
+) -> io::Result<()> {
     match Head::new(marker, codes, made) {
         Ok(head) => {
             print!(rt; "Head::new, {name}: codes")?;
@@ -49,7 +55,13 @@ fn print_heads(rt: &HostRuntime) -> io::Result<()> {
     print_head(rt, "marker with a blank first", b" X", &codes, made)?;
     print_head(rt, "no codes", b"BASE", &[], made)?;
     print_head(rt, "code 1C twice", b"BASE", &[Code::C1C, Code::C1C], made)?;
-    print_head(rt, "made 1 ms after one", b"BASE", &codes, moments::on_the_day(13, 1)?)
+    print_head(
+        rt,
+        "made 1 ms after one",
+        b"BASE",
+        &codes,
+        moments::on_the_day(13, 1)?,
+    )
 }
 
 fn print_text(rt: &HostRuntime, text: &[u8]) -> io::Result<()> {
@@ -73,7 +85,11 @@ fn print_headers(rt: &HostRuntime) -> io::Result<()> {
 
     println!(rt; "header of five codes")?;
     let five = head(&[Code::C1C, Code::C2W, Code::C2X, Code::C5X, Code::C1P])?;
-    print_labelled(rt, &header(rt.alloc(), &five, &POSITION, noon)?, "OBS TYPES")?;
+    print_labelled(
+        rt,
+        &header(rt.alloc(), &five, &POSITION, noon)?,
+        "OBS TYPES",
+    )?;
 
     println!(rt; "header with a height")?;
     let raised = Position {
@@ -82,7 +98,11 @@ fn print_headers(rt: &HostRuntime) -> io::Result<()> {
         z: POSITION.z,
         height: 15_000,
     };
-    print_labelled(rt, &header(rt.alloc(), &five, &raised, noon)?, "ANTENNA: DELTA")
+    print_labelled(
+        rt,
+        &header(rt.alloc(), &five, &raised, noon)?,
+        "ANTENNA: DELTA",
+    )
 }
 
 // The same range and phase, or none, and a strength, or none, each in thousandths.

@@ -1,10 +1,8 @@
 //! The call that converts what readers give.
 
-use crate::converter;
-use crate::example;
-use crate::checker;
 use crate::moments::NOON_TOW;
 use crate::payloads::POSITION_FRAME;
+use crate::{checker, converter, example};
 use rtk_convert::{ConvertFault, Counts, Setup, run};
 use rtk_frame::{After, MemSink, MemSource};
 use std::alloc::Global;
@@ -15,7 +13,7 @@ const PER_READ: usize = 512;
 // The frames of the position and of the observations at noon.
 fn capture(alloc: Global) -> io::Result<Vec<u8>> {
     let mut bytes = Vec::from_slice(alloc, &POSITION_FRAME)?;
-    bytes.extend_from_slice(&converter::observations(alloc, NOON_TOW)?)?;
+    bytes.extend_from_slice(&converter::observation_frame(alloc, NOON_TOW)?)?;
     Ok(bytes)
 }
 
@@ -35,7 +33,10 @@ fn print_likeness(rt: &HostRuntime, file: &[u8]) -> io::Result<()> {
     let example = example::file(rt.alloc())?;
     let same = file == example.as_bytes();
     let front = example.as_bytes().starts_with(file);
-    println!(rt; "  {} bytes, the example {same}, the front of it {front}", file.len())
+    println!(rt;
+        "  {} bytes, the example {same}, the front of it {front}",
+        file.len()
+    )
 }
 
 fn print_run(
@@ -47,7 +48,14 @@ fn print_run(
 ) -> io::Result<()> {
     println!(rt; "run, {name}")?;
     let mut report = converter::sink(rt.alloc())?;
-    let done = run(rt.alloc(), converter::setup()?, readers, &mut file, &mut report, max_reads);
+    let done = run(
+        rt.alloc(),
+        converter::setup()?,
+        readers,
+        &mut file,
+        &mut report,
+        max_reads,
+    );
     print_done(rt, done)?;
     print_likeness(rt, file.bytes())
 }
@@ -69,24 +77,61 @@ fn print_empty(rt: &HostRuntime) -> io::Result<()> {
     let mut file = converter::sink(rt.alloc())?;
     let mut report = converter::sink(rt.alloc())?;
     let mut readers = [reader(rt.alloc(), &[], After::End)?];
-    let done = run(rt.alloc(), converter::setup()?, &mut readers, &mut file, &mut report, 100);
+    let done = run(
+        rt.alloc(),
+        converter::setup()?,
+        &mut readers,
+        &mut file,
+        &mut report,
+        100,
+    );
     print_done(rt, done)?;
     let known = "  1114104.5999 -4850729.7108  3975521.4643";
     let zeros = "        0.0000        0.0000        0.0000";
     let header = example::replaced(rt.alloc(), &example::header(rt.alloc())?, known, zeros)?;
-    println!(rt; "  the header with zeros {}", file.bytes() == header.as_bytes())?;
+    println!(rt;
+        "  the header with zeros {}",
+        file.bytes() == header.as_bytes()
+    )?;
     checker::print_checked(rt, "it", file.bytes())
 }
 
 fn print_two(rt: &HostRuntime) -> io::Result<()> {
     let alloc = rt.alloc();
     let bytes = capture(alloc)?;
-    let mut readers = [reader(alloc, &bytes, After::End)?, reader(alloc, &bytes, After::End)?];
-    print_run(rt, "two readers, 4 reads", &mut readers, converter::sink(alloc)?, 4)?;
-    let mut readers = [reader(alloc, &bytes, After::End)?, reader(alloc, &bytes, After::End)?];
-    print_run(rt, "two readers, 3 reads", &mut readers, converter::sink(alloc)?, 3)?;
-    let mut readers = [reader(alloc, &bytes, After::End)?, reader(alloc, &[], After::Failure)?];
-    print_run(rt, "a second read that fails", &mut readers, converter::sink(alloc)?, 100)?;
+    let mut readers = [
+        reader(alloc, &bytes, After::End)?,
+        reader(alloc, &bytes, After::End)?,
+    ];
+    print_run(
+        rt,
+        "two readers, 4 reads",
+        &mut readers,
+        converter::sink(alloc)?,
+        4,
+    )?;
+    let mut readers = [
+        reader(alloc, &bytes, After::End)?,
+        reader(alloc, &bytes, After::End)?,
+    ];
+    print_run(
+        rt,
+        "two readers, 3 reads",
+        &mut readers,
+        converter::sink(alloc)?,
+        3,
+    )?;
+    let mut readers = [
+        reader(alloc, &bytes, After::End)?,
+        reader(alloc, &[], After::Failure)?,
+    ];
+    print_run(
+        rt,
+        "a second read that fails",
+        &mut readers,
+        converter::sink(alloc)?,
+        100,
+    )?;
     print_run(rt, "no readers", &mut [], converter::sink(alloc)?, 100)
 }
 
@@ -98,7 +143,13 @@ fn print_writers(rt: &HostRuntime) -> io::Result<()> {
     print_run(rt, "a writer of one byte a call", &mut readers, file, 100)?;
     let mut readers = [reader(alloc, &bytes, After::End)?];
     let file = MemSink::new(alloc, 10, 4_096)?;
-    print_run(rt, "a writer with room for 10 bytes", &mut readers, file, 100)
+    print_run(
+        rt,
+        "a writer with room for 10 bytes",
+        &mut readers,
+        file,
+        100,
+    )
 }
 
 // Observations at 3,000 seconds.
@@ -106,7 +157,7 @@ fn long_capture(alloc: Global) -> io::Result<Vec<u8>> {
     let mut bytes = Vec::new(alloc);
     for second in 0..3_000u32 {
         let tow = second.saturating_mul(1_000).saturating_add(NOON_TOW);
-        bytes.extend_from_slice(&converter::observations(alloc, tow)?)?;
+        bytes.extend_from_slice(&converter::observation_frame(alloc, tow)?)?;
     }
     Ok(bytes)
 }
@@ -116,7 +167,14 @@ fn print_long(rt: &HostRuntime) -> io::Result<()> {
     let mut file = MemSink::new(rt.alloc(), 1_000_000, 4_096)?;
     let mut report = converter::sink(rt.alloc())?;
     let mut readers = [reader(rt.alloc(), &long_capture(rt.alloc())?, After::End)?];
-    let done = run(rt.alloc(), converter::setup()?, &mut readers, &mut file, &mut report, 1_000);
+    let done = run(
+        rt.alloc(),
+        converter::setup()?,
+        &mut readers,
+        &mut file,
+        &mut report,
+        1_000,
+    );
     print_done(rt, done)?;
     checker::print_checked(rt, "it", file.bytes())
 }

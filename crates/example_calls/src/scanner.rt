@@ -1,7 +1,7 @@
 //! The calls that find the frames of a stream.
 
 use crate::payloads::{POSITION_FRAME, POSITION_PAYLOAD};
-use rtk_frame::{Answer, Scanner};
+use rtk_frame::{Answer, Fed, Scanner};
 use std::alloc::Global;
 use std::io;
 
@@ -12,10 +12,12 @@ fn new_scanner(alloc: Global) -> io::Result<Scanner> {
     }
 }
 
-fn print_fed(rt: &HostRuntime, used: usize, answer: &Answer) -> io::Result<()> {
-    match answer {
-        Answer::Found(payload) => println!(rt; "feed: {used} used, Found {} bytes", payload.len()),
-        Answer::Hungry => println!(rt; "feed: {used} used, Hungry"),
+fn print_fed(rt: &HostRuntime, fed: Fed) -> io::Result<()> {
+    match fed.answer {
+        Answer::Found(payload) => {
+            println!(rt; "feed: {} used, Found {} bytes", fed.used, payload.len())
+        }
+        Answer::Hungry => println!(rt; "feed: {} used, Hungry", fed.used),
     }
 }
 
@@ -57,8 +59,7 @@ fn print_scan(rt: &HostRuntime, name: &str, before: &[u8]) -> io::Result<()> {
     bytes.extend_from_slice(&POSITION_FRAME)?;
     println!(rt; "Scanner::new, {name}")?;
     let mut scanner = new_scanner(rt.alloc())?;
-    let fed = scanner.feed(&bytes);
-    print_fed(rt, fed.used, &fed.answer)?;
+    print_fed(rt, scanner.feed(&bytes))?;
     println!(rt; "ended: {}", scanner.ended())?;
     print_rest(rt, scanner.rest())?;
     print_rest(rt, scanner.rest())?;
@@ -67,9 +68,17 @@ fn print_scan(rt: &HostRuntime, name: &str, before: &[u8]) -> io::Result<()> {
 
 pub(crate) fn print_calls(rt: &HostRuntime) -> io::Result<()> {
     print_cuts(rt)?;
-    print_scan(rt, "a frame that is not whole, the position", &[0xD3, 0x03, 0xFF])?;
+    print_scan(
+        rt,
+        "a frame that is not whole, the position",
+        &[0xD3, 0x03, 0xFF],
+    )?;
     let mut bad = POSITION_FRAME;
     bad[24] = 0x99;
     print_scan(rt, "a position with a bad checksum, the position", &bad)?;
-    print_scan(rt, "a bad checksum around the position", &[0xD3, 0x00, 0x16])
+    print_scan(
+        rt,
+        "a bad checksum around the position",
+        &[0xD3, 0x00, 0x16],
+    )
 }

@@ -1,9 +1,8 @@
 //! The calls that show a capture and check a file.
 
-use crate::converter;
-use crate::example;
 use crate::moments::NOON_TOW;
 use crate::payloads::{self, Arp, MSM_5, POSITION, POSITION_FRAME, POSITION_PAYLOAD};
+use crate::{converter, example};
 use rtk_cli::{ToolFault, check_file, show, show_line};
 use rtk_frame::{After, MemSink, MemSource};
 use std::alloc::Global;
@@ -14,19 +13,22 @@ const PER_READ: usize = 512;
 // Prints the line of a payload, which has its line feed.
 fn print_line(rt: &HostRuntime, payload: &[u8]) -> io::Result<()> {
     let line = show_line(rt.alloc(), payload)?;
-    print!(rt; "show_line: {}", str::from_utf8(&line).unwrap_or("no text\n"))
+    print!(rt;
+        "show_line: {}",
+        str::from_utf8(&line).unwrap_or("no text\n")
+    )
 }
 
 fn print_show_lines(rt: &HostRuntime) -> io::Result<()> {
     let alloc = rt.alloc();
-    print_line(rt, &payloads::observations(alloc, NOON_TOW)?)?;
+    print_line(rt, &payloads::observation_payload(alloc, NOON_TOW)?)?;
     print_line(rt, &POSITION_PAYLOAD)?;
     let raised = Arp {
         height: Some(15_000),
         ..POSITION
     };
-    print_line(rt, &payloads::arp(alloc, raised)?)?;
-    print_line(rt, &payloads::msm(alloc, &MSM_5)?)?;
+    print_line(rt, &payloads::arp_payload(alloc, raised)?)?;
+    print_line(rt, &payloads::msm_payload(alloc, &MSM_5)?)?;
     print_line(rt, &[0x3F, 0xB0])?;
     print_line(rt, &POSITION_PAYLOAD[..17])?;
     print_line(rt, &[])
@@ -46,7 +48,13 @@ fn print_output(rt: &HostRuntime, out: &MemSink) -> io::Result<()> {
     converter::print_lines(rt, out.bytes())
 }
 
-fn print_show(rt: &HostRuntime, name: &str, source: MemSource, room: usize, hex: bool) -> io::Result<()> {
+fn print_show(
+    rt: &HostRuntime,
+    name: &str,
+    source: MemSource,
+    room: usize,
+    hex: bool,
+) -> io::Result<()> {
     let mut source = source;
     let mut out = MemSink::new(rt.alloc(), room, 4_096)?;
     match show(rt.alloc(), &mut source, &mut out, hex) {
@@ -64,8 +72,20 @@ fn print_shows(rt: &HostRuntime) -> io::Result<()> {
     let alloc = rt.alloc();
     let digits = "D3 00 13 3E D7 D3 02 02 98 0E DE EF 34 B4 BD 62 AC 09 41 98 6F 33 36 0B 98";
     print_show(rt, "hex", text_source(alloc, digits)?, 4_096, true)?;
-    print_show(rt, "half a byte of hex", text_source(alloc, "D3 0")?, 4_096, true)?;
-    print_show(rt, "an empty payload", text_source(alloc, "D3 00 00 47 EA 4B")?, 4_096, true)?;
+    print_show(
+        rt,
+        "half a byte of hex",
+        text_source(alloc, "D3 0")?,
+        4_096,
+        true,
+    )?;
+    print_show(
+        rt,
+        "an empty payload",
+        text_source(alloc, "D3 00 00 47 EA 4B")?,
+        4_096,
+        true,
+    )?;
     let failing = MemSource::new(alloc, &[], PER_READ, After::Failure)?;
     print_show(rt, "a read that fails", failing, 4_096, false)?;
     let frame = MemSource::new(alloc, &POSITION_FRAME, PER_READ, After::End)?;

@@ -1,6 +1,6 @@
 //! The readers and writers in memory.
 
-use rtk_frame::{After, MemSink, MemSource, Sink, Source};
+use rtk_frame::{After, MemSink, MemSource, Sink, Source, StreamFault};
 use std::io;
 
 // Reads three times into four bytes, and prints each answer.
@@ -10,7 +10,7 @@ fn print_reads<R: Source>(rt: &HostRuntime, name: &str, source: &mut R) -> io::R
         let mut buffer = [0xFF; 4];
         match source.read(&mut buffer) {
             Ok(count) => println!(rt; "read: {count}, {:02x}", buffer[0])?,
-            Err(_) => println!(rt; "read: a fault")?,
+            Err(StreamFault) => println!(rt; "read: StreamFault")?,
         }
     }
     Ok(())
@@ -19,7 +19,7 @@ fn print_reads<R: Source>(rt: &HostRuntime, name: &str, source: &mut R) -> io::R
 fn print_write(rt: &HostRuntime, sink: &mut MemSink, bytes: &[u8]) -> io::Result<()> {
     match sink.write(bytes) {
         Ok(count) => println!(rt; "write of {} bytes: {count}", bytes.len())?,
-        Err(_) => println!(rt; "write of {} bytes: a fault", bytes.len())?,
+        Err(StreamFault) => println!(rt; "write of {} bytes: StreamFault", bytes.len())?,
     }
     println!(rt; "bytes: {}", hex::encode(rt.alloc(), sink.bytes())?)
 }
