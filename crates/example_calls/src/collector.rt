@@ -94,12 +94,16 @@ fn print_offers(rt: &HostRuntime, name: &str, payloads: &[Vec<u8>]) -> io::Resul
     Ok(())
 }
 
-// Offers 1004 of no satellites, so many seconds after noon.
+// A 1004 of no satellites, so many seconds after noon.
+fn second(alloc: Global, after: u32) -> io::Result<Vec<u8>> {
+    let tow = after.saturating_mul(1_000).saturating_add(NOON_TOW);
+    payloads::legacy_payload(alloc, tow, &[])
+}
+
 fn print_seconds(rt: &HostRuntime, name: &str, seconds: &[u32]) -> io::Result<()> {
     let mut messages = Vec::new(rt.alloc());
-    for second in seconds {
-        let tow = second.saturating_mul(1_000).saturating_add(NOON_TOW);
-        messages.push(payloads::legacy_payload(rt.alloc(), tow, &[])?)?;
+    for after in seconds {
+        messages.push(second(rt.alloc(), *after)?)?;
     }
     print_offers(rt, name, &messages)
 }
@@ -111,14 +115,6 @@ fn print_windows(rt: &HostRuntime) -> io::Result<()> {
     print_seconds(rt, "seconds 1, 1, 2, 2, 1", &[1, 1, 2, 2, 1])?;
     print_seconds(rt, "seconds 1000, 1, 2, 3", &[1_000, 1, 2, 3])?;
     print_seconds(rt, "seconds 1000, 1001, 1", &[1_000, 1_001, 1])
-}
-
-fn second(alloc: Global, after: u32) -> io::Result<Vec<u8>> {
-    payloads::legacy_payload(
-        alloc,
-        NOON_TOW.saturating_add(after.saturating_mul(1_000)),
-        &[],
-    )
 }
 
 fn print_positions(rt: &HostRuntime) -> io::Result<()> {

@@ -135,8 +135,12 @@ pub(crate) fn observation_frame(alloc: Global, tow: u32) -> io::Result<Vec<u8>> 
     payloads::frame_of(alloc, &payloads::observation_payload(alloc, tow)?)
 }
 
-fn print_newest(rt: &HostRuntime, newest: Option<GpsMs>) -> io::Result<()> {
-    match newest {
+// Prints the newest epoch of the first link.
+fn print_newest(rt: &HostRuntime, converter: &Converter) -> io::Result<()> {
+    if converter.links() == 0 {
+        return println!(rt; "no links");
+    }
+    match converter.newest(0) {
         Some(epoch) => println!(rt; "newest: {}", Shown(epoch)),
         None => println!(rt; "newest: None"),
     }
@@ -148,7 +152,7 @@ fn print_growth(rt: &HostRuntime) -> io::Result<()> {
     let mut file = sink(rt.alloc())?;
     let mut report = sink(rt.alloc())?;
     let mut converter = converter(rt.alloc(), 1)?;
-    print_newest(rt, converter.newest(0))?;
+    print_newest(rt, &converter)?;
     for tow in [NOON_TOW, NOON_TOW + 1_000, NOON_TOW + 2_000, NOON_TOW] {
         let piece = observation_frame(rt.alloc(), tow)?;
         print_answer(
@@ -159,7 +163,7 @@ fn print_growth(rt: &HostRuntime) -> io::Result<()> {
         println!(rt; "  {} bytes of the file", file.bytes().len())?;
         print_lines(rt, report.bytes())?;
     }
-    print_newest(rt, converter.newest(0))?;
+    print_newest(rt, &converter)?;
     match converter.finish(&mut file, &mut report) {
         Ok(counts) => print_counts(rt, &counts)?,
         Err(fault) => print_fault(rt, "finish", &fault)?,
@@ -186,9 +190,9 @@ fn print_links(rt: &HostRuntime) -> io::Result<()> {
         "feed(0)",
         converter.feed(0, &piece, &mut file, &mut report),
     )?;
-    print_newest(rt, converter.newest(0))?;
+    print_newest(rt, &converter)?;
     print_answer(rt, "close(0)", converter.close(0, &mut file, &mut report))?;
-    print_newest(rt, converter.newest(0))?;
+    print_newest(rt, &converter)?;
     print_answer(
         rt,
         "feed(0)",
