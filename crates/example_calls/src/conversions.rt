@@ -192,7 +192,7 @@ fn print_parts(rt: &HostRuntime) -> io::Result<()> {
     print_conversion(rt, "satellite 5, then both with another strength", &frames)
 }
 
-// The offset of the phase falls by more than 1.5 times half of its range, so the phase has rolled.
+// The offset of the phase falls by 1,500 cycles, because the sender has rolled it.
 fn print_rolls(rt: &HostRuntime) -> io::Result<()> {
     let alloc = rt.alloc();
     let high = LegacySatellite {

@@ -55,13 +55,6 @@ pub(crate) fn print_fault(rt: &HostRuntime, name: &str, fault: &ConvertFault) ->
     }
 }
 
-fn print_answer(rt: &HostRuntime, name: &str, answer: Result<(), ConvertFault>) -> io::Result<()> {
-    match answer {
-        Ok(()) => println!(rt; "{name}: Ok"),
-        Err(fault) => print_fault(rt, name, &fault),
-    }
-}
-
 /// Prints the counts that are not zero.
 pub(crate) fn print_counts(rt: &HostRuntime, counts: &Counts) -> io::Result<()> {
     let each = [
@@ -135,125 +128,132 @@ pub(crate) fn observation_frame(alloc: Global, tow: u32) -> io::Result<Vec<u8>> 
     payloads::frame_of(alloc, &payloads::observation_payload(alloc, tow)?)
 }
 
-// Prints the newest epoch of the first link.
-fn print_newest(rt: &HostRuntime, converter: &Converter) -> io::Result<()> {
-    if converter.links() == 0 {
-        return println!(rt; "no links");
+// A converter with the writers of its file and of its report.
+#[derive(Drop)]
+struct Conversion {
+    converter: Converter,
+    file: MemSink,
+    report: MemSink,
+}
+
+impl Conversion {
+    fn new(alloc: Global, links: usize) -> io::Result<Conversion> {
+        Ok(Conversion {
+            converter: converter(alloc, links)?,
+            file: sink(alloc)?,
+            report: sink(alloc)?,
+        })
     }
-    match converter.newest(0) {
-        Some(epoch) => println!(rt; "newest: {}", Shown(epoch)),
-        None => println!(rt; "newest: None"),
+
+    // Feeds a piece, and prints the answer.
+    fn feed(&mut self, rt: &HostRuntime, link: usize, piece: &[u8]) -> io::Result<()> {
+        match self
+            .converter
+            .feed(link, piece, &mut self.file, &mut self.report)
+        {
+            Ok(()) => println!(rt; "feed({link}): Ok"),
+            Err(fault) => print_fault(rt, "feed", &fault),
+        }
+    }
+
+    // Closes a link, and prints the answer.
+    fn close(&mut self, rt: &HostRuntime, link: usize) -> io::Result<()> {
+        match self.converter.close(link, &mut self.file, &mut self.report) {
+            Ok(()) => println!(rt; "close({link}): Ok"),
+            Err(fault) => print_fault(rt, "close", &fault),
+        }
+    }
+
+    // Prints the newest epoch of the first link.
+    fn print_newest(&self, rt: &HostRuntime) -> io::Result<()> {
+        if self.converter.links() == 0 {
+            return println!(rt; "no links");
+        }
+        match self.converter.newest(0) {
+            Some(epoch) => println!(rt; "newest(0): {}", Shown(epoch)),
+            None => println!(rt; "newest(0): None"),
+        }
+    }
+
+    // Prints how long the file is, and what is in the report.
+    fn print_written(&self, rt: &HostRuntime) -> io::Result<()> {
+        println!(rt; "  {} bytes of the file", self.file.bytes().len())?;
+        print_lines(rt, self.report.bytes())
+    }
+
+    // Ends the conversion, and prints the counts.
+    fn finish(self, rt: &HostRuntime) -> io::Result<()> {
+        let Conversion {
+            converter,
+            mut file,
+            mut report,
+        } = self;
+        match converter.finish(&mut file, &mut report) {
+            Ok(counts) => print_counts(rt, &counts)?,
+            Err(fault) => print_fault(rt, "finish", &fault)?,
+        }
+        println!(rt; "  {} bytes of the file", file.bytes().len())
     }
 }
 
 // One frame a piece: the record of an epoch is written as the epoch closes.
 fn print_growth(rt: &HostRuntime) -> io::Result<()> {
     println!(rt; "Converter::new, seconds 0, 1, 2, 0")?;
-    let mut file = sink(rt.alloc())?;
-    let mut report = sink(rt.alloc())?;
-    let mut converter = converter(rt.alloc(), 1)?;
-    print_newest(rt, &converter)?;
+    let mut conversion = Conversion::new(rt.alloc(), 1)?;
+    conversion.print_newest(rt)?;
     for tow in [NOON_TOW, NOON_TOW + 1_000, NOON_TOW + 2_000, NOON_TOW] {
-        let piece = observation_frame(rt.alloc(), tow)?;
-        print_answer(
-            rt,
-            "feed",
-            converter.feed(0, &piece, &mut file, &mut report),
-        )?;
-        println!(rt; "  {} bytes of the file", file.bytes().len())?;
-        print_lines(rt, report.bytes())?;
+        conversion.feed(rt, 0, &observation_frame(rt.alloc(), tow)?)?;
+        conversion.print_written(rt)?;
     }
-    print_newest(rt, &converter)?;
-    match converter.finish(&mut file, &mut report) {
-        Ok(counts) => print_counts(rt, &counts)?,
-        Err(fault) => print_fault(rt, "finish", &fault)?,
-    }
-    println!(rt; "  {} bytes of the file", file.bytes().len())
+    conversion.print_newest(rt)?;
+    conversion.finish(rt)
 }
 
 // A frame that hides behind a false preamble comes when its link is closed.
 fn print_links(rt: &HostRuntime) -> io::Result<()> {
     println!(rt; "Converter::new, 2 links")?;
-    let mut file = sink(rt.alloc())?;
-    let mut report = sink(rt.alloc())?;
-    let mut converter = converter(rt.alloc(), 2)?;
+    let mut conversion = Conversion::new(rt.alloc(), 2)?;
     let mut piece = Vec::from_slice(rt.alloc(), &[0xD3, 0x03, 0xFF])?;
     piece.extend_from_slice(&observation_frame(rt.alloc(), NOON_TOW)?)?;
-    print_answer(
-        rt,
-        "feed(2)",
-        converter.feed(2, &piece, &mut file, &mut report),
-    )?;
-    print_answer(rt, "close(2)", converter.close(2, &mut file, &mut report))?;
-    print_answer(
-        rt,
-        "feed(0)",
-        converter.feed(0, &piece, &mut file, &mut report),
-    )?;
-    print_newest(rt, &converter)?;
-    print_answer(rt, "close(0)", converter.close(0, &mut file, &mut report))?;
-    print_newest(rt, &converter)?;
-    print_answer(
-        rt,
-        "feed(0)",
-        converter.feed(0, &piece, &mut file, &mut report),
-    )?;
-    print_answer(rt, "close(0)", converter.close(0, &mut file, &mut report))?;
-    match converter.finish(&mut file, &mut report) {
-        Ok(counts) => print_counts(rt, &counts),
-        Err(fault) => print_fault(rt, "finish", &fault),
-    }
+    conversion.feed(rt, 2, &piece)?;
+    conversion.close(rt, 2)?;
+    conversion.feed(rt, 0, &piece)?;
+    conversion.print_newest(rt)?;
+    conversion.close(rt, 0)?;
+    conversion.print_newest(rt)?;
+    conversion.feed(rt, 0, &piece)?;
+    conversion.close(rt, 0)?;
+    conversion.finish(rt)
 }
 
-// After a write has failed every call is refused.
-fn print_stop(
-    rt: &HostRuntime,
-    frames: &[Vec<u8>],
-    mut file: MemSink,
-    mut report: MemSink,
-) -> io::Result<()> {
-    let mut converter = converter(rt.alloc(), 1)?;
-    for frame in frames {
-        print_answer(rt, "feed", converter.feed(0, frame, &mut file, &mut report))?;
-    }
-    print_answer(rt, "feed", converter.feed(0, &[], &mut file, &mut report))?;
-    print_answer(rt, "close", converter.close(0, &mut file, &mut report))?;
-    match converter.finish(&mut file, &mut report) {
-        Ok(counts) => print_counts(rt, &counts),
-        Err(fault) => print_fault(rt, "finish", &fault),
-    }
-}
-
-fn print_stops(rt: &HostRuntime) -> io::Result<()> {
-    let alloc = rt.alloc();
+// A file that fails: after that each call is refused.
+fn print_lost_file(rt: &HostRuntime) -> io::Result<()> {
     println!(rt; "Converter::new, a file that fails")?;
-    let frames = [
-        observation_frame(alloc, NOON_TOW)?,
-        observation_frame(alloc, NOON_TOW + 1_000)?,
-        observation_frame(alloc, NOON_TOW + 2_000)?,
-    ];
-    print_stop(
-        rt,
-        &frames,
-        MemSink::new(alloc, 0, PER_WRITE)?,
-        sink(alloc)?,
-    )?;
+    let mut conversion = Conversion::new(rt.alloc(), 1)?;
+    conversion.file = MemSink::new(rt.alloc(), 0, PER_WRITE)?;
+    for tow in [NOON_TOW, NOON_TOW + 1_000, NOON_TOW + 2_000, NOON_TOW] {
+        conversion.feed(rt, 0, &observation_frame(rt.alloc(), tow)?)?;
+    }
+    conversion.close(rt, 0)?;
+    conversion.finish(rt)
+}
+
+// A report that fails: after that each call is refused.
+fn print_lost_report(rt: &HostRuntime) -> io::Result<()> {
     println!(rt; "Converter::new, a report that fails")?;
-    let frames = [
-        Vec::from_slice(alloc, &POSITION_FRAME)?,
-        conversions::other_position(alloc)?,
-    ];
-    print_stop(
-        rt,
-        &frames,
-        sink(alloc)?,
-        MemSink::new(alloc, 0, PER_WRITE)?,
-    )
+    let mut conversion = Conversion::new(rt.alloc(), 1)?;
+    conversion.report = MemSink::new(rt.alloc(), 0, PER_WRITE)?;
+    conversion.feed(rt, 0, &POSITION_FRAME)?;
+    conversion.feed(rt, 0, &conversions::other_position(rt.alloc())?)?;
+    conversion.feed(rt, 0, &POSITION_FRAME)?;
+    conversion.close(rt, 0)?;
+    conversion.finish(rt)
 }
 
 pub(crate) fn print_calls(rt: &HostRuntime) -> io::Result<()> {
     print_setups(rt)?;
     print_growth(rt)?;
     print_links(rt)?;
-    print_stops(rt)
+    print_lost_file(rt)?;
+    print_lost_report(rt)
 }
