@@ -1,4 +1,5 @@
 mod CodeListLemmas
+mod FaultLineLemmas
 mod LinkLemmas
 mod MomentTextLemmas
 mod ReadLemmas

@@ -71,6 +71,7 @@ fn codes_or_one(alloc: Global, text: Option<&str>) -> Result<Vec<Code>, WordsFau
 }
 
 // The head of a file with this marker and these codes; others stand for what is not given.
+#[tactic(auto, using(crate::proofs::FaultLineLemmas::has_line))]
 fn head_of(alloc: Global, marker: Option<&str>, codes: Option<&str>) -> Result<Head, WordsFault>
     ensures { IfErr result IsWordsFault }
 {
@@ -93,6 +94,7 @@ fn made_of(options: &AutoOptions<'_>) -> Result<Option<GpsMs>, BadWords> {
 
 // The reference, if it is given. The codes and the marker are looked at first, then whether a
 // conversion dates near it.
+#[tactic(auto, using(crate::proofs::FaultLineLemmas::has_line))]
 fn near_of(alloc: Global, options: &AutoOptions<'_>) -> Result<Option<GpsMs>, WordsFault>
     ensures { IfErr result IsWordsFault }
 {

@@ -101,7 +101,7 @@ returns-clause-refused c =
     c.as_bytes-4.ensures.value c.in-Ok.ensures.good in
     let writes : WritesMoment c.args.options.now.near.now c.in_ok-near.near = subst (λ (x : List ℕ). WritesMoment x c.in_ok-near.near) c.as_bytes.ensures.value
     (MatchOption-at_some _ _ c.in_ok-near.near c.in_ok-near.ensures.ok_part c.moment_of.ensures.moment) in
-    refused-by c.args.options.now _ Near c.into-in-Err-new.result c.into-in-Err-new.ensures
+    refused-by c.args.options.now _ Near c.into-in-Err.result c.into-in-Err.ensures
     (inr (
       head,
       (let are = rw c.as_slice-2.ensures.value at c.if-not-are_links.ensures in are.0 refl),
@@ -109,6 +109,6 @@ returns-clause-refused c =
         c.in_ok-near.near,
         writes,
         bad-reference (record { station = c.args.options.now.station; near = c.in_ok-near.near; head = c.in-Ok.head; window = c.args.options.now.window; msm = Msm4 })
-            c.in-Err-new.field-0 (omega arith) (omega arith) c.in-Err-new.ensures.fault,
+            c.in-Err.field-0 (omega arith) (omega arith) c.in-Err.ensures.fault,
       ),
     ))
