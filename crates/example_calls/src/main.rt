@@ -22,6 +22,7 @@ mod runs;
 mod scanner;
 mod shell;
 mod streams;
+mod words;
 
 use std::io;
 
@@ -42,7 +43,8 @@ fn print_wholes(rt: &HostRuntime) -> io::Result<()> {
     converter::print_calls(rt)?;
     conversions::print_calls(rt)?;
     runs::print_calls(rt)?;
-    shell::print_calls(rt)
+    shell::print_calls(rt)?;
+    words::print_calls(rt)
 }
 
 fn main(rt: HostRuntime) -> io::Result<()> {
