@@ -1,5 +1,5 @@
 -- Why the words of `convert` are refused.
-use Rattle.std.proofs.Common.{◌≡◌, ℕ, ◌≤◌, ◌%◌, List, Option, None, Some, Result, Err, IsErrAnd, IfErr, IfSome, MatchOption, ok_or, refl, sym, ◌∙◌, subst}
+use Rattle.std.proofs.Common.{◌≡◌, ℕ, ◌≤◌, ◌%◌, List, Option, None, Some, Result, Err, IsErrAnd, IfErr, IfSome, MatchOption, ok_or, sym, ◌∙◌, subst}
 use Rattle.std.proofs.lemmas.Option.{MatchOption-at_some}
 use Rattle.std.proofs.lemmas.Result.{err_from_is_err_and}
 use Rattle.rtk_obs.specs.declared.code.Code.{Code}
@@ -20,7 +20,7 @@ use Rattle.rtk_cli.specs.declared.words.WordsFault.TheVariants.{Clap, Bad, OutOf
 use Rattle.rtk_cli.specs.FaultLines.{TellsCause}
 use Rattle.rtk_cli.specs.Steps.CodeList.{Lists}
 use Rattle.rtk_cli.specs.Steps.MomentText.{WritesMoment}
-use Rattle.rtk_cli.specs.Steps.ConvertWords.{HasMoment, HasTimes, HasNames, HasHead, IsFirstCause, RefusesConversion}
+use Rattle.rtk_cli.specs.Steps.ConvertWords.{HasMoment, HasNames, HasHead, IsFirstCause, RefusesConversion}
 
 -- a fault with the line of the first cause
 pub refused-by : (o : ConvertOptions) (names : List (List ℕ)) (cause : BadWords) (fault : WordsFault) → TellsCause cause fault → IsFirstCause o names cause → RefusesConversion o names fault
