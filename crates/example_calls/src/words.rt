@@ -43,11 +43,32 @@ fn print_convert(
 fn print_converts(rt: &HostRuntime) -> io::Result<()> {
     let noon = "2024-05-17T12:00:00";
     print_convert(rt, "convert", "2003", noon, "1C,2W", &["stdin"])?;
-    print_convert(rt, "no day", "2003", "2024-02-30T00:00:00", "1C,2W", &["stdin"])?;
+    print_convert(
+        rt,
+        "no day",
+        "2003",
+        "2024-02-30T00:00:00",
+        "1C,2W",
+        &["stdin"],
+    )?;
     print_convert(rt, "an unknown code", "2003", noon, "1C,9Z", &["stdin"])?;
     print_convert(rt, "a code twice", "2003", noon, "1C,1C", &["stdin"])?;
-    print_convert(rt, "a link twice", "2003", noon, "1C,2W", &["stdin", "stdin"])?;
-    print_convert(rt, "a year without dates", "2003", "2100-01-01T00:00:00", "1C,2W", &["stdin"])?;
+    print_convert(
+        rt,
+        "a link twice",
+        "2003",
+        noon,
+        "1C,2W",
+        &["stdin", "stdin"],
+    )?;
+    print_convert(
+        rt,
+        "a year without dates",
+        "2003",
+        "2100-01-01T00:00:00",
+        "1C,2W",
+        &["stdin"],
+    )?;
     print_convert(rt, "station 4096", "4096", noon, "1C,2W", &["stdin"])
 }
 
