@@ -20,7 +20,7 @@ mod payloads;
 mod rinex;
 mod runs;
 mod scanner;
-mod shell;
+// mod shell;
 mod streams;
 
 use std::io;
@@ -42,7 +42,7 @@ fn print_wholes(rt: &HostRuntime) -> io::Result<()> {
     converter::print_calls(rt)?;
     conversions::print_calls(rt)?;
     runs::print_calls(rt)?;
-    shell::print_calls(rt)
+    Ok(())
 }
 
 fn main(rt: HostRuntime) -> io::Result<()> {
