@@ -1,5 +1,8 @@
 //! The messages that the checks use, written field by field.
 
+ghost use Rattle.std.specs.Prelude.{IfOk};
+ghost use Rattle.rtk_message.specs.Decoded.{IsValid};
+
 use crate::moments::NOON_TOW;
 use rtk_bits::BitWriter;
 use rtk_frame::encode_frame;
@@ -325,7 +328,9 @@ pub(crate) fn frame_of(alloc: Global, payload: &[u8]) -> io::Result<Vec<u8>> {
 }
 
 /// The message of a payload.
-pub(crate) fn message_of(payload: &[u8]) -> io::Result<Message> {
+pub(crate) fn message_of(payload: &[u8]) -> io::Result<Message>
+    ensures { IfOk result IsValid }
+{
     match decode(payload) {
         Ok(message) => Ok(message),
         Err(_) => Err(io::Error::other("no message")),
