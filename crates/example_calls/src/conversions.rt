@@ -1,6 +1,6 @@
 //! Files and reports of a few frames.
 
-use crate::converter::{self, observation_frame};
+use crate::converter::{Conversion, observation_frame};
 use crate::moments::NOON_TOW;
 use crate::payloads::{
     self, Arp, LEGACY_5, LegacySatellite, MSM_5, MSM_CELL, MSM_SATELLITE, Msm, MsmCell,
@@ -13,11 +13,8 @@ use std::{io, str};
 fn print_file(rt: &HostRuntime, file: &[u8]) -> io::Result<()> {
     let text = str::from_utf8(file).unwrap_or("no text");
     for line in text.lines() {
-        let is_shown = ["> ", "G0"].iter().any(|start| line.starts_with(*start))
-            || ["APPROX POSITION", "FIRST OBS"]
-                .iter()
-                .any(|label| line.contains(*label));
-        if is_shown {
+        let is_of_header = line.contains("APPROX POSITION") || line.contains("FIRST OBS");
+        if is_of_header || line.starts_with("> ") || line.starts_with("G0") {
             println!(rt; "  {}", line.trim_end())?;
         }
     }
@@ -37,18 +34,11 @@ fn print_report(rt: &HostRuntime, report: &[u8]) -> io::Result<()> {
 // Converts these frames, which come on one link, and prints what is written.
 fn print_conversion(rt: &HostRuntime, name: &str, frames: &[Vec<u8>]) -> io::Result<()> {
     println!(rt; "feed and finish, {name}")?;
-    let mut file = converter::sink(rt.alloc())?;
-    let mut report = converter::sink(rt.alloc())?;
-    let mut converter = converter::converter(rt.alloc(), 1)?;
+    let mut conversion = Conversion::new(rt.alloc(), 1)?;
     for frame in frames {
-        if let Err(fault) = converter.feed(0, frame, &mut file, &mut report) {
-            return converter::print_fault(rt, "  feed", &fault);
-        }
+        conversion.feed(rt, 0, frame)?;
     }
-    match converter.finish(&mut file, &mut report) {
-        Ok(counts) => converter::print_counts(rt, &counts)?,
-        Err(fault) => converter::print_fault(rt, "  finish", &fault)?,
-    }
+    let (file, report) = conversion.finish(rt)?;
     print_report(rt, report.bytes())?;
     print_file(rt, file.bytes())
 }

@@ -28,14 +28,6 @@ pub(crate) fn sink(alloc: Global) -> io::Result<MemSink> {
     Ok(MemSink::new(alloc, ROOM, PER_WRITE)?)
 }
 
-/// A converter of so many links.
-pub(crate) fn converter(alloc: Global, links: usize) -> io::Result<Converter> {
-    match Converter::new(alloc, setup()?, links) {
-        Ok(converter) => Ok(converter),
-        Err(_) => Err(io::Error::other("no converter")),
-    }
-}
-
 /// Prints a fault by its name.
 pub(crate) fn print_fault(rt: &HostRuntime, name: &str, fault: &ConvertFault) -> io::Result<()> {
     match fault {
@@ -128,38 +120,41 @@ pub(crate) fn observation_frame(alloc: Global, tow: u32) -> io::Result<Vec<u8>> 
     payloads::frame_of(alloc, &payloads::observation_payload(alloc, tow)?)
 }
 
-// A converter with the writers of its file and of its report.
+/// A converter with the writers of its file and of its report.
 #[derive(Drop)]
-struct Conversion {
+pub(crate) struct Conversion {
     converter: Converter,
     file: MemSink,
     report: MemSink,
 }
 
 impl Conversion {
-    fn new(alloc: Global, links: usize) -> io::Result<Conversion> {
+    pub(crate) fn new(alloc: Global, links: usize) -> io::Result<Conversion> {
+        let Ok(converter) = Converter::new(alloc, setup()?, links) else {
+            return Err(io::Error::other("no converter"));
+        };
         Ok(Conversion {
-            converter: converter(alloc, links)?,
+            converter,
             file: sink(alloc)?,
             report: sink(alloc)?,
         })
     }
 
-    // Feeds a piece, and prints the answer.
-    fn feed(&mut self, rt: &HostRuntime, link: usize, piece: &[u8]) -> io::Result<()> {
+    /// Feeds a piece, and prints a fault.
+    pub(crate) fn feed(&mut self, rt: &HostRuntime, link: usize, piece: &[u8]) -> io::Result<()> {
         match self
             .converter
             .feed(link, piece, &mut self.file, &mut self.report)
         {
-            Ok(()) => println!(rt; "feed({link}): Ok"),
+            Ok(()) => Ok(()),
             Err(fault) => print_fault(rt, "feed", &fault),
         }
     }
 
-    // Closes a link, and prints the answer.
+    // Closes a link, and prints a fault.
     fn close(&mut self, rt: &HostRuntime, link: usize) -> io::Result<()> {
         match self.converter.close(link, &mut self.file, &mut self.report) {
-            Ok(()) => println!(rt; "close({link}): Ok"),
+            Ok(()) => Ok(()),
             Err(fault) => print_fault(rt, "close", &fault),
         }
     }
@@ -181,8 +176,8 @@ impl Conversion {
         print_lines(rt, self.report.bytes())
     }
 
-    // Ends the conversion, and prints the counts.
-    fn finish(self, rt: &HostRuntime) -> io::Result<()> {
+    /// Ends the conversion, prints the counts, and gives the file and the report.
+    pub(crate) fn finish(self, rt: &HostRuntime) -> io::Result<(MemSink, MemSink)> {
         let Conversion {
             converter,
             mut file,
@@ -192,8 +187,13 @@ impl Conversion {
             Ok(counts) => print_counts(rt, &counts)?,
             Err(fault) => print_fault(rt, "finish", &fault)?,
         }
-        println!(rt; "  {} bytes of the file", file.bytes().len())
+        Ok((file, report))
     }
+}
+
+fn print_end(rt: &HostRuntime, conversion: Conversion) -> io::Result<()> {
+    let (file, _) = conversion.finish(rt)?;
+    println!(rt; "  {} bytes of the file", file.bytes().len())
 }
 
 // One frame a piece: the record of an epoch is written as the epoch closes.
@@ -206,7 +206,7 @@ fn print_growth(rt: &HostRuntime) -> io::Result<()> {
         conversion.print_written(rt)?;
     }
     conversion.print_newest(rt)?;
-    conversion.finish(rt)
+    print_end(rt, conversion)
 }
 
 // A frame that hides behind a false preamble comes when its link is closed.
@@ -223,7 +223,7 @@ fn print_links(rt: &HostRuntime) -> io::Result<()> {
     conversion.print_newest(rt)?;
     conversion.feed(rt, 0, &piece)?;
     conversion.close(rt, 0)?;
-    conversion.finish(rt)
+    print_end(rt, conversion)
 }
 
 // A file that fails: after that each call is refused.
@@ -235,7 +235,7 @@ fn print_lost_file(rt: &HostRuntime) -> io::Result<()> {
         conversion.feed(rt, 0, &observation_frame(rt.alloc(), tow)?)?;
     }
     conversion.close(rt, 0)?;
-    conversion.finish(rt)
+    print_end(rt, conversion)
 }
 
 // A report that fails: after that each call is refused.
@@ -247,7 +247,7 @@ fn print_lost_report(rt: &HostRuntime) -> io::Result<()> {
     conversion.feed(rt, 0, &conversions::other_position(rt.alloc())?)?;
     conversion.feed(rt, 0, &POSITION_FRAME)?;
     conversion.close(rt, 0)?;
-    conversion.finish(rt)
+    print_end(rt, conversion)
 }
 
 pub(crate) fn print_calls(rt: &HostRuntime) -> io::Result<()> {

@@ -1,5 +1,9 @@
 //! The digits of phases: slips, half cycles and rolls.
 
+ghost use Rattle.std.specs.Prelude.{ℕ, ◌<◌};
+ghost use Rattle.rtk_obs.specs.declared.code.Code.{Code};
+ghost use Rattle.rtk_obs.specs.Tracks.{IsLater, track_at};
+
 use crate::moments::{self, NOON_TOW};
 use crate::observations;
 use crate::payloads::{
@@ -62,16 +66,41 @@ fn seen_in_1074(alloc: Global, after: u32, lock_indicator: u8, half: bool) -> io
     })
 }
 
+// No phases: a cell of any moment may follow.
+fn no_phases() -> Tracks
+    ensures { (code : Code) (time : ℕ) → IsLater (track_at result SATELLITE code) time }
+{
+    Tracks::new()
+}
+
+// The digits of a cell. Cells at later moments may follow.
+fn step(tracks: &mut Tracks, code: Code, seen: &Observed) -> Digits
+    requires { IsLater (track_at tracks.old SATELLITE code) seen.now.time }
+    ensures { (time : ℕ) → seen.now.time < time → IsLater (track_at tracks.new SATELLITE code) time }
+{
+    tracks.step(SATELLITE, code, seen.time, &seen.cell)
+}
+
+// The digits of a first cell.
+fn first_digits(code: Code, first: &Observed) -> Digits {
+    let mut tracks = no_phases();
+    step(&mut tracks, code, first)
+}
+
 // The digits of the last of three cells.
-fn third_digits(code: Code, cells: [Observed; 3]) -> io::Result<Digits> {
-    let [first, second, third] = cells;
+fn third_digits(
+    code: Code,
+    first: &Observed,
+    second: &Observed,
+    third: &Observed,
+) -> io::Result<Digits> {
     if second.time <= first.time || third.time <= second.time {
         return Err(io::Error::other("times that do not rise"));
     }
-    let mut tracks = Tracks::new();
-    tracks.step(SATELLITE, code, first.time, &first.cell);
-    tracks.step(SATELLITE, code, second.time, &second.cell);
-    Ok(tracks.step(SATELLITE, code, third.time, &third.cell))
+    let mut tracks = no_phases();
+    step(&mut tracks, code, first);
+    step(&mut tracks, code, second);
+    Ok(step(&mut tracks, code, third))
 }
 
 fn print_digits(rt: &HostRuntime, name: &str, digits: Digits) -> io::Result<()> {
@@ -88,14 +117,13 @@ fn print_second(rt: &HostRuntime, name: &str, first: Observed, second: Observed)
         ..LEGACY_5
     };
     let between = seen_in_1004(rt.alloc(), 500, Code::C1C, no_phase)?;
-    print_digits(rt, name, third_digits(Code::C1C, [first, between, second])?)
+    let digits = third_digits(Code::C1C, &first, &between, &second)?;
+    print_digits(rt, name, digits)
 }
 
 fn print_first(rt: &HostRuntime) -> io::Result<()> {
     let first = locked(rt.alloc(), 0, 5)?;
-    let mut tracks = Tracks::new();
-    let digits = tracks.step(SATELLITE, Code::C1C, first.time, &first.cell);
-    print_digits(rt, "a first phase", digits)
+    print_digits(rt, "a first phase", first_digits(Code::C1C, &first))
 }
 
 fn print_slips(rt: &HostRuntime) -> io::Result<()> {
@@ -138,12 +166,10 @@ fn print_rolls(rt: &HostRuntime, code: Code, offset: i32) -> io::Result<()> {
         l2_phase_offset: offset,
         ..LEGACY_5
     };
-    let cells = [
-        seen_in_1004(rt.alloc(), 0, code, LEGACY_5)?,
-        seen_in_1004(rt.alloc(), 500, code, LEGACY_5)?,
-        seen_in_1004(rt.alloc(), 1_000, code, later)?,
-    ];
-    let digits = third_digits(code, cells)?;
+    let first = seen_in_1004(rt.alloc(), 0, code, LEGACY_5)?;
+    let second = seen_in_1004(rt.alloc(), 500, code, LEGACY_5)?;
+    let third = seen_in_1004(rt.alloc(), 1_000, code, later)?;
+    let digits = third_digits(code, &first, &second, &third)?;
     println!(rt; "step, from offset 0 to {offset}: rolls {}", digits.rolls)
 }
 
@@ -162,7 +188,7 @@ fn print_mixed(rt: &HostRuntime) -> io::Result<()> {
     let last = seen_in_1004(rt.alloc(), 1_000, Code::C1C, low)?;
     print_second(rt, "a roll between two 1004", first, last)?;
     let between = seen_in_1074(rt.alloc(), 500, 10, false)?;
-    let digits = third_digits(Code::C1C, [first, between, last])?;
+    let digits = third_digits(Code::C1C, &first, &between, &last)?;
     print_digits(rt, "a roll with a 1074 between", digits)
 }
 

@@ -1,5 +1,8 @@
 //! The messages that the checks use, written field by field.
 
+ghost use Rattle.std.specs.Prelude.{IfOk};
+ghost use Rattle.rtk_message.specs.Decoded.{IsValid};
+
 use crate::moments::NOON_TOW;
 use rtk_bits::BitWriter;
 use rtk_frame::encode_frame;
@@ -54,8 +57,8 @@ fn put(bits: &mut BitWriter, field: Field) -> io::Result<()> {
         Signed(width, value)
             if 0 < width
                 && width < 64
-                && -(1 << (width - 1)) <= value
-                && value < 1 << (width - 1) => { bits.put_i(width, value)? }
+                && value < 1 << (width - 1)
+                && 0 <= value.saturating_add(1 << (width - 1)) => { bits.put_i(width, value)? }
         _ => return Err(io::Error::other("a value that does not fit its field")),
     }
     Ok(())
@@ -64,16 +67,6 @@ fn put(bits: &mut BitWriter, field: Field) -> io::Result<()> {
 fn put_all(bits: &mut BitWriter, fields: &[Field]) -> io::Result<()> {
     for field in fields {
         put(bits, *field)?;
-    }
-    Ok(())
-}
-
-// Puts one field of each row.
-fn put_column<T, F: Fn(&T) -> Field>(bits: &mut BitWriter, rows: &[T], field: F) -> io::Result<()>
-    requires { F.IsAlwaysCallable field }
-{
-    for row in rows {
-        put(bits, field(row))?;
     }
     Ok(())
 }
@@ -236,26 +229,50 @@ pub(crate) fn msm_payload(alloc: Global, message: &Msm) -> io::Result<Vec<u8>> {
             Unsigned(32, u64::from(message.signal_mask)),
         ],
     )?;
-    put_columns(&mut bits, message.satellites, message.cells)?;
+    for _ in message.cells {
+        put(&mut bits, Unsigned(1, 1))?;
+    }
+    put_rough_ranges(&mut bits, message.satellites)?;
+    put_cells(&mut bits, message.cells)?;
     Ok(bits.finish())
 }
 
-fn put_columns(
-    bits: &mut BitWriter,
-    satellites: &[MsmSatellite],
-    cells: &[MsmCell],
-) -> io::Result<()> {
-    put_column(bits, cells, |_| Unsigned(1, 1))?;
-    put_column(bits, satellites, |s| Unsigned(8, u64::from(s.whole)))?;
-    put_column(bits, satellites, |s| Unsigned(10, u64::from(s.fraction)))?;
-    put_column(bits, cells, |_| Signed(15, 0))?;
-    put_column(bits, cells, |_| Signed(22, 0))?;
-    put_column(bits, cells, |c| Unsigned(4, u64::from(c.lock_indicator)))?;
-    put_column(bits, cells, |c| Unsigned(1, u64::from(c.half)))?;
-    put_column(bits, cells, |c| Unsigned(6, u64::from(c.cnr)))
+// Puts the rough ranges: the first field of all satellites, then the second one.
+fn put_rough_ranges(bits: &mut BitWriter, satellites: &[MsmSatellite]) -> io::Result<()> {
+    for satellite in satellites {
+        put(bits, Unsigned(8, u64::from(satellite.whole)))?;
+    }
+    for satellite in satellites {
+        put(bits, Unsigned(10, u64::from(satellite.fraction)))?;
+    }
+    Ok(())
 }
 
-/// A position: the station, the year of its frame, and the height of its antenna in 0.0001 m, if it is a 1006.
+impl MsmCell {
+    // The fields of the cell, whose fine range and fine phase are 0.
+    fn fields(self) -> [Field; 5] {
+        [
+            Signed(15, 0),
+            Signed(22, 0),
+            Unsigned(4, u64::from(self.lock_indicator)),
+            Unsigned(1, u64::from(self.half)),
+            Unsigned(6, u64::from(self.cnr)),
+        ]
+    }
+}
+
+// Puts the first field of all cells, then the second one, and so on.
+fn put_cells(bits: &mut BitWriter, cells: &[MsmCell]) -> io::Result<()> {
+    for place in 0..5 {
+        for cell in cells {
+            put(bits, cell.fields()[place])?;
+        }
+    }
+    Ok(())
+}
+
+/// What differs between the positions: the station, the year of its coordinates, and the height of its antenna
+/// in 0.0001 m, which only a 1006 has.
 #[derive(Clone, Copy)]
 pub(crate) struct Arp {
     pub(crate) station: u16,
@@ -311,7 +328,9 @@ pub(crate) fn frame_of(alloc: Global, payload: &[u8]) -> io::Result<Vec<u8>> {
 }
 
 /// The message of a payload.
-pub(crate) fn message_of(payload: &[u8]) -> io::Result<Message> {
+pub(crate) fn message_of(payload: &[u8]) -> io::Result<Message>
+    ensures { IfOk result IsValid }
+{
     match decode(payload) {
         Ok(message) => Ok(message),
         Err(_) => Err(io::Error::other("no message")),

@@ -1,5 +1,8 @@
 //! The calls that write the header and the records of a file.
 
+ghost use Rattle.std.specs.Prelude.{IsTrue};
+ghost use Rattle.rtk_rinex.specs.Record.{IsStrengthOrNone};
+
 use crate::moments;
 use crate::payloads::STATION;
 use rtk_obs::{Code, GpsMs, Position};
@@ -116,11 +119,26 @@ fn observed(value: Option<i64>, strength: Option<u32>) -> Observed {
     }
 }
 
+// Whether a message can give this strength.
+fn is_strength(strength: Option<u32>) -> bool
+    ensures { IsTrue result → IsStrengthOrNone strength }
+{
+    match strength {
+        Some(strength) => 250 <= strength && strength <= 63_750 && strength % 250 == 0,
+        None => true,
+    }
+}
+
 // Prints the record of satellite 5 at noon.
 fn print_record(rt: &HostRuntime, codes: &[Code], observed: &[Observed]) -> io::Result<()> {
+    let head = head(codes)?;
+    let is_wide = observed.len() == head.codes().len() && observed.len() <= 16;
+    if !is_wide || !observed.iter().all(|o| is_strength(o.strength_millidbhz)) {
+        return println!(rt; "no record");
+    }
     let mut table = EpochTable::new(moments::noon()?);
     table.push_row(5, observed);
-    let text = record(rt.alloc(), &head(codes)?, &table)?;
+    let text = record(rt.alloc(), &head, &table)?;
     println!(rt; "record: {} bytes", text.len())?;
     print_text(rt, &text)
 }

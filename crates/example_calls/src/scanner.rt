@@ -1,11 +1,15 @@
 //! The calls that find the frames of a stream.
 
+ghost use Rattle.std.specs.Prelude.{◌≡◌, IfOk, false};
+
 use crate::payloads::{POSITION_FRAME, POSITION_PAYLOAD};
 use rtk_frame::{Answer, Fed, Scanner};
 use std::alloc::Global;
 use std::io;
 
-fn new_scanner(alloc: Global) -> io::Result<Scanner> {
+fn new_scanner(alloc: Global) -> io::Result<Scanner>
+    ensures { IfOk result (λ scanner. scanner.ended ≡ false) }
+{
     match Scanner::new(alloc) {
         Ok(scanner) => Ok(scanner),
         Err(_) => Err(io::Error::other("no scanner")),
