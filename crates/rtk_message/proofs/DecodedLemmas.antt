@@ -1,7 +1,7 @@
 -- Bits begin with at most one message, and have no fault if they begin with one. Here alone, of these
 -- lemmas on readings, the types are told apart.
-use Rattle.std.proofs.Common.{◌≡◌, ◌≢◌, ℕ, ◌^◌, ◌<◌, ◌≤◌, Bool, true, false, inl, inr, List, ◌∷◌, ◌++◌, length, take, drop, Option, Some, None, Result, Ok, Err, refl, sym, ap, subst, ◌∙◌, append_assoc, arith, length-append, ltb}
-use Rattle.std.specs.Prelude.{IfOk, IfErr, IsTrue, ◌==◌, if◌then◌else◌}
+use Rattle.std.proofs.Common.{◌≡◌, ◌≢◌, ℕ, ◌^◌, ◌<◌, ◌≤◌, Bool, false, inl, inr, List, ◌∷◌, ◌++◌, length, take, drop, Option, Some, None, Result, Ok, Err, refl, sym, ap, subst, ◌∙◌, append_assoc, arith, length-append, ltb}
+use Rattle.std.specs.Prelude.{IfOk, IfErr, IsTrue}
 use Rattle.std.proofs.lemmas.Bool.{le-ltb}
 use Rattle.std.proofs.lemmas.Bool.Decides.{eqb_tells}
 use Rattle.std.proofs.lemmas.List.{take_at, drop_at}
@@ -150,8 +150,8 @@ other-fault n bs (Some t) e none =
     let number : n ≡ number_of_type t = number_of_its_type n t e in
     elim (eqb_tells n 1074) [
       | inl h ↦
-        let same : gps Msm4 ≡ t = same_type (gps Msm4) t (sym h.1 ∙ number) in
-        subst (λ (x : MsmType). form.first_fault x bs ≡ if_any_fault_of (fault_after_number n bs)) same (rw h.1 (sym (fault_of_1074 bs)))
+          let same : gps Msm4 ≡ t = same_type (gps Msm4) t (sym h.1 ∙ number) in
+          subst (λ (x : MsmType). form.first_fault x bs ≡ if_any_fault_of (fault_after_number n bs)) same (rw h.1 (sym (fault_of_1074 bs)))
       | inr h ↦ absurd (none t (is_wide t (λ k. h.1 (number ∙ k))) number)
     ]
 

@@ -1,5 +1,5 @@
 -- The numbers of the types of multiple signal messages (MSM), and the sets of these types.
-use Rattle.std.proofs.Common.{◌≡◌, ◌≢◌, ℕ, ◌+◌, ◌*◌, ◌/◌, ◌%◌, ◌<◌, ◌≤◌, Bool, true, false, Option, Some, None, ◌⊎◌, inl, inr, refl, sym, ap, ◌∙◌, arith}
+use Rattle.std.proofs.Common.{◌≡◌, ◌≢◌, ℕ, ◌+◌, ◌*◌, ◌/◌, ◌%◌, ◌≤◌, true, false, Option, Some, None, ◌⊎◌, inl, inr, refl, sym, ap, ◌∙◌, arith}
 use Rattle.std.specs.Prelude.{◌==◌, if◌then◌else◌}
 use Rattle.std.proofs.lemmas.Bool.{ne_eqb}
 use Rattle.std.proofs.lemmas.Bool.Decides.{eqb_tells, leb_tells}
@@ -9,7 +9,7 @@ use Rattle.rtk_message.specs.declared.msm_kind.MsmKind.TheVariants.{Msm4, Msm5, 
 use Rattle.rtk_message.specs.declared.msm_type.MsmType.{MsmType}
 use Rattle.rtk_message.specs.declared.system.System.{System}
 use Rattle.rtk_message.specs.declared.system.System.TheVariants.{Gps, Glonass, Galileo, Beidou, Qzss, Sbas, Navic}
-use Rattle.rtk_message.specs.Accepted.{no_kind, takes_kind, only_kind, only, four, takes, takes_some, accepts}
+use Rattle.rtk_message.specs.Accepted.{no_kind, takes_kind, only, four, takes, takes_some, accepts}
 use Rattle.rtk_message.specs.MsmForm.{IsWide}
 use Rattle.rtk_message.specs.Systems.{tens_of, digit_of, number_of_type, system_of_tens, kind_of_digit, type_of_both, type_of_number}
 

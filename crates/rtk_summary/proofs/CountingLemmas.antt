@@ -13,7 +13,7 @@ use Rattle.rtk_message.specs.declared.message.Message.TheVariants.{Obs1004, Arp1
 use Rattle.rtk_message.specs.declared.msm_kind.MsmKind.{MsmKind}
 use Rattle.rtk_message.specs.declared.msm_kind.MsmKind.TheVariants.{Msm4, Msm5, Msm6, Msm7}
 use Rattle.rtk_message.specs.AnyDecoded.{number_of}
-use Rattle.rtk_message.specs.MsmForm.{number_of_kind}
+use Rattle.rtk_message.specs.Systems.{number_of_kind}
 use Rattle.rtk_summary.specs.Counting.{count_of}
 use Rattle.rtk_summary.specs.CountingLaws.{EachFrameIsCounted, EachMessageIsCounted, StandsIn, PartsStand, StationsStand, ProposalsStand, UntakenStand}
 use Rattle.rtk_equipment.specs.Told.{equipment_of}

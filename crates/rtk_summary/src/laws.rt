@@ -6,7 +6,7 @@
 ghost use Rattle.std.specs.Prelude.{◌≡◌, ◌≤◌, ◌<◌, ℕ, List, ◌++◌, IsTrue};
 ghost use Rattle.std.specs.List.{list_all};
 ghost use Rattle.rtk_message.specs.declared.any_message.AnyMessage.{AnyMessage};
-ghost use Rattle.rtk_message.specs.MsmForm.{number_of_kind};
+ghost use Rattle.rtk_message.specs.Systems.{number_of_kind};
 ghost use Rattle.rtk_message.specs.declared.msm_kind.MsmKind.{MsmKind};
 ghost use Rattle.rtk_message.specs.declared.msm_kind.MsmKind.TheVariants.{Msm4};
 ghost use Rattle.rtk_summary.specs.CountingLaws.{EachFrameIsCounted, EachMessageIsCounted, FramesAreTakenAlike, MessagesAreTakenAlike, ChangesAddUp, OtherTimeIsChange, EpochsAreChanges, PartsStand, StationsStand, ProposalsStand, UntakenStand};
