@@ -1,13 +1,14 @@
 -- Bits begin with at most one message of the wider set, and have no fault if they begin with one.
 -- What `decode` answers is the case of 1004, 1005, 1006 and 1074.
-use Rattle.std.proofs.Common.{◌≡◌, ℕ, ◌^◌, ◌<◌, Bool, true, false, List, ◌++◌, length, take, drop, Option, Some, None, Result, Ok, Err, refl, sym, ap, ◌∙◌, append_assoc, arith, length-append, ltb}
-use Rattle.std.specs.Prelude.{IfOk, IfErr, IsTrue, if◌then◌else◌}
-use Rattle.std.proofs.lemmas.Bool.{le-ltb}
+use Rattle.std.proofs.Common.{◌≡◌, ℕ, ◌^◌, ◌<◌, Bool, true, false, List, ◌++◌, length, take, drop, Option, Some, None, Result, Ok, Err, refl, sym, ap, subst, ◌∙◌, append_assoc, arith, length-append, ltb}
+use Rattle.std.specs.Prelude.{IfSome, IfOk, IfErr, IsTrue, if◌then◌else◌}
+use Rattle.std.proofs.lemmas.Bool.{le-ltb, ltb-true}
 use Rattle.std.proofs.lemmas.List.{take_at, drop_at}
 use Rattle.std.proofs.Math.Nat.{mod-eq_of_lt}
 use Rattle.rtk_bits.specs.Bits.{unsigned, bits_of}
 use Rattle.rtk_bits.proofs.PublicLaws.{length-bits_of, unsigned-bits_of}
 use Rattle.rtk_message.specs.declared.accepted.Accepted.{Accepted}
+use Rattle.rtk_message.specs.declared.accepted.MsmKinds.{MsmKinds}
 use Rattle.rtk_message.specs.declared.any_fault.AnyFault.{AnyFault}
 use Rattle.rtk_message.specs.declared.any_fault.AnyFault.TheVariants.{NoNumber, Other, Short, EpochRange, TooManyCells}
 use Rattle.rtk_message.specs.declared.any_message.AnyMessage.{AnyMessage}
@@ -15,19 +16,22 @@ use Rattle.rtk_message.specs.declared.any_message.AnyMessage.TheVariants.{Messag
 use Rattle.rtk_message.specs.declared.fault.DecodeFault.{DecodeFault}
 use Rattle.rtk_message.specs.declared.fault.DecodeFault.TheVariants as fault
 use Rattle.rtk_message.specs.declared.message.Message as declared_message
+use Rattle.rtk_message.specs.declared.message.Message.TheVariants as message
 use Rattle.rtk_message.specs.declared.msm_type.MsmType.{MsmType}
-use Rattle.rtk_message.specs.Accepted.{accepts, four, takes}
+use Rattle.rtk_message.specs.declared.system.System.{System}
+use Rattle.rtk_message.specs.declared.system.System.TheVariants.{Gps}
+use Rattle.rtk_message.specs.Accepted.{of_gps, accepts, four, takes}
 use Rattle.rtk_message.specs.AnyFaultCode.{any_fault_of}
-use Rattle.rtk_message.specs.Fields.{bits_of_fields}
+use Rattle.rtk_message.specs.Fields.{week_ms, bits_of_fields}
 use Rattle.rtk_message.specs.Decoded as decoded
 use Rattle.rtk_message.specs.MsmForm as form
-use Rattle.rtk_message.specs.AnyDecoded.{number_of, fields_after_number, IsValid, Encodes, DecodesBy, any_of, if_any_fault_of, fault_of_type, fault_after_number, fault_by, first_fault}
-use Rattle.rtk_message.specs.Systems.{number_of_type}
+use Rattle.rtk_message.specs.AnyDecoded.{number_of, tow_of, fields_after_number, IsValid, Encodes, DecodesBy, any_of, if_any_fault_of, fault_of_type, fault_after_number, fault_by, first_fault}
+use Rattle.rtk_message.specs.Systems.{number_of_type, is_in_week}
 use Rattle.rtk_message.specs.Steps.AfterNumber.{BeginsAfterNumber}
 use Rattle.rtk_message.specs.Steps.AfterAnyNumber.{BeginsAfterAnyNumber}
 use Rattle.rtk_message.proofs.DecodedLemmas as four_lemmas
 use Rattle.rtk_message.proofs.MsmLemmas as msm
-use Rattle.rtk_message.proofs.SystemsLemmas.{number-range, read_back, same_type, accepts-type, four-takes}
+use Rattle.rtk_message.proofs.SystemsLemmas.{number-range, read_back, same_type, accepts-type, accepts-gps, four-takes}
 
 -- ---- the numbers
 
@@ -191,3 +195,15 @@ of_four bs (Err f) d =
     let g = some_fault (decoded.first_fault bs) (any_fault_of f) (sym (first_by_four bs) ∙ d.fault) in
     let same : f ≡ g.0 = same_fault f g.0 g.2 in
     four_lemmas.decodes_fault bs f (g.1 ∙ ap Some (sym same))
+
+-- ---- times of week
+
+-- the clock of a message of a set without MSM of other systems than GPS lies in a week
+pub in_week : (ks : MsmKinds) (m : AnyMessage) → IsValid m → IsTrue (accepts (of_gps ks) (number_of m)) → IfSome (tow_of m) (λ tow. tow < week_ms)
+in_week ks (Message (message.Obs1004 m)) valid member = valid.time_in_week
+in_week ks (Message (message.Arp1005 m)) valid member = tt
+in_week ks (Message (message.Arp1006 m)) valid member = tt
+in_week ks (Message (message.Msm1074 m)) valid member = valid.time_in_week
+in_week ks (Msm m) valid member =
+    let is_gps : m.system ≡ Gps = accepts-gps ks (form.type_of m) member in
+    ltb-true m.header.tow week_ms (subst (λ (s : System). is_in_week s m.header.tow ≡ true) is_gps valid.form.time_in_week)

@@ -4,12 +4,13 @@ use Rattle.std.specs.Prelude.{◌==◌, if◌then◌else◌}
 use Rattle.std.proofs.lemmas.Bool.{ne_eqb}
 use Rattle.std.proofs.lemmas.Bool.Decides.{eqb_tells, leb_tells}
 use Rattle.rtk_message.specs.declared.accepted.Accepted.{Accepted}
+use Rattle.rtk_message.specs.declared.accepted.MsmKinds.{MsmKinds}
 use Rattle.rtk_message.specs.declared.msm_kind.MsmKind.{MsmKind}
 use Rattle.rtk_message.specs.declared.msm_kind.MsmKind.TheVariants.{Msm4, Msm5, Msm6, Msm7}
 use Rattle.rtk_message.specs.declared.msm_type.MsmType.{MsmType}
 use Rattle.rtk_message.specs.declared.system.System.{System}
 use Rattle.rtk_message.specs.declared.system.System.TheVariants.{Gps, Glonass, Galileo, Beidou, Qzss, Sbas, Navic}
-use Rattle.rtk_message.specs.Accepted.{no_kind, takes_kind, only, four, takes, takes_some, accepts}
+use Rattle.rtk_message.specs.Accepted.{no_kind, takes_kind, of_gps, four, takes, takes_some, accepts}
 use Rattle.rtk_message.specs.MsmForm.{IsWide}
 use Rattle.rtk_message.specs.Systems.{tens_of, digit_of, number_of_type, system_of_tens, kind_of_digit, type_of_both, type_of_number}
 
@@ -138,18 +139,21 @@ none-takes Msm5 = refl
 none-takes Msm6 = refl
 none-takes Msm7 = refl
 
--- the set of one kind of GPS has no other type
-only-gps : (k : MsmKind) (s : System) (j : MsmKind) → takes (only k) (record { system = s; kind = j }) ≡ true → s ≡ Gps
-only-gps k Gps j e = refl
-only-gps k Glonass j e = absurd (cc (e, none-takes j))
-only-gps k Galileo j e = absurd (cc (e, none-takes j))
-only-gps k Beidou j e = absurd (cc (e, none-takes j))
-only-gps k Qzss j e = absurd (cc (e, none-takes j))
-only-gps k Sbas j e = absurd (cc (e, none-takes j))
-only-gps k Navic j e = absurd (cc (e, none-takes j))
+-- a set of kinds of GPS has no type of another system
+only-gps : (ks : MsmKinds) (s : System) (j : MsmKind) → takes (of_gps ks) (record { system = s; kind = j }) ≡ true → s ≡ Gps
+only-gps ks Gps j e = refl
+only-gps ks Glonass j e = absurd (cc (e, none-takes j))
+only-gps ks Galileo j e = absurd (cc (e, none-takes j))
+only-gps ks Beidou j e = absurd (cc (e, none-takes j))
+only-gps ks Qzss j e = absurd (cc (e, none-takes j))
+only-gps ks Sbas j e = absurd (cc (e, none-takes j))
+only-gps ks Navic j e = absurd (cc (e, none-takes j))
 
-pub only-is_gps : (k : MsmKind) (t : MsmType) → accepts (only k) (number_of_type t) ≡ true → t.system ≡ Gps
-only-is_gps k t e = only-gps k t.system t.kind (sym (accepts-type (only k) t) ∙ e)
+pub takes-gps : (ks : MsmKinds) (t : MsmType) → takes (of_gps ks) t ≡ true → t.system ≡ Gps
+takes-gps ks t e = only-gps ks t.system t.kind e
+
+pub accepts-gps : (ks : MsmKinds) (t : MsmType) → accepts (of_gps ks) (number_of_type t) ≡ true → t.system ≡ Gps
+accepts-gps ks t e = takes-gps ks t (sym (accepts-type (of_gps ks) t) ∙ e)
 
 -- the set of the four has no type but 1074
 four-type : (s : System) (k : MsmKind) → number_of_type (record { system = s; kind = k }) ≢ 1074 → takes four (record { system = s; kind = k }) ≡ false

@@ -2,11 +2,13 @@
 //! readings of a message, of fields that fit, and of a number in a text.
 
 ghost use Rattle.std.specs.Int.{IsInRange};
-ghost use Rattle.std.specs.Prelude.{ℕ, ◌<◌, ◌^◌, List, ◌∷◌, ◌++◌, ◌≡◌, ◌≢◌, ◌↔◌, Bool, IsTrue, Option, Some, Result, decimal};
+ghost use Rattle.std.specs.Prelude.{ℕ, ◌<◌, ◌^◌, List, ◌∷◌, ◌++◌, ◌≡◌, ◌≢◌, ◌↔◌, Bool, IfSome, IsTrue, Some, Result, decimal};
 ghost use Rattle.rtk_message.specs.Accepted.{no_msm, four, all, all_kinds, of_gps, takes, with_type, accepts};
+ghost use Rattle.rtk_message.specs.AnyDecoded as any;
 ghost use Rattle.rtk_message.specs.AnyDecoded.{any_of, if_any_fault_of, DecodesBy};
 ghost use Rattle.rtk_message.specs.Decoded.{Decodes};
 ghost use Rattle.rtk_message.specs.declared.accepted.Accepted.{Accepted};
+ghost use Rattle.rtk_message.specs.declared.accepted.MsmKinds.{MsmKinds};
 ghost use Rattle.rtk_message.specs.declared.any_fault.AnyFault.{AnyFault};
 ghost use Rattle.rtk_message.specs.declared.any_message.AnyMessage.{AnyMessage};
 ghost use Rattle.rtk_message.specs.declared.fault.DecodeFault.{DecodeFault};
@@ -14,10 +16,11 @@ ghost use Rattle.rtk_message.specs.declared.message.Message.{Message};
 ghost use Rattle.rtk_message.specs.declared.msm1074.Msm1074.{Msm1074};
 ghost use Rattle.rtk_message.specs.declared.msm_kind.MsmKind.TheVariants.{Msm4};
 ghost use Rattle.rtk_message.specs.declared.msm_type.MsmType.{MsmType};
+ghost use Rattle.rtk_message.specs.declared.system.System.TheVariants.{Gps};
 ghost use Rattle.rtk_message.specs.Msm1074 as msm1074;
 ghost use Rattle.rtk_message.specs.MsmForm as form;
 ghost use Rattle.rtk_message.specs.Equality.{SaysEqual};
-ghost use Rattle.rtk_message.specs.Fields.{Field, FieldsFit};
+ghost use Rattle.rtk_message.specs.Fields.{Field, FieldsFit, week_ms};
 ghost use Rattle.rtk_message.specs.Systems.{gps, number_of_type, type_of_number};
 
 use crate::accepted::Accepted;
@@ -102,11 +105,20 @@ pub fn numbers_of_types()
 {}
 
 /// A law: a set reads the messages of the number of an MSM if it has the type of this MSM. A set with
-/// one type more has this type, and for the rest the types that it had.
+/// one type more has this type, and for the rest the types that it had. A set of kinds of GPS has no
+/// type of another system.
 pub fn sets_of_types()
     ensures accepts { (a : Accepted) (t : MsmType) → accepts a (number_of_type t) ≡ takes a t }
     ensures added { (a : Accepted) (t : MsmType) → IsTrue (takes (with_type a t) t) }
     ensures others { (a : Accepted) (s t : MsmType) → s ≢ t → takes (with_type a t) s ≡ takes a s }
+    ensures gps { (ks : MsmKinds) (t : MsmType) → IsTrue (takes (of_gps ks) t) → t.system ≡ Gps }
+{}
+
+/// A law: in a set without MSM of other systems than GPS a message has a time of week (DF004) less
+/// than 604,800,000 ms, or no clock.
+pub fn clocks_of_gps_lie_in_a_week()
+    ensures { (ks : MsmKinds) (m : AnyMessage) → any.IsValid m → IsTrue (accepts (of_gps ks) (any.number_of m))
+        → IfSome (any.tow_of m) (λ tow. tow < week_ms) }
 {}
 
 /// A law: `decode` answers what `decode_any` answers by the set of 1004, 1005, 1006 and 1074, and

@@ -53,8 +53,8 @@ pub fn summaries_tell_counts()
     ensures unread { UnreadLinesTell }
 {}
 
-/// All frames of a capture are counted, with their bytes, and each is a message of one number or a
-/// fault.
+/// All frames of a capture are counted, with their bytes, and each is a message that a summary reads or
+/// a fault. Each message that it reads has one of seven numbers.
 pub fn each_frame_is_counted()
     ensures frames { EachFrameIsCounted }
     ensures messages { EachMessageIsCounted }
