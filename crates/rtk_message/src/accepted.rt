@@ -202,8 +202,13 @@ impl Accepted {
     pub fn accepts(self, number: u16) -> bool
         ensures { result ≡ accepts self number }
     {
+        // The numbers of GPS are told first: most messages have one.
         match number {
             1004 | 1005 | 1006 => true,
+            1074 => self.gps.msm4,
+            1075 => self.gps.msm5,
+            1076 => self.gps.msm6,
+            1077 => self.gps.msm7,
             _ => match MsmType::of_number(number) {
                 Some(msm_type) => self.takes(msm_type),
                 None => false,

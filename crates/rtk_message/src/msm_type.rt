@@ -41,9 +41,14 @@ impl MsmType {
         ensures some { IfSome result (λ t. IsWide t × (number ≡ number_of_type t)) }
         ensures none { IfNone result ((t : MsmType) → IsWide t → number ≢ number_of_type t) }
     {
-        if number == 1074 {
-            return None;
-        }
-        MsmType::of_number(number)
+        let kind = match number {
+            1074 => return None,
+            1075 => MsmKind::Msm5,
+            1076 => MsmKind::Msm6,
+            1077 => MsmKind::Msm7,
+            _ => return MsmType::of_number(number),
+        };
+        let system = System::Gps;
+        Some(MsmType { system, kind })
     }
 }
