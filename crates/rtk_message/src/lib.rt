@@ -69,9 +69,9 @@ pub use encoding::{decode_any_of_encode_any, decode_of_encode, encode, encode_an
 pub use fault::DecodeFault;
 pub use field::WEEK_MS;
 pub use laws::{
-    clocks_of_gps_lie_in_a_week, decodes_by_four, equal_1004, equal_1074, equal_any_faults, equal_any_messages, equal_faults,
-    equal_messages, equal_msm, form_of_1074, named_sets, numbers_end, numbers_of_types,
-    parts_of_fields_fit, sets_of_types,
+    clocks_of_gps_lie_in_a_week, decodes_by_four, equal_1004, equal_1074, equal_any_faults,
+    equal_any_messages, equal_faults, equal_messages, equal_msm, form_of_1074, named_sets,
+    numbers_end, numbers_of_types, parts_of_fields_fit, sets_of_types,
 };
 pub use layout::Layout;
 pub use message::Message;
