@@ -92,7 +92,7 @@ impl Msm {
         }
     }
 
-    /// The type: the system and the kind.
+    /// Returns the type, which is the system and the kind.
     pub fn msm_type(&self) -> MsmType
         ensures { result ≡ type_of self.now }
     {

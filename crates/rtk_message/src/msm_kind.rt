@@ -47,7 +47,7 @@ impl MsmKind {
         MsmType { system, kind: self }.number()
     }
 
-    /// The last digit of the message numbers (DF002) of this kind.
+    /// Returns the last digit of the message numbers (DF002) of this kind.
     pub(crate) fn digit(self) -> u16
         ensures value { result ≡ digit_of self }
         ensures few { result ≤ 7 }

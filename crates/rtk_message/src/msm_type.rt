@@ -19,14 +19,15 @@ pub struct MsmType {
 }
 
 impl MsmType {
-    /// The message number (DF002).
+    /// Returns the message number (DF002).
     pub fn number(self) -> u16
         ensures { result ≡ number_of_type self }
     {
         10 * self.system.tens() + self.kind.digit()
     }
 
-    /// The type of the messages of this number (DF002); `None` if it is the number of no MSM4 to MSM7.
+    /// Returns the type of the messages of this number (DF002). It is `None` if no MSM4 to MSM7 has the
+    /// number.
     pub fn of_number(number: u16) -> Option<MsmType>
         ensures { result ≡ type_of_number number }
     {
@@ -35,8 +36,8 @@ impl MsmType {
         Some(MsmType { system, kind })
     }
 
-    /// The type of the messages of this number (DF002) that are read as an `Msm`: all but 1074, which
-    /// has a Rust type of its own.
+    /// Returns the type of the messages of this number (DF002) that are read as an `Msm`. A 1074 is not,
+    /// because it has a Rust type of its own.
     pub(crate) fn wide_of_number(number: u16) -> Option<MsmType>
         ensures some { IfSome result (λ t. IsWide t × (number ≡ number_of_type t)) }
         ensures none { IfNone result ((t : MsmType) → IsWide t → number ≢ number_of_type t) }

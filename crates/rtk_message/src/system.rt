@@ -34,10 +34,11 @@ const DAYS: u32 = 7;
 const LONGEST_DAY_MS: u32 = 86_401_000;
 
 impl System {
-    /// Whether a clock of this system, the 30 bits after the station ID of its MSM, lies in a week.
+    /// Returns whether a clock of this system, the 30 bits after the station ID of its MSM, lies in a
+    /// week.
     ///
     /// The clock of GLONASS is a day of the week (DF416, 3 bits; 7 is unknown) and a time of day
-    /// (DF034, 27 bits, in ms), which is less than 86,401,000: a day can end with a leap second. The
+    /// (DF034, 27 bits, in ms), which is less than 86,401,000, since a day can end with a leap second. The
     /// clock of any other system is its time of week in ms, which is less than 604,800,000.
     pub fn is_in_week(self, clock: u32) -> bool
         ensures { result ≡ is_in_week self clock }
@@ -48,7 +49,7 @@ impl System {
         }
     }
 
-    /// The message numbers (DF002) of its MSM without their last digit.
+    /// Returns the message numbers (DF002) of its MSM without their last digit.
     pub(crate) fn tens(self) -> u16
         ensures value { result ≡ tens_of self }
         ensures few { result ≤ 113 }
@@ -64,7 +65,7 @@ impl System {
         }
     }
 
-    /// The system whose MSM have these numbers without their last digit.
+    /// Returns the system whose MSM have these numbers without their last digit.
     pub(crate) fn of_tens(tens: u16) -> Option<System>
         ensures { result ≡ system_of_tens tens }
     {
