@@ -9,6 +9,7 @@ from types import TracebackType
 from typing import List, Optional, Protocol, Sequence, Tuple, Type, Union, cast
 
 PIECE = 65_536  # bytes
+PATIENCE = 1.0  # seconds to wait for a file that is no longer needed
 
 
 class Readable(Protocol):
@@ -137,8 +138,10 @@ class Inputs:
         self.close()
 
     def close(self) -> None:
-        """Closes the ends that no thread closes."""
+        """Closes all ends. Once a program has ended, a thread closes its end with its next write, and may wait for its file until then."""
         for pump in self.pumps:
             pump.pipe.close_reading()
-            if not self.has_begun:
+            if self.has_begun:
+                pump.join(PATIENCE)
+            else:
                 pump.pipe.close_writing()

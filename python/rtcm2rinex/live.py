@@ -121,10 +121,13 @@ class Converter:
     def __enter__(self) -> Converter:
         if self._process is not None:
             raise Error("a converter converts once")
-        with Inputs(self._links) as inputs:
-            self._process = start(self._program, self._words, inputs, subprocess.PIPE)
-            inputs.begin()
-        self._inputs = inputs
+        self._inputs = Inputs(self._links)
+        try:
+            self._process = start(self._program, self._words, self._inputs, subprocess.PIPE)
+        except BaseException:
+            self._inputs.close()
+            raise
+        self._inputs.begin()
         self._outlet = Outlet(cast("IO[bytes]", self._process.stdout), self._output)
         self._told = Told(cast("IO[bytes]", self._process.stderr))
         self._outlet.start()
