@@ -49,7 +49,7 @@ class Summaries(Case):
         self.assertFalse(found.has_codes)
 
     def test_no_capture(self) -> None:
-        found = rtcm2rinex.summary(io.BytesIO(gzip.compress(BASE)))
+        found = rtcm2rinex.summary(io.BytesIO(gzip.compress(b"not a frame")))
         self.assertEqual((found.frames, found.looks_like, found.stations, found.has_codes), (0, "gzip", {}, False))
         with self.assertRaises(rtcm2rinex.WorkError) as raised:
             rtcm2rinex.summary("nowhere")

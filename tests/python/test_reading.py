@@ -12,7 +12,7 @@ from rtcm2rinex import FormError, Observation
 from support import EXAMPLES, NOON, Case, second
 
 SESSION = (EXAMPLES / "session.rnx").read_bytes()
-DAMAGED = 400  # texts
+DAMAGED = 250  # texts
 
 
 def rows_at(time: datetime, satellite: str) -> list:
