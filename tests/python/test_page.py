@@ -69,7 +69,7 @@ class Pages(Case):
         """The page names each function and each exception, and all names are there."""
         named = set(re.findall(r"\b\w+\b", PAGE.read_text()))
         public = {it for it in rtcm2rinex.__all__ if it[0].islower() or it.endswith("Error") or it == "ProgramNotFound"}
-        self.assertEqual(public - named - {"version", "find_program"}, set())
+        self.assertEqual(public - named, set())
         self.assertEqual([it for it in rtcm2rinex.__all__ if not hasattr(rtcm2rinex, it)], [])
 
     def test_the_plot(self) -> None:
