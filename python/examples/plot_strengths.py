@@ -1,5 +1,5 @@
 #!/usr/bin/env python3
-"""Plots the strengths of a RINEX file of rtcm2rinex: a panel for each code, and in it a line for each satellite.
+"""Plots the strengths of a RINEX file of rtcm2rinex: a panel for each code, and in it a dot for each epoch of each satellite.
 
     plot_strengths.py FILE PICTURE
 
@@ -34,7 +34,7 @@ def plot(strengths: Dict[str, Dict[str, Line]], title: str, picture: str) -> Non
     figure, panels = pyplot.subplots(len(strengths), 1, sharex=True, squeeze=False, figsize=(9, 2.5 * len(strengths)))
     for panel, (code, satellites) in zip(panels[:, 0], sorted(strengths.items())):
         for satellite, (times, values) in sorted(satellites.items()):
-            panel.plot(times, values, marker=".", label=satellite)
+            panel.plot(times, values, linestyle="none", marker=".", label=satellite)  # no line across a gap
         panel.set_ylabel(f"{code}, dB-Hz")
         panel.legend(loc="center left", bbox_to_anchor=(1, 0.5))
     panels[0, 0].set_title(title)

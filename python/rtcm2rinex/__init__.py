@@ -27,5 +27,6 @@ __all__ = [
     "AutoConversion", "CapturesError", "Check", "CodeQuality", "Conflict", "Conversion", "Converter", "Counts", "Date", "Epoch", "Error",
     "FileError", "FormError", "Found", "Header", "LateMessage", "NoRecordError", "Observation", "Part", "Pass", "ProgramError",
     "ProgramNotFound", "Quality", "RefusedMessage", "Report", "StationSummary", "Summary", "WordsError", "WorkError", "Written", "arrays",
-    "auto", "check", "convert", "cut", "epochs", "find_program", "frame", "header", "label", "observations", "quality", "summary", "version",
+    "auto", "check", "convert", "cut", "epochs", "find_program", "frame", "header", "label", "observations", "quality", "summary",
+    "version",
 ]

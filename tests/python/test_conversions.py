@@ -28,7 +28,8 @@ class Reports(Case):
     def test_one_capture_gives_the_published_file(self) -> None:
         done = rtcm2rinex.convert(EXAMPLES / "base.rtcm", **TWO_CODES)
         self.assertEqual(done.text, example("base.rnx"))
-        self.assertEqual(done.report.counts, Counts(frames=2, other=0, refused=0, foreign=0, taken=2, repeat=0, conflict=0, late=0, epochs=1))
+        wanted = Counts(frames=2, other=0, refused=0, foreign=0, taken=2, repeat=0, conflict=0, late=0, epochs=1)
+        self.assertEqual(done.report.counts, wanted)
 
     def test_two_links_give_the_published_file_in_either_order(self) -> None:
         links = [EXAMPLES / "session_link1.rtcm", EXAMPLES / "session_link2.rtcm"]

@@ -86,6 +86,7 @@ class Pages(Case):
     def test_a_plot_that_cannot_be_made(self) -> None:
         Path("empty.rnx").write_bytes(b"".join((EXAMPLES / "base.rnx").read_bytes().splitlines(True)[:14]))
         script = "python3 python/examples/plot_strengths.py"
-        for words, told in (("", "usage: plot_strengths.py FILE PICTURE"), ("empty.rnx a.png", "plot_strengths.py: empty.rnx has no strength")):
+        rows = {"": "usage: plot_strengths.py FILE PICTURE", "empty.rnx a.png": "plot_strengths.py: empty.rnx has no strength"}
+        for words, told in rows.items():
             ran = self.ran(f"{script} {words}")
             self.assertEqual((ran.stdout, ran.returncode), (f"{told}\n", 1))

@@ -36,7 +36,8 @@ class Places(Case):
             self.assertEqual(rtcm2rinex.version(), "8.8.8")
 
     def test_what_is_named_must_be_there(self) -> None:
-        for words, call in (("the argument", lambda: rtcm2rinex.find_program("./nowhere")), ("the variable RTCM2RINEX", rtcm2rinex.version)):
+        rows = {"the argument": lambda: rtcm2rinex.find_program("./nowhere"), "the variable RTCM2RINEX": rtcm2rinex.version}
+        for words, call in rows.items():
             with mock.patch.dict(os.environ, {"RTCM2RINEX": "./nowhere"}), self.assertRaises(rtcm2rinex.ProgramNotFound) as raised:
                 call()
             self.assertEqual(str(raised.exception), f"{words} names ./nowhere, which is no program that can be run")

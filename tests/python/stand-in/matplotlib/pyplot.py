@@ -11,7 +11,7 @@ class Panel:
     def __init__(self) -> None:
         self.told: dict = {"lines": {}}
 
-    def plot(self, times, values, marker: str, label: str) -> None:
+    def plot(self, times, values, linestyle: str, marker: str, label: str) -> None:
         self.told["lines"][label] = [[str(time) for time in times], values]
 
     def set_ylabel(self, label: str) -> None:
