@@ -85,6 +85,13 @@ class Flow(Case):
             taker.join(PATIENCE)
         self.assertEqual(times, [second(it) for it in range(10)])
 
+    def test_an_output_that_grows(self) -> None:
+        with open("made.rnx", "wb") as made, Converter(**TWO_CODES, output=made) as converter:
+            converter.feed(observations_at(0, 1, 2))
+            first_record(converter)
+            with open("made.rnx", "rb") as grown:
+                self.assertEqual([it.time for it in rtcm2rinex.epochs(grown)], [NOON])
+
     def test_a_block_without_finish(self) -> None:
         with Converter(**TWO_CODES) as converter:
             converter.feed(BASE)
@@ -116,8 +123,10 @@ class Faults(Case):
                 converter.feed(P)
         self.assertEqual((raised.exception.status, raised.exception.line), (2, "bad --codes"))
         self.closed()
-        with self.assertRaises(rtcm2rinex.WordsError), Converter(**{**TWO_CODES, "codes": "9Z"}) as converter:
-            self.assertEqual(list(converter.records(wait=PATIENCE)), [])
+        with self.assertRaises(LookupError), Converter(**{**TWO_CODES, "codes": "9Z"}) as converter:
+            with self.assertRaises(rtcm2rinex.WordsError):
+                list(converter.records(wait=PATIENCE))
+            raise LookupError
         self.closed()
 
     def test_a_program_that_is_ended(self) -> None:

@@ -108,6 +108,59 @@ class Forms(Case):
             refused += not told
         self.assertGreater(refused, DAMAGED // 2)
 
+    def test_each_kind_of_fault(self) -> None:
+        """An edit of base.rnx, and what `check` says of it; without a line the file is good."""
+        rows = [
+            ("45.000", "45.125", 16, "C3 Value"),
+            ("45.000", "64.000", 16, "C3 Value"),
+            ("45.000", " 0.000", 16, "C3 Value"),
+            ("45.000", "-5.000", 16, "C3 Value"),
+            ("45.000", "      ", 16, "C3 Value"),
+            ("45.000", "48.000", 16, "C3 Value"),
+            ("472.060 7", "472.060 8", 16, "C3 Value"),
+            ("903.547 7", "903.547 8", 16, "C3 Value"),
+            ("903.547 7", "903.54747", 16, "C3 Value"),
+            ("903.547 7", "903.54737", None, None),
+            ("  21085472.060 7", "                ", None, None),
+            ("  21085472.060", "   1085472.060", None, None),
+            ("  21085472.060", "  01085472.060", 16, "C3 Value"),
+            ("  21085472.060", "        -0.000", 16, "C3 Value"),
+            ("  21085472.060 7 110804903.547 7        45.000", "  21085472.060 1 110804903.547 1         5.750", None, None),
+            ("  21085472.060 7 110804903.547 7        45.000", "  21085472.060 9 110804903.547 9        63.750", None, None),
+            ("0.0000000  0  1", "0.0000000  0  0", 15, "C2 Columns"),
+            ("0.0000000  0  1", "0.0000000  0 33", 15, "C2 Columns"),
+            ("0.0000000  0  1", "0.0000000  0  2", 17, "C5 Truncated"),
+            ("> 2024 05 17 12 00  0.0", "> 2024 05 17 12 00  0.1", 15, "C4 Order"),
+            ("> 2024 05 17", "> 2024 02 30", 15, "C2 Columns"),
+            ("G05", "G00", 16, "C2 Columns"),
+            ("G05", "G33", 16, "C2 Columns"),
+            (f"{'':60}ANT #", f"{'':40}{'x':20}ANT #", 7, "C1 HeaderLine"),
+            ("G    6", "G    7", 10, "C1 HeaderLine"),
+            ("C2W L2W S2W", "C1C L1C S1C", 10, "C1 HeaderLine"),
+            ("C2W L2W S2W", "C2W S2W L2W", 10, "C1 HeaderLine"),
+            ("  1114104.5999", "9999999999.999", 8, "C1 HeaderLine"),
+            ("     0.0000        0.0000        0.0000", "     6.5536        0.0000        0.0000", 9, "C1 HeaderLine"),
+            ("     GPS", "     UTC", 12, "C1 HeaderLine"),
+            ("20240517 130000", "20240517 250000", 2, "C1 HeaderLine"),
+            ("GEODETIC", "GEODETIK", 4, "C1 HeaderLine"),
+            ("BASE", " ASE", 3, "C1 HeaderLine"),
+            ("DBHZ", "dBHZ", 11, "C1 HeaderLine"),
+        ]
+        for old, new, number, fault in rows:
+            with self.subTest(f"{old} {new}"):
+                text = (EXAMPLES / "base.rnx").read_text()
+                self.assertEqual(text.count(old), 1)
+                edited = text.replace(old, new).encode()
+                told = rtcm2rinex.check(io.BytesIO(edited))
+                self.assertEqual((told.line, told.fault), (number, fault))
+                self.assertEqual(fault_of(edited), (number, fault))
+
+    def test_records_and_satellites_rise(self) -> None:
+        lines = SESSION.splitlines(True)
+        head, record = lines[:14], lines[14:18]
+        for text, number in ((head + record * 2, 19), (head + [record[0], record[2], record[1], record[3]], 17)):
+            self.assertEqual(fault_of(b"".join(text)), (number, "C4 Order"))
+
     def test_long_lines(self) -> None:
         for tail in (b"G05" + b"1" * 5000, b" " * 999, b"x" * 1000 + b"\n"):
             text = SESSION + b"> 2024 05 17 12 01  0.0000000  0  1\n" + tail
