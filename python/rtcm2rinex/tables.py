@@ -4,7 +4,7 @@ from __future__ import annotations
 
 from importlib import import_module
 from types import ModuleType
-from typing import Any, Dict, Union
+from typing import Any, Dict, List, Union
 
 from .inputs import Name
 from .rinex import ReadableLines, observations
@@ -23,7 +23,10 @@ def arrays(file: Union[Name, ReadableLines]) -> Dict[str, Any]:
     numpy = installed("numpy", "arrays")
     kinds = {"time": "datetime64[ms]", "satellite": "U3", "code": "U2", "range": "f8", "phase": "f8", "strength": "f8",
         "loss_of_lock": "?", "half_cycle": "?"}
-    columns = list(zip(*observations(file))) or [()] * len(kinds)
+    columns: List[List[object]] = [[] for _ in kinds]
+    for row in observations(file):
+        for column, value in zip(columns, row):
+            column.append(value)
     return {name: numpy.array(column, dtype=kind) for (name, kind), column in zip(kinds.items(), columns)}
 
 
