@@ -1,4 +1,4 @@
-"""What goes wrong, as exceptions. All of them are an `Error`."""
+"""What goes wrong, as exceptions. All of them are an `Error`, and each can be pickled, so that it may come from another process."""
 
 from __future__ import annotations
 
@@ -18,8 +18,12 @@ class ProgramNotFound(Error):
     """The program is not there or does not run. `places` has what was looked for."""
 
     def __init__(self, why: str, places: Sequence[str]) -> None:
-        super().__init__(why)
+        super().__init__(why, tuple(places))
+        self.why = why
         self.places: Tuple[str, ...] = tuple(places)
+
+    def __str__(self) -> str:
+        return self.why
 
 
 class FormError(Error):
@@ -30,9 +34,12 @@ class FormError(Error):
     """
 
     def __init__(self, number: int, fault: str) -> None:
-        super().__init__(f"line {number}: {fault}")
+        super().__init__(number, fault)
         self.number = number
         self.fault = fault
+
+    def __str__(self) -> str:
+        return f"line {self.number}: {self.fault}"
 
 
 class ProgramError(Error):
@@ -46,7 +53,10 @@ class ProgramError(Error):
         self.status = status
         self.told = told
         self.line, self.details = fault_line(status, told)
-        super().__init__("\n".join([f"status {status}: {self.line}", *self.details]))
+        super().__init__(status, told)
+
+    def __str__(self) -> str:
+        return "\n".join([f"status {self.status}: {self.line}", *self.details])
 
 
 class WorkError(ProgramError):
@@ -82,6 +92,7 @@ class NoRecordError(CapturesError):
 
     def __init__(self, status: int, told: str, conversion: AutoConversion) -> None:
         super().__init__(status, told)
+        self.args = (status, told, conversion)
         self.conversion = conversion
 
 

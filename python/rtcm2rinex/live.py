@@ -159,7 +159,7 @@ class Converter:
             self._wait()
         if self._outlet.fault_of_copy is not None:
             raise self._outlet.fault_of_copy
-        self._links[link].put(bytes(piece))
+        self._links[link].put(memoryview(piece).tobytes())
 
     def end(self, link: int = 0) -> None:
         """Says that nothing more comes on a link."""

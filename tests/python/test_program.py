@@ -3,6 +3,7 @@
 from __future__ import annotations
 
 import os
+import pickle
 import platform
 import shutil
 import subprocess
@@ -77,6 +78,26 @@ class Places(Case):
     def test_the_program_that_is_tested(self) -> None:
         told = subprocess.run([PROGRAM, "--version"], capture_output=True, text=True).stdout
         self.assertEqual(f"rtcm2rinex {rtcm2rinex.version()}\n", told)
+
+
+class Exceptions(Case):
+    def test_they_come_from_another_process(self) -> None:
+        calls = {
+            rtcm2rinex.WorkError: lambda: rtcm2rinex.check("nowhere"),
+            rtcm2rinex.WordsError: lambda: rtcm2rinex.cut(EXAMPLES / "slip.rnx", every=0),
+            rtcm2rinex.CapturesError: lambda: rtcm2rinex.auto(EXAMPLES / "session.rtcm"),
+            rtcm2rinex.NoRecordError: lambda: rtcm2rinex.auto(EXAMPLES / "dated.rtcm", codes="5I"),
+            rtcm2rinex.FileError: lambda: rtcm2rinex.quality(EXAMPLES / "base.rtcm"),
+            rtcm2rinex.FormError: lambda: rtcm2rinex.header(EXAMPLES / "base.rtcm"),
+            rtcm2rinex.ProgramNotFound: lambda: rtcm2rinex.version("./nowhere"),
+        }
+        for kind, call in calls.items():
+            with self.subTest(kind.__name__):
+                with self.assertRaises(rtcm2rinex.Error) as raised:
+                    call()
+                again = pickle.loads(pickle.dumps(raised.exception))
+                self.assertIs(type(again), kind)
+                self.assertEqual((str(again), vars(again)), (str(raised.exception), vars(raised.exception)))
 
 
 class Texts(Case):
