@@ -6,6 +6,7 @@ import gzip
 import io
 import os
 import subprocess
+import time
 from datetime import datetime, timedelta, timezone
 from pathlib import Path
 
@@ -15,6 +16,7 @@ from support import BASE, EXAMPLES, MADE, NOON, PROGRAM, ROOT, SETUP, TWO_CODES,
 from support import capture, frame_of, observations_at, point, second
 
 SESSION = {**SETUP, "codes": ["1C", "2W", "5X"]}
+PATIENCE = 6000  # tenths of a second
 
 
 def example(name: str) -> bytes:
@@ -106,6 +108,10 @@ class Inputs(Case):
                 rtcm2rinex.convert(links, **TWO_CODES)
             except rtcm2rinex.WorkError:
                 pass
+        waited = 0
+        while sorted(os.listdir("/dev/fd")) != before and waited < PATIENCE:  # a thread closes its end when it sees that nobody reads
+            time.sleep(0.1)
+            waited += 1
         self.assertEqual(sorted(os.listdir("/dev/fd")), before)
 
 

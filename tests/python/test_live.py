@@ -12,7 +12,7 @@ from rtcm2rinex import Converter, Counts, LateMessage
 from support import BASE, EXAMPLES, NOON, SETUP, TWO_CODES, Case, P, observations_at, second
 
 SESSION = {**SETUP, "codes": "1C,2W,5X", "window": 2}
-PATIENCE = 60.0  # seconds, for what must come
+PATIENCE = 600.0  # seconds, for what must come, however busy the machine is
 
 
 def first_record(converter: Converter) -> rtcm2rinex.Epoch:
