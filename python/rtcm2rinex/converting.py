@@ -1,0 +1,160 @@
+"""Conversions: `auto` finds the options in the captures, and `convert` takes them as they are given."""
+
+from __future__ import annotations
+
+import re
+import tempfile
+from dataclasses import dataclass
+from datetime import datetime
+from pathlib import Path
+from typing import Dict, List, Optional, Sequence, Tuple, Union, cast
+
+from .faults import PREFIX, CapturesError, FormError, NoRecordError
+from .inputs import PIECE, Input, Name, Readable, is_open, listed, word_of
+from .program import Location, Ran, fail, lines_of, run
+from .reports import COUNTS, Report, read_report
+from .words import Codes, Time, Value, code_word, gps_word, option_words, present, utc_word
+from .writing import Written, output_of
+
+SPAN = re.compile(r" from (\S{19}) until (\S{19}) by (\S+(?: of station \d+)?)(?: \(or (.*)\))?", re.ASCII)
+
+
+@dataclass(frozen=True)
+class Conversion(Written):
+    """A file that `convert` wrote, and its report."""
+
+    report: Report
+
+
+@dataclass(frozen=True)
+class Found:
+    """What `auto` found in the captures.
+
+    `first` and `last` are the GPS times of the first and the last epoch. `dated_by` names what dated them, such as `1013`, `1029 of
+    station 7` or `--near`. A 1019 names the week only modulo 1,024, and then `other_dates` has the days 1,024 weeks before and after.
+
+    `convert` is the command of the shell that writes the same file, and `label` the command that labels it, or None. `notes` has the
+    lines of the program about what is not in the file, such as `late 3: ..` or `untaken GLONASS 1012 83`.
+    """
+
+    first: datetime
+    last: datetime
+    dated_by: str
+    other_dates: Tuple[str, ...]
+    convert: str
+    label: Optional[str]
+    notes: Tuple[str, ...]
+
+
+@dataclass(frozen=True)
+class AutoConversion(Conversion):
+    """A file that `auto` wrote, its report, and what `auto` found in the captures."""
+
+    found: Found
+
+
+def convert_words(station: int, near: Time, made: Optional[Time], marker: str, codes: Codes, window: int, msm: int) -> List[str]:
+    """The words of `convert` before its links."""
+    return ["convert", *option_words({"station": station, "near": gps_word(near), "made": utc_word(made or present()), "marker": marker,
+        "codes": code_word(codes), "window": window, "msm": msm})]
+
+
+def convert(links: Union[Input, Sequence[Input]], *, station: int, near: Time, marker: str, codes: Codes, made: Optional[Time] = None,
+            window: int = 64, msm: int = 4, output: Optional[Name] = None, force: bool = False,
+            program: Optional[Location] = None) -> Conversion:
+    """Converts the captures of one station by the options that you give.
+
+    `links` is one capture or several, each a name or an open binary file, and each a link. `station` is the ID of the reference
+    station, and `near` a GPS time within half a week of all messages. `marker` names the marker, and `codes` lists the signals, as
+    `"1C,2W"` or `["1C", "2W"]`. `made` is the UTC time of making, or the present time if it is not given. `window` is how many epochs
+    are kept open, and `msm` which MSM is converted beside the 1004. A time is a `datetime` or a text such as `2024-05-17T12:00:00`.
+
+    The file goes to `output`, which gets its name when it is whole, or else into `text` of the result. A file that is there is
+    replaced only with `force`.
+
+    Raises `WorkError` or `WordsError` if the program ends with a fault, and `FileExistsError` if `output` is there.
+    """
+    given = listed(links)
+    words = convert_words(station, near, made, marker, codes, window, msm)
+    with output_of(output, force, given) as file:
+        ran = run(program, words, given, out=file)
+        report = read_report(lines_of(ran.told))
+    return Conversion(None if output is not None else ran.out, None if output is None else Path(output), report)
+
+
+def auto(captures: Union[Input, Sequence[Input]], *, output: Optional[Name] = None, force: bool = False, label: bool = False,
+         near: Optional[Time] = None, made: Optional[Time] = None, marker: Optional[str] = None, station: Optional[int] = None,
+         codes: Optional[Codes] = None, msm: Optional[int] = None, window: Optional[int] = None, links_as_given: bool = False,
+         skip_empty: bool = False, report: bool = True, program: Optional[Location] = None) -> AutoConversion:
+    """Converts the captures of one station, and finds the options of `convert` in them.
+
+    `captures` is one capture or several, in any order, each a name or an open binary file. The program reads each capture twice, so an
+    open file is first copied into a temporary file. The options are those of the command `auto`, and an option that is given is not
+    looked for. Without `report` the lists of late, conflicting and refused messages stay empty. `label` needs `output`.
+
+    The file goes to `output`, which gets its name when it is whole, or else into `text` of the result. A file that is there is
+    replaced only with `force`.
+
+    Raises `CapturesError` if the captures do not tell enough, `NoRecordError` if the file is a header alone, and `WorkError` or
+    `WordsError` for other faults.
+    """
+    options: Dict[str, Value] = {"output": None if output is None else str(Path(output)), "force": force, "label": label,
+        "near": gps_word(near), "made": utc_word(made), "marker": marker, "station": station, "codes": code_word(codes), "msm": msm,
+        "window": window, "links_as_given": links_as_given, "skip_empty": skip_empty, "report": report}
+    with tempfile.TemporaryDirectory(prefix="rtcm2rinex-") as folder:
+        given = [named(it, Path(folder), number) for number, it in enumerate(listed(captures), 1)]
+        ran = run(program, ["auto", *option_words(options)], given, accepted=(0, 3), third=CapturesError)
+    return conversion_of(ran, output)
+
+
+def named(given: Input, folder: Path, number: int) -> Name:
+    """The name of a capture, or of a copy of an open file."""
+    if not is_open(given):
+        if "\n" in word_of(cast(Name, given)):
+            raise ValueError("the name of a capture has a line feed, so what auto says of it cannot be read back")
+        return cast(Name, given)
+    copy = folder / f"{number}.rtcm"
+    with open(copy, "wb") as file:
+        while piece := cast(Readable, given).read(PIECE):
+            file.write(piece)
+    return copy
+
+
+def conversion_of(ran: Ran, output: Optional[Name]) -> AutoConversion:
+    """What `auto` wrote and said. Status 3 is a fault, also if the file is a header alone."""
+    lines = lines_of(ran.told)
+    if ran.status == 3 and not lines[0].startswith(" from "):
+        fail(ran.status, ran.told, CapturesError)
+    if ran.status == 3:
+        lines.pop()
+    begin = first_line(lines, ("link ", "frames "))
+    end = first_line(lines, (COUNTS[-1],)) + 1
+    report = read_report(lines[begin:end], begin + 1)
+    for number, line in enumerate(lines[end:], end + 1):
+        if not line.startswith(" "):
+            raise FormError(number, f"{line!r} is no note of auto")
+    found = found_of(lines[:begin], tuple(line[1:] for line in lines[end:]))
+    conversion = AutoConversion(None if output is not None else ran.out, None if output is None else Path(output), report, found)
+    if ran.status == 3:
+        raise NoRecordError(ran.status, ran.told, conversion)
+    return conversion
+
+
+def first_line(lines: Sequence[str], starts: Tuple[str, ...]) -> int:
+    """The place of the first line that begins so."""
+    for at, line in enumerate(lines):
+        if line.startswith(starts):
+            return at
+    raise FormError(len(lines) + 1, f"no line begins with {starts[-1]!r}")
+
+
+def found_of(lines: Sequence[str], notes: Tuple[str, ...]) -> Found:
+    """What the lines before the report say."""
+    match = SPAN.fullmatch(lines[0])
+    if match is None:
+        raise FormError(1, f"{lines[0]!r} has no first and last epoch")
+    commands = list(lines[1:])
+    label = commands.pop() if commands and commands[-1].startswith("rtcm2rinex label ") else None
+    others = tuple(match[4].split(", ")) if match[4] else ()
+    first, last = (datetime.fromisoformat(it) for it in (match[1], match[2]))
+    return Found(first, last, match[3], others, "\n".join(commands), label, notes)

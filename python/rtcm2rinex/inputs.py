@@ -1,0 +1,147 @@
+"""What a run of the program reads: files by their names, and open files through pipes."""
+
+from __future__ import annotations
+
+import os
+import subprocess
+import threading
+from types import TracebackType
+from typing import List, Optional, Protocol, Sequence, Tuple, Type, Union, cast
+
+PIECE = 65_536  # bytes
+PATIENCE = 1.0  # seconds to wait for a file that is no longer needed
+
+
+class Readable(Protocol):
+    """An open binary file: its method `read` gives at most so many bytes, and none at the end."""
+
+    def read(self, __size: int) -> bytes:
+        """Gives at most so many bytes."""
+
+
+Name = Union[str, "os.PathLike[str]"]
+Input = Union[str, "os.PathLike[str]", Readable]
+
+
+def is_open(given: Input) -> bool:
+    """Whether this is an open file and no name."""
+    return hasattr(given, "read")
+
+
+def word_of(name: Name) -> str:
+    """The name as a word of the command line, where it is neither an option nor standard input."""
+    text = os.fspath(name)
+    return f"./{text}" if text.startswith("-") or text == "stdin" else text
+
+
+def listed(given: Union[Input, Sequence[Input]]) -> List[Input]:
+    """One input or several, as a list."""
+    if isinstance(given, (str, os.PathLike)) or is_open(cast(Input, given)):
+        return [cast(Input, given)]
+    return list(cast(Sequence[Input], given))
+
+
+def write_all(descriptor: int, piece: bytes) -> None:
+    """Writes all of these bytes."""
+    left = memoryview(piece)
+    while left:
+        left = left[os.write(descriptor, left) :]
+
+
+class Pipe:
+    """A pipe that the program reads. Each end is closed once."""
+
+    def __init__(self) -> None:
+        self.reading, self.writing = os.pipe()
+
+    def close_reading(self) -> None:
+        """Closes the end of the program, which has a copy of it."""
+        if self.reading >= 0:
+            os.close(self.reading)
+        self.reading = -1
+
+    def close_writing(self) -> None:
+        """Closes the other end, so that the program comes to the end of its input."""
+        if self.writing >= 0:
+            os.close(self.writing)
+        self.writing = -1
+
+
+class Pump(threading.Thread):
+    """Copies an open file into a pipe, while the program reads the pipe."""
+
+    def __init__(self, source: Readable) -> None:
+        super().__init__(daemon=True)
+        self.source, self.pipe = source, Pipe()
+        self.fault: Optional[BaseException] = None
+
+    def run(self) -> None:
+        """Copies to the end. A program that has ended reads no more, which is no fault here."""
+        try:
+            while piece := self.source.read(PIECE):
+                write_all(self.pipe.writing, piece)
+        except BrokenPipeError:
+            pass
+        except BaseException as fault:  # `finish` raises it where the caller is
+            self.fault = fault
+        finally:
+            self.pipe.close_writing()
+
+
+class Inputs:
+    """The inputs of one run. The first open file is standard input, and each further one a pipe that the program opens by its number."""
+
+    def __init__(self, given: Sequence[Input]) -> None:
+        self.pumps: List[Pump] = []
+        self.words: List[str] = []
+        self.has_begun = False
+        try:
+            for it in given:
+                self.words.append(self.open_word(cast(Readable, it)) if is_open(it) else word_of(cast(Name, it)))
+        except BaseException:
+            self.close()
+            raise
+
+    def open_word(self, source: Readable) -> str:
+        """The word by which the program opens this file."""
+        self.pumps.append(Pump(source))
+        return f"/dev/fd/{self.pumps[-1].pipe.reading}" if len(self.pumps) > 1 else "stdin"
+
+    @property
+    def standard(self) -> int:
+        """What the program gets as standard input."""
+        return self.pumps[0].pipe.reading if self.pumps else subprocess.DEVNULL
+
+    @property
+    def passed(self) -> Tuple[int, ...]:
+        """The pipes that the program gets beside standard input."""
+        return tuple(pump.pipe.reading for pump in self.pumps[1:])
+
+    def begin(self) -> None:
+        """Begins to copy, once the program has the ends that it reads."""
+        self.has_begun = True
+        for pump in self.pumps:
+            pump.pipe.close_reading()
+            pump.start()
+
+    def finish(self) -> None:
+        """Waits until all is copied, and raises the fault of an open file that could not be read."""
+        for pump in self.pumps:
+            pump.join()
+            if pump.fault:
+                raise pump.fault
+
+    def __enter__(self) -> Inputs:
+        return self
+
+    def __exit__(self, kind: Optional[Type[BaseException]], fault: Optional[BaseException], trace: Optional[TracebackType]) -> None:
+        self.close()
+
+    def close(self) -> None:
+        """Closes all ends. Once a program has ended, a thread closes its end with its next write, and may wait for its file until then."""
+        for pump in self.pumps:
+            pump.pipe.close_reading()
+            if self.has_begun:
+                pump.join(PATIENCE)
+            else:
+                pump.pipe.close_writing()

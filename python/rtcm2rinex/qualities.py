@@ -1,0 +1,136 @@
+"""The numbers of a file, which the program gives as JSON."""
+
+from __future__ import annotations
+
+import json
+from dataclasses import dataclass
+from datetime import datetime
+from typing import Any, Dict, List, Optional, Tuple
+
+from .faults import FileError, FormError
+from .inputs import Input
+from .program import Location, run
+from .reports import moment_of
+
+
+@dataclass(frozen=True)
+class CodeQuality:
+    """The numbers of a code, of one satellite or over all satellites that have the code (`satellite` is None).
+
+    The code has `phases` of the `possible` phases, which are `percent` of them. `ranges_only` counts the ranges without a phase.
+    `slips`, `rises` and `half_cycles` count marks, as the manual defines them. The three strengths are in dB-Hz. A number that does
+    not exist is None, as `phases_per_slip` without a slip.
+    """
+
+    satellite: Optional[str]
+    code: str
+    phases: int
+    possible: int
+    percent: Optional[float]
+    ranges_only: int
+    slips: int
+    rises: int
+    half_cycles: int
+    phases_per_slip: Optional[int]
+    least_strength: Optional[float]
+    mean_strength: Optional[float]
+    greatest_strength: Optional[float]
+
+
+@dataclass(frozen=True)
+class Pass:
+    """A pass of a satellite: the GPS times of its first and its last phase, and its phases and slips over all codes."""
+
+    satellite: str
+    first: datetime
+    last: datetime
+    phases: int
+    slips: int
+
+
+@dataclass(frozen=True)
+class Quality:
+    """The numbers of a file.
+
+    `first` and `last` are the GPS times of the first and the last record, and `interval` is the most frequent step in seconds (s).
+    `records` and `missing` count the records and the missing epochs. `satellites` counts the satellites of the file, and the next
+    three numbers say how many satellites a record has. A file without records has only `marker` and `records`, and all else is None
+    or empty.
+
+    `codes` has the numbers of each code over all satellites, and `satellite_codes` the numbers of each code of each satellite. `never`
+    has the satellites and codes without any value. `passes` has the passes of all satellites.
+    """
+
+    marker: str
+    records: int
+    first: Optional[datetime]
+    last: Optional[datetime]
+    interval: Optional[float]
+    missing: Optional[int]
+    satellites: Optional[int]
+    least_satellites: Optional[int]
+    mean_satellites: Optional[float]
+    greatest_satellites: Optional[int]
+    codes: Tuple[CodeQuality, ...]
+    satellite_codes: Tuple[CodeQuality, ...]
+    never: Tuple[Tuple[str, str], ...]
+    passes: Tuple[Pass, ...]
+
+
+def quality(file: Input, *, program: Optional[Location] = None) -> Quality:
+    """Counts the phases, slips, strengths and passes of a RINEX file of this program. `file` is a name or an open binary file.
+
+    Raises `FileError` if the file is not as the program writes it, and `WorkError` if it cannot be read.
+    """
+    return read_quality(run(program, ["quality", "--json"], [file], third=FileError).text())
+
+
+def read_quality(text: str) -> Quality:
+    """Reads the JSON of `quality`."""
+    try:
+        first, *rows = json.loads(text)
+        rows_of: Dict[str, List[Any]] = {"code": [], "satellite": [], "never": [], "pass": []}
+        for row in rows:
+            rows_of[row["line"]].append(row)
+        codes, satellite_codes = (tuple(map(code_of, rows_of[it])) for it in ("code", "satellite"))
+        never = tuple((row["satellite"], row["code"]) for row in rows_of["never"])
+        return Quality(**file_of(first), codes=codes, satellite_codes=satellite_codes, never=never,
+            passes=tuple(map(pass_of, rows_of["pass"])))
+    except (ValueError, KeyError, TypeError) as fault:
+        raise FormError(1, f"the JSON of quality has another form: {fault!r}") from fault
+
+
+def part_of(number: Optional[int], parts: int) -> Optional[float]:
+    """A whole number of such parts of a unit, in this unit."""
+    return None if number is None else number / parts
+
+
+def file_of(row: Dict[str, Any]) -> Dict[str, Any]:
+    """The numbers of the whole file. Without records there are only two."""
+    if row["records"] == 0:
+        absent = ("first", "last", "interval", "missing", "satellites", "least_satellites", "mean_satellites", "greatest_satellites")
+        return {"marker": row["marker"], "records": 0, **dict.fromkeys(absent)}
+    same = ("marker", "records", "missing", "satellites", "least_satellites", "greatest_satellites")
+    return {**{name: row[name] for name in same}, "first": moment_of(row["from"]), "last": moment_of(row["until"]),
+        "interval": part_of(row["interval_ms"], 1000), "mean_satellites": part_of(row["mean_satellites_tenths"], 10)}
+
+
+def code_of(row: Dict[str, Any]) -> CodeQuality:
+    """The numbers of a code."""
+    same = ("code", "phases", "possible", "ranges_only", "slips", "rises", "half_cycles", "phases_per_slip")
+    return CodeQuality(
+        satellite=row.get("satellite"),
+        percent=part_of(row["percent_tenths"], 10),
+        least_strength=part_of(row["least_strength_millidbhz"], 1000),
+        mean_strength=part_of(row["mean_strength_centidbhz"], 100),
+        greatest_strength=part_of(row["greatest_strength_millidbhz"], 1000),
+        **{name: row[name] for name in same},
+    )
+
+
+def pass_of(row: Dict[str, Any]) -> Pass:
+    """A pass of a satellite."""
+    first, last = moment_of(row["from"]), moment_of(row["until"])
+    if first is None or last is None:
+        raise ValueError("a pass has no time")
+    return Pass(row["satellite"], first, last, row["phases"], row["slips"])

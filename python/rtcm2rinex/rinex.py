@@ -1,0 +1,174 @@
+"""Reads the RINEX files that the program writes: their headers, their records, and their observations as rows.
+
+A text that is not of the program's form is a fault with the number of its first wrong line, as `check` and `quality` name it.
+"""
+
+from __future__ import annotations
+
+import re
+from contextlib import contextmanager
+from datetime import datetime
+from typing import Iterator, List, NamedTuple, Optional, Protocol, Tuple, Union, cast
+
+from .faults import FormError
+from .headers import Header, Lines, digits_in, moment_in, read_header
+from .inputs import Name
+
+CELL = 48  # columns of range, phase and strength
+VALUE = r"( {0,10}-?[0-9]{1,10}\.[0-9]{3})"
+VALUES = re.compile(rf"(?:{VALUE} ([1-9 ])| {{16}})(?:{VALUE}([ 123])([1-9 ])| {{16}})(?:{VALUE}  | {{16}})")
+EPOCH = re.compile(r"> ([0-9]{4}) ([0-9]{2}) ([0-9]{2}) ([0-9]{2}) ([0-9]{2})(.{11})  0(.{3})")
+SATELLITE = re.compile("G(?:0[1-9]|[12][0-9]|3[0-2])")
+
+
+class ReadableLines(Protocol):
+    """An open binary file that is read line by line."""
+
+    def readline(self, __limit: int) -> bytes:
+        """Gives the next line, or at most so many bytes of it."""
+
+
+class Observation(NamedTuple):
+    """What the file has of one satellite and code at one epoch. A value that the file lacks is None."""
+
+    time: datetime
+    """The GPS time of the epoch, without a time zone."""
+    satellite: str
+    """The satellite, such as `G05`."""
+    code: str
+    """The signal, such as `1C`."""
+    range: Optional[float]
+    """The pseudorange in metres (m)."""
+    phase: Optional[float]
+    """The carrier phase in cycles of its carrier."""
+    strength: Optional[float]
+    """The carrier-to-noise density ratio C/N0 in dB-Hz."""
+    loss_of_lock: bool
+    """Whether bit 0 of the loss-of-lock digit is set: the receiver lost count of the cycles since the phase before."""
+    half_cycle: bool
+    """Whether bit 1 of the loss-of-lock digit is set: the phase may be wrong by half a cycle."""
+
+
+class Epoch(NamedTuple):
+    """A record of a file: the GPS time of the epoch, and its observations in the order of the file."""
+
+    time: datetime
+    observations: Tuple[Observation, ...]
+
+
+@contextmanager
+def opened(file: Union[Name, ReadableLines]) -> Iterator[ReadableLines]:
+    """The open file, or one that is opened by its name and closed at the end."""
+    if hasattr(file, "readline"):
+        yield cast(ReadableLines, file)
+    else:
+        with open(cast(Name, file), "rb") as named:
+            yield named
+
+
+def header(file: Union[Name, ReadableLines]) -> Header:
+    """Reads the header of a RINEX file of this program.
+
+    `file` is a name or an open binary file. Raises `FormError` if the header is not as the program writes it.
+    """
+    with opened(file) as text:
+        return read_header(Lines(text.readline))
+
+
+def epochs(file: Union[Name, ReadableLines]) -> Iterator[Epoch]:
+    """Gives the records of a RINEX file of this program, one after another, so that a long file takes little memory.
+
+    `file` is a name or an open binary file, also of `gzip.open`. Raises `FormError` at the first line that is not as the program
+    writes it, after the records above this line.
+    """
+    with opened(file) as text:
+        lines = Lines(text.readline)
+        yield from read_epochs(lines, read_header(lines))
+
+
+def observations(file: Union[Name, ReadableLines]) -> Iterator[Observation]:
+    """Gives the observations of a RINEX file of this program as rows, in the order of the file.
+
+    A row has one satellite and code at one epoch: `time` (GPS time), `satellite`, `code`, `range` (m), `phase` (cycles), `strength`
+    (dB-Hz), `loss_of_lock` and `half_cycle`. A code without any value has no row.
+
+    `file` is a name or an open binary file. Raises `FormError` as `epochs` does.
+    """
+    for epoch in epochs(file):
+        yield from epoch.observations
+
+
+def read_epochs(lines: Lines, head: Header) -> Iterator[Epoch]:
+    """The records behind a header. The first is at the time of first observation, and each other is later than the one before."""
+    last: Optional[datetime] = None
+    while (line := lines.next_or_end()) is not None:
+        time, count = epoch_line(lines, line)
+        lines.want(time == head.first if last is None else time > last, "C4 Order")
+        last, satellite, rows = time, "", []
+        for _ in range(count):
+            line = lines.next()
+            satellite = satellite_of(lines, line, satellite, len(head.codes))
+            rows += cells_of(lines, line, time, head.codes)
+        yield Epoch(time, tuple(rows))
+
+
+def epoch_line(lines: Lines, line: str) -> Tuple[datetime, int]:
+    """The time of an epoch line, and its count of satellite lines."""
+    match = EPOCH.fullmatch(line)
+    time = moment_in(match.groups()[:5], match[6]) if match else None
+    count = digits_in(match[7]) if match else None
+    if time is None or count is None or not 1 <= count <= 32:
+        raise lines.fault("C2 Columns")
+    return time, count
+
+
+def satellite_of(lines: Lines, line: str, before: str, codes: int) -> str:
+    """The satellite of a line, which is greater than the one before."""
+    satellite = line[:3]
+    lines.want(SATELLITE.fullmatch(satellite) and not line.endswith(" ") and len(line) <= 3 + CELL * codes, "C2 Columns")
+    lines.want(satellite > before, "C4 Order")
+    return satellite
+
+
+def cells_of(lines: Lines, line: str, time: datetime, codes: Tuple[str, ...]) -> List[Observation]:
+    """The observations of a satellite line, of which there is at least one."""
+    columns = line[3:].ljust(CELL * len(codes))
+    rows = []
+    for at, code in enumerate(codes):
+        cell = columns[CELL * at : CELL * at + CELL]
+        if cell.strip(" "):
+            rows.append(Observation(time, line[:3], code, *values_of(lines, cell)))
+    lines.want(rows, "C3 Value")
+    return rows
+
+
+def values_of(lines: Lines, cell: str) -> Tuple[Optional[float], Optional[float], Optional[float], bool, bool]:
+    """Range, phase, strength and the two marks of the columns of a code."""
+    match = VALUES.fullmatch(cell)
+    if match is None:
+        raise lines.fault("C3 Value")
+    value, digit, phase, marks, phase_digit, strength = match.groups()
+    due = strength_digit(lines, strength)
+    lines.want(digit in (None, due) and phase_digit in (None, due), "C3 Value")
+    mark = int(marks or 0) if marks != " " else 0
+    return number_of(lines, value), number_of(lines, phase), number_of(lines, strength), bool(mark & 1), bool(mark & 2)
+
+
+def strength_digit(lines: Lines, strength: Optional[str]) -> str:
+    """The digit of a strength in steps of 6 dB-Hz. A strength is from 0.25 to 63.75 dB-Hz, in steps of 0.25."""
+    if strength is None:
+        return " "
+    thousandths = int(strength.replace(".", ""))
+    lines.want(250 <= thousandths <= 63_750 and thousandths % 250 == 0, "C3 Value")
+    return str(min(max(thousandths // 6000, 1), 9))
+
+
+def number_of(lines: Lines, columns: Optional[str]) -> Optional[float]:
+    """The number of these 14 columns, which is not 0 and has no 0 before its other digits."""
+    if columns is None:
+        return None
+    text = columns.lstrip(" ")
+    number = float(text)
+    digits = text.lstrip("-")
+    lines.want(len(columns) == 14 and number != 0 and (digits[0] != "0" or digits[1] == "."), "C3 Value")
+    return number
