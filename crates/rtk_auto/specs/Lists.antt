@@ -5,7 +5,7 @@ use Rattle.rtk_message.specs.declared.any_fault.AnyFault.{AnyFault}
 use Rattle.rtk_message.specs.declared.any_message.AnyMessage.{AnyMessage}
 use Rattle.rtk_message.specs.declared.msm_kind.MsmKind.{MsmKind}
 use Rattle.rtk_message.specs.declared.msm_kind.MsmKind.TheVariants.{Msm4, Msm5, Msm6, Msm7}
-use Rattle.rtk_message.specs.MsmForm.{number_of_kind}
+use Rattle.rtk_message.specs.Systems.{number_of_kind}
 use Rattle.rtk_message.specs.ShellText.{sh_quoted}
 use Rattle.rtk_summary.specs.Counting.{count_of}
 use Rattle.rtk_summary.specs.Tracing.{is_numbered, is_other}

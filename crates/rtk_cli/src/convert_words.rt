@@ -1,7 +1,7 @@
 //! The words of `convert`: what its options and links say.
 
 ghost use Rattle.std.specs.Prelude.{◌≡◌, ◌+◌, map, IfOk, IfErr, Decides};
-ghost use Rattle.rtk_message.specs.MsmForm.{number_of_kind};
+ghost use Rattle.rtk_message.specs.Systems.{number_of_kind};
 ghost use Rattle.rtk_args.specs.Requests.{number_of_msm};
 ghost use Rattle.rtk_cli.specs.Steps.ConvertWords.{SaysConversion, RefusesConversion};
 ghost use Rattle.rtk_cli.specs.Words.{AreLinkNames, IsWithinLimits};

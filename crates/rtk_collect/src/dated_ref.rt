@@ -113,7 +113,7 @@ impl<'a> DatedRef<'a> {
     {
         match self.message {
             Borrowed::Message(message) => message.number(),
-            Borrowed::Msm(message) => message.kind.number(),
+            Borrowed::Msm(message) => message.msm_type().number(),
         }
     }
 

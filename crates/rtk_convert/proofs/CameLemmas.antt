@@ -9,7 +9,7 @@ use Rattle.rtk_message.specs.declared.any_fault.AnyFault.TheVariants.{NoNumber, 
 use Rattle.rtk_message.specs.Accepted.{only, accepts}
 use Rattle.rtk_message.specs.AnyDecoded.{Encodes, DecodesBy, number_of, station_of, tow_of}
 use Rattle.rtk_bits.specs.Bits.{bits}
-use Rattle.std.specs.Prelude.{IsTrue}
+use Rattle.std.specs.Prelude.{IfOk, IsTrue}
 use Rattle.rtk_collect.specs.Arrival.{Arrival, At}
 use Rattle.rtk_convert.specs.declared.frame_class.FrameClass.{FrameClass}
 use Rattle.rtk_convert.specs.declared.frame_class.FrameClass.TheVariants.{OtherMessage, Refused, Foreign, Dated}
@@ -21,6 +21,7 @@ use Rattle.rtk_convert.specs.Kept.{and_came, came_of}
 use Rattle.rtk_convert.specs.ReadHistory.{Read, IsAfterPiece, IsHistoryOf, AllClosed, bytes_of}
 use Rattle.rtk_convert.specs.ReadSteps.{read_of}
 use Rattle.rtk_convert.specs.Setup.{SetupView}
+use Rattle.rtk_convert.specs.Steps.TakenMessage.{IsTakenMessage}
 use Rattle.rtk_convert.proofs.RunLemmas.{length-links}
 
 -- ---- the messages among found frames
@@ -50,6 +51,11 @@ message-by s payload epoch m (Err fault) d c = absurd (fault-not fault (At epoch
 message-by s payload epoch m (Ok n) d c =
     subst (λ (x : Message). Encodes (bits payload) x × IsTrue (accepts (only s.msm) (number_of x)) × (station_of x ≡ s.station) × IsEpochOf s.near (tow_of x) epoch)
     (sym c.1.0) (d.message, d.accepted, c.0, c.1.1)
+
+-- a message that is read is one that the setup takes
+pub taken-by : (s : SetupView) (payload : List ℕ) (r : Result Message AnyFault) → DecodesBy (only s.msm) (bits payload) r → IfOk r (λ m. IsTakenMessage s m)
+taken-by s payload (Ok m) d = record { valid = d.message.valid; taken = d.accepted }
+taken-by s payload (Err fault) d = tt
 
 is-message : (s : SetupView) (payload : List ℕ) (a : Arrival) → IsClassOfPayload s payload (Dated a) → IsMessageIn s payload a
 is-message s payload (At epoch m) p = message-by s payload epoch m p.0 p.1 p.2

@@ -5,6 +5,7 @@ pub mod ShownCells
 pub mod ClosedText
 pub mod OfferLines
 pub mod AddedMessage
+pub mod TakenMessage
 pub mod AcceptedFrame
 pub mod Closing
 pub mod LinkFrames

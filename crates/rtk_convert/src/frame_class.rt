@@ -3,8 +3,9 @@
 ghost use Rattle.std.specs.Prelude.{◌<◌, IfOk};
 ghost use Rattle.rtk_bits.specs.Bits.{bits};
 ghost use Rattle.rtk_message.specs.Accepted.{only};
-ghost use Rattle.rtk_message.specs.AnyDecoded.{DecodesBy, IsValid};
+ghost use Rattle.rtk_message.specs.AnyDecoded.{DecodesBy};
 ghost use Rattle.rtk_convert.specs.FrameClass.{IsDatedMessage, IsClassOfReading};
+ghost use Rattle.rtk_convert.specs.Steps.TakenMessage.{IsTakenMessage};
 
 use crate::setup::Setup;
 use rtk_collect::DatedRef;
@@ -39,7 +40,7 @@ pub(crate) fn read_message<'a>(
 // Returns a message with its epoch, which is the moment of its time of week that is nearest to the
 // reference.
 fn dated_message<'a>(setup: &Setup, message: &'a AnyMessage) -> DatedRef<'a>
-    requires { IsValid message.now }
+    requires { IsTakenMessage setup.now message.now }
     ensures { IsDatedMessage setup.now message.now result }
 {
     let Some(tow) = message.tow() else {
@@ -55,7 +56,7 @@ pub(crate) fn classify<'a>(
     setup: &Setup,
     reading: &'a Result<AnyMessage, AnyFault>,
 ) -> FrameClass<'a>
-    requires { IfOk reading.now IsValid }
+    requires { IfOk reading.now (λ m. IsTakenMessage setup.now m) }
     ensures { IsClassOfReading setup.now reading.now result }
 {
     match reading {

@@ -2,7 +2,7 @@
 
 ghost use Rattle.std.specs.Prelude.{◌≡◌, ◌≤◌, ◌<◌, ◌+◌, ◌*◌, ◌^◌, ◌||◌, ℕ, List, [], ◌∷◌, ◌++◌, length, get_or, is_some, IfOk};
 ghost use Rattle.rtk_message.specs.declared.any_message.AnyMessage.{AnyMessage};
-ghost use Rattle.rtk_message.specs.MsmForm.{number_of_kind};
+ghost use Rattle.rtk_message.specs.Systems.{number_of_kind};
 ghost use Rattle.rtk_obs.specs.declared.cell.CellEntry.{CellEntry};
 ghost use Rattle.rtk_summary.specs.Counting.{shown_count};
 ghost use Rattle.rtk_summary.specs.Standing.{one_if};

@@ -1,13 +1,14 @@
 -- Bits begin with at most one message of the wider set, and have no fault if they begin with one.
 -- What `decode` answers is the case of 1004, 1005, 1006 and 1074.
-use Rattle.std.proofs.Common.{◌≡◌, ◌≢◌, ℕ, ◌^◌, ◌<◌, ◌≤◌, Bool, true, false, List, ◌++◌, length, take, drop, Option, Some, None, Result, Ok, Err, refl, sym, ap, ◌∙◌, append_assoc, arith, length-append, ltb, inl, inr}
-use Rattle.std.specs.Prelude.{IfOk, IfErr, IsTrue, ◌==◌, if◌then◌else◌}
-use Rattle.std.proofs.lemmas.Bool.{le-ltb}
+use Rattle.std.proofs.Common.{◌≡◌, ℕ, ◌^◌, ◌<◌, Bool, true, false, List, ◌++◌, length, take, drop, Option, Some, None, Result, Ok, Err, refl, sym, ap, subst, ◌∙◌, append_assoc, arith, length-append, ltb}
+use Rattle.std.specs.Prelude.{IfSome, IfOk, IfErr, IsTrue, if◌then◌else◌}
+use Rattle.std.proofs.lemmas.Bool.{le-ltb, ltb-true}
 use Rattle.std.proofs.lemmas.List.{take_at, drop_at}
 use Rattle.std.proofs.Math.Nat.{mod-eq_of_lt}
 use Rattle.rtk_bits.specs.Bits.{unsigned, bits_of}
 use Rattle.rtk_bits.proofs.PublicLaws.{length-bits_of, unsigned-bits_of}
 use Rattle.rtk_message.specs.declared.accepted.Accepted.{Accepted}
+use Rattle.rtk_message.specs.declared.accepted.MsmKinds.{MsmKinds}
 use Rattle.rtk_message.specs.declared.any_fault.AnyFault.{AnyFault}
 use Rattle.rtk_message.specs.declared.any_fault.AnyFault.TheVariants.{NoNumber, Other, Short, EpochRange, TooManyCells}
 use Rattle.rtk_message.specs.declared.any_message.AnyMessage.{AnyMessage}
@@ -15,44 +16,28 @@ use Rattle.rtk_message.specs.declared.any_message.AnyMessage.TheVariants.{Messag
 use Rattle.rtk_message.specs.declared.fault.DecodeFault.{DecodeFault}
 use Rattle.rtk_message.specs.declared.fault.DecodeFault.TheVariants as fault
 use Rattle.rtk_message.specs.declared.message.Message as declared_message
-use Rattle.rtk_message.specs.declared.msm_kind.MsmKind.{MsmKind}
-use Rattle.rtk_message.specs.declared.msm_kind.MsmKind.TheVariants.{Msm4, Msm5, Msm6, Msm7}
-use Rattle.rtk_message.specs.Accepted.{accepts, four}
+use Rattle.rtk_message.specs.declared.message.Message.TheVariants as message
+use Rattle.rtk_message.specs.declared.msm_type.MsmType.{MsmType}
+use Rattle.rtk_message.specs.declared.system.System.{System}
+use Rattle.rtk_message.specs.declared.system.System.TheVariants.{Gps}
+use Rattle.rtk_message.specs.Accepted.{of_gps, accepts, four, takes}
 use Rattle.rtk_message.specs.AnyFaultCode.{any_fault_of}
-use Rattle.rtk_message.specs.Fields.{bits_of_fields}
+use Rattle.rtk_message.specs.Fields.{week_ms, bits_of_fields}
 use Rattle.rtk_message.specs.Decoded as decoded
 use Rattle.rtk_message.specs.MsmForm as form
-use Rattle.rtk_message.specs.AnyDecoded.{number_of, fields_after_number, IsValid, Encodes, DecodesBy, any_of, if_any_fault_of, fault_after_number, fault_by, first_fault}
+use Rattle.rtk_message.specs.AnyDecoded.{number_of, tow_of, fields_after_number, IsValid, Encodes, DecodesBy, any_of, if_any_fault_of, fault_of_type, fault_after_number, fault_by, first_fault}
+use Rattle.rtk_message.specs.Systems.{number_of_type, is_in_week}
 use Rattle.rtk_message.specs.Steps.AfterNumber.{BeginsAfterNumber}
 use Rattle.rtk_message.specs.Steps.AfterAnyNumber.{BeginsAfterAnyNumber}
 use Rattle.rtk_message.proofs.DecodedLemmas as four_lemmas
 use Rattle.rtk_message.proofs.MsmLemmas as msm
+use Rattle.rtk_message.proofs.SystemsLemmas.{number-range, read_back, same_type, accepts-type, accepts-gps, four-takes}
 
 -- ---- the numbers
 
-kind_number : (k : MsmKind) → form.number_of_kind k < 2 ^ 12
-kind_number Msm4 = omega arith
-kind_number Msm5 = omega arith
-kind_number Msm6 = omega arith
-kind_number Msm7 = omega arith
-
 number_fits : (m : AnyMessage) → number_of m < 2 ^ 12
 number_fits (Message m) = four_lemmas.number_fits m
-number_fits (Msm m) = kind_number m.kind
-
--- a number has one kind
-kind_of : ℕ → MsmKind
-kind_of n = if n == 1075 then Msm5 else if n == 1076 then Msm6 else if n == 1077 then Msm7 else Msm4
-
-kind_of-number : (k : MsmKind) → kind_of (form.number_of_kind k) ≡ k
-unfolding kind_of
-kind_of-number Msm4 = refl
-kind_of-number Msm5 = refl
-kind_of-number Msm6 = refl
-kind_of-number Msm7 = refl
-
-same_kind : (j k : MsmKind) → form.number_of_kind j ≡ form.number_of_kind k → j ≡ k
-same_kind j k e = sym (kind_of-number j) ∙ ap kind_of e ∙ kind_of-number k
+number_fits (Msm m) = omega (arith, (number-range (form.type_of m)).1)
 
 -- ---- what follows the number decides
 
@@ -63,16 +48,13 @@ first_is a n left small =
     let same : unsigned (bits_of 12 n) ≡ n = unsigned-bits_of 12 n ∙ mod-eq_of_lt small in
     rw (long, take_at (bits_of 12 n) left 12 len, drop_at (bits_of 12 n) left 12 len, same) refl
 
--- the fault after the number of a 1075, 1076 or 1077
-pub wide_fault : (k : MsmKind) (bs : List Bool) → form.IsWide k → fault_after_number (form.number_of_kind k) bs ≡ form.first_fault k bs
-wide_fault Msm4 bs wide = absurd (omega (arith, wide))
-wide_fault Msm5 bs wide = refl
-wide_fault Msm6 bs wide = refl
-wide_fault Msm7 bs wide = refl
+-- the fault after the number of an MSM
+pub type_fault : (t : MsmType) (bs : List Bool) → fault_after_number (number_of_type t) bs ≡ form.first_fault t bs
+type_fault t bs = ap (λ (o : Option MsmType). fault_of_type o (number_of_type t) bs) (read_back t)
 
-pub fault_after_wide : {X : Type 0} (k : MsmKind) (bs : List Bool) (r : Result X AnyFault) → form.IsWide k → IfErr r (λ f. form.first_fault k bs ≡ Some f) → IfErr r (λ f. fault_after_number (form.number_of_kind k) bs ≡ Some f)
-fault_after_wide k bs (Ok x) wide f = tt
-fault_after_wide k bs (Err e) wide f = wide_fault k bs wide ∙ f
+pub fault_after_type : {X : Type 0} (t : MsmType) (bs : List Bool) (r : Result X AnyFault) → IfErr r (λ f. form.first_fault t bs ≡ Some f) → IfErr r (λ f. fault_after_number (number_of_type t) bs ≡ Some f)
+fault_after_type t bs (Ok x) f = tt
+fault_after_type t bs (Err e) f = type_fault t bs ∙ f
 
 -- ---- bits that begin with a message
 
@@ -82,9 +64,9 @@ starts {bs = bs} m s = four_lemmas.begins_with bs (number_of m) (fields_after_nu
 no_fault_after : (m : AnyMessage) (rest : List Bool) → IsValid m → fault_after_number (number_of m) (bits_of_fields (fields_after_number m) ++ rest) ≡ None
 no_fault_after (Message m) rest v =
     let few = four_lemmas.four_number m in
-    four_lemmas.same_fault_of_other (decoded.number_of m) (bits_of_fields (decoded.fields_after_number m) ++ rest) (λ e. omega (arith, few, e)) (λ e. omega (arith, few, e)) (λ e. omega (arith, few, e))
+    four_lemmas.same_fault_of_other (decoded.number_of m) (bits_of_fields (decoded.fields_after_number m) ++ rest) (λ t wide e. omega (arith, few, wide, e))
     ∙ ap if_any_fault_of (four_lemmas.no_fault_after_number m rest v)
-no_fault_after (Msm m) rest v = wide_fault m.kind (bits_of_fields (form.table m) ++ rest) v.wide ∙ msm.is_accepted m rest v.form
+no_fault_after (Msm m) rest v = type_fault (form.type_of m) (bits_of_fields (form.table m) ++ rest) ∙ msm.is_accepted m rest v.form
 
 no_fault : (a : Accepted) (bs : List Bool) (m : AnyMessage) → IsTrue (accepts a (number_of m)) → Encodes bs m → first_fault a bs ≡ None
 no_fault a bs m member s =
@@ -103,8 +85,8 @@ one bs (Message m) (Message n) s t = ap Message (four_lemmas.one bs m n (record 
 one bs (Message m) (Msm n) s t = absurd (omega (arith, same_number bs (Message m) (Msm n) s t, four_lemmas.four_number m, t.valid.wide))
 one bs (Msm m) (Message n) s t = absurd (omega (arith, same_number bs (Msm m) (Message n) s t, four_lemmas.four_number n, s.valid.wide))
 one bs (Msm m) (Msm n) s t =
-    let kinds : m.kind ≡ n.kind = same_kind m.kind n.kind (same_number bs (Msm m) (Msm n) s t) in
-    ap Msm (msm.is_unique m n s.begins.0 t.begins.0 kinds s.valid.form t.valid.form (same_bits bs (Msm m) (Msm n) s t))
+    let types : form.type_of m ≡ form.type_of n = same_type (form.type_of m) (form.type_of n) (same_number bs (Msm m) (Msm n) s t) in
+    ap Msm (msm.is_unique m n s.begins.0 t.begins.0 types s.valid.form t.valid.form (same_bits bs (Msm m) (Msm n) s t))
 
 -- the message of the set that the bits begin with is the answer
 only : (a : Accepted) (bs : List Bool) (r : Result AnyMessage AnyFault) → IfOk r (λ m. Encodes bs m) → IfErr r (λ f. first_fault a bs ≡ Some f) → (m : AnyMessage) → IsTrue (accepts a (number_of m)) → Encodes bs m → r ≡ Ok m
@@ -145,7 +127,7 @@ decodes_other a bs left n small is out = decodes_fault a bs (Other n) (rw is (fi
 
 -- ---- one of the four messages
 
--- the same reading after the number, of a number that is no 1075, 1076 or 1077
+-- the same reading after the number, of a number that is none of another MSM than 1074
 pub after_four : (k : ℕ) (bs : List Bool) (r : Result declared_message.Message DecodeFault) → IfOk r (λ m. BeginsAfterNumber k bs m) → IfOk (any_of r) (λ m. BeginsAfterAnyNumber k bs m)
 after_four k bs (Ok m) f = record { has_number = f.has_number; valid = f.valid; begins = f.begins }
 after_four k bs (Err e) f = tt
@@ -161,11 +143,10 @@ if_short false x = refl
 first_by_four : (bs : List Bool) → first_fault four bs ≡ if_any_fault_of (decoded.first_fault bs)
 first_by_four bs = rw (four_lemmas.fault_by_four (unsigned (take 12 bs)) (drop 12 bs)) (if_short (ltb (length bs) 12) (decoded.fault_after_number (unsigned (take 12 bs)) (drop 12 bs)))
 
-not_wide : (k : MsmKind) → form.IsWide k → IsTrue (accepts four (form.number_of_kind k)) → ⊥
-not_wide Msm4 wide member = omega (arith, wide)
-not_wide Msm5 wide member = cc
-not_wide Msm6 wide member = cc
-not_wide Msm7 wide member = cc
+not_wide : (t : MsmType) → form.IsWide t → IsTrue (accepts four (number_of_type t)) → ⊥
+not_wide t wide member =
+    let taken : takes four t ≡ true = sym (accepts-type four t) ∙ member in
+    cc (taken, four-takes t (λ e. omega (arith, wide, e)))
 
 pub by_four : (bs : List Bool) (r : Result declared_message.Message DecodeFault) → decoded.Decodes bs r → DecodesBy four bs (any_of r)
 by_four bs (Ok m) d =
@@ -201,7 +182,7 @@ pub each_by_four : (bs : List Bool) (r : Result AnyMessage AnyFault) → Decodes
 each_by_four bs (Ok (Message m)) d =
     let s : decoded.Encodes bs m = record { valid = d.message.valid; begins = d.message.begins } in
     (Ok m, refl, record { message = s; fault = tt; only = λ n t. ap Ok (four_lemmas.one bs m n s t) })
-each_by_four bs (Ok (Msm m)) d = absurd (not_wide m.kind d.message.valid.wide d.accepted)
+each_by_four bs (Ok (Msm m)) d = absurd (not_wide (form.type_of m) d.message.valid.wide d.accepted)
 each_by_four bs (Err f) d =
     let g = some_fault (decoded.first_fault bs) f (sym (first_by_four bs) ∙ d.fault) in
     (Err g.0, ap Err g.2, four_lemmas.decodes_fault bs g.0 g.1)
@@ -214,3 +195,15 @@ of_four bs (Err f) d =
     let g = some_fault (decoded.first_fault bs) (any_fault_of f) (sym (first_by_four bs) ∙ d.fault) in
     let same : f ≡ g.0 = same_fault f g.0 g.2 in
     four_lemmas.decodes_fault bs f (g.1 ∙ ap Some (sym same))
+
+-- ---- times of week
+
+-- the clock of a message of a set without MSM of other systems than GPS lies in a week
+pub in_week : (ks : MsmKinds) (m : AnyMessage) → IsValid m → IsTrue (accepts (of_gps ks) (number_of m)) → IfSome (tow_of m) (λ tow. tow < week_ms)
+in_week ks (Message (message.Obs1004 m)) valid member = valid.time_in_week
+in_week ks (Message (message.Arp1005 m)) valid member = tt
+in_week ks (Message (message.Arp1006 m)) valid member = tt
+in_week ks (Message (message.Msm1074 m)) valid member = valid.time_in_week
+in_week ks (Msm m) valid member =
+    let is_gps : m.system ≡ Gps = accepts-gps ks (form.type_of m) member in
+    ltb-true m.header.tow week_ms (subst (λ (s : System). is_in_week s m.header.tow ≡ true) is_gps valid.form.time_in_week)

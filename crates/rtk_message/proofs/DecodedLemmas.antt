@@ -1,7 +1,7 @@
 -- Bits begin with at most one message, and have no fault if they begin with one. Here alone, of these
 -- lemmas on readings, the types are told apart.
-use Rattle.std.proofs.Common.{◌≡◌, ◌≢◌, ℕ, ◌^◌, ◌<◌, ◌≤◌, Bool, true, false, inl, inr, List, ◌∷◌, ◌++◌, length, take, drop, Some, None, Result, Ok, Err, refl, sym, ap, ◌∙◌, append_assoc, arith, length-append, ltb}
-use Rattle.std.specs.Prelude.{IfOk, IfErr, IsTrue, ◌==◌, if◌then◌else◌}
+use Rattle.std.proofs.Common.{◌≡◌, ◌≢◌, ℕ, ◌^◌, ◌<◌, ◌≤◌, Bool, false, inl, inr, List, ◌∷◌, ◌++◌, length, take, drop, Option, Some, None, Result, Ok, Err, refl, sym, ap, subst, ◌∙◌, append_assoc, arith, length-append, ltb}
+use Rattle.std.specs.Prelude.{IfOk, IfErr, IsTrue}
 use Rattle.std.proofs.lemmas.Bool.{le-ltb}
 use Rattle.std.proofs.lemmas.Bool.Decides.{eqb_tells}
 use Rattle.std.proofs.lemmas.List.{take_at, drop_at}
@@ -11,19 +11,22 @@ use Rattle.rtk_bits.proofs.PublicLaws.{length-bits_of, unsigned-bits_of}
 use Rattle.rtk_message.specs.declared.message.Message.{Message}
 use Rattle.rtk_message.specs.declared.message.Message.TheVariants.{Obs1004, Arp1005, Arp1006, Msm1074}
 use Rattle.rtk_message.specs.declared.fault.DecodeFault.{DecodeFault}
-use Rattle.rtk_message.specs.declared.any_fault.AnyFault.TheVariants as any_fault
-use Rattle.rtk_message.specs.declared.msm_kind.MsmKind.TheVariants.{Msm5, Msm6, Msm7}
+use Rattle.rtk_message.specs.declared.msm_kind.MsmKind.TheVariants.{Msm4}
+use Rattle.rtk_message.specs.declared.msm_type.MsmType.{MsmType}
 use Rattle.rtk_message.specs.Accepted.{accepts, four}
 use Rattle.rtk_message.specs.AnyDecoded as any
-use Rattle.rtk_message.specs.AnyDecoded.{if_any_fault_of, fault_by}
+use Rattle.rtk_message.specs.AnyDecoded.{if_any_fault_of, fault_of_type, fault_by}
 use Rattle.rtk_message.specs.Fields.{Field, u, bits_of_fields}
 use Rattle.rtk_message.specs.MsmForm as form
+use Rattle.rtk_message.specs.Systems.{gps, number_of_type, type_of_number}
 use Rattle.rtk_message.specs.Decoded.{number_of, fields_after_number, IsValid, Encodes, Decodes, first_fault, fault_after_number}
 use Rattle.rtk_message.specs.Steps.AfterNumber.{BeginsAfterNumber}
 use Rattle.rtk_message.specs.Obs1004Laws as obs1004
 use Rattle.rtk_message.specs.Arp1005Laws as arp1005
 use Rattle.rtk_message.specs.Arp1006Laws as arp1006
 use Rattle.rtk_message.specs.Msm1074Laws as msm1074
+use Rattle.rtk_message.proofs.MsmLemmas.{fault_of_1074}
+use Rattle.rtk_message.proofs.SystemsLemmas.{is_wide, same_type, number_of as number_of_its_type, four-number}
 
 -- the number in the bits, and what is after it
 pub record Begins (bs : List Bool) (k : ℕ) (fs : List Field) (rest : List Bool) : Type 0 where
@@ -126,7 +129,7 @@ decodes_fault bs f first = record { message = tt; fault = first; only = only bs 
 
 -- ---- the four messages in the wider set
 
--- none of the four is a 1075, 1076 or 1077
+-- none of the four is another MSM than 1074
 pub four_number : (m : Message) → number_of m ≤ 1074
 four_number (Obs1004 m) = omega arith
 four_number (Arp1005 m) = omega arith
@@ -140,23 +143,22 @@ four_member (Arp1005 m) = refl
 four_member (Arp1006 m) = refl
 four_member (Msm1074 m) = refl
 
--- the fault after a number that is no 1075, 1076 or 1077
-pub same_fault_of_other : (n : ℕ) (bs : List Bool) → n ≢ 1075 → n ≢ 1076 → n ≢ 1077 → any.fault_after_number n bs ≡ if_any_fault_of (fault_after_number n bs)
-same_fault_of_other n bs p q r =
-    let five : (n == 1075) ≡ false = differs n 1075 p in
-    let six : (n == 1076) ≡ false = differs n 1076 q in
-    let seven : (n == 1077) ≡ false = differs n 1077 r in
-    rw (five, six, seven) refl where
-      differs : (n k : ℕ) → n ≢ k → (n == k) ≡ false
-      differs n k other = elim (eqb_tells n k) [ inl e ↦ absurd (other e.1) | inr e ↦ e.0 ]
+-- the fault after a number that is none of another MSM than 1074
+other-fault : (n : ℕ) (bs : List Bool) (o : Option MsmType) → type_of_number n ≡ o → ((t : MsmType) → form.IsWide t → n ≢ number_of_type t) → fault_of_type o n bs ≡ if_any_fault_of (fault_after_number n bs)
+other-fault n bs None e none = refl
+other-fault n bs (Some t) e none =
+    let number : n ≡ number_of_type t = number_of_its_type n t e in
+    elim (eqb_tells n 1074) [
+      | inl h ↦
+          let same : gps Msm4 ≡ t = same_type (gps Msm4) t (sym h.1 ∙ number) in
+          subst (λ (x : MsmType). form.first_fault x bs ≡ if_any_fault_of (fault_after_number n bs)) same (rw h.1 (sym (fault_of_1074 bs)))
+      | inr h ↦ absurd (none t (is_wide t (λ k. h.1 (number ∙ k))) number)
+    ]
+
+pub same_fault_of_other : (n : ℕ) (bs : List Bool) → ((t : MsmType) → form.IsWide t → n ≢ number_of_type t) → any.fault_after_number n bs ≡ if_any_fault_of (fault_after_number n bs)
+same_fault_of_other n bs none = other-fault n bs (type_of_number n) refl none
 
 -- the faults of the set of the four are those of `decode`
-same_tests : {X : Type 0} (b c d : Bool) (x y z t : X) → (if (if b then false else if c then false else if d then false else false) then (if b then x else if c then y else if d then z else t) else t) ≡ t
-same_tests true c d x y z t = refl
-same_tests false true d x y z t = refl
-same_tests false false true x y z t = refl
-same_tests false false false x y z t = refl
-
 pub fault_by_four : (n : ℕ) (bs : List Bool) → fault_by four n bs ≡ if_any_fault_of (fault_after_number n bs)
 fault_by_four n bs = elim (eqb_tells n 1004) [
   | inl e ↦ rw e.1 refl
@@ -165,8 +167,8 @@ fault_by_four n bs = elim (eqb_tells n 1004) [
     | inr e5 ↦ elim (eqb_tells n 1006) [
       | inl e ↦ rw e.1 refl
       | inr e6 ↦ elim (eqb_tells n 1074) [
-        | inl e ↦ rw e.1 refl
-        | inr e74 ↦ rw (e4.0, e5.0, e6.0, e74.0) (same_tests (n == 1075) (n == 1076) (n == 1077) (form.first_fault Msm5 bs) (form.first_fault Msm6 bs) (form.first_fault Msm7 bs) (Some (any_fault.Other n)))
+        | inl e ↦ rw e.1 (sym (fault_of_1074 bs))
+        | inr e74 ↦ rw (e4.0, e5.0, e6.0, e74.0, four-number n e74.1) refl
       ]
     ]
   ]

@@ -16,6 +16,8 @@ use Rattle.rtk_message.specs.declared.msm1074.MsmHeader.{MsmHeader}
 use Rattle.rtk_message.specs.declared.msm1074.Msm1074 as declared_msm1074
 use Rattle.rtk_message.specs.declared.msm_kind.MsmKind.{MsmKind}
 use Rattle.rtk_message.specs.declared.msm_kind.MsmKind.TheVariants.{Msm4, Msm5, Msm6, Msm7}
+use Rattle.rtk_message.specs.declared.system.System.{System}
+use Rattle.rtk_message.specs.declared.system.System.TheVariants.{Gps, Glonass, Galileo, Beidou, Qzss, Sbas, Navic}
 use Rattle.rtk_message.specs.declared.msm.Msm as declared_msm
 use Rattle.rtk_message.specs.declared.any_fault.AnyFault.{AnyFault}
 use Rattle.rtk_message.specs.declared.any_fault.AnyFault.TheVariants as any_fault
@@ -31,6 +33,7 @@ use Rattle.rtk_message.specs.contracts.msm1074.MsmHeaderPartialEq.TheImpl as hea
 use Rattle.rtk_message.specs.contracts.obs1004.Obs1004PartialEq.TheImpl as obs1004_eq
 use Rattle.rtk_message.specs.contracts.msm1074.Msm1074PartialEq.TheImpl as msm1074_eq
 use Rattle.rtk_message.specs.contracts.message.MessagePartialEq.TheImpl as message_eq
+use Rattle.rtk_message.specs.contracts.system.SystemPartialEq.TheImpl as system_eq
 use Rattle.rtk_message.specs.contracts.msm_kind.MsmKindPartialEq.TheImpl as kind_eq
 use Rattle.rtk_message.specs.contracts.msm.MsmPartialEq.TheImpl as msm_eq
 use Rattle.rtk_message.specs.contracts.any_fault.AnyFaultPartialEq.TheImpl as any_fault_eq
@@ -127,29 +130,28 @@ fault_same TooManyCells (Short n) = (λ e. absurd cc, λ e. absurd cc)
 fault_same TooManyCells (EpochRange n) = (λ e. absurd cc, λ e. absurd cc)
 fault_same TooManyCells TooManyCells = (λ e. refl, λ e. refl)
 
+system_same : (a b : System) → Decides ((system_eq.ghosts).eq a b) (a ≡ b)
+system_same Gps Gps = (λ e. refl, λ e. refl)
+system_same Glonass Glonass = (λ e. refl, λ e. refl)
+system_same Galileo Galileo = (λ e. refl, λ e. refl)
+system_same Beidou Beidou = (λ e. refl, λ e. refl)
+system_same Qzss Qzss = (λ e. refl, λ e. refl)
+system_same Sbas Sbas = (λ e. refl, λ e. refl)
+system_same Navic Navic = (λ e. refl, λ e. refl)
+system_same a b = (λ e. absurd cc, λ e. absurd cc)
+
 kind_same : (a b : MsmKind) → Decides ((kind_eq.ghosts).eq a b) (a ≡ b)
 kind_same Msm4 Msm4 = (λ e. refl, λ e. refl)
-kind_same Msm4 Msm5 = (λ e. absurd cc, λ e. absurd cc)
-kind_same Msm4 Msm6 = (λ e. absurd cc, λ e. absurd cc)
-kind_same Msm4 Msm7 = (λ e. absurd cc, λ e. absurd cc)
-kind_same Msm5 Msm4 = (λ e. absurd cc, λ e. absurd cc)
 kind_same Msm5 Msm5 = (λ e. refl, λ e. refl)
-kind_same Msm5 Msm6 = (λ e. absurd cc, λ e. absurd cc)
-kind_same Msm5 Msm7 = (λ e. absurd cc, λ e. absurd cc)
-kind_same Msm6 Msm4 = (λ e. absurd cc, λ e. absurd cc)
-kind_same Msm6 Msm5 = (λ e. absurd cc, λ e. absurd cc)
 kind_same Msm6 Msm6 = (λ e. refl, λ e. refl)
-kind_same Msm6 Msm7 = (λ e. absurd cc, λ e. absurd cc)
-kind_same Msm7 Msm4 = (λ e. absurd cc, λ e. absurd cc)
-kind_same Msm7 Msm5 = (λ e. absurd cc, λ e. absurd cc)
-kind_same Msm7 Msm6 = (λ e. absurd cc, λ e. absurd cc)
 kind_same Msm7 Msm7 = (λ e. refl, λ e. refl)
+kind_same a b = (λ e. absurd cc, λ e. absurd cc)
 
 pub msm_same : (s t : declared_msm.Msm) → Decides ((msm_eq.ghosts).eq s t) (s ≡ t)
 msm_same s t = Decides-like ((msm_eq.ghosts).eq s t)
-    (λ h i. record { kind = h.0 i; header = h.1.0 i; cell_mask = h.1.1.0 i; rough_ms = h.1.1.1.0 i; extended = h.1.1.1.1.0 i; rough_fraction = h.1.1.1.1.1.0 i; rough_rate = h.1.1.1.1.1.1.0 i; fine_range = h.1.1.1.1.1.1.1.0 i; fine_phase = h.1.1.1.1.1.1.1.1.0 i; lock_indicator = h.1.1.1.1.1.1.1.1.1.0 i; half_cycle = h.1.1.1.1.1.1.1.1.1.1.0 i; cnr = h.1.1.1.1.1.1.1.1.1.1.1.0 i; fine_rate = h.1.1.1.1.1.1.1.1.1.1.1.1 i })
-    (λ e. (ap (λ (x : declared_msm.Msm). x.kind) e, (ap (λ (x : declared_msm.Msm). x.header) e, (ap (λ (x : declared_msm.Msm). x.cell_mask) e, (ap (λ (x : declared_msm.Msm). x.rough_ms) e, (ap (λ (x : declared_msm.Msm). x.extended) e, (ap (λ (x : declared_msm.Msm). x.rough_fraction) e, (ap (λ (x : declared_msm.Msm). x.rough_rate) e, (ap (λ (x : declared_msm.Msm). x.fine_range) e, (ap (λ (x : declared_msm.Msm). x.fine_phase) e, (ap (λ (x : declared_msm.Msm). x.lock_indicator) e, (ap (λ (x : declared_msm.Msm). x.half_cycle) e, (ap (λ (x : declared_msm.Msm). x.cnr) e, ap (λ (x : declared_msm.Msm). x.fine_rate) e)))))))))))))
-    (Decides-and _ _ (kind_same s.kind t.kind) (Decides-and _ _ (header_same s.header t.header) (Decides-and _ _ (list_same _ unsigned_Decides s.cell_mask t.cell_mask) (Decides-and _ _ (list_same _ unsigned_Decides s.rough_ms t.rough_ms) (Decides-and _ _ (list_same _ unsigned_Decides s.extended t.extended) (Decides-and _ _ (list_same _ unsigned_Decides s.rough_fraction t.rough_fraction) (Decides-and _ _ (list_same _ signed_Decides s.rough_rate t.rough_rate) (Decides-and _ _ (list_same _ signed_Decides s.fine_range t.fine_range) (Decides-and _ _ (list_same _ signed_Decides s.fine_phase t.fine_phase) (Decides-and _ _ (list_same _ unsigned_Decides s.lock_indicator t.lock_indicator) (Decides-and _ _ (list_same _ bool_same s.half_cycle t.half_cycle) (Decides-and _ _ (list_same _ unsigned_Decides s.cnr t.cnr) (list_same _ signed_Decides s.fine_rate t.fine_rate)))))))))))))
+    (λ h i. record { system = h.0 i; kind = h.1.0 i; header = h.1.1.0 i; cell_mask = h.1.1.1.0 i; rough_ms = h.1.1.1.1.0 i; extended = h.1.1.1.1.1.0 i; rough_fraction = h.1.1.1.1.1.1.0 i; rough_rate = h.1.1.1.1.1.1.1.0 i; fine_range = h.1.1.1.1.1.1.1.1.0 i; fine_phase = h.1.1.1.1.1.1.1.1.1.0 i; lock_indicator = h.1.1.1.1.1.1.1.1.1.1.0 i; half_cycle = h.1.1.1.1.1.1.1.1.1.1.1.0 i; cnr = h.1.1.1.1.1.1.1.1.1.1.1.1.0 i; fine_rate = h.1.1.1.1.1.1.1.1.1.1.1.1.1 i })
+    (λ e. (ap (λ (x : declared_msm.Msm). x.system) e, (ap (λ (x : declared_msm.Msm). x.kind) e, (ap (λ (x : declared_msm.Msm). x.header) e, (ap (λ (x : declared_msm.Msm). x.cell_mask) e, (ap (λ (x : declared_msm.Msm). x.rough_ms) e, (ap (λ (x : declared_msm.Msm). x.extended) e, (ap (λ (x : declared_msm.Msm). x.rough_fraction) e, (ap (λ (x : declared_msm.Msm). x.rough_rate) e, (ap (λ (x : declared_msm.Msm). x.fine_range) e, (ap (λ (x : declared_msm.Msm). x.fine_phase) e, (ap (λ (x : declared_msm.Msm). x.lock_indicator) e, (ap (λ (x : declared_msm.Msm). x.half_cycle) e, (ap (λ (x : declared_msm.Msm). x.cnr) e, ap (λ (x : declared_msm.Msm). x.fine_rate) e))))))))))))))
+    (Decides-and _ _ (system_same s.system t.system) (Decides-and _ _ (kind_same s.kind t.kind) (Decides-and _ _ (header_same s.header t.header) (Decides-and _ _ (list_same _ unsigned_Decides s.cell_mask t.cell_mask) (Decides-and _ _ (list_same _ unsigned_Decides s.rough_ms t.rough_ms) (Decides-and _ _ (list_same _ unsigned_Decides s.extended t.extended) (Decides-and _ _ (list_same _ unsigned_Decides s.rough_fraction t.rough_fraction) (Decides-and _ _ (list_same _ signed_Decides s.rough_rate t.rough_rate) (Decides-and _ _ (list_same _ signed_Decides s.fine_range t.fine_range) (Decides-and _ _ (list_same _ signed_Decides s.fine_phase t.fine_phase) (Decides-and _ _ (list_same _ unsigned_Decides s.lock_indicator t.lock_indicator) (Decides-and _ _ (list_same _ bool_same s.half_cycle t.half_cycle) (Decides-and _ _ (list_same _ unsigned_Decides s.cnr t.cnr) (list_same _ signed_Decides s.fine_rate t.fine_rate))))))))))))))
 
 pub any_message_same : (a b : AnyMessage) → Decides ((any_message_eq.ghosts).eq a b) (a ≡ b)
 any_message_same (any_message.Message m) (any_message.Message n) = (λ e. ap any_message.Message ((message_same m n).0 e), λ e. (message_same m n).1 cc)

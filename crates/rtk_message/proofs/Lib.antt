@@ -10,4 +10,5 @@ mod MsmLemmas
 mod AnyDecodedLemmas
 mod NumberLemmas
 mod Obs1004Lemmas
+mod SystemsLemmas
 mod WordLemmas

@@ -1,13 +1,16 @@
--- Messages 1075 to 1077: the widths of a kind, the first fault, the columns of a message that has
--- its form, and that bits begin with at most one message of a kind. A 1074 has the form of MSM4.
-use Rattle.std.proofs.Common.{◌≡◌, ◌≢◌, ℕ, ℤ, Bool, true, false, List, [], ◌++◌, length, Some, None, refl, sym, ap, subst, ◌∙◌, ◌+◌, ◌*◌, ◌<◌, ◌≤◌, ltb, leb, arith, append_assoc, length-append, sum_by, count_ones}
-use Rattle.std.proofs.lemmas.Bool.{le-ltb, lt-ltb, le-leb, lt-leb}
+-- Multiple signal messages: the widths of a kind, the first fault, the columns of a message that has
+-- its form, and that bits begin with at most one message of a type. A 1074 has the form of MSM4.
+use Rattle.std.proofs.Common.{◌≡◌, ℕ, ℤ, Bool, true, false, List, [], ◌++◌, length, Some, None, refl, sym, ap, subst, ◌∙◌, ◌+◌, ◌*◌, ◌<◌, ◌≤◌, ltb, inl, inr, arith, append_assoc, length-append, sum_by, count_ones}
+use Rattle.std.proofs.lemmas.Bool.{le-ltb, lt-ltb, ltb-true}
+use Rattle.std.proofs.lemmas.Bool.Decides.{leb_tells}
 use Rattle.std.proofs.lemmas.List.{append-nil}
-use Rattle.std.specs.Prelude.{if◌then◌else◌}
+use Rattle.std.specs.Prelude.{IsTrue, not, nat_lt, nat_le, if◌then◌else◌}
 use Rattle.rtk_message.specs.declared.any_fault.AnyFault.TheVariants.{Short, EpochRange, TooManyCells}
 use Rattle.rtk_message.specs.declared.fault.DecodeFault.TheVariants as fault
 use Rattle.rtk_message.specs.declared.msm_kind.MsmKind.{MsmKind}
 use Rattle.rtk_message.specs.declared.msm_kind.MsmKind.TheVariants.{Msm4, Msm5, Msm6, Msm7}
+use Rattle.rtk_message.specs.declared.msm_type.MsmType.{MsmType}
+use Rattle.rtk_message.specs.declared.system.System.{System}
 use Rattle.rtk_message.specs.declared.msm1074.MsmHeader.{MsmHeader}
 use Rattle.rtk_message.specs.declared.msm1074.Msm1074.{Msm1074}
 use Rattle.rtk_message.specs.declared.msm.Msm.{Msm}
@@ -18,7 +21,8 @@ use Rattle.rtk_message.specs.ColumnLaws.{total-numbers, total-integers, total-fl
 use Rattle.rtk_message.specs.Msm1074 as msm1074
 use Rattle.rtk_message.specs.Msm1074.{header_table, satellite_count, signal_count, satellite_count_in, mask_bits_in, cell_count_in}
 use Rattle.rtk_message.specs.Msm1074Laws.{header_says, cells_says, split, same_header}
-use Rattle.rtk_message.specs.MsmForm.{number_of_kind, form_of, if_rates, mask_table, satellite_table, cell_table, column_table, table, cell_count, HasLengths, HasForm, msm_of_1074, satellite_bits, cell_bits, first_fault, IsWide}
+use Rattle.rtk_message.specs.MsmForm.{form_of, if_rates, mask_table, satellite_table, cell_table, column_table, table, cell_count, HasLengths, HasForm, msm_of_1074, satellite_bits, cell_bits, first_fault, type_of}
+use Rattle.rtk_message.specs.Systems.{gps, number_of_type, is_in_week}
 use Rattle.rtk_message.specs.AnyDecoded.{if_any_fault_of}
 use Rattle.rtk_message.specs.Steps.MsmColumns.{HasWidths, bits_of_cells, HasSatellites, HasCells, ChangesCells, SatellitesFit, CellsFit}
 use Rattle.rtk_message.proofs.ColumnLemmas.{flags-fit}
@@ -39,13 +43,6 @@ if_rates-le Msm4 n = omega arith
 if_rates-le Msm5 n = omega arith
 if_rates-le Msm6 n = omega arith
 if_rates-le Msm7 n = omega arith
-
--- a kind of another number than 1074 is a wide one
-pub is_wide : (k : MsmKind) → number_of_kind k ≢ 1074 → IsWide k
-is_wide Msm4 other = absurd (other refl)
-is_wide Msm5 other = omega arith
-is_wide Msm6 other = omega arith
-is_wide Msm7 other = omega arith
 
 -- the bits of n satellites, column by column
 pub satellite_bits-columns : (k : MsmKind) (n : ℕ) → satellite_bits k * n ≡ 8 * n + (4 * if_rates k n + (10 * n + 14 * if_rates k n))
@@ -128,35 +125,35 @@ length-column_table m l =
 abbrev due : MsmKind → List Bool → ℕ
 due k bs = 157 + mask_bits_in bs + satellite_bits k * satellite_count_in bs + cell_bits k * cell_count_in bs
 
-pub is_out_of_week : (k : MsmKind) {h : MsmHeader} {bs rest : List Bool} → TakesAll (header_table h) bs rest → week_ms ≤ h.tow → first_fault k bs ≡ Some (EpochRange (number_of_kind k))
-is_out_of_week k {h = h} {bs = bs} took late =
+pub is_out_of_week : (t : MsmType) {h : MsmHeader} {bs rest : List Bool} → TakesAll (header_table h) bs rest → is_in_week t.system h.tow ≡ false → first_fault t bs ≡ Some (EpochRange (number_of_type t))
+is_out_of_week t {h = h} {bs = bs} took late =
     let says = header_says took in
     let long : ltb (length bs) 157 ≡ false = le-ltb (length bs) 157 (omega (arith, says.len)) in
-    let when : leb week_ms (tow_in bs) ≡ true = le-leb week_ms (tow_in bs) (omega (arith, says.tow_is, late)) in
+    let when : not (is_in_week t.system (tow_in bs)) ≡ true = ap not (ap (is_in_week t.system) says.tow_is ∙ late) in
     rw (long, when) refl
 
-pub is_many : (k : MsmKind) {h : MsmHeader} {bs rest : List Bool} → TakesAll (header_table h) bs rest → h.tow < week_ms → 64 < satellite_count h * signal_count h → first_fault k bs ≡ Some (TooManyCells (number_of_kind k))
-is_many k {h = h} {bs = bs} took time many =
+pub is_many : (t : MsmType) {h : MsmHeader} {bs rest : List Bool} → TakesAll (header_table h) bs rest → is_in_week t.system h.tow ≡ true → 64 < satellite_count h * signal_count h → first_fault t bs ≡ Some (TooManyCells (number_of_type t))
+is_many t {h = h} {bs = bs} took time many =
     let says = header_says took in
     let long : ltb (length bs) 157 ≡ false = le-ltb (length bs) 157 (omega (arith, says.len)) in
-    let when : leb week_ms (tow_in bs) ≡ false = lt-leb week_ms (tow_in bs) (omega (arith, says.tow_is, time)) in
+    let when : not (is_in_week t.system (tow_in bs)) ≡ false = ap not (ap (is_in_week t.system) says.tow_is ∙ time) in
     let big : ltb 64 (mask_bits_in bs) ≡ true = lt-ltb 64 (mask_bits_in bs) (omega (arith, says.mask_bits_is, many)) in
     rw (long, when, big) refl
 
-is_cut : (k : MsmKind) {h : MsmHeader} {bs rest : List Bool} → TakesAll (header_table h) bs rest → h.tow < week_ms → satellite_count h * signal_count h ≤ 64 → length bs < due k bs → first_fault k bs ≡ Some (Short (number_of_kind k))
-is_cut k {h = h} {bs = bs} took time few short =
+is_cut : (t : MsmType) {h : MsmHeader} {bs rest : List Bool} → TakesAll (header_table h) bs rest → is_in_week t.system h.tow ≡ true → satellite_count h * signal_count h ≤ 64 → length bs < due t.kind bs → first_fault t bs ≡ Some (Short (number_of_type t))
+is_cut t {h = h} {bs = bs} took time few short =
     let says = header_says took in
     let long : ltb (length bs) 157 ≡ false = le-ltb (length bs) 157 (omega (arith, says.len)) in
-    let when : leb week_ms (tow_in bs) ≡ false = lt-leb week_ms (tow_in bs) (omega (arith, says.tow_is, time)) in
+    let when : not (is_in_week t.system (tow_in bs)) ≡ false = ap not (ap (is_in_week t.system) says.tow_is ∙ time) in
     let big : ltb 64 (mask_bits_in bs) ≡ false = le-ltb 64 (mask_bits_in bs) (omega (arith, says.mask_bits_is, few)) in
-    let cut : ltb (length bs) (due k bs) ≡ true = lt-ltb (length bs) (due k bs) short in
+    let cut : ltb (length bs) (due t.kind bs) ≡ true = lt-ltb (length bs) (due t.kind bs) short in
     rw (long, when, big, cut) refl
 
 -- fewer bits than the cell mask
-pub is_cut_mask : (k : MsmKind) {h : MsmHeader} {bs rest : List Bool} → TakesAll (header_table h) bs rest → h.tow < week_ms → satellite_count h * signal_count h ≤ 64 → length rest < satellite_count h * signal_count h → first_fault k bs ≡ Some (Short (number_of_kind k))
-is_cut_mask k {h = h} {bs = bs} {rest = rest} took time few short =
+pub is_cut_mask : (t : MsmType) {h : MsmHeader} {bs rest : List Bool} → TakesAll (header_table h) bs rest → is_in_week t.system h.tow ≡ true → satellite_count h * signal_count h ≤ 64 → length rest < satellite_count h * signal_count h → first_fault t bs ≡ Some (Short (number_of_type t))
+is_cut_mask t {h = h} {bs = bs} {rest = rest} took time few short =
     let says = header_says took in
-    is_cut k took time few (mask_short (length bs) (length rest) (mask_bits_in bs) (satellite_count h * signal_count h) (satellite_bits k * satellite_count_in bs) (cell_bits k * cell_count_in bs) says.len says.mask_bits_is short) where
+    is_cut t took time few (mask_short (length bs) (length rest) (mask_bits_in bs) (satellite_count h * signal_count h) (satellite_bits t.kind * satellite_count_in bs) (cell_bits t.kind * cell_count_in bs) says.len says.mask_bits_is short) where
       mask_short : (all left bits mask satellites cells : ℕ) → all ≡ 157 + left → bits ≡ mask → left < mask → all < 157 + bits + satellites + cells
       mask_short all left bits mask satellites cells len same short = omega (arith, len, same, short)
 
@@ -169,26 +166,26 @@ due-is k {h = h} {bs = bs} ns took mask len =
       sums : (a b c x y z s t : ℕ) → a ≡ x → b ≡ y → c ≡ z → 157 + a + s * b + t * c ≡ 157 + x + s * y + t * z
       sums a b c x y z s t p q r = rw (p, q, r) refl
 
-pub is_cut_rest : (k : MsmKind) {h : MsmHeader} {bs rest after : List Bool} (ns : List ℕ) → TakesAll (header_table h) bs rest → TakesAll (numbers (signal_count h) ns) rest after → length ns ≡ satellite_count h → h.tow < week_ms → satellite_count h * signal_count h ≤ 64
-    → length rest ≡ signal_count h * satellite_count h + length after → length after < satellite_bits k * satellite_count h + cell_bits k * sum_by count_ones ns → first_fault k bs ≡ Some (Short (number_of_kind k))
-is_cut_rest k {h = h} {bs = bs} {rest = rest} {after = after} ns took mask len time few size short =
+pub is_cut_rest : (t : MsmType) {h : MsmHeader} {bs rest after : List Bool} (ns : List ℕ) → TakesAll (header_table h) bs rest → TakesAll (numbers (signal_count h) ns) rest after → length ns ≡ satellite_count h → is_in_week t.system h.tow ≡ true → satellite_count h * signal_count h ≤ 64
+    → length rest ≡ signal_count h * satellite_count h + length after → length after < satellite_bits t.kind * satellite_count h + cell_bits t.kind * sum_by count_ones ns → first_fault t bs ≡ Some (Short (number_of_type t))
+is_cut_rest t {h = h} {bs = bs} {rest = rest} {after = after} ns took mask len time few size short =
     let says = header_says took in
-    let all = due-is k ns took mask len in
-    is_cut k took time few (rest_short (length bs) (length rest) (length after) (satellite_count h * signal_count h) (due k bs) (satellite_bits k * satellite_count h) (cell_bits k * sum_by count_ones ns) says.len (omega (arith, size)) all short) where
+    let all = due-is t.kind ns took mask len in
+    is_cut t took time few (rest_short (length bs) (length rest) (length after) (satellite_count h * signal_count h) (due t.kind bs) (satellite_bits t.kind * satellite_count h) (cell_bits t.kind * sum_by count_ones ns) says.len (omega (arith, size)) all short) where
       rest_short : (all left after mask due satellites cells : ℕ) → all ≡ 157 + left → left ≡ mask + after → due ≡ 157 + mask + satellites + cells → after < satellites + cells → all < due
       rest_short all left after mask due satellites cells len size sum short = omega (arith, len, size, sum, short)
 
-is_whole : (k : MsmKind) {h : MsmHeader} {bs rest : List Bool} → TakesAll (header_table h) bs rest → h.tow < week_ms → satellite_count h * signal_count h ≤ 64 → due k bs ≤ length bs → first_fault k bs ≡ None
-is_whole k {h = h} {bs = bs} took time few enough =
+is_whole : (t : MsmType) {h : MsmHeader} {bs rest : List Bool} → TakesAll (header_table h) bs rest → is_in_week t.system h.tow ≡ true → satellite_count h * signal_count h ≤ 64 → due t.kind bs ≤ length bs → first_fault t bs ≡ None
+is_whole t {h = h} {bs = bs} took time few enough =
     let says = header_says took in
     let long : ltb (length bs) 157 ≡ false = le-ltb (length bs) 157 (omega (arith, says.len)) in
-    let when : leb week_ms (tow_in bs) ≡ false = lt-leb week_ms (tow_in bs) (omega (arith, says.tow_is, time)) in
+    let when : not (is_in_week t.system (tow_in bs)) ≡ false = ap not (ap (is_in_week t.system) says.tow_is ∙ time) in
     let big : ltb 64 (mask_bits_in bs) ≡ false = le-ltb 64 (mask_bits_in bs) (omega (arith, says.mask_bits_is, few)) in
-    let enough_bits : ltb (length bs) (due k bs) ≡ false = le-ltb (length bs) (due k bs) enough in
+    let enough_bits : ltb (length bs) (due t.kind bs) ≡ false = le-ltb (length bs) (due t.kind bs) enough in
     rw (long, when, big, enough_bits) refl
 
 -- bits that begin with a message have no fault
-pub is_accepted : (m : Msm) (rest : List Bool) → HasForm m → first_fault m.kind (bits_of_fields (table m) ++ rest) ≡ None
+pub is_accepted : (m : Msm) (rest : List Bool) → HasForm m → first_fault (type_of m) (bits_of_fields (table m) ++ rest) ≡ None
 is_accepted m rest valid =
     let h = m.header in
     let bs = bits_of_fields (table m) ++ rest in
@@ -196,11 +193,11 @@ is_accepted m rest valid =
     let head : TakesAll (header_table h) bs (bits_of_fields after_header ++ rest) = split (header_table h) after_header bs rest valid.fields_fit refl in
     let mask : TakesAll (mask_table m) (bits_of_fields after_header ++ rest) (bits_of_fields (column_table m) ++ rest) = split (mask_table m) (column_table m) (bits_of_fields after_header ++ rest) rest (fit-parts (header_table h) after_header valid.fields_fit).1 refl in
     let says = header_says head in
-    let time : h.tow < week_ms = valid.time_in_week in
+    let time : is_in_week m.system h.tow ≡ true = valid.time_in_week in
     let all = due-is m.kind m.cell_mask head mask valid.lengths.cell_mask in
     let l1 : length (bits_of_fields after_header ++ rest) ≡ signal_count h * satellite_count h + length (bits_of_fields (column_table m) ++ rest) =
     ap length mask.is ∙ length-append (bits_of_fields (mask_table m)) (bits_of_fields (column_table m) ++ rest) ∙ ap (λ (k : ℕ). k + length (bits_of_fields (column_table m) ++ rest)) (length-bits_of_fields (mask_table m) ∙ total-numbers (signal_count h) m.cell_mask ∙ ap (λ (k : ℕ). signal_count h * k) valid.lengths.cell_mask) in
-    is_whole m.kind head time valid.mask_bits (whole (length bs) (length (bits_of_fields after_header ++ rest)) (length (bits_of_fields (column_table m) ++ rest)) (length rest) (satellite_count h * signal_count h) (due m.kind bs) (satellite_bits m.kind * satellite_count h) (cell_bits m.kind * cell_count m)
+    is_whole (type_of m) head time valid.mask_bits (whole (length bs) (length (bits_of_fields after_header ++ rest)) (length (bits_of_fields (column_table m) ++ rest)) (length rest) (satellite_count h * signal_count h) (due m.kind bs) (satellite_bits m.kind * satellite_count h) (cell_bits m.kind * cell_count m)
     says.len (omega (arith, l1)) all (length-append (bits_of_fields (column_table m)) rest ∙ ap (λ (k : ℕ). k + length rest) (length-column_table m valid.lengths))) where
       whole : (all left after rest mask due satellites cells : ℕ) → all ≡ 157 + left → left ≡ mask + after → due ≡ 157 + mask + satellites + cells → after ≡ satellites + cells + rest → due ≤ all
       whole all left after rest mask due satellites cells len size sum columns = omega (arith, len, size, sum, columns)
@@ -243,7 +240,7 @@ all_fit m head s c =
     fit-append (header_table m.header) (mask_table m ++ column_table m) head
     (fit-append (mask_table m) (column_table m) s.cell_mask (fit-append (satellite_table m) (cell_table k m) satellites cells))
 
-pub has_form : (m : Msm) → FieldsFit (header_table m.header) → m.header.tow < week_ms → satellite_count m.header * signal_count m.header ≤ 64 → HasLengths m → SatellitesFit m → CellsFit (form_of m.kind) m → HasForm m
+pub has_form : (m : Msm) → FieldsFit (header_table m.header) → IsTrue (is_in_week m.system m.header.tow) → satellite_count m.header * signal_count m.header ≤ 64 → HasLengths m → SatellitesFit m → CellsFit (form_of m.kind) m → HasForm m
 has_form m head time few lengths s c = record { fields_fit = all_fit m head s c; time_in_week = time; mask_bits = few; lengths = lengths }
 
 -- ---- what was read
@@ -254,16 +251,17 @@ whole h ns satellites cells = header_table h ++ (numbers (signal_count h) ns ++ 
 
 -- the header, the cell mask, the columns of the satellites and those of the cells are read one after
 -- another
-pub all_read : {k : MsmKind} {h : MsmHeader} {ns : List ℕ} {mid new : Msm} {b0 b1 b2 b3 b4 : List Bool} → mid.kind ≡ k → mid.header ≡ h → mid.cell_mask ≡ ns → ChangesCells mid new
-    → TakesAll (header_table h) b0 b1 → TakesAll (numbers (signal_count h) ns) b1 b2 → TakesAll (satellite_table mid) b2 b3 → TakesAll (cell_table (form_of k) new) b3 b4
-    → h.tow < week_ms → satellite_count h * signal_count h ≤ 64 → length ns ≡ satellite_count h → HasSatellites (satellite_count h) (if_rates k (satellite_count h)) mid → HasCells (sum_by count_ones ns) (if_rates k (sum_by count_ones ns)) new
-    → HasForm new × (new.kind ≡ k) × TakesAll (table new) b0 b4
-all_read {k = k} {h = h} {ns = ns} {mid = mid} {new = new} {b0 = b0} {b4 = b4} is_kind is_header is_mask second head rows satellites cells time few len s c =
-    let kind : new.kind ≡ k = ap (λ (x : Msm). x.kind) second ∙ is_kind in
+pub all_read : {t : MsmType} {h : MsmHeader} {ns : List ℕ} {mid new : Msm} {b0 b1 b2 b3 b4 : List Bool} → mid.system ≡ t.system → mid.kind ≡ t.kind → mid.header ≡ h → mid.cell_mask ≡ ns → ChangesCells mid new
+    → TakesAll (header_table h) b0 b1 → TakesAll (numbers (signal_count h) ns) b1 b2 → TakesAll (satellite_table mid) b2 b3 → TakesAll (cell_table (form_of t.kind) new) b3 b4
+    → is_in_week t.system h.tow ≡ true → satellite_count h * signal_count h ≤ 64 → length ns ≡ satellite_count h → HasSatellites (satellite_count h) (if_rates t.kind (satellite_count h)) mid → HasCells (sum_by count_ones ns) (if_rates t.kind (sum_by count_ones ns)) new
+    → HasForm new × (type_of new ≡ t) × TakesAll (table new) b0 b4
+all_read {t = t} {h = h} {ns = ns} {mid = mid} {new = new} {b0 = b0} {b4 = b4} is_system is_kind is_header is_mask second head rows satellites cells time few len s c =
+    let system : new.system ≡ t.system = ap (λ (x : Msm). x.system) second ∙ is_system in
+    let kind : new.kind ≡ t.kind = ap (λ (x : Msm). x.kind) second ∙ is_kind in
     let header : new.header ≡ h = ap (λ (x : Msm). x.header) second ∙ is_header in
     let mask : new.cell_mask ≡ ns = ap (λ (x : Msm). x.cell_mask) second ∙ is_mask in
     let columns : satellite_table new ≡ satellite_table mid = ap satellite_table second in
-    let path : table new ≡ whole h ns (satellite_table mid) (cell_table (form_of k) new) =
+    let path : table new ≡ whole h ns (satellite_table mid) (cell_table (form_of t.kind) new) =
     ap (λ (x : MsmHeader). whole x new.cell_mask (satellite_table new) (cell_table (form_of new.kind) new)) header
     ∙ ap (λ (x : List ℕ). whole h x (satellite_table new) (cell_table (form_of new.kind) new)) mask
     ∙ ap (λ (x : List Field). whole h ns x (cell_table (form_of new.kind) new)) columns
@@ -271,8 +269,8 @@ all_read {k = k} {h = h} {ns = ns} {mid = mid} {new = new} {b0 = b0} {b4 = b4} i
     let taken : TakesAll (table new) b0 b4 = subst (λ (fs : List Field). TakesAll fs b0 b4) (sym path) (took_both head (took_both rows (took_both satellites cells))) in
     let sats : satellite_count h ≡ satellite_count new.header = sym (ap satellite_count header) in
     let count : sum_by count_ones ns ≡ cell_count new = sym (ap (sum_by count_ones) mask) in
-    let rated_sats : if_rates k (satellite_count h) ≡ if_rates new.kind (satellite_count new.header) = sym (ap (λ (x : MsmKind). if_rates x (satellite_count new.header)) kind ∙ ap (λ (x : MsmHeader). if_rates k (satellite_count x)) header) in
-    let rated_cells : if_rates k (sum_by count_ones ns) ≡ if_rates new.kind (cell_count new) = sym (ap (λ (x : MsmKind). if_rates x (cell_count new)) kind ∙ ap (λ (x : List ℕ). if_rates k (sum_by count_ones x)) mask) in
+    let rated_sats : if_rates t.kind (satellite_count h) ≡ if_rates new.kind (satellite_count new.header) = sym (ap (λ (x : MsmKind). if_rates x (satellite_count new.header)) kind ∙ ap (λ (x : MsmHeader). if_rates t.kind (satellite_count x)) header) in
+    let rated_cells : if_rates t.kind (sum_by count_ones ns) ≡ if_rates new.kind (cell_count new) = sym (ap (λ (x : MsmKind). if_rates x (cell_count new)) kind ∙ ap (λ (x : List ℕ). if_rates t.kind (sum_by count_ones x)) mask) in
     let lengths : HasLengths new = record {
       cell_mask = ap length mask ∙ len ∙ sats;
       rough_ms = ap (λ (x : Msm). length x.rough_ms) second ∙ s.rough_ms ∙ sats;
@@ -288,17 +286,19 @@ all_read {k = k} {h = h} {ns = ns} {mid = mid} {new = new} {b0 = b0} {b4 = b4} i
     } in
     let form : HasForm new = record {
       fields_fit = taken.fit;
-      time_in_week = subst (λ (x : MsmHeader). x.tow < week_ms) (sym header) time;
+      time_in_week = subst (λ (x : System). IsTrue (is_in_week x new.header.tow)) (sym system) (subst (λ (x : MsmHeader). IsTrue (is_in_week t.system x.tow)) (sym header) time);
       mask_bits = subst (λ (x : MsmHeader). satellite_count x * signal_count x ≤ 64) (sym header) few;
       lengths = lengths;
-    } in (form, kind, taken)
+    } in
+    let types : type_of new ≡ t = λ i. record { system = system i; kind = kind i } in
+    (form, types, taken)
 
 -- ---- one reading
 
-pub make : MsmKind → MsmHeader → List ℕ → List ℕ → List ℕ → List ℕ → List ℤ → List ℤ → List ℤ → List ℕ → List Bool → List ℕ → List ℤ → Msm
-make kind header cell_mask rough_ms extended rough_fraction rough_rate fine_range fine_phase lock_indicator half_cycle cnr fine_rate = record { kind = kind; header = header; cell_mask = cell_mask; rough_ms = rough_ms; extended = extended; rough_fraction = rough_fraction; rough_rate = rough_rate; fine_range = fine_range; fine_phase = fine_phase; lock_indicator = lock_indicator; half_cycle = half_cycle; cnr = cnr; fine_rate = fine_rate }
+pub make : System → MsmKind → MsmHeader → List ℕ → List ℕ → List ℕ → List ℕ → List ℤ → List ℤ → List ℤ → List ℕ → List Bool → List ℕ → List ℤ → Msm
+make system kind header cell_mask rough_ms extended rough_fraction rough_rate fine_range fine_phase lock_indicator half_cycle cnr fine_rate = record { system = system; kind = kind; header = header; cell_mask = cell_mask; rough_ms = rough_ms; extended = extended; rough_fraction = rough_fraction; rough_rate = rough_rate; fine_range = fine_range; fine_phase = fine_phase; lock_indicator = lock_indicator; half_cycle = half_cycle; cnr = cnr; fine_rate = fine_rate }
 
-pub made : (m : Msm) → make m.kind m.header m.cell_mask m.rough_ms m.extended m.rough_fraction m.rough_rate m.fine_range m.fine_phase m.lock_indicator m.half_cycle m.cnr m.fine_rate ≡ m
+pub made : (m : Msm) → make m.system m.kind m.header m.cell_mask m.rough_ms m.extended m.rough_fraction m.rough_rate m.fine_range m.fine_phase m.lock_indicator m.half_cycle m.cnr m.fine_rate ≡ m
 unfolding make
 made m = refl
 
@@ -317,8 +317,10 @@ list_at-is k m =
     (append_assoc (numbers 4 m.extended) _ (cell_table (form_of k) m) ∙ ap (λ (fs : List Field). numbers 4 m.extended ++ fs)
     (append_assoc (numbers 10 m.rough_fraction) _ (cell_table (form_of k) m))))
 
-pub is_unique : (m n : Msm) (a b : List Bool) → m.kind ≡ n.kind → HasForm m → HasForm n → bits_of_fields (table m) ++ a ≡ bits_of_fields (table n) ++ b → m ≡ n
-is_unique m n a b kinds p q e =
+pub is_unique : (m n : Msm) (a b : List Bool) → type_of m ≡ type_of n → HasForm m → HasForm n → bits_of_fields (table m) ++ a ≡ bits_of_fields (table n) ++ b → m ≡ n
+is_unique m n a b types p q e =
+    let systems : m.system ≡ n.system = ap (λ (x : MsmType). x.system) types in
+    let kinds : m.kind ≡ n.kind = ap (λ (x : MsmType). x.kind) types in
     let l = p.lengths in
     let k = q.lengths in
     let f = form_of n.kind in
@@ -345,7 +347,7 @@ is_unique m n a b kinds p q e =
     let s10 = peel_numbers f.cnr f.cnr m.cnr n.cnr _ _ a b refl (l.cnr ∙ count ∙ sym k.cnr) s9.left s9.right s9.after in
     let fine_rate = last_integers 15 m.fine_rate n.fine_rate a b (omega arith) (l.fine_rate ∙ rated_cells ∙ sym k.fine_rate) s10.left s10.right s10.after in
     let h1 = s1.here in let h2 = s2.here in let h3 = s3.here in let h4 = s4.here in let h5 = s5.here in let h6 = s6.here in let h7 = s7.here in let h8 = s8.here in let h9 = s9.here in let h10 = s10.here in
-    let all : make m.kind m.header m.cell_mask m.rough_ms m.extended m.rough_fraction m.rough_rate m.fine_range m.fine_phase m.lock_indicator m.half_cycle m.cnr m.fine_rate ≡ make n.kind n.header n.cell_mask n.rough_ms n.extended n.rough_fraction n.rough_rate n.fine_range n.fine_phase n.lock_indicator n.half_cycle n.cnr n.fine_rate = cc in
+    let all : make m.system m.kind m.header m.cell_mask m.rough_ms m.extended m.rough_fraction m.rough_rate m.fine_range m.fine_phase m.lock_indicator m.half_cycle m.cnr m.fine_rate ≡ make n.system n.kind n.header n.cell_mask n.rough_ms n.extended n.rough_fraction n.rough_rate n.fine_range n.fine_phase n.lock_indicator n.half_cycle n.cnr n.fine_rate = cc in
     sym (made m) ∙ all ∙ made n
 
 -- ---- a 1074 has the form of MSM4
@@ -362,7 +364,7 @@ table_of_1074 m =
 pub form_of_valid_1074 : (m : Msm1074) → msm1074.IsValid m → HasForm (msm_of_1074 m)
 form_of_valid_1074 m v = let l = v.lengths in record {
   fields_fit = subst FieldsFit (table_of_1074 m) v.fields_fit;
-  time_in_week = v.time_in_week;
+  time_in_week = lt-ltb m.header.tow week_ms v.time_in_week;
   mask_bits = v.mask_bits;
   lengths = record {
     cell_mask = l.cell_mask;
@@ -382,7 +384,7 @@ form_of_valid_1074 m v = let l = v.lengths in record {
 pub valid_1074_of_form : (m : Msm1074) → HasForm (msm_of_1074 m) → msm1074.IsValid m
 valid_1074_of_form m v = let l = v.lengths in record {
   fields_fit = subst FieldsFit (sym (table_of_1074 m)) v.fields_fit;
-  time_in_week = v.time_in_week;
+  time_in_week = ltb-true m.header.tow week_ms v.time_in_week;
   mask_bits = v.mask_bits;
   lengths = record {
     cell_mask = l.cell_mask;
@@ -405,5 +407,9 @@ same_order false false true d = refl
 same_order false false false true = refl
 same_order false false false false = refl
 
-pub fault_of_1074 : (bs : List Bool) → if_any_fault_of (msm1074.first_fault bs) ≡ first_fault Msm4 bs
-fault_of_1074 bs = same_order _ _ _ _
+-- a time that lies in no week is at its end or after it
+late-is : (c : ℕ) → not (nat_lt c week_ms) ≡ nat_le week_ms c
+late-is c = elim (leb_tells week_ms c) [ inl h ↦ rw (le-ltb c week_ms h.1, h.0) refl | inr h ↦ rw (lt-ltb c week_ms h.1, h.0) refl ]
+
+pub fault_of_1074 : (bs : List Bool) → if_any_fault_of (msm1074.first_fault bs) ≡ first_fault (gps Msm4) bs
+fault_of_1074 bs = rw (late-is (tow_in bs)) (same_order _ _ _ _)

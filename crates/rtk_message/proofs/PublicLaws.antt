@@ -5,6 +5,10 @@
 pub use Rattle.rtk_message.specs.FieldLaws.{fit-parts}
 -- the clauses of `decodes_by_four`
 pub use Rattle.rtk_message.proofs.AnyDecodedLemmas.{by_four, of_four, each_by_four}
+-- the clause of `clocks_of_gps_lie_in_a_week`
+pub use Rattle.rtk_message.proofs.AnyDecodedLemmas.{in_week}
+-- two clauses of `sets_of_types`
+pub use Rattle.rtk_message.proofs.SystemsLemmas.{accepts-type, takes-gps}
 -- the clauses of `form_of_1074`
 pub use Rattle.rtk_message.proofs.MsmLemmas.{table_of_1074, form_of_valid_1074, valid_1074_of_form, fault_of_1074}
 -- the clause of `numbers_end`

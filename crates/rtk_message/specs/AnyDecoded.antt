@@ -1,6 +1,6 @@
 -- With which message of a set bits begin, and the first fault if they begin with none.
--- Source: RTCM 10403.3, messages 1004 to 1006 and 1074 to 1077
-use Rattle.std.specs.Prelude.{◌≡◌, ℕ, Bool, List, ◌∷◌, ◌++◌, length, take, drop, Option, Some, None, Result, Ok, Err, IfOk, IfErr, IsTrue, ◌==◌, nat_lt, if◌then◌else◌}
+-- Source: RTCM 10403.3, messages 1004 to 1006 and 1071 to 1137
+use Rattle.std.specs.Prelude.{◌≡◌, ℕ, Bool, List, ◌∷◌, ◌++◌, length, take, drop, Option, Some, None, Result, Ok, Err, IfOk, IfErr, IsTrue, nat_lt, if◌then◌else◌}
 use Rattle.rtk_bits.specs.Bits.{bits, unsigned, padding}
 use Rattle.rtk_message.specs.declared.accepted.Accepted.{Accepted}
 use Rattle.rtk_message.specs.declared.any_fault.AnyFault.{AnyFault}
@@ -9,18 +9,19 @@ use Rattle.rtk_message.specs.declared.any_message.AnyMessage.{AnyMessage}
 use Rattle.rtk_message.specs.declared.any_message.AnyMessage.TheVariants.{Message, Msm}
 use Rattle.rtk_message.specs.declared.fault.DecodeFault.{DecodeFault}
 use Rattle.rtk_message.specs.declared.message.Message as message
-use Rattle.rtk_message.specs.declared.msm_kind.MsmKind.TheVariants.{Msm5, Msm6, Msm7}
+use Rattle.rtk_message.specs.declared.msm_type.MsmType.{MsmType}
 use Rattle.rtk_message.specs.Accepted.{accepts}
 use Rattle.rtk_message.specs.AnyFaultCode.{any_fault_of}
 use Rattle.rtk_message.specs.Decoded as decoded
 use Rattle.rtk_message.specs.Fields.{Field, u, bits_of_fields}
 use Rattle.rtk_message.specs.MsmForm as form
+use Rattle.rtk_message.specs.Systems.{number_of_type, type_of_number}
 
 -- formula
 -- the message number (RTCM 10403.3, DF002)
 abbrev pub number_of : AnyMessage → ℕ
 number_of (Message m) = decoded.number_of m
-number_of (Msm m) = form.number_of_kind m.kind
+number_of (Msm m) = number_of_type (form.type_of m)
 
 -- formula
 -- the reference station (DF003)
@@ -28,7 +29,7 @@ abbrev pub station_of : AnyMessage → ℕ
 station_of (Message m) = decoded.station_of m
 station_of (Msm m) = m.header.station
 
--- the time of week (DF004), which the station messages do not have
+-- the clock, which the station messages do not have: that of GPS is the time of week (DF004)
 abbrev pub tow_of : AnyMessage → Option ℕ
 tow_of (Message m) = decoded.tow_of m
 tow_of (Msm m) = Some m.header.tow
@@ -69,13 +70,15 @@ abbrev pub if_any_fault_of : Option DecodeFault → Option AnyFault
 if_any_fault_of None = None
 if_any_fault_of (Some f) = Some (any_fault_of f)
 
+-- the first fault of the bits after this number, which is that of an MSM of this type, or of no MSM
+abbrev pub fault_of_type : Option MsmType → ℕ → List Bool → Option AnyFault
+fault_of_type (Some t) n bs = form.first_fault t bs
+fault_of_type None n bs = if_any_fault_of (decoded.fault_after_number n bs)
+
 -- formula
 -- the first fault of the bits after this number, if messages of this number are read
 abbrev pub fault_after_number : ℕ → List Bool → Option AnyFault
-fault_after_number n bs =
-    if n == 1075 then form.first_fault Msm5 bs else
-    if n == 1076 then form.first_fault Msm6 bs else
-    if n == 1077 then form.first_fault Msm7 bs else if_any_fault_of (decoded.fault_after_number n bs)
+fault_after_number n bs = fault_of_type (type_of_number n) n bs
 
 -- formula
 -- the first fault of the bits after this number, by a set of messages

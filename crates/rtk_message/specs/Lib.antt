@@ -10,6 +10,7 @@ pub mod FieldColumns
 pub mod ColumnLaws
 pub mod Msm1074
 pub mod Msm1074Laws
+pub mod Systems
 pub mod MsmForm
 pub mod Decoded
 pub mod Accepted

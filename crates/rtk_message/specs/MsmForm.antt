@@ -1,8 +1,8 @@
--- The multiple signal messages of GPS after their number (RTCM 10403.3, messages 1074 to 1077, MSM4
--- to MSM7): a header of 157 bits, the cell mask, the columns. One table serves all kinds.
--- Source: RTCM 10403.3, messages 1074 to 1077
-use Rattle.std.specs.Prelude.{◌≡◌, ℕ, ◌+◌, ◌*◌, ◌≤◌, ◌<◌, Bool, List, [], ◌++◌, length, sum_by, count_ones, Option, Some, None, nat_lt, nat_le, if◌then◌else◌}
-use Rattle.rtk_message.specs.Fields.{week_ms, tow_in, Field, FieldsFit}
+-- The multiple signal messages after their number (RTCM 10403.3, MSM4 to MSM7): a header of 157
+-- bits, the cell mask, the columns. One table serves all kinds and all systems.
+-- Source: RTCM 10403.3, messages 1071 to 1137
+use Rattle.std.specs.Prelude.{◌≡◌, ℕ, ◌+◌, ◌*◌, ◌≤◌, ◌<◌, Bool, not, IsTrue, List, [], ◌++◌, length, sum_by, count_ones, Option, Some, None, nat_lt, if◌then◌else◌}
+use Rattle.rtk_message.specs.Fields.{tow_in, Field, FieldsFit}
 use Rattle.rtk_message.specs.FieldColumns.{numbers, integers, flags}
 use Rattle.rtk_message.specs.Msm1074.{header_table, satellite_count, signal_count, satellite_count_in, mask_bits_in, cell_count_in}
 use Rattle.rtk_message.specs.declared.any_fault.AnyFault.{AnyFault}
@@ -10,16 +10,15 @@ use Rattle.rtk_message.specs.declared.any_fault.AnyFault.TheVariants.{Short, Epo
 use Rattle.rtk_message.specs.declared.msm_kind.MsmKind.{MsmKind}
 use Rattle.rtk_message.specs.declared.msm_kind.MsmKind.TheVariants.{Msm4, Msm5, Msm6, Msm7}
 use Rattle.rtk_message.specs.declared.msm_kind.MsmForm.{MsmForm}
+use Rattle.rtk_message.specs.declared.msm_type.MsmType.{MsmType}
+use Rattle.rtk_message.specs.declared.system.System.TheVariants.{Gps}
 use Rattle.rtk_message.specs.declared.msm.Msm.{Msm}
 use Rattle.rtk_message.specs.declared.msm1074.Msm1074.{Msm1074}
+use Rattle.rtk_message.specs.Systems.{number_of_type, is_in_week}
 
--- table
--- the message number (DF002)
-abbrev pub number_of_kind : MsmKind → ℕ
-number_of_kind Msm4 = 1074
-number_of_kind Msm5 = 1075
-number_of_kind Msm6 = 1076
-number_of_kind Msm7 = 1077
+-- the type of a message: its system and its kind
+abbrev pub type_of : Msm → MsmType
+type_of m = record { system = m.system; kind = m.kind }
 
 -- table
 -- the widths of DF400 or DF405, DF401 or DF406, DF402 or DF407, and DF403 or DF408, in bits
@@ -44,7 +43,7 @@ abbrev pub mask_table : Msm → List Field
 mask_table m = numbers (signal_count m.header) m.cell_mask
 
 -- table
--- the columns of the satellites: DF397, extended satellite information, DF398, DF399
+-- the columns of the satellites: DF397, extended satellite information (GLONASS: DF419), DF398, DF399
 abbrev pub satellite_table : Msm → List Field
 satellite_table m =
     numbers 8 m.rough_ms ++ (numbers 4 m.extended ++ (numbers 10 m.rough_fraction ++ integers 14 m.rough_rate))
@@ -100,27 +99,28 @@ pub record HasNoCells (m : Msm) : Type 0 where
   pub fine_rate : m.fine_rate ≡ []
 
 -- constant
--- the message has the form of its kind: each field fits, the time lies in a week, the cell mask has
+-- the message has the form of its kind: each field fits, the clock lies in a week, the cell mask has
 -- at most 64 bits, the columns have their lengths
 pub record HasForm (m : Msm) : Type 0 where
   pub fields_fit : FieldsFit (table m)
-  pub time_in_week : m.header.tow < week_ms
+  pub time_in_week : IsTrue (is_in_week m.system m.header.tow)
   pub mask_bits : satellite_count m.header * signal_count m.header ≤ 64
   pub lengths : HasLengths m
 
 -- constant
--- a kind from MSM5 on; message 1074 has a type of its own (this project's rule)
-abbrev pub IsWide : MsmKind → Type 0
-IsWide k = 1074 < number_of_kind k
+-- any type but MSM4 of GPS: message 1074 has a Rust type of its own (this project's rule)
+abbrev pub IsWide : MsmType → Type 0
+IsWide t = 1074 < number_of_type t
 
--- which messages 1075 to 1077 can be written as bits
+-- which messages other than 1074 can be written as bits
 pub record IsValid (m : Msm) : Type 0 where
-  pub wide : IsWide m.kind
+  pub wide : IsWide (type_of m)
   pub form : HasForm m
 
 -- a 1074 in this form: it has no columns of range rates (this project's rule)
 abbrev pub msm_of_1074 : Msm1074 → Msm
 msm_of_1074 m = record {
+  system = Gps;
   kind = Msm4;
   header = m.header;
   cell_mask = m.cell_mask;
@@ -150,10 +150,10 @@ cell_bits k = (form_of k).fine_range + (form_of k).fine_phase + (form_of k).lock
 
 -- formula
 -- in the order in which causes are looked for (this project's rule)
-abbrev pub first_fault : MsmKind → List Bool → Option AnyFault
-first_fault k bs =
-    if nat_lt (length bs) 157 then Some (Short (number_of_kind k)) else
-    if nat_le week_ms (tow_in bs) then Some (EpochRange (number_of_kind k)) else
-    if nat_lt 64 (mask_bits_in bs) then Some (TooManyCells (number_of_kind k)) else
-    if nat_lt (length bs) (157 + mask_bits_in bs + satellite_bits k * satellite_count_in bs + cell_bits k * cell_count_in bs)
-    then Some (Short (number_of_kind k)) else None
+abbrev pub first_fault : MsmType → List Bool → Option AnyFault
+first_fault t bs =
+    if nat_lt (length bs) 157 then Some (Short (number_of_type t)) else
+    if not (is_in_week t.system (tow_in bs)) then Some (EpochRange (number_of_type t)) else
+    if nat_lt 64 (mask_bits_in bs) then Some (TooManyCells (number_of_type t)) else
+    if nat_lt (length bs) (157 + mask_bits_in bs + satellite_bits t.kind * satellite_count_in bs + cell_bits t.kind * cell_count_in bs)
+    then Some (Short (number_of_type t)) else None

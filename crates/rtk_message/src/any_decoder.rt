@@ -3,8 +3,9 @@
 ghost use Rattle.std.specs.Prelude.{◌≡◌, ◌<◌, ◌++◌, Bool, List, Some, Err, IfOk, IfErr};
 ghost use Rattle.rtk_bits.specs.Bits.{bits, bits_of};
 ghost use Rattle.rtk_message.specs.AnyDecoded.{DecodesBy, any_of, fault_after_number};
-ghost use Rattle.rtk_message.specs.MsmForm.{number_of_kind, IsWide};
+ghost use Rattle.rtk_message.specs.MsmForm.{IsWide};
 ghost use Rattle.rtk_message.specs.Steps.AfterAnyNumber.{BeginsAfterAnyNumber};
+ghost use Rattle.rtk_message.specs.Systems.{number_of_type};
 
 use crate::accepted::Accepted;
 use crate::any_fault::AnyFault;
@@ -15,7 +16,7 @@ use crate::fault::DecodeFault;
 use crate::layout::Layout;
 use crate::message::{Message, read_by_number};
 use crate::msm::Msm;
-use crate::msm_kind::MsmKind;
+use crate::msm_type::MsmType;
 use crate::msm1074::Msm1074;
 use crate::obs1004::Obs1004;
 use rtk_bits::BitReader;
@@ -50,7 +51,7 @@ pub struct AnyDecoder {
     obs1004: Result<AnyMessage, AnyFault>,
     // The last reading of a 1074.
     msm1074: Result<AnyMessage, AnyFault>,
-    // The last reading of a 1075, 1076 or 1077.
+    // The last reading of another MSM.
     msm: Result<AnyMessage, AnyFault>,
     // The last reading of a 1005.
     arp1005: Result<AnyMessage, AnyFault>,
@@ -91,7 +92,7 @@ impl AnyDecoder {
                 keep_1004(&mut self.obs1004, reader);
                 &self.obs1004
             }
-            Msm1074::NUMBER if accepted.msm4 => {
+            Msm1074::NUMBER if accepted.gps.msm4 => {
                 keep_1074(&mut self.msm1074, reader);
                 &self.msm1074
             }
@@ -121,11 +122,11 @@ impl AnyDecoder {
             keep_fault(&mut self.other, AnyFault::Other { number });
             return &self.other;
         }
-        let Some(kind) = MsmKind::msm5_to_7(number) else {
+        let Some(msm_type) = MsmType::wide_of_number(number) else {
             keep_new(&mut self.other, number, reader);
             return &self.other;
         };
-        keep_msm(&mut self.msm, kind, reader);
+        keep_msm(&mut self.msm, msm_type, reader);
         &self.msm
     }
 }
@@ -194,21 +195,21 @@ fn keep_1006(kept: &mut Result<AnyMessage, AnyFault>, mut reader: BitReader<'_>)
     keep_new(kept, Arp1006::NUMBER, reader);
 }
 
-// Reads a 1075, 1076 or 1077, over the one of these that is kept.
+// Reads an MSM other than 1074, over the one of these that is kept.
 #[inline(never)]
-fn keep_msm(kept: &mut Result<AnyMessage, AnyFault>, kind: MsmKind, mut reader: BitReader<'_>)
-    requires { IsWide kind }
-    ensures message { IfOk kept.new (λ m. BeginsAfterAnyNumber (number_of_kind kind) reader.entry m) }
-    ensures fault { IfErr kept.new (λ f. fault_after_number (number_of_kind kind) reader.entry ≡ Some f) }
+fn keep_msm(kept: &mut Result<AnyMessage, AnyFault>, msm_type: MsmType, mut reader: BitReader<'_>)
+    requires { IsWide msm_type }
+    ensures message { IfOk kept.new (λ m. BeginsAfterAnyNumber (number_of_type msm_type) reader.entry m) }
+    ensures fault { IfErr kept.new (λ f. fault_after_number (number_of_type msm_type) reader.entry ≡ Some f) }
 {
     if let Ok(AnyMessage::Msm(message)) = kept {
-        let Err(fault) = message.replace_fields(kind, &mut reader) else {
+        let Err(fault) = message.replace_fields(msm_type, &mut reader) else {
             return;
         };
         keep_fault(kept, fault);
         return;
     }
-    keep_new_msm(kept, kind, reader);
+    keep_new_msm(kept, msm_type, reader);
 }
 
 // These have a reading among their locals, which a function clears when it is called. They are not
@@ -225,12 +226,12 @@ fn keep_new(kept: &mut Result<AnyMessage, AnyFault>, number: u16, reader: BitRea
 
 // Keeps a new reading of a 1075, 1076 or 1077.
 #[inline(never)]
-fn keep_new_msm(kept: &mut Result<AnyMessage, AnyFault>, kind: MsmKind, reader: BitReader<'_>)
-    requires { IsWide kind }
-    ensures message { IfOk kept.new (λ m. BeginsAfterAnyNumber (number_of_kind kind) reader.entry m) }
-    ensures fault { IfErr kept.new (λ f. fault_after_number (number_of_kind kind) reader.entry ≡ Some f) }
+fn keep_new_msm(kept: &mut Result<AnyMessage, AnyFault>, msm_type: MsmType, reader: BitReader<'_>)
+    requires { IsWide msm_type }
+    ensures message { IfOk kept.new (λ m. BeginsAfterAnyNumber (number_of_type msm_type) reader.entry m) }
+    ensures fault { IfErr kept.new (λ f. fault_after_number (number_of_type msm_type) reader.entry ≡ Some f) }
 {
-    *kept = read_msm(kind, reader);
+    *kept = read_msm(msm_type, reader);
 }
 
 // Keeps a fault in place of a reading.
@@ -246,8 +247,8 @@ fn read_any_by_number(number: u16, reader: BitReader<'_>) -> Result<AnyMessage, 
     ensures message { IfOk result (λ m. BeginsAfterAnyNumber number reader.entry m) }
     ensures fault { IfErr result (λ f. fault_after_number number reader.entry ≡ Some f) }
 {
-    match MsmKind::msm5_to_7(number) {
-        Some(kind) => read_msm(kind, reader),
+    match MsmType::wide_of_number(number) {
+        Some(msm_type) => read_msm(msm_type, reader),
         None => widened(read_by_number(number, reader)),
     }
 }
@@ -264,12 +265,12 @@ fn widened(reading: Result<Message, DecodeFault>) -> Result<AnyMessage, AnyFault
 
 // Reads a 1075, 1076 or 1077 after its number.
 #[inline(never)]
-fn read_msm(kind: MsmKind, mut reader: BitReader<'_>) -> Result<AnyMessage, AnyFault>
-    requires { IsWide kind }
-    ensures message { IfOk result (λ m. BeginsAfterAnyNumber (number_of_kind kind) reader.entry m) }
-    ensures fault { IfErr result (λ f. fault_after_number (number_of_kind kind) reader.entry ≡ Some f) }
+fn read_msm(msm_type: MsmType, mut reader: BitReader<'_>) -> Result<AnyMessage, AnyFault>
+    requires { IsWide msm_type }
+    ensures message { IfOk result (λ m. BeginsAfterAnyNumber (number_of_type msm_type) reader.entry m) }
+    ensures fault { IfErr result (λ f. fault_after_number (number_of_type msm_type) reader.entry ≡ Some f) }
 {
-    let mut message = Msm::empty(kind);
-    message.replace_fields(kind, &mut reader)?;
+    let mut message = Msm::empty(msm_type);
+    message.replace_fields(msm_type, &mut reader)?;
     Ok(AnyMessage::Msm(message))
 }

@@ -5,9 +5,9 @@ use thiserror::Error;
 
 /// Why a payload is not read by a set of messages: the first cause that holds.
 ///
-/// The causes, their order and the fixed part of a message are those of `DecodeFault`. 1075, 1076 and
-/// 1077 have the fixed part of a 1074: 169 bits. `TooManyCells` gives the number of the message,
-/// since four messages have a cell mask (DF396).
+/// The causes, their order and the fixed part of a message are those of `DecodeFault`. Each MSM has the
+/// fixed part of a 1074: 169 bits. `TooManyCells` gives the number of the message, since each MSM has
+/// a cell mask (DF396).
 #[derive(Clone, Copy, Debug, PartialEq, Eq, Error)]
 pub enum AnyFault {
     /// The payload has fewer than 12 bits, so there is no message number (DF002).
@@ -19,10 +19,11 @@ pub enum AnyFault {
     /// The payload ends before the last field of the message's table.
     #[error("{} message {number} is cut short", self.code())]
     Short { number: u16 },
-    /// The time of week (DF004) is 604,800,000 ms or more.
+    /// The clock does not lie in a week. GPS: the time of week (DF004) is 604,800,000 ms or more; other
+    /// systems: `System::is_in_week`.
     #[error("{} message {number} has a time outside the week", self.code())]
     EpochRange { number: u16 },
-    /// The cell mask of a 1074 to 1077 (DF396) would have more than 64 bits.
+    /// The cell mask of an MSM (DF396) would have more than 64 bits.
     #[error("{} message {number} has more than 64 cell mask bits", self.code())]
     TooManyCells { number: u16 },
 }

@@ -1,4 +1,4 @@
-//! A message of the wider set: one of the four types, or an MSM5, MSM6 or MSM7 of GPS.
+//! A message of the wider set: one of the four types, or another MSM4 to MSM7 of any system.
 
 ghost use Rattle.std.specs.Prelude.{◌≡◌, IsTrue, ◌↔◌};
 ghost use Rattle.rtk_message.specs.AnyDecoded.{IsValid, station_of, number_of, tow_of};
@@ -7,19 +7,19 @@ use crate::message::Message;
 use crate::msm::Msm;
 
 /// A message that a set of messages can have (`Accepted`), with all fields of its table. Source: RTCM
-/// 10403.3, messages 1004 to 1006 and 1074 to 1077.
+/// 10403.3, messages 1004 to 1006 and 1071 to 1137.
 #[derive(PartialEq, Eq, Drop)]
 pub enum AnyMessage {
     /// A 1004, 1005, 1006 or 1074.
     Message(Message),
-    /// A 1075, 1076 or 1077.
+    /// An MSM4 to MSM7 of any system, but no 1074.
     Msm(Msm),
 }
 
 impl AnyMessage {
     /// Returns whether the message can be written as bits: each field fits its width, list lengths
-    /// agree with counts and masks, the time of week is less than 604,800,000 ms, and the cell mask
-    /// has at most 64 bits. An `Msm` of the kind MSM4 can't: a 1074 is a `Msm1074`.
+    /// agree with counts and masks, the clock lies in a week, and the cell mask has at most 64 bits.
+    /// An `Msm` of GPS and of the kind MSM4 can't: a 1074 is a `Msm1074`.
     pub fn fits(&self) -> bool
         ensures { IsTrue result ↔ IsValid self.now }
     {
@@ -45,12 +45,12 @@ impl AnyMessage {
     {
         match self {
             AnyMessage::Message(message) => message.number(),
-            AnyMessage::Msm(message) => message.kind.number(),
+            AnyMessage::Msm(message) => message.msm_type().number(),
         }
     }
 
-    /// Returns the GPS time of week (DF004) in ms. It is `None` exactly for 1005 and 1006, which
-    /// have no time.
+    /// Returns the clock of the message's system, as `MsmHeader` has it. That of GPS is its time of
+    /// week (DF004) in ms. It is `None` exactly for 1005 and 1006, which have no time.
     pub fn tow(&self) -> Option<u32>
         ensures { result ≡ tow_of self.now }
     {

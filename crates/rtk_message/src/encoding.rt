@@ -47,12 +47,12 @@ pub fn encode_any(alloc: Global, message: &AnyMessage) -> Result<Vec<u8>, AllocE
     Ok(writer.finish())
 }
 
-// Puts the number of a 1075, 1076 or 1077, and the fields after it.
+// Puts the number of an MSM other than 1074, and the fields after it.
 fn write_msm(writer: &mut BitWriter, message: &Msm) -> Result<(), AllocError>
     requires { form.IsValid message.now }
     ensures { OnOk result (writer.new ≡ writer.old ++ bits_of_fields (any.table (AnyMessage.Msm message.now))) }
 {
-    writer.put_u(12, message.kind.number() as u64)?;
+    writer.put_u(12, message.msm_type().number() as u64)?;
     message.write(writer)?;
     Ok(())
 }

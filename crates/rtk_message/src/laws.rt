@@ -2,20 +2,26 @@
 //! readings of a message, of fields that fit, and of a number in a text.
 
 ghost use Rattle.std.specs.Int.{IsInRange};
-ghost use Rattle.std.specs.Prelude.{ℕ, ◌<◌, ◌^◌, List, ◌∷◌, ◌++◌, ◌≡◌, ◌↔◌, Bool, Result, decimal};
-ghost use Rattle.rtk_message.specs.Accepted.{all, four};
+ghost use Rattle.std.specs.Prelude.{ℕ, ◌<◌, ◌^◌, List, ◌∷◌, ◌++◌, ◌≡◌, ◌≢◌, ◌↔◌, Bool, IfSome, IsTrue, Some, Result, decimal};
+ghost use Rattle.rtk_message.specs.Accepted.{no_msm, four, all, all_kinds, of_gps, takes, with_type, accepts};
+ghost use Rattle.rtk_message.specs.AnyDecoded as any;
 ghost use Rattle.rtk_message.specs.AnyDecoded.{any_of, if_any_fault_of, DecodesBy};
 ghost use Rattle.rtk_message.specs.Decoded.{Decodes};
+ghost use Rattle.rtk_message.specs.declared.accepted.Accepted.{Accepted};
+ghost use Rattle.rtk_message.specs.declared.accepted.MsmKinds.{MsmKinds};
 ghost use Rattle.rtk_message.specs.declared.any_fault.AnyFault.{AnyFault};
 ghost use Rattle.rtk_message.specs.declared.any_message.AnyMessage.{AnyMessage};
 ghost use Rattle.rtk_message.specs.declared.fault.DecodeFault.{DecodeFault};
 ghost use Rattle.rtk_message.specs.declared.message.Message.{Message};
 ghost use Rattle.rtk_message.specs.declared.msm1074.Msm1074.{Msm1074};
 ghost use Rattle.rtk_message.specs.declared.msm_kind.MsmKind.TheVariants.{Msm4};
+ghost use Rattle.rtk_message.specs.declared.msm_type.MsmType.{MsmType};
+ghost use Rattle.rtk_message.specs.declared.system.System.TheVariants.{Gps};
 ghost use Rattle.rtk_message.specs.Msm1074 as msm1074;
 ghost use Rattle.rtk_message.specs.MsmForm as form;
 ghost use Rattle.rtk_message.specs.Equality.{SaysEqual};
-ghost use Rattle.rtk_message.specs.Fields.{Field, FieldsFit};
+ghost use Rattle.rtk_message.specs.Fields.{Field, FieldsFit, week_ms};
+ghost use Rattle.rtk_message.specs.Systems.{gps, number_of_type, type_of_number};
 
 use crate::accepted::Accepted;
 use crate::any_fault::AnyFault;
@@ -54,7 +60,7 @@ pub fn equal_faults(a: &DecodeFault, b: &DecodeFault) -> bool
     a == b
 }
 
-/// A law: `==` says whether the kind and all fields of two messages 1075 to 1077 are the same.
+/// A law: `==` says whether the system, the kind and all fields of two MSM are the same.
 pub fn equal_msm(a: &Msm, b: &Msm) -> bool
     ensures { SaysEqual result a.now b.now }
 {
@@ -80,13 +86,39 @@ pub fn equal_any_faults(a: &AnyFault, b: &AnyFault) -> bool
 pub fn form_of_1074()
     ensures table { (m : Msm1074) → msm1074.table m ≡ form.table (form.msm_of_1074 m) }
     ensures valid { (m : Msm1074) → msm1074.IsValid m ↔ form.HasForm (form.msm_of_1074 m) }
-    ensures fault { (bs : List Bool) → if_any_fault_of (msm1074.first_fault bs) ≡ form.first_fault Msm4 bs }
+    ensures fault { (bs : List Bool) → if_any_fault_of (msm1074.first_fault bs) ≡ form.first_fault (gps Msm4) bs }
 {}
 
-/// A law: the named set `FOUR` has 1004, 1005, 1006 and 1074, and `ALL` has all messages.
+/// A law: it says which messages the named sets have.
 pub fn named_sets()
+    ensures of_none { Accepted.NO_MSM ≡ no_msm }
     ensures of_four { Accepted.FOUR ≡ four }
+    ensures of_gps { Accepted.GPS ≡ of_gps all_kinds }
     ensures of_all { Accepted.ALL ≡ all }
+{}
+
+/// A law: each type of MSM has a number of its own, and the type is read back from it.
+pub fn numbers_of_types()
+    ensures read_back { (t : MsmType) → type_of_number (number_of_type t) ≡ Some t }
+    ensures number { (n : ℕ) (t : MsmType) → type_of_number n ≡ Some t → n ≡ number_of_type t }
+    ensures injective { (s t : MsmType) → number_of_type s ≡ number_of_type t → s ≡ t }
+{}
+
+/// A law: a set reads the messages of the number of an MSM if it has the type of this MSM. A set with
+/// one type more has this type, and for the rest the types that it had. A set of kinds of GPS has no
+/// type of another system.
+pub fn sets_of_types()
+    ensures accepts { (a : Accepted) (t : MsmType) → accepts a (number_of_type t) ≡ takes a t }
+    ensures added { (a : Accepted) (t : MsmType) → IsTrue (takes (with_type a t) t) }
+    ensures others { (a : Accepted) (s t : MsmType) → s ≢ t → takes (with_type a t) s ≡ takes a s }
+    ensures gps { (ks : MsmKinds) (t : MsmType) → IsTrue (takes (of_gps ks) t) → t.system ≡ Gps }
+{}
+
+/// A law: in a set without MSM of other systems than GPS a message has a time of week (DF004) less
+/// than 604,800,000 ms, or no clock.
+pub fn clocks_of_gps_lie_in_a_week()
+    ensures { (ks : MsmKinds) (m : AnyMessage) → any.IsValid m → IsTrue (accepts (of_gps ks) (any.number_of m))
+        → IfSome (any.tow_of m) (λ tow. tow < week_ms) }
 {}
 
 /// A law: `decode` answers what `decode_any` answers by the set of 1004, 1005, 1006 and 1074, and

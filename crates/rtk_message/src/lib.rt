@@ -1,28 +1,34 @@
-//! Messages of a base station, by their tables of fields: 1004, 1005, 1006 and 1074 to 1077 of RTCM
-//! 10403.3.
+//! Messages of a base station, by their tables of fields: 1004, 1005, 1006, and the multiple signal
+//! messages MSM4 to MSM7 of GPS, GLONASS, Galileo, BeiDou, QZSS, SBAS and NavIC. Source: RTCM 10403.3.
 //!
 //! `Message`, `decode` and `encode` are for 1004, 1005, 1006 and 1074. `AnyMessage`, `decode_any` and
-//! `encode_any` are for these and for 1075, 1076 and 1077: a set, `Accepted`, says which are read.
+//! `encode_any` are for these and for the other MSM: a set, `Accepted`, says which are read.
 //!
 //! Its tests: tests/values/src/message.rt.in and message/
 //!
 //! ```rust
-//! use rtk_message::{Message, decode, encode};
+//! use rtk_message::{Accepted, AnyMessage, MsmKind, MsmType, System, decode_any, encode_any};
 //! use std::alloc::{AllocError, Global};
 //!
-//! // The payload of a 1005 of station 2003.
-//! const PAYLOAD: [u8; 19] = [
-//!     0x3E, 0xD7, 0xD3, 0x02, 0x02, 0x98, 0x0E, 0xDE, 0xEF, 0x34, 0xB4, 0xBD, 0x62, 0xAC, 0x09,
-//!     0x41, 0x98, 0x6F, 0x33,
+//! // The payload of a 1097 of station 1: satellite 11 with signal 20.
+//! const PAYLOAD: [u8; 36] = [
+//!     0x44, 0x90, 0x01, 0x71, 0x4B, 0xE8, 0x00, 0x00, 0x00, 0x00, 0x10, 0x00, 0x00, 0x00, 0x00, 0x00,
+//!     0x00, 0x00, 0x00, 0x08, 0x00, 0x54, 0xC3, 0x09, 0xFB, 0x50, 0x2B, 0xF2, 0x7F, 0x1A, 0xEE, 0x52,
+//!     0xC5, 0xA4, 0x01, 0x90,
 //! ];
 //!
-//! // It is read, and written again. X is in 0.0001 m.
+//! // Galileo's MSM7 is read, and written again. The clock is the time of week in ms.
 //! fn example(alloc: Global) -> Result<bool, AllocError> {
-//!     let Ok(Message::Arp1005(point)) = decode(&PAYLOAD) else {
+//!     let galileo = MsmType {
+//!         system: System::Galileo,
+//!         kind: MsmKind::Msm7,
+//!     };
+//!     let accepted = Accepted::NO_MSM.with(galileo);
+//!     let Ok(AnyMessage::Msm(message)) = decode_any(accepted, &PAYLOAD) else {
 //!         return Ok(false);
 //!     };
-//!     let is_read = point.station == 2003 && point.x == 11_141_045_999;
-//!     let payload = encode(alloc, &Message::Arp1005(point))?;
+//!     let is_read = message.msm_type().number() == 1097 && message.header.tow == 475_200_000;
+//!     let payload = encode_any(alloc, &AnyMessage::Msm(message))?;
 //!     Ok(is_read && payload.as_slice() == PAYLOAD.as_slice())
 //! }
 //! ```
@@ -46,10 +52,12 @@ mod message;
 mod msm;
 mod msm1074;
 mod msm_kind;
+mod msm_type;
 mod obs1004;
+mod system;
 mod text;
 
-pub use accepted::Accepted;
+pub use accepted::{Accepted, MsmKinds};
 pub use any_decoder::{AnyDecoder, decode_any};
 pub use any_fault::AnyFault;
 pub use any_message::AnyMessage;
@@ -61,13 +69,16 @@ pub use encoding::{decode_any_of_encode_any, decode_of_encode, encode, encode_an
 pub use fault::DecodeFault;
 pub use field::WEEK_MS;
 pub use laws::{
-    decodes_by_four, equal_1004, equal_1074, equal_any_faults, equal_any_messages, equal_faults,
-    equal_messages, equal_msm, form_of_1074, named_sets, numbers_end, parts_of_fields_fit,
+    clocks_of_gps_lie_in_a_week, decodes_by_four, equal_1004, equal_1074, equal_any_faults,
+    equal_any_messages, equal_faults, equal_messages, equal_msm, form_of_1074, named_sets,
+    numbers_end, numbers_of_types, parts_of_fields_fit, sets_of_types,
 };
 pub use layout::Layout;
 pub use message::Message;
 pub use msm::Msm;
 pub use msm_kind::MsmKind;
+pub use msm_type::MsmType;
 pub use msm1074::{Msm1074, MsmHeader};
 pub use obs1004::{Obs1004, Satellite, Satellites};
+pub use system::System;
 pub use text::{put_any_fault, put_fault, put_named, put_number, put_sh_quoted};

@@ -1,9 +1,10 @@
-//! Messages 1075, 1076 and 1077: GPS observations of any signals (MSM5 to MSM7), column by column.
+//! Multiple signal messages (MSM4 to MSM7) other than 1074: observations of any signals of a system,
+//! column by column.
 
 ghost use Rattle.std.specs.Prelude.{◌≡◌, ◌+◌, ◌*◌, ◌≤◌, ◌++◌, length, OnOk, IfErr, Some, IsTrue, ◌↔◌};
 ghost use Rattle.rtk_message.specs.Fields.{TakesAll, FieldsAreZero, bits_of_fields};
 ghost use Rattle.rtk_message.specs.Msm1074.{satellite_count};
-ghost use Rattle.rtk_message.specs.MsmForm.{form_of, if_rates, satellite_bits, cell_bits, satellite_table, cell_table, table, cell_count, first_fault, HasForm, HasNoCells, IsValid, IsWide};
+ghost use Rattle.rtk_message.specs.MsmForm.{form_of, if_rates, satellite_bits, cell_bits, satellite_table, cell_table, table, type_of, cell_count, first_fault, HasForm, HasNoCells, IsValid, IsWide};
 ghost use Rattle.rtk_message.specs.Steps.MsmColumns.{HasWidths, bits_of_cells, HaveSatelliteLengths, HasSatellites, HasCells, ChangesSatellites, ChangesCells, SatellitesFit, CellsFit};
 ghost use Rattle.rtk_message.specs.Steps.FieldSteps.{PutsAll};
 
@@ -11,30 +12,35 @@ use crate::any_fault::AnyFault;
 use crate::column::{
     Column, column_fits, count_cells, put_column, put_mask, read_column, read_mask,
 };
-use crate::field::WEEK_MS;
 use crate::msm_kind::{MsmForm, MsmKind};
+use crate::msm_type::MsmType;
 use crate::msm1074::{MsmHeader, has_too_many_cells, next_header};
+use crate::system::System;
 use rtk_bits::{BitReader, BitWriter};
 use std::alloc::AllocError;
 
-/// Multiple signal message 5, 6 or 7 of GPS. Each field is given for all satellites, or for all
-/// cells, before the next field.
+/// Multiple signal message 4, 5, 6 or 7 of a system, but for 1074. Each field is given for all
+/// satellites, or for all cells, before the next field.
 ///
 /// The satellites are in rising order, as in their mask, and so are the signals. The cells go
 /// satellite by satellite, and for each satellite the signals rise. The columns `extended`,
-/// `rough_rate` and `fine_rate` are empty in a 1076. Source: RTCM 10403.3, messages 1075 to 1077.
+/// `rough_rate` and `fine_rate` are empty in an MSM4 and an MSM6. Source: RTCM 10403.3, messages 1071
+/// to 1137.
 #[derive(Drop, PartialEq, Eq)]
 pub struct Msm {
-    /// The kind: MSM5, MSM6 or MSM7. With MSM4 the message can't be written: a 1074 is a `Msm1074`.
+    /// The system of the satellites.
+    pub system: System,
+    /// The kind. With MSM4 of GPS the message can't be written: a 1074 is a `Msm1074`.
     pub kind: MsmKind,
-    /// The fields before the cell mask.
+    /// The fields before the cell mask. The clock of the system, 30 bits, is its `tow`.
     pub header: MsmHeader,
     /// Cell mask (DF396): for each satellite of the mask a row of one bit for each signal of the
     /// mask, the first signal in the most significant of these bits.
     pub cell_mask: Column<u32>,
     /// For each satellite the whole milliseconds of the rough range (DF397); 255 is invalid.
     pub rough_ms: Column<u8>,
-    /// For each satellite the extended satellite information, 4 bits, reserved for GPS. MSM5 and
+    /// For each satellite the extended satellite information, 4 bits. GLONASS: the frequency channel
+    /// and 7 (DF419), 0 to 13; 14 is reserved, and 15 tells none. Other systems: reserved. MSM5 and
     /// MSM7.
     pub extended: Column<u8>,
     /// For each satellite the rest of the rough range (DF398), in 2^-10 ms, 10 bits.
@@ -42,18 +48,18 @@ pub struct Msm {
     /// For each satellite the rough range rate (DF399), in m/s, 14 bits signed; -8192 is invalid.
     /// MSM5 and MSM7.
     pub rough_rate: Column<i16>,
-    /// For each cell the fine pseudorange. MSM5: DF400, in 2^-24 ms, 15 bits signed; -16384 is
+    /// For each cell the fine pseudorange. MSM4 and MSM5: DF400, in 2^-24 ms, 15 bits signed; -16384 is
     /// invalid. MSM6 and MSM7: DF405, in 2^-29 ms, 20 bits signed; -524288 is invalid.
     pub fine_range: Column<i32>,
-    /// For each cell the fine phase range. MSM5: DF401, in 2^-29 ms, 22 bits signed; -2097152 is
+    /// For each cell the fine phase range. MSM4 and MSM5: DF401, in 2^-29 ms, 22 bits signed; -2097152 is
     /// invalid. MSM6 and MSM7: DF406, in 2^-31 ms, 24 bits signed; -8388608 is invalid.
     pub fine_phase: Column<i32>,
-    /// For each cell the lock time indicator. MSM5: DF402, 0 to 15. MSM6 and MSM7: DF407, 0 to
+    /// For each cell the lock time indicator. MSM4 and MSM5: DF402, 0 to 15. MSM6 and MSM7: DF407, 0 to
     /// 1023; 705 and more are reserved.
     pub lock_indicator: Column<u16>,
     /// For each cell whether there is a half-cycle ambiguity (DF420).
     pub half_cycle: Column<bool>,
-    /// For each cell the carrier-to-noise ratio; 0 if it is not given. MSM5: DF403, in dB-Hz, 0 to
+    /// For each cell the carrier-to-noise ratio; 0 if it is not given. MSM4 and MSM5: DF403, in dB-Hz, 0 to
     /// 63. MSM6 and MSM7: DF408, in 2^-4 dB-Hz, 0 to 1023.
     pub cnr: Column<u16>,
     /// For each cell the fine range rate (DF404), in 0.0001 m/s, 15 bits signed; -16384 is invalid.
@@ -62,14 +68,15 @@ pub struct Msm {
 }
 
 impl Msm {
-    /// Makes an empty message of this kind: its fields are 0, it has no satellites and no cells.
-    pub fn empty(kind: MsmKind) -> Msm
-        ensures kind { result.kind ≡ kind }
+    /// Makes an empty message of this type: its fields are 0, it has no satellites and no cells.
+    pub fn empty(msm_type: MsmType) -> Msm
+        ensures is_of_type { type_of result ≡ msm_type }
         ensures empty { HasNoCells result }
         ensures zero { FieldsAreZero (table result) }
     {
         Msm {
-            kind,
+            system: msm_type.system,
+            kind: msm_type.kind,
             header: MsmHeader::default(),
             cell_mask: Column::new(),
             rough_ms: Column::new(),
@@ -85,25 +92,37 @@ impl Msm {
         }
     }
 
+    /// Returns the type, which is the system and the kind.
+    pub fn msm_type(&self) -> MsmType
+        ensures { result ≡ type_of self.now }
+    {
+        MsmType {
+            system: self.system,
+            kind: self.kind,
+        }
+    }
+
     /// Reads the fields after the number in place of those that the message has. After a fault the
     /// message has fields of both, and is to be dropped.
     #[inline(always)]
     pub(crate) fn replace_fields(
         &mut self,
-        kind: MsmKind,
+        msm_type: MsmType,
         reader: &mut BitReader<'_>,
     ) -> Result<(), AnyFault>
-        requires { IsWide kind }
-        ensures fields { OnOk result (IsValid self.new × (self.new.kind ≡ kind) × TakesAll (table self.new) reader.old reader.new) }
-        ensures fault { IfErr result (λ f. first_fault kind reader.old ≡ Some f) }
+        requires { IsWide msm_type }
+        ensures fields { OnOk result (IsValid self.new × (type_of self.new ≡ msm_type) × TakesAll (table self.new) reader.old reader.new) }
+        ensures fault { IfErr result (λ f. first_fault msm_type reader.old ≡ Some f) }
     {
-        let number = kind.number();
+        let number = msm_type.number();
         if reader.remaining() < 157 {
             return Err(AnyFault::Short { number });
         }
+        let kind = msm_type.kind;
+        self.system = msm_type.system;
         self.kind = kind;
         self.header = next_header(reader);
-        if self.header.tow >= WEEK_MS {
+        if !msm_type.system.is_in_week(self.header.tow) {
             return Err(AnyFault::EpochRange { number });
         }
         let satellites = self.header.satellite_count();
@@ -218,13 +237,16 @@ impl Msm {
         Ok(())
     }
 
-    /// Returns whether the message can be written as bits: it is no MSM4, each field fits its
-    /// width, the columns have their lengths, the time of week is less than 604,800,000 ms, and the
-    /// cell mask has at most 64 bits.
+    /// Returns whether the message can be written as bits: it is no MSM4 of GPS, each field fits its
+    /// width, the columns have their lengths, the clock lies in a week, and the cell mask has at most
+    /// 64 bits.
     pub fn fits(&self) -> bool
         ensures { IsTrue result ↔ IsValid self.now }
     {
-        if self.kind.number() == 1074 || !self.header.fits() {
+        if self.msm_type().number() == 1074 || !self.header.fits() {
+            return false;
+        }
+        if !self.system.is_in_week(self.header.tow) {
             return false;
         }
         if has_too_many_cells(self.header.satellite_count(), self.header.signal_count()) {

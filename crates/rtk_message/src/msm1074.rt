@@ -1,7 +1,7 @@
 //! Message 1074: GPS observations of any signals (MSM4), column by column.
 
 ghost use Rattle.std.specs.Prelude.{◌≡◌, ◌≤◌, ◌<◌, ◌+◌, ◌*◌, length, Some, OnOk, IfErr, IsTrue, ◌↔◌, count_ones};
-ghost use Rattle.rtk_message.specs.Fields.{week_ms, TakesAll, FieldsFit};
+ghost use Rattle.rtk_message.specs.Fields.{TakesAll, FieldsFit};
 ghost use Rattle.rtk_message.specs.Steps.FieldSteps.{PutsAll};
 ghost use Rattle.rtk_message.specs.Msm1074.{header_table, table, first_fault, HasLengths, IsValid};
 ghost use Rattle.rtk_message.specs.Steps.EachFits.{EachFits};
@@ -15,15 +15,17 @@ use crate::layout::Layout;
 use rtk_bits::{BitReader, BitWriter};
 use std::alloc::AllocError;
 
-/// The fields of a 1074 to 1077 before its cell mask: 169 bits, the message number included.
+/// The fields of an MSM4 to MSM7 before its cell mask: 169 bits, the message number included.
 ///
 /// The first bit of a mask is its most significant one and stands for identifier 1. Source: RTCM
-/// 10403.3, messages 1074 to 1077.
+/// 10403.3, messages 1071 to 1137.
 #[derive(Clone, Copy, Debug, Default, PartialEq, Eq)]
 pub struct MsmHeader {
     /// Reference station ID (DF003), 0 to 4095.
     pub station: u16,
-    /// GPS time of week (DF004), in ms, less than 604,800,000.
+    /// The clock of the system, 30 bits: the time of week in ms, less than 604,800,000 (GPS and SBAS
+    /// DF004, Galileo DF248, BeiDou DF427, QZSS DF428, NavIC DF546). GLONASS: the day of the week
+    /// (DF416, 3 bits) and the time of day in ms (DF034, 27 bits).
     pub tow: u32,
     /// Multiple message bit (DF393): more messages of this epoch follow.
     pub multiple_message: bool,
@@ -112,11 +114,11 @@ impl MsmHeader {
         Ok(())
     }
 
-    // Returns whether each field fits its width, and the time of week is less than a week.
+    // Returns whether each field fits its width.
     pub(crate) fn fits(self) -> bool
-        ensures { IsTrue result ↔ (FieldsFit (header_table self) × (self.tow < week_ms)) }
+        ensures { IsTrue result ↔ FieldsFit (header_table self) }
     {
-        if self.station >= 1 << 12 || self.tow >= WEEK_MS || self.issue_of_data_station >= 1 << 3 {
+        if self.station >= 1 << 12 || self.tow >= 1 << 30 || self.issue_of_data_station >= 1 << 3 {
             return false;
         }
         if self.reserved >= 1 << 7 || self.clock_steering >= 1 << 2 {
@@ -126,7 +128,7 @@ impl MsmHeader {
     }
 }
 
-/// Reads the fields of a 1074 to 1077 after its number and before its cell mask.
+/// Reads the fields of an MSM4 to MSM7 after its number and before its cell mask.
 #[inline(always)]
 pub(crate) fn next_header(reader: &mut BitReader<'_>) -> MsmHeader
     requires { 157 ≤ length reader.old }
@@ -208,7 +210,7 @@ impl Layout for Msm1074 {
     }
 
     fn fits(&self) -> bool {
-        if !self.header.fits() {
+        if !self.header.fits() || self.header.tow >= WEEK_MS {
             return false;
         }
         if has_too_many_cells(self.header.satellite_count(), self.header.signal_count()) {

@@ -1,28 +1,31 @@
-//! The kinds of multiple signal messages (MSM) of GPS that are read, and the form of each.
+//! The kinds of multiple signal messages (MSM) that are read, and the form of each.
 
-ghost use Rattle.std.specs.Prelude.{◌≡◌, ◌≢◌, ◌≤◌, IfSome, IfNone};
-ghost use Rattle.rtk_message.specs.declared.msm_kind.MsmKind.{MsmKind};
-ghost use Rattle.rtk_message.specs.MsmForm.{IsWide, number_of_kind, form_of, if_rates, satellite_bits, cell_bits};
+ghost use Rattle.std.specs.Prelude.{◌≡◌, ◌≤◌};
+ghost use Rattle.rtk_message.specs.Systems.{digit_of, number_of_kind, kind_of_digit};
+ghost use Rattle.rtk_message.specs.MsmForm.{form_of, if_rates, satellite_bits, cell_bits};
 
-/// A multiple signal message of GPS. Source: RTCM 10403.3, messages 1074 to 1077.
+use crate::msm_type::MsmType;
+use crate::system::System;
+
+/// Which fields a multiple signal message has. Source: RTCM 10403.3, messages 1071 to 1137.
 #[derive(Clone, Copy, Debug, Default, PartialEq, Eq)]
 pub enum MsmKind {
-    /// Message 1074: ranges, phases and carrier-to-noise ratios.
+    /// MSM4: ranges, phases and carrier-to-noise ratios.
     #[default]
     Msm4,
-    /// Message 1075: as 1074, with range rates.
+    /// MSM5: as MSM4, with range rates.
     Msm5,
-    /// Message 1076: as 1074, with a higher resolution.
+    /// MSM6: as MSM4, with a higher resolution.
     Msm6,
-    /// Message 1077: as 1076, with range rates.
+    /// MSM7: as MSM6, with range rates.
     Msm7,
 }
 
 /// How many bits a field has, for the columns whose width depends on the kind.
 ///
 /// All kinds have DF397 (8 bits), DF398 (10 bits) and DF420 (1 bit). The kinds with range rates have
-/// extended satellite information (4 bits), DF399 (14 bits) and DF404 (15 bits). Source: RTCM
-/// 10403.3, messages 1074 to 1077.
+/// extended satellite information (4 bits; GLONASS: DF419), DF399 (14 bits) and DF404 (15 bits).
+/// Source: RTCM 10403.3, messages 1071 to 1137.
 #[derive(Clone, Copy, Debug, PartialEq, Eq)]
 pub(crate) struct MsmForm {
     /// Bits of the fine pseudorange (DF400 or DF405).
@@ -36,27 +39,36 @@ pub(crate) struct MsmForm {
 }
 
 impl MsmKind {
-    /// Returns the message number (DF002).
+    /// Returns the message number (DF002) of this kind of GPS.
     pub fn number(self) -> u16
         ensures { result ≡ number_of_kind self }
     {
+        let system = System::Gps;
+        MsmType { system, kind: self }.number()
+    }
+
+    /// Returns the last digit of the message numbers (DF002) of this kind.
+    pub(crate) fn digit(self) -> u16
+        ensures value { result ≡ digit_of self }
+        ensures few { result ≤ 7 }
+    {
         match self {
-            MsmKind::Msm4 => 1074,
-            MsmKind::Msm5 => 1075,
-            MsmKind::Msm6 => 1076,
-            MsmKind::Msm7 => 1077,
+            MsmKind::Msm4 => 4,
+            MsmKind::Msm5 => 5,
+            MsmKind::Msm6 => 6,
+            MsmKind::Msm7 => 7,
         }
     }
 
-    /// Returns the kind of this message number (DF002), if it is 1075, 1076 or 1077.
-    pub(crate) fn msm5_to_7(number: u16) -> Option<MsmKind>
-        ensures some { IfSome result (λ k. IsWide k × (number ≡ number_of_kind k)) }
-        ensures none { IfNone result ((k : MsmKind) → IsWide k → number ≢ number_of_kind k) }
+    /// Returns the kind whose message numbers have this last digit.
+    pub(crate) fn of_digit(digit: u16) -> Option<MsmKind>
+        ensures { result ≡ kind_of_digit digit }
     {
-        match number {
-            1075 => Some(MsmKind::Msm5),
-            1076 => Some(MsmKind::Msm6),
-            1077 => Some(MsmKind::Msm7),
+        match digit {
+            4 => Some(MsmKind::Msm4),
+            5 => Some(MsmKind::Msm5),
+            6 => Some(MsmKind::Msm6),
+            7 => Some(MsmKind::Msm7),
             _ => None,
         }
     }

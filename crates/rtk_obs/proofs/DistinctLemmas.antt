@@ -25,7 +25,7 @@ use Rattle.rtk_obs.specs.Steps.MsmRows.{IsCellMask}
 use Rattle.rtk_obs.proofs.PairsLemmas.{Pairs, all_append, all_filter, all_from, all_pairs, pairs-append, pairs_filter}
 use Rattle.rtk_obs.proofs.MaskLemmas.{set_bits_from-bounds, set_bits_from-early}
 use Rattle.rtk_obs.proofs.MsmLemmas.{satellite_in, count-satellites}
-use Rattle.rtk_obs.proofs.MsmFieldLemmas.{is_cell_mask-1074, is_cell_mask-msm, below_at}
+use Rattle.rtk_obs.proofs.MsmFieldLemmas.{is_cell_mask-1074, is_cell_mask-msm, below_at, gps_or_none}
 
 -- ---- 1004
 
@@ -357,8 +357,14 @@ entries-distinct h cell_of rows is =
 pub cells_of_1074-distinct : (m : Msm1074) → IsValid m → AreDistinct (cells_of_1074 m)
 cells_of_1074-distinct m valid = entries-distinct m.header (cell_of_1074 m) m.cell_mask (is_cell_mask-1074 m valid)
 
+pub gps_cells-distinct : (m : Msm) → IsValidMsm m → AreDistinct (msm_entries m.header m.cell_mask (cell_of_msm m))
+gps_cells-distinct m valid = entries-distinct m.header (cell_of_msm m) m.cell_mask (is_cell_mask-msm m valid)
+
+pub none-distinct : AreDistinct []
+none-distinct i j d before inside = absurd (omega arith)
+
 pub cells_of_msm-distinct : (m : Msm) → IsValidMsm m → AreDistinct (cells_of_msm m)
-cells_of_msm-distinct m valid = entries-distinct m.header (cell_of_msm m) m.cell_mask (is_cell_mask-msm m valid)
+cells_of_msm-distinct m valid = gps_or_none AreDistinct m.system _ (gps_cells-distinct m valid) none-distinct
 
 -- they rise if there is no signal from 30 to 32
 

@@ -18,8 +18,8 @@ use Rattle.rtk_obs.specs.MsmCells.{cell_of_1074, cell_of_msm, cells_of_1074, cel
 use Rattle.rtk_obs.specs.MessageCells.{cells_of, AreOfOneKind}
 use Rattle.rtk_obs.proofs.MsmLemmas.{all-msm_entries}
 use Rattle.rtk_obs.proofs.LegacyLemmas.{cells_of_valid}
-use Rattle.rtk_obs.proofs.MsmFieldLemmas.{cells_in_range-1074, cells_in_range-msm}
-use Rattle.rtk_obs.proofs.DistinctLemmas.{cells_of_1004-distinct, cells_of_1074-distinct, cells_of_msm-distinct}
+use Rattle.rtk_obs.proofs.MsmFieldLemmas.{cells_in_range-1074, cells_in_range-msm, gps_or_none}
+use Rattle.rtk_obs.proofs.DistinctLemmas.{cells_of_1004-distinct, cells_of_1074-distinct, cells_of_msm-distinct, none-distinct}
 
 -- ---- satellites
 
@@ -43,7 +43,8 @@ of-message (any.Message (Obs1004 m)) = of-legacy (first_entries m.satellites)
 of-message (any.Message (Arp1005 m)) = tt
 of-message (any.Message (Arp1006 m)) = tt
 of-message (any.Message (Msm1074 m)) = all-msm_entries m.header (cell_of_1074 m) HasSatellite (λ k row satellite code is. is) m.cell_mask
-of-message (any.Msm m) = all-msm_entries m.header (cell_of_msm m) HasSatellite (λ k row satellite code is. is) m.cell_mask
+of-message (any.Msm m) =
+    gps_or_none (λ (cs : List CellEntry). AllByRecursion HasSatellite cs) m.system _ (all-msm_entries m.header (cell_of_msm m) HasSatellite (λ k row satellite code is. is) m.cell_mask) tt
 
 pub cells_of-satellites : (m : AnyMessage) → All HasSatellite (cells_of m)
 cells_of-satellites m = All-from_recursion HasSatellite (cells_of m) (of-message m)
@@ -65,7 +66,11 @@ cells_of-kind (any.Message (Arp1006 m)) = (Legacy, All-nil (IsOf Legacy))
 cells_of-kind (any.Message (Msm1074 m)) =
     (Msm, All-from_recursion (IsOf Msm) (cells_of_1074 m) (all-msm_entries m.header (cell_of_1074 m) (IsOf Msm) (λ k row satellite code is. refl) m.cell_mask))
 cells_of-kind (any.Msm m) =
-    (Msm, All-from_recursion (IsOf Msm) (cells_of_msm m) (all-msm_entries m.header (cell_of_msm m) (IsOf Msm) (λ k row satellite code is. refl) m.cell_mask))
+    (
+      Msm,
+      All-from_recursion (IsOf Msm) (cells_of_msm m)
+      (gps_or_none (λ (cs : List CellEntry). AllByRecursion (IsOf Msm) cs) m.system _ (all-msm_entries m.header (cell_of_msm m) (IsOf Msm) (λ k row satellite code is. refl) m.cell_mask) tt),
+    )
 
 -- ---- ranges and signals
 
@@ -75,9 +80,6 @@ cells_of-in_range (any.Message (Arp1005 m)) valid = All-nil IsInRange
 cells_of-in_range (any.Message (Arp1006 m)) valid = All-nil IsInRange
 cells_of-in_range (any.Message (Msm1074 m)) valid = cells_in_range-1074 m valid
 cells_of-in_range (any.Msm m) valid = cells_in_range-msm m valid
-
-none-distinct : AreDistinct []
-none-distinct i j d before inside = absurd (omega arith)
 
 pub cells_of-distinct : (m : AnyMessage) → IsValid m → AreDistinct (cells_of m)
 cells_of-distinct (any.Message (Obs1004 m)) valid = cells_of_1004-distinct m.satellites

@@ -2,7 +2,7 @@
 use Rattle.std.proofs.Common.{◌≡◌, ℕ, zero, suc, ◌*◌, ◌^◌, ◌<◌, [], ◌∷◌, ◌++◌, List, get_or, Some, None, refl, arith, nat_eq, true, false, Bool, cond, max, min, subst}
 use Rattle.std.specs.Prelude.{IfSome}
 use Rattle.std.specs.List.{All, AllByRecursion}
-use Rattle.std.proofs.lemmas.List.Elements.{All-from_recursion}
+use Rattle.std.proofs.lemmas.List.Elements.{All-from_recursion, All-nil}
 use Rattle.std.proofs.lemmas.Bool.Decides.{nat_tests}
 use Rattle.rtk_message.specs.Fields.{Field, FieldsFit}
 use Rattle.rtk_message.specs.FieldColumns.{numbers, integers, flags}
@@ -14,14 +14,17 @@ use Rattle.rtk_message.specs.declared.msm1074.Msm1074.{Msm1074}
 use Rattle.rtk_message.specs.declared.msm.Msm.{Msm}
 use Rattle.rtk_message.specs.declared.msm_kind.MsmKind.{MsmKind}
 use Rattle.rtk_message.specs.declared.msm_kind.MsmKind.TheVariants.{Msm4, Msm5, Msm6, Msm7}
+use Rattle.rtk_message.specs.declared.system.System.{System}
+use Rattle.rtk_message.specs.declared.system.System.TheVariants.{Gps, Glonass, Galileo, Beidou, Qzss, Sbas, Navic}
 use Rattle.rtk_message.proofs.PublicLaws.{fit-parts}
 use Rattle.rtk_obs.specs.declared.code.Band.{Band}
 use Rattle.rtk_obs.specs.declared.cell.Cell.{Cell}
+use Rattle.rtk_obs.specs.declared.cell.CellEntry.{CellEntry}
 use Rattle.rtk_obs.specs.Cell.{IsStrength, IsInRange}
 use Rattle.rtk_obs.specs.Code.{band_of}
 use Rattle.rtk_obs.specs.Rounding.{rounded_magnitude}
 use Rattle.rtk_obs.specs.Scaling.{strength_of, strength_of_sixteenths}
-use Rattle.rtk_obs.specs.MsmCells.{msm_entries, cell_of_1074, cells_of_1074, has_extended_resolution, cell_of_msm, cells_of_msm}
+use Rattle.rtk_obs.specs.MsmCells.{msm_entries, cell_of_1074, cells_of_1074, has_extended_resolution, cell_of_msm, if_gps, cells_of_msm}
 use Rattle.rtk_obs.specs.Steps.MsmRows.{IsCellMask}
 use Rattle.rtk_obs.proofs.MsmLemmas.{all-msm_entries}
 
@@ -158,7 +161,20 @@ pub cells_in_range-1074 : (m : Msm1074) → IsValid m → All IsInRange (cells_o
 cells_in_range-1074 m h =
     entries_in_range m.header (cell_of_1074 m) (λ k row band. strength_in_range (get_or m.cnr k 0) (below_at 64 (omega arith) m.cnr k (cnr_fits m h))) m.cell_mask
 
-pub cells_in_range-msm : (m : Msm) → IsValidMsm m → All IsInRange (cells_of_msm m)
-cells_in_range-msm m h =
+pub gps_cells_in_range : (m : Msm) → IsValidMsm m → All IsInRange (msm_entries m.header m.cell_mask (cell_of_msm m))
+gps_cells_in_range m h =
     entries_in_range m.header (cell_of_msm m)
     (λ k row band. kind_if (has_extended_resolution m.kind) (get_or m.cnr k 0) (λ e. cnr_at m h e k)) m.cell_mask
+
+-- the cells of GPS, or none
+pub gps_or_none : (P : List CellEntry → Type 0) (s : System) (cells : List CellEntry) → P cells → P [] → P (if_gps s cells)
+gps_or_none P Gps cells some none = some
+gps_or_none P Glonass cells some none = none
+gps_or_none P Galileo cells some none = none
+gps_or_none P Beidou cells some none = none
+gps_or_none P Qzss cells some none = none
+gps_or_none P Sbas cells some none = none
+gps_or_none P Navic cells some none = none
+
+pub cells_in_range-msm : (m : Msm) → IsValidMsm m → All IsInRange (cells_of_msm m)
+cells_in_range-msm m h = gps_or_none (All IsInRange) m.system _ (gps_cells_in_range m h) (All-nil IsInRange)

@@ -5,6 +5,8 @@ use Rattle.std.specs.Prelude.{ℕ, ◌-◌, ◌==◌, ℤ, pos, negsuc, ◌+ℤ�
 use Rattle.rtk_message.specs.declared.msm1074.MsmHeader.{MsmHeader}
 use Rattle.rtk_message.specs.declared.msm1074.Msm1074.{Msm1074}
 use Rattle.rtk_message.specs.declared.msm.Msm.{Msm}
+use Rattle.rtk_message.specs.declared.system.System.{System}
+use Rattle.rtk_message.specs.declared.system.System.TheVariants.{Gps, Glonass, Galileo, Beidou, Qzss, Sbas, Navic}
 use Rattle.rtk_message.specs.declared.msm_kind.MsmKind.{MsmKind}
 use Rattle.rtk_message.specs.declared.msm_kind.MsmKind.TheVariants.{Msm4, Msm5, Msm6, Msm7}
 use Rattle.rtk_obs.specs.declared.code.Band.{Band}
@@ -172,7 +174,7 @@ abbrev pub cells_of_1074 : Msm1074 → List CellEntry
 cells_of_1074 m = msm_entries m.header m.cell_mask (cell_of_1074 m)
 
 -- formula
--- the k-th cell of a 1075, 1076 or 1077: DF397, DF398, DF400 to DF403 or DF405 to DF408, and DF420.
+-- the k-th cell of an MSM of GPS other than 1074: DF397, DF398, DF400 to DF403 or DF405 to DF408, and DF420.
 -- The extended satellite information and the range rates (DF399, DF404) are not used.
 abbrev pub cell_of_msm : Msm → ℕ → ℕ → Band → Cell
 cell_of_msm m k row band = record {
@@ -185,6 +187,16 @@ cell_of_msm m k row band = record {
   offset = None;
 }
 
--- and of a 1075, 1076 or 1077 (this project's rule)
+-- these cells of a message of GPS, and none of another system
+abbrev pub if_gps : System → List CellEntry → List CellEntry
+if_gps Gps cells = cells
+if_gps Glonass cells = []
+if_gps Galileo cells = []
+if_gps Beidou cells = []
+if_gps Qzss cells = []
+if_gps Sbas cells = []
+if_gps Navic cells = []
+
+-- and of another MSM, if it is of GPS (this project's rule)
 abbrev pub cells_of_msm : Msm → List CellEntry
-cells_of_msm m = msm_entries m.header m.cell_mask (cell_of_msm m)
+cells_of_msm m = if_gps m.system (msm_entries m.header m.cell_mask (cell_of_msm m))

@@ -1,10 +1,10 @@
-//! The cells of a 1075, a 1076 and a 1077.
+//! The cells of the MSM of GPS other than 1074.
 
 ghost use Rattle.std.specs.Prelude.{◌≡◌, ◌≤◌, length, IsTrue};
 ghost use Rattle.std.specs.List.{All};
 ghost use Rattle.rtk_message.specs.MsmForm.{IsValid};
 ghost use Rattle.rtk_obs.specs.Cell.{IsInRange, AreDistinct, AreRising};
-ghost use Rattle.rtk_obs.specs.MsmCells.{rough_at, has_extended_resolution, cell_of_msm, cells_of_msm};
+ghost use Rattle.rtk_obs.specs.MsmCells.{rough_at, has_extended_resolution, msm_entries, cell_of_msm, cells_of_msm};
 
 use crate::cell::{Cell, CellEntry, CellSource};
 use crate::code::Code;
@@ -15,7 +15,7 @@ use crate::msm_values::{
 };
 use crate::scaling::{strength_from_sixteenths, strength_from_steps};
 use arrayvec::ArrayVec;
-use rtk_message::{Msm, MsmHeader, MsmKind};
+use rtk_message::{Msm, MsmHeader, MsmKind, System};
 
 // Returns whether the fields have extended resolution: DF405 to DF408 in the place of DF400 to
 // DF403.
@@ -81,11 +81,29 @@ impl CellsOfMsm for Msm {
     }
 }
 
-/// Puts the cells of a 1075, 1076 or 1077 into a list in place of what it has, as `cells_msm` gives
-/// them. If the message has no signal from 30 to 32, the cells rise, and the result is `true`.
+/// Puts the cells of a message into a list in place of what it has, as `cells_msm` gives them. If
+/// the message has no signal from 30 to 32, the cells rise, and the result is `true`.
 pub fn put_cells_msm(message: &Msm, found: &mut ArrayVec<CellEntry, 64>) -> bool
     requires { IsValid message.now }
     ensures cells { found.new.items ≡ cells_of_msm message.now }
+    ensures ranges { All IsInRange found.new.items }
+    ensures distinct { AreDistinct found.new.items }
+    ensures few { length found.new.items ≤ 64 }
+    ensures rises { IsTrue result → AreRising found.new.items }
+{
+    match message.system {
+        System::Gps => put_cells_of_gps(message, found),
+        _ => {
+            found.clear();
+            true
+        }
+    }
+}
+
+// Puts the cells of a message of GPS.
+fn put_cells_of_gps(message: &Msm, found: &mut ArrayVec<CellEntry, 64>) -> bool
+    requires { IsValid message.now }
+    ensures cells { found.new.items ≡ msm_entries message.now.header message.now.cell_mask (cell_of_msm message.now) }
     ensures ranges { All IsInRange found.new.items }
     ensures distinct { AreDistinct found.new.items }
     ensures few { length found.new.items ≤ 64 }
@@ -97,7 +115,7 @@ pub fn put_cells_msm(message: &Msm, found: &mut ArrayVec<CellEntry, 64>) -> bool
 }
 
 /// Returns the cells of a 1075, 1076 or 1077 in the order of the message, for the satellites from 1
-/// to 32 and the fifteen signals that have a code.
+/// to 32 and the fifteen signals that have a code. A message of another system than GPS has none.
 pub fn cells_msm(message: &Msm) -> ArrayVec<CellEntry, 64>
     requires { IsValid message.now }
     ensures cells { result.items ≡ cells_of_msm message.now }

@@ -12,17 +12,23 @@ use Rattle.rtk_message.specs.declared.any_fault.AnyFault.{AnyFault}
 use Rattle.rtk_message.specs.declared.message.Message.TheVariants.{Obs1004, Arp1005, Arp1006, Msm1074}
 use Rattle.rtk_message.specs.declared.msm_kind.MsmKind.{MsmKind}
 use Rattle.rtk_message.specs.declared.msm_kind.MsmKind.TheVariants.{Msm4, Msm5, Msm6, Msm7}
-use Rattle.rtk_message.specs.AnyDecoded.{number_of}
-use Rattle.rtk_message.specs.MsmForm.{number_of_kind}
+use Rattle.rtk_message.specs.declared.system.System.{System}
+use Rattle.rtk_message.specs.declared.system.System.TheVariants.{Gps}
+use Rattle.rtk_bits.specs.Bits.{bits}
+use Rattle.rtk_message.specs.Accepted.{all_kinds}
+use Rattle.rtk_message.specs.AnyDecoded.{DecodesBy, number_of}
+use Rattle.rtk_message.specs.MsmForm.{type_of}
+use Rattle.rtk_message.specs.Systems.{number_of_type, number_of_kind}
+use Rattle.rtk_message.proofs.PublicLaws.{accepts-type, takes-gps}
 use Rattle.rtk_summary.specs.Counting.{count_of}
-use Rattle.rtk_summary.specs.CountingLaws.{EachFrameIsCounted, EachMessageIsCounted, StandsIn, PartsStand, StationsStand, ProposalsStand, UntakenStand}
+use Rattle.rtk_summary.specs.CountingLaws.{IsReadMessage, EachFrameIsCounted, EachMessageIsCounted, StandsIn, PartsStand, StationsStand, ProposalsStand, UntakenStand}
 use Rattle.rtk_equipment.specs.Told.{equipment_of}
 use Rattle.rtk_equipment.specs.declared.equipment.Equipment.{Equipment}
 use Rattle.rtk_summary.specs.DatesTold.{dates_in, station_dates, proposed_date}
 use Rattle.rtk_summary.specs.EquipmentTold.{equipment_among, is_mentioned, told_lines}
 use Rattle.rtk_summary.specs.NumberLaws.{IsHeld}
 use Rattle.rtk_summary.specs.Proposal.{epochs_in, times_with_value, epochs_with_value, entries_with}
-use Rattle.rtk_summary.specs.ReadFrames.{ReadFrame, ReadsFrames, read_frame, with_message, with_fault, bytes_in, messages_in, faults_in, messages_from}
+use Rattle.rtk_summary.specs.ReadFrames.{messages_read, ReadFrame, ReadsFrames, read_frame, with_message, with_fault, bytes_in, messages_in, faults_in, messages_from}
 use Rattle.rtk_summary.specs.Summary.{all_numbers, size_lines, station_lines, lines_if_any, stations_text, weeks_text, unread_lines, summary_text}
 use Rattle.rtk_summary.specs.SummaryText.{number_line, counted_line, numbered_line, time_lines, look_line, near_text, signal_lines, proposal_lines, codes_text, nothing_line, untaken_numbers}
 use Rattle.rtk_summary.specs.declared.dates_told.StationDates.{StationDates}
@@ -57,13 +63,22 @@ each-is (f ∷ before) =
     let one = one-of-two f.reading (messages_in before) (faults_in before) in
     omega (arith, rest, one)
 
+-- the messages that are read are those of the set
+one-read : (reading : Result AnyMessage AnyFault) (bs : List Bool) (ms : List AnyMessage) → DecodesBy messages_read bs reading → AllByRecursion IsReadMessage ms → AllByRecursion IsReadMessage (with_message reading ms)
+one-read (Ok m) bs ms d read = (d.accepted, read)
+one-read (Err fault) bs ms d read = read
+
+all-read : (ps : List (List ℕ)) (before after : List ReadFrame) → ReadsFrames ps before after → AllByRecursion IsReadMessage (messages_in before) → AllByRecursion IsReadMessage (messages_in after)
+all-read [] before after reads read = subst (λ (fs : List ReadFrame). AllByRecursion IsReadMessage (messages_in fs)) (sym reads) read
+all-read (p ∷ ps) before after reads read = all-read ps (read_frame p reads.0 ∷ before) after reads.2 (one-read reads.0 (bits p) (messages_in before) reads.1 read)
+
 pub frames-counted : EachFrameIsCounted
 unfolding sizes
 frames-counted bytes fs reads =
     let all = as-many (payloads (frames bytes)) [] fs reads in
     let framed = as-long (payloads (frames bytes)) [] fs reads in
     let size = length-map (frames bytes) (λ (f : Frame). f.payload) in
-    record { all = omega (arith, all, size); framed = omega (arith, framed); each = each-is fs }
+    record { all = omega (arith, all, size); framed = omega (arith, framed); each = each-is fs; read = all-read (payloads (frames bytes)) [] fs reads tt }
 
 -- how many of the seven numbers this one is
 hits : ℕ → ℕ
@@ -77,21 +92,23 @@ hit-kind Msm5 = refl
 hit-kind Msm6 = refl
 hit-kind Msm7 = refl
 
-hit : (m : AnyMessage) → hits (number_of m) ≡ 1
+hit : (m : AnyMessage) → IsReadMessage m → hits (number_of m) ≡ 1
 unfolding hits
-hit (any.Message (Obs1004 m)) = refl
-hit (any.Message (Arp1005 m)) = refl
-hit (any.Message (Arp1006 m)) = refl
-hit (any.Message (Msm1074 m)) = refl
-hit (any.Msm m) = hit-kind m.kind
+hit (any.Message (Obs1004 m)) read = refl
+hit (any.Message (Arp1005 m)) read = refl
+hit (any.Message (Arp1006 m)) read = refl
+hit (any.Message (Msm1074 m)) read = refl
+hit (any.Msm m) read =
+    let is_gps : m.system ≡ Gps = takes-gps all_kinds (type_of m) (sym (accepts-type messages_read (type_of m)) ∙ read) in
+    subst (λ (s : System). hits (number_of_type (record { system = s; kind = m.kind })) ≡ 1) (sym is_gps) (hit-kind m.kind)
 
 pub messages-counted : EachMessageIsCounted
 unfolding hits
-messages-counted [] = refl
-messages-counted (m ∷ ms) =
+messages-counted [] read = refl
+messages-counted (m ∷ ms) read =
     let count : ℕ → AnyMessage → ℕ = λ n x. cond (is_numbered n x) 1 0 in
-    let rest = messages-counted ms in
-    let one = hit m in
+    let rest = messages-counted ms read.1 in
+    let one = hit m read.0 in
     let a = sum_by-cons (count 1004) m ms in
     let b = sum_by-cons (count 1005) m ms in
     let c = sum_by-cons (count 1006) m ms in

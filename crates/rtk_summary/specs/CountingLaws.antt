@@ -1,6 +1,6 @@
 -- Laws of what a summary counts, and of the parts that stand in it. Lists of frames, messages and
 -- faults are newest first.
-use Rattle.std.specs.Prelude.{◌≡◌, ◌≢◌, ◌<◌, ◌+◌, ℕ, List, [], ◌∷◌, ◌++◌, length, codes}
+use Rattle.std.specs.Prelude.{◌≡◌, ◌≢◌, ◌<◌, ◌+◌, ℕ, List, [], ◌∷◌, ◌++◌, length, codes, IsTrue}
 use Rattle.std.specs.List.{AllByRecursion, count_by, sum_by}
 use Rattle.rtk_frame.specs.Frames.{frames, payloads}
 use Rattle.rtk_dates.specs.declared.date_message.DateMessage.{DateMessage}
@@ -10,11 +10,13 @@ use Rattle.rtk_equipment.specs.declared.equipment_message.EquipmentMessage.{Equi
 use Rattle.rtk_message.specs.declared.any_message.AnyMessage.{AnyMessage}
 use Rattle.rtk_message.specs.declared.any_fault.AnyFault.{AnyFault}
 use Rattle.rtk_message.specs.declared.msm_kind.MsmKind.{MsmKind}
+use Rattle.rtk_message.specs.Accepted.{accepts}
+use Rattle.rtk_message.specs.AnyDecoded.{number_of}
 use Rattle.rtk_summary.specs.DatesTold.{dates_in, station_dates, proposed_date}
 use Rattle.rtk_summary.specs.EquipmentTold.{equipment_among}
 use Rattle.rtk_summary.specs.NumberLaws.{IsHeld}
 use Rattle.rtk_summary.specs.Proposal.{epochs_in, times_with_value, entries_with}
-use Rattle.rtk_summary.specs.ReadFrames.{ReadFrame, bytes_in, messages_in, faults_in, messages_from}
+use Rattle.rtk_summary.specs.ReadFrames.{messages_read, ReadFrame, bytes_in, messages_in, faults_in, messages_from}
 use Rattle.rtk_summary.specs.Summary.{station_lines, stations_text, weeks_text, unread_lines, summary_text, AreFramesOf}
 use Rattle.rtk_summary.specs.SummaryText.{numbered_line, near_text, proposal_lines, untaken_numbers}
 use Rattle.rtk_summary.specs.Tracing.{is_numbered, is_other, times_of_week, changes_in, entries_in, has_code}
@@ -22,19 +24,25 @@ use Rattle.rtk_summary.specs.declared.dates_told.StationDates.{StationDates}
 
 -- ---- what is counted
 
--- all frames of a capture are counted, with their bytes, and each is a message or a fault
+-- a message is one of those that a summary reads
+abbrev pub IsReadMessage : AnyMessage → Type 0
+IsReadMessage m = IsTrue (accepts messages_read (number_of m))
+
+-- all frames of a capture are counted, with their bytes, and each is a message that is read or a fault
 pub record FramesAreCounted (bytes : List ℕ) (fs : List ReadFrame) : Type 0 where
   pub all : length fs ≡ length (frames bytes)
   pub framed : bytes_in fs ≡ sum_by (λ payload. length payload + 6) (payloads (frames bytes))
   pub each : length (messages_in fs) + length (faults_in fs) ≡ length fs
+  pub read : AllByRecursion IsReadMessage (messages_in fs)
 
 abbrev pub EachFrameIsCounted : Type 0
 EachFrameIsCounted = (bytes : List ℕ) (fs : List ReadFrame) → AreFramesOf bytes fs → FramesAreCounted bytes fs
 
--- each message is counted under one of the seven numbers
+-- each message that is read is counted under one of the seven numbers
 abbrev pub EachMessageIsCounted : Type 0
 EachMessageIsCounted =
-    (ms : List AnyMessage) → sum_by (λ n. count_by (is_numbered n) ms) (1004 ∷ 1005 ∷ 1006 ∷ 1074 ∷ 1075 ∷ 1076 ∷ 1077 ∷ []) ≡ length ms
+    (ms : List AnyMessage) → AllByRecursion IsReadMessage ms
+    → sum_by (λ n. count_by (is_numbered n) ms) (1004 ∷ 1005 ∷ 1006 ∷ 1074 ∷ 1075 ∷ 1076 ∷ 1077 ∷ []) ≡ length ms
 
 -- ---- all are taken alike, whatever came before
 

@@ -6,7 +6,7 @@ use Rattle.rtk_equipment.specs.declared.equipment.Equipment.{Equipment}
 use Rattle.rtk_message.specs.declared.any_message.AnyMessage.{AnyMessage}
 use Rattle.rtk_message.specs.declared.any_fault.AnyFault.{AnyFault}
 use Rattle.rtk_message.specs.declared.msm_kind.MsmKind.{MsmKind}
-use Rattle.rtk_message.specs.MsmForm.{number_of_kind}
+use Rattle.rtk_message.specs.Systems.{number_of_kind}
 use Rattle.rtk_obs.specs.declared.code.Code.{Code}
 use Rattle.rtk_summary.specs.Proposal.{epochs_in, times_with_value, epochs_with_value, proposed}
 use Rattle.rtk_summary.specs.ReadFrames.{ReadFrame, bytes_in}

@@ -1,16 +1,17 @@
 -- The frames of a capture, each with what its payload is read as. Lists of frames, messages, faults
 -- and times are newest first.
-use Rattle.std.specs.Prelude.{◌≡◌, ℕ, ◌+◌, ◌==◌, Bool, true, List, [], ◌∷◌, length, filter, Result, Ok, Err}
+use Rattle.std.specs.Prelude.{◌≡◌, ℕ, ◌+◌, ◌==◌, Bool, List, [], ◌∷◌, length, filter, Result, Ok, Err}
 use Rattle.rtk_bits.specs.Bits.{bits}
 use Rattle.rtk_message.specs.declared.any_message.AnyMessage.{AnyMessage}
 use Rattle.rtk_message.specs.declared.any_fault.AnyFault.{AnyFault}
 use Rattle.rtk_message.specs.declared.accepted.Accepted.{Accepted}
+use Rattle.rtk_message.specs.Accepted.{of_gps, all_kinds}
 use Rattle.rtk_message.specs.AnyDecoded.{DecodesBy, station_of}
 
 -- constant
 -- the messages that a summary reads: 1004 to 1006 and 1074 to 1077 (DF002)
 abbrev pub messages_read : Accepted
-messages_read = record { msm4 = true; msm5 = true; msm6 = true; msm7 = true }
+messages_read = of_gps all_kinds
 
 -- a frame, by its payload, with the message that this is, or the fault
 pub record ReadFrame : Type 0 where

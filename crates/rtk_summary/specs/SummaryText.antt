@@ -7,7 +7,7 @@ use Rattle.rtk_dates.specs.declared.date_message.UtcDate.{UtcDate}
 use Rattle.rtk_message.specs.ShellText.{sh_quoted}
 use Rattle.rtk_message.specs.declared.msm_kind.MsmKind.{MsmKind}
 use Rattle.rtk_message.specs.declared.msm_kind.MsmKind.TheVariants.{Msm4, Msm5, Msm6, Msm7}
-use Rattle.rtk_message.specs.MsmForm.{number_of_kind}
+use Rattle.rtk_message.specs.Systems.{number_of_kind}
 use Rattle.rtk_obs.specs.declared.code.Code.{Code}
 use Rattle.rtk_obs.specs.declared.code.Code.TheVariants.{C2P, C2W}
 use Rattle.rtk_obs.specs.CivilText.{last_digits, date_text, clock_text}

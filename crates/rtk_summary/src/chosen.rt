@@ -1,7 +1,7 @@
 //! The MSM and the codes of a station that a command names, and what it leaves out.
 
 ghost use Rattle.std.specs.Prelude.{◌≡◌, ◌<◌, List, false, length, get_or, filter, IfOk};
-ghost use Rattle.rtk_message.specs.MsmForm.{number_of_kind};
+ghost use Rattle.rtk_message.specs.Systems.{number_of_kind};
 ghost use Rattle.rtk_message.specs.declared.any_message.AnyMessage.{AnyMessage};
 ghost use Rattle.rtk_obs.specs.Code.{place_of, all_codes};
 ghost use Rattle.rtk_summary.specs.Counting.{count_of};

@@ -6,7 +6,7 @@
 ghost use Rattle.std.specs.Prelude.{◌≡◌, ◌≤◌, ◌<◌, ℕ, List, ◌++◌, IsTrue};
 ghost use Rattle.std.specs.List.{list_all};
 ghost use Rattle.rtk_message.specs.declared.any_message.AnyMessage.{AnyMessage};
-ghost use Rattle.rtk_message.specs.MsmForm.{number_of_kind};
+ghost use Rattle.rtk_message.specs.Systems.{number_of_kind};
 ghost use Rattle.rtk_message.specs.declared.msm_kind.MsmKind.{MsmKind};
 ghost use Rattle.rtk_message.specs.declared.msm_kind.MsmKind.TheVariants.{Msm4};
 ghost use Rattle.rtk_summary.specs.CountingLaws.{EachFrameIsCounted, EachMessageIsCounted, FramesAreTakenAlike, MessagesAreTakenAlike, ChangesAddUp, OtherTimeIsChange, EpochsAreChanges, PartsStand, StationsStand, ProposalsStand, UntakenStand};
@@ -53,8 +53,8 @@ pub fn summaries_tell_counts()
     ensures unread { UnreadLinesTell }
 {}
 
-/// All frames of a capture are counted, with their bytes, and each is a message of one number or a
-/// fault.
+/// All frames of a capture are counted, with their bytes, and each is a message that a summary reads or
+/// a fault. Each message that it reads has one of seven numbers.
 pub fn each_frame_is_counted()
     ensures frames { EachFrameIsCounted }
     ensures messages { EachMessageIsCounted }

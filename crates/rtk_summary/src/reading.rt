@@ -68,7 +68,7 @@ impl Decoding {
     fn hand_on<F: Follower>(&mut self, payload: &[u8], follower: &mut F)
         ensures { Follows F.takes follower.old (payload.now ∷ []) follower.new }
     {
-        match self.decoder.read(Accepted::ALL, payload) {
+        match self.decoder.read(Accepted::GPS, payload) {
             Ok(message) => {
                 put_entries(message, &mut self.room);
                 follower.follow_message(payload, message, self.room.as_slice());

@@ -1,5 +1,5 @@
 use Rattle.std.proofs.Common.{◌≢◌, sym, ◌∙◌, ne_eqb}
-use Rattle.rtk_message.specs.MsmForm.{number_of_kind}
+use Rattle.rtk_message.specs.Systems.{number_of_kind}
 use Rattle.rtk_auto.proofs.lists.put_msm.Goals as goal
 
 pub returns : goal.returns

@@ -1,5 +1,3 @@
-use Rattle.std.proofs.Common.{arith}
-use Rattle.rtk_message.specs.declared.msm_kind.MsmKind.TheVariants.{Msm5, Msm6, Msm7}
 use Rattle.rtk_message.proofs.AnyDecodedLemmas.{after_four, fault_after_four}
 use Rattle.rtk_message.proofs.DecodedLemmas.{same_fault_of_other}
 use Rattle.rtk_message.proofs.any_decoder.read_any_by_number.Goals as goal
@@ -9,5 +7,4 @@ returns-in-None-clause-message c = rw c.widened.ensures (after_four c.args.numbe
 
 pub returns-in-None-clause-fault : goal.returns-in-None-clause-fault
 returns-in-None-clause-fault c =
-    let none = c.in-None.ensures.none in
-    rw c.widened.ensures (fault_after_four c.args.number c.args.reader c.read_by_number.result (same_fault_of_other c.args.number c.args.reader (none Msm5 (omega arith)) (none Msm6 (omega arith)) (none Msm7 (omega arith))) c.read_by_number.ensures.fault)
+    rw c.widened.ensures (fault_after_four c.args.number c.args.reader c.read_by_number.result (same_fault_of_other c.args.number c.args.reader c.in-None.ensures.none) c.read_by_number.ensures.fault)

@@ -8,8 +8,12 @@ use Rattle.rtk_convert.specs.FrameClass.{IsClassOfPayload}
 use Rattle.rtk_convert.specs.Report.{refused_line, one_frame_more}
 use Rattle.rtk_convert.proofs.ArriveLemmas.{arrives-arrived, breaks-arrived, arrives-other, arrives-foreign, arrives-refused, breaks-refused}
 use Rattle.rtk_convert.proofs.WritingLemmas.{takes-none}
+use Rattle.rtk_convert.proofs.CameLemmas.{taken-by}
 use Rattle.rtk_convert.proofs.OutcomeLemmas.{keeps-seen, stays-seen, ahead-seen, failed-err, payload-ok, payload-err}
 use Rattle.rtk_convert.proofs.conversion.Conversion.handle_payload.Goals as goal
+
+pub classify-requires : goal.classify-requires
+classify-requires g c = taken-by c.self.inside.setup c.args.payload.now c.read_message.result.now c.read_message.ensures
 
 pub returns-in-OtherMessage-clause-handles : goal.returns-in-OtherMessage-clause-handles
 returns-in-OtherMessage-clause-handles g c =

@@ -1,5 +1,5 @@
 use Rattle.std.proofs.Common.{List, sym, ap, subst, ◌∙◌}
-use Rattle.rtk_message.specs.MsmForm.{number_of_kind}
+use Rattle.rtk_message.specs.Systems.{number_of_kind}
 use Rattle.rtk_find.specs.Phases.{place_in_table, phase_count, entries_numbered, StandsForTable, joined_count}
 use Rattle.rtk_find.specs.declared.phases.PhaseCount.{PhaseCount}
 use Rattle.rtk_find.proofs.phases.Phases.code_count.Goals as goal

@@ -1,5 +1,5 @@
 use Rattle.std.proofs.Common.{refl, sym, ◌∙◌}
-use Rattle.rtk_message.specs.MsmForm.{number_of_kind}
+use Rattle.rtk_message.specs.Systems.{number_of_type}
 use Rattle.rtk_message.proofs.AnyDecodedLemmas.{decodes_after, decodes_other}
 use Rattle.rtk_message.proofs.any_decoder.AnyDecoder.read_other_number.Goals as goal
 
@@ -10,4 +10,4 @@ pub returns-in_default : goal.returns-in_default
 returns-in_default c = λ bs is. decodes_after c.args.accepted bs c.args.reader c.args.number c.args.number c.keep_new.new.kept c.requires is (sym c.accepts.ensures ∙ c.if-not-accepts.false) refl c.keep_new.ensures.message c.keep_new.ensures.fault
 
 pub returns : goal.returns
-returns c = λ bs is. decodes_after c.args.accepted bs c.args.reader c.args.number (number_of_kind c.in-Some.kind) c.keep_msm.new.kept c.requires is (sym c.accepts.ensures ∙ c.if-not-accepts.false) c.in-Some.ensures.some.1 c.keep_msm.ensures.message c.keep_msm.ensures.fault
+returns c = λ bs is. decodes_after c.args.accepted bs c.args.reader c.args.number (number_of_type c.in-Some.msm_type) c.keep_msm.new.kept c.requires is (sym c.accepts.ensures ∙ c.if-not-accepts.false) c.in-Some.ensures.some.1 c.keep_msm.ensures.message c.keep_msm.ensures.fault

@@ -1,7 +1,10 @@
-use Rattle.std.proofs.Common.{◌≤◌, ◌*◌, ◌∙◌, rules}
+use Rattle.std.proofs.Common.{◌≤◌, ◌*◌, ◌∙◌, ap, sym, rules}
 use Rattle.rtk_message.specs.Msm1074.{satellite_count, signal_count}
 use Rattle.rtk_message.proofs.Msm1074Lemmas.{few_of}
-use Rattle.rtk_message.proofs.MsmLemmas.{is_wide, has_lengths, has_form, satellites_fit, cells_fit}
+use Rattle.rtk_message.proofs.MsmLemmas.{has_lengths, has_form, satellites_fit, cells_fit}
+use Rattle.rtk_message.proofs.SystemsLemmas.{is_wide}
+use Rattle.rtk_message.specs.MsmForm.{type_of}
+use Rattle.rtk_message.specs.Systems.{number_of_type}
 use Rattle.rtk_message.proofs.msm.Msm.fits.Goals as goal
 
 pub returns-then-satellites_fit : goal.returns-then-satellites_fit
@@ -13,8 +16,8 @@ returns-then-satellites_fit c =
     let satellites = c.satellites_have_lengths.ensures.0 (search rules) in
     let cells = c.cells_have_lengths.ensures.0 (search rules) in (
       λ h. record {
-        wide = is_wide m.kind (λ e. c.if-number-eq1074.false (c.number.ensures ∙ e));
-        form = has_form m header.0 header.1 few (has_lengths m satellites.0 satellites.1 cells) (c.satellites_fit.ensures.0 (search rules)) (rw c.form.ensures at (c.cells_fit.ensures.0 h));
+        wide = is_wide (type_of m) (λ e. c.if-number-eq1074.false (c.number.ensures ∙ ap number_of_type c.msm_type.ensures ∙ e));
+        form = has_form m header (sym c.is_in_week.ensures ∙ c.if-not-is_in_week.false) few (has_lengths m satellites.0 satellites.1 cells) (c.satellites_fit.ensures.0 (search rules)) (rw c.form.ensures at (c.cells_fit.ensures.0 h));
       },
       λ v. c.cells_fit.ensures.1 (rw c.form.ensures (cells_fit m v.form.fields_fit)),
     )

@@ -1,6 +1,6 @@
 use Rattle.std.proofs.Common.{◌+◌, ◌==◌, ◌∙◌, ℕ, ap}
 use Rattle.rtk_message.specs.AnyDecoded.{number_of}
-use Rattle.rtk_message.specs.MsmForm.{number_of_kind}
+use Rattle.rtk_message.specs.Systems.{number_of_kind}
 use Rattle.rtk_summary.specs.Counting.{shown_count}
 use Rattle.rtk_summary.specs.Standing.{one_if}
 use Rattle.rtk_summary.specs.Tracing.{is_numbered}

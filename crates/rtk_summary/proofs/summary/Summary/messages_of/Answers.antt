@@ -1,5 +1,5 @@
 use Rattle.std.proofs.Common.{ℕ, List, length, sym, ap, subst, ◌∙◌, arith}
-use Rattle.rtk_message.specs.MsmForm.{number_of_kind}
+use Rattle.rtk_message.specs.Systems.{number_of_kind}
 use Rattle.rtk_summary.specs.Counting.{count_of}
 use Rattle.rtk_summary.specs.Tracing.{is_numbered}
 use Rattle.rtk_summary.specs.ReadFrames.{messages_in, messages_from}
