@@ -65,12 +65,11 @@ cells_of-kind (any.Message (Arp1005 m)) = (Legacy, All-nil (IsOf Legacy))
 cells_of-kind (any.Message (Arp1006 m)) = (Legacy, All-nil (IsOf Legacy))
 cells_of-kind (any.Message (Msm1074 m)) =
     (Msm, All-from_recursion (IsOf Msm) (cells_of_1074 m) (all-msm_entries m.header (cell_of_1074 m) (IsOf Msm) (λ k row satellite code is. refl) m.cell_mask))
-cells_of-kind (any.Msm m) =
-    (
-      Msm,
-      All-from_recursion (IsOf Msm) (cells_of_msm m)
+cells_of-kind (any.Msm m) = (
+  Msm,
+  All-from_recursion (IsOf Msm) (cells_of_msm m)
       (gps_or_none (λ (cs : List CellEntry). AllByRecursion (IsOf Msm) cs) m.system _ (all-msm_entries m.header (cell_of_msm m) (IsOf Msm) (λ k row satellite code is. refl) m.cell_mask) tt),
-    )
+)
 
 -- ---- ranges and signals
 
