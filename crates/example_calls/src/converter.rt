@@ -11,7 +11,7 @@ use std::{io, str};
 
 const WINDOW: usize = 2;
 
-const ROOM: usize = 65_536;
+const ROOM: usize = 4_096;
 
 const PER_WRITE: usize = 4_096;
 

@@ -5,6 +5,7 @@ use crate::payloads::{
     self, LEGACY_5, LegacySatellite, MSM_5, MSM_SATELLITE, Msm, MsmSatellite, NO_L2_RANGE,
     NO_PHASE_1004, NO_ROUGH_RANGE,
 };
+use arrayvec::ArrayVec;
 use rtk_message::Message;
 use rtk_obs::{
     Cell, CellEntry, CellSource, Civil, Code, cells_1004, cells_1074, least_lock_legacy,
@@ -140,14 +141,18 @@ fn print_cells(rt: &HostRuntime, cells: &[CellEntry]) -> io::Result<()> {
     Ok(())
 }
 
+// The cells of a payload of observations.
+fn cells_of(payload: &[u8]) -> io::Result<ArrayVec<CellEntry, 64>> {
+    match payloads::message_of(payload)? {
+        Message::Obs1004(message) => Ok(cells_1004(&message)),
+        Message::Msm1074(message) => Ok(cells_1074(&message)),
+        _ => Err(io::Error::other("no observations")),
+    }
+}
+
 /// The cell of a code in a payload.
 pub(crate) fn cell_of(payload: &[u8], code: Code) -> io::Result<Cell> {
-    let cells = match payloads::message_of(payload)? {
-        Message::Obs1004(message) => cells_1004(&message),
-        Message::Msm1074(message) => cells_1074(&message),
-        _ => return Err(io::Error::other("no observations")),
-    };
-    for entry in &cells {
+    for entry in &cells_of(payload)? {
         if entry.code == code {
             return Ok(entry.cell);
         }
@@ -156,39 +161,22 @@ pub(crate) fn cell_of(payload: &[u8], code: Code) -> io::Result<Cell> {
 }
 
 fn print_equality(rt: &HostRuntime) -> io::Result<()> {
+    let payload = payloads::observation_payload(rt.alloc(), NOON_TOW)?;
+    let cell = cell_of(&payload, Code::C1C)?;
+    println!(rt; "a cell is itself: {}", cell == cell)?;
     let stronger = LegacySatellite {
         l1_cnr: 181,
         ..LEGACY_5
     };
-    let cell = cell_of(
-        &payloads::observation_payload(rt.alloc(), NOON_TOW)?,
-        Code::C1C,
-    )?;
     let payload = payloads::legacy_payload(rt.alloc(), NOON_TOW, &[stronger])?;
-    println!(rt; "a cell is itself: {}", cell == cell)?;
-    println!(rt;
-        "a cell is a stronger one: {}",
-        cell == cell_of(&payload, Code::C1C)?
-    )
-}
-
-fn print_observed(rt: &HostRuntime, name: &str, payload: &[u8]) -> io::Result<()> {
-    match payloads::message_of(payload)? {
-        Message::Obs1004(message) => {
-            println!(rt; "cells_1004 of {name}")?;
-            print_cells(rt, &cells_1004(&message))
-        }
-        Message::Msm1074(message) => {
-            println!(rt; "cells_1074 of {name}")?;
-            print_cells(rt, &cells_1074(&message))
-        }
-        _ => println!(rt; "{name}: no observations"),
-    }
+    let stronger = cell_of(&payload, Code::C1C)?;
+    println!(rt; "a cell is a stronger one: {}", cell == stronger)
 }
 
 fn print_legacy(rt: &HostRuntime, name: &str, satellites: &[LegacySatellite]) -> io::Result<()> {
     let payload = payloads::legacy_payload(rt.alloc(), NOON_TOW, satellites)?;
-    print_observed(rt, name, &payload)
+    println!(rt; "cells_1004 of {name}")?;
+    print_cells(rt, &cells_of(&payload)?)
 }
 
 fn print_legacies(rt: &HostRuntime) -> io::Result<()> {
@@ -216,7 +204,9 @@ fn print_msm(rt: &HostRuntime, name: &str, satellite: MsmSatellite) -> io::Resul
         satellites: &[satellite],
         ..MSM_5
     };
-    print_observed(rt, name, &payloads::msm_payload(rt.alloc(), &message)?)
+    let payload = payloads::msm_payload(rt.alloc(), &message)?;
+    println!(rt; "cells_1074 of {name}")?;
+    print_cells(rt, &cells_of(&payload)?)
 }
 
 fn print_msms(rt: &HostRuntime) -> io::Result<()> {
