@@ -30,12 +30,24 @@ fn print_asked(rt: &HostRuntime, name: &str, job: Job<'_>) -> io::Result<()> {
     }
 }
 
+// Prints with which status clap answers.
+fn print_clap_answer(rt: &HostRuntime, name: &str, text: &str, status: u8) -> io::Result<()> {
+    if text.is_empty() {
+        return println!(rt; "job, {name}: Clap without a text, status {status}");
+    }
+    println!(rt; "job, {name}: Clap, status {status}")
+}
+
+fn print_fault_line(rt: &HostRuntime, name: &str, line: &str) -> io::Result<()> {
+    println!(rt; "job, {name}: {line}")
+}
+
 // Prints why the words are refused.
 fn print_refusal(rt: &HostRuntime, name: &str, fault: WordsFault) -> io::Result<()> {
     match fault {
-        WordsFault::Clap { status, .. } => println!(rt; "job, {name}: Clap, status {status}"),
-        WordsFault::Bad { line } => println!(rt; "job, {name}: {line}"),
-        WordsFault::OutOfMemory => println!(rt; "job, {name}: OutOfMemory"),
+        WordsFault::Clap { text, status } => print_clap_answer(rt, name, text.as_str(), status),
+        WordsFault::Bad { line } => print_fault_line(rt, name, line),
+        WordsFault::OutOfMemory => print_fault_line(rt, name, "OutOfMemory"),
     }
 }
 
