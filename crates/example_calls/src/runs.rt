@@ -1,0 +1,148 @@
+//! The call that converts what readers give.
+
+use crate::moments::NOON_TOW;
+use crate::payloads::POSITION_FRAME;
+use crate::{checker, converter, example};
+use rtk_convert::{Setup, run};
+use rtk_frame::{After, MemSink, MemSource};
+use std::alloc::Global;
+use std::io;
+
+const PER_READ: usize = 512;
+
+// The frames of the position and of the observations at noon.
+fn capture(alloc: Global) -> io::Result<Vec<u8>> {
+    let mut bytes = Vec::from_slice(alloc, &POSITION_FRAME)?;
+    bytes.extend_from_slice(&converter::observation_frame(alloc, NOON_TOW)?)?;
+    Ok(bytes)
+}
+
+fn reader(alloc: Global, bytes: &[u8], after: After) -> io::Result<MemSource> {
+    Ok(MemSource::new(alloc, bytes, PER_READ, after)?)
+}
+
+// Runs a conversion, prints its counts or its fault, and gives the report.
+fn run_into(
+    rt: &HostRuntime,
+    setup: Setup,
+    readers: &mut [MemSource],
+    file: &mut MemSink,
+    max_reads: u64,
+) -> io::Result<MemSink> {
+    let mut report = converter::sink(rt.alloc())?;
+    match run(rt.alloc(), setup, readers, file, &mut report, max_reads) {
+        Ok(counts) => converter::print_counts(rt, &counts)?,
+        Err(fault) => converter::print_fault(rt, "run", &fault)?,
+    }
+    Ok(report)
+}
+
+// Prints whether these bytes are the example file, or its first bytes.
+fn print_likeness(rt: &HostRuntime, file: &[u8]) -> io::Result<()> {
+    let example = example::file(rt.alloc())?;
+    let same = file == example.as_bytes();
+    let front = example.as_bytes().starts_with(file);
+    let count = file.len();
+    println!(rt; "  {count} bytes, the example {same}, the front of it {front}")
+}
+
+/// Converts the example, and prints its report.
+pub(crate) fn print_example(rt: &HostRuntime, setup: Setup) -> io::Result<()> {
+    println!(rt; "run, the position and the observations")?;
+    let mut file = converter::sink(rt.alloc())?;
+    let mut readers = [reader(rt.alloc(), &capture(rt.alloc())?, After::End)?];
+    let report = run_into(rt, setup, &mut readers, &mut file, 100)?;
+    print_likeness(rt, file.bytes())?;
+    converter::print_lines(rt, report.bytes())
+}
+
+fn print_empty(rt: &HostRuntime) -> io::Result<()> {
+    println!(rt; "run, an empty reader")?;
+    let mut file = converter::sink(rt.alloc())?;
+    let mut readers = [reader(rt.alloc(), &[], After::End)?];
+    let _report = run_into(rt, converter::setup()?, &mut readers, &mut file, 100)?;
+    let known = "  1114104.5999 -4850729.7108  3975521.4643";
+    let zeros = "        0.0000        0.0000        0.0000";
+    let header = example::replaced(rt.alloc(), &example::header(rt.alloc())?, known, zeros)?;
+    let same = file.bytes() == header.as_bytes();
+    println!(rt; "  the header with zeros {same}")?;
+    checker::print_checked(rt, "it", file.bytes())
+}
+
+// Converts what the readers give, and prints how much of the example is written.
+fn print_run(
+    rt: &HostRuntime,
+    name: &str,
+    readers: &mut [MemSource],
+    max_reads: u64,
+    mut file: MemSink,
+) -> io::Result<()> {
+    println!(rt; "run, {name}")?;
+    let _report = run_into(rt, converter::setup()?, readers, &mut file, max_reads)?;
+    print_likeness(rt, file.bytes())
+}
+
+fn print_two(rt: &HostRuntime, name: &str, max_reads: u64) -> io::Result<()> {
+    let alloc = rt.alloc();
+    let bytes = capture(alloc)?;
+    let first = reader(alloc, &bytes, After::End)?;
+    let second = reader(alloc, &bytes, After::End)?;
+    print_run(
+        rt,
+        name,
+        &mut [first, second],
+        max_reads,
+        converter::sink(alloc)?,
+    )
+}
+
+fn print_lost_reader(rt: &HostRuntime) -> io::Result<()> {
+    let alloc = rt.alloc();
+    let first = reader(alloc, &capture(alloc)?, After::End)?;
+    let second = reader(alloc, &[], After::Failure)?;
+    let file = converter::sink(alloc)?;
+    print_run(
+        rt,
+        "a second read that fails",
+        &mut [first, second],
+        100,
+        file,
+    )?;
+    print_run(rt, "no readers", &mut [], 100, converter::sink(alloc)?)
+}
+
+fn print_writer(rt: &HostRuntime, name: &str, file: MemSink) -> io::Result<()> {
+    let reader = reader(rt.alloc(), &capture(rt.alloc())?, After::End)?;
+    print_run(rt, name, &mut [reader], 100, file)
+}
+
+// Observations at 300 seconds.
+fn long_capture(alloc: Global) -> io::Result<Vec<u8>> {
+    let mut bytes = Vec::new(alloc);
+    for second in 0..300u32 {
+        let tow = second.saturating_mul(1_000).saturating_add(NOON_TOW);
+        bytes.extend_from_slice(&converter::observation_frame(alloc, tow)?)?;
+    }
+    Ok(bytes)
+}
+
+fn print_long(rt: &HostRuntime) -> io::Result<()> {
+    println!(rt; "run, 300 seconds")?;
+    let mut file = MemSink::new(rt.alloc(), 65_536, 4_096)?;
+    let mut readers = [reader(rt.alloc(), &long_capture(rt.alloc())?, After::End)?];
+    let _report = run_into(rt, converter::setup()?, &mut readers, &mut file, 1_000)?;
+    checker::print_checked(rt, "it", file.bytes())
+}
+
+pub(crate) fn print_calls(rt: &HostRuntime) -> io::Result<()> {
+    print_example(rt, converter::setup()?)?;
+    print_empty(rt)?;
+    print_two(rt, "two readers, 4 reads", 4)?;
+    print_two(rt, "two readers, 3 reads", 3)?;
+    print_lost_reader(rt)?;
+    let bytewise = MemSink::new(rt.alloc(), 4_096, 1)?;
+    print_writer(rt, "a writer of one byte a call", bytewise)?;
+    let small = MemSink::new(rt.alloc(), 10, 4_096)?;
+    print_writer(rt, "a writer with room for 10 bytes", small)?;
+    print_long(rt)
+}
