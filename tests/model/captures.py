@@ -7,6 +7,7 @@ every byte.
 
 from __future__ import annotations
 
+from dataclasses import replace
 from random import Random
 from typing import Callable, NamedTuple
 
@@ -38,6 +39,9 @@ NEARS = (
 )
 LAST_MADE = moment("2100-12-31T23:59:59")
 MARKERS = ("BASE", "-X", "--codes", "A  B", "~!'\"\\$`", "x" * 60)
+LONGEST_MARKER = 60
+MOST_CODES = 16
+CALM_WINDOW, MOST_WINDOW = 64, 4096
 STEPS = (1, 31, 32, 33, 500, 1000, 1000, 1000, 30_000, 262_144, 900_000, WEEK_MS // 40)
 
 # The lock time indicators of a 1004 where its table turns.
@@ -47,14 +51,20 @@ LEGACY_TURNS = (0, 23, 24, 47, 48, 71, 72, 95, 96, 119, 120, 126, 127)
 MSM_OPTIONS = (*[None] * 8, 4, 5, 6, 7)  # a third of the captures have one
 
 
+def any_marker(rng: Random) -> str:
+    """One of the strange ones, or one of any length."""
+    return rng.choice((*MARKERS, *["".join(rng.choices("BASE 0-9_x", k=rng.randint(1, LONGEST_MARKER))).strip() or "B"] * 4))
+
+
 def any_setup(rng: Random, window: int) -> Setup:
+    """Any options. Half of the setups have all codes, the others any number of them."""
     seconds = rng.randint(FIRST_NEAR // 1000, LAST_NEAR // 1000)
     return Setup(
         station=rng.choice((0, 1, 2003, 4095, rng.randrange(4096))),
         near=rng.choice(NEARS + (1000 * seconds,)),
         made=1000 * rng.randint(0, LAST_MADE // 1000),
-        marker=rng.choice(MARKERS),
-        codes=tuple(rng.sample(CODES, rng.choice((1, 2, 3, 5, 9, 16, 16, 16)))),
+        marker=any_marker(rng),
+        codes=tuple(rng.sample(CODES, rng.choice((MOST_CODES, rng.randint(1, MOST_CODES))))),
         window=window,
         msm=rng.choice(MSM_OPTIONS),
     )
@@ -158,7 +168,7 @@ def dealt(rng: Random, parts: list[bytes], links: int) -> list[bytes]:
 
 def any_window(rng: Random, is_calm: bool) -> int:
     """A calm capture has no late message: no more epochs than its window. Of the others most have a small one."""
-    return rng.randint(64, 4096) if is_calm else rng.choice((2, 2, 2, 3, 5, rng.randint(2, 4096)))
+    return CALM_WINDOW if is_calm else rng.choice((2, 2, 2, 3, 5, rng.randint(2, MOST_WINDOW)))
 
 
 def frames_at(rng: Random, sender: Sender, times: list[int]) -> list[bytes]:
@@ -214,7 +224,7 @@ def locks(rng: Random, turn: int) -> Capture:
 
 def late(rng: Random, turn: int) -> Capture:
     """Many epochs in disorder and a short window; the station's position comes at any time."""
-    setup = any_setup(rng, rng.choice((2, 2, 3, 4)))
+    setup = any_setup(rng, rng.choice((2, 2, 3, 4, rng.randint(2, 12))))
     sender = Sender(rng, setup, pick_any, is_calm=rng.random() < 0.5, is_small=True)
     times = any_times(rng, setup, rng.randint(4, 16), rng.choice(STEPS))
     for _ in range(rng.randrange(4)):
@@ -306,4 +316,8 @@ def capture_of(seed: int, number: int) -> Capture:
     turn, at = divmod(number, len(SCENES))
     scene = SCENES[at]
     rng = Random(f"capture {seed} {number}")
-    return scene(rng, turn)._replace(scene=scene.__name__)
+    capture = scene(rng, turn)
+    setup = capture.setup
+    if setup.window >= CALM_WINDOW:  # the captures go through all such windows
+        setup = replace(setup, window=CALM_WINDOW + number % (MOST_WINDOW - CALM_WINDOW + 1))
+    return capture._replace(scene=scene.__name__, setup=setup)

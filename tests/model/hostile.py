@@ -1,7 +1,7 @@
 #!/usr/bin/env python3
 """Attacks the program with captures that are made from a seed, and looks at what must hold of each.
 
-    hostile.py --program PATH [--captures N] [--seed N] [--first N] [--draws N] [--jobs N]
+    hostile.py --program PATH [--captures N] [--seed N] [--first N] [--draws N] [--jobs N] [--to-first-failure]
                [--keep FOLDER]
 
 Prints a line for each property, with the number of captures on which it was checked, and last
@@ -165,6 +165,7 @@ def words_of(arguments: list[str]) -> argparse.Namespace:
     parser.add_argument("--first", type=int, default=0, help="the number of the first capture")
     parser.add_argument("--draws", type=int, help="properties that are drawn for each capture")
     parser.add_argument("--jobs", type=int, default=os.cpu_count())
+    parser.add_argument("--to-first-failure", action="store_true", help="end after the first capture of which something does not hold")
     parser.add_argument("--keep", help="a folder for the captures")
     return parser.parse_args(arguments)
 
@@ -181,6 +182,8 @@ def main() -> int:
         with Pool(words.jobs, begin_worker, (folder, path)) as pool:
             for looked in pool.imap(look, tasks, chunksize=10):
                 tally.add(looked)
+                if words.to_first_failure and looked.failed:
+                    break
     print("captures: " + ", ".join(f"{count} {scene}" for scene, count in tally.scenes.items()))
     # Nothing is due of what is drawn.
     passed = [tally.told(it, it.floor if words.draws is None or it in FREE else 0) for it in ALL]

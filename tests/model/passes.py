@@ -55,7 +55,7 @@ def file_of_passes(rng: Random, setup: Setup) -> str:
     beside, drift = rng.choice(BESIDE), rng.choice((0, 0, 1, 3))
     sign = rng.choice((1, -1))
     clock = [sign * (beside + drift * at) % 500 if sign > 0 else -((beside + drift * at) % 500) for at in range(count)]
-    times = [start + at * interval + clock[at] for at in range(count) if rng.random() < 0.95]
+    times = [start + at * interval + clock[at] for at in range(count) if rng.random() < 0.95] or [start]
     codes_of = {name: [code_of(rng) for _ in setup.codes] for name in sorted(rng.sample(range(1, 33), rng.randint(1, 4)))}
     gone = {name: absences(rng, times, interval) for name in codes_of}
     lines: list[str] = []

@@ -330,7 +330,7 @@ def any_file(case: Case) -> str:
 
 def charted_as_modelled(case: Case) -> Answer:
     """`chart --text` of a file, of any width, is the picture that the slow model makes, or so is `chart`."""
-    text, width = any_file(case), case.rng.choice((40, 80, 400, case.rng.randint(40, 400)))
+    text, width = any_file(case), case.rng.choice((40, 400, *[case.rng.randint(40, 400)] * 6))
     words, due = ("chart", "--text", "--columns", str(width)), text_picture(text, width)
     if case.rng.random() < 0.5:
         words, due = ("chart",), svg_picture(text)
