@@ -15,7 +15,7 @@ use Rattle.rtk_rinex.specs.Header.{made_text, types_of, types, types_label, firs
 use Rattle.rtk_rinex.specs.Lines.{HasNoEnd}
 use Rattle.rtk_rinex.proofs.ReadingLemmas.{FitsColumns-reading_of}
 use Rattle.rtk_rinex.proofs.HeaderShownLemmas.{IsCoordinate-height}
-use Rattle.rtk_rinex.proofs.HeaderRowsLemmas.{row, types_head, types_line, type_rows, Values, IsGood, version_part, made_row, marker_row, unknown_part, place_row, height_row, types_part, first_row, unit_part, end_part, from_place, from_unit, all_parts}
+use Rattle.rtk_rinex.proofs.HeaderRowsLemmas.{row, types_head, types_line, type_rows, Values, IsGood, version_part, made_row, marker_row, unknown_part, place_row, height_row, types_part, first_row, unit_part, end_part, row_count, from_made, from_marker, from_unknown, from_place, from_height, from_types, from_unit, from_first, all_parts}
 use Rattle.rtk_rinex.proofs.LineLemmas.{IsNoEnd, both, blanks, of_decimal, of_last_digits, of_right, of_decimals}
 
 -- ---- texts without LF
@@ -60,26 +60,26 @@ unfolding row
 of_row content label h g = both (left 60 content) (left 20 label) (of_left 60 content h) (of_left 20 label g)
 
 of_fixed : (v : ℤ) → IsCoordinate v → HasNoEnd (fixed 4 14 v)
-of_fixed (pos n) h = of_right 14 _ (of_decimals 4 false n (omega (arith, ints, h.least, h.greatest)))
-of_fixed (negsuc n) h = of_right 14 _ (of_decimals 4 true (suc n) (omega (arith, ints, h.least, h.greatest)))
+of_fixed (pos n) h = of_right 14 (decimals 4 false n) (of_decimals 4 false n (omega (arith, ints, h.least, h.greatest)))
+of_fixed (negsuc n) h = of_right 14 (decimals 4 true (suc n)) (of_decimals 4 true (suc n) (omega (arith, ints, h.least, h.greatest)))
 
 of_code : (c : Code) → HasNoEnd (types_of c)
-of_code C1C = known _ refl
-of_code C1P = known _ refl
-of_code C1W = known _ refl
-of_code C1S = known _ refl
-of_code C1L = known _ refl
-of_code C1X = known _ refl
-of_code C2C = known _ refl
-of_code C2D = known _ refl
-of_code C2P = known _ refl
-of_code C2W = known _ refl
-of_code C2S = known _ refl
-of_code C2L = known _ refl
-of_code C2X = known _ refl
-of_code C5I = known _ refl
-of_code C5Q = known _ refl
-of_code C5X = known _ refl
+of_code C1C = known (types_of C1C) refl
+of_code C1P = known (types_of C1P) refl
+of_code C1W = known (types_of C1W) refl
+of_code C1S = known (types_of C1S) refl
+of_code C1L = known (types_of C1L) refl
+of_code C1X = known (types_of C1X) refl
+of_code C2C = known (types_of C2C) refl
+of_code C2D = known (types_of C2D) refl
+of_code C2P = known (types_of C2P) refl
+of_code C2W = known (types_of C2W) refl
+of_code C2S = known (types_of C2S) refl
+of_code C2L = known (types_of C2L) refl
+of_code C2X = known (types_of C2X) refl
+of_code C5I = known (types_of C5I) refl
+of_code C5Q = known (types_of C5Q) refl
+of_code C5X = known (types_of C5X) refl
 
 of_types : (cs : List Code) → HasNoEnd (types cs)
 of_types [] = All-nil IsNoEnd
@@ -90,37 +90,49 @@ of_types (c ∷ cs) = both (types_of c) (types cs) (of_code c) (of_types cs)
 of_made : (made : ℕ) → HasNoEnd (made_row made)
 of_made made =
     let c = reading_of made in
-    let year : HasNoEnd (last_digits 4 c.year) = of_last_digits 4 c.year in
-    let two : (n : ℕ) → HasNoEnd (last_digits 2 n) = of_last_digits 2 in
-    let date : HasNoEnd ((last_digits 4 c.year ++ last_digits 2 c.month) ++ last_digits 2 c.day) = both _ _ (both _ _ year (two c.month)) (two c.day) in
-    let time : HasNoEnd ((last_digits 2 c.hour ++ last_digits 2 c.minute) ++ last_digits 2 c.second) = both _ _ (both _ _ (two c.hour) (two c.minute)) (two c.second) in
-    let all : HasNoEnd (made_text c) = both _ _ date (both (codes " ") _ (known _ refl) (both _ (codes " UTC ") time (known _ refl))) in
-    of_row _ _ (both (codes "rtcm2rinex                              ") (made_text c) (known _ refl) all) (known _ refl)
+    let year : List ℕ = last_digits 4 c.year in
+    let two : ℕ → List ℕ = last_digits 2 in
+    let is : (n : ℕ) → HasNoEnd (last_digits 2 n) = of_last_digits 2 in
+    let date : List ℕ = (year ++ two c.month) ++ two c.day in
+    let time : List ℕ = (two c.hour ++ two c.minute) ++ two c.second in
+    let front : HasNoEnd date = both (year ++ two c.month) (two c.day) (both year (two c.month) (of_last_digits 4 c.year) (is c.month)) (is c.day) in
+    let back : HasNoEnd time = both (two c.hour ++ two c.minute) (two c.second) (both (two c.hour) (two c.minute) (is c.hour) (is c.minute)) (is c.second) in
+    let end : HasNoEnd (time ++ codes " UTC ") = both time (codes " UTC ") back (known (codes " UTC ") refl) in
+    let all : HasNoEnd (made_text c) = both date (codes " " ++ (time ++ codes " UTC ")) front (both (codes " ") (time ++ codes " UTC ") (known (codes " ") refl) end) in
+    let program : List ℕ = codes "rtcm2rinex                              " in
+    of_row (program ++ made_text c) (codes "PGM / RUN BY / DATE") (both program (made_text c) (known program refl) all) (known (codes "PGM / RUN BY / DATE") refl)
 
 of_first : (first : ℕ) → IsMoment first → HasNoEnd (first_row first)
 of_first first h =
     let c = reading_of first in
     let fits = FitsColumns-reading_of first h in
+    let six : ℕ → List ℕ = λ n. right 6 (decimal n) in
     let field : (n : ℕ) → n < 10_000 → HasNoEnd (right 6 (decimal n)) = λ n small. of_right 6 (decimal n) (of_decimal n (omega (arith, small))) in
-    let s : HasNoEnd (right 13 (decimals 7 false (seconds_of c))) = of_right 13 _ (of_decimals 7 false (seconds_of c) (omega (arith, fits.second, fits.millisecond))) in
-    of_row (first_text c) _
-    (both _ (codes "     GPS")
-    (both _ _ (both _ _ (both _ _ (both _ _ (both _ _ (field c.year (omega (arith, fits.year))) (field c.month (omega (arith, fits.month)))) (field c.day (omega (arith, fits.day)))) (field c.hour (omega (arith, fits.hour)))) (field c.minute (omega (arith, fits.minute)))) s)
-    (known _ refl))
-    (known _ refl)
+    let s : List ℕ = right 13 (decimals 7 false (seconds_of c)) in
+    let seconds : HasNoEnd s = of_right 13 (decimals 7 false (seconds_of c)) (of_decimals 7 false (seconds_of c) (omega (arith, fits.second, fits.millisecond))) in
+    let ym : List ℕ = six c.year ++ six c.month in
+    let date : List ℕ = ym ++ six c.day in
+    let hour : List ℕ = date ++ six c.hour in
+    let front : List ℕ = hour ++ six c.minute in
+    let a : HasNoEnd ym = both (six c.year) (six c.month) (field c.year (omega (arith, fits.year))) (field c.month (omega (arith, fits.month))) in
+    let b : HasNoEnd date = both ym (six c.day) a (field c.day (omega (arith, fits.day))) in
+    let d : HasNoEnd hour = both date (six c.hour) b (field c.hour (omega (arith, fits.hour))) in
+    let e : HasNoEnd front = both hour (six c.minute) d (field c.minute (omega (arith, fits.minute))) in
+    of_row (first_text c) (codes "TIME OF FIRST OBS") (both (front ++ s) (codes "     GPS") (both front s e seconds) (known (codes "     GPS") refl)) (known (codes "TIME OF FIRST OBS") refl)
 
 of_head : (j n : ℕ) → IsInRange 1 16 n → HasNoEnd (types_head j n)
-of_head zero n h = both (codes "G  ") _ (known _ refl) (of_right 3 (decimal (3 * n)) (of_decimal (3 * n) (omega (arith, h))))
-of_head (suc j) n h = known _ refl
+of_head zero n h = both (codes "G  ") (right 3 (decimal (3 * n))) (known (codes "G  ") refl) (of_right 3 (decimal (3 * n)) (of_decimal (3 * n) (omega (arith, h))))
+of_head (suc j) n h = known (codes "      ") refl
 
 of_types_rows : (j m : ℕ) (cs : List Code) → IsInRange 1 16 (length cs) → All HasNoEnd (type_rows j m cs)
 unfolding type_rows types_line
 of_types_rows j zero cs h = All-nil HasNoEnd
 of_types_rows j (suc m) cs h =
+    let head : List ℕ = types_head j (length cs) in
+    let shown : List ℕ = take 52 (drop (52 * j) (types cs)) in
+    let is : HasNoEnd shown = of_take 52 (drop (52 * j) (types cs)) (of_drop (52 * j) (types cs) (of_types cs)) in
     All-cons HasNoEnd (types_line j cs) (type_rows (suc j) m cs)
-    (of_row (types_head j (length cs) ++ take 52 (drop (52 * j) (types cs))) types_label
-    (both (types_head j (length cs)) _ (of_head j (length cs) h) (of_take 52 _ (of_drop (52 * j) (types cs) (of_types cs)))) (known _ refl))
-    (of_types_rows (suc j) m cs h)
+    (of_row (head ++ shown) types_label (both head shown (of_head j (length cs) h) is) (known types_label refl)) (of_types_rows (suc j) m cs h)
 
 of_one : (line : List ℕ) → HasNoEnd line → All HasNoEnd (line ∷ [])
 of_one line h = All-cons HasNoEnd line [] h (All-nil HasNoEnd)
@@ -136,17 +148,28 @@ and_then = All-append HasNoEnd
 pub all_lines : (v : Values) → IsGood v → All HasNoEnd (all_parts v)
 all_lines v g =
     let none = All-nil HasNoEnd in
-    let site = g.site in
-    let height = of_row _ (codes "ANTENNA: DELTA H/E/N") (both (fixed 4 14 (pos v.site.height)) _ (of_fixed (pos v.site.height) (IsCoordinate-height v.site.height site.3)) (known _ refl)) (known _ refl) in
-    let place = of_row _ (codes "APPROX POSITION XYZ") (both _ _ (both _ _ (of_fixed v.site.x site.0) (of_fixed v.site.y site.1)) (of_fixed v.site.z site.2)) (known _ refl) in
-    let marker = of_row v.head.marker (codes "MARKER NAME") (printed v.head.marker g.heading.0.1) (known _ refl) in
-    let last : All HasNoEnd (from_unit v) =
-    of_known (codes "DBHZ") _ _ refl refl (All-cons HasNoEnd (first_row v.first) _ (of_first v.first g.first) (of_known (codes "G") _ _ refl refl (of_known [] _ _ refl refl none))) in
-    let unknown : All HasNoEnd unknown_part = of_known (codes "GEODETIC") _ _ refl refl (of_known [] _ _ refl refl (of_known [] _ _ refl refl (of_known [] _ _ refl refl none))) in
-    and_then version_part _ (of_known _ _ _ refl refl none)
-    (and_then (made_row v.head.made ∷ []) _ (of_one _ (of_made v.head.made))
-    (and_then (marker_row v.head.marker ∷ []) _ (of_one _ marker)
-    (and_then unknown_part _ unknown
-    (and_then (place_row v.site ∷ []) _ (of_one _ place)
-    (and_then (height_row v.site.height ∷ []) _ (of_one _ height)
-    (and_then (types_part v) _ (of_types_rows 0 _ v.head.listed g.heading.1.0) last))))))
+    let x : List ℕ = fixed 4 14 v.site.x in
+    let y : List ℕ = fixed 4 14 v.site.y in
+    let z : List ℕ = fixed 4 14 v.site.z in
+    let up : List ℕ = fixed 4 14 (pos v.site.height) in
+    let zeros : List ℕ = codes "        0.0000        0.0000" in
+    let end : List (List ℕ) = row [] (codes "END OF HEADER") ∷ [] in
+    let last : List (List ℕ) = row (codes "G") (codes "SYS / PHASE SHIFT") ∷ end in
+    let antenna : List (List ℕ) = row [] (codes "ANT # / TYPE") ∷ [] in
+    let receiver : List (List ℕ) = row [] (codes "REC # / TYPE / VERS") ∷ antenna in
+    let observer : List (List ℕ) = row [] (codes "OBSERVER / AGENCY") ∷ receiver in
+    let coordinates : HasNoEnd ((x ++ y) ++ z) = both (x ++ y) z (both x y (of_fixed v.site.x g.site.0) (of_fixed v.site.y g.site.1)) (of_fixed v.site.z g.site.2) in
+    let height : HasNoEnd (up ++ zeros) = both up zeros (of_fixed (pos v.site.height) (IsCoordinate-height v.site.height g.site.3)) (known zeros refl) in
+    let ends : All HasNoEnd last = of_known (codes "G") (codes "SYS / PHASE SHIFT") end refl refl (of_known [] (codes "END OF HEADER") [] refl refl none) in
+    let unknown : All HasNoEnd observer =
+    of_known [] (codes "OBSERVER / AGENCY") receiver refl refl (of_known [] (codes "REC # / TYPE / VERS") antenna refl refl (of_known [] (codes "ANT # / TYPE") [] refl refl none)) in
+    and_then version_part (from_made v) (of_known (codes "     3.05           OBSERVATION DATA    G") (codes "RINEX VERSION / TYPE") [] refl refl none)
+    (and_then (made_row v.head.made ∷ []) (from_marker v) (of_one (made_row v.head.made) (of_made v.head.made))
+    (and_then (marker_row v.head.marker ∷ []) (from_unknown v)
+    (of_one (marker_row v.head.marker) (of_row v.head.marker (codes "MARKER NAME") (printed v.head.marker g.heading.0.1) (known (codes "MARKER NAME") refl)))
+    (and_then unknown_part (from_place v) (of_known (codes "GEODETIC") (codes "MARKER TYPE") observer refl refl unknown)
+    (and_then (place_row v.site ∷ []) (from_height v) (of_one (place_row v.site) (of_row ((x ++ y) ++ z) (codes "APPROX POSITION XYZ") coordinates (known (codes "APPROX POSITION XYZ") refl)))
+    (and_then (height_row v.site.height ∷ []) (from_types v) (of_one (height_row v.site.height) (of_row (up ++ zeros) (codes "ANTENNA: DELTA H/E/N") height (known (codes "ANTENNA: DELTA H/E/N") refl)))
+    (and_then (types_part v) (from_unit v) (of_types_rows 0 (row_count (length v.head.listed)) v.head.listed g.heading.1.0)
+    (and_then unit_part (from_first v) (of_known (codes "DBHZ") (codes "SIGNAL STRENGTH UNIT") [] refl refl none)
+    (and_then (first_row v.first ∷ []) end_part (of_one (first_row v.first) (of_first v.first g.first)) ends))))))))

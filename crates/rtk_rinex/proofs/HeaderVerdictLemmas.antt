@@ -24,7 +24,7 @@ use Rattle.rtk_rinex.proofs.LineLemmas.{no_front, same_front}
 -- ---- lines that two texts have alike
 
 pub none_alike : (text other : List ℕ) → BeginAlike 0 text other text other
-none_alike text other = record { lines = []; are_lines = All-nil HasNoEnd; size = refl; text = refl; other = refl }
+none_alike text other = record { lines = []; are_lines = All-nil HasNoEnd; size = refl; begins = refl; other_begins = refl }
 
 more_text : (lines : List (List ℕ)) (line rest : List ℕ) → text_of lines ++ (line ++ 10 ∷ rest) ≡ text_of (lines ++ line ∷ []) ++ rest
 more_text lines line rest =
@@ -40,8 +40,8 @@ alike_on n text written rest wanted line more a is e same =
       lines = a.lines ++ is.0 ∷ [];
       are_lines = All-append HasNoEnd a.lines (is.0 ∷ []) a.are_lines (All-cons HasNoEnd is.0 [] is.1 (All-nil HasNoEnd));
       size = length-append a.lines (is.0 ∷ []) ∙ omega (arith, a.size);
-      text = a.text ∙ ap (λ (x : List ℕ). text_of a.lines ++ x) (on rest (drop (length line) rest) split) ∙ more_text a.lines is.0 (drop (length line) rest);
-      other = a.other ∙ ap (λ (x : List ℕ). text_of a.lines ++ x) (on wanted more e) ∙ more_text a.lines is.0 more;
+      begins = a.begins ∙ ap (λ (x : List ℕ). text_of a.lines ++ x) (on rest (drop (length line) rest) split) ∙ more_text a.lines is.0 (drop (length line) rest);
+      other_begins = a.other_begins ∙ ap (λ (x : List ℕ). text_of a.lines ++ x) (on wanted more e) ∙ more_text a.lines is.0 more;
     }
 
 -- a line that the text does not have
@@ -78,16 +78,16 @@ none_left (l ∷ ls) (m ∷ ms) end h g none e =
 
 -- a text has all lines of the header that is written
 pub record HasAll (n : ℕ) (text written : List ℕ) : Type 0 where
-  pub text : text ≡ written ++ drop (length written) text
+  pub begins : text ≡ written ++ drop (length written) text
   pub lines : AreLines n written
 
 pub has_all : (n : ℕ) (text written rest end : List ℕ) (v : Values) → IsGood v → written ≡ text_with v → HasNoEnd end → BeginAlike n text written rest end → HasAll n text written
 has_all n text written rest end v f is none a =
-    let nothing : end ≡ [] = none_left a.lines (all_parts v) end a.are_lines (all_lines v f) none (all_text v f.heading.1.0 ∙ sym is ∙ a.other) in
-    let all : written ≡ text_of a.lines = a.other ∙ ap (λ (x : List ℕ). text_of a.lines ++ x) nothing ∙ append-nil (text_of a.lines) in
-    let split : text ≡ written ++ rest = a.text ∙ ap (λ (x : List ℕ). x ++ rest) (sym all) in
+    let nothing : end ≡ [] = none_left a.lines (all_parts v) end a.are_lines (all_lines v f) none (all_text v f.heading.1.0 ∙ sym is ∙ a.other_begins) in
+    let all : written ≡ text_of a.lines = a.other_begins ∙ ap (λ (x : List ℕ). text_of a.lines ++ x) nothing ∙ append-nil (text_of a.lines) in
+    let split : text ≡ written ++ rest = a.begins ∙ ap (λ (x : List ℕ). x ++ rest) (sym all) in
     let left : drop (length written) text ≡ rest = ap (λ (x : List ℕ). drop (length written) x) split ∙ drop-append_seam written rest in
-    record { text = split ∙ ap (λ (x : List ℕ). written ++ x) (sym left); lines = (a.lines, a.are_lines, a.size, all) }
+    record { begins = split ∙ ap (λ (x : List ℕ). written ++ x) (sym left); lines = (a.lines, a.are_lines, a.size, all) }
 
 pub only_header : (bytes rest : List ℕ) (v : Values) → HaveOneName → IsGood v → bytes ≡ text_with v ++ rest → IsOnlyHeader bytes v.head v.site v.first
 only_header bytes rest v names f e h s t more heading site first other =
@@ -125,8 +125,8 @@ no_table text written v f line more h is shows w plain e x =
           let begins : text_of lines ++ text_of goes.more ≡ text_with u =
           sym (flat_map-append (λ (l : List ℕ). l ++ 10 ∷ []) lines goes.more) ∙ ap text_of (sym goes.list) ∙ all_text u g.heading.1.0 in
           let r = shows lines more are (text_of goes.more, u.head, u.site, u.first, g.heading, g.site, g.first, begins)
-          (a.text ∙ ap (λ (y : List ℕ). text_of a.lines ++ y) e ∙ more_text a.lines line more) in
-          let two : text_of a.lines ++ (w.line ++ 10 ∷ w.more) ≡ text_of a.lines ++ (line ++ 10 ∷ r.0) = sym a.other ∙ r.1 ∙ sym (more_text a.lines line r.0) in
+          (a.begins ∙ ap (λ (y : List ℕ). text_of a.lines ++ y) e ∙ more_text a.lines line more) in
+          let two : text_of a.lines ++ (w.line ++ 10 ∷ w.more) ≡ text_of a.lines ++ (line ++ 10 ∷ r.0) = sym a.other_begins ∙ r.1 ∙ sym (more_text a.lines line r.0) in
           let same = same_front w.line line w.more r.0 w.is_line plain (append_cancel_left (text_of a.lines) (w.line ++ 10 ∷ w.more) (line ++ 10 ∷ r.0) two) in
           w.unlike more (e ∙ ap (λ (y : List ℕ). y ++ 10 ∷ more) (sym same.0))
       | inr lt ↦
@@ -134,7 +134,7 @@ no_table text written v f line more h is shows w plain e x =
           let goes = same_lines (all_parts u) a.lines records (line ++ 10 ∷ x.1) (all_lines u g) a.are_lines few (file ∙ sym longer) in
           let next : List ℕ = w.line ++ 10 ∷ w.more in
           let front : written ≡ text_with u ++ (text_of goes.more ++ next) =
-          a.other ∙ ap (λ (y : List (List ℕ)). text_of y ++ next) goes.list ∙ ap (λ (y : List ℕ). y ++ next) (flat_map-append (λ (l : List ℕ). l ++ 10 ∷ []) (all_parts u) goes.more)
+          a.other_begins ∙ ap (λ (y : List (List ℕ)). text_of y ++ next) goes.list ∙ ap (λ (y : List ℕ). y ++ next) (flat_map-append (λ (l : List ℕ). l ++ 10 ∷ []) (all_parts u) goes.more)
           ∙ append_assoc (text_of (all_parts u)) (text_of goes.more) next ∙ ap (λ (y : List ℕ). y ++ (text_of goes.more ++ next)) (all_text u g.heading.1.0) in
           some_left (text_of goes.more) w.line w.more (none_after u v written (text_of goes.more ++ next) g h is front)
     ]
@@ -157,12 +157,12 @@ fault_is text written v f g is shows w =
         text_of a.lines,
         w.rest,
         (a.lines, a.are_lines, a.size, refl),
-        a.text,
-        (w.line ++ 10 ∷ w.more, v.head, v.site, v.first, g.heading, g.site, g.first, sym a.other ∙ is),
+        a.begins,
+        (w.line ++ 10 ∷ w.more, v.head, v.site, v.first, g.heading, g.site, g.first, sym a.other_begins ∙ is),
         λ x.
             let u : Values = record { head = x.0; site = x.1; first = x.2 } in
             let h : IsGood u = record { heading = x.3; site = x.4; first = x.5 } in
-            some_left [] w.line w.more (none_after u v written (w.line ++ 10 ∷ w.more) h g is (a.other ∙ ap (λ (t : List ℕ). t ++ (w.line ++ 10 ∷ w.more)) x.6)),
+            some_left [] w.line w.more (none_after u v written (w.line ++ 10 ∷ w.more) h g is (a.other_begins ∙ ap (λ (t : List ℕ). t ++ (w.line ++ 10 ∷ w.more)) x.6)),
         line_fault text written v f f.cause g is shows w w.cause,
       ),
     )

@@ -29,8 +29,8 @@ pub record BeginAlike (n : ℕ) (text other rest other_rest : List ℕ) : Type 0
   pub lines : List (List ℕ)
   pub are_lines : All HasNoEnd lines
   pub size : length lines ≡ n
-  pub text : text ≡ text_of lines ++ rest
-  pub other : other ≡ text_of lines ++ other_rest
+  pub begins : text ≡ text_of lines ++ rest
+  pub other_begins : other ≡ text_of lines ++ other_rest
 
 -- why a line is not the one that is wanted: it has no end, or it is another one
 abbrev pub IsLineCause : List ℕ → Cause → Type 0

@@ -16,11 +16,10 @@ use Rattle.rtk_rinex.proofs.header_check.read_header.Goals as goal
 
 -- ---- the parts that are read
 
-values : (c : goal.After-with_height) → Values
+abbrev values : (c : goal.After-with_height) → Values
 values c = values_of c.in-Ok.head (position_view c.with_height.result) c.unwrap_or-first.result
 
 good : (c : goal.After-with_height) → IsGood (values c)
-unfolding values
 good c =
     let p = c.with_height.result in
     record { heading = c.in-Ok.ensures.good; site = (p.x_fits, p.y_fits, p.z_fits, omega arith); first = omega arith }
@@ -87,7 +86,6 @@ types_shown c =
     }
 
 back : (c : goal.After-with_height) → ReadsBack all_parts c.args.text.now (values c)
-unfolding values
 back c =
     let text = c.args.text.now in
     let v = values_of c.in-Ok.head (position_view c.with_height.result) c.unwrap_or-first.result in
