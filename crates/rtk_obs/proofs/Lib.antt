@@ -18,3 +18,4 @@ mod MsmFieldLemmas
 mod PairsLemmas
 mod DistinctLemmas
 mod MessageLemmas
+mod SatelliteLemmas

@@ -1,6 +1,7 @@
 pub mod Dating
 pub mod Calendar
 pub mod CivilText
+pub mod SatelliteIndex
 pub mod Rounding
 pub mod LockTime
 pub mod Code

@@ -52,6 +52,7 @@ mod msm_values;
 mod position;
 mod rollover;
 mod rounding;
+mod satellite_index;
 mod scaling;
 mod slip;
 mod time;
@@ -66,7 +67,8 @@ pub use code::{ALL_CODES, Band, Code};
 pub use dating::{HALF_WEEK_MS, WEEK_MS, date};
 pub use laws::{
     cell_laws, cells_are_distinct, cells_are_in_range, civil_laws, code_laws, date_is_unique,
-    moment_laws, places_are_distinct, position_laws, rounded_is_unique, track_laws, tracks_laws,
+    moment_laws, places_are_distinct, position_laws, rounded_is_unique, satellite_laws, track_laws,
+    tracks_laws,
 };
 pub use legacy_cells::{cells_1004, put_cells_1004};
 pub use lock_time::{least_lock_extended, least_lock_legacy, least_lock_msm};
@@ -76,6 +78,7 @@ pub use msm1074_cells::{cells_1074, put_cells_1074};
 pub use position::Position;
 pub use rollover::rolled;
 pub use rounding::round_div;
+pub use satellite_index::{SatelliteIndex, satellite_in, satellite_name, satellite_named};
 pub use time::{Civil, GpsMs, LAST_MS};
 pub use track::{Digits, Track};
 pub use tracks::{SIGNALS, Tracks, place_of_signal};
