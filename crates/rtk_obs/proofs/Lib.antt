@@ -19,3 +19,5 @@ mod PairsLemmas
 mod DistinctLemmas
 mod MessageLemmas
 mod SatelliteLemmas
+mod LeapLemmas
+mod ClockLemmas

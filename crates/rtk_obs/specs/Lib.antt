@@ -2,6 +2,9 @@ pub mod Dating
 pub mod Calendar
 pub mod CivilText
 pub mod SatelliteIndex
+pub mod LeapSeconds
+pub mod GlonassTime
+pub mod Clocks
 pub mod Rounding
 pub mod LockTime
 pub mod Code

@@ -38,9 +38,12 @@ mod calendar;
 mod cell;
 mod cells_left;
 mod civil_text;
+mod clocks;
 mod code;
 mod dating;
+mod glonass_time;
 mod laws;
+mod leap_seconds;
 mod legacy_cells;
 mod lock_time;
 mod mask;
@@ -63,13 +66,16 @@ pub use calendar::{civil, of_civil};
 pub use cell::{Cell, CellEntry, CellSource};
 pub use cells_left::{put_cells_left, rising_satellites};
 pub use civil_text::{put_civil, put_clock, put_date, three_digits, two_digits};
+pub use clocks::date_clock;
 pub use code::{ALL_CODES, Band, Code};
 pub use dating::{HALF_WEEK_MS, WEEK_MS, date};
+pub use glonass_time::GlonassTime;
 pub use laws::{
-    cell_laws, cells_are_distinct, cells_are_in_range, civil_laws, code_laws, date_is_unique,
-    moment_laws, places_are_distinct, position_laws, rounded_is_unique, satellite_laws, track_laws,
-    tracks_laws,
+    cell_laws, cells_are_distinct, cells_are_in_range, civil_laws, clock_laws, code_laws,
+    date_is_unique, leap_laws, moment_laws, places_are_distinct, position_laws, rounded_is_unique,
+    satellite_laws, track_laws, tracks_laws,
 };
+pub use leap_seconds::leap_seconds_at;
 pub use legacy_cells::{cells_1004, put_cells_1004};
 pub use lock_time::{least_lock_extended, least_lock_legacy, least_lock_msm};
 pub use message_cells::put_cells_of;
