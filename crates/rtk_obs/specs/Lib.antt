@@ -5,6 +5,8 @@ pub mod SatelliteIndex
 pub mod LeapSeconds
 pub mod GlonassTime
 pub mod Clocks
+pub mod Carriers
+pub mod Signals
 pub mod Rounding
 pub mod LockTime
 pub mod Code

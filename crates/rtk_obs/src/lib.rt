@@ -35,6 +35,7 @@
 #![tactic(auto)]
 
 mod calendar;
+mod carrier;
 mod cell;
 mod cells_left;
 mod civil_text;
@@ -57,12 +58,14 @@ mod rollover;
 mod rounding;
 mod satellite_index;
 mod scaling;
+mod signals;
 mod slip;
 mod time;
 mod track;
 mod tracks;
 
 pub use calendar::{civil, of_civil};
+pub use carrier::{Carrier, Channel, Channels};
 pub use cell::{Cell, CellEntry, CellSource};
 pub use cells_left::{put_cells_left, rising_satellites};
 pub use civil_text::{put_civil, put_clock, put_date, three_digits, two_digits};
@@ -85,6 +88,7 @@ pub use position::Position;
 pub use rollover::rolled;
 pub use rounding::round_div;
 pub use satellite_index::{SatelliteIndex, satellite_in, satellite_name, satellite_named};
+pub use signals::{carrier_of_signal, signal_name};
 pub use time::{Civil, GpsMs, LAST_MS};
 pub use track::{Digits, Track};
 pub use tracks::{SIGNALS, Tracks, place_of_signal};
