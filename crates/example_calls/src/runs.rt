@@ -116,10 +116,10 @@ fn print_writer(rt: &HostRuntime, name: &str, file: MemSink) -> io::Result<()> {
     print_run(rt, name, &mut [reader], 100, file)
 }
 
-// Observations at 300 seconds.
+// Observations at 3,000 seconds.
 fn long_capture(alloc: Global) -> io::Result<Vec<u8>> {
     let mut bytes = Vec::new(alloc);
-    for second in 0..300u32 {
+    for second in 0..3_000u32 {
         let tow = second.saturating_mul(1_000).saturating_add(NOON_TOW);
         bytes.extend_from_slice(&converter::observation_frame(alloc, tow)?)?;
     }
@@ -127,8 +127,8 @@ fn long_capture(alloc: Global) -> io::Result<Vec<u8>> {
 }
 
 fn print_long(rt: &HostRuntime) -> io::Result<()> {
-    println!(rt; "run, 300 seconds")?;
-    let mut file = MemSink::new(rt.alloc(), 65_536, 4_096)?;
+    println!(rt; "run, 3000 seconds")?;
+    let mut file = MemSink::new(rt.alloc(), 450_000, 4_096)?;
     let mut readers = [reader(rt.alloc(), &long_capture(rt.alloc())?, After::End)?];
     let _report = run_into(rt, converter::setup()?, &mut readers, &mut file, 1_000)?;
     checker::print_checked(rt, "it", file.bytes())
