@@ -111,12 +111,12 @@ printf '%s\n' "> 2024 05 01 $line 2" "$g05" "$g07" "> 2024 05 02 $line 1" "${g05
     "> 2024 05 20 $line 2" "$g05" "$g07" | cat begin - >want
 # pins: has_slipped_since
 cut --every 86400 days; well a_slip_ten_days_before_the_step want
-# The usual steps, parts of half a day: so many records and two slips, that of G07 after all records on the step without it.
-for step in 5 10 15 20 120 300 600 900 1800 3600 7200 21600; do
+# Each step that divides half a day: so many records and two slips, that of G07 after all records on the step without it.
+for step in $(awk 'BEGIN { for (n = 1; n <= 43200; n++) if (43200 % n == 0) print n }'); do
     echo "$("$program" cut --every $step days 2>told | grep -cE '^>|[37]1$') records and slips at $step, not $((86400 / step + 7))"
 done | awk '$1 != $8' >got
 # pins: is_near_step, has_slipped_since
-same the_usual_steps got /dev/null
+same each_step_of_half_a_day got /dev/null
 
 # The first moment that a time can name, and the last minute.
 moved '1980 01 06' '00 00' '1980 01 06 00 01' '  1980     1     6     0     0 ' >dawn
