@@ -18,3 +18,6 @@ mod MsmFieldLemmas
 mod PairsLemmas
 mod DistinctLemmas
 mod MessageLemmas
+mod SatelliteLemmas
+mod LeapLemmas
+mod ClockLemmas

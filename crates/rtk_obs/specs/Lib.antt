@@ -1,6 +1,12 @@
 pub mod Dating
 pub mod Calendar
 pub mod CivilText
+pub mod SatelliteIndex
+pub mod LeapSeconds
+pub mod GlonassTime
+pub mod Clocks
+pub mod Carriers
+pub mod Signals
 pub mod Rounding
 pub mod LockTime
 pub mod Code

@@ -4,7 +4,7 @@
 //! Each function here does nothing. Its contract is the law, and a caller that calls it may cite
 //! it; proofs of other crates cite the same facts from `proofs/PublicLaws.antt`.
 
-ghost use Rattle.std.specs.Prelude.{◌≡◌, ◌≢◌, ◌↔◌, ℕ, ℤ, ◌<◌, ◌≤◌, List, Option, Some, MatchOption, IsTrue};
+ghost use Rattle.std.specs.Prelude.{◌≡◌, ◌≢◌, ◌↔◌, ℕ, ℤ, ◌+◌, ◌<◌, ◌≤◌, List, Option, Some, None, MatchOption, IsTrue};
 ghost use Rattle.std.specs.Ordering.{nat_cmp, partial_lt, partial_le};
 ghost use Rattle.std.specs.List.{All};
 ghost use Rattle.rtk_message.specs.declared.any_message.AnyMessage.{AnyMessage};
@@ -12,7 +12,9 @@ ghost use Rattle.rtk_message.specs.declared.obs1004.Satellite.{Satellite};
 ghost use Rattle.rtk_message.specs.declared.obs1004.Obs1004.{Obs1004};
 ghost use Rattle.rtk_message.specs.declared.msm1074.Msm1074.{Msm1074};
 ghost use Rattle.rtk_message.specs.declared.msm.Msm.{Msm};
+ghost use Rattle.rtk_message.specs.declared.system.System.{System};
 ghost use Rattle.rtk_message.specs.AnyDecoded.{IsValid};
+ghost use Rattle.rtk_message.specs.Systems.{is_in_week};
 ghost use Rattle.rtk_message.specs.Obs1004.{IsValid as IsValid1004};
 ghost use Rattle.rtk_message.specs.Msm1074.{IsValid as IsValid1074};
 ghost use Rattle.rtk_message.specs.MsmForm.{IsValid as IsValidMsm};
@@ -28,8 +30,13 @@ ghost use Rattle.rtk_obs.specs.declared.track.Track.{Track};
 ghost use Rattle.rtk_obs.specs.declared.track.Digits.{Digits};
 ghost use Rattle.rtk_obs.specs.Calendar.{ReadsAs};
 ghost use Rattle.rtk_obs.specs.Dating.{IsDated};
+ghost use Rattle.rtk_obs.specs.declared.glonass_time.GlonassTime.{GlonassTime};
+ghost use Rattle.rtk_obs.specs.LeapSeconds.{IsLeapSecondsAt};
+ghost use Rattle.rtk_obs.specs.GlonassTime.{glonass_tow, IsNumberOf};
+ghost use Rattle.rtk_obs.specs.Clocks.{IsClock, IsClockMoment};
 ghost use Rattle.rtk_obs.specs.Rounding.{IsRounded, rounded};
 ghost use Rattle.rtk_obs.specs.Code.{name_of, place_of};
+ghost use Rattle.rtk_obs.specs.SatelliteIndex.{IsSatelliteIndex, IsOfSystem, index_in, system_at, bit_at, index_name};
 ghost use Rattle.rtk_obs.specs.PositionFields.{HasFields};
 ghost use Rattle.rtk_obs.specs.Cell.{IsSatellite, IsInRange, AreDistinct};
 ghost use Rattle.rtk_obs.specs.LegacyCells.{cells_of_1004};
@@ -41,6 +48,7 @@ ghost use Rattle.rtk_obs.specs.TracksLaws.{LastIsGreatest, LaterThanSteps, Later
 use crate::cell::{Cell, CellEntry, CellSource};
 use crate::code::{Band, Code};
 use crate::position::Position;
+use crate::satellite_index::SatelliteIndex;
 use crate::time::{Civil, GpsMs};
 use crate::track::{Digits, Track};
 
@@ -139,4 +147,41 @@ pub fn tracks_laws()
     ensures later { LaterThanSteps }
     ensures after { LaterAfterStep }
     ensures all { AllLaterAfterStep }
+{}
+
+/// The index of a mask bit belongs to this bit and system alone, and each index has such a bit. The
+/// ranges of the systems cover the index without overlap. No two satellites have one name, and what
+/// `satellite_named` answers to a satellite's name is the satellite. Satellites compare as their
+/// numbers do.
+pub fn satellite_laws()
+    ensures index_back { (system : System) (bit i : ℕ) → index_in system bit ≡ Some i
+        → IsSatelliteIndex i × ((system_at i ≡ system) × (bit_at i ≡ bit)) }
+    ensures bit_back { (i : ℕ) → IsSatelliteIndex i → index_in (system_at i) (bit_at i) ≡ Some i }
+    ensures cover { (i : ℕ) → IsSatelliteIndex i → IsOfSystem (system_at i) i }
+    ensures apart { (system : System) (i : ℕ) → IsOfSystem system i → IsSatelliteIndex i × (system_at i ≡ system) }
+    ensures names { (i j : ℕ) → IsSatelliteIndex i → IsSatelliteIndex j → index_name i ≡ index_name j → i ≡ j }
+    ensures reads_back { (i : ℕ) (answer : Option ℕ) → IsSatelliteIndex i
+        → MatchOption answer ((j : ℕ) → IsSatelliteIndex j → index_name i ≢ index_name j) (λ j. IsSatelliteIndex j × (index_name i ≡ index_name j))
+        → answer ≡ Some i }
+    ensures equality { (i j : ℕ) → IsTrue (⟦<SatelliteIndex as PartialEq>⟧.eq i j) ↔ (i ≡ j) }
+    ensures less { (i j : ℕ) → IsTrue (partial_lt ⟦<SatelliteIndex as PartialOrd>⟧.partial_cmp i j) ↔ (i < j) }
+    ensures at_most { (i j : ℕ) → IsTrue (partial_le ⟦<SatelliteIndex as PartialOrd>⟧.partial_cmp i j) ↔ (i ≤ j) }
+    ensures cmp { (i j : ℕ) → ⟦<SatelliteIndex as Ord>⟧.cmp i j ≡ nat_cmp i j }
+{}
+
+/// A moment has one number of leap seconds, and so has a time of GLONASS near a reference. If its day is
+/// known and no number is given, both are the same, unless half a week after the reference is near.
+pub fn leap_laws()
+    ensures moment { (t m n : ℕ) → IsLeapSecondsAt t m → IsLeapSecondsAt t n → m ≡ n }
+    ensures clock { (near : ℕ) (time : GlonassTime) (given : Option ℕ) (m n : ℕ)
+        → IsNumberOf near time given m → IsNumberOf near time given n → m ≡ n }
+    ensures at_moment { (near day ms n t : ℕ) → IsNumberOf near (record { day = Some day; time_of_day_ms = ms }) None n
+        → IsDated near (glonass_tow day ms n) t → t + 18_000 < near + 302_400_000 → IsLeapSecondsAt t n }
+{}
+
+/// A clock has one moment near a reference, and a clock that lies in a week tells a time.
+pub fn clock_laws()
+    ensures one_moment { (system : System) (near clock : ℕ) (given : Option ℕ) (s t : ℕ)
+        → IsClockMoment system near clock given s → IsClockMoment system near clock given t → s ≡ t }
+    ensures in_week { (system : System) (clock : ℕ) → IsTrue (is_in_week system clock) → IsClock system clock }
 {}

@@ -35,12 +35,16 @@
 #![tactic(auto)]
 
 mod calendar;
+mod carrier;
 mod cell;
 mod cells_left;
 mod civil_text;
+mod clocks;
 mod code;
 mod dating;
+mod glonass_time;
 mod laws;
+mod leap_seconds;
 mod legacy_cells;
 mod lock_time;
 mod mask;
@@ -52,22 +56,29 @@ mod msm_values;
 mod position;
 mod rollover;
 mod rounding;
+mod satellite_index;
 mod scaling;
+mod signals;
 mod slip;
 mod time;
 mod track;
 mod tracks;
 
 pub use calendar::{civil, of_civil};
+pub use carrier::{Carrier, Channel, Channels};
 pub use cell::{Cell, CellEntry, CellSource};
 pub use cells_left::{put_cells_left, rising_satellites};
 pub use civil_text::{put_civil, put_clock, put_date, three_digits, two_digits};
+pub use clocks::date_clock;
 pub use code::{ALL_CODES, Band, Code};
 pub use dating::{HALF_WEEK_MS, WEEK_MS, date};
+pub use glonass_time::GlonassTime;
 pub use laws::{
-    cell_laws, cells_are_distinct, cells_are_in_range, civil_laws, code_laws, date_is_unique,
-    moment_laws, places_are_distinct, position_laws, rounded_is_unique, track_laws, tracks_laws,
+    cell_laws, cells_are_distinct, cells_are_in_range, civil_laws, clock_laws, code_laws,
+    date_is_unique, leap_laws, moment_laws, places_are_distinct, position_laws, rounded_is_unique,
+    satellite_laws, track_laws, tracks_laws,
 };
+pub use leap_seconds::leap_seconds_at;
 pub use legacy_cells::{cells_1004, put_cells_1004};
 pub use lock_time::{least_lock_extended, least_lock_legacy, least_lock_msm};
 pub use message_cells::put_cells_of;
@@ -76,6 +87,8 @@ pub use msm1074_cells::{cells_1074, put_cells_1074};
 pub use position::Position;
 pub use rollover::rolled;
 pub use rounding::round_div;
+pub use satellite_index::{SatelliteIndex, satellite_in, satellite_name, satellite_named};
+pub use signals::{carrier_of_signal, signal_name};
 pub use time::{Civil, GpsMs, LAST_MS};
 pub use track::{Digits, Track};
 pub use tracks::{SIGNALS, Tracks, place_of_signal};
