@@ -11,8 +11,8 @@ use Rattle.rtk_rinex.specs.declared.head_fault.HeadFault.{HeadFault}
 use Rattle.rtk_rinex.specs.declared.head_fault.HeadFault.TheVariants.{Marker as BadMarker, Codes as BadCodes, Made as BadMade}
 use Rattle.rtk_convert.specs.Setup.{SetupView, IsStation, IsWindow}
 use Rattle.rtk_convert.specs.SetupFault.{IsSetupFault}
-use Rattle.rtk_convert.specs.declared.setup.SetupFault.{SetupFault}
-use Rattle.rtk_convert.specs.declared.setup.SetupFault.TheVariants.{Station as BadStation, Near as BadNear, Window as BadWindow}
+use Rattle.rtk_convert.specs.declared.setup_fault.SetupFault.{SetupFault}
+use Rattle.rtk_convert.specs.declared.setup_fault.SetupFault.TheVariants.{Station as BadStation, Near as BadNear, Window as BadWindow}
 use Rattle.rtk_args.specs.declared.options.ConvertOptions.{ConvertOptions}
 use Rattle.rtk_cli.specs.declared.words.BadWords.{BadWords}
 use Rattle.rtk_cli.specs.declared.words.WordsFault.{WordsFault}
