@@ -2,6 +2,7 @@
 //!
 //! ```rust
 //! use rtk_auto::{Captured, PlanFault, Refusal, Wanted, plan_of};
+//! use rtk_convert::Window;
 //! use rtk_find::Findings;
 //! use rtk_obs::GpsMs;
 //! use std::alloc::{AllocError, Global};
@@ -9,6 +10,9 @@
 //! // Captures without a frame have no plan.
 //! fn example(alloc: Global) -> Result<bool, AllocError> {
 //!     let Some(now) = GpsMs::new(1_394_668_800_000) else {
+//!         return Ok(false);
+//!     };
+//!     let Ok(window) = Window::new(64) else {
 //!         return Ok(false);
 //!     };
 //!     let captured = Captured {
@@ -22,7 +26,7 @@
 //!         codes: None,
 //!         near: None,
 //!         marker: None,
-//!         window: 64,
+//!         window,
 //!     };
 //!     match plan_of(alloc, &captured, &wanted, now, false, false) {
 //!         Err(PlanFault::Refused { refusal, .. }) => Ok(refusal == Refusal::NoFrame),

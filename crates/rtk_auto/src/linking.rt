@@ -7,12 +7,10 @@ ghost use Rattle.rtk_auto.specs.Linking as spec;
 use crate::captured::Captured;
 use crate::kept::{has_something_at, kept_captures};
 use crate::refusal::{PlanFault, Refusal, refused};
+use rtk_convert::MOST_LINKS;
 use rtk_dates::Placed;
 use rtk_find::{CaptureFound, Ordered, in_order, links_of};
 use std::alloc::{AllocError, Global};
-
-/// The most links of a conversion.
-const MOST_LINKS: usize = 16;
 
 // The captures that have something of the station.
 fn kept_in_order(

@@ -21,7 +21,7 @@ use crate::positions::agree_on_position;
 use crate::refusal::{PlanFault, Refusal, refused};
 use crate::span_line::DatedSpan;
 use crate::wanted::Wanted;
-use rtk_convert::Setup;
+use rtk_convert::{Reference, Setup, Station};
 use rtk_find::{StationFound, only_station};
 use rtk_message::MsmKind;
 use rtk_obs::{Code, GpsMs};
@@ -207,10 +207,13 @@ fn setup_near(
     let msm = msm_to_convert(&captured.findings.summary, wanted.msm, station);
     let codes = codes_to_convert(alloc, captured, station, msm, &wanted.codes)?;
     let head = head_of(alloc, station, wanted.marker, codes.as_slice(), made)?;
-    match Setup::new(station, near, head, usize::from(wanted.window)) {
-        Ok(setup) => Ok(setup.with_msm(msm)),
-        Err(_fault) => refused(Refusal::OutsideDates, Vec::new(alloc)),
-    }
+    let Ok(station) = Station::new(station) else {
+        unreachable!();
+    };
+    let Ok(near) = Reference::new(near) else {
+        return refused(Refusal::OutsideDates, Vec::new(alloc));
+    };
+    Ok(Setup::from_parts(station, near, head, wanted.window).with_msm(msm))
 }
 
 // The links of the captures.

@@ -1,8 +1,9 @@
 //! What the words of `auto` say.
 
 ghost use Rattle.std.specs.Option.{ForSome};
-ghost use Rattle.rtk_convert.specs.Setup.{IsStation, IsWindow};
+ghost use Rattle.rtk_convert.specs.Setup.{IsStation};
 
+use rtk_convert::Window;
 use rtk_message::MsmKind;
 use rtk_obs::{Code, GpsMs};
 
@@ -17,10 +18,9 @@ pub struct Wanted<'a> {
     /// The marker's name; if there is none, the station's number stands for it.
     pub marker: Option<&'a str>,
     /// How many epochs are kept open.
-    pub window: u16,
+    pub window: Window,
 
     ghost station_fits: { ForSome station IsStation },
-    ghost window_fits: { IsWindow window },
 }
 
 /// What the words say of the captures, of the file and of the report.

@@ -4,15 +4,10 @@ use Rattle.std.proofs.lemmas.Option.{MatchOption-at_some}
 use Rattle.std.proofs.lemmas.Result.{err_from_is_err_and}
 use Rattle.rtk_obs.specs.declared.code.Code.{Code}
 use Rattle.rtk_obs.specs.declared.time.TheConstants.{LAST_MS}
-use Rattle.rtk_obs.specs.Dating.{IsReference}
 use Rattle.rtk_rinex.specs.Header.{HeadView, IsMarker, IsCodeList, IsHeadView}
 use Rattle.rtk_rinex.specs.HeadFault.{IsHeadFault}
 use Rattle.rtk_rinex.specs.declared.head_fault.HeadFault.{HeadFault}
 use Rattle.rtk_rinex.specs.declared.head_fault.HeadFault.TheVariants.{Marker as BadMarker, Codes as BadCodes, Made as BadMade}
-use Rattle.rtk_convert.specs.Setup.{SetupView, IsStation, IsWindow}
-use Rattle.rtk_convert.specs.SetupFault.{IsSetupFault}
-use Rattle.rtk_convert.specs.declared.setup.SetupFault.{SetupFault}
-use Rattle.rtk_convert.specs.declared.setup.SetupFault.TheVariants.{Station as BadStation, Near as BadNear, Window as BadWindow}
 use Rattle.rtk_args.specs.declared.options.ConvertOptions.{ConvertOptions}
 use Rattle.rtk_cli.specs.declared.words.BadWords.{BadWords}
 use Rattle.rtk_cli.specs.declared.words.WordsFault.{WordsFault}
@@ -58,7 +53,7 @@ pub has-head : (o : ConvertOptions) → HasNames o → (h : HeadView) (listed : 
 has-head o names h listed marker lists same-list same-marker is good =
     ((names, subst IsMarker (same-marker ∙ is) good.0), (listed, lists, subst IsCodeList same-list good.1))
 
--- what the faults of a head and of a setup say
+-- what the faults of a head say
 pub bad-marker : (h : HeadView) (fault : HeadFault) → fault ≡ BadMarker → IsHeadFault h fault → ¬ (IsMarker h.marker)
 bad-marker h fault e says = subst (IsHeadFault h) e says
 
@@ -68,9 +63,3 @@ bad-codes h fault e says = subst (IsHeadFault h) e says
 -- a text of a moment has a whole second
 pub no-made : {A : Type 0} (h : HeadView) (fault : HeadFault) → fault ≡ BadMade → IsHeadFault h fault → h.made % 1000 ≡ 0 → A
 no-made h fault e says whole = absurd ((subst (IsHeadFault h) e says).2 whole)
-
--- the options have a good station and a good window
-pub bad-reference : (s : SetupView) (fault : SetupFault) → IsStation s.station → IsWindow s.window → IsSetupFault s fault → ¬ (IsReference s.near)
-bad-reference s BadStation station window says = absurd (says station)
-bad-reference s BadNear station window says = says.1
-bad-reference s BadWindow station window says = absurd (says.2 window)

@@ -5,19 +5,16 @@ ghost use Rattle.rtk_message.specs.Fields.{week_ms};
 ghost use Rattle.rtk_cli.specs.Words.{IsWordsFault};
 
 use crate::code_list::codes_of;
-use crate::convert_words::kind_of;
+use crate::convert_words::{kind_of, window_of};
 use crate::moment_text::moment_of;
 use crate::words::{AutoWords, BadWords, WordsFault};
 use rtk_args::{AutoOptions, MsmOption};
 use rtk_auto::{Wanted, Ways};
-use rtk_convert::Setup;
+use rtk_convert::{MOST_WINDOW, Reference};
 use rtk_message::MsmKind;
 use rtk_obs::{Code, GpsMs, WEEK_MS};
 use rtk_rinex::{Head, HeadFault};
 use std::alloc::Global;
-
-/// The window if none is given: of files nothing has to go out early.
-const MOST_WINDOW: u16 = 4096;
 
 // The moment that an option writes, if it is given.
 fn moment_if_any(text: Option<&str>, cause: BadWords) -> Result<Option<GpsMs>, BadWords> {
@@ -98,11 +95,11 @@ fn made_of(options: &AutoOptions<'_>) -> Result<Option<GpsMs>, BadWords> {
 fn near_of(alloc: Global, options: &AutoOptions<'_>) -> Result<Option<GpsMs>, WordsFault>
     ensures { IfErr result IsWordsFault }
 {
-    let head = head_of(alloc, options.marker, options.codes)?;
+    head_of(alloc, options.marker, options.codes)?;
     let Some(near) = moment_if_any(options.near, BadWords::Near)? else {
         return Ok(None);
     };
-    match Setup::new(0, near, head, 2) {
+    match Reference::new(near) {
         Ok(_) => Ok(Some(near)),
         Err(_) => Err(BadWords::Near.into()),
     }
@@ -119,6 +116,7 @@ fn ways_of<'a>(options: &AutoOptions<'a>) -> Ways<'a> {
     }
 }
 
+// Without an option the window is the greatest, since of files nothing has to go out early.
 fn wanted_of<'a>(
     options: &AutoOptions<'a>,
     near: Option<GpsMs>,
@@ -130,7 +128,10 @@ fn wanted_of<'a>(
         codes,
         near,
         marker: options.marker,
-        window: options.window.unwrap_or(MOST_WINDOW),
+        window: match options.window {
+            Some(epochs) => window_of(usize::from(epochs)),
+            None => window_of(MOST_WINDOW),
+        },
     }
 }
 

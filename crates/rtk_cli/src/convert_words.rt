@@ -2,6 +2,7 @@
 
 ghost use Rattle.std.specs.Prelude.{◌≡◌, ◌+◌, map, IfOk, IfErr, Decides};
 ghost use Rattle.rtk_message.specs.Systems.{number_of_kind};
+ghost use Rattle.rtk_convert.specs.Setup.{IsStation, IsWindow};
 ghost use Rattle.rtk_args.specs.Requests.{number_of_msm};
 ghost use Rattle.rtk_cli.specs.Steps.ConvertWords.{SaysConversion, RefusesConversion};
 ghost use Rattle.rtk_cli.specs.Words.{AreLinkNames, IsWithinLimits};
@@ -10,7 +11,9 @@ use crate::code_list::codes_of;
 use crate::moment_text::moment_of;
 use crate::words::{BadWords, Job, WordsFault};
 use rtk_args::{ConvertOptions, MsmOption};
-use rtk_convert::{GREATEST_STATION, LEAST_WINDOW, MOST_LINKS, MOST_WINDOW, Setup};
+use rtk_convert::{
+    GREATEST_STATION, LEAST_WINDOW, LinkCount, MOST_WINDOW, Reference, Setup, Station, Window,
+};
 use rtk_message::MsmKind;
 use rtk_rinex::{Head, HeadFault};
 use rtk_streams::STDIN;
@@ -47,14 +50,35 @@ pub(crate) fn convert_job<'a>(
     if !are_links(links.as_slice()) {
         return Err(BadWords::Links.into());
     }
-    match Setup::new(options.station, near, head, options.window) {
-        Ok(setup) => Ok(Job::Convert {
-            setup: setup.with_msm(kind_of(options.msm)),
-            links,
-        }),
-        // Not the station or the window: those of the options are within their limits.
-        Err(_) => Err(BadWords::Near.into()),
-    }
+    let Ok(near) = Reference::new(near) else {
+        return Err(BadWords::Near.into());
+    };
+    let station = station_of(options.station);
+    let window = window_of(options.window);
+    let setup = Setup::from_parts(station, near, head, window).with_msm(kind_of(options.msm));
+    Ok(Job::Convert { setup, links })
+}
+
+// The station of this number, which clap lets pass.
+fn station_of(number: u16) -> Station
+    requires { IsStation number }
+    ensures { result ≡ number }
+{
+    let Ok(station) = Station::new(number) else {
+        unreachable!();
+    };
+    station
+}
+
+/// The window of so many epochs, which clap lets pass.
+pub(crate) fn window_of(epochs: usize) -> Window
+    requires { IsWindow epochs }
+    ensures { result ≡ epochs }
+{
+    let Ok(window) = Window::new(epochs) else {
+        unreachable!();
+    };
+    window
 }
 
 /// The MSM that the option says.
@@ -74,5 +98,5 @@ fn are_links(names: &[&str]) -> bool
     ensures { Decides result (AreLinkNames (map (λ n. n.now) names.now)) }
 {
     let standard = names.iter().filter(|name| **name == STDIN).count();
-    !names.is_empty() && names.len() <= MOST_LINKS && standard <= 1
+    LinkCount::new(names.len()).is_ok() && standard <= 1
 }

@@ -1,8 +1,8 @@
 -- Why there is no setup of these parts: the first cause that holds.
 use Rattle.rtk_obs.specs.Dating.{IsReference}
 use Rattle.rtk_convert.specs.Setup.{SetupView, IsStation, IsWindow}
-use Rattle.rtk_convert.specs.declared.setup.SetupFault.{SetupFault}
-use Rattle.rtk_convert.specs.declared.setup.SetupFault.TheVariants.{Station, Near, Window}
+use Rattle.rtk_convert.specs.declared.setup_fault.SetupFault.{SetupFault}
+use Rattle.rtk_convert.specs.declared.setup_fault.SetupFault.TheVariants.{Station, Near, Window}
 
 -- formula
 -- the station has more than 12 bits, or no time can be dated near the reference, or the window is

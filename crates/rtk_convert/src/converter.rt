@@ -13,7 +13,8 @@ ghost use Rattle.rtk_convert.specs.Writing.{written};
 use crate::conversion::Conversion;
 use crate::counts::Counts;
 use crate::fault::ConvertFault;
-use crate::link_number::{LinkNumber, MOST_LINKS};
+use crate::link_count::LinkCount;
+use crate::link_number::LinkNumber;
 use crate::link_state::LinkState;
 use crate::setup::Setup;
 use rtk_frame::{Scanner, Sink};
@@ -61,12 +62,12 @@ fn add_link(links: &mut Vec<LinkState>, scanner: Scanner) -> Result<(), AllocErr
 }
 
 // Makes links that are open, and on which nothing was fed.
-fn new_links(alloc: Global, count: usize) -> Result<Vec<LinkState>, ConvertFault>
+fn new_links(alloc: Global, count: LinkCount) -> Result<Vec<LinkState>, ConvertFault>
     ensures new { IfOk result (λ links. links.items ≡ replicate count (record { scanner = scanner_view [] false; newest = None })) }
     ensures fault { IfErr result (λ fault. fault ≡ ConvertFault.OutOfMemory) }
 {
     let mut links = Vec::new(alloc);
-    for _ in 0..count {
+    for _ in 0..count.links() {
         add_link(&mut links, Scanner::new(alloc)?)?;
     }
     Ok(links)
@@ -83,11 +84,9 @@ impl Converter {
         // V4 comes only if memory is refused: tests/system/calls, rows `Converter::new of ..`.
         ensures fault { IfErr result (λ fault. IsLinkCount links → fault ≡ ConvertFault.OutOfMemory) }
     {
-        if links < 1 || links > MOST_LINKS {
-            return Err(ConvertFault::Setup);
-        }
+        let count = LinkCount::new(links)?;
         let conversion = Conversion::new(alloc, setup)?;
-        let links = new_links(alloc, links)?;
+        let links = new_links(alloc, count)?;
         Ok(Converter {
             conversion,
             decoder: AnyDecoder::new(),

@@ -58,11 +58,16 @@ mod epoch_rows;
 mod fault;
 mod frame_class;
 mod laws;
+mod link_count;
 mod link_number;
 mod link_state;
+mod reference;
 mod report;
 mod runs;
 mod setup;
+mod setup_fault;
+mod station;
+mod window;
 mod writing;
 
 pub use converter::Converter;
@@ -73,6 +78,10 @@ pub use laws::{
     each_frame_in_one_class, epochs_are_records, file_laws, file_only_grows, frames_add_to_one,
     one_history_of_calls, report_tells_counts, set_decides_file, set_has_one_file,
 };
-pub use link_number::MOST_LINKS;
+pub use link_count::{LinkCount, MOST_LINKS};
+pub use reference::Reference;
 pub use runs::run;
-pub use setup::{GREATEST_STATION, LEAST_WINDOW, MOST_WINDOW, Setup, SetupFault};
+pub use setup::Setup;
+pub use setup_fault::SetupFault;
+pub use station::{GREATEST_STATION, Station};
+pub use window::{LEAST_WINDOW, MOST_WINDOW, Window};

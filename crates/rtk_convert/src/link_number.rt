@@ -1,11 +1,8 @@
-//! The number of a link, and how many links there can be.
+//! The number of a link.
 
 ghost use Rattle.std.specs.Prelude.{◌≡◌, ℕ, ◌+◌, ◌<◌};
 
 use std::marker::Model;
-
-/// The most links that a conversion reads.
-pub const MOST_LINKS: usize = 16;
 
 /// The number of a link, counted from 0.
 #[derive(Clone, Copy)]

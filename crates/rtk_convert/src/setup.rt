@@ -1,38 +1,18 @@
 //! What a conversion is set up with.
 
-ghost use Rattle.std.specs.Prelude.{◌≡◌, IfOk, IfErr, Decides};
+ghost use Rattle.std.specs.Prelude.{◌≡◌, IfOk, IfErr};
 ghost use Rattle.rtk_obs.specs.Dating.{IsReference};
 ghost use Rattle.rtk_rinex.specs.Header.{IsHeadView};
 ghost use Rattle.rtk_convert.specs.Setup.{IsSetupView, IsStation, IsWindow, setup_of};
 
+use crate::reference::Reference;
+use crate::setup_fault::SetupFault;
+use crate::station::Station;
+use crate::window::Window;
 use rtk_message::MsmKind;
-use rtk_obs::{GpsMs, WEEK_MS};
+use rtk_obs::GpsMs;
 use rtk_rinex::Head;
 use std::marker::Model;
-use thiserror::Error;
-
-/// The greatest reference station (DF003 has 12 bits).
-pub const GREATEST_STATION: u16 = 4095;
-
-/// The fewest epochs that are kept open.
-pub const LEAST_WINDOW: usize = 2;
-
-/// The most epochs that are kept open.
-pub const MOST_WINDOW: usize = 4096;
-
-/// Why there is no setup of these parts: the first cause that holds, in this order.
-#[derive(Clone, Copy, Debug, PartialEq, Eq, Error)]
-pub enum SetupFault {
-    /// The station is over 4095 (DF003 has 12 bits).
-    #[error("S1 bad station")]
-    Station,
-    /// The reference lies outside 1980-01-13 00:00:00.000 to 2099-12-31 23:59:59.999.
-    #[error("S2 bad reference")]
-    Near,
-    /// The window is not 2 to 4096 epochs.
-    #[error("S3 bad window")]
-    Window,
-}
 
 /// The station whose messages are converted, the reference near which their times of week are
 /// dated, what is known of the file before its observations, how many epochs are kept open, and
@@ -42,10 +22,10 @@ pub enum SetupFault {
 /// `other`, the three other MSM too.
 #[derive(Drop)]
 pub struct Setup {
-    station: u16,
-    near: GpsMs,
+    station: Station,
+    near: Reference,
     head: Head,
-    window: usize,
+    window: Window,
     msm: MsmKind,
 }
 
@@ -69,22 +49,24 @@ impl Setup {
         ensures good { IfOk result IsSetupView }
         ensures fault { IfErr result (IsSetupFault (setup_of station near head window)) }
     {
-        if station > GREATEST_STATION {
-            return Err(SetupFault::Station);
-        }
-        if !is_reference(near) {
-            return Err(SetupFault::Near);
-        }
-        if window < LEAST_WINDOW || window > MOST_WINDOW {
-            return Err(SetupFault::Window);
-        }
-        Ok(Setup {
+        let station = Station::new(station)?;
+        let near = Reference::new(near)?;
+        let window = Window::new(window)?;
+        Ok(Setup::from_parts(station, near, head, window))
+    }
+
+    /// Returns the setup of these parts. Its MSM is 1074.
+    pub fn from_parts(station: Station, near: Reference, head: Head, window: Window) -> Setup
+        ensures setup { result ≡ setup_of station near head window }
+        ensures good { IsSetupView result }
+    {
+        Setup {
             station,
             near,
             head,
             window,
             msm: MsmKind::Msm4,
-        })
+        }
     }
 
     /// Returns this setup with another MSM.
@@ -99,7 +81,7 @@ impl Setup {
         ensures value { result ≡ self.now.station }
         ensures good { IsStation result }
     {
-        self.station
+        self.station.number()
     }
 
     /// Returns the reference near which times of week are dated.
@@ -107,7 +89,7 @@ impl Setup {
         ensures value { result ≡ self.now.near }
         ensures good { IsReference result }
     {
-        self.near
+        self.near.moment()
     }
 
     /// Returns what is known of the file before its observations.
@@ -123,7 +105,7 @@ impl Setup {
         ensures value { result ≡ self.now.window }
         ensures good { IsWindow result }
     {
-        self.window
+        self.window.epochs()
     }
 
     /// Returns the MSM that is converted beside 1004.
@@ -132,17 +114,4 @@ impl Setup {
     {
         self.msm
     }
-}
-
-// 1980-01-13 00:00:00.000, a week after the first moment.
-const FIRST_REFERENCE_MS: u64 = WEEK_MS;
-
-// 2099-12-31 23:59:59.999.
-const LAST_REFERENCE_MS: u64 = 3_786_479_999_999;
-
-// Returns whether times of week can be dated near this moment.
-fn is_reference(near: GpsMs) -> bool
-    ensures { Decides result (IsReference near) }
-{
-    FIRST_REFERENCE_MS <= near.ms() && near.ms() <= LAST_REFERENCE_MS
 }

@@ -1,12 +1,11 @@
-use Rattle.std.proofs.Common.{ℕ, List, inl, inr, refl, sym, ap, ◌∙◌, subst, arith}
+use Rattle.std.proofs.Common.{ℕ, List, inl, inr, refl, sym, ap, ◌∙◌, subst}
 use Rattle.std.proofs.lemmas.Option.{MatchOption-at_none, MatchOption-at_some}
-use Rattle.rtk_message.specs.declared.msm_kind.MsmKind.TheVariants.{Msm4}
 use Rattle.rtk_rinex.specs.Header.{HeadView, IsMarker, IsCodeList}
 use Rattle.rtk_cli.specs.declared.words.BadWords.TheVariants.{Near, Made, Codes, Marker, Links}
 use Rattle.rtk_cli.specs.Steps.CodeList.{Lists}
 use Rattle.rtk_cli.specs.Steps.ConvertWords.{HasTimes, HasHead}
 use Rattle.rtk_cli.specs.Steps.MomentText.{WritesMoment}
-use Rattle.rtk_cli.proofs.RefusedLemmas.{refused-by, exit-by, has-moment, no-moment, lists-same, no-list, has-head, bad-marker, bad-codes, no-made, bad-reference}
+use Rattle.rtk_cli.proofs.RefusedLemmas.{refused-by, exit-by, has-moment, no-moment, lists-same, no-list, has-head, bad-marker, bad-codes, no-made}
 use Rattle.rtk_cli.proofs.convert_words.convert_job.Goals as goal
 
 -- the reference has another form
@@ -88,8 +87,8 @@ returns-then-not-are_links-clause-refused c =
     )
 
 -- nothing is dated near the reference
-pub returns-clause-refused : goal.returns-clause-refused
-returns-clause-refused c =
+pub returns-in_default-clause-refused : goal.returns-in_default-clause-refused
+returns-in_default-clause-refused c =
     let times : HasTimes c.args.options.now = (
       has-moment c.args.options.now.near.now c.as_bytes.result.now c.moment_of.result c.in_ok-near.near c.as_bytes.ensures.value c.in_ok-near.ensures.ok_part c.moment_of.ensures.bound c.moment_of.ensures.moment,
       has-moment c.args.options.now.made.now c.as_bytes-2.result.now c.moment_of-2.result c.in_ok-made.made c.as_bytes-2.ensures.value c.in_ok-made.ensures.ok_part c.moment_of-2.ensures.bound c.moment_of-2.ensures.moment,
@@ -101,14 +100,9 @@ returns-clause-refused c =
     c.as_bytes-4.ensures.value c.in-Ok.ensures.good in
     let writes : WritesMoment c.args.options.now.near.now c.in_ok-near.near = subst (λ (x : List ℕ). WritesMoment x c.in_ok-near.near) c.as_bytes.ensures.value
     (MatchOption-at_some _ _ c.in_ok-near.near c.in_ok-near.ensures.ok_part c.moment_of.ensures.moment) in
-    refused-by c.args.options.now _ Near c.into-in-Err.result c.into-in-Err.ensures
+    refused-by c.args.options.now _ Near c.into-in_default.result c.into-in_default.ensures
     (inr (
       head,
       (let are = rw c.as_slice-2.ensures.value at c.if-not-are_links.ensures in are.0 refl),
-      (
-        c.in_ok-near.near,
-        writes,
-        bad-reference (record { station = c.args.options.now.station; near = c.in_ok-near.near; head = c.in-Ok.head; window = c.args.options.now.window; msm = Msm4 })
-            c.in-Err.field-0 (omega arith) (omega arith) c.in-Err.ensures.fault,
-      ),
+      (c.in_ok-near.near, writes, c.in_default.ensures.fault.1),
     ))
