@@ -32,7 +32,7 @@ def losses(old: Path, new: Path) -> Losses:
     """Compares the records of two files, in the codes that both have.
 
     A slip is not lost if the new file has a phase of this satellite and code between the old file's phase before it and the slip,
-    because more messages fill the gap across which the old file had to tell of a slip.
+    because more messages fill the gap across which the old file had to tell of a slip. A phase of another message counts as such.
     """
     comparison = Comparison(read_header(old).codes, read_header(new).codes)
     others = epochs_of(new)
@@ -58,7 +58,7 @@ def losses(old: Path, new: Path) -> Losses:
 class Comparison:
     """A comparison of two files, epoch by epoch.
 
-    `gained` has the codes of each satellite of which only the new file has a phase since the last phase of the old one.
+    `gained` has the codes of each satellite of which the new file has a phase of its own since the last phase that both have.
     """
 
     def __init__(self, old: Tuple[str, ...], new: Tuple[str, ...]) -> None:
@@ -77,20 +77,20 @@ class Comparison:
                 self.compare((key, satellite, code), cell_of(before, of_old), cell_of(now, of_new))
 
     def compare(self, place: Place, old: Cell, new: Cell) -> None:
-        """Compares a cell."""
+        """Compares a cell. Its marks count if both come from the same message, as range and strength show: an MSM that came late replaces
+        a cell of a 1004 with its own marks."""
         gained = self.gained.setdefault(place[1], set())
-        if any(before and not now for before, now in zip(old.values, new.values)):
-            self.found.values += [place] * sum(bool(before) and not now for before, now in zip(old.values, new.values))
-        if not old.has_phase:
-            if new.has_phase:
-                gained.add(place[2])
-            return
-        if new.has_phase:
-            if old.is_slip and not new.is_slip and place[2] not in gained:
+        lost = sum(bool(before) and not now for before, now in zip(old.values, new.values))
+        self.found.values += [place] * lost
+        if not new.has_phase or old.is_of_same_message(new):
+            if new.has_phase and old.is_slip and not new.is_slip and place[2] not in gained:
                 self.found.slips.append(place)
-            if old.is_half and not new.is_half:
+            if new.has_phase and old.is_half and not new.is_half:
                 self.found.halves.append(place)
-        gained.discard(place[2])
+            if old.has_phase:
+                gained.discard(place[2])
+        else:
+            gained.add(place[2])
 
 
 def first_phases(path: Path, ranks: List[Tuple[str, int, int]], places: Set[Place]) -> Set[Place]:
