@@ -53,8 +53,11 @@ def blamed(path: str, why: str) -> Ended:
 
 
 def say(name: str, text: str) -> None:
-    """Says a line on standard error."""
-    print(f"{name}: {text}", file=sys.stderr, flush=True)
+    """Says a line on standard error. If that is a file on a full disk, the status must do."""
+    try:
+        print(f"{name}: {text}", file=sys.stderr, flush=True)
+    except OSError:
+        os.dup2(os.open(os.devnull, os.O_WRONLY), sys.stderr.fileno())  # so that the interpreter does not write it once more
 
 
 def run_script(name: str, main: Callable[[Sequence[str]], int], doc: str, usage: str) -> None:
@@ -90,7 +93,7 @@ def status_of(name: str, main: Callable[[Sequence[str]], int], doc: str, usage: 
         say(name, end.told())
         return end.status
     except OSError as fault:
-        os.dup2(os.open(os.devnull, os.O_WRONLY), 1)  # so that the interpreter does not write it once more
+        os.dup2(os.open(os.devnull, os.O_WRONLY), sys.stdout.fileno())  # as in `say`
         if not isinstance(fault, BrokenPipeError):
             say(name, f"{fault.filename or 'standard output'}: {fault.strerror}; try again")
         return AGAIN

@@ -6,7 +6,7 @@ import re
 from dataclasses import dataclass, field
 from itertools import islice
 from pathlib import Path
-from typing import Dict, Iterator, Optional, TextIO, Tuple
+from typing import Dict, Iterator, Optional, Tuple
 
 MOST_HEADER_LINES = 60
 KEY = 29  # columns of an epoch's line up to the end of its seconds
@@ -67,43 +67,37 @@ def read_header(path: Path) -> Header:
     return found
 
 
-def skip_header(file: TextIO) -> None:
-    """Reads the header to its end."""
-    for line in file:
-        if line[60:73] == "END OF HEADER":
-            return
+def records_of(path: Path) -> Iterator[str]:
+    """The lines behind the header."""
+    with open(path, encoding="latin-1") as file:
+        for line in file:
+            if line[60:73] == "END OF HEADER":
+                break
+        yield from file
 
 
 def epochs_of(path: Path) -> Iterator[Tuple[str, Dict[str, str]]]:
     """Each epoch of a file: its time as its line has it, and the lines of its satellites by their names."""
     key, satellites = "", {}
-    with open(path, encoding="latin-1") as file:
-        skip_header(file)
-        for line in file:
-            if line[0] == ">":
-                if key:
-                    yield key, satellites
-                key, satellites = line[:KEY], {}
-            else:
-                satellites[line[:FIRST_CELL]] = line
+    for line in records_of(path):
+        if line[0] == ">":
+            if key:
+                yield key, satellites
+            key, satellites = line[:KEY], {}
+        else:
+            satellites[line[:FIRST_CELL]] = line
     if key:
         yield key, satellites
 
 
 def count_epochs(path: Path) -> int:
     """How many epochs the records of a file have."""
-    with open(path, "rb") as file:
-        return sum(line[:2] == b"> " for line in file)
+    return sum(line[0] == ">" for line in records_of(path))
 
 
 def count_values(path: Path) -> int:
     """How many numbers the records of a file have, beside the seconds of their epochs."""
-    count = 0
-    with open(path, encoding="latin-1") as file:
-        skip_header(file)
-        for line in file:
-            count += line.count(".") - (line[0] == ">")
-    return count
+    return sum(line.count(".") - (line[0] == ">") for line in records_of(path))
 
 
 def most_frequent_step(path: Path) -> Optional[int]:
@@ -111,14 +105,13 @@ def most_frequent_step(path: Path) -> Optional[int]:
     are of one day."""
     counts: Dict[int, int] = {}
     last = None
-    with open(path, encoding="latin-1") as file:
-        for line in file:
-            if line[:2] == "> ":
-                words = line.split()
-                ms = (int(words[4]) * 3600 + int(words[5]) * 60) * 1000 + round(float(words[6]) * 1000)
-                if last is not None:
-                    counts[ms - last] = counts.get(ms - last, 0) + 1
-                last = ms
+    for line in records_of(path):
+        if line[0] == ">":
+            words = line.split()
+            ms = (int(words[4]) * 3600 + int(words[5]) * 60) * 1000 + round(float(words[6]) * 1000)
+            if last is not None:
+                counts[ms - last] = counts.get(ms - last, 0) + 1
+            last = ms
     return min(counts, key=lambda step: (-counts[step], step)) if counts else None
 
 
