@@ -125,6 +125,6 @@ def faults_of_others(settings: Settings, rows: List[Row]) -> Iterator[Tuple[str,
     path = labels_beside(settings.stations)
     for number, fault in strays(path, rows):
         yield f"{path}:{number}: {fault}", False
-    if settings.get("SOURCES") and settings.sources.exists():
+    if settings.sources.exists():
         for number, fault, is_note in faults_of_sources(settings.sources, rows):
             yield f"{settings.sources}:{number}: {fault}", is_note

@@ -42,12 +42,12 @@ class Settings:
     @property
     def stations(self) -> Path:
         """The table of stations."""
-        return Path(self.get("STATIONS", str(HERE / "stations")))
+        return Path(self.get("STATIONS", str(default_table("stations"))))
 
     @property
     def sources(self) -> Path:
         """The table of sources."""
-        return Path(self.get("SOURCES", str(HERE / "sources")))
+        return Path(self.get("SOURCES", str(default_table("sources"))))
 
     @property
     def is_forced(self) -> bool:
@@ -58,6 +58,12 @@ class Settings:
     def leap_seconds(self) -> int:
         """So many seconds GPS time is ahead of UTC; 18 since 2017."""
         return self.number("GPS_MINUS_UTC", 18)
+
+
+def default_table(name: str) -> Path:
+    """A table that no setting names: that of the system if the scripts are of a package, else the file beside the scripts."""
+    is_checkout = (HERE / "../bin/program").exists()
+    return SYSTEM / name if not is_checkout and os.access(SYSTEM / name, os.R_OK) else HERE / name
 
 
 def read_settings() -> Settings:

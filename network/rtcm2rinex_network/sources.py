@@ -101,9 +101,9 @@ def faults_of_sources(path: Path, rows: Sequence[Row]) -> Iterator[Tuple[int, st
 
 
 def live_links(settings: Settings) -> Dict[str, Set[int]]:
-    """The links of each station that the table of sources has, by its number or name; none if no table is set."""
+    """The links of each station that the table of sources has, by its number or name; none if there is no table."""
     path, found = settings.sources, {}
-    if "SOURCES" in settings.words and path.is_file():
+    if path.is_file():
         for it in read_sources(path):
             if it.columns > 2 and re.fullmatch(LINK, it.link):
                 found.setdefault(it.word, set()).add(int(it.link))
