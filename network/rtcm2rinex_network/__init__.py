@@ -6,7 +6,7 @@ A script has the words of its command and one call. Each module has one subject,
 - `table`, `labels`, `sources`, `checking`: the tables
 - `program`, `captures`, `lists`, `rinex`, `placing`: what a run reads and writes
 - `comparison`, `guards`: whether a new file is worse than the old one
-- `making`, `span`, `spans`, `parallel`: the file of a span, and the files of many
+- `making`, `after`, `span`, `spans`, `parallel`: the file of a span, and the files of many
 - `stations`, `reporting`, `deleting`: what is there, how it is told, and what may go
 - `keeping`, `streams`, `position`, `live`: a stream that is kept and converted while it comes
 

@@ -55,13 +55,16 @@ def write_whole(path: Path, text: str) -> None:
         raise
 
 
-def put(new: Path, path: Path) -> bool:
-    """Gives a file its name, unless a file with the same bytes has that name. Answers whether it did."""
-    if path.is_file() and filecmp.cmp(new, path, shallow=False):
-        return False
-    sync(new)
-    os.replace(new, path)
-    return True
+def has_bytes_of(new: Path, path: Path) -> bool:
+    """Whether a file with these bytes has the name already."""
+    return path.is_file() and filecmp.cmp(new, path, shallow=False)
+
+
+def put(new: Path, path: Path) -> None:
+    """Gives a file its name, unless a file with the same bytes has that name."""
+    if not has_bytes_of(new, path):
+        sync(new)
+        os.replace(new, path)
 
 
 def give_to_owner(path: Path, folder: Path) -> None:

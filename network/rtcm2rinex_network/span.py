@@ -8,15 +8,16 @@ import time
 from contextlib import contextmanager
 from dataclasses import dataclass
 from pathlib import Path
-from typing import Dict, Iterator, List, Optional, Sequence
+from typing import BinaryIO, Dict, Iterator, List, Optional, Sequence
 
+from .after import call_after, note_after
 from .captures import Capture, Sum, Unread, find_captures, is_old, look_at, sum_of
 from .ends import Again, Ended, NoCaptures, Refused, Usage, say
 from .guards import MadeBy, New, differences, faults_of, guard_captures, has_lost_bytes, old_file
 from .labels import checked_options, find_label, labels_beside
 from .lists import Record, read_list
 from .making import Conversion, Job, convert, label_files, seconds_of_thin
-from .placing import drop_notes, give_to_owner, locked, make_folder, note_end, put, sync, work_folder
+from .placing import drop_notes, give_to_owner, has_bytes_of, locked, make_folder, note_end, put, sync, work_folder
 from .program import Program, find_program
 from .settings import Settings
 from .table import find_row
@@ -62,7 +63,10 @@ def convert_span(settings: Settings, words: Sequence[str]) -> str:
     with locked(record), noted(job):
         if not os.access(job.folder, os.W_OK):
             raise Refused(f"can't write to {job.folder}: no permission")
-        return Run(job, record).made()
+        run = Run(job, record)
+        told = run.made()
+        call_after(settings, [job.folder / name for name in run.now.made or run.before.made])
+        return told
 
 
 @contextmanager
@@ -105,6 +109,7 @@ class Run:
         self.captures = find_captures(job.row.directory, job.span)  # now, since the lock may have come late
         self.now = Record(head=job.head())
         self.faults: List[str] = []  # of captures that can't be read
+        self.held: Optional[BinaryIO] = None  # the new list
         self.found = self.look()
 
     # ------------------------------------------------------------ what is there
@@ -260,23 +265,25 @@ class Run:
     def put_in_place(self, work: Path) -> None:
         """Gives the files their names, the list first. So whatever ends this run, the list has at least the captures of the file that is
         there, and the next run finds that the sum of the file is another one, and makes it. The list is the lock too, so the new one is
-        locked before it gets its name."""
+        locked before it gets its name, and held until this run ends."""
         folder, name = self.job.folder, str(self.job.name)
         self.now.seen = self.seen_now([capture.seen_name for capture in self.captures])
         self.write_list(work / "captures")
-        with open(work / "captures", "ab") as lock:
-            fcntl.flock(lock, fcntl.LOCK_EX | fcntl.LOCK_NB)
-            os.replace(work / "captures", self.record)
-            sync(folder)
-            for file, it in list(self.now.made.items())[1:]:
-                if it.is_none:
-                    (folder / file).unlink(missing_ok=True)
-                else:
-                    put(work / file, folder / file)
-            put(work / f"{name}.report", folder / f"{name}.report")
-            put(work / name, folder / name)
-            drop_notes(folder / name)
-            sync(folder)
+        made = self.now.made
+        new = [folder / file for file, it in made.items() if not it.is_none and not has_bytes_of(work / file, folder / file)]
+        self.held = open(work / "captures", "ab")
+        fcntl.flock(self.held, fcntl.LOCK_EX | fcntl.LOCK_NB)
+        os.replace(work / "captures", self.record)
+        sync(folder)
+        note_after(self.job.settings, new)
+        for file, it in list(made.items())[1:]:
+            if it.is_none:
+                (folder / file).unlink(missing_ok=True)
+            else:
+                put(work / file, folder / file)
+        put(work / f"{name}.report", folder / f"{name}.report")
+        put(work / name, folder / name)
+        sync(folder)
 
 
 def what_of(job: Job) -> str:
