@@ -12,6 +12,7 @@ from pathlib import Path
 from typing import Iterable
 
 from .ends import Again
+from .places import form_of
 from .settings import Settings
 
 TOLD = 200  # characters of what the program told
@@ -33,8 +34,9 @@ def call_after(settings: Settings, paths: Iterable[Path]) -> None:
     """Calls the program for those files that have a note. It is one program, without a shell, and gets the whole name of the file."""
     program = settings.get("AFTER")
     for path in paths:
-        if program and path.is_file() and note_of(path).exists():
-            call(program, path)
+        form = form_of(path)
+        if program and form.is_file() and note_of(path).exists():
+            call(program, form)
             note_of(path).unlink(missing_ok=True)
 
 

@@ -3,7 +3,6 @@
 from __future__ import annotations
 
 import fcntl
-import os
 import re
 import sys
 import time
@@ -16,6 +15,7 @@ from .ends import DONE, REFUSED, Refused, Usage, say
 from .guards import count_of
 from .lists import Record, read_list
 from .names import hour_of_capture, read_name
+from .places import folder_with, form_of, is_compact, names_below
 from .placing import is_at
 from .settings import DAY, HOUR, Settings, read_settings
 from .table import Row, find_row, rows_with_faults
@@ -59,6 +59,11 @@ class Folder:
                 self.sums[path] = None
         return self.sums[path]
 
+    def place_of(self, file: str) -> Path:
+        """The folder in which a file and its list lie."""
+        name = read_name(file)
+        return folder_with(self.rinex, name) if name else self.rinex
+
     def captures_of(self, hours: Sequence[int]) -> List[Path]:
         """The captures of these hours."""
         return [path for hour in hours for path in self.captures.get(hour, [])]
@@ -77,7 +82,7 @@ def read_folder(row: Row) -> Folder:
         hour = hour_of_capture(f"{path.parent.name}/{path.name}")
         if hour is not None and path.is_file():
             found.captures.setdefault(hour, []).append(path)
-    found.names = set(os.listdir(found.rinex)) if found.rinex.is_dir() else set()
+    found.names = set(names_below(found.rinex))
     for text in found.names:
         name = read_name(text[:-len(".captures")]) if text.endswith(".captures") else None
         if name:
@@ -112,16 +117,18 @@ def fault_of_span(folder: Folder, row: Row, span: Span, options: Options) -> str
 def fault_of_file(folder: Folder, span: Span, list_name: str, options: Options) -> str:
     """Why the file of this list does not make the span final."""
     file = list_name[:-len(".captures")]
-    record = read_list(folder.rinex / list_name)
+    place = folder.place_of(file)
+    record = read_list(place / list_name)
     made = record.made.get(file)
     if not made or not made.sum:
         return "there is no file"
     for end, what in ((".refused", "refused"), (".again", "broken off")):
         if file + end in folder.names:
             return f"a run was {what}: {file}{end} says why"
-    if file not in folder.names and not options.is_moved:
+    form = form_of(place / file)
+    if not form.is_file() and not options.is_moved:
         return f"{file} is gone"
-    if file in folder.names and folder.sum(folder.rinex / file) != made.sum:
+    if form.is_file() and not is_compact(form) and folder.sum(form) != made.sum:
         return f"{file} was changed"
     return fault_of_captures(folder, span, file, record) or ("" if options.takes_faulty else fault_of_content(folder, span, file, record))
 
@@ -139,7 +146,7 @@ def fault_of_captures(folder: Folder, span: Span, file: str, record: Record) -> 
 
 def fault_of_content(folder: Folder, span: Span, file: str, record: Record) -> str:
     """Whether somebody may want the captures, because the file lacks something that they may have."""
-    report = folder.rinex / f"{file}.report"
+    report = folder.place_of(file) / f"{file}.report"
     text = report.read_text(errors="replace") if report.is_file() else ""
     for word in LOOKED_AT:
         if count := count_of(text, word):
@@ -196,9 +203,10 @@ def delete(folder: Folder, paths: Sequence[Path]) -> None:
             for name in folder.lists.get(span, []):
                 deleted.setdefault(name, set()).add(name_of(path))
     for name, captures in deleted.items():
-        listed = set(read_list(folder.rinex / name).captures)
+        path = folder.place_of(name[:-len(".captures")]) / name
+        listed = set(read_list(path).captures)
         try:
-            append("".join(f"deleted {it}\n" for it in sorted(captures & listed)), folder.rinex / name)
+            append("".join(f"deleted {it}\n" for it in sorted(captures & listed)), path)
         except OSError:
             pass
     for path in paths:

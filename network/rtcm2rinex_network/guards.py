@@ -13,6 +13,7 @@ from .captures import Sum
 from .comparison import Losses, Place, losses
 from .lists import Made, Record
 from .labels import fields_of_options, options_of
+from .places import form_of, is_compact
 from .rinex import Header, count_epochs, count_values, read_header
 
 MOST_METRES = 1.0  # of a position that comes from the same antenna
@@ -52,8 +53,9 @@ class New:
 
 def old_file(path: Path, record: Record, is_intact: bool) -> Old:
     """What is known of the file of before: what its list says, and what the file says if it is intact or has no list."""
-    is_there, used = path.is_file(), record.row()
-    header = read_header(path) if is_there else Header()
+    form, used = form_of(path), record.row()
+    is_there = form.is_file() and not is_compact(form)
+    header = read_header(form) if is_there else Header()
     report = path.with_name(path.name + ".report")
     text = report.read_text(errors="replace") if report.is_file() else ""
     if used and not (is_there and is_intact):
@@ -163,8 +165,8 @@ def faults_of(old: Old, new: New, listed: Dict[str, Made], made: Dict[str, Made]
         yield from guard_conflicts(name, old.report, new.report)
     is_alike = set(old.by.codes) <= set(new.by.codes)
     for file, it in made.items():
-        path = old.path.with_name(file) if old.path else None
-        path = path if path and path.is_file() else None
+        form = form_of(old.path.with_name(file)) if old.path else None
+        path = form if form and form.is_file() and not is_compact(form) else None
         yield from guard_counts(file, path, listed.get(file), it, is_alike)
         if path:
             yield from guard_records(file, losses(path, new.path.with_name(file)), lost_bytes)

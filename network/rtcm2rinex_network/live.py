@@ -16,7 +16,8 @@ from typing import Callable, Iterator, List, NoReturn, Sequence
 from .captures import Unread, pieces_of
 from .ends import DONE, REFUSED, Again, Ended, Refused, Usage, say
 from .keeping import PIECE, Keeper, gps_hour, keep_input, write_all
-from .names import LINK, Name, capture_name
+from .names import LINK, Name, capture_name, read_name
+from .places import folder_with, form_of
 from .program import find_program
 from .rinex import read_header
 from .settings import HERE, HOUR, Settings, read_settings
@@ -155,7 +156,8 @@ class Live(threading.Thread):
         now = str(Name(self.job.row.name9, span, self.job.row.interval))
         for live in self.job.out.glob("*.live"):
             file = re.sub(r"(\.link\d+)?\.live$", "", live.name)
-            if file != now and (self.job.out / file).is_file():
+            name = read_name(file)
+            if name and file != now and form_of(folder_with(self.job.out, name) / file).is_file():
                 live.unlink()
                 live.with_name(f"{live.name}.report").unlink(missing_ok=True)
 

@@ -13,6 +13,7 @@ from .guards import count_of
 from .labels import fields_of_options
 from .lists import Made, Record
 from .names import Name, read_name
+from .places import folder_of, form_of
 from .program import Program
 from .rinex import count_values, most_frequent_step, read_header
 from .settings import DAY, Settings
@@ -43,7 +44,7 @@ class Job:
     @property
     def folder(self) -> Path:
         """The folder of the files."""
-        return self.row.directory / "rinex"
+        return folder_of(self.settings, self.row.directory / "rinex", self.span.begin)
 
     @property
     def path(self) -> Path:
@@ -84,7 +85,7 @@ def thins_of(job: Job, before: Record) -> List[Name]:
     wanted = [job.every] if job.every else []
     for text in before.made:
         name = read_name(text)
-        if not name or name.interval in wanted or not (job.folder / text).exists():
+        if not name or name.interval in wanted or not form_of(job.folder / text).exists():
             continue
         if seconds_of_thin(name.interval, job.row.interval):
             wanted.append(name.interval)
@@ -116,7 +117,7 @@ def copy(capture: Capture, file: BinaryIO) -> None:
 def time_of_making(job: Job, captures: Sequence[Capture], is_made: bool) -> str:
     """The time that the file shows. If the file is there and a thinned one alone is made, it is that of the file."""
     if is_made:
-        return read_header(job.path).made
+        return read_header(form_of(job.path)).made
     try:
         return job.settings.get("MADE") or text_of(max(os.stat(it.path).st_mtime for it in captures))
     except FileNotFoundError:

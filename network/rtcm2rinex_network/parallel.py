@@ -14,7 +14,7 @@ from .settings import HERE, Settings, read_settings
 from .span import SCRIPT
 from .spans import tasks_of, tell_counts
 
-PASSED_ON = ("STATIONS", "RTCM2RINEX", "MSM", "MADE", "EVERY", "FORCE", "AFTER")  # to other machines too
+PASSED_ON = ("STATIONS", "RTCM2RINEX", "MSM", "MADE", "EVERY", "FORCE", "AFTER", "LAYOUT")  # to other machines too
 FAILED = 255  # the status of parallel if it did not begin, and of ssh
 
 

@@ -8,6 +8,7 @@ from __future__ import annotations
 
 import fcntl
 import filecmp
+import gzip
 import os
 import re
 import shutil
@@ -61,7 +62,12 @@ def has_bytes_of(new: Path, path: Path) -> bool:
 
 
 def put(new: Path, path: Path) -> None:
-    """Gives a file its name, unless a file with the same bytes has that name."""
+    """Gives a file its name, unless a file with the same bytes has that name. A name that ends in .gz gets the file gzipped."""
+    if path.suffix == ".gz":
+        packed = new.with_name(path.name)
+        with open(new, "rb") as file, open(packed, "wb") as raw, gzip.GzipFile("", "wb", fileobj=raw, mtime=0) as archive:
+            shutil.copyfileobj(file, archive)
+        new = packed
     if not has_bytes_of(new, path):
         sync(new)
         os.replace(new, path)
@@ -80,8 +86,9 @@ def make_folder(folder: Path) -> None:
     """Makes a folder if it is not there."""
     if folder.is_dir():
         return
+    make_folder(folder.parent)
     try:
-        folder.mkdir(parents=True)
+        folder.mkdir(exist_ok=True)
     except OSError as fault:
         if folder.exists():
             raise Refused(f"{folder} is no folder") from None

@@ -2,11 +2,12 @@
 
 from __future__ import annotations
 
+import gzip
 import re
 from dataclasses import dataclass, field
 from itertools import islice
 from pathlib import Path
-from typing import Dict, Iterator, Optional, Tuple
+from typing import Dict, Iterator, Optional, TextIO, Tuple, cast
 
 MOST_HEADER_LINES = 60
 KEY = 29  # columns of an epoch's line up to the end of its seconds
@@ -43,10 +44,15 @@ class Header:
     fields: Dict[str, str] = field(default_factory=dict)
 
 
+def open_text(path: Path) -> TextIO:
+    """Opens a file, which may be gzipped."""
+    return cast(TextIO, gzip.open(path, "rt", encoding="latin-1")) if path.suffix == ".gz" else open(path, encoding="latin-1")
+
+
 def read_header(path: Path) -> Header:
     """The header of a file, as far as it can be read."""
     found, lines = Header(), {}
-    with open(path, encoding="latin-1") as file:
+    with open_text(path) as file:
         for line in islice(file, MOST_HEADER_LINES):
             label = line[60:].strip()
             lines.setdefault(label, line[:60])
@@ -69,7 +75,7 @@ def read_header(path: Path) -> Header:
 
 def records_of(path: Path) -> Iterator[str]:
     """The lines behind the header."""
-    with open(path, encoding="latin-1") as file:
+    with open_text(path) as file:
         for line in file:
             if line[60:73] == "END OF HEADER":
                 break

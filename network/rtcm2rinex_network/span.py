@@ -17,7 +17,8 @@ from .guards import MadeBy, New, differences, faults_of, guard_captures, has_los
 from .labels import checked_options, find_label, labels_beside
 from .lists import Record, read_list
 from .making import Conversion, Job, convert, label_files, seconds_of_thin
-from .placing import drop_notes, give_to_owner, has_bytes_of, locked, make_folder, note_end, put, sync, work_folder
+from .places import adopt, dated, form_of, is_compact
+from .placing import drop_notes, give_to_owner, locked, make_folder, note_end, put, sync, work_folder
 from .program import Program, find_program
 from .settings import Settings
 from .table import find_row
@@ -53,8 +54,7 @@ def convert_span(settings: Settings, words: Sequence[str]) -> str:
     job = job_of(settings, *words)
     captures = find_captures(job.row.directory, job.span)
     record = job.path.with_name(f"{job.name}.captures")
-    is_listed = record.is_file() and record.stat().st_size > 0
-    if not is_listed and not has_own(job, captures):
+    if not is_listed(job) and not has_own(job, captures):
         raise NoCaptures(f"no captures for {job.name}")
     for path in (record, job.path, job.path.with_name(f"{job.name}.report")):
         if path.is_dir():
@@ -63,7 +63,7 @@ def convert_span(settings: Settings, words: Sequence[str]) -> str:
     with locked(record), noted(job):
         if not os.access(job.folder, os.W_OK):
             raise Refused(f"can't write to {job.folder}: no permission")
-        run = Run(job, record)
+        run = Run(job, record, adopt(job.row.directory / "rinex", job.folder, job.name))
         told = run.made()
         call_after(settings, [job.folder / name for name in run.now.made or run.before.made])
         return told
@@ -86,6 +86,13 @@ def noted(job: Job) -> Iterator[None]:
     drop_notes(job.path)
 
 
+def is_listed(job: Job) -> bool:
+    """Whether there is a list of the file, in the folder of either layout."""
+    rinex = job.row.directory / "rinex"
+    lists = [folder / f"{job.name}.captures" for folder in (rinex, dated(rinex, job.span.begin))]
+    return any(it.is_file() and it.stat().st_size > 0 for it in lists)
+
+
 def has_own(job: Job, captures: Sequence[Capture]) -> bool:
     """Whether a capture of the span itself is there."""
     return any(capture.hour in job.span.own_hours for capture in captures)
@@ -103,13 +110,13 @@ class Found:
 class Run:
     """A run over a span, whose list is locked."""
 
-    def __init__(self, job: Job, record: Path) -> None:
+    def __init__(self, job: Job, record: Path, held: Optional[BinaryIO]) -> None:
         self.job, self.record = job, record
         self.before = read_list(record)
         self.captures = find_captures(job.row.directory, job.span)  # now, since the lock may have come late
         self.now = Record(head=job.head())
         self.faults: List[str] = []  # of captures that can't be read
-        self.held: Optional[BinaryIO] = None  # the new list
+        self.held = held  # the list that came in the place of the one that was locked
         self.found = self.look()
 
     # ------------------------------------------------------------ what is there
@@ -117,7 +124,7 @@ class Run:
     def look(self) -> Found:
         """Looks at each capture and at each file that was made, and takes the sums of captures that were written since the last look."""
         at, looked, readable = time.time(), {}, []
-        files = [self.job.folder / name for name in [*self.before.made, f"{self.job.name}.report"]]
+        files = [*map(self.form, self.before.made), self.job.folder / f"{self.job.name}.report"]
         for path in files:
             if it := look_at(path):
                 looked[f"rinex/{path.name}"] = it
@@ -138,14 +145,18 @@ class Run:
 
     def is_as_made(self, name: str, due: Optional[Sum]) -> bool:
         """Whether a file is there with the bytes with which it was made."""
-        seen = f"rinex/{name}"
-        looked = self.found.looked.get(seen)
+        path = self.form(name)
+        looked = self.found.looked.get(f"rinex/{path.name}")
         if due is None or looked is None:
             return False
         try:
-            return self.before.seen.get(seen) == looked or sum_of(self.job.folder / name) == due
+            return is_compact(path) or self.before.seen.get(f"rinex/{path.name}") == looked or sum_of(path) == due
         except Unread as fault:
             raise Again(str(fault)) from None
+
+    def form(self, name: str) -> Path:
+        """A file of the folder as it is there."""
+        return form_of(self.job.folder / name)
 
     def is_intact(self, name: str) -> bool:
         """The same of a file of the list."""
@@ -163,14 +174,14 @@ class Run:
         wanted = str(self.job.name.with_interval(self.job.every)) if self.job.every else None
         if wanted and not (wanted in made and (made[wanted].is_none or self.is_intact(wanted))):
             return False
-        return all(it.is_none or not (self.job.folder / name).exists() or self.is_intact(name) for name, it in made.items())
+        return all(it.is_none or not self.form(name).exists() or self.is_intact(name) for name, it in made.items())
 
     def are_deleted(self) -> bool:
         """Whether `delete-captures` deleted each capture of the list that is not there, and there is no other one. So nothing better can
         be made. A file that is there was not changed."""
         gone = [name for name in self.before.captures if name not in self.now.captures]
         is_known = all(self.before.captures.get(name) == it for name, it in self.now.captures.items())
-        is_kept = not self.job.path.exists() or self.is_intact(str(self.job.name))
+        is_kept = not self.form(str(self.job.name)).exists() or self.is_intact(str(self.job.name))
         return bool(gone) and is_known and not self.now.unread and set(gone) <= self.before.deleted and is_kept
 
     # ------------------------------------------------------------ what is made
@@ -182,7 +193,7 @@ class Run:
             self.note_seen()
             return f"unchanged {job.name}"
         if not job.settings.is_forced and self.are_deleted():
-            if not job.path.exists():
+            if not self.form(str(job.name)).exists():
                 raise NoCaptures(f"no captures for {job.name}")
             return f"unchanged {job.name}, whose captures were deleted"
         done = Conversion()
@@ -191,6 +202,7 @@ class Run:
                 self.judge(guard_captures(self.before.captures, self.now.captures, self.now.unread), done)
                 if not has_own(job, self.captures):
                     raise NoCaptures(f"no captures for {job.name}")
+                self.judge(self.guard_compact(), done)
                 self.make(work, is_made, done)
         except Refused as end:
             end.report = done.report
@@ -217,6 +229,11 @@ class Run:
         every = [file.split("_")[4] for file in list(done.made)[1:]]
         self.now.used = f"msm {job.msm} window {job.row.window} codes {job.row.codes} every {','.join(every) or '-'}"
         self.put_in_place(work)
+
+    def guard_compact(self) -> Iterator[str]:
+        """A file that can't be read here can't be compared with a new one."""
+        if is_compact(it := self.form(str(self.job.name))):
+            yield f"{it.name} can't be read here, so nobody knows whether the new file is worse"
 
     def judge(self, faults: Iterator[str], done: Conversion) -> None:
         """Refuses a worse file, or with FORCE says why it is worse. The lists of both are shown where they differ, and noted whole."""
@@ -270,7 +287,9 @@ class Run:
         self.now.seen = self.seen_now([capture.seen_name for capture in self.captures])
         self.write_list(work / "captures")
         made = self.now.made
-        new = [folder / file for file, it in made.items() if not it.is_none and not has_bytes_of(work / file, folder / file)]
+        forms = {file: folder / file if is_compact(self.form(file)) else self.form(file) for file in made}
+        new = [folder / file for file, it in made.items()
+            if not it.is_none and not (self.before.made.get(file) == it and self.is_intact(file))]
         self.held = open(work / "captures", "ab")
         fcntl.flock(self.held, fcntl.LOCK_EX | fcntl.LOCK_NB)
         os.replace(work / "captures", self.record)
@@ -278,11 +297,11 @@ class Run:
         note_after(self.job.settings, new)
         for file, it in list(made.items())[1:]:
             if it.is_none:
-                (folder / file).unlink(missing_ok=True)
+                forms[file].unlink(missing_ok=True)
             else:
-                put(work / file, folder / file)
+                put(work / file, forms[file])
         put(work / f"{name}.report", folder / f"{name}.report")
-        put(work / name, folder / name)
+        put(work / name, forms[name])
         sync(folder)
 
 

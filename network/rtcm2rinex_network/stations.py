@@ -11,6 +11,7 @@ from typing import Dict, Iterator, List, Optional, Set, Tuple
 from .ends import Ended
 from .lists import Record, list_of
 from .names import LINKS, Name, hour_of_capture, read_name
+from .places import folder_with, names_below
 from .placing import failures
 from .settings import DAY, HOUR, Settings
 from .table import Row
@@ -124,8 +125,7 @@ class Station:
 
     def look_at_files(self, folder: Path) -> None:
         """Looks at the newest files, and at all of the last days."""
-        texts = sorted(os.listdir(folder)) if folder.is_dir() else []
-        texts = [it for it in texts if it.startswith(f"{self.row.name9}_S_")]
+        texts = [it for it in names_below(folder) if it.startswith(f"{self.row.name9}_S_")]
         listed = [it for it in (read_name(text[:-len(".captures")]) for text in texts if text.endswith(".captures")) if self.is_own(it)]
         found = {}
         for length in LENGTHS:
@@ -155,6 +155,7 @@ class Station:
 
     def file(self, folder: Path, name: Name) -> Optional[File]:
         """What the list and the report of a file tell; None if it is not made."""
+        folder = folder_with(folder, name)
         record = list_of(text_if_there(folder / f"{name}.captures"))
         made = record.made.get(str(name))
         if made is None:
@@ -246,14 +247,16 @@ class Station:
         """Looks at the notes of runs that failed. One that may be mended by another run counts when it failed again."""
         for text in texts:
             name, _, end = text.rpartition(".")
-            if end not in ("refused", "again") or not read_name(name):
+            known = read_name(name)
+            if end not in ("refused", "again") or not known:
                 continue
-            count, since = failures(folder / name)
+            place = folder_with(folder, known)
+            count, since = failures(place / name)
             if end == "again" and count < OFTEN:
                 continue
             self.not_made.append(text)
             often = f" ({count} times since {since})" if since else ""
-            self.alarm("not-made", f"{name}: {text_if_there(folder / text).split(chr(10))[0]}{often}")
+            self.alarm("not-made", f"{name}: {text_if_there(place / text).split(chr(10))[0]}{often}")
 
 
 def captures_in(folder: Path) -> List[str]:
