@@ -217,6 +217,7 @@ def keep_stream(settings: Settings, word: str) -> None:
     came = threading.Event()
 
     def tell(text: str) -> None:
+        """Says a line of this link."""
         say(SCRIPT, f"{job.row.name9} link {job.link}: {text}")
 
     try:
