@@ -32,8 +32,8 @@ def job_of(settings: Settings, word: str, start: str, length: str) -> Job:
     if length not in LENGTHS:
         raise Usage
     span = span_of(start, length)
-    row = find_row(settings.stations, word, span.begin if span else 0) if span else None
-    if span is None or row is None:
+    row = find_row(settings.stations, word, span.begin if span else time.time())
+    if span is None:
         raise Refused(f"START is no begin of a span of {length}")
     every = settings.get("EVERY")
     if every and not seconds_of_thin(every, row.interval):
