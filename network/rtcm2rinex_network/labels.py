@@ -96,7 +96,8 @@ def checked_options(program: Program, path: Path, row: Row, text: str) -> List[s
 
 def fields_of_options(options: Sequence[str]) -> Dict[str, str]:
     """The fields of a header that options of `label` fill, by the names of the options."""
-    found, words = {}, iter(options)
+    found: Dict[str, str] = {}
+    words = iter(options)
     for word in words:
         name, is_joined, value = word.partition("=")
         found[name[2:]] = value if is_joined else next(words, "")

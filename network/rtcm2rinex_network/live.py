@@ -11,7 +11,7 @@ import threading
 import time
 from dataclasses import dataclass
 from pathlib import Path
-from typing import Callable, Iterator, List, NoReturn, Sequence
+from typing import BinaryIO, Callable, Iterator, List, NoReturn, Optional, Sequence
 
 from .captures import Unread, pieces_of
 from .ends import DONE, REFUSED, Again, Ended, Refused, Usage, say
@@ -126,7 +126,8 @@ class Live(threading.Thread):
     def follow(self, span: Span) -> Iterator[bytes]:
         """The captures of a span, each as it grows until its hour is over; nothing now and then, while nothing comes."""
         for hour in range(span.begin, span.end, HOUR):
-            path, file = self.job.row.directory / capture_name(self.job.link, hour), None
+            path = self.job.row.directory / capture_name(self.job.link, hour)
+            file: Optional[BinaryIO] = None
             while True:
                 is_over = time.time() + self.job.settings.leap_seconds >= hour + HOUR + AFTER_HOUR
                 if file is None and path.is_file():

@@ -6,7 +6,7 @@ import json
 import sys
 import time
 from pathlib import Path
-from typing import Dict, List, Optional, Sequence, Tuple
+from typing import Callable, Dict, List, Optional, Sequence, Tuple
 
 from .checking import faults_of_others, faults_of_rows
 from .ends import ALARM, DONE, Ended, Refused, Usage
@@ -16,6 +16,9 @@ from .sources import live_links
 from .stations import COUNTED, KINDS, Clock, Station
 from .table import Row, find_row, read_table, rows_with_faults
 from .times import age_of
+
+
+Form = Callable[[Sequence[Station], Sequence[str], Clock], str]
 
 
 class Metrics:
@@ -40,7 +43,7 @@ def for_a_person(stations: Sequence[Station], faults: Sequence[str], clock: Cloc
     rows = [["station", "bytes came ago", "newest file", "epochs", *COUNTED]]
     for it in stations:
         links = ", ".join(f"link{link.number} {'never' if link.age is None else age_of(link.age)}" for link in it.links) or "-"
-        for file in it.files or [None]:
+        for file in [*it.files] or [None]:
             cells = ["-"] * (2 + len(COUNTED))
             if file:
                 counts = [str(file.counts.get(word, "-")) for word in COUNTED]
@@ -121,7 +124,7 @@ def add_files(metrics: Metrics, it: Station, clock: Clock) -> None:
         metrics.add("window_epochs_expected", "Epochs of the spans of the last time.", window.expected, **labels)
 
 
-FORMS = {"--json": for_programs, "--prometheus": for_prometheus}
+FORMS: Dict[str, Form] = {"--json": for_programs, "--prometheus": for_prometheus}
 
 
 def rows_wanted(settings: Settings, words: Sequence[str], at: float) -> Tuple[List[Row], List[str]]:
@@ -140,7 +143,10 @@ def rows_wanted(settings: Settings, words: Sequence[str], at: float) -> Tuple[Li
 
 def status(words: Sequence[str]) -> int:
     """The command status."""
-    form, path, wanted, left = for_a_person, None, [], list(words)
+    form: Form = for_a_person
+    path: Optional[str] = None
+    wanted: List[str] = []
+    left = list(words)
     while left:
         word = left.pop(0)
         if word in FORMS:

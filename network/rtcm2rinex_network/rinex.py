@@ -51,7 +51,8 @@ def open_text(path: Path) -> TextIO:
 
 def read_header(path: Path) -> Header:
     """The header of a file, as far as it can be read."""
-    found, lines = Header(), {}
+    found = Header()
+    lines: Dict[str, str] = {}
     with open_text(path) as file:
         for line in islice(file, MOST_HEADER_LINES):
             label = line[60:].strip()
@@ -84,7 +85,8 @@ def records_of(path: Path) -> Iterator[str]:
 
 def epochs_of(path: Path) -> Iterator[Tuple[str, Dict[str, str]]]:
     """Each epoch of a file: its time as its line has it, and the lines of its satellites by their names."""
-    key, satellites = "", {}
+    key = ""
+    satellites: Dict[str, str] = {}
     for line in records_of(path):
         if line[0] == ">":
             if key:

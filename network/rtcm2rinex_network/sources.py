@@ -102,7 +102,8 @@ def faults_of_sources(path: Path, rows: Sequence[Row]) -> Iterator[Tuple[int, st
 
 def live_links(settings: Settings) -> Dict[str, Set[int]]:
     """The links of each station that the table of sources has, by its number or name; none if there is no table."""
-    path, found = settings.sources, {}
+    path = settings.sources
+    found: Dict[str, Set[int]] = {}
     if path.is_file():
         for it in read_sources(path):
             if it.columns > 2 and re.fullmatch(LINK, it.link):

@@ -123,7 +123,9 @@ class Run:
 
     def look(self) -> Found:
         """Looks at each capture and at each file that was made, and takes the sums of captures that were written since the last look."""
-        at, looked, readable = time.time(), {}, []
+        at = time.time()
+        looked: Dict[str, str] = {}
+        readable: List[Capture] = []
         files = [*map(self.form, self.before.made), self.job.folder / f"{self.job.name}.report"]
         for path in files:
             if it := look_at(path):

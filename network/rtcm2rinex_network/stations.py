@@ -10,7 +10,7 @@ from typing import Dict, Iterator, List, Optional, Set, Tuple
 
 from .ends import Ended
 from .lists import Record, list_of
-from .names import LINKS, Name, hour_of_capture, read_name
+from .names import LINKS, Name, capture_name, hour_of_capture, read_name
 from .places import folder_with, names_below
 from .placing import failures
 from .settings import DAY, HOUR, Settings
@@ -126,10 +126,11 @@ class Station:
     def look_at_files(self, folder: Path) -> None:
         """Looks at the newest files, and at all of the last days."""
         texts = [it for it in names_below(folder) if it.startswith(f"{self.row.name9}_S_")]
-        listed = [it for it in (read_name(text[:-len(".captures")]) for text in texts if text.endswith(".captures")) if self.is_own(it)]
+        known = [read_name(text[:-len(".captures")]) for text in texts if text.endswith(".captures")]
+        listed = [it for it in known if it and it.interval == self.row.interval]  # and no thinned file
         found = {}
         for length in LENGTHS:
-            names = [it for it in listed if it and it.span.length == length]
+            names = [it for it in listed if it.span.length == length]
             newest = self.newest(folder, names)
             if newest:
                 found[length] = (newest, names)
@@ -144,13 +145,9 @@ class Station:
             self.alarm("file", "there is no file")
         self.look_at_notes(folder, texts)
 
-    def is_own(self, name: Optional[Name]) -> bool:
-        """Whether a file has the interval of the row, so it is no thinned one."""
-        return name is not None and name.interval == self.row.interval
-
-    def newest(self, folder: Path, names: List[Optional[Name]]) -> Optional[File]:
+    def newest(self, folder: Path, names: List[Name]) -> Optional[File]:
         """The newest file that is made and whose span is over."""
-        ended = (it for it in reversed(names) if it and it.span.end <= self.clock.gps)
+        ended = (it for it in reversed(names) if it.span.end <= self.clock.gps)
         return next(filter(None, (self.file(folder, it) for it in ended)), None)
 
     def file(self, folder: Path, name: Name) -> Optional[File]:
@@ -195,9 +192,9 @@ class Station:
 
     # ------------------------------------------------------------ the last days
 
-    def look_back(self, folder: Path, length: str, names: List[Optional[Name]], newest: File) -> None:
+    def look_back(self, folder: Path, length: str, names: List[Name], newest: File) -> None:
         """Counts the files of the last day and week, and tells once of each kind what is to look at in those of the last day."""
-        first = min(it.span.begin for it in names if it)
+        first = min(it.span.begin for it in names)
         files: Dict[int, Optional[File]] = {}
         for window in WINDOWS:
             self.windows.append(self.count(folder, window, length, first, files))
@@ -225,8 +222,7 @@ class Station:
 
     def has_captures(self, span: Span) -> bool:
         """Whether a link has a capture of the span itself."""
-        names = [f"{Name(self.row.name9, Span(hour, '01H'), '01S')}".split("_")[2] for hour in span.own_hours]
-        return any(is_capture(self.row.directory / f"link{link.number}" / f"{name}.rtcm") for link in self.links for name in names)
+        return any(is_capture(self.row.directory / capture_name(link.number, hour)) for link in self.links for hour in span.own_hours)
 
     def look_at_day(self, length: str, newest: File, files: Dict[int, Optional[File]]) -> None:
         """Tells of the files of the last day but for the newest one, which is told of already."""

@@ -10,7 +10,7 @@ import socket
 import subprocess
 import time
 from threading import Event
-from typing import Callable, Optional, Protocol, Union
+from typing import Callable, Optional, Union
 from urllib.parse import SplitResult, urlsplit
 
 from .keeping import PIECE, Keeper
@@ -22,16 +22,6 @@ LEAST_PAUSE, GREATEST_PAUSE = 1, 60  # seconds
 DIALLING = 20  # seconds to wait for a connection
 LONGEST_LINE = 1_000  # bytes of the answer of a caster
 PORT = 2101
-
-
-class Stream(Protocol):
-    """A stream that is open."""
-
-    def fileno(self) -> int:
-        """What to read from."""
-
-    def end(self) -> str:
-        """Ends it for certain, and answers the last line that it told."""
 
 
 class Network:
