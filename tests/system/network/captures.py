@@ -12,6 +12,7 @@ that of its end. Kinds:
     rolls     legacy phases that run through the roll of 1,500 cycles
     returns   a satellite that is away for three hours and comes back with a slip
     foreign   messages of the station 2004; else they are of 2003
+    elsewhere another site with the same station number: a position 10 km away, and other strengths
     1077      a 1077 after each 1074, of the same satellites and codes, whose values are others
 """
 
@@ -41,6 +42,8 @@ def frames(begin: int, count: int, interval: int, kinds: set[str]) -> Iterator[t
     station = STATION + ("foreign" in kinds)
     reference = point()
     reference.header["station"] = station
+    if "elsewhere" in kinds:
+        reference.header["x"] += 100_000_000  # in units of 0.0001 m
     for at in range(count):
         seconds = begin + at * interval
         tow = (seconds - GPS_BEGIN) * 1000 % WEEK_MS
@@ -48,6 +51,8 @@ def frames(begin: int, count: int, interval: int, kinds: set[str]) -> Iterator[t
         seen = SATELLITES[1:] if "returns" in kinds and hour % 6 in (2, 3, 4) else SATELLITES
         older, newer = legacy(tow, seen, station), msm(tow, seen)
         newer.header["station"] = station
+        if "elsewhere" in kinds:
+            older, newer = legacy(tow, seen, station), msm(tow, seen, cnr=20)
         for rank, row in enumerate(older.satellites):
             row["l1_offset"] = 11 * at % 1000
             drift = DRIFT * at if "rolls" in kinds else 13 * at % 1000

@@ -1,0 +1,14 @@
+"""Makes and keeps the RINEX files of a network of stations. The scripts beside this folder are its commands.
+
+A script has the words of its command and one call. Each module has one subject, and imports only those that stand above it here:
+
+- `ends`, `settings`, `times`, `names`: statuses, settings, times, and the names of files
+- `table`, `labels`, `sources`, `checking`: the tables
+- `program`, `captures`, `lists`, `rinex`, `placing`, `places`: what a run reads and writes
+- `comparison`, `guards`: whether a new file is worse than the old one
+- `making`, `after`, `span`, `spans`, `parallel`: the file of a span, and the files of many
+- `stations`, `reporting`, `deleting`: what is there, how it is told, and what may go
+- `keeping`, `streams`, `position`, `live`: a stream that is kept and converted while it comes
+
+All times are GPS times in whole seconds since 1970, if nothing else is said.
+"""

@@ -1,0 +1,261 @@
+"""The command delete-captures: the captures that no file needs any more."""
+
+from __future__ import annotations
+
+import fcntl
+import re
+import sys
+import time
+from dataclasses import dataclass, field
+from pathlib import Path
+from typing import Dict, List, Optional, Sequence, Set, Tuple
+
+from .captures import Sum, Unread, sum_of
+from .ends import DONE, REFUSED, Refused, Usage, say
+from .guards import count_of
+from .lists import Record, read_list
+from .names import hour_of_capture, read_name
+from .places import folder_with, form_of, is_compact, names_below
+from .placing import is_at
+from .settings import DAY, HOUR, Settings, read_settings
+from .table import Row, find_row, rows_with_faults
+from .times import LENGTHS, Span
+
+SCRIPT = "delete-captures"
+LOOKED_AT = ("late", "conflict")  # counts of a report for which somebody may want the captures
+
+
+@dataclass(frozen=True)
+class Options:
+    """The words of the command: before which time a span is old, what is to be done, and which lengths count."""
+
+    before: float
+    deletes: bool
+    is_moved: bool
+    takes_faulty: bool
+    lengths: Tuple[str, ...]
+
+
+@dataclass
+class Folder:
+    """The captures and lists of a folder, which may be that of several rows.
+
+    `captures` has the files of each hour, and `lists` those of each span. `sums` keeps each sum that was taken.
+    """
+
+    row: Row
+    rinex: Path
+    captures: Dict[int, List[Path]] = field(default_factory=dict)
+    names: Set[str] = field(default_factory=set)
+    lists: Dict[Span, List[str]] = field(default_factory=dict)
+    sums: Dict[Path, Optional[Sum]] = field(default_factory=dict)
+
+    def sum(self, path: Path) -> Optional[Sum]:
+        """The size and sum of a file; None if it can't be read."""
+        if path not in self.sums:
+            try:
+                self.sums[path] = sum_of(path)
+            except Unread:
+                self.sums[path] = None
+        return self.sums[path]
+
+    def place_of(self, file: str) -> Path:
+        """The folder in which a file and its list lie."""
+        name = read_name(file)
+        return folder_with(self.rinex, name) if name else self.rinex
+
+    def captures_of(self, hours: Sequence[int]) -> List[Path]:
+        """The captures of these hours."""
+        return [path for hour in hours for path in self.captures.get(hour, [])]
+
+
+def name_of(path: Path) -> str:
+    """A capture as lists have it."""
+    name = f"{path.parent.name}/{path.name}"
+    return name[:-3] if name.endswith(".gz") else name
+
+
+def read_folder(row: Row) -> Folder:
+    """What lies in the folder of a row."""
+    found = Folder(row, row.directory / "rinex")
+    for path in row.directory.glob("link*/*.rtcm*"):
+        hour = hour_of_capture(f"{path.parent.name}/{path.name}")
+        if hour is not None and path.is_file():
+            found.captures.setdefault(hour, []).append(path)
+    found.names = set(names_below(found.rinex))
+    for text in found.names:
+        name = read_name(text[:-len(".captures")]) if text.endswith(".captures") else None
+        if name:
+            found.lists.setdefault(name.span, []).append(text)
+    return found
+
+
+def spans_of(hour: int, lengths: Sequence[str]) -> List[Span]:
+    """The spans to which a capture belongs."""
+    found = set()
+    for length in lengths:
+        size = LENGTHS[length]
+        for at in range(hour - HOUR, hour + 2 * HOUR, min(size, HOUR)):
+            found.add(Span(at // size * size, length))
+    return sorted(found)
+
+
+# ---------------------------------------------------------------- which spans are final
+
+
+def fault_of_span(folder: Folder, row: Row, span: Span, options: Options) -> str:
+    """Why a span is not final for a row; nothing if it is."""
+    if span.end > options.before:
+        return "it is young"
+    lists = [it for it in folder.lists.get(span, []) if it.startswith(f"{row.name9}_")]
+    faults = [fault_of_file(folder, span, it, options) for it in lists]
+    if not faults:
+        return "there is no file" if folder.captures_of(span.own_hours) else ""
+    return "" if "" in faults else faults[0]
+
+
+def fault_of_file(folder: Folder, span: Span, list_name: str, options: Options) -> str:
+    """Why the file of this list does not make the span final."""
+    file = list_name[:-len(".captures")]
+    place = folder.place_of(file)
+    record = read_list(place / list_name)
+    made = record.made.get(file)
+    if not made or not made.sum:
+        return "there is no file"
+    for end, what in ((".refused", "refused"), (".again", "broken off")):
+        if file + end in folder.names:
+            return f"a run was {what}: {file}{end} says why"
+    form = form_of(place / file)
+    if not form.is_file() and not options.is_moved:
+        return f"{file} is gone"
+    if form.is_file() and not is_compact(form) and folder.sum(form) != made.sum:
+        return f"{file} was changed"
+    return fault_of_captures(folder, span, file, record) or ("" if options.takes_faulty else fault_of_content(folder, span, file, record))
+
+
+def fault_of_captures(folder: Folder, span: Span, file: str, record: Record) -> str:
+    """Whether the file lacks a capture that is there."""
+    if record.unread:
+        return f"{file} is made without {' '.join(sorted(record.unread))}, which could not be read"
+    for path in folder.captures_of(span.hours):
+        name = name_of(path)
+        if record.captures.get(name) != folder.sum(path) or name not in record.captures:
+            return f"{file} is not made of {name}"
+    return ""
+
+
+def fault_of_content(folder: Folder, span: Span, file: str, record: Record) -> str:
+    """Whether somebody may want the captures, because the file lacks something that they may have."""
+    report = folder.place_of(file) / f"{file}.report"
+    text = report.read_text(errors="replace") if report.is_file() else ""
+    for word in LOOKED_AT:
+        if count := count_of(text, word):
+            return f"{file} has {word} {count}"
+    name, made = read_name(file), record.made[file]
+    expected = LENGTHS[span.length] * 1000 // folder.row.interval_ms if name and name.interval == folder.row.interval else 0
+    return f"{file} has {made.epochs} epochs of {expected}" if made.epochs < expected else ""
+
+
+def lengths_of(folder: Folder, row: Row, options: Options) -> List[str]:
+    """The lengths of the files that a row has, or those that were chosen."""
+    there = {span.length for span, lists in folder.lists.items() if any(it.startswith(f"{row.name9}_") for it in lists)}
+    return [it for it in LENGTHS if it in (options.lengths or there)]
+
+
+def unneeded(folder: Folder, rows: Sequence[Row], options: Options) -> List[Path]:
+    """The captures that may go: each span is final to which they belong, for each row with this folder. Tells of the old spans that are
+    not final."""
+    known: Dict[Tuple[str, Span], str] = {}
+    found = []
+    lengths = {row.name9: lengths_of(folder, row, options) for row in rows}
+    for hour, paths in sorted(folder.captures.items()):
+        keys = [(row, span) for row in rows for span in spans_of(hour, lengths[row.name9])]
+        for row, span in keys:
+            if (row.name9, span) not in known:
+                known[row.name9, span] = why = fault_of_span(folder, row, span, options)
+                if why and span.end <= options.before:
+                    print(f"{row.name9} {span}: not final: {why}")
+        has_all = all(lengths[row.name9] for row in rows)
+        if has_all and not any(known[row.name9, span] for row, span in keys):
+            found += paths
+    return found
+
+
+# ---------------------------------------------------------------- the deletion
+
+
+def append(text: str, path: Path) -> None:
+    """Adds lines to a list. It is a lock too, and a run may have put another one in its place meanwhile."""
+    while True:
+        with open(path, "a", encoding="utf-8") as file:
+            fcntl.flock(file, fcntl.LOCK_EX)
+            if is_at(file, path):
+                file.write(text)
+                return
+
+
+def delete(folder: Folder, paths: Sequence[Path]) -> None:
+    """Deletes captures, and says so in each list that has them. A list that can't be written, as on a full disk, which needs the room,
+    is left; then a later run is refused."""
+    deleted: Dict[str, Set[str]] = {}
+    for path in paths:
+        for span in spans_of(hour_of_capture(f"{path.parent.name}/{path.name}") or 0, list(LENGTHS)):
+            for name in folder.lists.get(span, []):
+                deleted.setdefault(name, set()).add(name_of(path))
+    for name, captures in deleted.items():
+        path = folder.place_of(name[:-len(".captures")]) / name
+        listed = set(read_list(path).captures)
+        try:
+            append("".join(f"deleted {it}\n" for it in sorted(captures & listed)), path)
+        except OSError:
+            pass
+    for path in paths:
+        path.unlink(missing_ok=True)
+
+
+def has_deleted(row: Row, rows: Sequence[Row], options: Options) -> bool:
+    """Deletes the captures of a station that no file needs, or says why it can't; then the others are gone on with."""
+    try:
+        folder = read_folder(row)
+        paths = unneeded(folder, [it for it in rows if it.directory == row.directory] or [row], options)
+        size = sum(path.stat().st_size for path in paths)
+        if options.deletes:
+            delete(folder, paths)
+    except OSError as fault:
+        say(SCRIPT, f"refused: {row.name9}: {fault.filename}: {fault.strerror}")
+        return False
+    except ValueError as fault:
+        say(SCRIPT, f"refused: {row.name9}: {fault}")
+        return False
+    kept = sum(map(len, folder.captures.values())) - len(paths)
+    did = "deleted" if options.deletes else "to delete"
+    print(f"{row.name9}: {len(paths)} captures {did}, {size / 1e6:.1f} MB; {kept} stay")
+    return True
+
+
+def rows_wanted(settings: Settings, words: Sequence[str], at: float) -> Tuple[List[Row], List[Row]]:
+    """The rows that are wanted, one of each station, and all rows. Refuses if a row is bad, since it may need captures too."""
+    rows = []
+    for row, fault in rows_with_faults(settings.stations):
+        if fault:
+            raise Refused(f"{settings.stations}:{row.number}: {fault}")
+        rows.append(row)
+    if words:
+        return [find_row(settings.stations, word, at) for word in words], rows
+    return list({(row.name9, row.directory): row for row in rows}.values()), rows
+
+
+def delete_captures(words: Sequence[str]) -> int:
+    """The command delete-captures."""
+    options = {word for word in words if word.startswith("-")}
+    days, *wanted = [word for word in words if word not in options] or [""]
+    only = tuple(it for it in LENGTHS if f"--only={it}" in options)
+    if options - {"--delete", "--moved", "--faulty", *(f"--only={it}" for it in only)} or not re.fullmatch("[1-9][0-9]{0,3}", days):
+        raise Usage
+    settings = read_settings()
+    now = time.time() + settings.leap_seconds
+    chosen = Options(now - DAY * int(days), "--delete" in options, "--moved" in options, "--faulty" in options, only)
+    rows, every = rows_wanted(settings, wanted, now)
+    done = [has_deleted(row, every, chosen) for row in rows]
+    sys.stdout.flush()
+    return DONE if all(done) else REFUSED

@@ -1,0 +1,128 @@
+"""The list of a file, NAME.captures: what it was made from.
+
+It has the program's version, the row, and a line for each capture with its size and sum as it came, so a capture that is compressed
+later is the same. Then come these lines:
+
+    unread CAPTURE                      a capture that could not be read, and was left out
+    made FILE SIZE EPOCHS VALUES SUM    a file that was made; a thinned file without epochs is none, and its sum is -
+    report SIZE SUM                     the report of the first of them
+    used msm N window N codes LIST every INTERVALS    what the conversion was told
+    deleted CAPTURE                     a capture that `delete-captures` deleted since
+    seen FILE SIZE INODE TIME TIME      what `stat` said of a capture or file before its sum was taken
+
+The list of an older version may lack values, sums of files and the line `used`, and may have a line `every`.
+"""
+
+from __future__ import annotations
+
+import re
+from dataclasses import dataclass, field
+from pathlib import Path
+from typing import Dict, List, Optional, Set, Tuple
+
+from .captures import Sum
+
+SUM = r"(\d+) ([0-9a-f]{64})"
+MADE = re.compile(r"made ([A-Z0-9_]+\.rnx) (\d+) (\d+)(?: (\d+) ([0-9a-f]{64}|-))?", re.ASCII)
+CAPTURE = r"link\d+/\d{11}\.rtcm"
+ROW = re.compile(r"row (\S+) (\S+) (\S+) (\S+) (\S+) (\S+) (.*?)(?: msm ([5-7]))?(?: label (.*))?", re.ASCII)
+
+
+@dataclass(frozen=True)
+class Made:
+    """A file that was made: its size and sum, and how many epochs and values it has. A sum of None is not known, and - is no file."""
+
+    size: int
+    epochs: int
+    values: int
+    digest: Optional[str]
+
+    @property
+    def is_none(self) -> bool:
+        """Whether there was nothing to make, as a thinned file without epochs."""
+        return self.digest == "-"
+
+    @property
+    def sum(self) -> Optional[Sum]:
+        """Its size and sum, if they are known."""
+        return Sum(self.size, self.digest) if self.digest and not self.is_none else None
+
+    def line(self, name: str) -> str:
+        """The line of the list."""
+        return f"made {name} {self.size} {self.epochs} {self.values} {self.digest}"
+
+
+@dataclass(frozen=True)
+class Used:
+    """What a row of a list says: the number of the station, the marker, the codes, the MSM, and the options of the label."""
+
+    station: str
+    marker: str
+    codes: Tuple[str, ...]
+    msm: str
+    label: str
+
+
+@dataclass
+class Record:
+    """A list. `head` has the version and the row."""
+
+    head: List[str] = field(default_factory=list)
+    captures: Dict[str, Sum] = field(default_factory=dict)
+    unread: Set[str] = field(default_factory=set)
+    made: Dict[str, Made] = field(default_factory=dict)
+    report: Optional[Sum] = None
+    used: str = ""
+    deleted: Set[str] = field(default_factory=set)
+    seen: Dict[str, str] = field(default_factory=dict)
+
+    def source(self) -> List[str]:
+        """What the file was made from: the lines that decide whether it is made anew."""
+        return [*self.head, *(f"{name} {it}" for name, it in self.captures.items()), *(f"unread {name}" for name in sorted(self.unread))]
+
+    def result(self) -> List[str]:
+        """What was made."""
+        lines = [it.line(name) for name, it in self.made.items()]
+        return [*lines, *([f"report {self.report}"] if self.report else []), *([f"used {self.used}"] if self.used else [])]
+
+    def text(self) -> str:
+        """The whole list."""
+        seen = [f"seen {name} {it}" for name, it in sorted(self.seen.items())]
+        return "".join(f"{line}\n" for line in [*self.source(), *self.result(), *(f"deleted {it}" for it in sorted(self.deleted)), *seen])
+
+    def row(self) -> Optional[Used]:
+        """What its row says, if it has one."""
+        for line in self.head:
+            if match := ROW.fullmatch(line):
+                return Used(match[1], match[2], tuple(match[5].split(",")), match[8] or "4", match[9] or "")
+        return None
+
+
+def read_list(path: Path) -> Record:
+    """Reads a list; one that is not there or empty has nothing."""
+    try:
+        text = path.read_text(errors="surrogateescape")
+    except FileNotFoundError:
+        return Record()
+    return list_of(text)
+
+
+def list_of(text: str) -> Record:
+    """The list with this text."""
+    found = Record()
+    for line in text.splitlines():
+        if match := re.fullmatch(rf"({CAPTURE}) {SUM}", line, re.ASCII):
+            found.captures[match[1]] = Sum(int(match[2]), match[3])
+        elif match := MADE.fullmatch(line):
+            found.made[match[1]] = Made(int(match[2]), int(match[3]), int(match[4] or 0), match[5])
+        elif match := re.fullmatch(rf"report {SUM}", line, re.ASCII):
+            found.report = Sum(int(match[1]), match[2])
+        elif match := re.fullmatch(rf"(deleted|unread) ({CAPTURE})", line, re.ASCII):
+            (found.deleted if match[1] == "deleted" else found.unread).add(match[2])
+        elif match := re.fullmatch(r"seen ([A-Za-z0-9_./]+) ([0-9. ]+)", line, re.ASCII):
+            found.seen[match[1]] = match[2]
+        elif line.startswith("used "):
+            found.used = line[len("used "):]
+        elif not line.startswith("every "):
+            found.head.append(line)
+    return found

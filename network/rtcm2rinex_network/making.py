@@ -1,0 +1,185 @@
+"""A conversion: the captures of a span become its file, its thinned files and its report, all in one folder."""
+
+from __future__ import annotations
+
+import os
+from dataclasses import dataclass, field
+from pathlib import Path
+from typing import BinaryIO, Dict, List, Sequence
+
+from .captures import Capture, Unread, pieces_of, sum_of
+from .ends import Again, Refused
+from .guards import count_of
+from .labels import fields_of_options
+from .lists import Made, Record
+from .names import Name, read_name
+from .places import folder_of, form_of
+from .program import Program
+from .rinex import count_values, most_frequent_step, read_header
+from .settings import DAY, Settings
+from .table import Row
+from .times import Span, ms_of, text_of
+
+CHECKED = "valid: "
+
+
+@dataclass(frozen=True)
+class Job:
+    """What a run is to make: the file of a span of a station, by these settings."""
+
+    settings: Settings
+    program: Program
+    version: str
+    row: Row
+    msm: str
+    label: str
+    options: Sequence[str]
+    span: Span
+
+    @property
+    def name(self) -> Name:
+        """The name of the file."""
+        return Name(self.row.name9, self.span, self.row.interval)
+
+    @property
+    def folder(self) -> Path:
+        """The folder of the files."""
+        return folder_of(self.settings, self.row.directory / "rinex", self.span.begin)
+
+    @property
+    def path(self) -> Path:
+        """Where the file gets to."""
+        return self.folder / str(self.name)
+
+    @property
+    def every(self) -> str:
+        """The interval of the thinned file that is asked for; nothing if none is."""
+        return self.settings.get("EVERY")
+
+    def head(self) -> List[str]:
+        """The lines of the list before the captures. If the row, the MSM or the label changes, the file is made anew."""
+        msm = "" if self.msm == "4" else f" msm {self.msm}"
+        return [self.version, f"row {self.row.text}{msm}" + (f" label {self.label}" if self.label else "")]
+
+    def fields(self) -> Dict[str, str]:
+        """The fields of the header that the tables fill."""
+        return {**fields_of_options(self.options), "marker": self.row.marker}
+
+
+@dataclass
+class Conversion:
+    """What was made in a folder: the files by their names, the first one being that of the span; and the text of the report."""
+
+    made: Dict[str, Made] = field(default_factory=dict)
+    report: str = ""
+
+
+def seconds_of_thin(interval: str, own: str) -> int:
+    """The seconds of another interval than the station's own; 0 if it is the same or not in whole seconds."""
+    ms = ms_of(interval)
+    return ms // 1000 if ms and ms % 1000 == 0 and ms <= DAY * 1000 and interval != own else 0
+
+
+def thins_of(job: Job, before: Record) -> List[Name]:
+    """The thinned files: the one that is asked for, and those that are there from before."""
+    wanted = [job.every] if job.every else []
+    for text in before.made:
+        name = read_name(text)
+        if not name or name.interval in wanted or not form_of(job.folder / text).exists():
+            continue
+        if seconds_of_thin(name.interval, job.row.interval):
+            wanted.append(name.interval)
+    return [job.name.with_interval(it) for it in wanted]
+
+
+def join_links(captures: Sequence[Capture], work: Path) -> List[Path]:
+    """One file for each link, its captures in order. Files and no pipes: a file gives each read 512 bytes, so each run reads the links
+    in the same order."""
+    links: List[Path] = []
+    for capture in captures:
+        link = work / f"link{capture.link}"
+        with open(link, "ab") as file:
+            copy(capture, file)
+        if link not in links:
+            links.append(link)
+    return links
+
+
+def copy(capture: Capture, file: BinaryIO) -> None:
+    """Appends the bytes of a capture."""
+    try:
+        for piece in pieces_of(capture.path):
+            file.write(piece)
+    except Unread as fault:
+        raise Again(str(fault)) from None
+
+
+def time_of_making(job: Job, captures: Sequence[Capture], is_made: bool) -> str:
+    """The time that the file shows. If the file is there and a thinned one alone is made, it is that of the file."""
+    if is_made:
+        return read_header(form_of(job.path)).made
+    try:
+        return job.settings.get("MADE") or text_of(max(os.stat(it.path).st_mtime for it in captures))
+    except FileNotFoundError:
+        raise Again("captures go while they are read") from None
+
+
+def convert(job: Job, captures: Sequence[Capture], before: Record, work: Path, is_made: bool, done: Conversion) -> None:
+    """Converts the captures, and cuts the file and its thinned files out of what comes."""
+    row = job.row
+    links = join_links(captures, work)
+    made = time_of_making(job, captures, is_made)
+    words = ["convert", "--station", row.station, "--near", job.span.start, "--made", made, "--marker", row.marker, "--codes", row.codes,
+        "--window", row.window, *([] if job.msm == "4" else ["--msm", job.msm]), *map(str, links)]
+    done.report = job.program.write(work / "whole", words)
+    for link in links:
+        link.unlink()
+    name = str(job.name)
+    done.made[name] = cut_out(job, work, name, [])
+    if not done.made[name].epochs:
+        raise Refused(f"the captures have no epoch of this span{hint_of(done.report)}")
+    step = most_frequent_step(work / name)
+    if step not in (None, row.interval_ms):
+        raise Refused(f"the interval is {step} ms, and not {row.interval}")
+    if read_header(work / name).position is None:
+        done.report += "position none\n"
+    (work / f"{name}.report").write_text(done.report)
+    for thin in thins_of(job, before):
+        seconds = seconds_of_thin(thin.interval, row.interval)
+        done.made[str(thin)] = cut_out(job, work, str(thin), ["--every", str(seconds)])
+    (work / "whole").unlink()
+
+
+def hint_of(report: str) -> str:
+    """What would help, if messages of another station came alone."""
+    foreign = count_of(report, "foreign")
+    if not foreign or count_of(report, "taken"):
+        return ""
+    return f": foreign {foreign}, so the row may have another number than the station"
+
+
+def cut_out(job: Job, work: Path, name: str, words: Sequence[str]) -> Made:
+    """Cuts the span out of the whole, and checks it."""
+    whole, path = work / "whole", work / name
+    job.program.write(path, ["cut", str(whole), "--from", job.span.start, "--until", text_of(job.span.end), *words])
+    checked = work / "checked"
+    job.program.write(checked, ["check", str(path)])
+    told = checked.read_text()
+    checked.unlink()
+    words_of_check = told[len(CHECKED):].split(" epochs,")
+    if not told.startswith(CHECKED) or not words_of_check[0].isdecimal():
+        raise Again("check: no answer")
+    epochs = int(words_of_check[0])
+    return Made(path.stat().st_size, epochs, count_values(path), sum_of(path).digest) if epochs else Made(0, 0, 0, "-")
+
+
+def label_files(job: Job, work: Path, done: Conversion) -> None:
+    """Gives each new file the fields of the label, now that it is checked and no worse."""
+    for name, made in done.made.items() if job.options else []:
+        if made.is_none:
+            continue
+        labelled = work / f"{name}.labelled"
+        job.program.write(labelled, ["label", str(work / name), *job.options])
+        os.replace(labelled, work / name)
+        it = sum_of(work / name)
+        done.made[name] = Made(it.size, made.epochs, made.values, it.digest)

@@ -1,0 +1,57 @@
+"""The names of files: the RINEX files that are made, and the captures. No other module reads or writes one."""
+
+from __future__ import annotations
+
+import re
+from dataclasses import dataclass, replace
+from typing import Optional
+
+from .times import LENGTHS, Span, stamp_of, time_of_stamp
+
+LINKS = range(1, 17)
+LINK = r"[1-9]|1[0-6]"
+KINDS = "GO|RO|EO|CO|JO|SO|IO|MO"  # GPS, GLONASS, Galileo, BeiDou, QZSS, SBAS, NavIC, mixed
+FORM = re.compile(rf"([A-Z0-9]{{4}}\d\d[A-Z]{{3}})_S_(\d{{11}})_({'|'.join(LENGTHS)})_([0-9]{{2}}[A-Z])_({KINDS})\.rnx", re.ASCII)
+CAPTURE = re.compile(rf"link({LINK})/(\d{{9}}00)\.rtcm", re.ASCII)
+
+
+@dataclass(frozen=True)
+class Name:
+    """The name of a RINEX file: that of the station, the span, the interval and the type of the data."""
+
+    name9: str
+    span: Span
+    interval: str
+    kind: str = "GO"
+
+    def __str__(self) -> str:
+        return f"{self.name9}_S_{stamp_of(self.span.begin)}_{self.span.length}_{self.interval}_{self.kind}.rnx"
+
+    def with_interval(self, interval: str) -> Name:
+        """The name of the same data in other steps."""
+        return replace(self, interval=interval)
+
+
+def read_name(text: str) -> Optional[Name]:
+    """The parts of the name of a RINEX file; None if it is none."""
+    match = FORM.fullmatch(text)
+    if not match:
+        return None
+    try:
+        return Name(match[1], Span(time_of_stamp(match[2]), match[3]), match[4], match[5])
+    except ValueError:
+        return None
+
+
+def capture_name(link: int, hour: int) -> str:
+    """The name of a capture below the folder of its station, without the end .gz."""
+    return f"link{link}/{stamp_of(hour)}.rtcm"
+
+
+def hour_of_capture(name: str) -> Optional[int]:
+    """The begin of the hour of the name of a capture, as `capture_name` or with .gz; None if it is no such name.
+
+    Raises a ValueError if there is no such day or hour.
+    """
+    match = CAPTURE.fullmatch(name[:-3] if name.endswith(".gz") else name)
+    return time_of_stamp(match[2]) if match else None

@@ -1,0 +1,192 @@
+"""Files that get their names once they are whole, and the lock of a file's list.
+
+A file is written beside its place and renamed over what is there, which must be a regular file: as root a rename would else replace
+a device.
+"""
+
+from __future__ import annotations
+
+import fcntl
+import filecmp
+import gzip
+import os
+import re
+import shutil
+import stat
+import tempfile
+import time
+from contextlib import contextmanager
+from pathlib import Path
+from typing import BinaryIO, Iterator, Optional, Tuple
+
+from .ends import Again, Ended, Refused, blamed
+
+PATIENCE = 600  # seconds to wait for a lock
+TURN = 0.1  # seconds from try to try
+COUNT = re.compile(r"times (\d+) since (\S+)\n?\Z")
+
+
+def is_free(path: Path) -> bool:
+    """Whether a file may get this name: there is nothing, or a regular file."""
+    try:
+        return stat.S_ISREG(os.lstat(path).st_mode)
+    except FileNotFoundError:
+        return True
+
+
+def sync(path: Path) -> None:
+    """Waits until a file or folder is on the disk."""
+    number = os.open(path, os.O_RDONLY)
+    try:
+        os.fsync(number)
+    finally:
+        os.close(number)
+
+
+def write_whole(path: Path, text: str) -> None:
+    """Writes a file that gets its name once it is whole."""
+    if not is_free(path):
+        raise Refused(f"{path} is no regular file, and is not replaced")
+    new = path.with_name(f".{path.name}.{os.getpid()}")
+    try:
+        new.write_text(text, errors="surrogateescape")
+        os.replace(new, path)
+    except OSError:
+        new.unlink(missing_ok=True)
+        raise
+
+
+def has_bytes_of(new: Path, path: Path) -> bool:
+    """Whether a file with these bytes has the name already."""
+    return path.is_file() and filecmp.cmp(new, path, shallow=False)
+
+
+def put(new: Path, path: Path) -> None:
+    """Gives a file its name, unless a file with the same bytes has that name. A name that ends in .gz gets the file gzipped."""
+    if path.suffix == ".gz":
+        packed = new.with_name(path.name)
+        with open(new, "rb") as file, open(packed, "wb") as raw, gzip.GzipFile("", "wb", fileobj=raw, mtime=0) as archive:
+            shutil.copyfileobj(file, archive)
+        new = packed
+    if not has_bytes_of(new, path):
+        sync(new)
+        os.replace(new, path)
+
+
+def give_to_owner(path: Path, folder: Path) -> None:
+    """What root makes belongs to the owner of the folder, so that this user can go on with it."""
+    try:
+        owner = os.stat(folder)
+        os.chown(path, owner.st_uid, owner.st_gid)
+    except OSError:
+        pass
+
+
+def make_folder(folder: Path) -> None:
+    """Makes a folder if it is not there."""
+    if folder.is_dir():
+        return
+    make_folder(folder.parent)
+    try:
+        folder.mkdir(exist_ok=True)
+    except OSError as fault:
+        if folder.exists():
+            raise Refused(f"{folder} is no folder") from None
+        raise blamed(str(folder.parent), f"can't make {folder}: {fault.strerror}") from None
+    give_to_owner(folder, folder.parent)
+
+
+@contextmanager
+def locked(path: Path) -> Iterator[BinaryIO]:
+    """Opens and locks a list, which is there after it. Another run may put a new list in its place meanwhile, and then that one is
+    locked."""
+    while True:
+        try:
+            file = open(path, "ab")
+        except OSError as fault:
+            place = path if path.exists() else path.parent
+            raise blamed(str(place), f"can't write {path}: {fault.strerror}") from None
+        with file:
+            wait_for(file, path)
+            if is_at(file, path):
+                yield file
+                return
+
+
+def wait_for(file: BinaryIO, path: Path) -> None:
+    """Locks an open file when the one that has it goes on."""
+    end = time.monotonic() + PATIENCE
+    while True:
+        try:
+            fcntl.flock(file, fcntl.LOCK_EX | fcntl.LOCK_NB)
+            return
+        except BlockingIOError:
+            if time.monotonic() > end:
+                raise Again(f"can't lock {path}") from None
+            time.sleep(TURN)
+
+
+def is_at(file: BinaryIO, path: Path) -> bool:
+    """Whether an open file still has this name."""
+    try:
+        return os.path.samestat(os.fstat(file.fileno()), os.stat(path))
+    except FileNotFoundError:
+        return False
+
+
+@contextmanager
+def work_folder(folder: Path, name: str) -> Iterator[Path]:
+    """A folder for the files of a run, beside their places. It is removed at the end, and so is what a run left that was killed."""
+    for left in folder.glob(f".{name}.*"):
+        shutil.rmtree(left, ignore_errors=True)
+        if left.is_file():
+            left.unlink()
+    try:
+        work = Path(tempfile.mkdtemp(prefix=f".{name}.", dir=folder))
+    except OSError as fault:
+        raise Again(f"can't write to {folder}: {fault.strerror}") from None
+    try:
+        yield work
+    finally:
+        shutil.rmtree(work, ignore_errors=True)
+
+
+# ---------------------------------------------------------------- runs that failed
+
+
+def note_of(path: Path, end: Ended) -> Path:
+    """The note of a run of this file that failed: NAME.refused, or NAME.again if another run may mend it."""
+    return path.with_name(path.name + (".refused" if isinstance(end, Refused) else ".again"))
+
+
+def note_end(path: Path, end: Ended) -> None:
+    """Notes why a run of a file failed, and how often runs have since when. A note that can't be written is left out, as on a full
+    disk."""
+    count, since = failures(path)
+    since = since or time.strftime("%Y-%m-%dT%H:%M:%SZ", time.gmtime())
+    parts = [str(end), *filter(None, [end.kept, end.report.rstrip("\n")]), f"times {count + 1} since {since}"]
+    note = note_of(path, end)
+    try:
+        write_whole(note, "\n".join(parts) + "\n")
+    except (OSError, Ended):
+        return
+    drop_notes(path, note)
+
+
+def failures(path: Path) -> Tuple[int, Optional[str]]:
+    """How many runs of a file failed one after another, and the UTC time of the first; 0 if the last one did not fail."""
+    for end in (".refused", ".again"):
+        try:
+            text = path.with_name(path.name + end).read_text(errors="replace")
+        except OSError:
+            continue
+        match = COUNT.search(text)
+        return (int(match[1]), match[2]) if match else (1, None)
+    return 0, None
+
+
+def drop_notes(path: Path, but: Optional[Path] = None) -> None:
+    """Removes the notes of a file, but for one."""
+    for note in (path.with_name(path.name + ".refused"), path.with_name(path.name + ".again")):
+        if note != but:
+            note.unlink(missing_ok=True)

@@ -1,0 +1,113 @@
+"""The program rtcm2rinex: where it is, and how a run of it ends."""
+
+from __future__ import annotations
+
+import os
+import re
+import shutil
+import subprocess
+from dataclasses import dataclass
+from pathlib import Path
+from typing import Optional, Sequence
+
+from .ends import Again, Refused
+from .settings import HERE, Settings
+
+PASSING = r"busy|memory|temporarily"  # in what the system says of a program that another run may start
+ENDED_BY_SIGNAL = (129, 130, 137, 143)  # as a shell tells SIGHUP, SIGINT, SIGKILL and SIGTERM
+STARTS_NOT = 126  # as a shell tells a file that can't be run
+
+
+def find_program(settings: Settings) -> str:
+    """The program that RTCM2RINEX names, else that of the checkout or package in which the scripts lie, else the one in PATH."""
+    if named := settings.get("RTCM2RINEX"):
+        found: Optional[str] = named
+    elif os.access(HERE / "../bin/program", os.X_OK):
+        ran = subprocess.run([HERE / "../bin/program", "--there"], stdin=subprocess.DEVNULL, stdout=subprocess.PIPE, text=True, check=False)
+        found = ran.stdout.strip() if ran.returncode == 0 else None
+    elif os.access(HERE / "../../../bin/rtcm2rinex", os.X_OK):
+        found = str(HERE / "../../../bin/rtcm2rinex")
+    else:
+        found = shutil.which("rtcm2rinex")
+    if not found or not os.access(found, os.X_OK) or os.path.isdir(found):
+        raise Refused("there is no program rtcm2rinex")
+    return found
+
+
+@dataclass(frozen=True)
+class Ran:
+    """A run that ended: its status as a shell tells it, and its two texts."""
+
+    status: int
+    out: str
+    told: str
+
+    @property
+    def first(self) -> str:
+        """The first line that it told."""
+        return self.told.split("\n")[0]
+
+
+class Program:
+    """The program. A limit on the size of files ends it as a full disk does, and not by a signal."""
+
+    def __init__(self, path: str) -> None:
+        self.path = path
+
+    def ran(self, words: Sequence[str], output: Optional[Path] = None) -> Ran:
+        """Runs the program with these words. `output` is a new file for its standard output. What it tells comes by a pipe, because
+        the reason of a full disk could not be written to the same disk."""
+        if output is None:
+            return self.started(words, subprocess.PIPE)
+        with open(output, "wb") as file:
+            return self.started(words, file.fileno())
+
+    def started(self, words: Sequence[str], out: int) -> Ran:
+        """Runs the program, whose standard output goes there."""
+        try:
+            ran = subprocess.run([self.path, *words], stdin=subprocess.DEVNULL, stdout=out, stderr=subprocess.PIPE,
+                restore_signals=False, check=False)
+        except OSError as fault:
+            return Ran(STARTS_NOT, "", f"{self.path}: {fault.strerror}")
+        status = ran.returncode if ran.returncode >= 0 else 128 - ran.returncode
+        return Ran(status, (ran.stdout or b"").decode(errors="replace"), ran.stderr.decode(errors="replace"))
+
+    def version(self) -> str:
+        """Its version. A program that can't run is refused, unless it was killed, or memory was short."""
+        ran = self.ran(["--version"])
+        if ran.status == 0:
+            return ran.out.rstrip("\n")
+        told = ran.told[:200]
+        is_passing = ran.status == 1 and told.startswith("rtcm2rinex: ") or re.search(PASSING, told.lower())
+        if ran.status in ENDED_BY_SIGNAL or is_passing:
+            raise Again(f"the program does not run: {told.rstrip()}")
+        raise Refused(f"the program {self.path} does not run: status {ran.status} {ran.first[:200]}")
+
+    def write(self, output: Path, words: Sequence[str]) -> str:
+        """Runs a command that writes a file. Answers what it tells, which may be a report: a line of it is data, and the last one is
+        told only where it is a line of the program about a fault."""
+        ran = self.ran(words, output)
+        last = ran.told.rstrip("\n").split("\n")[-1][:200]
+        if ran.status == 0:
+            return ran.told
+        if ran.status == 1 and last == "rtcm2rinex: input does not end":
+            raise Refused(f"{words[0]}: input does not end")
+        if ran.status == 1 and last.startswith("rtcm2rinex: "):
+            raise Again(f"{words[0]}: {last[len('rtcm2rinex: '):]}")
+        if ran.status == 2:
+            raise Refused(f"{words[0]}: {ran.first}")
+        if ran.status == 3:
+            with open(output, errors="replace") as file:
+                raise Refused(f"{words[0]}: {file.read(1000)}{ran.told[:1000]}".rstrip())
+        raise Again(f"{words[0]}: ended with status {ran.status}")
+
+    def fault_of_codes(self, codes: str) -> str:
+        """Why the program does not take these codes; nothing if it does."""
+        ran = self.ran(["convert", "--station", "0", "--near", "2024-05-17T00:00:00", "--made", "2024-05-17T00:00:00", "--marker", "M",
+            "--codes", codes, "--window", "2", os.devnull])
+        return f"codes {codes!r} are not those of `convert`: {of_program(ran)}" if ran.status == 2 else ""
+
+
+def of_program(ran: Ran) -> str:
+    """The first line that it told, without its own name."""
+    return re.sub(r"^(rtcm2rinex: )?(error: )?", "", ran.first)

@@ -1,0 +1,312 @@
+"""The file of a span: it is made if what it is made from changed, and no worse file replaces it."""
+
+from __future__ import annotations
+
+import fcntl
+import os
+import time
+from contextlib import contextmanager
+from dataclasses import dataclass
+from pathlib import Path
+from typing import BinaryIO, Dict, Iterator, List, Optional, Sequence
+
+from .after import call_after, note_after
+from .captures import Capture, Sum, Unread, find_captures, is_old, look_at, sum_of
+from .ends import Again, Ended, NoCaptures, Refused, Usage, say
+from .guards import MadeBy, New, differences, faults_of, guard_captures, has_lost_bytes, old_file
+from .labels import checked_options, find_label, labels_beside
+from .lists import Record, read_list
+from .making import Conversion, Job, convert, label_files, seconds_of_thin
+from .places import adopt, dated, form_of, is_compact
+from .placing import drop_notes, give_to_owner, locked, make_folder, note_end, put, sync, work_folder
+from .program import Program, find_program
+from .settings import Settings
+from .table import find_row
+from .times import LENGTHS, span_of
+
+SCRIPT = "convert-span"
+
+
+def job_of(settings: Settings, word: str, start: str, length: str) -> Job:
+    """What a run with these words is to make. Refuses words and rows that can't be."""
+    if length not in LENGTHS:
+        raise Usage
+    span = span_of(start, length)
+    row = find_row(settings.stations, word, span.begin if span else time.time())
+    if span is None:
+        raise Refused(f"START is no begin of a span of {length}")
+    every = settings.get("EVERY")
+    if every and not seconds_of_thin(every, row.interval):
+        raise Refused("EVERY is no other interval in whole seconds")
+    msm = row.msm(settings)
+    program = Program(find_program(settings))
+    version = program.version()
+    labels = labels_beside(settings.stations)
+    label = find_label(labels, row, span.begin)
+    options = checked_options(program, labels, row, label)
+    if not row.directory.is_dir():
+        raise Refused(f"there is no folder {row.directory}")
+    return Job(settings, program, version, row, msm, label, options, span)
+
+
+def convert_span(settings: Settings, words: Sequence[str]) -> str:
+    """Makes the file of a span, and answers what became of it: `done NAME` or `unchanged NAME`."""
+    job = job_of(settings, *words)
+    captures = find_captures(job.row.directory, job.span)
+    record = job.path.with_name(f"{job.name}.captures")
+    if not is_listed(job) and not has_own(job, captures):
+        raise NoCaptures(f"no captures for {job.name}")
+    for path in (record, job.path, job.path.with_name(f"{job.name}.report")):
+        if path.is_dir():
+            raise Refused(f"{path} is a folder")
+    make_folder(job.folder)
+    with locked(record), noted(job):
+        if not os.access(job.folder, os.W_OK):
+            raise Refused(f"can't write to {job.folder}: no permission")
+        run = Run(job, record, adopt(job.row.directory / "rinex", job.folder, job.name))
+        told = run.made()
+        call_after(settings, [job.folder / name for name in run.now.made or run.before.made])
+        return told
+
+
+@contextmanager
+def noted(job: Job) -> Iterator[None]:
+    """Notes why a run failed beside the file. A run that succeeds removes the note."""
+    try:
+        yield
+    except NoCaptures:
+        raise
+    except Ended as end:
+        note_end(job.path, end)
+        raise
+    except OSError as fault:
+        end = Again(f"{fault.filename or job.folder}: {fault.strerror}")
+        note_end(job.path, end)
+        raise end from None
+    drop_notes(job.path)
+
+
+def is_listed(job: Job) -> bool:
+    """Whether there is a list of the file, in the folder of either layout."""
+    rinex = job.row.directory / "rinex"
+    lists = [folder / f"{job.name}.captures" for folder in (rinex, dated(rinex, job.span.begin))]
+    return any(it.is_file() and it.stat().st_size > 0 for it in lists)
+
+
+def has_own(job: Job, captures: Sequence[Capture]) -> bool:
+    """Whether a capture of the span itself is there."""
+    return any(capture.hour in job.span.own_hours for capture in captures)
+
+
+@dataclass
+class Found:
+    """The captures that are there and can be read, with their sums in the list of now; and what `stat` said of each file, and when."""
+
+    captures: List[Capture]
+    looked: Dict[str, str]
+    at: float
+
+
+class Run:
+    """A run over a span, whose list is locked."""
+
+    def __init__(self, job: Job, record: Path, held: Optional[BinaryIO]) -> None:
+        self.job, self.record = job, record
+        self.before = read_list(record)
+        self.captures = find_captures(job.row.directory, job.span)  # now, since the lock may have come late
+        self.now = Record(head=job.head())
+        self.faults: List[str] = []  # of captures that can't be read
+        self.held = held  # the list that came in the place of the one that was locked
+        self.found = self.look()
+
+    # ------------------------------------------------------------ what is there
+
+    def look(self) -> Found:
+        """Looks at each capture and at each file that was made, and takes the sums of captures that were written since the last look."""
+        at = time.time()
+        looked: Dict[str, str] = {}
+        readable: List[Capture] = []
+        files = [*map(self.form, self.before.made), self.job.folder / f"{self.job.name}.report"]
+        for path in files:
+            if it := look_at(path):
+                looked[f"rinex/{path.name}"] = it
+        for capture in self.captures:
+            it = look_at(capture.path)
+            if it is None:
+                raise Again("captures go while they are read")
+            looked[capture.seen_name] = it
+            known = self.before.captures.get(capture.name)
+            try:
+                is_seen = known and self.before.seen.get(capture.seen_name) == it
+                self.now.captures[capture.name] = known if known and is_seen else sum_of(capture.path)
+                readable.append(capture)
+            except Unread as fault:
+                self.now.unread.add(capture.name)
+                self.faults.append(str(fault))
+        return Found(readable, looked, at)
+
+    def is_as_made(self, name: str, due: Optional[Sum]) -> bool:
+        """Whether a file is there with the bytes with which it was made."""
+        path = self.form(name)
+        looked = self.found.looked.get(f"rinex/{path.name}")
+        if due is None or looked is None:
+            return False
+        try:
+            return is_compact(path) or self.before.seen.get(f"rinex/{path.name}") == looked or sum_of(path) == due
+        except Unread as fault:
+            raise Again(str(fault)) from None
+
+    def form(self, name: str) -> Path:
+        """A file of the folder as it is there."""
+        return form_of(self.job.folder / name)
+
+    def is_intact(self, name: str) -> bool:
+        """The same of a file of the list."""
+        return name in self.before.made and self.is_as_made(name, self.before.made[name].sum)
+
+    def is_made(self) -> bool:
+        """Whether the file and its report are there, made from what is there now."""
+        name = str(self.job.name)
+        return self.now.source() == self.before.source() and self.is_intact(name) and \
+            self.is_as_made(f"{name}.report", self.before.report)
+
+    def are_thins_made(self) -> bool:
+        """Whether the thinned file that is asked for is there, and each other one, if it is there, is as it was made."""
+        made = self.before.made
+        wanted = str(self.job.name.with_interval(self.job.every)) if self.job.every else None
+        if wanted and not (wanted in made and (made[wanted].is_none or self.is_intact(wanted))):
+            return False
+        return all(it.is_none or not self.form(name).exists() or self.is_intact(name) for name, it in made.items())
+
+    def are_deleted(self) -> bool:
+        """Whether `delete-captures` deleted each capture of the list that is not there, and there is no other one. So nothing better can
+        be made. A file that is there was not changed."""
+        gone = [name for name in self.before.captures if name not in self.now.captures]
+        is_known = all(self.before.captures.get(name) == it for name, it in self.now.captures.items())
+        is_kept = not self.form(str(self.job.name)).exists() or self.is_intact(str(self.job.name))
+        return bool(gone) and is_known and not self.now.unread and set(gone) <= self.before.deleted and is_kept
+
+    # ------------------------------------------------------------ what is made
+
+    def made(self) -> str:
+        """Makes what is not made, and answers what became of it."""
+        job, is_made = self.job, self.is_made()
+        if is_made and self.are_thins_made():
+            self.note_seen()
+            return f"unchanged {job.name}"
+        if not job.settings.is_forced and self.are_deleted():
+            if not self.form(str(job.name)).exists():
+                raise NoCaptures(f"no captures for {job.name}")
+            return f"unchanged {job.name}, whose captures were deleted"
+        done = Conversion()
+        try:
+            with work_folder(job.folder, str(job.name)) as work:
+                self.judge(guard_captures(self.before.captures, self.now.captures, self.now.unread), done)
+                if not has_own(job, self.captures):
+                    raise NoCaptures(f"no captures for {job.name}")
+                self.judge(self.guard_compact(), done)
+                self.make(work, is_made, done)
+        except Refused as end:
+            end.report = done.report
+            raise self.excused(end) from None
+        except Again as end:
+            end.report = done.report
+            raise
+        return f"done {job.name}"
+
+    def make(self, work: Path, is_made: bool, done: Conversion) -> None:
+        """Converts in a folder, judges what came, and puts it in its place."""
+        job = self.job
+        if not has_own(job, self.found.captures):
+            raise Again("; ".join(self.faults))
+        convert(job, self.found.captures, self.before, work, is_made, done)
+        name = str(job.name)
+        old = old_file(job.path, self.before, self.is_intact(name))
+        by = MadeBy(job.row.station, job.msm, tuple(job.row.codes.split(",")), job.fields())
+        lost_bytes = bool(self.now.unread) or has_lost_bytes(self.before.captures, self.now.captures)
+        self.judge(faults_of(old, New(work / name, by, done.report), self.before.made, done.made, lost_bytes), done)
+        label_files(job, work, done)
+        self.now.made = done.made
+        self.now.report = sum_of(work / f"{name}.report")
+        every = [file.split("_")[4] for file in list(done.made)[1:]]
+        self.now.used = f"msm {job.msm} window {job.row.window} codes {job.row.codes} every {','.join(every) or '-'}"
+        self.put_in_place(work)
+
+    def guard_compact(self) -> Iterator[str]:
+        """A file that can't be read here can't be compared with a new one."""
+        if is_compact(it := self.form(str(self.job.name))):
+            yield f"{it.name} can't be read here, so nobody knows whether the new file is worse"
+
+    def judge(self, faults: Iterator[str], done: Conversion) -> None:
+        """Refuses a worse file, or with FORCE says why it is worse. The lists of both are shown where they differ, and noted whole."""
+        for why in faults:
+            if self.job.settings.is_forced:
+                say(SCRIPT, f"{what_of(self.job)}: FORCE: {why}")
+                continue
+            now = [*self.now.source(), *(it.line(name) for name, it in done.made.items())]
+            kept = ["before:", *self.before.source(), *self.before.result(), "now:", *now]
+            raise Refused(f"{why}; to replace it nevertheless, set FORCE=1", "\n".join(differences(self.before, self.now)), "\n".join(kept))
+
+    def excused(self, end: Refused) -> Ended:
+        """A file may be worse because a capture can't be read now; another run may read it."""
+        if not self.faults:
+            return end
+        again = Again(f"{'; '.join(self.faults)}; without it: {end}")
+        again.report = end.report
+        return again
+
+    # ------------------------------------------------------------ what is written
+
+    def write_list(self, path: Path) -> None:
+        """Writes the list of now, with what `stat` said of files whose times are old enough."""
+        path.write_text(self.now.text(), errors="surrogateescape")
+        sync(path)
+        give_to_owner(path, self.job.folder)
+
+    def seen_now(self, names: Sequence[str]) -> Dict[str, str]:
+        """What the list notes of these files."""
+        looked = self.found.looked
+        return {name: looked[name] for name in names if name in looked and is_old(looked[name], self.found.at)}
+
+    def note_seen(self) -> None:
+        """Notes what `stat` says now, so that the next run need not take the sums again. If this fails, that run takes them."""
+        self.now.made, self.now.report, self.now.used = self.before.made, self.before.report, self.before.used
+        self.now.seen = self.seen_now(list(self.found.looked))
+        if self.now.seen == self.before.seen:
+            return
+        try:
+            with work_folder(self.job.folder, str(self.job.name)) as work:
+                self.write_list(work / "captures")
+                os.replace(work / "captures", self.record)
+        except (OSError, Ended):
+            pass
+
+    def put_in_place(self, work: Path) -> None:
+        """Gives the files their names, the list first. So whatever ends this run, the list has at least the captures of the file that is
+        there, and the next run finds that the sum of the file is another one, and makes it. The list is the lock too, so the new one is
+        locked before it gets its name, and held until this run ends."""
+        folder, name = self.job.folder, str(self.job.name)
+        self.now.seen = self.seen_now([capture.seen_name for capture in self.captures])
+        self.write_list(work / "captures")
+        made = self.now.made
+        forms = {file: folder / file if is_compact(self.form(file)) else self.form(file) for file in made}
+        new = [folder / file for file, it in made.items()
+            if not it.is_none and not (self.before.made.get(file) == it and self.is_intact(file))]
+        self.held = open(work / "captures", "ab")
+        fcntl.flock(self.held, fcntl.LOCK_EX | fcntl.LOCK_NB)
+        os.replace(work / "captures", self.record)
+        sync(folder)
+        note_after(self.job.settings, new)
+        for file, it in list(made.items())[1:]:
+            if it.is_none:
+                forms[file].unlink(missing_ok=True)
+            else:
+                put(work / file, forms[file])
+        put(work / f"{name}.report", folder / f"{name}.report")
+        put(work / name, forms[name])
+        sync(folder)
+
+
+def what_of(job: Job) -> str:
+    """What messages say the run is of."""
+    return f"{job.row.name9} {job.span}"

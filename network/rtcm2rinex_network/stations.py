@@ -1,0 +1,280 @@
+"""How a station is: its links, its newest files, the last day and week, and what to look at."""
+
+from __future__ import annotations
+
+import os
+import re
+from dataclasses import dataclass, field
+from pathlib import Path
+from typing import Dict, Iterator, List, Optional, Set, Tuple
+
+from .ends import Ended
+from .lists import Record, list_of
+from .names import LINKS, Name, capture_name, hour_of_capture, read_name
+from .places import folder_with, names_below
+from .placing import failures
+from .settings import DAY, HOUR, Settings
+from .table import Row
+from .times import LENGTHS, Span, age_of
+
+FILE_AGES = {"15M": 3 * HOUR, "01H": 3 * HOUR, "01D": 30 * HOUR}  # after which the newest file is an alarm
+GRACES = {"15M": 2 * HOUR, "01H": 2 * HOUR, "01D": 26 * HOUR}  # after which a file is due
+WINDOWS = {"24 h": DAY, "7 d": 7 * DAY}
+UNUSED = 10 * DAY  # a length whose newest file is so much older than that of another one is left out
+OFTEN = 2  # runs of a file that failed, after which it is an alarm
+COUNTED = ("late", "conflict", "refused", "foreign")
+KINDS = ("capture", "file", "missing", "epochs", "unread", *COUNTED, "repeat", "position", "not-made", "table")
+
+
+@dataclass(frozen=True)
+class Alarm:
+    """What to look at, by one of the kinds, and in words."""
+
+    kind: str
+    text: str
+
+
+@dataclass(frozen=True)
+class Link:
+    """A link: the stamp of its newest capture, and the seconds since its last byte, if it has any."""
+
+    number: int
+    capture: Optional[str]
+    age: Optional[float]
+
+
+@dataclass(frozen=True)
+class File:
+    """A file that was made: its name, its epochs and those of its span, whether it has a position, how many links it is of, the counts
+    of its report, and the captures that could not be read."""
+
+    name: Name
+    epochs: int
+    expected: int
+    has_position: bool
+    links: int
+    counts: Dict[str, int]
+    unread: Tuple[str, ...]
+
+
+@dataclass
+class Window:
+    """The spans of a length of the last day or week: how many files are due and made, their epochs, and those that are expected.
+    `missing` has captures and no file."""
+
+    window: str
+    length: str
+    due: int = 0
+    made: int = 0
+    epochs: int = 0
+    expected: int = 0
+    missing: List[Span] = field(default_factory=list)
+
+
+@dataclass(frozen=True)
+class Clock:
+    """The time at which stations are looked at: UTC, and GPS time."""
+
+    utc: float
+    gps: float
+
+
+class Station:
+    """What the folders of a row of the table tell."""
+
+    def __init__(self, settings: Settings, row: Row, live: Set[int], clock: Clock) -> None:
+        self.settings, self.row, self.clock = settings, row, clock
+        self.links: List[Link] = []
+        self.files: List[File] = []
+        self.windows: List[Window] = []
+        self.not_made: List[str] = []
+        self.alarms: List[Alarm] = []
+        try:
+            self.look_at_links(live)
+            self.look_at_files(row.directory / "rinex")
+        except (OSError, ValueError, Ended) as fault:
+            self.alarm("file", str(fault))
+
+    def alarm(self, kind: str, text: str) -> None:
+        """Notes an alarm."""
+        self.alarms.append(Alarm(kind, text))
+
+    # ------------------------------------------------------------ links
+
+    def look_at_links(self, live: Set[int]) -> None:
+        """Looks at each link that has a folder, or a source."""
+        self.links = [self.link(it, it in live) for it in LINKS if it in live or (self.row.directory / f"link{it}").is_dir()]
+        if not self.links:
+            self.alarm("capture", "no link has a capture")
+
+    def link(self, number: int, is_live: bool) -> Link:
+        """A link, by its newest capture. A capture that is copied late has no bytes from after its hour."""
+        folder = self.row.directory / f"link{number}"
+        names = captures_in(folder)
+        if not names:
+            self.alarm("capture", f"link{number}: no capture")
+            return Link(number, None, None)
+        hour = hour_of_capture(f"{folder.name}/{names[-1]}") or 0
+        age = max(0.0, self.clock.utc - (folder / names[-1]).stat().st_mtime, self.clock.gps - hour - HOUR)
+        limit = self.settings.number("LIVE_AGE", 300) if is_live else self.settings.number("CAPTURE_AGE", 7200)
+        if age > limit:
+            self.alarm("capture", f"link{number}: the last byte came {age_of(age)} ago")
+        return Link(number, names[-1][:11], age)
+
+    # ------------------------------------------------------------ files
+
+    def look_at_files(self, folder: Path) -> None:
+        """Looks at the newest files, and at all of the last days."""
+        texts = [it for it in names_below(folder) if it.startswith(f"{self.row.name9}_S_")]
+        known = [read_name(text[:-len(".captures")]) for text in texts if text.endswith(".captures")]
+        listed = [it for it in known if it and it.interval == self.row.interval]  # and no thinned file
+        found = {}
+        for length in LENGTHS:
+            names = [it for it in listed if it.span.length == length]
+            newest = self.newest(folder, names)
+            if newest:
+                found[length] = (newest, names)
+        last = max((it.name.span.end for it, _ in found.values()), default=0)
+        for length, (newest, names) in found.items():
+            if newest.name.span.end > last - UNUSED:
+                self.files.append(newest)
+                for kind, text in self.faults(newest):
+                    self.alarm(kind, text)
+                self.look_back(folder, length, names, newest)
+        if not self.files:
+            self.alarm("file", "there is no file")
+        self.look_at_notes(folder, texts)
+
+    def newest(self, folder: Path, names: List[Name]) -> Optional[File]:
+        """The newest file that is made and whose span is over."""
+        ended = (it for it in reversed(names) if it.span.end <= self.clock.gps)
+        return next(filter(None, (self.file(folder, it) for it in ended)), None)
+
+    def file(self, folder: Path, name: Name) -> Optional[File]:
+        """What the list and the report of a file tell; None if it is not made."""
+        folder = folder_with(folder, name)
+        record = list_of(text_if_there(folder / f"{name}.captures"))
+        made = record.made.get(str(name))
+        if made is None:
+            return None
+        lines = text_if_there(folder / f"{name}.report").split("\n")
+        counts = {words[0]: int(words[1]) for words in map(str.split, lines) if len(words) == 2 and words[1].isdecimal()}
+        counts.pop("epochs", None)
+        return File(name, made.epochs, self.expected(name.span), "position none" not in lines, links_of(record), counts,
+            tuple(sorted(record.unread)))
+
+    def expected(self, span: Span) -> int:
+        """How many epochs a span has."""
+        return LENGTHS[span.length] * 1000 // self.row.interval_ms
+
+    def faults(self, it: File) -> Iterator[Tuple[str, str]]:
+        """What is to look at in a file: the kind of the alarm, and the text."""
+        since = self.clock.gps - it.name.span.end
+        if since > FILE_AGES[it.name.span.length]:
+            yield "file", f"the newest file of {it.name.span.length} is {it.name}, which ended {age_of(since)} ago"
+        if it.epochs < it.expected:
+            yield "epochs", f"{it.name}: {it.epochs} epochs of {it.expected}"
+        yield from self.faults_of_report(it)
+
+    def faults_of_report(self, it: File) -> Iterator[Tuple[str, str]]:
+        """What the list and the report of a file tell."""
+        there = [name for name in it.unread if is_capture(self.row.directory / name)]
+        if there:
+            yield "unread", f"{it.name}: {' '.join(there)} can't be read"
+        for word in COUNTED:
+            if it.counts.get(word):
+                yield word, f"{it.name}: {word} {it.counts[word]}"
+        repeats, taken = it.counts.get("repeat", 0), it.counts.get("taken", 0)
+        if it.links > 1 and 4 * repeats < repeats + taken:
+            yield "repeat", f"{it.name}: repeat {repeats} and taken {taken}, of {it.links} links"
+        if not it.has_position:
+            yield "position", f"{it.name}: no position"
+
+    # ------------------------------------------------------------ the last days
+
+    def look_back(self, folder: Path, length: str, names: List[Name], newest: File) -> None:
+        """Counts the files of the last day and week, and tells once of each kind what is to look at in those of the last day."""
+        first = min(it.span.begin for it in names)
+        files: Dict[int, Optional[File]] = {}
+        for window in WINDOWS:
+            self.windows.append(self.count(folder, window, length, first, files))
+        missing = self.windows[-1].missing
+        if missing:
+            self.alarm("missing", f"{len(missing)} spans of {length} of the last 7 d have captures and no file, the first is {missing[0].start}")
+        self.look_at_day(length, newest, files)
+
+    def count(self, folder: Path, window: str, length: str, first: int, files: Dict[int, Optional[File]]) -> Window:
+        """The counts of a window. It begins with the first file of the station. `files` keeps each file that was read."""
+        size, found = LENGTHS[length], Window(window, length)
+        end = int(self.clock.gps - GRACES[length]) // size * size
+        for begin in range(max(first, end - WINDOWS[window]), end, size):
+            span = Span(begin, length)
+            if begin not in files:
+                files[begin] = self.file(folder, Name(self.row.name9, span, self.row.interval))
+            it = files[begin]
+            found.due += 1
+            found.made += it is not None
+            found.epochs += it.epochs if it else 0
+            found.expected += self.expected(span)
+            if it is None and self.has_captures(span):
+                found.missing.append(span)
+        return found
+
+    def has_captures(self, span: Span) -> bool:
+        """Whether a link has a capture of the span itself."""
+        return any(is_capture(self.row.directory / capture_name(link.number, hour)) for link in self.links for hour in span.own_hours)
+
+    def look_at_day(self, length: str, newest: File, files: Dict[int, Optional[File]]) -> None:
+        """Tells of the files of the last day but for the newest one, which is told of already."""
+        day = next(it for it in self.windows if it.length == length)
+        found: Dict[str, List[str]] = {}
+        begin = int(self.clock.gps) - GRACES[length] - DAY
+        for at, it in sorted(files.items()):
+            if it and at >= begin and it.name != newest.name:
+                for kind, text in self.faults_of_report(it):
+                    found.setdefault(kind, []).append(text)
+        lacking = day.expected - day.epochs
+        if lacking and not (lacking == newest.expected - newest.epochs and newest.name.span.begin in files):
+            self.alarm("epochs", f"the last 24 h of {length} lack {lacking} epochs of {day.expected}: {day.made} of {day.due} files are made")
+        for kind, texts in found.items():
+            self.alarm(kind, f"{len(texts)} earlier files of the last 24 h, as {texts[0]}")
+
+    def look_at_notes(self, folder: Path, texts: List[str]) -> None:
+        """Looks at the notes of runs that failed. One that may be mended by another run counts when it failed again."""
+        for text in texts:
+            name, _, end = text.rpartition(".")
+            known = read_name(name)
+            if end not in ("refused", "again") or not known:
+                continue
+            place = folder_with(folder, known)
+            count, since = failures(place / name)
+            if end == "again" and count < OFTEN:
+                continue
+            self.not_made.append(text)
+            often = f" ({count} times since {since})" if since else ""
+            self.alarm("not-made", f"{name}: {text_if_there(place / text).split(chr(10))[0]}{often}")
+
+
+def captures_in(folder: Path) -> List[str]:
+    """The names of the captures of a link, sorted."""
+    if not folder.is_dir():
+        return []
+    return sorted(it for it in os.listdir(folder) if re.fullmatch(r"\d{9}00\.rtcm(\.gz)?", it, re.ASCII))
+
+
+def is_capture(path: Path) -> bool:
+    """Whether a capture is there, or was compressed."""
+    return path.is_file() or path.with_name(f"{path.name}.gz").is_file()
+
+
+def links_of(record: Record) -> int:
+    """How many links a file is made of."""
+    return len({name.partition("/")[0] for name in record.captures})
+
+
+def text_if_there(path: Path) -> str:
+    """The text of a file; none if it is not there."""
+    try:
+        return path.read_text(errors="replace")
+    except FileNotFoundError:
+        return ""
