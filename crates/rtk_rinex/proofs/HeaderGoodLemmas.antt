@@ -1,5 +1,5 @@
 -- No line of a good header has an LF among its columns.
-use Rattle.std.proofs.Common.{◌≡◌, ◌≢◌, ℕ, zero, suc, ◌+◌, ◌*◌, ◌/◌, ◌<◌, ◌≤◌, List, [], ◌∷◌, ◌++◌, length, take, drop, decimal, codes, Bool, true, false, ◌==◌, ◌&&◌, not, All, arith, refl, ℤ, pos, negsuc, unsigned_abs}
+use Rattle.std.proofs.Common.{◌≡◌, ◌≢◌, ℕ, zero, suc, ◌*◌, ◌<◌, List, [], ◌∷◌, ◌++◌, length, take, drop, decimal, codes, Bool, true, false, ◌==◌, ◌&&◌, not, All, arith, refl, ℤ, pos, negsuc}
 use Rattle.std.specs.Int.{IsInRange}
 use Rattle.std.specs.List.{list_all}
 use Rattle.std.proofs.lemmas.Bool.Decides.{nat_tests}
@@ -9,7 +9,7 @@ use Rattle.rtk_obs.specs.declared.code.Code.{Code}
 use Rattle.rtk_obs.specs.declared.code.Code.TheVariants.{C1C, C1P, C1W, C1S, C1L, C1X, C2C, C2D, C2P, C2W, C2S, C2L, C2X, C5I, C5Q, C5X}
 use Rattle.rtk_obs.specs.Coordinates.{IsCoordinate}
 use Rattle.rtk_obs.specs.CivilText.{last_digits}
-use Rattle.rtk_rinex.specs.Columns.{left, right, decimals, fixed, is_negative}
+use Rattle.rtk_rinex.specs.Columns.{left, right, decimals, fixed}
 use Rattle.rtk_rinex.specs.Reading.{IsMoment, reading_of, seconds_of}
 use Rattle.rtk_rinex.specs.Header.{made_text, types_of, types, types_label, first_text}
 use Rattle.rtk_rinex.specs.Lines.{HasNoEnd}

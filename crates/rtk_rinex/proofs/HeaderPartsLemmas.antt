@@ -1,5 +1,5 @@
 -- A header is read back from its parts, and a text begins with one header at most.
-use Rattle.std.proofs.Common.{◌≡◌, ℕ, ◌+◌, ◌≤◌, ℤ, List, [], ◌∷◌, ◌++◌, length, drop, get_or, codes, refl, sym, ◌∙◌, ap, arith, subst, append_assoc, length-append, pos, inl, inr}
+use Rattle.std.proofs.Common.{◌≡◌, ℕ, ◌≤◌, ℤ, List, [], ◌∷◌, ◌++◌, length, drop, get_or, refl, sym, ◌∙◌, ap, arith, subst, append_assoc, length-append, inl, inr}
 use Rattle.std.specs.Prelude.{All}
 use Rattle.std.proofs.lemmas.Bool.Decides.{leb_tells}
 use Rattle.std.proofs.lemmas.Grind.{flat_map-append}
@@ -10,7 +10,7 @@ use Rattle.rtk_obs.specs.declared.time.Civil.{Civil}
 use Rattle.rtk_obs.specs.Calendar.{ReadsAs}
 use Rattle.rtk_obs.proofs.PublicLaws.{one_moment}
 use Rattle.rtk_rinex.specs.Reading.{IsMoment, reading_of}
-use Rattle.rtk_rinex.specs.Header.{HeadView, PositionView, header_text}
+use Rattle.rtk_rinex.specs.Header.{HeadView, PositionView}
 use Rattle.rtk_rinex.specs.HeaderFault.{AreLines}
 use Rattle.rtk_rinex.specs.Lines.{HasNoEnd, text_of}
 use Rattle.rtk_rinex.specs.Steps.HeaderRead.{ShowsHeader}

@@ -12,7 +12,7 @@ use Rattle.rtk_obs.specs.Code.{name_of}
 use Rattle.rtk_rinex.specs.Columns.{left, right}
 use Rattle.rtk_rinex.specs.Header.{first_types_line, types_of, types, types_label}
 use Rattle.rtk_rinex.specs.Lines.{text_of}
-use Rattle.rtk_rinex.specs.Steps.HeaderShown.{StartsWith, line_at, name_at, number_at}
+use Rattle.rtk_rinex.specs.Steps.HeaderShown.{StartsWith, line_at, name_at}
 use Rattle.rtk_rinex.proofs.DigitsLemmas.{piece, take-exact, length-left, length-right}
 use Rattle.rtk_rinex.proofs.HeaderShownLemmas.{line_rest, line_is, count_is}
 use Rattle.rtk_rinex.proofs.HeaderRowsLemmas.{row, line_of, ended, types_head, types_line, type_rows, row_count, Values, IsGood, types_part, length-name, length-types}

@@ -3,7 +3,7 @@
 use Rattle.std.proofs.Common.{◌≡◌, ℕ, List, length, refl, sym, ◌∙◌, ap, flat_map}
 use Rattle.std.specs.Prelude.{Ok, Err, All}
 use Rattle.rtk_rinex.specs.Record.{record_text}
-use Rattle.rtk_rinex.specs.Table.{WellFormedTable, IsWellFormedTable, IsTableEpoch, table_text}
+use Rattle.rtk_rinex.specs.Table.{WellFormedTable, IsTableEpoch, table_text}
 use Rattle.rtk_rinex.specs.CheckText.{satellite_lines}
 use Rattle.rtk_rinex.specs.CheckTable.{TableView, OneTable, TextIsAccepted}
 use Rattle.rtk_rinex.proofs.HeaderRowsLemmas.{IsGood, values_of}
