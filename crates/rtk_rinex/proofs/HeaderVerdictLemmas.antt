@@ -124,7 +124,7 @@ no_table text written v f line more h is shows w plain e x =
           let goes = same_lines lines (all_parts u) x.1 records are (all_lines u g) le.1 (sym (more_text a.lines line x.1) ∙ longer ∙ sym file) in
           let begins : text_of lines ++ text_of goes.more ≡ text_with u =
           sym (flat_map-append (λ (l : List ℕ). l ++ 10 ∷ []) lines goes.more) ∙ ap text_of (sym goes.list) ∙ all_text u g.heading.1.0 in
-          let r = shows lines more are (text_of goes.more, u.head, u.site, u.first, g.heading, g.site, g.first, begins)
+          let r = shows lines more are (text_of goes.more, (u.head, u.site, u.first, g.heading, g.site, g.first, begins))
           (a.begins ∙ ap (λ (y : List ℕ). text_of a.lines ++ y) e ∙ more_text a.lines line more) in
           let two : text_of a.lines ++ (w.line ++ 10 ∷ w.more) ≡ text_of a.lines ++ (line ++ 10 ∷ r.0) = sym a.other_begins ∙ r.1 ∙ sym (more_text a.lines line r.0) in
           let same = same_front w.line line w.more r.0 w.is_line plain (append_cancel_left (text_of a.lines) (w.line ++ 10 ∷ w.more) (line ++ 10 ∷ r.0) two) in
@@ -158,7 +158,7 @@ fault_is text written v f g is shows w =
         w.rest,
         (a.lines, a.are_lines, a.size, refl),
         a.begins,
-        (w.line ++ 10 ∷ w.more, v.head, v.site, v.first, g.heading, g.site, g.first, sym a.other_begins ∙ is),
+        (w.line ++ 10 ∷ w.more, (v.head, v.site, v.first, g.heading, g.site, g.first, sym a.other_begins ∙ is)),
         λ x.
             let u : Values = record { head = x.0; site = x.1; first = x.2 } in
             let h : IsGood u = record { heading = x.3; site = x.4; first = x.5 } in

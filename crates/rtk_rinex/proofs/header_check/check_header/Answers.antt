@@ -29,12 +29,12 @@ pub returns-clause-text : goal.returns-clause-text
 returns-clause-text c =
     let is = c.as_slice.ensures.value ∙ c.read_header-parts.ensures.written in
     (all c).begins ∙ ap (λ (w : List ℕ). w ++ drop (length c.as_slice.result.now) c.args.text.now) is
-    ∙ ap (λ (n : ℕ). _ ++ drop n c.args.text.now) (ap length c.as_slice.ensures.value ∙ sym c.len.ensures)
+    ∙ ap (λ (n : ℕ). _ ++ drop n c.args.text.now) (ap length c.as_slice.ensures.value ∙ sym c.len.ensures.value)
 
 pub returns-clause-size : goal.returns-clause-size
 returns-clause-size c =
     let is = c.as_slice.ensures.value ∙ c.read_header-parts.ensures.written in
-    (c.len.ensures ∙ ap length c.read_header-parts.ensures.written, rw is at (all c).lines)
+    (c.len.ensures.value ∙ ap length c.read_header-parts.ensures.written, rw is at (all c).lines)
 
 pub returns-clause-only : goal.returns-clause-only
 returns-clause-only c =
@@ -51,7 +51,7 @@ fault p text written f g is shows unlike = fault_is text written (values p) f g 
 
 pub returns-in_err-lines-clause-fault : goal.returns-in_err-lines-clause-fault
 returns-in_err-lines-clause-fault c =
-    let p = err_from_is_err_and c.from_residual.result c.from_residual.ensures in
+    let p = err_from_is_err_and c.from_residual.result c.from_residual.ensures.1 in
     let g = c.read_header-parts.ensures.good in
     let f = c.in_err-lines.field-0.0 in
     rw p.1 (rw p.2 (fault c.read_header-parts.result c.args.text.now c.as_slice.result.now f (record { heading = g.0; site = g.1; first = g.2 })

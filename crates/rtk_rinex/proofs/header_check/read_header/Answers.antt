@@ -75,7 +75,7 @@ place_at text out read n e f = e ∙ ap (λ (k : ℕ). drop k text) f
 
 types_shown : (c : goal.After-with_height) → ShowsTypes (drop (length c.put_height_line.new.out.items) c.args.text.now) c.in-Ok.head.listed
 types_shown c =
-    let at = place_at c.args.text.now c.put_height_line.new.out.items c.after-types.result.now c.len-5.result c.after-types.ensures c.len-5.ensures in
+    let at = place_at c.args.text.now c.put_height_line.new.out.items c.after-types.result.now c.len-5.result c.after-types.ensures c.len-5.ensures.value in
     record {
       count = λ n shown range line. count_is c
           ∙ shown_or c.read_code_count.result _ c.unwrap_or-count.result n c.unwrap_or-count.ensures (c.read_code_count.ensures.shown n shown range (line.0, at ∙ line.1));
@@ -98,25 +98,25 @@ back c =
     (made_put c ∙ ap (λ (l : List ℕ). c.put_version_line.new.out.items ++ l) (one_text _ _))
     (back_line made_row (λ x. x.head.made) _ v (λ u h line.
     ap (λ (a : HeadView). a.made) head ∙ shown_or c.read_made.result _ c.unwrap_or-made.result u.head.made c.unwrap_or-made.ensures
-    (c.read_made.ensures u.head.made h.heading.2 h.heading.3 (starts _ _ _ _ (place_at text _ _ _ c.after.ensures c.len.ensures) line))))
+    (c.read_made.ensures u.head.made h.heading.2 h.heading.3 (starts _ _ _ _ (place_at text _ _ _ c.after.ensures c.len.ensures.value) line))))
     (back_then (λ x. marker_row x.head.marker ∷ []) from_unknown text c.put_made_line.new.out.items c.put_marker_line.new.out.items v (ends_line marker_row (λ x. x.head.marker)) g
     (marker_put c ∙ ap (λ (l : List ℕ). c.put_made_line.new.out.items ++ l) (one_text _ _))
     (back_line marker_row (λ x. x.head.marker) _ v (λ u h line.
     ap (λ (a : HeadView). a.marker) head ∙ shown_or c.read_marker.result _ c.unwrap_or-marker.result u.head.marker c.unwrap_or-marker.ensures
-    (c.read_marker.ensures u.head.marker h.heading.0 (starts _ _ _ _ (place_at text _ _ _ c.after-2.ensures c.len-2.ensures) line))))
+    (c.read_marker.ensures u.head.marker h.heading.0 (starts _ _ _ _ (place_at text _ _ _ c.after-2.ensures c.len-2.ensures.value) line))))
     (back_then (λ x. unknown_part) from_place text c.put_marker_line.new.out.items c.put_unknown_lines.new.out.items v (λ u w p q h k e. ap (λ (l : List (List ℕ)). drop 4 l) e) g
     (c.put_unknown_lines.ensures.items ∙ unknown_text c.put_marker_line.new.out.items) (back_fixed unknown_part _ v)
     (back_then (λ x. place_row x.site ∷ []) from_height text c.put_unknown_lines.new.out.items c.put_place_line.new.out.items v (ends_line place_row (λ x. x.site)) g
     (place_put c ∙ ap (λ (l : List ℕ). c.put_unknown_lines.new.out.items ++ l) (one_text _ _))
     (back_line (λ (row : List ℕ). row) (λ x. place_row x.site) _ v (λ u h line.
     let shown = some_or _ c.read_place.result _ c.unwrap_or-place.result c.unwrap_or-place.ensures
-    (c.read_place.ensures u.site h.site (starts _ _ _ _ (place_at text _ _ _ c.after-3.ensures c.len-3.ensures) line)) in
+    (c.read_place.ensures u.site h.site (starts _ _ _ _ (place_at text _ _ _ c.after-3.ensures c.len-3.ensures.value) line)) in
     rw (same.0 ∙ shown.0, same.1 ∙ shown.1, same.2 ∙ shown.2) refl))
     (back_then (λ x. height_row x.site.height ∷ []) from_types text c.put_place_line.new.out.items c.put_height_line.new.out.items v (ends_line height_row (λ x. x.site.height)) g
     (height_put c ∙ ap (λ (l : List ℕ). c.put_place_line.new.out.items ++ l) (one_text _ _))
     (back_line height_row (λ x. x.site.height) _ v (λ u h line.
     same.3 ∙ shown_or c.read_height.result _ c.unwrap_or-height.result u.site.height c.unwrap_or-height.ensures
-    (c.read_height.ensures u.site.height h.site.3 (starts _ _ _ _ (place_at text _ _ _ c.after-4.ensures c.len-4.ensures) line))))
+    (c.read_height.ensures u.site.height h.site.3 (starts _ _ _ _ (place_at text _ _ _ c.after-4.ensures c.len-4.ensures.value) line))))
     (back_then types_part from_unit text c.put_height_line.new.out.items c.put_types_lines.new.out.items v types_end g
     (types_put c ∙ ap (λ (l : List ℕ). c.put_height_line.new.out.items ++ l) (sym (text_of-types c.in-Ok.head.listed g.heading.1.0)))
     (types_back _ v (types_shown c))
@@ -126,7 +126,7 @@ back c =
     (first_put c ∙ ap (λ (l : List ℕ). c.put_unit_line.new.out.items ++ l) (one_text _ _))
     (back_line first_row (λ x. x.first) _ v (λ u h line.
     shown_or c.read_first.result _ c.unwrap_or-first.result u.first c.unwrap_or-first.ensures
-    (c.read_first.ensures u.first h.first (starts _ _ _ _ (place_at text _ _ _ c.after-5.ensures c.len-6.ensures) line))))
+    (c.read_first.ensures u.first h.first (starts _ _ _ _ (place_at text _ _ _ c.after-5.ensures c.len-6.ensures.value) line))))
     (back_fixed end_part _ v)))))))))
 
 pub returns-clause-written : goal.returns-clause-written
