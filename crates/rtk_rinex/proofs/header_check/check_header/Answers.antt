@@ -1,6 +1,6 @@
 use Rattle.std.proofs.Common.{◌≡◌, ◌∙◌, ◌++◌, List, ℕ, drop, length, ap, sym}
 use Rattle.std.proofs.lemmas.Result.{err_from_is_err_and}
-use Rattle.rtk_rinex.specs.Header.{position_view}
+use Rattle.rtk_rinex.specs.Header.{position_view, header_text}
 use Rattle.rtk_rinex.specs.HeaderFault.{IsFaultOfHeader, AreLines}
 use Rattle.rtk_rinex.specs.Steps.HeaderRead.{ShowsHeader, IsUnlike}
 use Rattle.rtk_rinex.specs.declared.check_fault.CheckFault.{CheckFault}
@@ -27,9 +27,10 @@ all c =
 
 pub returns-clause-text : goal.returns-clause-text
 returns-clause-text c =
+    let p = c.read_header-parts.result in
     let is = c.as_slice.ensures.value ∙ c.read_header-parts.ensures.written in
     (all c).begins ∙ ap (λ (w : List ℕ). w ++ drop (length c.as_slice.result.now) c.args.text.now) is
-    ∙ ap (λ (n : ℕ). _ ++ drop n c.args.text.now) (ap length c.as_slice.ensures.value ∙ sym c.len.ensures.value)
+    ∙ ap (λ (n : ℕ). header_text p.head (position_view p.position) p.first ++ drop n c.args.text.now) (ap length c.as_slice.ensures.value ∙ sym c.len.ensures.value)
 
 pub returns-clause-size : goal.returns-clause-size
 returns-clause-size c =

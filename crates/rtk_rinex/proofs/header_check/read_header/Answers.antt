@@ -8,7 +8,7 @@ use Rattle.rtk_rinex.specs.Reading.{reading_of}
 use Rattle.rtk_rinex.proofs.HeaderLemmas.{parts-in_row}
 use Rattle.rtk_rinex.proofs.ReadingLemmas.{reading_is}
 use Rattle.rtk_rinex.proofs.HeaderShownLemmas.{good_or, shown_or, some_or}
-use Rattle.rtk_rinex.proofs.HeaderRowsLemmas.{one_text, text_of-types, unknown_text, end_text, Values, IsGood, values_of, text_with, version_part, made_row, marker_row, unknown_part, place_row, height_row, types_part, unit_part, first_row, end_part, from_made, from_marker, from_unknown, from_place, from_height, from_types, from_unit, from_first, all_parts}
+use Rattle.rtk_rinex.proofs.HeaderRowsLemmas.{one_text, text_of-types, unknown_text, Values, IsGood, values_of, version_part, made_row, marker_row, unknown_part, place_row, height_row, types_part, unit_part, first_row, end_part, from_made, from_marker, from_unknown, from_place, from_height, from_types, from_unit, from_first, all_parts}
 use Rattle.rtk_rinex.proofs.PartLemmas.{ReadsBack, back_then, back_fixed, back_line, ends_line, starts}
 use Rattle.rtk_rinex.proofs.HeaderTypesLemmas.{ShowsTypes, types_end, types_back}
 use Rattle.rtk_rinex.proofs.HeaderPartsLemmas.{shows_header}
