@@ -7,11 +7,10 @@ use Rattle.std.proofs.lemmas.Grind.{flat_map-append}
 use Rattle.std.proofs.Math.Seq.{drop-append_seam, take-append_seam}
 use Rattle.std.proofs.lemmas.List.{append-nil, append_cancel_left, take-append-drop}
 use Rattle.std.proofs.lemmas.List.Elements.{All-nil, All-cons, All-head, All-tail, All-append}
-use Rattle.rtk_rinex.specs.Header.{header_text}
-use Rattle.rtk_rinex.specs.HeaderFault.{AreLines, IsHeader, BeginsHeader, BeginsTable, IsLineFault, IsFaultOfHeader}
+use Rattle.rtk_rinex.specs.HeaderFault.{AreLines, BeginsTable, IsLineFault, IsFaultOfHeader}
 use Rattle.rtk_rinex.specs.Lines.{HasNoEnd, IsLine, text_of}
 use Rattle.rtk_rinex.specs.Record.{record_text}
-use Rattle.rtk_rinex.specs.Steps.HeaderRead.{HasHeader, IsOnlyHeader, ShowsHeader, BeginAlike, IsLineCause, IsUnlike}
+use Rattle.rtk_rinex.specs.Steps.HeaderRead.{IsOnlyHeader, ShowsHeader, BeginAlike, IsLineCause, IsUnlike}
 use Rattle.rtk_rinex.specs.declared.check_fault.Cause.{Cause}
 use Rattle.rtk_rinex.specs.declared.check_fault.Cause.TheVariants.{HeaderLine, Columns, Value, Order, Truncated, OutOfMemory}
 use Rattle.rtk_rinex.specs.declared.check_fault.CheckFault.{CheckFault}

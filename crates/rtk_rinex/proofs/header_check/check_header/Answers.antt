@@ -1,7 +1,7 @@
 use Rattle.std.proofs.Common.{◌≡◌, ◌∙◌, ◌++◌, List, ℕ, drop, length, ap, sym}
 use Rattle.std.proofs.lemmas.Result.{err_from_is_err_and}
 use Rattle.rtk_rinex.specs.Header.{position_view, header_text}
-use Rattle.rtk_rinex.specs.HeaderFault.{IsFaultOfHeader, AreLines}
+use Rattle.rtk_rinex.specs.HeaderFault.{IsFaultOfHeader}
 use Rattle.rtk_rinex.specs.Steps.HeaderRead.{ShowsHeader, IsUnlike}
 use Rattle.rtk_rinex.specs.declared.check_fault.CheckFault.{CheckFault}
 use Rattle.rtk_rinex.specs.declared.header_check.HeaderParts.{HeaderParts}
