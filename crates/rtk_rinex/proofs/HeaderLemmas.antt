@@ -1,4 +1,4 @@
--- Codes that are unlike each other.
+-- Codes that are unlike each other, and texts one after another.
 use Rattle.std.proofs.Common.{◌≡◌, ◌≢◌, ◌⊎◌, ⊎_elim, inl, inr, ℕ, ◌+◌, ◌<◌, List, ◌++◌, append_assoc, slice_index_or, arith, ◌∙◌, ap}
 use Rattle.std.proofs.lemmas.Bool.Decides.{leb_tells}
 use Rattle.rtk_obs.specs.declared.code.Code.{Code}
@@ -16,3 +16,9 @@ unlike-more cs i old new j k d jk ki =
 -- four texts after another
 pub append-four : (o a b c d : List ℕ) → (((o ++ a) ++ b) ++ c) ++ d ≡ o ++ (((a ++ b) ++ c) ++ d)
 append-four o a b c d = simp append_assoc
+
+-- the parts of a header one after another
+pub parts-in_row : (v m k a b c d p q t u f g z : List ℕ)
+    → (((((((((((v ++ m) ++ k) ++ a) ++ b) ++ c) ++ d) ++ p) ++ q) ++ t) ++ u) ++ f) ++ g ++ z
+    ≡ (((((((v ++ m) ++ k) ++ a) ++ b) ++ c) ++ d) ++ (p ++ q)) ++ t ++ (((u ++ f) ++ g) ++ z)
+parts-in_row v m k a b c d p q t u f g z = simp append_assoc

@@ -1,16 +1,16 @@
--- A header is lines of 80 columns, none with an LF inside, each ended by LF.
+-- The parts of a header, each as the list of its lines.
 use Rattle.std.proofs.Common.{◌≡◌, ◌≢◌, ℕ, zero, suc, ◌+◌, ◌*◌, ◌/◌, ◌<◌, ◌≤◌, List, [], ◌∷◌, ◌++◌, length, take, drop, decimal, codes, Bool, true, false, ◌==◌, if◌then◌else◌, arith, refl, sym, ◌∙◌, append_assoc, length-append, pos, inl, inr}
 use Rattle.std.specs.Int.{IsInRange}
-use Rattle.std.specs.List.{flat_map}
 use Rattle.std.proofs.lemmas.Bool.Decides.{nat_tests, leb_tells}
 use Rattle.std.proofs.lemmas.Grind.{flat_map-append}
-use Rattle.std.proofs.lemmas.List.{length-drop}
+use Rattle.std.proofs.lemmas.List.{length-drop, append-nil}
 use Rattle.rtk_obs.specs.declared.code.Code.{Code}
 use Rattle.rtk_obs.specs.declared.code.Code.TheVariants.{C1C, C1P, C1W, C1S, C1L, C1X, C2C, C2D, C2P, C2W, C2S, C2L, C2X, C5I, C5Q, C5X}
 use Rattle.rtk_obs.specs.Code.{name_of}
 use Rattle.rtk_rinex.specs.Columns.{left, right, fixed}
-use Rattle.rtk_rinex.specs.Reading.{reading_of}
-use Rattle.rtk_rinex.specs.Header.{HeadView, PositionView, header_line, made_text, first_lines, position_lines, types_of, types, continuation_line, types_lines, first_text, last_lines, header_text}
+use Rattle.rtk_rinex.specs.Reading.{IsMoment, reading_of}
+use Rattle.rtk_rinex.specs.Lines.{text_of}
+use Rattle.rtk_rinex.specs.Header.{HeadView, PositionView, IsHeadView, IsPositionView, header_line, made_text, types_of, types, types_label, continuation_line, types_lines, first_text, header_text}
 
 -- ---- lines as lists of columns
 
@@ -25,11 +25,12 @@ pub row_ended : (content label : List ℕ) → header_line content label ≡ end
 unfolding header_line row
 row_ended content label = refl
 
-abbrev pub text_of : List (List ℕ) → List ℕ
-text_of = flat_map (λ line. line ++ 10 ∷ [])
+-- a line with more after it, and a list of one line
+pub line_of : (content label : List ℕ) → ended (row content label) ≡ header_line content label ++ []
+line_of content label = sym (append-nil (header_line content label) ∙ row_ended content label)
 
-abbrev types_label : List ℕ
-types_label = codes "SYS / # / OBS TYPES"
+pub one_text : (content label : List ℕ) → header_line content label ≡ text_of (row content label ∷ [])
+one_text content label = row_ended content label ∙ sym (append-nil (ended (row content label)))
 
 -- what stands before the types of a line of types
 abbrev pub types_head : ℕ → ℕ → List ℕ
@@ -48,29 +49,87 @@ type_rows j (suc m) cs = types_line j cs ∷ type_rows (suc j) m cs
 abbrev pub row_count : ℕ → ℕ
 row_count n = (12 * n + 51) / 52
 
-abbrev pub first_rows : HeadView → PositionView → List (List ℕ)
-first_rows h s =
-    row (codes "     3.05           OBSERVATION DATA    G") (codes "RINEX VERSION / TYPE")
-    ∷ row (codes "rtcm2rinex                              " ++ made_text (reading_of h.made)) (codes "PGM / RUN BY / DATE")
-    ∷ row h.marker (codes "MARKER NAME")
-    ∷ row (codes "GEODETIC") (codes "MARKER TYPE")
+-- ---- the parts, of the values of a header
+
+-- the values of a header
+pub record Values : Type 0 where
+  pub head : HeadView
+  pub site : PositionView
+  pub first : ℕ
+
+abbrev pub values_of : HeadView → PositionView → ℕ → Values
+values_of h s t = record { head = h; site = s; first = t }
+
+pub record IsGood (v : Values) : Type 0 where
+  pub heading : IsHeadView v.head
+  pub site : IsPositionView v.site
+  pub first : IsMoment v.first
+
+abbrev pub text_with : Values → List ℕ
+text_with v = header_text v.head v.site v.first
+
+abbrev pub version_part : List (List ℕ)
+version_part = row (codes "     3.05           OBSERVATION DATA    G") (codes "RINEX VERSION / TYPE") ∷ []
+
+abbrev pub made_row : ℕ → List ℕ
+made_row made = row (codes "rtcm2rinex                              " ++ made_text (reading_of made)) (codes "PGM / RUN BY / DATE")
+
+abbrev pub marker_row : List ℕ → List ℕ
+marker_row marker = row marker (codes "MARKER NAME")
+
+abbrev pub unknown_part : List (List ℕ)
+unknown_part =
+    row (codes "GEODETIC") (codes "MARKER TYPE")
     ∷ row [] (codes "OBSERVER / AGENCY")
     ∷ row [] (codes "REC # / TYPE / VERS")
     ∷ row [] (codes "ANT # / TYPE")
-    ∷ row (fixed 4 14 s.x ++ fixed 4 14 s.y ++ fixed 4 14 s.z) (codes "APPROX POSITION XYZ")
-    ∷ row (fixed 4 14 (pos s.height) ++ codes "        0.0000        0.0000") (codes "ANTENNA: DELTA H/E/N")
     ∷ []
 
-abbrev pub last_rows : ℕ → List (List ℕ)
-last_rows first =
-    row (codes "DBHZ") (codes "SIGNAL STRENGTH UNIT")
-    ∷ row (first_text (reading_of first)) (codes "TIME OF FIRST OBS")
-    ∷ row (codes "G") (codes "SYS / PHASE SHIFT")
-    ∷ row [] (codes "END OF HEADER")
-    ∷ []
+abbrev pub place_row : PositionView → List ℕ
+place_row s = row (fixed 4 14 s.x ++ fixed 4 14 s.y ++ fixed 4 14 s.z) (codes "APPROX POSITION XYZ")
 
-unfoldable pub rows : HeadView → PositionView → ℕ → List (List ℕ)
-rows h s first = first_rows h s ++ (type_rows 0 (row_count (length h.listed)) h.listed ++ last_rows first)
+abbrev pub height_row : ℕ → List ℕ
+height_row height = row (fixed 4 14 (pos height) ++ codes "        0.0000        0.0000") (codes "ANTENNA: DELTA H/E/N")
+
+abbrev pub types_part : Values → List (List ℕ)
+types_part v = type_rows 0 (row_count (length v.head.listed)) v.head.listed
+
+abbrev pub unit_part : List (List ℕ)
+unit_part = row (codes "DBHZ") (codes "SIGNAL STRENGTH UNIT") ∷ []
+
+abbrev pub first_row : ℕ → List ℕ
+first_row first = row (first_text (reading_of first)) (codes "TIME OF FIRST OBS")
+
+abbrev pub end_part : List (List ℕ)
+end_part = row (codes "G") (codes "SYS / PHASE SHIFT") ∷ row [] (codes "END OF HEADER") ∷ []
+
+-- the parts from each one on
+abbrev pub from_first : Values → List (List ℕ)
+from_first v = (first_row v.first ∷ []) ++ end_part
+
+abbrev pub from_unit : Values → List (List ℕ)
+from_unit v = unit_part ++ from_first v
+
+abbrev pub from_types : Values → List (List ℕ)
+from_types v = types_part v ++ from_unit v
+
+abbrev pub from_height : Values → List (List ℕ)
+from_height v = (height_row v.site.height ∷ []) ++ from_types v
+
+abbrev pub from_place : Values → List (List ℕ)
+from_place v = (place_row v.site ∷ []) ++ from_height v
+
+abbrev pub from_unknown : Values → List (List ℕ)
+from_unknown v = unknown_part ++ from_place v
+
+abbrev pub from_marker : Values → List (List ℕ)
+from_marker v = (marker_row v.head.marker ∷ []) ++ from_unknown v
+
+abbrev pub from_made : Values → List (List ℕ)
+from_made v = (made_row v.head.made ∷ []) ++ from_marker v
+
+abbrev pub all_parts : Values → List (List ℕ)
+all_parts v = version_part ++ from_made v
 
 -- ---- the types
 
@@ -129,7 +188,7 @@ types_lines-are : (cs : List Code) → types_lines cs ≡ ended (types_line 0 cs
 unfolding continued types_line
 types_lines-are cs = rw (row_ended (types_head 0 (length cs) ++ take 52 (types cs)) types_label) refl
 
-text_of-types : (cs : List Code) → IsInRange 1 16 (length cs) → text_of (type_rows 0 (row_count (length cs)) cs) ≡ types_lines cs
+pub text_of-types : (cs : List Code) → IsInRange 1 16 (length cs) → text_of (type_rows 0 (row_count (length cs)) cs) ≡ types_lines cs
 unfolding type_rows
 text_of-types cs h =
     elim (leb_tells (length cs) 4) [
@@ -151,20 +210,18 @@ text_of-types cs h =
       ]
     ]
 
--- ---- the text of the lines
+-- ---- the text of the parts
 
-text_of-first : (h : HeadView) (s : PositionView) → text_of (first_rows h s) ≡ first_lines h.marker (reading_of h.made) ++ position_lines s
+pub all_text : (v : Values) → IsInRange 1 16 (length v.head.listed) → text_of (all_parts v) ≡ text_with v
+unfolding header_text header_line row
+all_text v count =
+    rw (flat_map-append (λ (line : List ℕ). line ++ 10 ∷ []) (types_part v) (from_unit v), text_of-types v.head.listed count) (simp append_assoc)
+
+pub unknown_text : (out : List ℕ) → out ++ header_line (codes "GEODETIC") (codes "MARKER TYPE") ++ header_line [] (codes "OBSERVER / AGENCY")
+    ++ header_line [] (codes "REC # / TYPE / VERS") ++ header_line [] (codes "ANT # / TYPE") ≡ out ++ text_of unknown_part
 unfolding header_line row
-text_of-first h s = simp append_assoc
+unknown_text out = simp append_assoc
 
-text_of-last : (first : ℕ) → text_of (last_rows first) ≡ last_lines (reading_of first)
+pub end_text : (out : List ℕ) → out ++ header_line (codes "G") (codes "SYS / PHASE SHIFT") ++ header_line [] (codes "END OF HEADER") ≡ out ++ text_of end_part
 unfolding header_line row
-text_of-last first = simp append_assoc
-
-pub rows_text : (h : HeadView) (s : PositionView) (first : ℕ) → IsInRange 1 16 (length h.listed) → text_of (rows h s first) ≡ header_text h s first
-unfolding header_text rows
-rows_text h s first count =
-    let t : List (List ℕ) = type_rows 0 (row_count (length h.listed)) h.listed in
-    flat_map-append (λ (line : List ℕ). line ++ 10 ∷ []) (first_rows h s) (t ++ last_rows first)
-    ∙ rw (flat_map-append (λ (line : List ℕ). line ++ 10 ∷ []) t (last_rows first), text_of-first h s, text_of-types h.listed count, text_of-last first)
-    (sym (append_assoc (first_lines h.marker (reading_of h.made) ++ position_lines s) (types_lines h.listed) (last_lines (reading_of first))))
+end_text out = simp append_assoc

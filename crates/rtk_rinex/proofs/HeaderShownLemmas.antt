@@ -1,4 +1,4 @@
--- The lines of a header show its values.
+-- A part of a header shows its value to who reads from its beginning on.
 use Rattle.std.proofs.Common.{◌≡◌, ◌≢◌, ℕ, zero, suc, ◌+◌, ◌-◌, ◌*◌, ◌/◌, ◌%◌, ◌^◌, ◌<◌, ◌≤◌, List, [], ◌∷◌, ◌++◌, length, take, drop, replicate, get_or, slice_get, Some, None, Result, Ok, Err, IfOk, IfErr, MatchOption, IfSome, IsSomeAnd, Option, unwrap_or, decimal, codes, true, false, arith, refl, sym, ◌∙◌, ap, subst, append_assoc, length-append, ℤ, pos, negsuc, unsigned_abs}
 use Rattle.std.specs.Int.{IsInRange}
 use Rattle.std.specs.Result.{result_ok}
@@ -15,7 +15,7 @@ use Rattle.rtk_obs.proofs.PublicLaws.{one_moment}
 use Rattle.rtk_rinex.specs.Columns.{left, right, decimals, fixed}
 use Rattle.rtk_rinex.specs.Reading.{IsMoment, reading_of, seconds_of}
 use Rattle.rtk_rinex.specs.Record.{trim_end}
-use Rattle.rtk_rinex.specs.Header.{header_line, made_text, first_text, IsMarker, PositionView, IsPositionView}
+use Rattle.rtk_rinex.specs.Header.{header_line, made_line, marker_line, place_line, height_line, first_types_line, types_label, first_text, first_line, IsMarker, PositionView, IsPositionView}
 use Rattle.rtk_rinex.specs.Steps.Digits.{digits_from, number_in}
 use Rattle.rtk_rinex.specs.Steps.HeaderShown.{number_at, made_civil, first_civil}
 use Rattle.rtk_rinex.proofs.ReadingLemmas.{same_civil, FitsColumns, FitsColumns-reading_of, reading-reads}
@@ -51,24 +51,23 @@ some_or P (Some y) d x e h = rw e h
 
 -- ---- the moment at which the file is made
 
-pub made_is : (line label : List ℕ) (t : ℕ) → IsMoment t → t % 1000 ≡ 0
-    → line ≡ header_line (codes "rtcm2rinex                              " ++ made_text (reading_of t)) label → made_civil line ≡ reading_of t
+pub made_is : (text more : List ℕ) (t : ℕ) → IsMoment t → t % 1000 ≡ 0 → text ≡ made_line (reading_of t) ++ more → made_civil text ≡ reading_of t
 unfolding header_line left
-made_is line label t h whole e =
+made_is text more t h whole e =
     let c = reading_of t in
     let fits = FitsColumns-reading_of t h in
-    rw e (same_civil (made_civil (header_line (codes "rtcm2rinex                              " ++ made_text c) label)) c
+    rw e (same_civil (made_civil (made_line c ++ more)) c
     (digits_from-last_4 0 c.year ∙ omega (arith, fits.year)) (digits_from-last_2 c.month fits.month) (digits_from-last_2 c.day fits.day)
     (digits_from-last_2 c.hour fits.hour) (digits_from-last_2 c.minute fits.minute) (digits_from-last_2 c.second (omega (arith, fits.second))) (sym whole))
 
 -- ---- what stands at the front of a line
 
-pub line_rest : List ℕ → List ℕ → List ℕ
-line_rest content label = replicate (60 - length content) 32 ++ (left 20 label ++ 10 ∷ [])
+pub line_rest : List ℕ → List ℕ → List ℕ → List ℕ
+line_rest content label more = replicate (60 - length content) 32 ++ ((left 20 label ++ 10 ∷ []) ++ more)
 
-pub line_is : (content label : List ℕ) → header_line content label ≡ content ++ line_rest content label
+pub line_is : (content label more : List ℕ) → header_line content label ++ more ≡ content ++ line_rest content label more
 unfolding header_line left line_rest
-line_is content label = simp append_assoc
+line_is content label more = simp append_assoc
 
 -- ---- the first time
 
@@ -143,28 +142,29 @@ fields_of c rest fits =
     (length-right 4 (decimal c.year) y) (length-right 2 (decimal c.month) m) (length-right 2 (decimal c.day) d) (length-right 2 (decimal c.hour) h) (length-right 2 (decimal c.minute) i) s in
     rw (right_split 2 4 (decimal c.year) y, right_split 4 2 (decimal c.month) m, right_split 4 2 (decimal c.day) d, right_split 4 2 (decimal c.hour) h, right_split 4 2 (decimal c.minute) i) all
 
-first_fields : (line label : List ℕ) (c : Civil) → FitsColumns c → line ≡ header_line (first_text c) label
-    → AreFields line (right 4 (decimal c.year)) (right 2 (decimal c.month)) (right 2 (decimal c.day)) (right 2 (decimal c.hour)) (right 2 (decimal c.minute)) (right 13 (decimals 7 false (seconds_of c)))
+first_fields : (text more : List ℕ) (c : Civil) → FitsColumns c → text ≡ first_line c ++ more
+    → AreFields text (right 4 (decimal c.year)) (right 2 (decimal c.month)) (right 2 (decimal c.day)) (right 2 (decimal c.hour)) (right 2 (decimal c.minute)) (right 13 (decimals 7 false (seconds_of c)))
 unfolding first_front
-first_fields line label c fits e =
-    let rest : List ℕ = codes "     GPS" ++ line_rest (first_text c) label in
-    let split : line ≡ first_front c ++ rest = e ∙ line_is (first_text c) label ∙ append_assoc (first_front c) (codes "     GPS") (line_rest (first_text c) label) in
+first_fields text more c fits e =
+    let after : List ℕ = line_rest (first_text c) (codes "TIME OF FIRST OBS") more in
+    let rest : List ℕ = codes "     GPS" ++ after in
+    let split : text ≡ first_front c ++ rest = e ∙ line_is (first_text c) (codes "TIME OF FIRST OBS") more ∙ append_assoc (first_front c) (codes "     GPS") after in
     rw split (fields_of c rest fits)
 
-pub record ShowsFirst (line : List ℕ) (t : ℕ) : Type 0 where
-  pub seconds : number_at 30 13 line < 600_000_000
-  pub reading : first_civil line ≡ reading_of t
+pub record ShowsFirst (text : List ℕ) (t : ℕ) : Type 0 where
+  pub seconds : number_at 30 13 text < 600_000_000
+  pub reading : first_civil text ≡ reading_of t
 
-pub first_is : (line label : List ℕ) (t : ℕ) → IsMoment t → line ≡ header_line (first_text (reading_of t)) label → ShowsFirst line t
-first_is line label t h e =
+pub first_is : (text more : List ℕ) (t : ℕ) → IsMoment t → text ≡ first_line (reading_of t) ++ more → ShowsFirst text t
+first_is text more t h e =
     let c = reading_of t in
     let fits = FitsColumns-reading_of t h in
-    let f = first_fields line label c fits e in
+    let f = first_fields text more c fits e in
     let small : seconds_of c < 10 ^ 10 = omega (arith, fits.second, fits.millisecond) in
-    let seconds : number_at 30 13 line ≡ seconds_of c = rw f.last (digits_from-seconds 13 (seconds_of c) small) in
+    let seconds : number_at 30 13 text ≡ seconds_of c = rw f.last (digits_from-seconds 13 (seconds_of c) small) in
     record {
       seconds = omega (arith, seconds, fits.second, fits.millisecond);
-      reading = same_civil (first_civil line) c
+      reading = same_civil (first_civil text) c
           (rw f.first (digits_from-right 4 c.year (omega (arith, fits.year)))) (rw f.second (digits_from-right 2 c.month (omega (arith, fits.month))))
           (rw f.third (digits_from-right 2 c.day (omega (arith, fits.day)))) (rw f.fourth (digits_from-right 2 c.hour (omega (arith, fits.hour))))
           (rw f.fifth (digits_from-right 2 c.minute (omega (arith, fits.minute)))) (omega (arith, seconds, fits.second, fits.millisecond)) (omega (arith, seconds, fits.second, fits.millisecond));
@@ -186,29 +186,28 @@ length-fixed (negsuc n) h =
     let digits = length-decimal-le 8 (suc n / 10_000) (omega arith) (omega arith) (omega arith) in
     length-right 14 (decimals 4 true (suc n)) (simp length-append (omega arith))
 
-pub record ShowsPlace (line : List ℕ) (x y z : ℤ) : Type 0 where
-  pub first : number_in (take 14 (drop 0 line)) ≡ x
-  pub second : number_in (take 14 (drop 14 line)) ≡ y
-  pub third : number_in (take 14 (drop 28 line)) ≡ z
+pub record ShowsPlace (text : List ℕ) (s : PositionView) : Type 0 where
+  pub first : number_in (take 14 (drop 0 text)) ≡ s.x
+  pub second : number_in (take 14 (drop 14 text)) ≡ s.y
+  pub third : number_in (take 14 (drop 28 text)) ≡ s.z
 
-pub place_is : (line label : List ℕ) (x y z : ℤ) → IsCoordinate x → IsCoordinate y → IsCoordinate z
-    → line ≡ header_line (fixed 4 14 x ++ fixed 4 14 y ++ fixed 4 14 z) label → ShowsPlace line x y z
-place_is line label x y z hx hy hz e =
-    let a : List ℕ = fixed 4 14 x in
-    let b : List ℕ = fixed 4 14 y in
-    let c : List ℕ = fixed 4 14 z in
-    let rest : List ℕ = line_rest (a ++ b ++ c) label in
-    let la : length a ≡ 14 = length-fixed x hx in
-    let lb : length b ≡ 14 = length-fixed y hy in
-    let lc : length c ≡ 14 = length-fixed z hz in
+pub place_is : (text more : List ℕ) (s : PositionView) → IsPositionView s → text ≡ place_line s ++ more → ShowsPlace text s
+place_is text more s h e =
+    let a : List ℕ = fixed 4 14 s.x in
+    let b : List ℕ = fixed 4 14 s.y in
+    let c : List ℕ = fixed 4 14 s.z in
+    let rest : List ℕ = line_rest (a ++ b ++ c) (codes "APPROX POSITION XYZ") more in
+    let la : length a ≡ 14 = length-fixed s.x h.0 in
+    let lb : length b ≡ 14 = length-fixed s.y h.1 in
+    let lc : length c ≡ 14 = length-fixed s.z h.2 in
     let two : length (a ++ b) ≡ 28 = length-append a b ∙ omega arith in
-    let whole : line ≡ ((a ++ b) ++ c) ++ rest = e ∙ line_is ((a ++ b) ++ c) label in
-    let r₀ : line ≡ [] ++ (a ++ (b ++ (c ++ rest))) = whole ∙ simp append_assoc in
-    let r₁ : line ≡ a ++ (b ++ (c ++ rest)) = whole ∙ simp append_assoc in
-    let r₂ : line ≡ (a ++ b) ++ (c ++ rest) = whole ∙ simp append_assoc in record {
-      first = ap number_in (rw r₀ (piece 0 14 [] a (b ++ (c ++ rest)) refl la)) ∙ number_of-fixed_4 x (magnitude x hx);
-      second = ap number_in (rw r₁ (piece 14 14 a b (c ++ rest) la lb)) ∙ number_of-fixed_4 y (magnitude y hy);
-      third = ap number_in (rw r₂ (piece 28 14 (a ++ b) c rest two lc)) ∙ number_of-fixed_4 z (magnitude z hz);
+    let whole : text ≡ ((a ++ b) ++ c) ++ rest = e ∙ line_is ((a ++ b) ++ c) (codes "APPROX POSITION XYZ") more in
+    let r₀ : text ≡ [] ++ (a ++ (b ++ (c ++ rest))) = whole ∙ simp append_assoc in
+    let r₁ : text ≡ a ++ (b ++ (c ++ rest)) = whole ∙ simp append_assoc in
+    let r₂ : text ≡ (a ++ b) ++ (c ++ rest) = whole ∙ simp append_assoc in record {
+      first = ap number_in (rw r₀ (piece 0 14 [] a (b ++ (c ++ rest)) refl la)) ∙ number_of-fixed_4 s.x (magnitude s.x h.0);
+      second = ap number_in (rw r₁ (piece 14 14 a b (c ++ rest) la lb)) ∙ number_of-fixed_4 s.y (magnitude s.y h.1);
+      third = ap number_in (rw r₂ (piece 28 14 (a ++ b) c rest two lc)) ∙ number_of-fixed_4 s.z (magnitude s.z h.2);
     }
 
 -- the position of the coordinates of another
@@ -223,22 +222,24 @@ IsCoordinate-height h small = record { least = omega (arith, ints); greatest = o
 digits_from-height : (h : ℕ) → h < 65_536 → digits_from 0 (fixed 4 14 (pos h)) ≡ h
 digits_from-height h small = digits_from-tenthousandths false h (omega arith)
 
-pub height_is : (line label more : List ℕ) (h : ℕ) → h < 65_536 → line ≡ header_line (fixed 4 14 (pos h) ++ more) label → number_at 0 14 line ≡ h
-height_is line label more h small e =
+pub height_is : (text more : List ℕ) (h : ℕ) → h < 65_536 → text ≡ height_line h ++ more → number_at 0 14 text ≡ h
+height_is text more h small e =
     let a : List ℕ = fixed 4 14 (pos h) in
-    let r : line ≡ a ++ (more ++ line_rest (a ++ more) label) = e ∙ line_is (a ++ more) label ∙ append_assoc a more (line_rest (a ++ more) label) in
-    rw (r, take-exact 14 a (more ++ line_rest (a ++ more) label) (length-fixed (pos h) (IsCoordinate-height h small))) (digits_from-height h small)
+    let zeros : List ℕ = codes "        0.0000        0.0000" in
+    let rest : List ℕ = line_rest (a ++ zeros) (codes "ANTENNA: DELTA H/E/N") more in
+    let r : text ≡ a ++ (zeros ++ rest) = e ∙ line_is (a ++ zeros) (codes "ANTENNA: DELTA H/E/N") more ∙ append_assoc a zeros rest in
+    rw (r, take-exact 14 a (zeros ++ rest) (length-fixed (pos h) (IsCoordinate-height h small))) (digits_from-height h small)
 
 -- ---- the number of observation types
 
-pub count_is : (line label rest : List ℕ) (n : ℕ) → IsInRange 1 16 n → line ≡ header_line (codes "G  " ++ right 3 (decimal (3 * n)) ++ rest) label
-    → number_at 3 3 line ≡ 3 * n
-count_is line label rest n h e =
+pub count_is : (text shown more : List ℕ) (n : ℕ) → IsInRange 1 16 n → text ≡ first_types_line n shown ++ more → number_at 3 3 text ≡ 3 * n
+count_is text shown more n h e =
     let a : List ℕ = right 3 (decimal (3 * n)) in
-    let content : List ℕ = (codes "G  " ++ a) ++ rest in
-    let r : line ≡ codes "G  " ++ (a ++ (rest ++ line_rest content label)) = e ∙ line_is content label ∙ simp append_assoc in
+    let content : List ℕ = (codes "G  " ++ a) ++ take 52 shown in
+    let rest : List ℕ = line_rest content types_label more in
+    let r : text ≡ codes "G  " ++ (a ++ (take 52 shown ++ rest)) = e ∙ line_is content types_label more ∙ simp append_assoc in
     let digits = length-decimal-le 3 (3 * n) (omega arith) (omega arith) (omega arith) in
-    rw (r, piece 3 3 (codes "G  ") a (rest ++ line_rest content label) refl (length-right 3 (decimal (3 * n)) digits)) (digits_from-right 3 (3 * n) (omega arith))
+    rw (r, piece 3 3 (codes "G  ") a (take 52 shown ++ rest) refl (length-right 3 (decimal (3 * n)) digits)) (digits_from-right 3 (3 * n) (omega arith))
 
 -- ---- the marker's name
 
@@ -259,9 +260,10 @@ trimmed-marker m h =
     let all : take (length m) m ≡ m = take_all (length m) m (omega arith) in
     trim_end-blanks m (60 - length m) ∙ rw all at (trim_end-done m (length m) some (omega arith) (last_solid m some h.3))
 
-pub marker_is : (line label m : List ℕ) → IsMarker m → line ≡ header_line m label → trim_end (take 60 (drop 0 line)) ≡ m
+pub marker_is : (text more m : List ℕ) → IsMarker m → text ≡ marker_line m ++ more → trim_end (take 60 (drop 0 text)) ≡ m
 unfolding header_line
-marker_is line label m h e =
-    let r : line ≡ left 60 m ++ (left 20 label ++ 10 ∷ []) = e ∙ append_assoc (left 60 m) (left 20 label) (10 ∷ []) in
+marker_is text more m h e =
+    let label : List ℕ = left 20 (codes "MARKER NAME") in
+    let r : text ≡ left 60 m ++ (label ++ 10 ∷ more) = e ∙ simp append_assoc in
     let long : length (left 60 m) ≡ 60 = length-left 60 m (omega (arith, h.0)) in
-    rw (r, take-exact 60 (left 60 m) (left 20 label ++ 10 ∷ []) long) (trimmed-marker m h)
+    rw (r, take-exact 60 (left 60 m) (label ++ 10 ∷ more) long) (trimmed-marker m h)

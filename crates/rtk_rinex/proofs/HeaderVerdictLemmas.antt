@@ -1,213 +1,167 @@
 -- With the first line in which a text differs from the header that it shows, no header begins; so
 -- the text begins with no header.
-use Rattle.std.proofs.Common.{◌≡◌, ◌≢◌, ℕ, zero, suc, ◌+◌, ◌*◌, ◌<◌, ◌≤◌, List, [], ◌∷◌, ◌++◌, length, take, drop, get_or, codes, All, arith, refl, sym, ◌∙◌, ap, append_assoc, length-append, inl, inr}
-use Rattle.std.specs.List.{flat_map}
+use Rattle.std.proofs.Common.{◌≡◌, ◌≢◌, ℕ, ◌+◌, ◌≤◌, List, [], ◌∷◌, ◌++◌, length, take, drop, refl, sym, ◌∙◌, ap, arith, append_assoc, length-append, flat_map, inl, inr}
+use Rattle.std.specs.Prelude.{All}
 use Rattle.std.proofs.lemmas.Bool.Decides.{leb_tells}
-use Rattle.std.proofs.lemmas.List.{length-take, take-append-le, take-append-drop, drop-append-le, length-drop, get_or-take}
-use Rattle.std.proofs.lemmas.List.Elements.{All-head, All-tail}
-use Rattle.std.proofs.Math.Seq.{take-append-add}
-use Rattle.rtk_rinex.specs.Reading.{IsMoment}
-use Rattle.rtk_rinex.specs.Header.{HeadView, PositionView, IsHeadView, IsPositionView, types, header_text}
+use Rattle.std.proofs.lemmas.Grind.{flat_map-append}
+use Rattle.std.proofs.Math.Seq.{drop-append_seam, take-append_seam}
+use Rattle.std.proofs.lemmas.List.{append-nil, append_cancel_left, take-append-drop}
+use Rattle.std.proofs.lemmas.List.Elements.{All-nil, All-cons, All-head, All-tail, All-append}
+use Rattle.rtk_rinex.specs.HeaderFault.{AreLines, BeginsTable, IsLineFault, IsFaultOfHeader}
+use Rattle.rtk_rinex.specs.Lines.{HasNoEnd, IsLine, text_of}
 use Rattle.rtk_rinex.specs.Record.{record_text}
-use Rattle.rtk_rinex.specs.Lines.{HasNoEnd}
-use Rattle.rtk_rinex.specs.HeaderFault.{AreLines, IsHeader, BeginsHeader, BeginsTable}
-use Rattle.rtk_rinex.specs.Steps.HeaderRead.{HasHeader}
-use Rattle.rtk_rinex.specs.Steps.HeaderShown.{line_at, number_at}
-use Rattle.rtk_rinex.proofs.DigitsLemmas.{take-exact, drop-exact}
-use Rattle.rtk_rinex.proofs.HeaderShownLemmas.{count_is}
-use Rattle.rtk_rinex.proofs.HeaderRowsLemmas.{row_ended, ended, text_of, types_head, types_line, row_count, rows, rows_text}
-use Rattle.rtk_rinex.proofs.HeaderGoodLemmas.{IsHeaderRow, rows_good}
-use Rattle.rtk_rinex.proofs.HeaderSameLemmas.{IsGoodHeader, Agrees, lines_of, length-rows, length-header, line_within, in_types}
+use Rattle.rtk_rinex.specs.Steps.HeaderRead.{IsOnlyHeader, ShowsHeader, BeginAlike, IsLineCause, IsUnlike}
+use Rattle.rtk_rinex.specs.declared.check_fault.Cause.{Cause}
+use Rattle.rtk_rinex.specs.declared.check_fault.Cause.TheVariants.{HeaderLine, Columns, Value, Order, Truncated, OutOfMemory}
+use Rattle.rtk_rinex.specs.declared.check_fault.CheckFault.{CheckFault}
+use Rattle.rtk_rinex.proofs.HeaderRowsLemmas.{ended, Values, IsGood, text_with, all_parts, all_text}
+use Rattle.rtk_rinex.proofs.HeaderGoodLemmas.{all_lines}
+use Rattle.rtk_rinex.proofs.HeaderTypesLemmas.{HaveOneName}
+use Rattle.rtk_rinex.proofs.HeaderPartsLemmas.{lines-front, same_lines, one_header}
+use Rattle.rtk_rinex.proofs.LineLemmas.{no_front, same_front}
 
--- ---- lines of texts
+-- ---- lines that two texts have alike
 
-pub line_front : (a b : List ℕ) (j : ℕ) → 81 * j + 81 ≤ length a → line_at j (a ++ b) ≡ line_at j a
-line_front a b j h =
-    let dropped : drop (81 * j) (a ++ b) ≡ drop (81 * j) a ++ b = drop-append-le (81 * j) a b (omega arith) in
-    let n = length-drop (81 * j) a in
-    rw dropped (take-append-le 81 (drop (81 * j) a) b (omega (arith, n, h)))
+pub none_alike : (text other : List ℕ) → BeginAlike 0 text other text other
+none_alike text other = record { lines = []; are_lines = All-nil HasNoEnd; size = refl; begins = refl; other_begins = refl }
 
--- texts with the same n bytes have the same lines in them
-line_common : (xs ys : List ℕ) (n j : ℕ) → take n xs ≡ take n ys → n ≤ length xs → n ≤ length ys → 81 * j + 81 ≤ n → line_at j xs ≡ line_at j ys
-line_common xs ys n j e hx hy h =
-    let a = length-take n xs in
-    let b = length-take n ys in
-    ap (line_at j) (sym (take-append-drop n xs)) ∙ line_front (take n xs) (drop n xs) j (omega (arith, a, h, hx)) ∙ ap (line_at j) e
-    ∙ sym (line_front (take n ys) (drop n ys) j (omega (arith, b, h, hy))) ∙ ap (line_at j) (take-append-drop n ys)
+more_text : (lines : List (List ℕ)) (line rest : List ℕ) → text_of lines ++ (line ++ 10 ∷ rest) ≡ text_of (lines ++ line ∷ []) ++ rest
+more_text lines line rest =
+    sym (ap (λ (t : List ℕ). t ++ rest) (flat_map-append (λ (l : List ℕ). l ++ 10 ∷ []) lines (line ∷ [])) ∙ simp append_assoc)
 
-head_same : (x y : ℕ) (xs ys : List ℕ) → x ∷ xs ≡ y ∷ ys → (x ≡ y) × (xs ≡ ys)
-head_same x y xs ys e = (ap (λ (l : List ℕ). get_or l 0 0) e, ap (λ (l : List ℕ). drop 1 l) e)
+-- one more line that both have
+pub alike_on : (n : ℕ) (text written rest wanted line more : List ℕ) → BeginAlike n text written rest wanted → IsLine line → wanted ≡ line ++ more → take (length line) rest ≡ line
+    → BeginAlike (n + 1) text written (drop (length line) rest) more
+alike_on n text written rest wanted line more a is e same =
+    let split : rest ≡ line ++ drop (length line) rest = sym (take-append-drop (length line) rest) ∙ ap (λ (l : List ℕ). l ++ drop (length line) rest) same in
+    let on : (x y : List ℕ) → x ≡ line ++ y → x ≡ is.0 ++ 10 ∷ y = λ x y f. f ∙ ap (λ (l : List ℕ). l ++ y) is.2 ∙ append_assoc is.0 (10 ∷ []) y in
+    record {
+      lines = a.lines ++ is.0 ∷ [];
+      are_lines = All-append HasNoEnd a.lines (is.0 ∷ []) a.are_lines (All-cons HasNoEnd is.0 [] is.1 (All-nil HasNoEnd));
+      size = length-append a.lines (is.0 ∷ []) ∙ omega (arith, a.size);
+      begins = a.begins ∙ ap (λ (x : List ℕ). text_of a.lines ++ x) (on rest (drop (length line) rest) split) ∙ more_text a.lines is.0 (drop (length line) rest);
+      other_begins = a.other_begins ∙ ap (λ (x : List ℕ). text_of a.lines ++ x) (on wanted more e) ∙ more_text a.lines is.0 more;
+    }
 
--- a text has one first line
-one_line : (xs ys us vs : List ℕ) → HasNoEnd xs → HasNoEnd ys → xs ++ 10 ∷ us ≡ ys ++ 10 ∷ vs → xs ≡ ys
-one_line [] [] us vs h g e = refl
-one_line [] (y ∷ ys) us vs h g e = absurd (All-head (λ (x : ℕ). x ≢ 10) y ys g (sym (head_same 10 y us (ys ++ 10 ∷ vs) e).0))
-one_line (x ∷ xs) [] us vs h g e = absurd (All-head (λ (x : ℕ). x ≢ 10) x xs h (head_same x 10 (xs ++ 10 ∷ us) vs e).0)
-one_line (x ∷ xs) (y ∷ ys) us vs h g e =
-    let parts = head_same x y (xs ++ 10 ∷ us) (ys ++ 10 ∷ vs) e in
-    let rest : xs ≡ ys = one_line xs ys us vs (All-tail (λ (x : ℕ). x ≢ 10) x xs h) (All-tail (λ (x : ℕ). x ≢ 10) y ys g) parts.1 in
-    rw (parts.0, rest) refl
+-- a line that the text does not have
+pub unlike_at : (n : ℕ) (text written rest wanted line more : List ℕ) (f : CheckFault) → BeginAlike n text written rest wanted → IsLine line → wanted ≡ line ++ more
+    → take (length line) rest ≢ line → f.line ≡ n + 1 → IsLineCause rest f.cause → IsUnlike text written f
+unlike_at n text written rest wanted line more f a is e other number cause =
+    let front : (y : List ℕ) → line ++ y ≡ is.0 ++ 10 ∷ y = λ y. ap (λ (l : List ℕ). l ++ y) is.2 ∙ append_assoc is.0 (10 ∷ []) y in
+    record {
+      before = n;
+      rest = rest;
+      line = is.0;
+      more = more;
+      number = number;
+      alike = rw (e ∙ front more) at a;
+      is_line = is.1;
+      unlike = λ after same. other (ap (take (length line)) (same ∙ sym (front after)) ∙ take-append_seam line after);
+      cause = cause;
+    }
 
-front_rows : (rs : List (List ℕ)) (k : ℕ) → All IsHeaderRow rs → k ≤ length rs → take (81 * k) (text_of rs) ≡ text_of (take k rs)
-front_rows rs zero h le = refl
-front_rows [] (suc k) h le = absurd (omega arith)
-front_rows (r ∷ rs) (suc k) h le =
-    let first = All-head IsHeaderRow r rs h in
-    let long : length (ended r) ≡ 81 = length-append r (10 ∷ []) ∙ omega (arith, first.length) in
-    let places : 81 * suc k ≡ length (ended r) + 81 * k = omega arith in
-    rw (places, take-append-add (ended r) (text_of rs) (81 * k), front_rows rs k (All-tail IsHeaderRow r rs h) (omega arith)) refl
+-- ---- a text that has all lines of a header
 
-line_rows : (rs : List (List ℕ)) (k : ℕ) → All IsHeaderRow rs → All HasNoEnd (take k rs)
-line_rows rs k h i d lt =
-    let n = length-take k rs in
-    rw (get_or-take k rs i d (omega (arith, n, lt))) ((h i d (omega (arith, n, lt))).plain)
+-- no part of a line is left of a text of lines
+none_left : (ls ms : List (List ℕ)) (end : List ℕ) → All HasNoEnd ls → All HasNoEnd ms → HasNoEnd end → text_of ms ≡ text_of ls ++ end → end ≡ []
+none_left [] [] end h g none e = sym e
+none_left [] (m ∷ ms) end h g none e =
+    let whole : end ≡ m ++ 10 ∷ text_of ms = sym e ∙ append_assoc m (10 ∷ []) (text_of ms) in
+    absurd (no_front m (text_of ms) (rw whole at none))
+none_left (l ∷ ls) [] end h g none e =
+    absurd (let size = ap length e in omega (arith, size, length-append (text_of (l ∷ ls)) end, length-append (ended l) (text_of ls), length-append l (10 ∷ [])))
+none_left (l ∷ ls) (m ∷ ms) end h g none e =
+    let one = same_front m l (text_of ms) (text_of ls ++ end) (All-head HasNoEnd m ms g) (All-head HasNoEnd l ls h)
+    (sym (append_assoc m (10 ∷ []) (text_of ms)) ∙ e ∙ lines-front l ls end) in
+    none_left ls ms end (All-tail HasNoEnd l ls h) (All-tail HasNoEnd m ms g) none one.1
 
-pub are_lines : (c : HeadView) (d : PositionView) (u : ℕ) → IsGoodHeader c d u → AreLines (13 + lines_of c) (header_text c d u)
-are_lines c d u g =
-    (rows c d u, (λ i e lt. (rows_good c d u g.heading g.site g.first i e lt).plain), length-rows c d u, sym (rows_text c d u g.heading.1.0))
+-- a text has all lines of the header that is written
+pub record HasAll (n : ℕ) (text written : List ℕ) : Type 0 where
+  pub begins : text ≡ written ++ drop (length written) text
+  pub lines : AreLines n written
 
--- ---- one number of lines
+pub has_all : (n : ℕ) (text written rest end : List ℕ) (v : Values) → IsGood v → written ≡ text_with v → HasNoEnd end → BeginAlike n text written rest end → HasAll n text written
+has_all n text written rest end v f is none a =
+    let nothing : end ≡ [] = none_left a.lines (all_parts v) end a.are_lines (all_lines v f) none (all_text v f.heading.1.0 ∙ sym is ∙ a.other_begins) in
+    let all : written ≡ text_of a.lines = a.other_begins ∙ ap (λ (x : List ℕ). text_of a.lines ++ x) nothing ∙ append-nil (text_of a.lines) in
+    let split : text ≡ written ++ rest = a.begins ∙ ap (λ (x : List ℕ). x ++ rest) (sym all) in
+    let left : drop (length written) text ≡ rest = ap (λ (x : List ℕ). drop (length written) x) split ∙ drop-append_seam written rest in
+    record { begins = split ∙ ap (λ (x : List ℕ). written ++ x) (sym left); lines = (a.lines, a.are_lines, a.size, all) }
 
-pub count_shown : (line : List ℕ) (h : HeadView) (s : PositionView) (t : ℕ) → IsGoodHeader h s t → line ≡ line_at 9 (header_text h s t) → number_at 3 3 line ≡ 3 * length h.listed
-unfolding types_line
-count_shown line h s t g e =
-    let some : 0 < lines_of h = omega (arith, g.heading.1.0) in
-    let first : line ≡ ended (types_line 0 h.listed) = e ∙ line_within h s t 9 g (omega arith) ∙ ap (λ (r : List ℕ). ended r) (in_types h s t 0 some) in
-    count_is line (codes "SYS / # / OBS TYPES") (take 52 (types h.listed)) (length h.listed) g.heading.1.0
-    (first ∙ sym (row_ended (types_head 0 (length h.listed) ++ take 52 (types h.listed)) (codes "SYS / # / OBS TYPES")))
+pub only_header : (bytes rest : List ℕ) (v : Values) → HaveOneName → IsGood v → bytes ≡ text_with v ++ rest → IsOnlyHeader bytes v.head v.site v.first
+only_header bytes rest v names f e h s t more heading site first other =
+    let u : Values = record { head = h; site = s; first = t } in
+    let g : IsGood u = record { heading = heading; site = site; first = first } in
+    let one = one_header u v more rest g f (sym other ∙ e) in
+    (one.head names, one.alike.site, one.alike.first)
 
-one_count : (h c : HeadView) (s d : PositionView) (t u : ℕ) → IsGoodHeader h s t → IsGoodHeader c d u → line_at 9 (header_text h s t) ≡ line_at 9 (header_text c d u) → lines_of h ≡ lines_of c
-one_count h c s d t u g f e =
-    let a = count_shown (line_at 9 (header_text h s t)) h s t g refl in
-    let b = count_shown (line_at 9 (header_text h s t)) c d u f e in
-    let n : length h.listed ≡ length c.listed = omega (arith, a, b) in
-    ap (λ (m : ℕ). row_count m) n
+-- ---- a text that has a line unlike the header's
 
--- ---- a text and the header that it shows, which differ after k lines
+-- nothing follows a header in a header
+none_after : (u v : Values) (written x : List ℕ) → IsGood u → IsGood v → written ≡ text_with v → written ≡ text_with u ++ x → x ≡ []
+none_after u v written x g f is e = (one_header u v x [] g f (sym e ∙ is ∙ sym (append-nil (text_with v)))).rest
 
--- each header that a text agrees with is the one that it shows
-abbrev pub ReadsBack : List ℕ → HeadView → PositionView → ℕ → Type 0
-ReadsBack text c d u =
-    (h : HeadView) (s : PositionView) (t k : ℕ) → IsHeadView h → IsPositionView s → IsMoment t → Agrees text h s t k
-    → line_at k (header_text c d u) ≡ line_at k text
+some_left : (x line more : List ℕ) → x ++ (line ++ 10 ∷ more) ≡ [] → ⊥
+some_left x line more e = let size = ap length e in omega (arith, size, length-append x (line ++ 10 ∷ more), length-append line (10 ∷ more))
 
-pub record PartsAt (text : List ℕ) (c : HeadView) (d : PositionView) (u k : ℕ) : Type 0 where
-  pub good : IsGoodHeader c d u
-  pub back : ReadsBack text c d u
-  pub below : 81 * k < length (header_text c d u)
-  pub front : take (81 * k) (header_text c d u) ≡ take (81 * k) text
-  pub unlike : line_at k (header_text c d u) ≢ line_at k text
+-- no table begins with the lines before and with another line than the one that is written
+no_table : (text written : List ℕ) (v : Values) (f : CheckFault) (line more : List ℕ) → IsGood v → written ≡ text_with v → ShowsHeader text written
+    → (w : IsUnlike text written f) → HasNoEnd line → w.rest ≡ line ++ 10 ∷ more → ¬ (BeginsTable (text_of w.alike.lines ++ line ++ 10 ∷ []))
+no_table text written v f line more h is shows w plain e x =
+    let a = w.alike in
+    let t = x.0 in
+    let good = x.2 in
+    let u : Values = record { head = t.head; site = t.site; first = t.first } in
+    let g : IsGood u = record { heading = good.head; site = good.site; first = good.first } in
+    let records : List ℕ = flat_map record_text t.epochs in
+    let lines : List (List ℕ) = a.lines ++ line ∷ [] in
+    let are : All HasNoEnd lines = All-append HasNoEnd a.lines (line ∷ []) a.are_lines (All-cons HasNoEnd line [] plain (All-nil HasNoEnd)) in
+    let file : text_of (all_parts u) ++ records ≡ (text_of a.lines ++ line ++ 10 ∷ []) ++ x.1 = ap (λ (y : List ℕ). y ++ records) (all_text u g.heading.1.0) ∙ x.3 in
+    let longer : text_of a.lines ++ (line ++ 10 ∷ x.1) ≡ (text_of a.lines ++ line ++ 10 ∷ []) ++ x.1 = simp append_assoc in
+    elim (leb_tells (length lines) (length (all_parts u))) [
+      | inl le ↦
+          let goes = same_lines lines (all_parts u) x.1 records are (all_lines u g) le.1 (sym (more_text a.lines line x.1) ∙ longer ∙ sym file) in
+          let begins : text_of lines ++ text_of goes.more ≡ text_with u =
+          sym (flat_map-append (λ (l : List ℕ). l ++ 10 ∷ []) lines goes.more) ∙ ap text_of (sym goes.list) ∙ all_text u g.heading.1.0 in
+          let r = shows lines more are (text_of goes.more, (u.head, u.site, u.first, g.heading, g.site, g.first, begins))
+          (a.begins ∙ ap (λ (y : List ℕ). text_of a.lines ++ y) e ∙ more_text a.lines line more) in
+          let two : text_of a.lines ++ (w.line ++ 10 ∷ w.more) ≡ text_of a.lines ++ (line ++ 10 ∷ r.0) = sym a.other_begins ∙ r.1 ∙ sym (more_text a.lines line r.0) in
+          let same = same_front w.line line w.more r.0 w.is_line plain (append_cancel_left (text_of a.lines) (w.line ++ 10 ∷ w.more) (line ++ 10 ∷ r.0) two) in
+          w.unlike more (e ∙ ap (λ (y : List ℕ). y ++ 10 ∷ more) (sym same.0))
+      | inr lt ↦
+          let few : length (all_parts u) ≤ length a.lines = omega (arith, lt.1, length-append {A = List ℕ} a.lines (line ∷ [])) in
+          let goes = same_lines (all_parts u) a.lines records (line ++ 10 ∷ x.1) (all_lines u g) a.are_lines few (file ∙ sym longer) in
+          let next : List ℕ = w.line ++ 10 ∷ w.more in
+          let front : written ≡ text_with u ++ (text_of goes.more ++ next) =
+          a.other_begins ∙ ap (λ (y : List (List ℕ)). text_of y ++ next) goes.list ∙ ap (λ (y : List ℕ). y ++ next) (flat_map-append (λ (l : List ℕ). l ++ 10 ∷ []) (all_parts u) goes.more)
+          ∙ append_assoc (text_of (all_parts u)) (text_of goes.more) next ∙ ap (λ (y : List ℕ). y ++ (text_of goes.more ++ next)) (all_text u g.heading.1.0) in
+          some_left (text_of goes.more) w.line w.more (none_after u v written (text_of goes.more ++ next) g h is front)
+    ]
 
-length-front : (text : List ℕ) (c : HeadView) (d : PositionView) (u k : ℕ) → PartsAt text c d u k → (length (take (81 * k) text) ≡ 81 * k) × (81 * k ≤ length text)
-length-front text c d u k p =
-    let a = length-take (81 * k) (header_text c d u) in
-    let b = length-take (81 * k) text in
-    let e = ap length p.front in
-    (omega (arith, a, b, e, p.below), omega (arith, a, b, e, p.below))
+line_fault : (text written : List ℕ) (v : Values) (f : CheckFault) (cause : Cause) → IsGood v → written ≡ text_with v → ShowsHeader text written → (w : IsUnlike text written f)
+    → IsLineCause w.rest cause → IsLineFault (text_of w.alike.lines) w.rest cause
+line_fault text written v f Truncated g is shows w c = c
+line_fault text written v f HeaderLine g is shows w c = (c.0, c.1, c.2, c.3, no_table text written v f c.0 c.1 g is shows w c.2 c.3)
+line_fault text written v f Columns g is shows w c = c
+line_fault text written v f Value g is shows w c = c
+line_fault text written v f Order g is shows w c = c
+line_fault text written v f OutOfMemory g is shows w c = c
 
-pub parts_lines : (text : List ℕ) (c : HeadView) (d : PositionView) (u k : ℕ) → PartsAt text c d u k → AreLines k (take (81 * k) text)
-parts_lines text c d u k p =
-    let g = p.good in
-    let all = rows_good c d u g.heading g.site g.first in
-    let n = length-rows c d u in
-    let whole = length-header c d u g in
-    let few : k ≤ length (rows c d u) = omega (arith, n, whole, p.below) in
-    let m = length-take k (rows c d u) in (
-      take k (rows c d u),
-      line_rows (rows c d u) k all,
-      omega (arith, m, few),
-      sym p.front ∙ ap (λ (xs : List ℕ). take (81 * k) xs) (sym (rows_text c d u g.heading.1.0)) ∙ front_rows (rows c d u) k all few,
+pub fault_is : (text written : List ℕ) (v : Values) (f : CheckFault) → IsGood v → written ≡ text_with v → ShowsHeader text written → IsUnlike text written f → IsFaultOfHeader text f
+fault_is text written v f g is shows w =
+    let a = w.alike in (
+      w.before,
+      w.number,
+      (
+        text_of a.lines,
+        w.rest,
+        (a.lines, a.are_lines, a.size, refl),
+        a.begins,
+        (w.line ++ 10 ∷ w.more, (v.head, v.site, v.first, g.heading, g.site, g.first, sym a.other_begins ∙ is)),
+        λ x.
+            let u : Values = record { head = x.0; site = x.1; first = x.2 } in
+            let h : IsGood u = record { heading = x.3; site = x.4; first = x.5 } in
+            some_left [] w.line w.more (none_after u v written (w.line ++ 10 ∷ w.more) h g is (a.other_begins ∙ ap (λ (t : List ℕ). t ++ (w.line ++ 10 ∷ w.more)) x.6)),
+        line_fault text written v f f.cause g is shows w w.cause,
+      ),
     )
-
-pub parts_begin : (text : List ℕ) (c : HeadView) (d : PositionView) (u k : ℕ) → PartsAt text c d u k → BeginsHeader (take (81 * k) text)
-parts_begin text c d u k p =
-    let g = p.good in
-    (drop (81 * k) (header_text c d u), (c, d, u, g.heading, g.site, g.first, (rw (← p.front) (take-append-drop (81 * k) (header_text c d u)))))
-
--- a header that the text has a part of has more lines than these
-not_past : (text : List ℕ) (h c : HeadView) (s d : PositionView) (t u k : ℕ) → IsGoodHeader h s t → PartsAt text c d u k
-    → line_at 9 (header_text h s t) ≡ line_at 9 text → k < 13 + lines_of h
-not_past text h c s d t u k g p e =
-    elim (leb_tells (13 + lines_of h) k) [
-      | inr within ↦ within.1
-      | inl past ↦ absurd (
-          let f = length-front text c d u k p in
-          let same : line_at 9 (header_text h s t) ≡ line_at 9 (header_text c d u) =
-          e ∙ sym (line_common (header_text c d u) text (81 * k) 9 p.front (omega (arith, p.below)) f.1 (omega (arith, past.1))) in
-          let lines = one_count h c s d t u g p.good same in
-          let whole = length-header c d u p.good in
-          omega (arith, p.below, whole, lines, past.1))
-    ]
-
-pub parts_whole : (text : List ℕ) (c : HeadView) (d : PositionView) (u k : ℕ) → PartsAt text c d u k → ¬ (IsHeader (take (81 * k) text))
-parts_whole text c d u k p x =
-    let h = x.0 in
-    let s = x.1 in
-    let t = x.2 in
-    let g : IsGoodHeader h s t = record { heading = x.3; site = x.4; first = x.5 } in
-    let e : take (81 * k) text ≡ header_text h s t = x.6 in
-    let f = length-front text c d u k p in
-    let whole = length-header h s t g in
-    let n = ap length e in
-    let line : line_at 9 (header_text h s t) ≡ line_at 9 text =
-    ap (line_at 9) (sym e) ∙ sym (line_front (take (81 * k) text) (drop (81 * k) text) 9 (omega (arith, f.0, whole, n))) ∙ ap (line_at 9) (take-append-drop (81 * k) text) in
-    let within = not_past text h c s d t u k g p line in
-    omega (arith, within, whole, n, f.0)
-
--- no header stands at its front
-pub parts_none : (text : List ℕ) (c : HeadView) (d : PositionView) (u k : ℕ) → PartsAt text c d u k → ¬ (HasHeader text)
-parts_none text c d u k p x =
-    let rest = x.1 in
-    let h = x.2.0 in
-    let s = x.2.1 in
-    let t = x.2.2 in
-    let g : IsGoodHeader h s t = record { heading = x.2.3; site = x.2.4; first = x.2.5 } in
-    let e : text ≡ header_text h s t ++ rest = x.3 ∙ ap (λ (xs : List ℕ). xs ++ rest) x.2.6 in
-    let whole = length-header h s t g in
-    let line : (j : ℕ) → j < 13 + lines_of h → line_at j (header_text h s t) ≡ line_at j text = λ j lt.
-    sym (ap (line_at j) e ∙ line_front (header_text h s t) rest j (omega (arith, lt, whole))) in
-    let within = not_past text h c s d t u k g p (line 9 (omega arith)) in
-    p.unlike (p.back h s t k g.heading g.site g.first (λ j le. line j (omega (arith, le, within))))
-
--- no table's text begins with the lines before and this one
-pub parts_next : (text line more : List ℕ) (c : HeadView) (d : PositionView) (u k : ℕ) → PartsAt text c d u k → HasNoEnd line
-    → drop (81 * k) text ≡ line ++ 10 ∷ more → ¬ (BeginsTable (take (81 * k) text ++ line ++ 10 ∷ []))
-parts_next text line more c d u k p l is x =
-    let h = x.0.head in
-    let s = x.0.site in
-    let t = x.0.first in
-    let rest = x.1 in
-    let g : IsGoodHeader h s t = record { heading = x.2.head; site = x.2.site; first = x.2.first } in
-    let records : List ℕ = flat_map record_text x.0.epochs in
-    let file : List ℕ = header_text h s t ++ records in
-    let front : List ℕ = take (81 * k) text in
-    let f = length-front text c d u k p in
-    let e : file ≡ front ++ (line ++ 10 ∷ rest) = x.3 ∙ simp append_assoc in
-    let whole = length-header h s t g in
-    let own : (j : ℕ) → j < 13 + lines_of h → line_at j file ≡ line_at j (header_text h s t) = λ j lt.
-    line_front (header_text h s t) records j (omega (arith, lt, whole)) in
-    let before : (j : ℕ) → j < k → line_at j file ≡ line_at j text = λ j lt.
-    ap (line_at j) e ∙ line_front front (line ++ 10 ∷ rest) j (omega (arith, f.0, lt))
-    ∙ sym (line_front front (drop (81 * k) text) j (omega (arith, f.0, lt))) ∙ ap (line_at j) (take-append-drop (81 * k) text) in
-    elim (leb_tells (13 + lines_of h) k) [
-      | inl past ↦
-          let within = not_past text h c s d t u k g p (sym (own 9 (omega arith)) ∙ before 9 (omega (arith, past.1))) in
-          omega (arith, past.1, within)
-      | inr within ↦
-          let w : List ℕ = get_or (rows h s t) k [] in
-          let row_is : line_at k file ≡ ended w = own k within.1 ∙ line_within h s t k g within.1 in
-          let m = length-rows h s t in
-          let good : IsHeaderRow w = rows_good h s t g.heading g.site g.first k [] (omega (arith, m, within.1)) in
-          let after_front : drop (81 * k) file ≡ line ++ 10 ∷ rest = ap (λ (xs : List ℕ). drop (81 * k) xs) e ∙ drop-exact (81 * k) front (line ++ 10 ∷ rest) f.0 in
-          let split : w ++ 10 ∷ drop 81 (drop (81 * k) file) ≡ line ++ 10 ∷ rest =
-          sym (append_assoc w (10 ∷ []) (drop 81 (drop (81 * k) file))) ∙ (rw (← row_is) (take-append-drop 81 (drop (81 * k) file))) ∙ after_front in
-          let same : w ≡ line = one_line w line (drop 81 (drop (81 * k) file)) rest good.plain l split in
-          let long : length (ended line) ≡ 81 = length-append line (10 ∷ []) ∙ (let b = ap length same in omega (arith, b, good.length)) in
-          let here : line_at k text ≡ ended line = ap (λ (xs : List ℕ). take 81 xs) (is ∙ sym (append_assoc line (10 ∷ []) more)) ∙ take-exact 81 (ended line) more long in
-          let last : line_at k file ≡ line_at k text = row_is ∙ ap (λ (r : List ℕ). ended r) same ∙ sym here in
-          p.unlike (p.back h s t k g.heading g.site g.first (λ j le.
-          sym (own j (omega (arith, le, within.1))) ∙ elim (leb_tells k j) [
-            | inl at ↦ let place : j ≡ k = omega (arith, le, at.1) in rw place last
-            | inr low ↦ before j low.1
-          ]))
-    ]

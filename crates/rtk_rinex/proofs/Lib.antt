@@ -6,12 +6,6 @@ mod ReadingLemmas
 mod HeaderLemmas
 mod DigitsLemmas
 mod HeaderCodesLemmas
-mod HeaderShownLemmas
-mod HeaderRowsLemmas
-mod HeaderGoodLemmas
-mod HeaderSameLemmas
-mod HeaderVerdictLemmas
-mod HeaderOnlyLemmas
 mod RecordLemmas
 mod TableLemmas
 mod ValuesLemmas
@@ -21,6 +15,13 @@ mod RowLemmas
 mod CheckLemmas
 mod LineLemmas
 mod OneLemmas
+mod HeaderShownLemmas
+mod HeaderRowsLemmas
+mod HeaderGoodLemmas
+mod PartLemmas
+mod HeaderTypesLemmas
+mod HeaderPartsLemmas
+mod HeaderVerdictLemmas
 mod FormLemmas
 mod CellLemmas
 mod TextLemmas

@@ -19,25 +19,25 @@ use Rattle.rtk_rinex.specs.Lines.{HasNoEnd, IsLine}
 use Rattle.rtk_rinex.proofs.ValuesLemmas.{written-magnitude}
 use Rattle.rtk_rinex.proofs.ReadingLemmas.{FitsColumns-reading_of}
 
-abbrev IsNoEnd : ℕ → Type 0
+abbrev pub IsNoEnd : ℕ → Type 0
 IsNoEnd x = x ≢ 10
 
-one : (x : ℕ) → x ≢ 10 → HasNoEnd (x ∷ [])
+pub one : (x : ℕ) → x ≢ 10 → HasNoEnd (x ∷ [])
 one x h = All-cons IsNoEnd x [] h (All-nil IsNoEnd)
 
-both : (xs ys : List ℕ) → HasNoEnd xs → HasNoEnd ys → HasNoEnd (xs ++ ys)
+pub both : (xs ys : List ℕ) → HasNoEnd xs → HasNoEnd ys → HasNoEnd (xs ++ ys)
 both xs ys h g = All-append IsNoEnd xs ys h g
 
-blanks : (k : ℕ) → HasNoEnd (replicate k 32)
+pub blanks : (k : ℕ) → HasNoEnd (replicate k 32)
 blanks k = All-replicate IsNoEnd k 32 (λ e. omega (arith, e))
 
 digit : (d : ℕ) → HasNoEnd ((48 + d) ∷ [])
 digit d = one (48 + d) (λ e. omega (arith, e))
 
-of_decimal : (n : ℕ) → n < 2 ^ 64 → HasNoEnd (decimal n)
+pub of_decimal : (n : ℕ) → n < 2 ^ 64 → HasNoEnd (decimal n)
 of_decimal n h = decimal_by_steps (λ n ds. HasNoEnd ds) (λ n small. digit n) (λ n ds low e. both ds ((48 + n % 10) ∷ []) e (digit (n % 10))) n h
 
-of_last_digits : (k n : ℕ) → HasNoEnd (last_digits k n)
+pub of_last_digits : (k n : ℕ) → HasNoEnd (last_digits k n)
 of_last_digits zero n = All-nil IsNoEnd
 of_last_digits (suc k) n = both (last_digits k (n / 10)) ((48 + n % 10) ∷ []) (of_last_digits k (n / 10)) (digit (n % 10))
 
@@ -45,10 +45,10 @@ of_sign : (b : Bool) → HasNoEnd (sign_text b)
 of_sign true = one 45 (λ e. omega (arith, e))
 of_sign false = All-nil IsNoEnd
 
-of_right : (w : ℕ) (text : List ℕ) → HasNoEnd text → HasNoEnd (right w text)
+pub of_right : (w : ℕ) (text : List ℕ) → HasNoEnd text → HasNoEnd (right w text)
 of_right w text h = both (replicate (w - length text) 32) text (blanks (w - length text)) h
 
-of_decimals : (k : ℕ) (b : Bool) (n : ℕ) → n / 10 ^ k < 2 ^ 64 → HasNoEnd (decimals k b n)
+pub of_decimals : (k : ℕ) (b : Bool) (n : ℕ) → n / 10 ^ k < 2 ^ 64 → HasNoEnd (decimals k b n)
 of_decimals k b n h =
     both (sign_text b ++ decimal (n / 10 ^ k)) (46 ∷ last_digits k n) (both (sign_text b) (decimal (n / 10 ^ k)) (of_sign b) (of_decimal (n / 10 ^ k) h))
     (All-cons IsNoEnd 46 (last_digits k n) (λ e. omega (arith, e)) (of_last_digits k n))

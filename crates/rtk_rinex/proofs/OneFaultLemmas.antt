@@ -10,10 +10,11 @@ use Rattle.rtk_rinex.specs.HeaderFault.{AreLines, IsFaultOfHeader}
 use Rattle.rtk_rinex.specs.Steps.HeaderRead.{HasHeader}
 use Rattle.rtk_rinex.specs.CheckText.{IsFaultOfRecords}
 use Rattle.rtk_rinex.specs.CheckTable.{IsFaultAfterHeader, IsFault, OneFault, FaultMeansNoTable}
-use Rattle.rtk_rinex.proofs.HeaderSameLemmas.{IsGoodHeader}
+use Rattle.rtk_rinex.proofs.HeaderRowsLemmas.{IsGood, values_of}
+use Rattle.rtk_rinex.proofs.HeaderPartsLemmas.{one_header}
 use Rattle.rtk_rinex.proofs.TextLemmas.{no_records}
 use Rattle.rtk_rinex.proofs.OneRecordsLemmas.{IsSame, one_of_records}
-use Rattle.rtk_rinex.proofs.OneHeaderLemmas.{HasFaultAfter, has-fault-after, one_header, one_number, no_header, one_of_header}
+use Rattle.rtk_rinex.proofs.OneHeaderLemmas.{HasFaultAfter, has-fault-after, one_number, no_header, one_of_header}
 
 header-fault-of : (bytes : List ℕ) (f : CheckFault) (a : IsFaultOfHeader bytes f) → HasFaultAfter a.0 bytes f.cause
 header-fault-of bytes f a = has-fault-after a.0 bytes f.cause a.2
@@ -31,12 +32,12 @@ header_or_records bytes f g a b = no_header a.0 bytes f.cause (header-fault-of b
 
 of_records : (bytes : List ℕ) (f g : CheckFault) → IsFaultAfterHeader bytes f → IsFaultAfterHeader bytes g → IsSame f g
 of_records bytes f g a b =
-    let good : IsGoodHeader a.head a.site a.first = record { heading = a.heading; site = a.good_site; first = a.moment } in
-    let other : IsGoodHeader b.head b.site b.first = record { heading = b.heading; site = b.good_site; first = b.moment } in
-    let one = one_header a.head b.head a.site b.site a.first b.first a.rest b.rest good other (sym a.text ∙ b.text) in
+    let good : IsGood (values_of a.head a.site a.first) = record { heading = a.heading; site = a.good_site; first = a.moment } in
+    let other : IsGood (values_of b.head b.site b.first) = record { heading = b.heading; site = b.good_site; first = b.moment } in
+    let one = one_header (values_of a.head a.site a.first) (values_of b.head b.site b.first) a.rest b.rest good other (sym a.text ∙ b.text) in
     let are : AreLines b.lines (header_text a.head a.site a.first) = rw one.text b.are_lines in
     let lines : b.lines ≡ a.lines = one_number b.lines a.lines (header_text a.head a.site a.first) are a.are_lines in
-    let records : IsFaultOfRecords (length a.head.listed) a.first a.lines a.rest g = rw (← one.count, ← one.first, lines, ← one.rest) at b.records in
+    let records : IsFaultOfRecords (length a.head.listed) a.first a.lines a.rest g = rw (← one.alike.count, ← one.alike.first, lines, ← one.rest) at b.records in
     one_of_records (length a.head.listed) a.first a.lines a.rest f g a.heading.1.0.1 a.records records
 
 is_same : (bytes : List ℕ) (f g : CheckFault) → IsFault bytes f → IsFault bytes g → IsSame f g
@@ -66,11 +67,11 @@ table-header bytes u is e =
 
 records_or_table : (bytes : List ℕ) (f : CheckFault) → IsFaultAfterHeader bytes f → (u : WellFormedTable) → IsWellFormedTable u → bytes ≢ table_text u
 records_or_table bytes f a u is e =
-    let good : IsGoodHeader a.head a.site a.first = record { heading = a.heading; site = a.good_site; first = a.moment } in
-    let other : IsGoodHeader u.head u.site u.first = record { heading = is.head; site = is.site; first = is.first } in
-    let one = one_header a.head u.head a.site u.site a.first u.first a.rest (flat_map record_text u.epochs) good other (sym a.text ∙ e) in
-    let epochs : All (IsTableEpoch (length a.head.listed)) u.epochs = rw one.count is.epochs in
-    let start : StartsAt a.first u.epochs = rw one.first is.starts in
+    let good : IsGood (values_of a.head a.site a.first) = record { heading = a.heading; site = a.good_site; first = a.moment } in
+    let other : IsGood (values_of u.head u.site u.first) = record { heading = is.head; site = is.site; first = is.first } in
+    let one = one_header (values_of a.head a.site a.first) (values_of u.head u.site u.first) a.rest (flat_map record_text u.epochs) good other (sym a.text ∙ e) in
+    let epochs : All (IsTableEpoch (length a.head.listed)) u.epochs = rw one.alike.count is.epochs in
+    let start : StartsAt a.first u.epochs = rw one.alike.first is.starts in
     no_records (length a.head.listed) a.first a.lines a.rest f u.epochs a.heading.1.0.1 a.records epochs is.rise start one.rest
 
 pub fault-none : FaultMeansNoTable

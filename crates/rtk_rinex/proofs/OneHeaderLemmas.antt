@@ -1,94 +1,23 @@
--- A text begins with one header at most, and a header has one fault at most; a text with such a
--- fault begins with no header.
-use Rattle.std.proofs.Common.{◌≡◌, ℕ, ◌+◌, ◌≤◌, List, [], ◌∷◌, ◌++◌, length, take, drop, codes, refl, sym, ◌∙◌, ap, arith, subst, append_assoc, length-append, inl, inr}
+-- A header has one fault at most, and a text with such a fault begins with no header.
+use Rattle.std.proofs.Common.{◌≡◌, ℕ, ◌≤◌, List, [], ◌∷◌, ◌++◌, length, refl, sym, ◌∙◌, ap, arith, append_assoc, length-append, inl, inr}
 use Rattle.std.specs.Prelude.{All}
 use Rattle.std.proofs.lemmas.Bool.Decides.{leb_tells}
 use Rattle.std.proofs.lemmas.Grind.{flat_map-append}
 use Rattle.std.proofs.lemmas.List.{append-nil}
 use Rattle.std.proofs.lemmas.List.Elements.{All-nil, All-head, All-tail}
-use Rattle.rtk_obs.specs.declared.time.Civil.{Civil}
-use Rattle.rtk_obs.specs.Calendar.{ReadsAs}
 use Rattle.rtk_rinex.specs.declared.check_fault.Cause.{Cause}
 use Rattle.rtk_rinex.specs.declared.check_fault.Cause.TheVariants.{HeaderLine, Columns, Value, Order, Truncated, OutOfMemory}
-use Rattle.rtk_rinex.specs.Reading.{reading_of}
-use Rattle.rtk_rinex.specs.Header.{HeadView, PositionView, header_line, first_text, header_text}
-use Rattle.rtk_rinex.specs.Steps.HeaderShown.{line_at}
-use Rattle.rtk_rinex.specs.Lines.{HasNoEnd}
+use Rattle.rtk_rinex.specs.Header.{header_text}
+use Rattle.rtk_rinex.specs.Lines.{HasNoEnd, text_of}
 use Rattle.rtk_rinex.specs.HeaderFault.{AreLines, IsHeader, BeginsHeader, BeginsTable, IsLineFault, IsFaultAfter}
 use Rattle.rtk_rinex.specs.Steps.HeaderRead.{HasHeader}
 use Rattle.rtk_rinex.specs.Table.{IsTableEpoch}
-use Rattle.rtk_rinex.proofs.ReadingLemmas.{reading-reads}
-use Rattle.rtk_rinex.proofs.DigitsLemmas.{take-exact, drop-exact}
-use Rattle.rtk_obs.proofs.PublicLaws.{one_moment}
-use Rattle.rtk_rinex.proofs.HeaderShownLemmas.{first_is}
-use Rattle.rtk_rinex.proofs.HeaderRowsLemmas.{row_ended, ended, text_of, row_count}
-use Rattle.rtk_rinex.proofs.HeaderSameLemmas.{IsGoodHeader, lines_of, length-header, line_within, in_last}
-use Rattle.rtk_rinex.proofs.HeaderVerdictLemmas.{line_front, count_shown, are_lines}
+use Rattle.rtk_rinex.proofs.HeaderRowsLemmas.{ended, Values, IsGood, text_with}
+use Rattle.rtk_rinex.proofs.HeaderPartsLemmas.{lines-front, same_lines, are_lines, one_header}
 use Rattle.rtk_rinex.proofs.LineLemmas.{no_front, same_front}
-use Rattle.rtk_rinex.proofs.OneLemmas.{Goes, same_cons}
 use Rattle.rtk_rinex.proofs.TextLemmas.{line_bytes}
 
--- ---- one header
-
-pub first_line : (h : HeadView) (s : PositionView) (t : ℕ) → IsGoodHeader h s t
-    → line_at (9 + (lines_of h + 1)) (header_text h s t) ≡ header_line (first_text (reading_of t)) (codes "TIME OF FIRST OBS")
-first_line h s t g =
-    line_within h s t (9 + (lines_of h + 1)) g (omega arith) ∙ ap (λ (r : List ℕ). ended r) (in_last h s t 1)
-    ∙ sym (row_ended (first_text (reading_of t)) (codes "TIME OF FIRST OBS"))
-
--- two headers that begin one text have the same number of codes, the same first time and the same
--- text after them
-pub record AreAlike (h c : HeadView) (s d : PositionView) (t u : ℕ) (x y : List ℕ) : Type 0 where
-  pub count : length h.listed ≡ length c.listed
-  pub first : t ≡ u
-  pub text : header_text h s t ≡ header_text c d u
-  pub rest : x ≡ y
-
-one_first : (h c : HeadView) (s d : PositionView) (t u : ℕ) → IsGoodHeader h s t → IsGoodHeader c d u → lines_of h ≡ lines_of c → header_text h s t ≡ header_text c d u → t ≡ u
-one_first h c s d t u g f lines e =
-    let a = first_line h s t g in
-    let place : 9 + (lines_of c + 1) ≡ 9 + (lines_of h + 1) = omega (arith, lines) in
-    let b : line_at (9 + (lines_of h + 1)) (header_text h s t) ≡ header_line (first_text (reading_of u)) (codes "TIME OF FIRST OBS") =
-    ap (line_at (9 + (lines_of h + 1))) e ∙ ap (λ (k : ℕ). line_at k (header_text c d u)) (sym place) ∙ first_line c d u f in
-    let left = first_is (line_at (9 + (lines_of h + 1)) (header_text h s t)) _ t g.first a in
-    let right = first_is (line_at (9 + (lines_of h + 1)) (header_text h s t)) _ u f.first b in
-    let reading : reading_of u ≡ reading_of t = sym right.reading ∙ left.reading in
-    one_moment t u (reading_of t) (reading-reads t g.first) (subst (λ (c : Civil). ReadsAs u c) reading (reading-reads u f.first))
-
-pub one_header : (h c : HeadView) (s d : PositionView) (t u : ℕ) (x y : List ℕ) → IsGoodHeader h s t → IsGoodHeader c d u → header_text h s t ++ x ≡ header_text c d u ++ y
-    → AreAlike h c s d t u x y
-one_header h c s d t u x y g f e =
-    let a : List ℕ = header_text h s t in
-    let b : List ℕ = header_text c d u in
-    let m = length-header h s t g in
-    let n = length-header c d u f in
-    let line : line_at 9 a ≡ line_at 9 b = sym (line_front a x 9 (omega (arith, m))) ∙ ap (line_at 9) e ∙ line_front b y 9 (omega (arith, n)) in
-    let left = count_shown (line_at 9 a) h s t g refl in
-    let right = count_shown (line_at 9 a) c d u f line in
-    let count : length h.listed ≡ length c.listed = omega (arith, left, right) in
-    let lines : lines_of h ≡ lines_of c = ap (λ (k : ℕ). row_count k) count in
-    let size : length b ≡ length a = omega (arith, m, n, lines) in
-    let text : a ≡ b = sym (take-exact (length a) a x refl) ∙ ap (take (length a)) e ∙ take-exact (length a) b y size in
-    record {
-      count = count;
-      first = one_first h c s d t u g f lines text;
-      text = text;
-      rest = sym (drop-exact (length a) a x refl) ∙ ap (drop (length a)) e ∙ drop-exact (length a) b y size;
-    }
-
 -- ---- the lines of a text
-
-lines-front : (l : List ℕ) (ls : List (List ℕ)) (x : List ℕ) → text_of (l ∷ ls) ++ x ≡ l ++ 10 ∷ (text_of ls ++ x)
-lines-front l ls x = append_assoc (ended l) (text_of ls) x ∙ append_assoc l (10 ∷ []) (text_of ls ++ x)
-
-same_lines : (ls ms : List (List ℕ)) (x y : List ℕ) → All HasNoEnd ls → All HasNoEnd ms → length ls ≤ length ms → text_of ls ++ x ≡ text_of ms ++ y → Goes ended ls ms x y
-same_lines [] ms x y h g long e = record { more = ms; list = refl; text = e }
-same_lines (l ∷ ls) [] x y h g long e = absurd (omega arith)
-same_lines (l ∷ ls) (m ∷ ms) x y h g long e =
-    let one = same_front l m (text_of ls ++ x) (text_of ms ++ y) (All-head HasNoEnd l ls h) (All-head HasNoEnd m ms g)
-    (sym (lines-front l ls x) ∙ e ∙ lines-front m ms y) in
-    let rest = same_lines ls ms x y (All-tail HasNoEnd l ls h) (All-tail HasNoEnd m ms g) (omega arith) one.1 in
-    record { more = rest.more; list = same_cons l m (ls ++ rest.more) ms one.0 rest.list; text = rest.text }
 
 no_text : (more : List (List ℕ)) (x : List ℕ) → text_of more ++ x ≡ [] → length more ≡ 0
 no_text more x e =
@@ -191,36 +120,35 @@ no_header_more n bytes cause a ms (l ∷ more) y is e text h =
     goes_on n bytes cause a ms l more y [] is e text (rw (append-nil (text_of ms)) h)
 
 -- a header that ends before the fault is no part of another one
-no_longer : (n : ℕ) (bytes : List ℕ) (cause : Cause) (a : HasFaultAfter n bytes cause) (h : HeadView) (s : PositionView) (t : ℕ) (ms more : List (List ℕ))
-    → IsGoodHeader h s t → header_text h s t ≡ text_of ms → a.lines ≡ ms ++ more → length more ≡ 0
-no_longer n bytes cause a h s t ms more g e list =
+no_longer : (n : ℕ) (bytes : List ℕ) (cause : Cause) (a : HasFaultAfter n bytes cause) (v : Values) (ms more : List (List ℕ))
+    → IsGood v → text_with v ≡ text_of ms → a.lines ≡ ms ++ more → length more ≡ 0
+no_longer n bytes cause a v ms more g e list =
     let b = a.begins.1 in
     let x = a.begins.0 in
-    let good : IsGoodHeader b.0 b.1 b.2 = record { heading = b.3; site = b.4; first = b.5 } in
-    let text : text_of a.lines ≡ header_text h s t ++ text_of more =
+    let u : Values = record { head = b.0; site = b.1; first = b.2 } in
+    let good : IsGood u = record { heading = b.3; site = b.4; first = b.5 } in
+    let text : text_of a.lines ≡ text_with v ++ text_of more =
     ap text_of list ∙ flat_map-append ended ms more ∙ ap (λ (f : List ℕ). f ++ text_of more) (sym e) in
-    let whole : header_text h s t ++ (text_of more ++ x) ≡ header_text b.0 b.1 b.2 ++ [] =
-    sym (append_assoc (header_text h s t) (text_of more) x) ∙ ap (λ (f : List ℕ). f ++ x) (sym text) ∙ b.6 ∙ sym (append-nil (header_text b.0 b.1 b.2)) in
-    let one = one_header h b.0 s b.1 t b.2 (text_of more ++ x) [] g good whole in
+    let whole : text_with v ++ (text_of more ++ x) ≡ text_with u ++ [] =
+    sym (append_assoc (text_with v) (text_of more) x) ∙ ap (λ (f : List ℕ). f ++ x) (sym text) ∙ b.6 ∙ sym (append-nil (text_with u)) in
+    let one = one_header v u (text_of more ++ x) [] g good whole in
     no_text more x one.rest
 
 pub no_header : (n : ℕ) (bytes : List ℕ) (cause : Cause) → HasFaultAfter n bytes cause → ¬ (HasHeader bytes)
 no_header n bytes cause a has =
-    let h = has.2.0 in
-    let s = has.2.1 in
-    let t = has.2.2 in
-    let g : IsGoodHeader h s t = record { heading = has.2.3; site = has.2.4; first = has.2.5 } in
-    let lines = are_lines h s t g in
+    let v : Values = record { head = has.2.0; site = has.2.1; first = has.2.2 } in
+    let g : IsGood v = record { heading = has.2.3; site = has.2.4; first = has.2.5 } in
+    let lines = are_lines v g in
     let ms = lines.0 in
-    let header : header_text h s t ≡ text_of ms = lines.3 in
+    let header : text_with v ≡ text_of ms = lines.3 in
     let text : bytes ≡ text_of ms ++ has.1 = has.3 ∙ ap (λ (f : List ℕ). f ++ has.1) (has.2.6 ∙ header) in
     elim (leb_tells (length a.lines) (length ms)) [
       | inl low ↦
           let goes = same_lines a.lines ms a.rest has.1 a.are_lines lines.1 low.1 (sym a.text ∙ text) in
-          no_header_more n bytes cause a ms goes.more has.1 lines.1 goes.list goes.text (h, s, t, g.heading, g.site, g.first, sym header)
+          no_header_more n bytes cause a ms goes.more has.1 lines.1 goes.list goes.text (v.head, v.site, v.first, g.heading, g.site, g.first, sym header)
       | inr high ↦
           let goes = same_lines ms a.lines has.1 a.rest lines.1 a.are_lines (omega (arith, high.1)) (sym text ∙ a.text) in
-          let none = no_longer n bytes cause a h s t ms goes.more g header goes.list in
+          let none = no_longer n bytes cause a v ms goes.more g header goes.list in
           let size = ap length goes.list in
           omega (arith, size, none, high.1, length-append ms goes.more)
     ]

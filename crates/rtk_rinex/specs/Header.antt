@@ -50,13 +50,28 @@ made_text c =
     ++ last_digits 2 c.hour ++ last_digits 2 c.minute ++ last_digits 2 c.second ++ codes " UTC "
 
 -- formula
+-- the version, the kind of the file and its system
+abbrev pub version_line : List ℕ
+version_line = header_line (codes "     3.05           OBSERVATION DATA    G") (codes "RINEX VERSION / TYPE")
+
+-- formula
+-- the program, and the time at which the file is made
+abbrev pub made_line : Civil → List ℕ
+made_line made = header_line (codes "rtcm2rinex                              " ++ made_text made) (codes "PGM / RUN BY / DATE")
+
+-- formula
+-- the marker's name
+abbrev pub marker_line : List ℕ → List ℕ
+marker_line marker = header_line marker (codes "MARKER NAME")
+
+-- formula
 -- the lines up to the antenna's type, of a marker and the time at which the file is made; the fixed
 -- entries are this project's
 abbrev pub first_lines : List ℕ → Civil → List ℕ
 first_lines marker made =
-    header_line (codes "     3.05           OBSERVATION DATA    G") (codes "RINEX VERSION / TYPE")
-    ++ header_line (codes "rtcm2rinex                              " ++ made_text made) (codes "PGM / RUN BY / DATE")
-    ++ header_line marker (codes "MARKER NAME")
+    version_line
+    ++ made_line made
+    ++ marker_line marker
     ++ header_line (codes "GEODETIC") (codes "MARKER TYPE")
     ++ header_line [] (codes "OBSERVER / AGENCY")
     ++ header_line [] (codes "REC # / TYPE / VERS")
@@ -80,12 +95,19 @@ abbrev pub IsPositionView : PositionView → Type 0
 IsPositionView s = IsCoordinate s.x × IsCoordinate s.y × IsCoordinate s.z × (s.height < 65_536)
 
 -- formula
--- the lines of the position (3F14.4, in m) and of the antenna's height (F14.4, in m; east and north
--- are 0)
+-- the position: 3F14.4, in m
+abbrev pub place_line : PositionView → List ℕ
+place_line s = header_line (fixed 4 14 s.x ++ fixed 4 14 s.y ++ fixed 4 14 s.z) (codes "APPROX POSITION XYZ")
+
+-- formula
+-- the antenna's height: F14.4, in m; east and north are 0
+abbrev pub height_line : ℕ → List ℕ
+height_line height = header_line (fixed 4 14 (pos height) ++ codes "        0.0000        0.0000") (codes "ANTENNA: DELTA H/E/N")
+
+-- formula
+-- the lines of the position and of the antenna's height
 abbrev pub position_lines : PositionView → List ℕ
-position_lines s =
-    header_line (fixed 4 14 s.x ++ fixed 4 14 s.y ++ fixed 4 14 s.z) (codes "APPROX POSITION XYZ")
-    ++ header_line (fixed 4 14 (pos s.height) ++ codes "        0.0000        0.0000") (codes "ANTENNA: DELTA H/E/N")
+position_lines s = place_line s ++ height_line s.height
 
 -- formula
 -- the three observation types of a code, each after a blank: pseudorange, carrier phase and signal
@@ -97,19 +119,27 @@ types_of c = codes " C" ++ name_of c ++ codes " L" ++ name_of c ++ codes " S" ++
 abbrev pub types : List Code → List ℕ
 types = flat_map types_of
 
+abbrev pub types_label : List ℕ
+types_label = codes "SYS / # / OBS TYPES"
+
+-- formula
+-- the first line of observation types, of which there are three for each of n codes
+abbrev pub first_types_line : ℕ → List ℕ → List ℕ
+first_types_line n text = header_line (codes "G  " ++ right 3 (decimal (3 * n)) ++ take 52 text) types_label
+
 -- formula
 -- a further line of observation types, if any are left; thirteen fill its 52 columns
 abbrev pub continuation_line : List ℕ → List ℕ
 continuation_line text =
     if length text == 0 then []
-    else header_line (codes "      " ++ take 52 text) (codes "SYS / # / OBS TYPES")
+    else header_line (codes "      " ++ take 52 text) types_label
 
 -- formula
 -- the lines of the observation types: their number, then thirteen on a line; 16 codes have 48 types
 -- on four lines
 abbrev pub types_lines : List Code → List ℕ
 types_lines listed =
-    header_line (codes "G  " ++ right 3 (decimal (3 * length listed)) ++ take 52 (types listed)) (codes "SYS / # / OBS TYPES")
+    first_types_line (length listed) (types listed)
     ++ continuation_line (drop 52 (types listed))
     ++ continuation_line (drop 104 (types listed))
     ++ continuation_line (drop 156 (types listed))
@@ -123,12 +153,22 @@ first_text c =
     ++ right 13 (decimals 7 false (seconds_of c)) ++ codes "     GPS"
 
 -- formula
+-- the unit of the signal strengths
+abbrev pub unit_line : List ℕ
+unit_line = header_line (codes "DBHZ") (codes "SIGNAL STRENGTH UNIT")
+
+-- formula
+-- the line of the time of the first observation
+abbrev pub first_line : Civil → List ℕ
+first_line first = header_line (first_text first) (codes "TIME OF FIRST OBS")
+
+-- formula
 -- the lines after the observation types, with the time of the first observation; the fixed entries
 -- are this project's
 abbrev pub last_lines : Civil → List ℕ
 last_lines first =
-    header_line (codes "DBHZ") (codes "SIGNAL STRENGTH UNIT")
-    ++ header_line (first_text first) (codes "TIME OF FIRST OBS")
+    unit_line
+    ++ first_line first
     ++ header_line (codes "G") (codes "SYS / PHASE SHIFT")
     ++ header_line [] (codes "END OF HEADER")
 

@@ -1,10 +1,10 @@
 -- What is wrong with the header of a text: its first line with which no table's text begins, or the
 -- line that is not whole.
-use Rattle.std.specs.Prelude.{◌≡◌, ℕ, ◌+◌, List, [], ◌∷◌, ◌++◌, length, flat_map, All}
+use Rattle.std.specs.Prelude.{◌≡◌, ℕ, ◌+◌, List, [], ◌∷◌, ◌++◌, length, All}
 use Rattle.rtk_rinex.specs.Reading.{IsMoment}
 use Rattle.rtk_rinex.specs.Header.{HeadView, PositionView, IsHeadView, IsPositionView, header_text}
 use Rattle.rtk_rinex.specs.Table.{WellFormedTable, IsWellFormedTable, table_text}
-use Rattle.rtk_rinex.specs.Lines.{HasNoEnd}
+use Rattle.rtk_rinex.specs.Lines.{HasNoEnd, text_of}
 use Rattle.rtk_rinex.specs.declared.check_fault.CheckFault.{CheckFault}
 use Rattle.rtk_rinex.specs.declared.check_fault.Cause.{Cause}
 use Rattle.rtk_rinex.specs.declared.check_fault.Cause.TheVariants.{HeaderLine, Truncated}
@@ -26,7 +26,7 @@ BeginsTable text = (t : WellFormedTable) × (rest : List ℕ) × IsWellFormedTab
 -- the text has n lines, each ended by LF
 abbrev pub AreLines : ℕ → List ℕ → Type 0
 AreLines n text =
-    (lines : List (List ℕ)) × All HasNoEnd lines × (length lines ≡ n) × (text ≡ flat_map (λ line. line ++ 10 ∷ []) lines)
+    (lines : List (List ℕ)) × All HasNoEnd lines × (length lines ≡ n) × (text ≡ text_of lines)
 
 -- formula
 -- what is wrong with the next line, which begins `rest`: no LF ends it; or no table's text begins

@@ -1,10 +1,10 @@
 -- The text of a record that is written satellite by satellite.
-use Rattle.std.specs.Prelude.{◌≡◌, ◌<◌, ◌≤◌, ◌+◌, ◌-◌, ◌*◌, ℕ, Bool, false, List, [], ◌∷◌, ◌++◌, length, drop, max, replicate, slice_index_or, None}
+use Rattle.std.specs.Prelude.{◌≡◌, ◌<◌, ◌≤◌, ◌+◌, ◌-◌, ◌*◌, ℕ, Bool, false, List, [], ◌∷◌, ◌++◌, length, drop, max, replicate, slice_index_or}
 use Rattle.std.specs.List.{flat_map, filter, list_any}
 use Rattle.rtk_obs.specs.CivilText.{last_digits}
 use Rattle.rtk_rinex.specs.declared.epoch_table.Observed.{Observed}
 use Rattle.rtk_rinex.specs.declared.epoch_table.SatelliteRow.{SatelliteRow}
-use Rattle.rtk_rinex.specs.Record.{has_line, has_observation, no_observation, observations, satellite_line, trim_end}
+use Rattle.rtk_rinex.specs.Record.{has_line, has_observation, observations, satellite_line, trim_end}
 
 pub record RecordLinesView : Type 0 where
   -- the 36 columns of the epoch line and the lines of the satellites, or nothing without a satellite

@@ -1,120 +1,115 @@
-//! The check of a header: what its lines show is written again, and the two texts are compared.
+//! The check of a header: what its parts show is written again, and the two texts are compared.
 
 ghost use Rattle.rtk_obs.specs.Code.{name_of};
 ghost use Rattle.rtk_obs.specs.declared.code.Code.{Code};
-ghost use Rattle.rtk_rinex.specs.Header.{IsMarker, PositionView, IsPositionView, HeadView, IsHeadView, position_view, header_text};
+ghost use Rattle.rtk_rinex.specs.Header.{PositionView, IsPositionView, IsHeadView, IsMarker, position_view, made_line, marker_line, place_line, height_line, first_types_line, first_line, header_text};
 ghost use Rattle.rtk_rinex.specs.HeaderFault.{AreLines, IsFaultOfHeader};
-ghost use Rattle.rtk_rinex.specs.Steps.HeaderRead.{HasHeader, IsOnlyHeader};
-ghost use Rattle.rtk_rinex.specs.Steps.HeaderShown.{line_at, name_at, number_at, made_civil, first_civil, IsMadeLine, IsMarkerLine, IsPlaceLine, IsHeightLine, IsCountLine, IsFirstLine, AreAllCodes};
+ghost use Rattle.rtk_rinex.specs.Steps.HeaderRead.{HasHeader, IsOnlyHeader, ShowsHeader, BeginAlike, IsLineCause, IsUnlike};
+ghost use Rattle.rtk_rinex.specs.Steps.HeaderShown.{StartsWith, line_at, name_at, number_at, made_civil, first_civil, AreAllCodes};
 ghost use Rattle.rtk_rinex.specs.Lines.{HasNoEnd, IsLine};
-ghost use Rattle.rtk_rinex.specs.Reading.{IsMoment};
+ghost use Rattle.rtk_rinex.specs.Reading.{IsMoment, reading_of};
 ghost use Rattle.std.specs.Int.{IsInRange};
-ghost use Rattle.std.specs.Prelude.{◌≡◌, ◌≢◌, ℕ, ◌+◌, ◌*◌, ◌%◌, ◌/◌, ◌<◌, ◌≤◌, List, ◌++◌, length, take, drop, AllPairs, slice_index_or, Some, IfSome, IsSomeAnd, MatchOption, ◌^◌, ◌∷◌, Decides, IfOk, IfErr, OnErr};
+ghost use Rattle.std.specs.Prelude.{◌≡◌, ◌≢◌, ℕ, ◌+◌, ◌*◌, ◌%◌, ◌/◌, ◌<◌, ◌≤◌, List, [], ◌++◌, length, take, drop, AllPairs, slice_index_or, Some, IfSome, IsSomeAnd, MatchOption, ◌^◌, ◌∷◌, Decides, IfOk, IfErr, OnErr};
 
 use crate::check_fault::{Cause, CheckFault};
 use crate::creation_time::CreationTime;
-use crate::digits::{columns_at, is_same, number_at, signed_number_at};
+use crate::digits::{after, columns_at, front, is_same, number_at, signed_number_at};
 use crate::head::Head;
-use crate::header_text::header_lines;
+use crate::header_text::{
+    LONGEST_HEADER, put_end_lines, put_first_line, put_height_line, put_made_line, put_marker_line,
+    put_place_line, put_types_lines, put_unit_line, put_unknown_lines, put_version_line,
+};
 use crate::marker_name::Marker;
 use crate::record_text::trimmed_len;
+use arrayvec::ArrayVec;
 use memchr::memchr;
-use rtk_obs::{ALL_CODES, Civil, Code, GpsMs, Position, of_civil};
+use rtk_obs::{ALL_CODES, Civil, Code, GpsMs, Position, civil, code_laws, of_civil};
 
-// Returns the date and time in the columns of the second line, whatever stands there. If they are
-// no date, the header that is written again differs in this line.
-fn made_reading(line: &[u8]) -> Civil
-    ensures { result ≡ made_civil line.now }
+// Returns the date and time at which the file is made, whatever stands in their columns. If they
+// are no date, the header that is written again differs in this line.
+fn made_reading(text: &[u8]) -> Civil
+    ensures { result ≡ made_civil text.now }
 {
     Civil {
-        year: number_at(line, 40, 4) as u16,
-        month: number_at(line, 44, 2) as u8,
-        day: number_at(line, 46, 2) as u8,
-        hour: number_at(line, 49, 2) as u8,
-        minute: number_at(line, 51, 2) as u8,
-        second: number_at(line, 53, 2) as u8,
+        year: number_at(text, 40, 4) as u16,
+        month: number_at(text, 44, 2) as u8,
+        day: number_at(text, 46, 2) as u8,
+        hour: number_at(text, 49, 2) as u8,
+        minute: number_at(text, 51, 2) as u8,
+        second: number_at(text, 53, 2) as u8,
         millisecond: 0,
     }
 }
 
-// Returns the moment that the second line shows, or `None` only if it is the line of no moment.
-fn read_made(line: &[u8]) -> Option<CreationTime>
-    ensures { (t : ℕ) → IsMadeLine t line.now → result ≡ Some t }
+// Returns the moment in the line at which a text begins, or `None` only if it is the line of no
+// moment at which a file is made.
+fn read_made(text: &[u8]) -> Option<CreationTime>
+    ensures { (t : ℕ) → IsMoment t → t % 1000 ≡ 0 → StartsWith (made_line (reading_of t)) text.now → result ≡ Some t }
 {
-    let moment = of_civil(made_reading(line))?;
+    let moment = of_civil(made_reading(text))?;
     CreationTime::new(moment).ok()
 }
 
-// Returns the marker that the third line shows, or `None` only if it is the line of no marker.
-fn read_marker(line: &[u8]) -> Option<Marker>
-    ensures { (m : List ℕ) → IsMarkerLine m line.now → result ≡ Some m }
+// Returns the marker in the line at which a text begins, or `None` only if it is the line of no
+// marker.
+fn read_marker(text: &[u8]) -> Option<Marker>
+    ensures { (m : List ℕ) → IsMarker m → StartsWith (marker_line m) text.now → result ≡ Some m }
 {
-    let content = columns_at(line, 0, 60);
+    let content = columns_at(text, 0, 60);
     Marker::new(content.split_at(trimmed_len(content)).0).ok()
 }
 
-// Returns the position that its line shows, with this height, or `None` only if it is the line of
-// no position.
-fn read_position(line: &[u8], height: u16) -> Option<Position>
-    ensures height { IfSome result (λ position. position.height ≡ height) }
-    ensures shown { (s : PositionView) → IsPlaceLine s line.now
-        → IsSomeAnd result (λ position. (position.x ≡ s.x) × (position.y ≡ s.y) × (position.z ≡ s.z)) }
+// Returns the position in the line at which a text begins, without its height, or `None` only if it
+// is the line of no position.
+fn read_place(text: &[u8]) -> Option<Position>
+    ensures { (s : PositionView) → IsPositionView s → StartsWith (place_line s) text.now
+        → IsSomeAnd result (λ place. (place.x ≡ s.x) × (place.y ≡ s.y) × (place.z ≡ s.z)) }
 {
     Position::new(
-        signed_number_at(line, 0),
-        signed_number_at(line, 14),
-        signed_number_at(line, 28),
-        height,
+        signed_number_at(text, 0),
+        signed_number_at(text, 14),
+        signed_number_at(text, 28),
+        0,
     )
 }
 
-// Returns the antenna's height that its line shows, in 0.0001 m, or `None` only if it is the line
-// of no height.
-fn read_height(line: &[u8]) -> Option<u16>
-    ensures { (h : ℕ) → IsHeightLine h line.now → result ≡ Some h }
+// Returns the antenna's height in the line at which a text begins, in 0.0001 m, or `None` only if
+// it is the line of no height.
+fn read_height(text: &[u8]) -> Option<u16>
+    ensures { (h : ℕ) → h < 65_536 → StartsWith (height_line h) text.now → result ≡ Some h }
 {
-    let height = number_at(line, 0, 14);
+    let height = number_at(text, 0, 14);
     if height > 65_535 {
         return None;
     }
     Some(height as u16)
 }
 
-// Returns how many codes the first line of the observation types shows, or `None` only if it is the
-// first line of no number of codes.
-fn read_code_count(line: &[u8]) -> Option<usize>
+// Returns how many codes the first line of the observation types shows, at which a text begins, or
+// `None` only if it is the line of no such number.
+fn read_code_count(text: &[u8]) -> Option<usize>
     ensures good { IfSome result (IsInRange 1 16) }
-    ensures shown { (n : ℕ) → IsCountLine n line.now → result ≡ Some n }
+    ensures shown { (n : ℕ) (types : List ℕ) → IsInRange 1 16 n → StartsWith (first_types_line n types) text.now → result ≡ Some n }
 {
-    let count = number_at(line, 3, 3) as usize / 3;
+    let count = number_at(text, 3, 3) as usize / 3;
     if count == 0 || count > 16 {
         return None;
     }
     Some(count)
 }
 
-// The bytes of a line of a header, its LF included.
-const HEADER_LINE: usize = 81;
+// The bytes of a line of observation types, its LF included.
+const TYPES_LINE: usize = 81;
 
-// Returns the line of a text that follows this number of lines of a header.
-fn text_line(text: &[u8], lines: usize) -> &[u8]
-    requires { 81 * lines < 2 ^ 64 }
-    ensures { result.now ≡ line_at lines text.now }
-{
-    columns_at(text, HEADER_LINE * lines, HEADER_LINE)
-}
-
-// Returns the name of the code that follows `before` codes in the lines of observation types.
+// Returns the name of the code that follows `before` codes in the lines of the observation types,
+// at which a text begins.
 fn read_name(text: &[u8], before: usize) -> &[u8]
     requires { before < 16 }
     ensures { result.now ≡ name_at before text.now }
 {
-    // A code has three types. From the tenth line on each has 13 types, of 4 columns each.
-    columns_at(
-        text_line(text, 9 + 3 * before / 13),
-        8 + 4 * (3 * before % 13),
-        2,
-    )
+    // A code has three types, and a line 13, of 4 columns each.
+    let line = columns_at(text, TYPES_LINE * (3 * before / 13), TYPES_LINE);
+    columns_at(line, 8 + 4 * (3 * before % 13), 2)
 }
 
 // Returns the place of a code in a list of all codes.
@@ -179,32 +174,40 @@ fn read_codes(text: &[u8]) -> [Code; 16]
 
 // Returns the date and time in the line of the first observation. Its seconds have been read
 // before.
-fn first_reading(line: &[u8], seconds: u64) -> Civil
-    requires seconds { seconds ≡ number_at 30 13 line.now }
+fn first_reading(text: &[u8], seconds: u64) -> Civil
+    requires seconds { seconds ≡ number_at 30 13 text.now }
     requires minute { seconds < 600_000_000 }
-    ensures { result ≡ first_civil line.now }
+    ensures { result ≡ first_civil text.now }
 {
     Civil {
-        year: number_at(line, 2, 4) as u16,
-        month: number_at(line, 10, 2) as u8,
-        day: number_at(line, 16, 2) as u8,
-        hour: number_at(line, 22, 2) as u8,
-        minute: number_at(line, 28, 2) as u8,
+        year: number_at(text, 2, 4) as u16,
+        month: number_at(text, 10, 2) as u8,
+        day: number_at(text, 16, 2) as u8,
+        hour: number_at(text, 22, 2) as u8,
+        minute: number_at(text, 28, 2) as u8,
         second: (seconds / 10_000_000) as u8,
         millisecond: (seconds / 10_000 % 1000) as u16,
     }
 }
 
-// Returns the moment that the line of the first observation shows, or `None` only if it is the line
-// of no moment.
-fn read_first(line: &[u8]) -> Option<GpsMs>
-    ensures { (t : ℕ) → IsFirstLine t line.now → result ≡ Some t }
+// Returns the moment in the line of the first observation, at which a text begins, or `None` only
+// if it is the line of no moment.
+fn read_first(text: &[u8]) -> Option<GpsMs>
+    ensures { (t : ℕ) → IsMoment t → StartsWith (first_line (reading_of t)) text.now → result ≡ Some t }
 {
-    let seconds = number_at(line, 30, 13);
+    let seconds = number_at(text, 30, 13);
     if seconds >= 600_000_000 {
         return None;
     }
-    of_civil(first_reading(line, seconds))
+    of_civil(first_reading(text, seconds))
+}
+
+/// The parts of a header.
+#[derive(Drop)]
+struct HeaderParts {
+    head: Head,
+    position: Position,
+    first: GpsMs,
 }
 
 /// The parts of a header, and its length.
@@ -248,73 +251,62 @@ fn any_marker() -> Marker {
     marker
 }
 
-// Returns the earth's center with this height.
-fn any_position(height: u16) -> Position
-    ensures { result.height ≡ height }
-{
-    let Some(center) = Position::new(0, 0, 0, height) else {
+// Returns the earth's center.
+fn any_place() -> Position {
+    let Some(center) = Position::new(0, 0, 0, 0) else {
         unreachable!();
     };
     center
 }
 
-// Returns a header of the parts that the lines of a text show. If the text begins with a header, it
-// is this one.
-//
-// A line that shows no part is the line of no part. So a header with any part in its place is unlike
-// the text in this line, as each header is.
-fn read_header(text: &[u8]) -> HeaderRead
-    ensures only { IsOnlyHeader text.now result.head (position_view result.position) result.first }
-    ensures good { IsHeadView result.head × IsPositionView (position_view result.position) × IsMoment result.first }
-    ensures size { (length (header_text result.head (position_view result.position) result.first) ≡ result.used)
-        × (result.used ≡ 81 * result.lines) }
-    ensures shown { (h : HeadView) (s : PositionView) (first k : ℕ) → IsHeadView h → IsPositionView s → IsMoment first
-        → ((j : ℕ) → j ≤ k → line_at j (header_text h s first) ≡ line_at j text.now)
-        → line_at k (header_text result.head (position_view result.position) result.first) ≡ line_at k text.now }
+// Returns a position with another height of the antenna.
+fn with_height(place: &Position, height: u16) -> Position
+    ensures { (result.x ≡ place.now.x) × (result.y ≡ place.now.y) × (result.z ≡ place.now.z) × (result.height ≡ height) }
 {
-    let made = read_made(text_line(text, 1)).unwrap_or(any_creation_time());
-    let marker = read_marker(text_line(text, 2)).unwrap_or(any_marker());
-    let height = read_height(text_line(text, 8)).unwrap_or(0);
-    let position = read_position(text_line(text, 7), height).unwrap_or(any_position(height));
-    let count = read_code_count(text_line(text, 9)).unwrap_or(1);
-    let codes = read_codes(text);
+    let Some(position) = Position::new(place.x, place.y, place.z, height) else {
+        unreachable!();
+    };
+    position
+}
+
+// Writes a header of the parts that a text shows, and returns them. If the text begins with a
+// header, it is this one.
+//
+// Each part is read where the parts before it end, as they are written. A line that shows no part
+// is the line of no part. So a header with any part in its place is unlike the text in this line, as
+// each header is.
+fn read_header(text: &[u8], out: &mut ArrayVec<u8, LONGEST_HEADER>) -> HeaderParts
+    requires empty { out.old.items ≡ [] }
+    ensures good { IsHeadView result.head × IsPositionView (position_view result.position) × IsMoment result.first }
+    ensures written { out.new.items ≡ header_text result.head (position_view result.position) result.first }
+    ensures shown { ShowsHeader text.now out.new.items }
+{
+    put_version_line(out);
+    let made = read_made(after(text, out.len())).unwrap_or(any_creation_time());
+    put_made_line(out, civil(made.moment()));
+    let marker = read_marker(after(text, out.len())).unwrap_or(any_marker());
+    put_marker_line(out, marker.as_bytes());
+    put_unknown_lines(out);
+    let place = read_place(after(text, out.len())).unwrap_or(any_place());
+    put_place_line(out, &place);
+    let height = read_height(after(text, out.len())).unwrap_or(0);
+    put_height_line(out, height);
+    let types = after(text, out.len());
+    let count = read_code_count(types).unwrap_or(1);
+    let codes = read_codes(types);
     let Ok(head) = Head::from_parts(marker, codes.as_slice().split_at(count).0, made) else {
         unreachable!();
     };
-    // 13 lines, and those of the types: 12 columns for each code, 52 columns in each line.
-    let lines = 13 + (12 * count + 51) / 52;
-    let first = read_first(text_line(text, lines - 3)).unwrap_or(any_moment());
-    HeaderRead {
+    put_types_lines(out, head.codes());
+    put_unit_line(out);
+    let first = read_first(after(text, out.len())).unwrap_or(any_moment());
+    put_first_line(out, civil(first));
+    put_end_lines(out);
+    HeaderParts {
         head,
-        position,
+        position: with_height(&place, height),
         first,
-        lines,
-        used: HEADER_LINE * lines,
     }
-}
-
-// Returns whether a header and a text have the same line after this number of lines.
-fn have_same_line(header: &[u8], text: &[u8], lines: usize) -> bool
-    requires { 81 * lines < 2 ^ 64 }
-    ensures { Decides result (line_at lines header.now ≡ line_at lines text.now) }
-{
-    is_same(text_line(header, lines), text_line(text, lines))
-}
-
-// Returns the first line of a header that a text doesn't have, counted from 0.
-fn unlike_line(header: &[u8], text: &[u8]) -> Option<usize>
-    requires { length header.now % 81 ≡ 0 }
-    ensures { MatchOption result
-        (text.now ≡ header.now ++ drop (length header.now) text.now)
-        (λ k. (81 * k < length header.now) × (take (81 * k) header.now ≡ take (81 * k) text.now)
-        × (line_at k header.now ≢ line_at k text.now)) }
-{
-    for k in 0..header.len() / HEADER_LINE {
-        if !have_same_line(header, text, k) {
-            return Some(k);
-        }
-    }
-    None
 }
 
 /// Returns the place of the LF that ends the first line of a text, or `None` if no LF does.
@@ -324,6 +316,40 @@ pub(crate) fn line_end(text: &[u8]) -> Option<usize>
     ensures line { MatchOption result (HasNoEnd text.now) (λ n. (n < length text.now) × IsLine (take (n + 1) text.now)) }
 {
     memchr(b'\n', text)
+}
+
+// Returns why a line of a header does not begin a text.
+fn line_cause(text: &[u8]) -> Cause
+    ensures { IsLineCause text.now result }
+{
+    match line_end(text) {
+        Some(_) => Cause::HeaderLine,
+        None => Cause::Truncated,
+    }
+}
+
+// Returns the number of lines of what is written if a text begins with it, else the first of these
+// lines that the text doesn't have.
+fn compare_lines(text: &[u8], written: &[u8]) -> Result<usize, CheckFault>
+    ensures alike { IfOk result (λ n. (rest : List ℕ) × (end : List ℕ) × HasNoEnd end × BeginAlike n text.now written.now rest end) }
+    ensures unlike { IfErr result (IsUnlike text.now written.now) }
+{
+    let mut rest = text;
+    let mut wanted = written;
+    let mut lines = 0;
+    while let Some(end) = line_end(wanted) {
+        let (line, more) = wanted.split_at(end + 1);
+        if !is_same(front(rest, line.len()), line) {
+            return Err(CheckFault {
+                line: lines + 1,
+                cause: line_cause(rest),
+            });
+        }
+        rest = after(rest, line.len());
+        wanted = more;
+        lines += 1;
+    }
+    Ok(lines)
 }
 
 /// Returns the parts of the header with which a text begins, else its first wrong line.
@@ -336,14 +362,16 @@ pub(crate) fn check_header(text: &[u8]) -> Result<HeaderRead, CheckFault>
     ensures fault { IfErr result (IsFaultOfHeader text.now) }
     ensures none { OnErr result (¬ (HasHeader text.now)) }
 {
-    let read = read_header(text);
-    let header = header_lines(&read.head, &read.position, read.first);
-    let Some(k) = unlike_line(header.as_slice(), text) else {
-        return Ok(read);
-    };
-    let cause = match line_end(text.split_at(HEADER_LINE * k).1) {
-        Some(_) => Cause::HeaderLine,
-        None => Cause::Truncated,
-    };
-    Err(CheckFault { line: k + 1, cause })
+    let mut written = ArrayVec::new();
+    let parts = read_header(text, &mut written);
+    let lines = compare_lines(text, written.as_slice())?;
+    // A law: no two codes have one name, so the header shows its codes.
+    code_laws();
+    Ok(HeaderRead {
+        head: parts.head,
+        position: parts.position,
+        first: parts.first,
+        lines,
+        used: written.len(),
+    })
 }

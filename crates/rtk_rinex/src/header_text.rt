@@ -1,9 +1,9 @@
-//! The text of a header, a function for each line that has more than fixed entries.
+//! The text of a header, a function for each part of it.
 
 ghost use Rattle.std.specs.Prelude.{◌≡◌, ℕ, ◌+◌, ◌*◌, ◌≤◌, ◌<◌, [], ◌∷◌, ◌++◌, take, drop, length, IfOk, codes, decimal, pos};
 ghost use Rattle.rtk_obs.specs.Coordinates.{IsCoordinate};
 ghost use Rattle.rtk_rinex.specs.Columns.{left, right, fixed};
-ghost use Rattle.rtk_rinex.specs.Header.{header_line, made_text, first_lines, position_view, position_lines, types_of, types, continuation_line, types_lines, first_text, last_lines, header_text};
+ghost use Rattle.rtk_rinex.specs.Header.{header_line, version_line, made_text, made_line, marker_line, position_view, place_line, height_line, types_of, types, continuation_line, types_lines, unit_line, first_text, first_line, header_text};
 
 use crate::columns::{
     append, fixed_14_4, integer_3, integer_6, put_last_digits, seconds, unsigned_13_7,
@@ -17,7 +17,7 @@ use std::alloc::{AllocError, Global};
 const TYPES: &[u8] = b"SYS / # / OBS TYPES";
 
 /// The bytes of the longest header: 17 lines of 81 bytes, four of them with observation types.
-const LONGEST_HEADER: usize = 1377;
+pub(crate) const LONGEST_HEADER: usize = 1377;
 
 // Appends a text and blanks after it, `width` columns in all.
 fn put_left(out: &mut ArrayVec<u8, LONGEST_HEADER>, text: &[u8], width: usize)
@@ -70,21 +70,46 @@ fn made_content(made: Civil) -> ArrayVec<u8, 60>
     content
 }
 
-// Puts the lines up to the antenna's type. Observer, receiver and antenna are blank, since no
-// message that is converted tells them.
-fn put_first_lines(out: &mut ArrayVec<u8, LONGEST_HEADER>, marker: &[u8], made: Civil)
-    requires marker { length marker.now ≤ 60 }
-    requires room { length out.old.items + 567 ≤ 1377 }
-    ensures items { out.new.items ≡ out.old.items ++ first_lines marker.now made }
-    ensures len { length out.new.items ≡ length out.old.items + 567 }
+/// Puts the line with the version, the kind of the file and its system.
+pub(crate) fn put_version_line(out: &mut ArrayVec<u8, LONGEST_HEADER>)
+    requires room { length out.old.items + 81 ≤ 1377 }
+    ensures items { out.new.items ≡ out.old.items ++ version_line }
+    ensures len { length out.new.items ≡ length out.old.items + 81 }
 {
     put_header_line(
         out,
         b"     3.05           OBSERVATION DATA    G",
         b"RINEX VERSION / TYPE",
     );
+}
+
+/// Puts the line with the program and the time at which the file is made.
+pub(crate) fn put_made_line(out: &mut ArrayVec<u8, LONGEST_HEADER>, made: Civil)
+    requires room { length out.old.items + 81 ≤ 1377 }
+    ensures items { out.new.items ≡ out.old.items ++ made_line made }
+    ensures len { length out.new.items ≡ length out.old.items + 81 }
+{
     put_header_line(out, made_content(made).as_slice(), b"PGM / RUN BY / DATE");
+}
+
+/// Puts the line with the marker's name.
+pub(crate) fn put_marker_line(out: &mut ArrayVec<u8, LONGEST_HEADER>, marker: &[u8])
+    requires marker { length marker.now ≤ 60 }
+    requires room { length out.old.items + 81 ≤ 1377 }
+    ensures items { out.new.items ≡ out.old.items ++ marker_line marker.now }
+    ensures len { length out.new.items ≡ length out.old.items + 81 }
+{
     put_header_line(out, marker, b"MARKER NAME");
+}
+
+/// Puts the lines from the marker's type to the antenna's type. Observer, receiver and antenna are
+/// blank, since no message that is converted tells them.
+pub(crate) fn put_unknown_lines(out: &mut ArrayVec<u8, LONGEST_HEADER>)
+    requires room { length out.old.items + 324 ≤ 1377 }
+    ensures items { out.new.items ≡ out.old.items ++ header_line (codes "GEODETIC") (codes "MARKER TYPE") ++ header_line [] (codes "OBSERVER / AGENCY")
+        ++ header_line [] (codes "REC # / TYPE / VERS") ++ header_line [] (codes "ANT # / TYPE") }
+    ensures len { length out.new.items ≡ length out.old.items + 324 }
+{
     put_header_line(out, b"GEODETIC", b"MARKER TYPE");
     put_header_line(out, b"", b"OBSERVER / AGENCY");
     put_header_line(out, b"", b"REC # / TYPE / VERS");
@@ -115,20 +140,28 @@ fn height_content(height: u16) -> ArrayVec<u8, 60>
     content
 }
 
-// Puts the lines of the position and of the antenna's height.
-fn put_position_lines(out: &mut ArrayVec<u8, LONGEST_HEADER>, position: &Position)
-    requires room { length out.old.items + 162 ≤ 1377 }
-    ensures items { out.new.items ≡ out.old.items ++ position_lines (position_view position.now) }
-    ensures len { length out.new.items ≡ length out.old.items + 162 }
+/// Puts the line with the position.
+pub(crate) fn put_place_line(out: &mut ArrayVec<u8, LONGEST_HEADER>, position: &Position)
+    requires room { length out.old.items + 81 ≤ 1377 }
+    ensures items { out.new.items ≡ out.old.items ++ place_line (position_view position.now) }
+    ensures len { length out.new.items ≡ length out.old.items + 81 }
 {
     put_header_line(
         out,
         position_content(position).as_slice(),
         b"APPROX POSITION XYZ",
     );
+}
+
+/// Puts the line with the antenna's height.
+pub(crate) fn put_height_line(out: &mut ArrayVec<u8, LONGEST_HEADER>, height: u16)
+    requires room { length out.old.items + 81 ≤ 1377 }
+    ensures items { out.new.items ≡ out.old.items ++ height_line height }
+    ensures len { length out.new.items ≡ length out.old.items + 81 }
+{
     put_header_line(
         out,
-        height_content(position.height).as_slice(),
+        height_content(height).as_slice(),
         b"ANTENNA: DELTA H/E/N",
     );
 }
@@ -194,9 +227,9 @@ fn put_continuation_line(out: &mut ArrayVec<u8, LONGEST_HEADER>, text: &[u8])
     }
 }
 
-// Puts the lines of the observation types. Thirteen types of four columns stand on a line, which
-// are 52 columns. 16 codes have 192 columns.
-fn put_types_lines(out: &mut ArrayVec<u8, LONGEST_HEADER>, listed: &[Code])
+/// Puts the lines of the observation types. Thirteen types of four columns stand on a line, which
+/// are 52 columns. 16 codes have 192 columns.
+pub(crate) fn put_types_lines(out: &mut ArrayVec<u8, LONGEST_HEADER>, listed: &[Code])
     requires listed { length listed.now ≤ 16 }
     requires room { length out.old.items + 324 ≤ 1377 }
     ensures items { out.new.items ≡ out.old.items ++ types_lines listed.now }
@@ -232,16 +265,32 @@ fn first_content(first: Civil) -> ArrayVec<u8, 60>
     content
 }
 
-// Puts the lines after the observation types.
-fn put_last_lines(out: &mut ArrayVec<u8, LONGEST_HEADER>, first: Civil)
-    requires second { first.second < 60 }
-    requires millisecond { first.millisecond < 1000 }
-    requires room { length out.old.items + 324 ≤ 1377 }
-    ensures items { out.new.items ≡ out.old.items ++ last_lines first }
-    ensures len { length out.new.items ≡ length out.old.items + 324 }
+/// Puts the line with the unit of the signal strengths.
+pub(crate) fn put_unit_line(out: &mut ArrayVec<u8, LONGEST_HEADER>)
+    requires room { length out.old.items + 81 ≤ 1377 }
+    ensures items { out.new.items ≡ out.old.items ++ unit_line }
+    ensures len { length out.new.items ≡ length out.old.items + 81 }
 {
     put_header_line(out, b"DBHZ", b"SIGNAL STRENGTH UNIT");
+}
+
+/// Puts the line with the time of the first observation.
+pub(crate) fn put_first_line(out: &mut ArrayVec<u8, LONGEST_HEADER>, first: Civil)
+    requires second { first.second < 60 }
+    requires millisecond { first.millisecond < 1000 }
+    requires room { length out.old.items + 81 ≤ 1377 }
+    ensures items { out.new.items ≡ out.old.items ++ first_line first }
+    ensures len { length out.new.items ≡ length out.old.items + 81 }
+{
     put_header_line(out, first_content(first).as_slice(), b"TIME OF FIRST OBS");
+}
+
+/// Puts the lines with the phase shifts, which are unknown, and with the end.
+pub(crate) fn put_end_lines(out: &mut ArrayVec<u8, LONGEST_HEADER>)
+    requires room { length out.old.items + 162 ≤ 1377 }
+    ensures items { out.new.items ≡ out.old.items ++ header_line (codes "G") (codes "SYS / PHASE SHIFT") ++ header_line [] (codes "END OF HEADER") }
+    ensures len { length out.new.items ≡ length out.old.items + 162 }
+{
     put_header_line(out, b"G", b"SYS / PHASE SHIFT");
     put_header_line(out, b"", b"END OF HEADER");
 }
@@ -255,10 +304,16 @@ pub(crate) fn header_lines(
     ensures { result.items ≡ header_text head.now (position_view position.now) first }
 {
     let mut out = ArrayVec::new();
-    put_first_lines(&mut out, head.marker(), civil(head.made()));
-    put_position_lines(&mut out, position);
+    put_version_line(&mut out);
+    put_made_line(&mut out, civil(head.made()));
+    put_marker_line(&mut out, head.marker());
+    put_unknown_lines(&mut out);
+    put_place_line(&mut out, position);
+    put_height_line(&mut out, position.height);
     put_types_lines(&mut out, head.codes());
-    put_last_lines(&mut out, civil(first));
+    put_unit_line(&mut out);
+    put_first_line(&mut out, civil(first));
+    put_end_lines(&mut out);
     out
 }
 

@@ -1,59 +1,67 @@
-use Rattle.std.proofs.Common.{◌≡◌, ◌∙◌, ◌+◌, ◌*◌, take, drop, arith, sym, refl}
-use Rattle.std.proofs.lemmas.List.{take-append-drop}
+use Rattle.std.proofs.Common.{◌≡◌, ◌∙◌, ◌++◌, List, ℕ, drop, length, ap, sym}
+use Rattle.std.proofs.lemmas.Result.{err_from_is_err_and}
 use Rattle.rtk_rinex.specs.Header.{position_view, header_text}
-use Rattle.rtk_rinex.proofs.HeaderSameLemmas.{IsGoodHeader, length-header, lines_of}
-use Rattle.rtk_rinex.proofs.HeaderVerdictLemmas.{PartsAt, are_lines, parts_lines, parts_begin, parts_whole, parts_none, parts_next}
+use Rattle.rtk_rinex.specs.HeaderFault.{IsFaultOfHeader}
+use Rattle.rtk_rinex.specs.Steps.HeaderRead.{ShowsHeader, IsUnlike}
+use Rattle.rtk_rinex.specs.declared.check_fault.CheckFault.{CheckFault}
+use Rattle.rtk_rinex.specs.declared.header_check.HeaderParts.{HeaderParts}
+use Rattle.rtk_rinex.proofs.HeaderRowsLemmas.{Values, IsGood, values_of, text_with}
+use Rattle.rtk_rinex.proofs.HeaderVerdictLemmas.{HasAll, has_all, only_header, fault_is}
+use Rattle.rtk_rinex.proofs.OneHeaderLemmas.{has-fault-after, no_header}
+use Rattle.rtk_rinex.proofs.TextLemmas.{on_err}
 use Rattle.rtk_rinex.proofs.header_check.check_header.Goals as goal
-use Rattle.rtk_rinex.proofs.header_check.check_header.Goals.{in-Some-line_end, in-None}
 
-pub returns-in_default-clause-size : goal.returns-in_default-clause-size
-returns-in_default-clause-size c =
-    let r = c.read_header-read.result in
-    let g : IsGoodHeader r.head (position_view r.position) r.first = record { heading = c.read_header-read.ensures.good.0; site = c.read_header-read.ensures.good.1; first = c.read_header-read.ensures.good.2 } in
-    let long = length-header r.head (position_view r.position) r.first g in
-    let lines : 13 + lines_of r.head ≡ r.lines = omega (arith, long, c.read_header-read.ensures.size.0, c.read_header-read.ensures.size.1) in
-    (sym c.read_header-read.ensures.size.0, rw lines at (are_lines r.head (position_view r.position) r.first g))
+-- the values that were read, and what is written of them
+abbrev values : HeaderParts → Values
+values p = values_of p.head (position_view p.position) p.first
 
-header_is : (c : goal.Joined-line_end)
-    → c.as_slice.result.now ≡ header_text c.read_header-read.result.head (position_view c.read_header-read.result.position) c.read_header-read.result.first
-header_is c = c.as_slice.ensures.value ∙ c.header_lines-header.ensures
+-- ---- the text has all lines
 
-parts : (c : goal.Joined-line_end) → PartsAt c.args.text.now c.read_header-read.result.head (position_view c.read_header-read.result.position) c.read_header-read.result.first c.in-Some.k
-parts c =
-    let e = rw (header_is c) at c.in-Some.ensures in
-    record {
-      good = record { heading = c.read_header-read.ensures.good.0; site = c.read_header-read.ensures.good.1; first = c.read_header-read.ensures.good.2 };
-      back = c.read_header-read.ensures.shown;
-      below = e.0;
-      front = e.1;
-      unlike = e.2;
-    }
+all : (c : goal.After-len) → HasAll c.in_ok-lines.lines c.args.text.now c.as_slice.result.now
+all c =
+    let p = c.read_header-parts.result in
+    let g = c.read_header-parts.ensures.good in
+    let a = c.in_ok-lines.ensures.alike in
+    has_all c.in_ok-lines.lines c.args.text.now c.as_slice.result.now a.0 a.1 (values p) (record { heading = g.0; site = g.1; first = g.2 })
+    (c.as_slice.ensures.value ∙ c.read_header-parts.ensures.written) a.2 a.3
 
-pub returns-clause-fault : goal.returns-clause-fault
-returns-clause-fault c =
-    let text = c.args.text.now in
-    let r = c.read_header-read.result in
-    let k = c.in-Some.k in
-    let p = parts c in (
-      k,
-      refl,
-      (
-        take (81 * k) text,
-        drop (81 * k) text,
-        parts_lines text r.head (position_view r.position) r.first k p,
-        sym (take-append-drop (81 * k) text),
-        parts_begin text r.head (position_view r.position) r.first k p,
-        parts_whole text r.head (position_view r.position) r.first k p,
-        elim c.match-line_end.branch [
-          | in-Some-line_end w ↦
-              let rest = rw (c.split_at.ensures.back) at w.in-Some-line_end.ensures.parts in
-              rw w.cause-is (_, _, rest.0, rest.1, parts_next text _ _ r.head (position_view r.position) r.first k p rest.0 rest.1)
-          | in-None w ↦ rw w.cause-is (rw (c.split_at.ensures.back) at w.in-None.ensures.parts)
-        ],
-      ),
-    )
+pub returns-clause-text : goal.returns-clause-text
+returns-clause-text c =
+    let p = c.read_header-parts.result in
+    let is = c.as_slice.ensures.value ∙ c.read_header-parts.ensures.written in
+    (all c).begins ∙ ap (λ (w : List ℕ). w ++ drop (length c.as_slice.result.now) c.args.text.now) is
+    ∙ ap (λ (n : ℕ). header_text p.head (position_view p.position) p.first ++ drop n c.args.text.now) (ap length c.as_slice.ensures.value ∙ sym c.len.ensures.value)
 
-pub returns-clause-none : goal.returns-clause-none
-returns-clause-none c =
-    let r = c.read_header-read.result in
-    parts_none c.args.text.now r.head (position_view r.position) r.first c.in-Some.k (parts c)
+pub returns-clause-size : goal.returns-clause-size
+returns-clause-size c =
+    let is = c.as_slice.ensures.value ∙ c.read_header-parts.ensures.written in
+    (c.len.ensures.value ∙ ap length c.read_header-parts.ensures.written, rw is at (all c).lines)
+
+pub returns-clause-only : goal.returns-clause-only
+returns-clause-only c =
+    let p = c.read_header-parts.result in
+    let g = c.read_header-parts.ensures.good in
+    let is = c.as_slice.ensures.value ∙ c.read_header-parts.ensures.written in
+    only_header c.args.text.now (drop (length c.as_slice.result.now) c.args.text.now) (values p) c.code_laws.ensures.names (record { heading = g.0; site = g.1; first = g.2 })
+    ((all c).begins ∙ ap (λ (w : List ℕ). w ++ drop (length c.as_slice.result.now) c.args.text.now) is)
+
+-- ---- a line of the text is another one
+
+fault : (p : HeaderParts) (text written : List ℕ) (f : CheckFault) → IsGood (values p) → written ≡ text_with (values p) → ShowsHeader text written → IsUnlike text written f → IsFaultOfHeader text f
+fault p text written f g is shows unlike = fault_is text written (values p) f g is shows unlike
+
+pub returns-in_err-lines-clause-fault : goal.returns-in_err-lines-clause-fault
+returns-in_err-lines-clause-fault c =
+    let p = err_from_is_err_and c.from_residual.result c.from_residual.ensures.1 in
+    let g = c.read_header-parts.ensures.good in
+    let f = c.in_err-lines.field-0.0 in
+    rw p.1 (rw p.2 (fault c.read_header-parts.result c.args.text.now c.as_slice.result.now f (record { heading = g.0; site = g.1; first = g.2 })
+    (c.as_slice.ensures.value ∙ c.read_header-parts.ensures.written) (rw c.as_slice.ensures.value c.read_header-parts.ensures.shown) c.in_err-lines.ensures.unlike))
+
+pub returns-in_err-lines-clause-none : goal.returns-in_err-lines-clause-none
+returns-in_err-lines-clause-none c =
+    let g = c.read_header-parts.ensures.good in
+    let f = c.in_err-lines.field-0.0 in
+    let is = fault c.read_header-parts.result c.args.text.now c.as_slice.result.now f (record { heading = g.0; site = g.1; first = g.2 })
+    (c.as_slice.ensures.value ∙ c.read_header-parts.ensures.written) (rw c.as_slice.ensures.value c.read_header-parts.ensures.shown) c.in_err-lines.ensures.unlike in
+    on_err c.from_residual.result (no_header is.0 c.args.text.now f.cause (has-fault-after is.0 c.args.text.now f.cause is.2))
