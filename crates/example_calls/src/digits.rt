@@ -43,7 +43,7 @@ fn locked(alloc: Global, after: u32, l1_lock_indicator: u8) -> io::Result<Observ
         l1_lock_indicator,
         ..LEGACY_5
     };
-    seen_in_1004(alloc, after, Code::C1C, satellite)
+    seen_in_1004(alloc, after, Code::G1C, satellite)
 }
 
 // The phase of code 1C in a 1074.
@@ -62,7 +62,7 @@ fn seen_in_1074(alloc: Global, after: u32, lock_indicator: u8, half: bool) -> io
     let payload = payloads::msm_payload(alloc, &message)?;
     Ok(Observed {
         time: moments::near_noon(tow)?,
-        cell: observations::cell_of(&payload, Code::C1C)?,
+        cell: observations::cell_of(&payload, Code::G1C)?,
     })
 }
 
@@ -116,14 +116,14 @@ fn print_second(rt: &HostRuntime, name: &str, first: Observed, second: Observed)
         l1_phase_offset: NO_PHASE_1004,
         ..LEGACY_5
     };
-    let between = seen_in_1004(rt.alloc(), 500, Code::C1C, no_phase)?;
-    let digits = third_digits(Code::C1C, &first, &between, &second)?;
+    let between = seen_in_1004(rt.alloc(), 500, Code::G1C, no_phase)?;
+    let digits = third_digits(Code::G1C, &first, &between, &second)?;
     print_digits(rt, name, digits)
 }
 
 fn print_first(rt: &HostRuntime) -> io::Result<()> {
     let first = locked(rt.alloc(), 0, 5)?;
-    print_digits(rt, "a first phase", first_digits(Code::C1C, &first))
+    print_digits(rt, "a first phase", first_digits(Code::G1C, &first))
 }
 
 fn print_slips(rt: &HostRuntime) -> io::Result<()> {
@@ -184,11 +184,11 @@ fn print_mixed(rt: &HostRuntime) -> io::Result<()> {
         l1_lock_indicator: 6,
         ..LEGACY_5
     };
-    let first = seen_in_1004(rt.alloc(), 0, Code::C1C, high)?;
-    let last = seen_in_1004(rt.alloc(), 1_000, Code::C1C, low)?;
+    let first = seen_in_1004(rt.alloc(), 0, Code::G1C, high)?;
+    let last = seen_in_1004(rt.alloc(), 1_000, Code::G1C, low)?;
     print_second(rt, "a roll between two 1004", first, last)?;
     let between = seen_in_1074(rt.alloc(), 500, 10, false)?;
-    let digits = third_digits(Code::C1C, &first, &between, &last)?;
+    let digits = third_digits(Code::G1C, &first, &between, &last)?;
     print_digits(rt, "a roll with a 1074 between", digits)
 }
 
@@ -196,10 +196,10 @@ pub(crate) fn print_calls(rt: &HostRuntime) -> io::Result<()> {
     print_first(rt)?;
     print_slips(rt)?;
     for offset in [285_440, 285_441, -285_441] {
-        print_rolls(rt, Code::C1C, offset)?;
+        print_rolls(rt, Code::G1C, offset)?;
     }
     for offset in [366_315, 366_316] {
-        print_rolls(rt, Code::C2W, offset)?;
+        print_rolls(rt, Code::G2W, offset)?;
     }
     print_mixed(rt)
 }

@@ -162,14 +162,14 @@ pub(crate) fn cell_of(payload: &[u8], code: Code) -> io::Result<Cell> {
 
 fn print_equality(rt: &HostRuntime) -> io::Result<()> {
     let payload = payloads::observation_payload(rt.alloc(), NOON_TOW)?;
-    let cell = cell_of(&payload, Code::C1C)?;
+    let cell = cell_of(&payload, Code::G1C)?;
     println!(rt; "a cell is itself: {}", cell == cell)?;
     let stronger = LegacySatellite {
         l1_cnr: 181,
         ..LEGACY_5
     };
     let payload = payloads::legacy_payload(rt.alloc(), NOON_TOW, &[stronger])?;
-    let stronger = cell_of(&payload, Code::C1C)?;
+    let stronger = cell_of(&payload, Code::G1C)?;
     println!(rt; "a cell is a stronger one: {}", cell == stronger)
 }
 

@@ -27,7 +27,7 @@ pub(crate) fn head(codes: &[Code]) -> io::Result<Head> {
 
 /// The head with codes 1C and 2W.
 pub(crate) fn head_1c_2w() -> io::Result<Head> {
-    head(&[Code::C1C, Code::C2W])
+    head(&[Code::G1C, Code::G2W])
 }
 
 fn print_head(
@@ -53,11 +53,11 @@ fn print_head(
 
 fn print_heads(rt: &HostRuntime) -> io::Result<()> {
     let made = moments::on_the_day(13, 0)?;
-    let codes = [Code::C1C, Code::C2W];
+    let codes = [Code::G1C, Code::G2W];
     print_head(rt, "marker BASE", b"BASE", &codes, made)?;
     print_head(rt, "marker with a blank first", b" X", &codes, made)?;
     print_head(rt, "no codes", b"BASE", &[], made)?;
-    print_head(rt, "code 1C twice", b"BASE", &[Code::C1C, Code::C1C], made)?;
+    print_head(rt, "code 1C twice", b"BASE", &[Code::G1C, Code::G1C], made)?;
     print_head(
         rt,
         "made 1 ms after one",
@@ -87,7 +87,7 @@ fn print_headers(rt: &HostRuntime) -> io::Result<()> {
     print_text(rt, &header(rt.alloc(), &head_1c_2w()?, &POSITION, noon)?)?;
 
     println!(rt; "header of five codes")?;
-    let five = head(&[Code::C1C, Code::C2W, Code::C2X, Code::C5X, Code::C1P])?;
+    let five = head(&[Code::G1C, Code::G2W, Code::G2X, Code::G5X, Code::G1P])?;
     print_labelled(
         rt,
         &header(rt.alloc(), &five, &POSITION, noon)?,
@@ -159,7 +159,7 @@ fn print_example(rt: &HostRuntime) -> io::Result<()> {
         slip: false,
         half: false,
     };
-    print_record(rt, &[Code::C1C, Code::C2W], &[l1, l2])
+    print_record(rt, &[Code::G1C, Code::G2W], &[l1, l2])
 }
 
 fn print_values(rt: &HostRuntime) -> io::Result<()> {
@@ -171,12 +171,12 @@ fn print_values(rt: &HostRuntime) -> io::Result<()> {
         0,
     ];
     for value in values {
-        print_record(rt, &[Code::C1C], &[observed(Some(value), Some(5_000))])?;
+        print_record(rt, &[Code::G1C], &[observed(Some(value), Some(5_000))])?;
     }
     for strength in [53_750, 54_000, 63_750] {
-        print_record(rt, &[Code::C1C], &[observed(Some(1_000), Some(strength))])?;
+        print_record(rt, &[Code::G1C], &[observed(Some(1_000), Some(strength))])?;
     }
-    print_record(rt, &[Code::C1C], &[observed(None, None)])
+    print_record(rt, &[Code::G1C], &[observed(None, None)])
 }
 
 pub(crate) fn print_calls(rt: &HostRuntime) -> io::Result<()> {

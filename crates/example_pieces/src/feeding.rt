@@ -25,7 +25,7 @@ fn hour_of_day(hour: u8) -> Option<GpsMs> {
 /// A file of station 2003 with three codes, made at one o'clock, from messages near noon.
 pub(crate) fn setup() -> Option<Setup> {
     let made = hour_of_day(13)?;
-    let Ok(head) = Head::new(b"BASE", &[Code::C1C, Code::C2W, Code::C5X], made) else {
+    let Ok(head) = Head::new(b"BASE", &[Code::G1C, Code::G2W, Code::G5X], made) else {
         return None;
     };
     match Setup::new(2003, hour_of_day(12)?, head, WINDOW) {

@@ -18,7 +18,7 @@
 //!     else {
 //!         return Ok(false);
 //!     };
-//!     let Ok(head) = Head::new(b"BASE", &[Code::C1C], noon) else {
+//!     let Ok(head) = Head::new(b"BASE", &[Code::G1C], noon) else {
 //!         return Ok(false);
 //!     };
 //!     let mut file = header(alloc, &head, &position, noon)?;

@@ -2,27 +2,27 @@
 use Rattle.std.proofs.Common.{◌≡◌, ◌≢◌, ℕ, suc, ◌<◌, List, [], ◌∷◌, ◌++◌, length, take, drop, get_or, arith, refl, sym, ap, ◌∙◌, append_assoc, length-append}
 use Rattle.std.proofs.Math.Seq.{take-append_seam, drop-append_seam}
 use Rattle.rtk_obs.specs.declared.code.Code.{Code}
-use Rattle.rtk_obs.specs.declared.code.Code.TheVariants.{C1C, C1P, C1W, C1S, C1L, C1X, C2C, C2D, C2P, C2W, C2S, C2L, C2X, C5I, C5Q, C5X}
+use Rattle.rtk_obs.specs.declared.code.Code.TheVariants.{G1C, G1P, G1W, G1S, G1L, G1X, G2C, G2D, G2P, G2W, G2S, G2L, G2X, G5I, G5Q, G5X}
 use Rattle.rtk_obs.specs.Code.{name_of}
 use Rattle.rtk_cli.specs.Steps.CodeList.{comma_names}
 
 two-characters : (c : Code) → length (name_of c) ≡ 2
-two-characters C1C = refl
-two-characters C1P = refl
-two-characters C1W = refl
-two-characters C1S = refl
-two-characters C1L = refl
-two-characters C1X = refl
-two-characters C2C = refl
-two-characters C2D = refl
-two-characters C2P = refl
-two-characters C2W = refl
-two-characters C2S = refl
-two-characters C2L = refl
-two-characters C2X = refl
-two-characters C5I = refl
-two-characters C5Q = refl
-two-characters C5X = refl
+two-characters G1C = refl
+two-characters G1P = refl
+two-characters G1W = refl
+two-characters G1S = refl
+two-characters G1L = refl
+two-characters G1X = refl
+two-characters G2C = refl
+two-characters G2D = refl
+two-characters G2P = refl
+two-characters G2W = refl
+two-characters G2S = refl
+two-characters G2L = refl
+two-characters G2X = refl
+two-characters G5I = refl
+two-characters G5Q = refl
+two-characters G5X = refl
 
 -- the first name of a list, and what follows it
 take-name : (c : Code) (after : List ℕ) → take 2 (name_of c ++ after) ≡ name_of c

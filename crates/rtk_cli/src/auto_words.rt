@@ -62,7 +62,7 @@ fn codes_or_one(alloc: Global, text: Option<&str>) -> Result<Vec<Code>, WordsFau
     ensures { IfErr result IsWordsFault }
 {
     let Some(text) = text else {
-        return Ok(Vec::from_slice(alloc, &[Code::C1C])?);
+        return Ok(Vec::from_slice(alloc, &[Code::G1C])?);
     };
     codes_listed(alloc, text)
 }

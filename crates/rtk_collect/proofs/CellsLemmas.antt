@@ -9,7 +9,7 @@ use Rattle.std.proofs.lemmas.List.Elements.{All-from_recursion, recursion_from_A
 use Rattle.rtk_obs.specs.Cell.{IsSatellite, IsInRange}
 use Rattle.rtk_obs.specs.declared.cell.CellEntry.{CellEntry}
 use Rattle.rtk_obs.specs.declared.cell.CellSource.TheVariants.{Legacy}
-use Rattle.rtk_obs.specs.declared.code.Code.TheVariants.{C1C}
+use Rattle.rtk_obs.specs.declared.code.Code.TheVariants.{G1C}
 use Rattle.rtk_collect.specs.declared.conflicts.SatelliteCode.{SatelliteCode}
 use Rattle.std.specs.Prelude.{◌*◌, not}
 use Rattle.rtk_obs.specs.Code.{place_of}
@@ -23,7 +23,7 @@ use Rattle.rtk_collect.specs.Steps.OrderedPlaces.{lower}
 abbrev pub any_cell : CellEntry
 any_cell = record {
   satellite = 0;
-  code = C1C;
+  code = G1C;
   cell = record { range_mm = None; phase_millicycles = None; strength_millidbhz = None; lock_time_ms = 0; half = false; source = Legacy; offset = None };
 }
 

@@ -12,7 +12,7 @@ use denote.Enum.Bare.{sameb}
 use Rattle.rtk_obs.specs.contracts.cell.CellSource.{the_type}
 use Rattle.rtk_obs.specs.Code.{place_of}
 use Rattle.rtk_obs.specs.declared.code.Code.{Code}
-use Rattle.rtk_obs.specs.declared.code.Code.TheVariants.{C1C, C1P, C1W, C1S, C1L, C1X, C2C, C2D, C2P, C2W, C2S, C2L, C2X, C5I, C5Q, C5X}
+use Rattle.rtk_obs.specs.declared.code.Code.TheVariants.{G1C, G1P, G1W, G1S, G1L, G1X, G2C, G2D, G2P, G2W, G2S, G2L, G2X, G5I, G5Q, G5X}
 use Rattle.rtk_obs.specs.declared.cell.CellSource.{CellSource}
 use Rattle.rtk_obs.specs.declared.cell.CellSource.TheVariants.{Legacy, Msm}
 use Rattle.rtk_obs.specs.declared.cell.Cell.{Cell}
@@ -27,45 +27,45 @@ use Rattle.rtk_collect.specs.Laws.{KeysAreDistinct, EqualityDecides}
 -- the code in a place
 abbrev code_at : ℕ → Code
 code_at n =
-    if n == 0 then C1C else if n == 1 then C1P else if n == 2 then C1W else if n == 3 then C1S else if n == 4 then C1L else if n == 5 then C1X else
-    if n == 6 then C2C else if n == 7 then C2D else if n == 8 then C2P else if n == 9 then C2W else if n == 10 then C2S else if n == 11 then C2L else
-    if n == 12 then C2X else if n == 13 then C5I else if n == 14 then C5Q else C5X
+    if n == 0 then G1C else if n == 1 then G1P else if n == 2 then G1W else if n == 3 then G1S else if n == 4 then G1L else if n == 5 then G1X else
+    if n == 6 then G2C else if n == 7 then G2D else if n == 8 then G2P else if n == 9 then G2W else if n == 10 then G2S else if n == 11 then G2L else
+    if n == 12 then G2X else if n == 13 then G5I else if n == 14 then G5Q else G5X
 
 code_at-place : (c : Code) → code_at (place_of c) ≡ c
-code_at-place C1C = refl
-code_at-place C1P = refl
-code_at-place C1W = refl
-code_at-place C1S = refl
-code_at-place C1L = refl
-code_at-place C1X = refl
-code_at-place C2C = refl
-code_at-place C2D = refl
-code_at-place C2P = refl
-code_at-place C2W = refl
-code_at-place C2S = refl
-code_at-place C2L = refl
-code_at-place C2X = refl
-code_at-place C5I = refl
-code_at-place C5Q = refl
-code_at-place C5X = refl
+code_at-place G1C = refl
+code_at-place G1P = refl
+code_at-place G1W = refl
+code_at-place G1S = refl
+code_at-place G1L = refl
+code_at-place G1X = refl
+code_at-place G2C = refl
+code_at-place G2D = refl
+code_at-place G2P = refl
+code_at-place G2W = refl
+code_at-place G2S = refl
+code_at-place G2L = refl
+code_at-place G2X = refl
+code_at-place G5I = refl
+code_at-place G5Q = refl
+code_at-place G5X = refl
 
 pub place-less : (c : Code) → place_of c < 16
-place-less C1C = omega arith
-place-less C1P = omega arith
-place-less C1W = omega arith
-place-less C1S = omega arith
-place-less C1L = omega arith
-place-less C1X = omega arith
-place-less C2C = omega arith
-place-less C2D = omega arith
-place-less C2P = omega arith
-place-less C2W = omega arith
-place-less C2S = omega arith
-place-less C2L = omega arith
-place-less C2X = omega arith
-place-less C5I = omega arith
-place-less C5Q = omega arith
-place-less C5X = omega arith
+place-less G1C = omega arith
+place-less G1P = omega arith
+place-less G1W = omega arith
+place-less G1S = omega arith
+place-less G1L = omega arith
+place-less G1X = omega arith
+place-less G2C = omega arith
+place-less G2D = omega arith
+place-less G2P = omega arith
+place-less G2W = omega arith
+place-less G2S = omega arith
+place-less G2L = omega arith
+place-less G2X = omega arith
+place-less G5I = omega arith
+place-less G5Q = omega arith
+place-less G5X = omega arith
 
 pub rank-less : (s : CellSource) → rank_of s < 2
 rank-less Legacy = omega arith

@@ -11,7 +11,7 @@ use Rattle.rtk_obs.specs.declared.cell.CellEntry.{CellEntry}
 use Rattle.rtk_obs.specs.declared.cell.CellSource.{CellSource}
 use Rattle.rtk_obs.specs.declared.cell.CellSource.TheVariants.{Legacy, Msm}
 use Rattle.rtk_obs.specs.declared.code.Code.{Code}
-use Rattle.rtk_obs.specs.declared.code.Code.TheVariants.{C1C}
+use Rattle.rtk_obs.specs.declared.code.Code.TheVariants.{G1C}
 use Rattle.rtk_obs.specs.Cell.{IsInRange}
 use Rattle.rtk_obs.specs.Code.{place_of}
 use Rattle.rtk_obs.proofs.PublicLaws.{place_bound, same_signal}
@@ -24,7 +24,7 @@ use Rattle.rtk_convert.specs.Steps.ShownCells.{IsPlaceOf}
 abbrev pub any_cell : CellEntry
 any_cell = record {
   satellite = 0;
-  code = C1C;
+  code = G1C;
   cell = record { range_mm = None; phase_millicycles = None; strength_millidbhz = None; lock_time_ms = 0; half = false; source = Legacy; offset = None };
 }
 

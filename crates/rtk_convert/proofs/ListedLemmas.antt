@@ -5,7 +5,7 @@ use Rattle.std.specs.List.{list_any}
 use Rattle.std.proofs.lemmas.Bool.{cases_eq, cond-true, cond-false, eq-eqb, eqb-true, ne_eqb}
 use Rattle.std.proofs.lemmas.List.Folds.{list_any_more}
 use Rattle.rtk_obs.specs.declared.code.Code.{Code}
-use Rattle.rtk_obs.specs.declared.code.Code.TheVariants.{C1C}
+use Rattle.rtk_obs.specs.declared.code.Code.TheVariants.{G1C}
 use Rattle.rtk_obs.specs.Code.{place_of}
 use Rattle.rtk_rinex.specs.declared.epoch_table.Observed.{Observed}
 use Rattle.rtk_convert.specs.Steps.ShownCells.{is_code, with_code}
@@ -37,7 +37,7 @@ none-of code c (e ∷ listed) h ne =
     (none-of code c listed h (λ j d l. ne (suc j) d (omega arith)))
 
 pub with_code-one : (code : Code) (o : Observed) (listed : List Code) (row : List Observed) (k : ℕ) → AllPairs (λ a b. a ≢ b) listed → k < length listed → length row ≡ length listed
-    → is_code code (get_or listed k C1C) ≡ true → with_code code o listed row ≡ set row k o
+    → is_code code (get_or listed k G1C) ≡ true → with_code code o listed row ≡ set row k o
 with_code-one code o [] row k a l w h = absurd (omega arith)
 with_code-one code o (c ∷ listed) [] k a l w h = absurd (omega arith)
 with_code-one code o (c ∷ listed) (x ∷ row) zero a l w h =
@@ -45,30 +45,30 @@ with_code-one code o (c ∷ listed) (x ∷ row) zero a l w h =
     ∙ ap (λ (ys : List Observed). o ∷ ys) (with_code-none code o listed row (none-of code c listed h (λ j d m. a 0 (suc j) d (omega arith) (omega arith))) (omega arith))
 with_code-one code o (c ∷ listed) (x ∷ row) (suc k) a l w h =
     ap (λ (y : Observed). y ∷ with_code code o listed row)
-    (cond-false (is_code code c) o x (ne_eqb (place_of c) (place_of code) (λ q. a 0 (suc k) C1C (omega arith) (omega arith)
-    (same-code c (get_or listed k C1C) (q ∙ sym (eqb-true (place_of (get_or listed k C1C)) (place_of code) h))))))
+    (cond-false (is_code code c) o x (ne_eqb (place_of c) (place_of code) (λ q. a 0 (suc k) G1C (omega arith) (omega arith)
+    (same-code c (get_or listed k G1C) (q ∙ sym (eqb-true (place_of (get_or listed k G1C)) (place_of code) h))))))
     ∙ ap (λ (ys : List Observed). x ∷ ys) (with_code-one code o listed row k (λ i j d p q. a (suc i) (suc j) d (omega arith) (omega arith)) (omega arith) (omega arith) h)
 
 -- the places of the codes of a first part of the list
 pub record PlacesTo (listed : List Code) (k : ℕ) (places : List ℕ) (code : Code) : Type 0 where
   pub unlisted : length listed ≤ get_or places (place_of code) 0 → list_any (is_code code) (take k listed) ≡ false
-  pub found : get_or places (place_of code) 0 < length listed → is_code code (get_or listed (get_or places (place_of code) 0) C1C) ≡ true
+  pub found : get_or places (place_of code) 0 < length listed → is_code code (get_or listed (get_or places (place_of code) 0) G1C) ≡ true
 
-pub places-more : (listed : List Code) (k : ℕ) (places : List ℕ) → k < length listed → place_of (get_or listed k C1C) < length places → ((c : Code) → PlacesTo listed k places c)
-    → (c : Code) → PlacesTo listed (k + 1) (set places (place_of (get_or listed k C1C)) k) c
+pub places-more : (listed : List Code) (k : ℕ) (places : List ℕ) → k < length listed → place_of (get_or listed k G1C) < length places → ((c : Code) → PlacesTo listed k places c)
+    → (c : Code) → PlacesTo listed (k + 1) (set places (place_of (get_or listed k G1C)) k) c
 places-more listed k places l in_places h c =
-    let e : Code = get_or listed k C1C in
+    let e : Code = get_or listed k G1C in
     elim (cases_eq (place_of e) (place_of c)) [
       | inl same ↦
           let at : get_or (set places (place_of e) k) (place_of c) 0 ≡ k = subst (λ (i : ℕ). get_or (set places (place_of e) k) i 0 ≡ k) same (get_or-set_same places (place_of e) k 0 in_places) in
           record {
             unlisted = λ m. absurd (omega arith);
-            found = λ m. subst (λ (i : ℕ). is_code c (get_or listed i C1C) ≡ true) (sym at) (eq-eqb (place_of e) (place_of c) same);
+            found = λ m. subst (λ (i : ℕ). is_code c (get_or listed i G1C) ≡ true) (sym at) (eq-eqb (place_of e) (place_of c) same);
           }
       | inr other ↦
           let at : get_or (set places (place_of e) k) (place_of c) 0 ≡ get_or places (place_of c) 0 = get_or-set_other places (place_of e) (place_of c) k 0 (λ q. other (sym q)) in
           record {
-            unlisted = λ m. list_any_more (is_code c) listed k C1C l ∙ or-false (list_any (is_code c) (take k listed)) (is_code c e) ((h c).unlisted (omega arith)) (ne_eqb (place_of e) (place_of c) other);
-            found = λ m. subst (λ (i : ℕ). is_code c (get_or listed i C1C) ≡ true) (sym at) ((h c).found (omega arith));
+            unlisted = λ m. list_any_more (is_code c) listed k G1C l ∙ or-false (list_any (is_code c) (take k listed)) (is_code c e) ((h c).unlisted (omega arith)) (ne_eqb (place_of e) (place_of c) other);
+            found = λ m. subst (λ (i : ℕ). is_code c (get_or listed i G1C) ≡ true) (sym at) ((h c).found (omega arith));
           }
     ]

@@ -14,7 +14,7 @@ use Rattle.rtk_obs.specs.declared.track.Track.{Track}
 use Rattle.rtk_obs.specs.Cell.{IsSatellite, IsInRange as IsEntry, IsStrength as IsGiven}
 use Rattle.rtk_rinex.specs.declared.epoch_table.Observed.{Observed}
 use Rattle.rtk_rinex.specs.declared.epoch_table.SatelliteRow.{SatelliteRow}
-use Rattle.rtk_obs.specs.declared.code.Code.TheVariants.{C1C}
+use Rattle.rtk_obs.specs.declared.code.Code.TheVariants.{G1C}
 use Rattle.rtk_obs.specs.Code.{place_of}
 use Rattle.rtk_rinex.specs.Record.{HasWidth, IsStrengthOrNone, has_line, has_observation, satellite_line}
 use Rattle.rtk_rinex.specs.RecordLines.{RecordLinesView, HoldsLines, KeepsLines}
@@ -139,8 +139,8 @@ pub free-of : (f : Code → Option Observed) (code : Code) (listed : List Code) 
 free-of f code listed none = record {
   width = length-map listed (λ c. or_nothing (f c));
   free = λ k d lt is.
-      let e : get_or listed k C1C ≡ code = same-code (get_or listed k C1C) code (eqb-true (place_of (get_or listed k C1C)) (place_of code) is) in
-      ap has_observation (get_or-map (λ c. or_nothing (f c)) listed k C1C d lt ∙ ap (λ (c : Code). or_nothing (f c)) e ∙ ap or_nothing none);
+      let e : get_or listed k G1C ≡ code = same-code (get_or listed k G1C) code (eqb-true (place_of (get_or listed k G1C)) (place_of code) is) in
+      ap has_observation (get_or-map (λ c. or_nothing (f c)) listed k G1C d lt ∙ ap (λ (c : Code). or_nothing (f c)) e ∙ ap or_nothing none);
 }
 
 -- ---- the line of a row

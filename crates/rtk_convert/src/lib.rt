@@ -22,7 +22,7 @@
 //!     let Some(noon) = GpsMs::new(1_399_982_400_000) else {
 //!         return Ok(false);
 //!     };
-//!     let Ok(head) = Head::new(b"BASE", &[Code::C1C, Code::C2W], noon) else {
+//!     let Ok(head) = Head::new(b"BASE", &[Code::G1C, Code::G2W], noon) else {
 //!         return Ok(false);
 //!     };
 //!     let Ok(setup) = Setup::new(2003, noon, head, 64) else {

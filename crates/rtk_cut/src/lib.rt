@@ -34,7 +34,7 @@
 //!     ) else {
 //!         return Ok(false);
 //!     };
-//!     let Ok(head) = Head::new(b"BASE", &[Code::C1C], first) else {
+//!     let Ok(head) = Head::new(b"BASE", &[Code::G1C], first) else {
 //!         return Ok(false);
 //!     };
 //!     let Some(position) = Position::new(0, 0, 0, 0) else {

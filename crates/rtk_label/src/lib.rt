@@ -13,7 +13,7 @@
 //!     let Some(noon) = GpsMs::new(1_399_982_400_000) else {
 //!         return Ok(false);
 //!     };
-//!     let Ok(head) = Head::new(b"BASE", &[Code::C1C], noon) else {
+//!     let Ok(head) = Head::new(b"BASE", &[Code::G1C], noon) else {
 //!         return Ok(false);
 //!     };
 //!     let Some(position) = Position::new(0, 0, 0, 0) else {

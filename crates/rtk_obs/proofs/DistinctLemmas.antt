@@ -13,7 +13,7 @@ use Rattle.rtk_message.specs.Msm1074.{IsValid}
 use Rattle.rtk_message.specs.MsmForm.{IsValid as IsValidMsm}
 use Rattle.rtk_obs.specs.declared.code.Band.{Band}
 use Rattle.rtk_obs.specs.declared.code.Code.{Code}
-use Rattle.rtk_obs.specs.declared.code.Code.TheVariants.{C1C, C1P, C1W, C1S, C1L, C1X, C2C, C2D, C2P, C2W, C2S, C2L, C2X, C5I, C5Q, C5X}
+use Rattle.rtk_obs.specs.declared.code.Code.TheVariants.{G1C, G1P, G1W, G1S, G1L, G1X, G2C, G2D, G2P, G2W, G2S, G2L, G2X, G5I, G5Q, G5X}
 use Rattle.rtk_obs.specs.declared.cell.Cell.{Cell}
 use Rattle.rtk_obs.specs.declared.cell.CellEntry.{CellEntry}
 use Rattle.rtk_obs.specs.Code.{place_of}
@@ -50,7 +50,7 @@ l1_place : (b : Bool) → place_of (l1_code_of b) < 2
 l1_place true = omega arith
 l1_place false = omega arith
 
-l2_place_if : (a b c : Bool) → 6 ≤ place_of (cond a C2X (cond b C2P (cond c C2D C2W)))
+l2_place_if : (a b c : Bool) → 6 ≤ place_of (cond a G2X (cond b G2P (cond c G2D G2W)))
 l2_place_if true b c = omega arith
 l2_place_if false true c = omega arith
 l2_place_if false false true = omega arith
@@ -210,22 +210,22 @@ module _ (satellites signals : List ℕ) (top : ℕ) where
 
 -- 33, which is no signal, for the code that none has
 abbrev pub signal_of : Code → ℕ
-signal_of C1C = 2
-signal_of C1P = 3
-signal_of C1W = 4
-signal_of C1S = 30
-signal_of C1L = 31
-signal_of C1X = 32
-signal_of C2C = 8
-signal_of C2D = 33
-signal_of C2P = 9
-signal_of C2W = 10
-signal_of C2S = 15
-signal_of C2L = 16
-signal_of C2X = 17
-signal_of C5I = 22
-signal_of C5Q = 23
-signal_of C5X = 24
+signal_of G1C = 2
+signal_of G1P = 3
+signal_of G1W = 4
+signal_of G1S = 30
+signal_of G1L = 31
+signal_of G1X = 32
+signal_of G2C = 8
+signal_of G2D = 33
+signal_of G2P = 9
+signal_of G2W = 10
+signal_of G2S = 15
+signal_of G2L = 16
+signal_of G2X = 17
+signal_of G5I = 22
+signal_of G5Q = 23
+signal_of G5X = 24
 
 some_code : (x c : Code) → Some x ≡ Some c → x ≡ c
 some_code x c e = cc
@@ -238,43 +238,43 @@ or_later false s n x c rest e f h more = more h
 
 signal_of_coded : (s : ℕ) (c : Code) → code_of_signal s ≡ Some c → s ≡ signal_of c
 signal_of_coded s c h =
-    or_later (nat_eq s 2) s 2 C1C c _ refl refl h
-    (λ h3. or_later (nat_eq s 3) s 3 C1P c _ refl refl h3
-    (λ h4. or_later (nat_eq s 4) s 4 C1W c _ refl refl h4
-    (λ h8. or_later (nat_eq s 8) s 8 C2C c _ refl refl h8
-    (λ h9. or_later (nat_eq s 9) s 9 C2P c _ refl refl h9
-    (λ h10. or_later (nat_eq s 10) s 10 C2W c _ refl refl h10
-    (λ h15. or_later (nat_eq s 15) s 15 C2S c _ refl refl h15
-    (λ h16. or_later (nat_eq s 16) s 16 C2L c _ refl refl h16
-    (λ h17. or_later (nat_eq s 17) s 17 C2X c _ refl refl h17
-    (λ h22. or_later (nat_eq s 22) s 22 C5I c _ refl refl h22
-    (λ h23. or_later (nat_eq s 23) s 23 C5Q c _ refl refl h23
-    (λ h24. or_later (nat_eq s 24) s 24 C5X c _ refl refl h24
-    (λ h30. or_later (nat_eq s 30) s 30 C1S c _ refl refl h30
-    (λ h31. or_later (nat_eq s 31) s 31 C1L c _ refl refl h31
-    (λ h32. or_later (nat_eq s 32) s 32 C1X c None refl refl h32 (λ none. absurd cc)))))))))))))))
+    or_later (nat_eq s 2) s 2 G1C c _ refl refl h
+    (λ h3. or_later (nat_eq s 3) s 3 G1P c _ refl refl h3
+    (λ h4. or_later (nat_eq s 4) s 4 G1W c _ refl refl h4
+    (λ h8. or_later (nat_eq s 8) s 8 G2C c _ refl refl h8
+    (λ h9. or_later (nat_eq s 9) s 9 G2P c _ refl refl h9
+    (λ h10. or_later (nat_eq s 10) s 10 G2W c _ refl refl h10
+    (λ h15. or_later (nat_eq s 15) s 15 G2S c _ refl refl h15
+    (λ h16. or_later (nat_eq s 16) s 16 G2L c _ refl refl h16
+    (λ h17. or_later (nat_eq s 17) s 17 G2X c _ refl refl h17
+    (λ h22. or_later (nat_eq s 22) s 22 G5I c _ refl refl h22
+    (λ h23. or_later (nat_eq s 23) s 23 G5Q c _ refl refl h23
+    (λ h24. or_later (nat_eq s 24) s 24 G5X c _ refl refl h24
+    (λ h30. or_later (nat_eq s 30) s 30 G1S c _ refl refl h30
+    (λ h31. or_later (nat_eq s 31) s 31 G1L c _ refl refl h31
+    (λ h32. or_later (nat_eq s 32) s 32 G1X c None refl refl h32 (λ none. absurd cc)))))))))))))))
 
 -- ---- the places of codes rise with the signals below 30
 
 code_place : (c : Code) → signal_of c < 30
     → (place_of c + 2 + min 4 (signal_of c - 10) + min 4 (signal_of c - 17) ≡ signal_of c + min 1 (signal_of c - 8))
     × (signal_of c + min 1 (signal_of c - 9) ≤ place_of c + 2 + min 4 (signal_of c - 11) + min 4 (signal_of c - 18))
-code_place C1C h = (omega arith, omega arith)
-code_place C1P h = (omega arith, omega arith)
-code_place C1W h = (omega arith, omega arith)
-code_place C1S h = absurd (omega (arith, h))
-code_place C1L h = absurd (omega (arith, h))
-code_place C1X h = absurd (omega (arith, h))
-code_place C2C h = (omega arith, omega arith)
-code_place C2D h = absurd (omega (arith, h))
-code_place C2P h = (omega arith, omega arith)
-code_place C2W h = (omega arith, omega arith)
-code_place C2S h = (omega arith, omega arith)
-code_place C2L h = (omega arith, omega arith)
-code_place C2X h = (omega arith, omega arith)
-code_place C5I h = (omega arith, omega arith)
-code_place C5Q h = (omega arith, omega arith)
-code_place C5X h = (omega arith, omega arith)
+code_place G1C h = (omega arith, omega arith)
+code_place G1P h = (omega arith, omega arith)
+code_place G1W h = (omega arith, omega arith)
+code_place G1S h = absurd (omega (arith, h))
+code_place G1L h = absurd (omega (arith, h))
+code_place G1X h = absurd (omega (arith, h))
+code_place G2C h = (omega arith, omega arith)
+code_place G2D h = absurd (omega (arith, h))
+code_place G2P h = (omega arith, omega arith)
+code_place G2W h = (omega arith, omega arith)
+code_place G2S h = (omega arith, omega arith)
+code_place G2L h = (omega arith, omega arith)
+code_place G2X h = (omega arith, omega arith)
+code_place G5I h = (omega arith, omega arith)
+code_place G5Q h = (omega arith, omega arith)
+code_place G5X h = (omega arith, omega arith)
 
 code_before : (c d : Code) → signal_of c < signal_of d → signal_of d < 30 → place_of c < place_of d
 code_before c d less low =

@@ -6,7 +6,7 @@ use Rattle.std.proofs.lemmas.Bool.Decides.{nat_tests}
 use Rattle.std.proofs.lemmas.Bool.{cases_order}
 use Rattle.rtk_obs.specs.declared.code.Band.{Band}
 use Rattle.rtk_obs.specs.declared.code.Code.{Code}
-use Rattle.rtk_obs.specs.declared.code.Code.TheVariants.{C1C, C1P, C1W, C1S, C1L, C1X, C2C, C2D, C2P, C2W, C2S, C2L, C2X, C5I, C5Q, C5X}
+use Rattle.rtk_obs.specs.declared.code.Code.TheVariants.{G1C, G1P, G1W, G1S, G1L, G1X, G2C, G2D, G2P, G2W, G2S, G2L, G2X, G5I, G5Q, G5X}
 use Rattle.rtk_obs.specs.declared.track.Track.{Track}
 use Rattle.rtk_obs.specs.declared.track.Digits.{Digits}
 use Rattle.rtk_obs.specs.Code.{place_of, band_of}
@@ -33,60 +33,60 @@ by_eq m n same other =
 -- ---- places
 
 pub place_bound : (c : Code) → place_of c < 16
-place_bound C1C = omega arith
-place_bound C1P = omega arith
-place_bound C1W = omega arith
-place_bound C1S = omega arith
-place_bound C1L = omega arith
-place_bound C1X = omega arith
-place_bound C2C = omega arith
-place_bound C2D = omega arith
-place_bound C2P = omega arith
-place_bound C2W = omega arith
-place_bound C2S = omega arith
-place_bound C2L = omega arith
-place_bound C2X = omega arith
-place_bound C5I = omega arith
-place_bound C5Q = omega arith
-place_bound C5X = omega arith
+place_bound G1C = omega arith
+place_bound G1P = omega arith
+place_bound G1W = omega arith
+place_bound G1S = omega arith
+place_bound G1L = omega arith
+place_bound G1X = omega arith
+place_bound G2C = omega arith
+place_bound G2D = omega arith
+place_bound G2P = omega arith
+place_bound G2W = omega arith
+place_bound G2S = omega arith
+place_bound G2L = omega arith
+place_bound G2X = omega arith
+place_bound G5I = omega arith
+place_bound G5Q = omega arith
+place_bound G5X = omega arith
 
 -- the code at a place
 code_at : ℕ → Code
-code_at zero = C1C
-code_at (suc zero) = C1P
-code_at (suc (suc zero)) = C1W
-code_at (suc (suc (suc zero))) = C1S
-code_at (suc (suc (suc (suc zero)))) = C1L
-code_at (suc (suc (suc (suc (suc zero))))) = C1X
-code_at (suc (suc (suc (suc (suc (suc zero)))))) = C2C
-code_at (suc (suc (suc (suc (suc (suc (suc zero))))))) = C2D
-code_at (suc (suc (suc (suc (suc (suc (suc (suc zero)))))))) = C2P
-code_at (suc (suc (suc (suc (suc (suc (suc (suc (suc zero))))))))) = C2W
-code_at (suc (suc (suc (suc (suc (suc (suc (suc (suc (suc zero)))))))))) = C2S
-code_at (suc (suc (suc (suc (suc (suc (suc (suc (suc (suc (suc zero))))))))))) = C2L
-code_at (suc (suc (suc (suc (suc (suc (suc (suc (suc (suc (suc (suc zero)))))))))))) = C2X
-code_at (suc (suc (suc (suc (suc (suc (suc (suc (suc (suc (suc (suc (suc zero))))))))))))) = C5I
-code_at (suc (suc (suc (suc (suc (suc (suc (suc (suc (suc (suc (suc (suc (suc zero)))))))))))))) = C5Q
-code_at (suc (suc (suc (suc (suc (suc (suc (suc (suc (suc (suc (suc (suc (suc (suc n))))))))))))))) = C5X
+code_at zero = G1C
+code_at (suc zero) = G1P
+code_at (suc (suc zero)) = G1W
+code_at (suc (suc (suc zero))) = G1S
+code_at (suc (suc (suc (suc zero)))) = G1L
+code_at (suc (suc (suc (suc (suc zero))))) = G1X
+code_at (suc (suc (suc (suc (suc (suc zero)))))) = G2C
+code_at (suc (suc (suc (suc (suc (suc (suc zero))))))) = G2D
+code_at (suc (suc (suc (suc (suc (suc (suc (suc zero)))))))) = G2P
+code_at (suc (suc (suc (suc (suc (suc (suc (suc (suc zero))))))))) = G2W
+code_at (suc (suc (suc (suc (suc (suc (suc (suc (suc (suc zero)))))))))) = G2S
+code_at (suc (suc (suc (suc (suc (suc (suc (suc (suc (suc (suc zero))))))))))) = G2L
+code_at (suc (suc (suc (suc (suc (suc (suc (suc (suc (suc (suc (suc zero)))))))))))) = G2X
+code_at (suc (suc (suc (suc (suc (suc (suc (suc (suc (suc (suc (suc (suc zero))))))))))))) = G5I
+code_at (suc (suc (suc (suc (suc (suc (suc (suc (suc (suc (suc (suc (suc (suc zero)))))))))))))) = G5Q
+code_at (suc (suc (suc (suc (suc (suc (suc (suc (suc (suc (suc (suc (suc (suc (suc n))))))))))))))) = G5X
 
 code_at-place_of : (c : Code) → code_at (place_of c) ≡ c
 unfolding code_at
-code_at-place_of C1C = refl
-code_at-place_of C1P = refl
-code_at-place_of C1W = refl
-code_at-place_of C1S = refl
-code_at-place_of C1L = refl
-code_at-place_of C1X = refl
-code_at-place_of C2C = refl
-code_at-place_of C2D = refl
-code_at-place_of C2P = refl
-code_at-place_of C2W = refl
-code_at-place_of C2S = refl
-code_at-place_of C2L = refl
-code_at-place_of C2X = refl
-code_at-place_of C5I = refl
-code_at-place_of C5Q = refl
-code_at-place_of C5X = refl
+code_at-place_of G1C = refl
+code_at-place_of G1P = refl
+code_at-place_of G1W = refl
+code_at-place_of G1S = refl
+code_at-place_of G1L = refl
+code_at-place_of G1X = refl
+code_at-place_of G2C = refl
+code_at-place_of G2D = refl
+code_at-place_of G2P = refl
+code_at-place_of G2W = refl
+code_at-place_of G2S = refl
+code_at-place_of G2L = refl
+code_at-place_of G2X = refl
+code_at-place_of G5I = refl
+code_at-place_of G5Q = refl
+code_at-place_of G5X = refl
 
 same_code : (c d : Code) → place_of c ≡ place_of d → c ≡ d
 same_code c d e = sym (code_at-place_of c) ∙ (ap code_at e ∙ code_at-place_of d)

@@ -6,7 +6,7 @@ use Rattle.rtk_message.specs.declared.obs1004.Satellite.{Satellite}
 use Rattle.rtk_obs.specs.declared.code.Band.{Band}
 use Rattle.rtk_obs.specs.declared.code.Band.TheVariants.{L1, L2}
 use Rattle.rtk_obs.specs.declared.code.Code.{Code}
-use Rattle.rtk_obs.specs.declared.code.Code.TheVariants.{C1C, C1P, C2X, C2P, C2D, C2W}
+use Rattle.rtk_obs.specs.declared.code.Code.TheVariants.{G1C, G1P, G2X, G2P, G2D, G2W}
 use Rattle.rtk_obs.specs.declared.cell.CellSource.TheVariants.{Legacy}
 use Rattle.rtk_obs.specs.declared.cell.Cell.{Cell}
 use Rattle.rtk_obs.specs.declared.cell.CellEntry.{CellEntry}
@@ -17,13 +17,13 @@ use Rattle.rtk_obs.specs.Scaling.{unless_invalid, strength_of, l1_length, l2_len
 -- table
 -- the code of L1, by DF010 (this project's assignment)
 abbrev pub l1_code_of : Bool → Code
-l1_code_of false = C1C
-l1_code_of true = C1P
+l1_code_of false = G1C
+l1_code_of true = G1P
 
 -- table
 -- the code of L2, by DF016, 0 to 3 (this project's assignment)
 abbrev pub l2_code_of : ℕ → Code
-l2_code_of n = if n == 0 then C2X else if n == 1 then C2P else if n == 2 then C2D else C2W
+l2_code_of n = if n == 0 then G2X else if n == 1 then G2P else if n == 2 then G2D else G2W
 
 -- formula
 -- the invalid mark of DF012 and DF018 is -524288, the one of DF017 is -8192

@@ -11,7 +11,7 @@ use Rattle.rtk_message.specs.declared.msm_kind.MsmKind.{MsmKind}
 use Rattle.rtk_message.specs.declared.msm_kind.MsmKind.TheVariants.{Msm4, Msm5, Msm6, Msm7}
 use Rattle.rtk_obs.specs.declared.code.Band.{Band}
 use Rattle.rtk_obs.specs.declared.code.Code.{Code}
-use Rattle.rtk_obs.specs.declared.code.Code.TheVariants.{C1C, C1P, C1W, C1S, C1L, C1X, C2C, C2P, C2W, C2S, C2L, C2X, C5I, C5Q, C5X}
+use Rattle.rtk_obs.specs.declared.code.Code.TheVariants.{G1C, G1P, G1W, G1S, G1L, G1X, G2C, G2P, G2W, G2S, G2L, G2X, G5I, G5Q, G5X}
 use Rattle.rtk_obs.specs.declared.cell.CellSource.TheVariants.{Msm as SourceMsm}
 use Rattle.rtk_obs.specs.declared.cell.Cell.{Cell}
 use Rattle.rtk_obs.specs.declared.cell.CellEntry.{CellEntry}
@@ -25,11 +25,11 @@ use Rattle.rtk_obs.specs.Scaling.{unless_invalid, strength_of, strength_of_sixte
 -- the code of a signal identifier (DF395); others give no cell (this project's assignment)
 abbrev pub code_of_signal : ℕ → Option Code
 code_of_signal s =
-    if s == 2 then Some C1C else if s == 3 then Some C1P else if s == 4 then Some C1W
-    else if s == 8 then Some C2C else if s == 9 then Some C2P else if s == 10 then Some C2W
-    else if s == 15 then Some C2S else if s == 16 then Some C2L else if s == 17 then Some C2X
-    else if s == 22 then Some C5I else if s == 23 then Some C5Q else if s == 24 then Some C5X
-    else if s == 30 then Some C1S else if s == 31 then Some C1L else if s == 32 then Some C1X
+    if s == 2 then Some G1C else if s == 3 then Some G1P else if s == 4 then Some G1W
+    else if s == 8 then Some G2C else if s == 9 then Some G2P else if s == 10 then Some G2W
+    else if s == 15 then Some G2S else if s == 16 then Some G2L else if s == 17 then Some G2X
+    else if s == 22 then Some G5I else if s == 23 then Some G5Q else if s == 24 then Some G5X
+    else if s == 30 then Some G1S else if s == 31 then Some G1L else if s == 32 then Some G1X
     else None
 
 -- ---- which cells, by the header and the cell mask

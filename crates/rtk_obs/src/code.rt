@@ -36,57 +36,57 @@ impl Band {
 pub enum Code {
     /// C/A, on L1.
     #[default]
-    C1C,
+    G1C,
     /// P, on L1.
-    C1P,
+    G1P,
     /// P, by Z-tracking, on L1.
-    C1W,
+    G1W,
     /// L1C (D), on L1.
-    C1S,
+    G1S,
     /// L1C (P), on L1.
-    C1L,
+    G1L,
     /// L1C (D+P), on L1.
-    C1X,
+    G1X,
     /// C/A, on L2.
-    C2C,
+    G2C,
     /// L1 C/A and the difference of P2 and P1, semi-codeless, on L2.
-    C2D,
+    G2D,
     /// P, on L2.
-    C2P,
+    G2P,
     /// P, by Z-tracking, on L2.
-    C2W,
+    G2W,
     /// L2C (M), on L2.
-    C2S,
+    G2S,
     /// L2C (L), on L2.
-    C2L,
+    G2L,
     /// L2C (M+L), on L2.
-    C2X,
+    G2X,
     /// I, on L5.
-    C5I,
+    G5I,
     /// Q, on L5.
-    C5Q,
+    G5Q,
     /// I+Q, on L5.
-    C5X,
+    G5X,
 }
 
 /// All codes, in the order of their places.
 pub const ALL_CODES: [Code; 16] = [
-    Code::C1C,
-    Code::C1P,
-    Code::C1W,
-    Code::C1S,
-    Code::C1L,
-    Code::C1X,
-    Code::C2C,
-    Code::C2D,
-    Code::C2P,
-    Code::C2W,
-    Code::C2S,
-    Code::C2L,
-    Code::C2X,
-    Code::C5I,
-    Code::C5Q,
-    Code::C5X,
+    Code::G1C,
+    Code::G1P,
+    Code::G1W,
+    Code::G1S,
+    Code::G1L,
+    Code::G1X,
+    Code::G2C,
+    Code::G2D,
+    Code::G2P,
+    Code::G2W,
+    Code::G2S,
+    Code::G2L,
+    Code::G2X,
+    Code::G5I,
+    Code::G5Q,
+    Code::G5X,
 ];
 
 impl Code {
@@ -97,22 +97,22 @@ impl Code {
         ensures { result ≡ name_of self }
     {
         match self {
-            Code::C1C => *b"1C",
-            Code::C1P => *b"1P",
-            Code::C1W => *b"1W",
-            Code::C1S => *b"1S",
-            Code::C1L => *b"1L",
-            Code::C1X => *b"1X",
-            Code::C2C => *b"2C",
-            Code::C2D => *b"2D",
-            Code::C2P => *b"2P",
-            Code::C2W => *b"2W",
-            Code::C2S => *b"2S",
-            Code::C2L => *b"2L",
-            Code::C2X => *b"2X",
-            Code::C5I => *b"5I",
-            Code::C5Q => *b"5Q",
-            Code::C5X => *b"5X",
+            Code::G1C => *b"1C",
+            Code::G1P => *b"1P",
+            Code::G1W => *b"1W",
+            Code::G1S => *b"1S",
+            Code::G1L => *b"1L",
+            Code::G1X => *b"1X",
+            Code::G2C => *b"2C",
+            Code::G2D => *b"2D",
+            Code::G2P => *b"2P",
+            Code::G2W => *b"2W",
+            Code::G2S => *b"2S",
+            Code::G2L => *b"2L",
+            Code::G2X => *b"2X",
+            Code::G5I => *b"5I",
+            Code::G5Q => *b"5Q",
+            Code::G5X => *b"5X",
         }
     }
 
@@ -121,22 +121,22 @@ impl Code {
         ensures { MatchOption result ((c : Code) → name.now ≢ name_of c) (λ c. name.now ≡ name_of c) }
     {
         match name {
-            b"1C" => Some(Code::C1C),
-            b"1P" => Some(Code::C1P),
-            b"1W" => Some(Code::C1W),
-            b"1S" => Some(Code::C1S),
-            b"1L" => Some(Code::C1L),
-            b"1X" => Some(Code::C1X),
-            b"2C" => Some(Code::C2C),
-            b"2D" => Some(Code::C2D),
-            b"2P" => Some(Code::C2P),
-            b"2W" => Some(Code::C2W),
-            b"2S" => Some(Code::C2S),
-            b"2L" => Some(Code::C2L),
-            b"2X" => Some(Code::C2X),
-            b"5I" => Some(Code::C5I),
-            b"5Q" => Some(Code::C5Q),
-            b"5X" => Some(Code::C5X),
+            b"1C" => Some(Code::G1C),
+            b"1P" => Some(Code::G1P),
+            b"1W" => Some(Code::G1W),
+            b"1S" => Some(Code::G1S),
+            b"1L" => Some(Code::G1L),
+            b"1X" => Some(Code::G1X),
+            b"2C" => Some(Code::G2C),
+            b"2D" => Some(Code::G2D),
+            b"2P" => Some(Code::G2P),
+            b"2W" => Some(Code::G2W),
+            b"2S" => Some(Code::G2S),
+            b"2L" => Some(Code::G2L),
+            b"2X" => Some(Code::G2X),
+            b"5I" => Some(Code::G5I),
+            b"5Q" => Some(Code::G5Q),
+            b"5X" => Some(Code::G5X),
             _ => None,
         }
     }
@@ -146,8 +146,8 @@ impl Code {
         ensures { result ≡ band_of self }
     {
         match self {
-            Code::C1C | Code::C1P | Code::C1W | Code::C1S | Code::C1L | Code::C1X => Band::L1,
-            Code::C5I | Code::C5Q | Code::C5X => Band::L5,
+            Code::G1C | Code::G1P | Code::G1W | Code::G1S | Code::G1L | Code::G1X => Band::L1,
+            Code::G5I | Code::G5Q | Code::G5X => Band::L5,
             _ => Band::L2,
         }
     }

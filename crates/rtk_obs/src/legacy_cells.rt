@@ -33,11 +33,11 @@ const LEGACY_STRENGTH_STEP: u32 = 250;
 pub(crate) fn l1_code(indicator: bool) -> Code
     ensures { result ≡ l1_code_of indicator }
 {
-    if indicator { Code::C1P } else { Code::C1C }
+    if indicator { Code::G1P } else { Code::G1C }
 }
 
 // The codes of L2 at the indicators of DF016 from 0 on.
-static L2_CODES: [Code; 4] = [Code::C2X, Code::C2P, Code::C2D, Code::C2W];
+static L2_CODES: [Code; 4] = [Code::G2X, Code::G2P, Code::G2D, Code::G2W];
 
 /// Returns the code of L2 at an indicator (DF016).
 pub(crate) fn l2_code(indicator: u8) -> Code

@@ -24,7 +24,7 @@
 //!     let cells = cells_1004(&message);
 //!     let has_range = cells.as_slice().iter().any(|entry| {
 //!         entry.satellite == 5
-//!             && entry.code == Code::C1C
+//!             && entry.code == Code::G1C
 //!             && entry.cell.range_mm == Some(21_085_472_060)
 //!     });
 //!     Ok(noon.day == 17 && noon.hour == 12 && has_range)

@@ -5,7 +5,7 @@ use Rattle.std.specs.List.{SwappedAt}
 use Rattle.std.proofs.lemmas.Bool.{cases_order}
 use Rattle.std.proofs.lemmas.Bool.Decides.{nat_tests}
 use Rattle.rtk_obs.specs.declared.code.Code.{Code}
-use Rattle.rtk_obs.specs.declared.code.Code.TheVariants.{C1C, C1P, C1W, C1S, C1L, C1X, C2C, C2D, C2P, C2W, C2S, C2L, C2X, C5I, C5Q, C5X}
+use Rattle.rtk_obs.specs.declared.code.Code.TheVariants.{G1C, G1P, G1W, G1S, G1L, G1X, G2C, G2D, G2P, G2W, G2S, G2L, G2X, G5I, G5Q, G5X}
 use Rattle.rtk_obs.specs.Code.{place_of, all_codes}
 use Rattle.rtk_rinex.specs.Steps.HeaderShown.{AreAllCodes}
 
@@ -40,22 +40,22 @@ distinct i j d lt within e =
 
 every : (c : Code) → Contains in_order c
 unfolding in_order
-every C1C = (0, omega arith, refl)
-every C1P = (1, omega arith, refl)
-every C1W = (2, omega arith, refl)
-every C1S = (3, omega arith, refl)
-every C1L = (4, omega arith, refl)
-every C1X = (5, omega arith, refl)
-every C2C = (6, omega arith, refl)
-every C2D = (7, omega arith, refl)
-every C2P = (8, omega arith, refl)
-every C2W = (9, omega arith, refl)
-every C2S = (10, omega arith, refl)
-every C2L = (11, omega arith, refl)
-every C2X = (12, omega arith, refl)
-every C5I = (13, omega arith, refl)
-every C5Q = (14, omega arith, refl)
-every C5X = (15, omega arith, refl)
+every G1C = (0, omega arith, refl)
+every G1P = (1, omega arith, refl)
+every G1W = (2, omega arith, refl)
+every G1S = (3, omega arith, refl)
+every G1L = (4, omega arith, refl)
+every G1X = (5, omega arith, refl)
+every G2C = (6, omega arith, refl)
+every G2D = (7, omega arith, refl)
+every G2P = (8, omega arith, refl)
+every G2W = (9, omega arith, refl)
+every G2S = (10, omega arith, refl)
+every G2L = (11, omega arith, refl)
+every G2X = (12, omega arith, refl)
+every G5I = (13, omega arith, refl)
+every G5Q = (14, omega arith, refl)
+every G5X = (15, omega arith, refl)
 
 pub all_in_order : AreAllCodes all_codes
 unfolding in_order

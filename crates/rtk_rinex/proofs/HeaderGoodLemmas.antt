@@ -6,7 +6,7 @@ use Rattle.std.proofs.lemmas.Bool.Decides.{nat_tests}
 use Rattle.std.proofs.lemmas.Int.{ints}
 use Rattle.std.proofs.lemmas.List.Elements.{All-nil, All-cons, All-head, All-tail, All-append}
 use Rattle.rtk_obs.specs.declared.code.Code.{Code}
-use Rattle.rtk_obs.specs.declared.code.Code.TheVariants.{C1C, C1P, C1W, C1S, C1L, C1X, C2C, C2D, C2P, C2W, C2S, C2L, C2X, C5I, C5Q, C5X}
+use Rattle.rtk_obs.specs.declared.code.Code.TheVariants.{G1C, G1P, G1W, G1S, G1L, G1X, G2C, G2D, G2P, G2W, G2S, G2L, G2X, G5I, G5Q, G5X}
 use Rattle.rtk_obs.specs.Coordinates.{IsCoordinate}
 use Rattle.rtk_obs.specs.CivilText.{last_digits}
 use Rattle.rtk_rinex.specs.Columns.{left, right, decimals, fixed}
@@ -64,22 +64,22 @@ of_fixed (pos n) h = of_right 14 (decimals 4 false n) (of_decimals 4 false n (om
 of_fixed (negsuc n) h = of_right 14 (decimals 4 true (suc n)) (of_decimals 4 true (suc n) (omega (arith, ints, h.least, h.greatest)))
 
 of_code : (c : Code) → HasNoEnd (types_of c)
-of_code C1C = known (types_of C1C) refl
-of_code C1P = known (types_of C1P) refl
-of_code C1W = known (types_of C1W) refl
-of_code C1S = known (types_of C1S) refl
-of_code C1L = known (types_of C1L) refl
-of_code C1X = known (types_of C1X) refl
-of_code C2C = known (types_of C2C) refl
-of_code C2D = known (types_of C2D) refl
-of_code C2P = known (types_of C2P) refl
-of_code C2W = known (types_of C2W) refl
-of_code C2S = known (types_of C2S) refl
-of_code C2L = known (types_of C2L) refl
-of_code C2X = known (types_of C2X) refl
-of_code C5I = known (types_of C5I) refl
-of_code C5Q = known (types_of C5Q) refl
-of_code C5X = known (types_of C5X) refl
+of_code G1C = known (types_of G1C) refl
+of_code G1P = known (types_of G1P) refl
+of_code G1W = known (types_of G1W) refl
+of_code G1S = known (types_of G1S) refl
+of_code G1L = known (types_of G1L) refl
+of_code G1X = known (types_of G1X) refl
+of_code G2C = known (types_of G2C) refl
+of_code G2D = known (types_of G2D) refl
+of_code G2P = known (types_of G2P) refl
+of_code G2W = known (types_of G2W) refl
+of_code G2S = known (types_of G2S) refl
+of_code G2L = known (types_of G2L) refl
+of_code G2X = known (types_of G2X) refl
+of_code G5I = known (types_of G5I) refl
+of_code G5Q = known (types_of G5Q) refl
+of_code G5X = known (types_of G5X) refl
 
 of_types : (cs : List Code) → HasNoEnd (types cs)
 of_types [] = All-nil IsNoEnd

@@ -5,7 +5,7 @@ use Rattle.std.proofs.lemmas.Bool.Decides.{nat_tests, leb_tells}
 use Rattle.std.proofs.lemmas.Grind.{flat_map-append}
 use Rattle.std.proofs.lemmas.List.{length-drop, append-nil}
 use Rattle.rtk_obs.specs.declared.code.Code.{Code}
-use Rattle.rtk_obs.specs.declared.code.Code.TheVariants.{C1C, C1P, C1W, C1S, C1L, C1X, C2C, C2D, C2P, C2W, C2S, C2L, C2X, C5I, C5Q, C5X}
+use Rattle.rtk_obs.specs.declared.code.Code.TheVariants.{G1C, G1P, G1W, G1S, G1L, G1X, G2C, G2D, G2P, G2W, G2S, G2L, G2X, G5I, G5Q, G5X}
 use Rattle.rtk_obs.specs.Code.{name_of}
 use Rattle.rtk_rinex.specs.Columns.{left, right, fixed}
 use Rattle.rtk_rinex.specs.Reading.{IsMoment, reading_of}
@@ -134,22 +134,22 @@ all_parts v = version_part ++ from_made v
 -- ---- the types
 
 pub length-name : (c : Code) → length (name_of c) ≡ 2
-length-name C1C = refl
-length-name C1P = refl
-length-name C1W = refl
-length-name C1S = refl
-length-name C1L = refl
-length-name C1X = refl
-length-name C2C = refl
-length-name C2D = refl
-length-name C2P = refl
-length-name C2W = refl
-length-name C2S = refl
-length-name C2L = refl
-length-name C2X = refl
-length-name C5I = refl
-length-name C5Q = refl
-length-name C5X = refl
+length-name G1C = refl
+length-name G1P = refl
+length-name G1W = refl
+length-name G1S = refl
+length-name G1L = refl
+length-name G1X = refl
+length-name G2C = refl
+length-name G2D = refl
+length-name G2P = refl
+length-name G2W = refl
+length-name G2S = refl
+length-name G2L = refl
+length-name G2X = refl
+length-name G5I = refl
+length-name G5Q = refl
+length-name G5X = refl
 
 length-types_of : (c : Code) → length (types_of c) ≡ 12
 length-types_of c = simp length-append (omega (arith, length-name c))

@@ -12,7 +12,7 @@ use Rattle.std.proofs.lemmas.Str.Parse.{digit_from_value}
 use Rattle.rtk_message.specs.declared.msm_kind.MsmKind.{MsmKind}
 use Rattle.rtk_message.specs.declared.msm_kind.MsmKind.TheVariants.{Msm4, Msm5, Msm6, Msm7}
 use Rattle.rtk_message.specs.Systems.{number_of_kind}
-use Rattle.rtk_obs.specs.declared.code.Code.TheVariants.{C2P, C2W}
+use Rattle.rtk_obs.specs.declared.code.Code.TheVariants.{G2P, G2W}
 use Rattle.rtk_summary.specs.Counting.{shown_count}
 use Rattle.rtk_summary.specs.NumberLaws.{IsHeld, NumberLineTells, CountedLineTells, NumberedLineTells, TimesAreAlike, TimeLinesTell, ProposalLinesTell, EpochsAreCounted}
 use Rattle.rtk_summary.specs.Proposal.{proposed}
@@ -251,7 +251,7 @@ proposal-tells name names_there near far station other epochs others code test h
     let second : List ℕ = codes " second-frequency 2P\n" in
     let second-next = apart second (codes " next ") refl in
     let second-msm = apart second (codes " other-msm ") refl in
-    let behind = line-or-none (code kind C2P && not (code kind C2W)) (test kind C2P && not (test kind C2W)) second (lines ++ left) (more ++ right)
+    let behind = line-or-none (code kind G2P && not (code kind G2W)) (test kind G2P && not (test kind G2W)) second (lines ++ left) (more ++ right)
     (not-headed-table second (codes " other-msm ") f (numbers_but kind) left second-msm (not-headed-next second name near station kind names second-next (λ rest is. cc)))
     (not-headed-table second (codes " other-msm ") g (numbers_but kind) right second-msm (not-headed-next second names_there far other kind named_there second-next (λ rest is. cc)))
     (sym here ∙ same ∙ there) in

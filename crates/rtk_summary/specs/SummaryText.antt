@@ -9,7 +9,7 @@ use Rattle.rtk_message.specs.declared.msm_kind.MsmKind.{MsmKind}
 use Rattle.rtk_message.specs.declared.msm_kind.MsmKind.TheVariants.{Msm4, Msm5, Msm6, Msm7}
 use Rattle.rtk_message.specs.Systems.{number_of_kind}
 use Rattle.rtk_obs.specs.declared.code.Code.{Code}
-use Rattle.rtk_obs.specs.declared.code.Code.TheVariants.{C2P, C2W}
+use Rattle.rtk_obs.specs.declared.code.Code.TheVariants.{G2P, G2W}
 use Rattle.rtk_obs.specs.CivilText.{last_digits, date_text, clock_text}
 use Rattle.rtk_obs.specs.Code.{name_of, all_codes}
 use Rattle.rtk_rinex.specs.Reading.{reading_of}
@@ -122,7 +122,7 @@ codes_text test = joined_names 32 (filter test all_codes)
 -- formula
 -- the second frequency is 2P, which an option with 2W would leave out
 abbrev pub second_frequency_line : (Code → Bool) → List ℕ
-second_frequency_line test = if test C2P && not (test C2W) then codes " second-frequency 2P\n" else []
+second_frequency_line test = if test G2P && not (test G2W) then codes " second-frequency 2P\n" else []
 
 -- formula
 unfoldable pub signal_lines : (ℕ → Bool) → (Code → Bool) → List ℕ

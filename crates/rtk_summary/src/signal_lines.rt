@@ -69,7 +69,7 @@ pub(crate) fn put_second_frequency(
     ensures { OnOk result (lines.new.items
         ≡ lines.old.items ++ second_frequency_line (λ c. get_or marks.now (place_of c) false)) }
 {
-    if marks[Code::C2P.place()] && !marks[Code::C2W.place()] {
+    if marks[Code::G2P.place()] && !marks[Code::G2W.place()] {
         lines.extend_from_slice(b" second-frequency 2P\n")?;
     }
     Ok(())

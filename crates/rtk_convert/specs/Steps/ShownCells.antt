@@ -5,7 +5,7 @@ use Rattle.std.specs.List.{list_any}
 use Rattle.rtk_obs.specs.declared.cell.Cell.{Cell}
 use Rattle.rtk_obs.specs.declared.cell.CellEntry.{CellEntry}
 use Rattle.rtk_obs.specs.declared.code.Code.{Code}
-use Rattle.rtk_obs.specs.declared.code.Code.TheVariants.{C1C}
+use Rattle.rtk_obs.specs.declared.code.Code.TheVariants.{G1C}
 use Rattle.rtk_obs.specs.declared.track.Track.{Track}
 use Rattle.rtk_obs.specs.Code.{place_of, band_of}
 use Rattle.rtk_obs.specs.Slip.{epoch_cell}
@@ -113,7 +113,7 @@ with_code code shown (c ∷ listed) (x ∷ row) = (if is_code code c then shown 
 -- in a row of the listed codes this one shows nothing
 pub record IsFreeOf (code : Code) (listed : List Code) (row : List Observed) : Type 0 where
   pub width : length row ≡ length listed
-  pub free : (k : ℕ) (d : Observed) → k < length listed → is_code code (slice_index_or listed k C1C) ≡ true → has_observation (slice_index_or row k d) ≡ false
+  pub free : (k : ℕ) (d : Observed) → k < length listed → is_code code (slice_index_or listed k G1C) ≡ true → has_observation (slice_index_or row k d) ≡ false
 
 -- a line of the listed codes is open in which this one shows nothing
 pub record HasFreeOf (lines : RecordLinesView) (code : Code) (listed : List Code) : Type 0 where
@@ -133,7 +133,7 @@ pub record StepsOver (epoch : ℕ) (e : CellEntry) (listed : List Code) (tracks 
 -- the place of a code among the listed ones, or one after them if it is not listed
 pub record IsPlaceAmong (listed : List Code) (code : Code) (place : ℕ) : Type 0 where
   pub unlisted : length listed ≤ place → list_any (is_code code) listed ≡ false
-  pub found : place < length listed → is_code code (slice_index_or listed place C1C) ≡ true
+  pub found : place < length listed → is_code code (slice_index_or listed place G1C) ≡ true
 
 -- the places of all codes among the listed ones, which differ
 pub record ArePlaces (listed : List Code) (places : List ℕ) : Type 0 where

@@ -1,7 +1,7 @@
 use Rattle.std.proofs.Common.{◌≡◌, ℕ, ◌+◌, ◌<◌, false, List, length, set, get_or, take_all, length-set, sym, subst, arith}
 use Rattle.std.specs.List.{list_any}
 use Rattle.rtk_obs.specs.declared.code.Code.{Code}
-use Rattle.rtk_obs.specs.declared.code.Code.TheVariants.{C1C}
+use Rattle.rtk_obs.specs.declared.code.Code.TheVariants.{G1C}
 use Rattle.rtk_obs.specs.Code.{place_of}
 use Rattle.rtk_convert.specs.Steps.ShownCells.{is_code}
 use Rattle.rtk_convert.proofs.ListedLemmas.{PlacesTo, places-more}
@@ -11,7 +11,7 @@ pub loop-k-preserved : goal.loop-k-preserved
 loop-k-preserved c =
     let listed = c.args.listed.now in
     let l = c.loop-k in
-    let in_places : place_of (get_or listed l.k C1C) < length l.places = omega (arith, c.place.ensures.bound, c.place.ensures.value) in
+    let in_places : place_of (get_or listed l.k G1C) < length l.places = omega (arith, c.place.ensures.bound, c.place.ensures.value) in
     record {
       len = simp length-set l.invariant.len;
       among = λ d. subst (λ (i : ℕ). PlacesTo listed (l.k + 1) (set l.places i l.k) d) (sym c.place.ensures.value)

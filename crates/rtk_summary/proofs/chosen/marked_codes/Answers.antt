@@ -2,7 +2,7 @@ use Rattle.std.proofs.Common.{◌≡◌, ◌++◌, Bool, List, false, get_or, dr
 use Rattle.std.proofs.lemmas.List.{append-nil}
 use Rattle.std.specs.Prelude.{filter}
 use Rattle.rtk_obs.specs.declared.code.Code.{Code}
-use Rattle.rtk_obs.specs.declared.code.Code.TheVariants.{C1C}
+use Rattle.rtk_obs.specs.declared.code.Code.TheVariants.{G1C}
 use Rattle.rtk_obs.specs.Code.{place_of, all_codes}
 use Rattle.rtk_summary.proofs.LineLemmas.{code-kept, code-left}
 use Rattle.rtk_summary.proofs.chosen.marked_codes.Goals.{then-marks-place+in_ok-push, else-marks-place}
@@ -15,11 +15,11 @@ loop-code-preserved c =
     elim c.if-marks-place.branch [
       | then-marks-place+in_ok-push w ↦
           rw (w.codes-is, w.in_ok-push.ensures.items)
-          (code-kept marked c.loop-code.codes.items c.loop-code.code-index C1C (filter marked all_codes) c.loop-code-test.true
+          (code-kept marked c.loop-code.codes.items c.loop-code.code-index G1C (filter marked all_codes) c.loop-code-test.true
           (ap (λ k. get_or marks k false) (sym c.place.ensures.value) ∙ w.if-marks-place.true) c.loop-code.invariant)
       | else-marks-place w ↦
           rw (w.codes-is)
-          (code-left marked c.loop-code.codes.items c.loop-code.code-index C1C (filter marked all_codes) c.loop-code-test.true
+          (code-left marked c.loop-code.codes.items c.loop-code.code-index G1C (filter marked all_codes) c.loop-code-test.true
           (ap (λ k. get_or marks k false) (sym c.place.ensures.value) ∙ w.if-marks-place.false) c.loop-code.invariant)
     ]
 

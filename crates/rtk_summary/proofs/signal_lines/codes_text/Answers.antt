@@ -2,7 +2,7 @@ use Rattle.std.proofs.Common.{◌≡◌, ◌++◌, Bool, List, ℕ, false, get_o
 use Rattle.std.proofs.lemmas.List.{append-nil}
 use Rattle.std.specs.Prelude.{filter}
 use Rattle.rtk_obs.specs.declared.code.Code.{Code}
-use Rattle.rtk_obs.specs.declared.code.Code.TheVariants.{C1C}
+use Rattle.rtk_obs.specs.declared.code.Code.TheVariants.{G1C}
 use Rattle.rtk_obs.specs.Code.{place_of, all_codes}
 use Rattle.rtk_summary.specs.SummaryText.{joined_names, codes_text}
 use Rattle.rtk_summary.proofs.LineLemmas.{code-named, code-passed}
@@ -16,11 +16,11 @@ loop-code-preserved c =
     elim c.if-marks-place.branch [
       | then-marks-place+in_ok-push+in_ok-extend_from_slice w ↦
           rw (w.text-is, w.separator-is, w.in_ok-extend_from_slice.ensures.items, w.in_ok-push.ensures.items, w.name.ensures)
-          (code-named marked c.loop-code.text.items c.loop-code.separator c.loop-code.code-index C1C (joined_names 32 (filter marked all_codes)) c.loop-code-test.true
+          (code-named marked c.loop-code.text.items c.loop-code.separator c.loop-code.code-index G1C (joined_names 32 (filter marked all_codes)) c.loop-code-test.true
           (ap (λ (k : ℕ). get_or marks k false) (sym c.place.ensures.value) ∙ w.if-marks-place.true) c.loop-code.invariant)
       | else-marks-place w ↦
           rw (w.text-is, w.separator-is)
-          (code-passed marked c.loop-code.text.items c.loop-code.separator c.loop-code.code-index C1C (joined_names 32 (filter marked all_codes)) c.loop-code-test.true
+          (code-passed marked c.loop-code.text.items c.loop-code.separator c.loop-code.code-index G1C (joined_names 32 (filter marked all_codes)) c.loop-code-test.true
           (ap (λ (k : ℕ). get_or marks k false) (sym c.place.ensures.value) ∙ w.if-marks-place.false) c.loop-code.invariant)
     ]
 

@@ -3,7 +3,7 @@ use Rattle.std.proofs.lemmas.Bool.{lt-ltb, ltb_from_iff}
 use Rattle.std.proofs.lemmas.List.Folds.{list_any_at, list_any_more}
 use Rattle.std.specs.List.{list_any}
 use Rattle.rtk_obs.specs.declared.code.Code.{Code}
-use Rattle.rtk_obs.specs.declared.code.Code.TheVariants.{C1C}
+use Rattle.rtk_obs.specs.declared.code.Code.TheVariants.{G1C}
 use Rattle.rtk_obs.specs.Code.{all_codes}
 use Rattle.rtk_find.specs.Phases.{phases_shared}
 use Rattle.rtk_find.proofs.phases.Phases.has_few_phases.Goals as goal
@@ -17,9 +17,9 @@ returns-then-own-phases_shared c = λ ms stand.
     let own : ℕ = phases_shared c.args.kind ms c.args.code c.args.code in
     let shared : Code → ℕ = λ other. phases_shared c.args.kind ms c.args.code other in
     let own_is : c.phases_shared-own.result ≡ own = c.phases_shared-own.ensures.value ms stand in
-    let other_is : c.phases_shared.result ≡ shared (get_or all_codes i C1C) = c.phases_shared.ensures.value ms stand in
-    let more : 2 * own < shared (get_or all_codes i C1C) = omega (arith, own_is, other_is, c.if-own-phases_shared.true) in
-    sym (list_any_at (λ other. nat_lt (2 * own) (shared other)) all_codes i C1C c.loop-other-test.true (lt-ltb (2 * own) (shared (get_or all_codes i C1C)) more))
+    let other_is : c.phases_shared.result ≡ shared (get_or all_codes i G1C) = c.phases_shared.ensures.value ms stand in
+    let more : 2 * own < shared (get_or all_codes i G1C) = omega (arith, own_is, other_is, c.if-own-phases_shared.true) in
+    sym (list_any_at (λ other. nat_lt (2 * own) (shared other)) all_codes i G1C c.loop-other-test.true (lt-ltb (2 * own) (shared (get_or all_codes i G1C)) more))
 
 pub loop-other-preserved : goal.loop-other-preserved
 loop-other-preserved c = λ ms stand.
@@ -28,9 +28,9 @@ loop-other-preserved c = λ ms stand.
     let shared : Code → ℕ = λ other. phases_shared c.args.kind ms c.args.code other in
     let test : Code → Bool = λ other. nat_lt (2 * own) (shared other) in
     let own_is : c.phases_shared-own.result ≡ own = c.phases_shared-own.ensures.value ms stand in
-    let other_is : c.phases_shared.result ≡ shared (get_or all_codes i C1C) = c.phases_shared.ensures.value ms stand in
-    let fails : test (get_or all_codes i C1C) ≡ false = not-less (2 * own) (shared (get_or all_codes i C1C)) (omega (arith, own_is, other_is, c.if-own-phases_shared.false)) in
-    list_any_more test all_codes i C1C c.loop-other-test.true ∙ ap (λ (b : Bool). list_any test (take i all_codes) || b) fails
+    let other_is : c.phases_shared.result ≡ shared (get_or all_codes i G1C) = c.phases_shared.ensures.value ms stand in
+    let fails : test (get_or all_codes i G1C) ≡ false = not-less (2 * own) (shared (get_or all_codes i G1C)) (omega (arith, own_is, other_is, c.if-own-phases_shared.false)) in
+    list_any_more test all_codes i G1C c.loop-other-test.true ∙ ap (λ (b : Bool). list_any test (take i all_codes) || b) fails
     ∙ ap (λ (b : Bool). b || false) (c.loop-other.invariant ms stand)
 
 pub returns : goal.returns

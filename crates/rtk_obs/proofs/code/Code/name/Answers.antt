@@ -1,5 +1,5 @@
 use Rattle.std.proofs.Common.{rules}
 use Rattle.rtk_obs.proofs.code.Code.name.Goals as goal
 
-pub returns-in-C2D : goal.returns-in-C2D
-returns-in-C2D c = search rules depth 5 fits 300
+pub returns-in-G2D : goal.returns-in-G2D
+returns-in-G2D c = search rules depth 5 fits 300
