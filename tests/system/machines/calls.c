@@ -1,5 +1,5 @@
-/* Calls each function of machines/ and compares its answer with the contract beside it. It is run with the words of RUN below and
-   the variable VALUE, as tests/system/machines/run does. Each test prints a line. */
+/* Calls each function of machines/ and compares its answer with the contract beside it. It is run with three words and the variables
+   VALUE and EMPTY, as in the script run beside it. Each test prints a line. */
 typedef __SIZE_TYPE__ size_t;
 typedef __INTPTR_TYPE__ ssize_t;
 typedef __UINTPTR_TYPE__ address;
