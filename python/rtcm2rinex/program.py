@@ -37,7 +37,8 @@ def find_program(program: Optional[Location] = None) -> str:
     """Finds the program `rtcm2rinex`, and gives its path.
 
     The argument `program` comes first, and then the environment variable RTCM2RINEX. If neither is given, the program is looked for
-    in the folder `dist/` of the checkout that this package lies in, and then in the folders of PATH.
+    in the folder `dist/` of the checkout that this package lies in, which has one for each kind of machine, and then in the folders of
+    PATH.
 
     Raises `ProgramNotFound` with all that was looked for.
     """
@@ -54,7 +55,7 @@ def find_program(program: Optional[Location] = None) -> str:
         return path
     places = [*copies, *(os.path.join(folder, NAME) for folder in os.environ.get("PATH", os.defpath).split(os.pathsep))]
     raise ProgramNotFound(
-        f"the program {NAME} is in none of these places: {', '.join(places)}. Name it by the argument program=PATH "
+        f"no program {NAME} that runs here is in these places: {', '.join(places)}. Name it by the argument program=PATH "
         f"or by the variable {VARIABLE}.",
         places,
     )
