@@ -6,6 +6,7 @@ import os
 import platform
 import shutil
 import subprocess
+from functools import lru_cache
 from pathlib import Path
 from typing import IO, Dict, List, NamedTuple, NoReturn, Optional, Sequence, Type, Union
 
@@ -15,6 +16,7 @@ from .inputs import Input, Inputs
 NAME = "rtcm2rinex"
 VARIABLE = "RTCM2RINEX"
 CHECKOUT = Path(__file__).resolve().parents[2]
+KINDS = ("linux-gnu", "baseline-linux-gnu", "linux-musl")  # of the programs in dist/ for a machine, the fastest first
 
 Location = Union[str, "os.PathLike[str]"]
 
@@ -35,7 +37,8 @@ def find_program(program: Optional[Location] = None) -> str:
     """Finds the program `rtcm2rinex`, and gives its path.
 
     The argument `program` comes first, and then the environment variable RTCM2RINEX. If neither is given, the program is looked for
-    in the folder `dist/` of the checkout that this package lies in, and then in the folders of PATH.
+    in the folder `dist/` of the checkout that this package lies in, which has one for each kind of machine, and then in the folders of
+    PATH.
 
     Raises `ProgramNotFound` with all that was looked for.
     """
@@ -44,15 +47,27 @@ def find_program(program: Optional[Location] = None) -> str:
             if path := shutil.which(os.fspath(given)):
                 return path
             raise ProgramNotFound(f"{what} names {os.fspath(given)}, which is no program that can be run", [os.fspath(given)])
-    copy = str(CHECKOUT / "dist" / f"{platform.machine()}-linux-gnu" / NAME)
-    if path := shutil.which(copy) or shutil.which(NAME):
+    copies = [str(CHECKOUT / "dist" / f"{platform.machine()}-{kind}" / NAME) for kind in KINDS]
+    for copy in copies:
+        if shutil.which(copy) and does_run(copy):
+            return copy
+    if path := shutil.which(NAME):
         return path
-    places = [copy, *(os.path.join(folder, NAME) for folder in os.environ.get("PATH", os.defpath).split(os.pathsep))]
+    places = [*copies, *(os.path.join(folder, NAME) for folder in os.environ.get("PATH", os.defpath).split(os.pathsep))]
     raise ProgramNotFound(
-        f"the program {NAME} is in none of these places: {', '.join(places)}. Name it by the argument program=PATH "
+        f"no program {NAME} that runs here is in these places: {', '.join(places)}. Name it by the argument program=PATH "
         f"or by the variable {VARIABLE}.",
         places,
     )
+
+
+@lru_cache(maxsize=None)
+def does_run(copy: str) -> bool:
+    """Whether a program runs on this system, which may lack the C library or the processor that the program needs."""
+    try:
+        return subprocess.run([copy, "--version"], stdin=subprocess.DEVNULL, capture_output=True).returncode == 0
+    except OSError:
+        return False
 
 
 def version(program: Optional[Location] = None) -> str:

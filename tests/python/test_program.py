@@ -58,15 +58,21 @@ class Places(Case):
         self.assertEqual(printed(RTCM2RINEX=""), "7.7.7")
         stand_in(copy)
         self.assertEqual(printed(), "9.9.9")
+        # One that does not run here gives way to the next kind.
+        Path(copy).write_text("#!/nowhere/loader\n")
+        self.assertEqual(printed(), "7.7.7")
+        stand_in(f"checkout/dist/{platform.machine()}-linux-musl/rtcm2rinex", "rtcm2rinex 6.6.6")
+        self.assertEqual(printed(), "6.6.6")
 
     def test_no_program(self) -> None:
         with mock.patch.dict(os.environ, WITHOUT), mock.patch("rtcm2rinex.program.CHECKOUT", self.folder):
             del os.environ["RTCM2RINEX"]
             with self.assertRaises(rtcm2rinex.ProgramNotFound) as raised:
                 rtcm2rinex.check(EXAMPLES / "base.rnx")
-        copy = str(self.folder / "dist" / f"{platform.machine()}-linux-gnu" / "rtcm2rinex")
-        self.assertEqual(raised.exception.places, (copy, "/nowhere/rtcm2rinex", "/else/rtcm2rinex"))
-        self.assertIn(copy, str(raised.exception))
+        kinds = ("linux-gnu", "baseline-linux-gnu", "linux-musl")
+        copies = [str(self.folder / "dist" / f"{platform.machine()}-{kind}" / "rtcm2rinex") for kind in kinds]
+        self.assertEqual(raised.exception.places, (*copies, "/nowhere/rtcm2rinex", "/else/rtcm2rinex"))
+        self.assertIn(copies[0], str(raised.exception))
 
     def test_a_program_that_does_not_run(self) -> None:
         Path("program").write_bytes(b"\x7fELF of another machine")
