@@ -60,6 +60,7 @@ run chart labelled; leaves a_picture_of_it 0 want /dev/null
 
 # A told height stays; the label may have none.
 sed "s|^$zeros|        0.0001        0.0000        0.0000                  ANTENNA: DELTA H/E/N|" "$file" >told
+# pins: answer_status
 all told; expect a_told_height 2 '' 'rtcm2rinex: bad --delta-height: the file tells a height'
 label --delta-east +0.0000 told
 sed 's|^        0.0001        0.0000|        0.0001       +0.0000|' told >want

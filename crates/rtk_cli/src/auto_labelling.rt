@@ -1,12 +1,15 @@
 //! The label of `auto`: a file that is converted is labelled, to another one beside its name.
 
-ghost use Rattle.std.specs.Prelude.{◌≡◌, ◌≤◌, None, Ok, IfOk, IfErr, IfSome};
-ghost use Rattle.rtk_commands.specs.LabelInput.{LabelsText};
+ghost use Rattle.std.specs.Prelude.{◌≡◌, ◌≤◌, Ok, IfOk, IfErr, IfSome};
+ghost use Rattle.rtk_commands.specs.declared.file_answer.FileAnswer.TheVariants.{Written};
+ghost use Rattle.rtk_commands.specs.FileText.{AnswersText};
+ghost use Rattle.rtk_commands.specs.LabelInput.{LabelsTable};
+ghost use Rattle.rtk_commands.specs.WithLabel.{WritesOfTable};
 ghost use Rattle.rtk_streams.specs.Passed.{taken_of};
 ghost use Rattle.rtk_streams.specs.declared.exit_status.TheConstants.{NOT_VALID};
 
 use crate::auto_refusing::fail_output;
-use rtk_commands::{Labelled, label_through};
+use rtk_commands::{FileAnswer, gathered_through};
 use rtk_label::Label;
 use rtk_streams::{
     Beside, GATHERED, ToolFault, fail, fail_to_open, let_go, make_beside, open_input,
@@ -16,13 +19,17 @@ use std::io::{Read, Write};
 
 // The writer of a label that is out, else says why it is not. A file that gets no label is not the one
 // that was written.
-fn written_label<R: Eprint, W: Drop>(rt: &R, labelled: Labelled<W>) -> Result<W, u8>
-    ensures done { IfOk result (λ out. (labelled.done ≡ Ok None) × (out ≡ labelled.out)) }
+fn written_label<R: Eprint, W: Drop>(
+    rt: &R,
+    out: W,
+    done: Result<FileAnswer, ToolFault>,
+) -> Result<W, u8>
+    ensures done { IfOk result (λ file. (done ≡ Ok Written) × (file ≡ out)) }
     ensures status { IfErr result (λ status. status ≤ NOT_VALID) }
 {
-    match labelled.done {
-        Ok(None) => Ok(labelled.out),
-        Ok(Some(_refusal)) => Err(fail(rt, ToolFault::Input)),
+    match done {
+        Ok(FileAnswer::Written) => Ok(out),
+        Ok(_refused) => Err(fail(rt, ToolFault::Input)),
         Err(fault) => Err(fail(rt, fault)),
     }
 }
@@ -36,11 +43,11 @@ fn label_to<R: Eprint + AllocGlobal, S: Read + Drop, W: Write + Drop>(
     out: W,
 ) -> Result<W, u8>
     ensures labelled { IfOk result (λ file. IfSome (S.remaining reader) (λ text.
-        LabelsText label.now None text (W.contents out) (taken_of (W.contents out) (W.contents file)))) }
+        AnswersText (WritesOfTable (LabelsTable label.now)) Written text (W.contents out) (taken_of (W.contents out) (W.contents file)))) }
     ensures status { IfErr result (λ status. status ≤ NOT_VALID) }
 {
-    match label_through(rt.alloc(), reader, label, GATHERED, out) {
-        Ok(labelled) => written_label(rt, labelled),
+    match gathered_through(rt.alloc(), label, reader, GATHERED, out) {
+        Ok((out, done)) => written_label(rt, out, done),
         Err(fault) => Err(fail(rt, fault)),
     }
 }

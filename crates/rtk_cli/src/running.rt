@@ -10,9 +10,8 @@ use crate::converting::convert_links;
 use crate::jobs::job;
 use crate::refusing::refuse_words;
 use crate::words::Job;
-use rtk_commands::{
-    chart_named, check_named, cut_named, label_named, quality_named, show_named, summarize_named,
-};
+use rtk_commands::{Chart, Check, run_file, show_named, summarize_named};
+use rtk_quality::Form;
 use rtk_streams::{ToolFault, fail};
 use std::env::Env;
 use std::fs::Files;
@@ -50,12 +49,13 @@ fn run_job<R: Env + Clock + Files + Input + Print + Eprint + AllocGlobal, W: Wri
         }
         Job::Convert { setup, links } => convert_links(rt, report, setup, links.as_slice()),
         Job::Show { hex, file } => show_named(rt, hex, file),
-        Job::Check { file } => check_named(rt, file),
+        Job::Check { file } => run_file(rt, &Check, file),
         Job::Summary { file } => summarize_named(rt, file),
-        Job::Chart { width, file } => chart_named(rt, width, file),
-        Job::Quality { json, file } => quality_named(rt, json, file),
-        Job::Cut { part, file } => cut_named(rt, part, file),
-        Job::Label { label, file } => label_named(rt, &label, file),
+        Job::Chart { width, file } => run_file(rt, &Chart { width }, file),
+        Job::Quality { json: true, file } => run_file(rt, &Form::Json, file),
+        Job::Quality { json: false, file } => run_file(rt, &Form::Lines, file),
+        Job::Cut { part, file } => run_file(rt, &part, file),
+        Job::Label { label, file } => run_file(rt, &label, file),
     }
 }
 

@@ -1,9 +1,9 @@
 -- The part of a file, with the label of the file.
-use Rattle.std.proofs.Common.{◌≡◌, ◌≤◌, ◌+◌, ℕ, List, ◌++◌, length, take, drop, Option, Result, Ok, Err, OnOk, OnErr, refl, sym, ap, ◌∙◌, subst, take_all, arith}
+use Rattle.std.proofs.Common.{◌≡◌, ◌≤◌, ◌+◌, ℕ, List, ◌++◌, length, take, drop, Option, refl, sym, ap, ◌∙◌, arith}
 use Rattle.std.proofs.lemmas.List.{take-append-le, length-append}
 use Rattle.std.proofs.Math.Seq.{take-append-add}
 use Rattle.rtk_frame.specs.Stream.{with_more, TakesPart}
-use Rattle.rtk_frame.proofs.PublicLaws.{with_more-nil, with_more-with_more}
+use Rattle.rtk_frame.proofs.PublicLaws.{with_more-with_more}
 use Rattle.rtk_rinex.specs.Table.{WellFormedTable, table_text}
 use Rattle.rtk_cut.specs.declared.part.Part.{Part}
 use Rattle.rtk_cut.specs.declared.counts.CutCounts.{CutCounts}
@@ -12,10 +12,11 @@ use Rattle.rtk_cut.specs.CutWriting.{CountsPart}
 use Rattle.rtk_label.specs.Labelled.{LabelView, front_lines, labelled_text}
 use Rattle.rtk_label.specs.LabelLaws.{FrontIsChanged}
 use Rattle.rtk_label.specs.LabelWriting.{WritesFront, WritesFirstOfFront}
-use Rattle.rtk_commands.specs.declared.cutting.CutAnswer.TheVariants.{Written}
-use Rattle.rtk_commands.specs.WithLabel.{IsPartedTable}
-use Rattle.rtk_commands.specs.CutInput.{CutsOrRefuses, WritesFirstWithLabel, WritesLabelledPart, WritesFirstOfLabelledPart, WritesRestOfPart, WritesFirstOfRest}
-use Rattle.rtk_commands.proofs.WithLabelLemmas.{text_with, of_plain}
+use Rattle.rtk_commands.specs.declared.file_answer.FileAnswer.TheVariants.{Cut}
+use Rattle.rtk_commands.specs.FileText.{WritesAll, WritesFirst}
+use Rattle.rtk_commands.specs.WithLabel.{IsPartedTable, WritesOfTable}
+use Rattle.rtk_commands.specs.CutInput.{part_counts, CutsTable, WritesLabelledPart, WritesFirstOfLabelledPart, WritesRestOfPart, WritesFirstOfRest}
+use Rattle.rtk_commands.proofs.WithLabelLemmas.{all_of_table, first_of_table}
 
 -- ---- two writes
 
@@ -59,33 +60,17 @@ wrote-more l plain part before mid after law front rest t good e =
 
 -- ---- a text with a label
 
+same_counts : (counts other : CutCounts) → counts.records ≡ other.records → counts.written ≡ other.written → Cut counts ≡ Cut other
+same_counts counts other records written = ap Cut (λ i. record { records = records i; written = written i })
+
 pub cuts : (text plain : List ℕ) (m : LabelView) (part : Part) (counts : CutCounts) (before after : Option (List ℕ)) → IsPartedTable text plain m → WritesLabelledPart m plain part before after
-    → CountsPart plain part counts → CutsOrRefuses text part (Written counts) before after
-cuts text plain m part counts before after parted wrote counted = (
-  text_with text plain m parted,
-  λ t l good is for e.
-      let two = parted.0.every t l good is for e in
-      subst (λ (x : LabelView). after ≡ with_more before (labelled_text x (cut_of part t))) two.1 (wrote t good two.0),
-  of_plain text plain m (λ t. CountsPart (table_text t) part counts) parted.0 (λ t good e. subst (λ (x : List ℕ). CountsPart x part counts) e counted),
-)
+    → CountsPart plain part counts → WritesAll (WritesOfTable (CutsTable part) text (Cut counts)) before after
+cuts text plain m part counts before after parted wrote counted =
+    all_of_table (CutsTable part) text plain m (Cut counts) before after parted (λ t good e.
+    let two = counted t good e in
+    (labelled_text m (cut_of part t), (same_counts counts (part_counts part t) two.0 two.1, refl), wrote t good e))
 
-pub no-part : (part : Part) (text : List ℕ) (held : Option (List ℕ)) → WritesFirstWithLabel text part held held
-no-part part text held t l good is for e = (0, omega arith, sym (with_more-nil held))
-
-first-with : (text plain : List ℕ) (m : LabelView) (part : Part) (before after : Option (List ℕ)) → IsPartedTable text plain m → WritesFirstOfLabelledPart m plain part before after
-    → WritesFirstWithLabel text part before after
-first-with text plain m part before after parted wrote t l good is for e =
-    let two = parted.0.every t l good is for e in
-    subst (λ (x : LabelView). TakesPart before after (labelled_text x (cut_of part t))) two.1 (wrote t good two.0)
-
--- all of it is a first part
-whole-is-first : (plain : List ℕ) (m : LabelView) (part : Part) (before after : Option (List ℕ)) → WritesLabelledPart m plain part before after → WritesFirstOfLabelledPart m plain part before after
-whole-is-first plain m part before after all t good e =
-    let bytes : List ℕ = labelled_text m (cut_of part t) in
-    (length bytes, omega arith, all t good e ∙ ap (with_more before) (sym (take_all (length bytes) bytes (omega arith))))
-
--- whatever was answered of the table
-pub first-of-answer : {T E : Type 0} (r : Result T E) (text plain : List ℕ) (m : LabelView) (part : Part) (before after : Option (List ℕ)) → IsPartedTable text plain m
-    → OnOk r (WritesLabelledPart m plain part before after) → OnErr r (WritesFirstOfLabelledPart m plain part before after) → WritesFirstWithLabel text part before after
-first-of-answer (Ok x) text plain m part before after parted all first = first-with text plain m part before after parted (whole-is-first plain m part before after all)
-first-of-answer (Err fault) text plain m part before after parted all first = first-with text plain m part before after parted first
+pub cuts_first : (text plain : List ℕ) (m : LabelView) (part : Part) (before after : Option (List ℕ)) → IsPartedTable text plain m → WritesFirstOfLabelledPart m plain part before after
+    → WritesFirst (WritesOfTable (CutsTable part) text) before after
+cuts_first text plain m part before after parted wrote =
+    first_of_table (CutsTable part) text plain m before after parted (λ t good e. (Cut (part_counts part t), labelled_text m (cut_of part t), (refl, refl), wrote t good e))

@@ -1,13 +1,14 @@
 mod AfterFrontLemmas
-mod ChartLemmas
 mod CheckLineLemmas
-mod CutLemmas
+mod FileLemmas
 mod LabelLemmas
 mod LabelledPartLemmas
 mod LawLemmas
 mod MemoryLemmas
-mod QualityLemmas
+mod RenderedLemmas
+mod ResultLemmas
 mod ShowThroughLemmas
 mod ShownLemmas
+mod VerdictLemmas
 mod WithLabelLemmas
 mod WrittenLemmas

@@ -1,26 +1,20 @@
 -- What is said of a text, by what is left of it without its label.
-use Rattle.std.proofs.Common.{◌≡◌, ◌≢◌, ◌<◌, ◌+◌, ◌^◌, ℕ, Bool, true, false, List, length, Result, Ok, Err, IfOk, OnOk, OnErr, sym, ◌∙◌}
-use Rattle.std.specs.Prelude.{is_err}
+use Rattle.std.proofs.Common.{◌≡◌, ◌<◌, ◌+◌, ◌^◌, inl, inr, ℕ, List, [], length, Option, refl, sym}
+use Rattle.rtk_frame.proofs.PublicLaws.{with_more-nil}
 use Rattle.rtk_rinex.specs.CheckTable.{HoldsTable, IsFault, IsWithoutTable}
 use Rattle.rtk_rinex.specs.Table.{WellFormedTable, IsWellFormedTable, table_text}
 use Rattle.rtk_rinex.specs.declared.check_fault.CheckFault.{CheckFault}
 use Rattle.rtk_label.specs.Fields.{marker_number_line}
 use Rattle.rtk_label.specs.Labelled.{LabelView}
 use Rattle.rtk_label.specs.LabelWriting.{IsParted, line_in_text}
-use Rattle.rtk_commands.specs.WithLabel.{IsWithLabel, IsTextWithLabel, OfItsTable, IsPartedTable, IsRefused}
+use Rattle.rtk_commands.specs.declared.file_answer.FileAnswer.{FileAnswer}
+use Rattle.rtk_commands.specs.declared.file_answer.FileAnswer.TheVariants.{Refused}
+use Rattle.rtk_commands.specs.FileText.{WritesAll, WritesFirst}
+use Rattle.rtk_commands.specs.WithLabel.{OfItsTable, IsPartedTable, IsRefused, WritesOfTable}
 
 pub of_plain : (text plain : List ℕ) (m : LabelView) (P : WellFormedTable → Type 0) → IsParted text plain m
     → ((t : WellFormedTable) → IsWellFormedTable t → plain ≡ table_text t → P t) → OfItsTable text P
 of_plain text plain m P parted each t good (l, is, for, e) = each t good (parted.every t l good is for e).0
-
--- the table whose text is left
-pub with_label : (text plain : List ℕ) (m : LabelView) (n s : ℕ) → IsParted text plain m → (h : HoldsTable plain n s) → IsWithLabel text h.table
-with_label text plain m n s parted h =
-    let two = parted.labelled h.table h.is_table h.text in
-    (m, parted.good, two.1, two.0)
-
-pub text_with : (text plain : List ℕ) (m : LabelView) → IsPartedTable text plain m → IsTextWithLabel text
-text_with text plain m (parted, (n, s, h)) = (h.table, h.is_table, with_label text plain m n s parted h)
 
 -- the same texts by other names
 pub parted_as : (text other plain left : List ℕ) (m : LabelView) → other ≡ text → left ≡ plain → IsParted text plain m → IsParted other left m
@@ -38,29 +32,34 @@ refused_with m text plain from fault other parted none is of_number size line ca
   record { plain = plain; label = m; of_plain = other; parted = parted; is_fault = is; size = rw of_number at size; line = rw of_number at line; cause = cause },
 )
 
-err-not-ok : {T E : Type 0} (fault : E) (x : T) → Err fault ≢ Ok x
-err-not-ok fault x e = cc
+-- ---- what a command writes
 
-true-not-false : true ≢ false
-true-not-false e = cc
+-- of the table whose text is left
+pub all_of_table : (Writes : WellFormedTable → LabelView → FileAnswer → List ℕ → Type 0) (text plain : List ℕ) (m : LabelView) (answer : FileAnswer) (before after : Option (List ℕ)) → IsPartedTable text plain m
+    → ((t : WellFormedTable) → IsWellFormedTable t → plain ≡ table_text t → WritesAll (Writes t m answer) before after) → WritesAll (WritesOfTable Writes text answer) before after
+all_of_table Writes text plain m answer before after (parted, (n, s, h)) each =
+    let two = parted.labelled h.table h.is_table h.text in
+    let some = each h.table h.is_table h.text in
+    (some.0, inl (h.table, m, h.is_table, parted.good, two.1, two.0, some.1), some.2)
 
-pub if_ok-map : {T E : Type 0} (r : Result T E) {P Q : T → Type 0} → ((x : T) → P x → Q x) → IfOk r P → IfOk r Q
-if_ok-map (Ok x) f p = f x p
-if_ok-map (Err e) f p = tt
+pub first_of_table : (Writes : WellFormedTable → LabelView → FileAnswer → List ℕ → Type 0) (text plain : List ℕ) (m : LabelView) (before after : Option (List ℕ)) → IsPartedTable text plain m
+    → ((t : WellFormedTable) → IsWellFormedTable t → plain ≡ table_text t → WritesFirst (Writes t m) before after) → WritesFirst (WritesOfTable Writes text) before after
+first_of_table Writes text plain m before after (parted, (n, s, h)) each =
+    let two = parted.labelled h.table h.is_table h.text in
+    let some = each h.table h.is_table h.text in
+    (some.0, some.1, inl (h.table, m, h.is_table, parted.good, two.1, two.0, some.2), some.3)
 
--- what is said of a call that is done, or that did not fail
-pub if-done : {T E : Type 0} (r : Result T E) {x : T} {A : Type 0} → r ≡ Ok x → OnOk r A → A
-if-done (Ok y) e a = a
-if-done (Err fault) {x} e a = absurd (err-not-ok fault x e)
+-- of all bytes that were made of it
+pub made_of_table : (Writes : WellFormedTable → LabelView → FileAnswer → List ℕ → Type 0) (text plain : List ℕ) (m : LabelView) (answer : FileAnswer) (bytes : List ℕ) → IsPartedTable text plain m
+    → ((t : WellFormedTable) → IsWellFormedTable t → plain ≡ table_text t → Writes t m answer bytes) → WritesOfTable Writes text answer bytes
+made_of_table Writes text plain m answer bytes (parted, (n, s, h)) each =
+    let two = parted.labelled h.table h.is_table h.text in
+    inl (h.table, m, h.is_table, parted.good, two.1, two.0, each h.table h.is_table h.text)
 
-pub if-not-failed : {T E : Type 0} (r : Result T E) {A : Type 0} (failed : Bool) → failed ≡ is_err r → failed ≡ false → OnOk r A → A
-if-not-failed (Ok x) failed e done a = a
-if-not-failed (Err fault) failed e done a = absurd (true-not-false (sym e ∙ done))
+-- of a text that is refused
+pub made_of_refused : (Writes : WellFormedTable → LabelView → FileAnswer → List ℕ → Type 0) (text : List ℕ) (fault : CheckFault) → IsRefused text fault → WritesOfTable Writes text (Refused fault) []
+made_of_refused Writes text fault is = inr (fault, refl, is, refl)
 
-pub on_ok-map : {T E : Type 0} (r : Result T E) {P Q : Type 0} → (P → Q) → OnOk r P → OnOk r Q
-on_ok-map (Ok x) f p = f p
-on_ok-map (Err e) f p = tt
-
-pub on_err-map : {T E : Type 0} (r : Result T E) {P Q : Type 0} → (P → Q) → OnErr r P → OnErr r Q
-on_err-map (Ok x) f p = tt
-on_err-map (Err e) f p = f p
+pub all_of_refused : (Writes : WellFormedTable → LabelView → FileAnswer → List ℕ → Type 0) (text : List ℕ) (fault : CheckFault) (held : Option (List ℕ)) → IsRefused text fault
+    → WritesAll (WritesOfTable Writes text (Refused fault)) held held
+all_of_refused Writes text fault held is = ([], made_of_refused Writes text fault is, sym (with_more-nil held))

@@ -1,11 +1,13 @@
 -- The command `check`: what it says of a text, and the line that says it. The forms of the lines
 -- are this project's rule.
-use Rattle.std.specs.Prelude.{◌≡◌, ℕ, ◌≤◌, Bool, true, false, List, [], ◌∷◌, ◌++◌, length, codes, decimal, Option}
+use Rattle.std.specs.Prelude.{◌≡◌, ◌⊎◌, ℕ, ◌≤◌, Bool, true, false, List, [], ◌∷◌, ◌++◌, length, codes, decimal, Option}
 use Rattle.rtk_frame.specs.Stream.{with_more, TakesPart}
 use Rattle.rtk_rinex.specs.CauseText.{cause_text}
 use Rattle.rtk_rinex.specs.CheckTable.{HoldsTable, IsFault, IsWithoutTable}
 use Rattle.rtk_rinex.specs.declared.check_fault.CheckFault.{CheckFault}
-use Rattle.rtk_commands.specs.declared.checking.TheConstants.{CHECK_LIMIT}
+use Rattle.rtk_commands.specs.declared.file_command.TheConstants.{CHECK_LIMIT}
+use Rattle.rtk_commands.specs.declared.file_answer.FileAnswer.{FileAnswer}
+use Rattle.rtk_commands.specs.declared.file_answer.FileAnswer.TheVariants.{Written, NotValid}
 
 -- formula
 -- the line of a table with these numbers of records and satellite lines; a line feed ends it
@@ -33,6 +35,10 @@ SaysNo text line =
 abbrev pub SaysVerdict : List ℕ → Bool → List ℕ → Type 0
 SaysVerdict text true line = SaysYes text line
 SaysVerdict text false line = SaysNo text line
+
+-- the same by the answer of a command of a file
+abbrev pub WritesVerdict : List ℕ → FileAnswer → List ℕ → Type 0
+WritesVerdict text answer line = ((answer ≡ Written) × SaysYes text line) ⊎ ((answer ≡ NotValid) × SaysNo text line)
 
 -- the line of this answer was taken
 abbrev pub Tells : List ℕ → Bool → Option (List ℕ) → Option (List ℕ) → Type 0

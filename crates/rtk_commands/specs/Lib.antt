@@ -1,9 +1,11 @@
 pub mod AfterFront
+pub mod AnswerStatus
 pub mod ChartInput
 pub mod CheckInput
 pub mod CheckLaws
 pub mod CheckedInput
 pub mod CutInput
+pub mod FileText
 pub mod Hex
 pub mod LabelInput
 pub mod QualityInput

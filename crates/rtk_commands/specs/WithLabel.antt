@@ -1,25 +1,19 @@
 -- A text with a label, perhaps a blank one, that `check` accepts without it. A text is that of one table
 -- with one label at most.
-use Rattle.std.specs.Prelude.{◌≡◌, ◌+◌, ◌^◌, ◌<◌, ℕ, List, length}
+use Rattle.std.specs.Prelude.{◌≡◌, ◌+◌, ◌^◌, ◌<◌, ◌⊎◌, ℕ, List, [], length}
 use Rattle.rtk_rinex.specs.CheckTable.{IsFault}
-use Rattle.rtk_rinex.specs.Table.{WellFormedTable, IsWellFormedTable, table_text}
+use Rattle.rtk_rinex.specs.Table.{WellFormedTable, IsWellFormedTable}
 use Rattle.rtk_rinex.specs.declared.check_fault.CheckFault.{CheckFault}
 use Rattle.rtk_label.specs.Fields.{marker_number_line}
 use Rattle.rtk_label.specs.Labelled.{LabelView, IsLabel, IsFor, labelled_text}
 use Rattle.rtk_label.specs.LabelWriting.{IsParted, line_in_text}
 use Rattle.rtk_commands.specs.CheckedInput.{IsTextOfSomeTable}
+use Rattle.rtk_commands.specs.declared.file_answer.FileAnswer.{FileAnswer}
+use Rattle.rtk_commands.specs.declared.file_answer.FileAnswer.TheVariants.{Refused}
 
 -- the text is that of this table with some label, perhaps a blank one
 abbrev pub IsWithLabel : List ℕ → WellFormedTable → Type 0
 IsWithLabel text t = (m : LabelView) × IsLabel m × IsFor m t.site × (text ≡ labelled_text m t)
-
--- the text is that of some well-formed table with some label
-abbrev pub IsTextWithLabel : List ℕ → Type 0
-IsTextWithLabel text = (t : WellFormedTable) × IsWellFormedTable t × IsWithLabel text t
-
--- this holds of the text of a table whose text with some label this is
-abbrev pub HoldsWithoutLabel : (List ℕ → Type 0) → List ℕ → Type 0
-HoldsWithoutLabel P text = (t : WellFormedTable) × IsWellFormedTable t × IsWithLabel text t × P (table_text t)
 
 -- this holds of the table whose text with some label this is
 abbrev pub OfItsTable : List ℕ → (WellFormedTable → Type 0) → Type 0
@@ -44,3 +38,10 @@ IsPartedTable text plain label = IsParted text plain label × IsTextOfSomeTable 
 -- the text is that of no table with a label, and this is its first fault
 abbrev pub IsRefused : List ℕ → CheckFault → Type 0
 IsRefused text fault = OfItsTable text (λ t. ⊥) × IsFaultWithLabel text fault
+
+-- what a command writes of a text that has a label, by what it writes of a table with its label: the text is
+-- that of such a table, or it is refused with its first fault and nothing is written
+abbrev pub WritesOfTable : (WellFormedTable → LabelView → FileAnswer → List ℕ → Type 0) → List ℕ → FileAnswer → List ℕ → Type 0
+WritesOfTable Writes text answer bytes =
+    ((t : WellFormedTable) × (l : LabelView) × IsWellFormedTable t × IsLabel l × IsFor l t.site × (text ≡ labelled_text l t) × Writes t l answer bytes)
+    ⊎ ((fault : CheckFault) × (answer ≡ Refused fault) × IsRefused text fault × (bytes ≡ []))

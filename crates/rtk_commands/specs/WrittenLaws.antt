@@ -1,18 +1,21 @@
 -- Laws of what is written: after the bytes that a writer held before stands exactly the line, the
--- picture, the part or the file with a label of the whole text, and nothing else.
-use Rattle.std.specs.Prelude.{◌≡◌, ℕ, Bool, List, ◌++◌, Option, None, Some}
+-- picture, the numbers, the part or the file with a label of the whole text, and nothing else.
+use Rattle.std.specs.Prelude.{◌≡◌, ℕ, Bool, List, ◌++◌, Option, Some}
 use Rattle.rtk_rinex.specs.Table.{WellFormedTable, IsWellFormedTable, table_text}
+use Rattle.rtk_quality.specs.QualityText.{TellsQuality}
+use Rattle.rtk_quality.specs.declared.form.Form.{Form}
 use Rattle.rtk_cut.specs.declared.part.Part.{Part}
 use Rattle.rtk_cut.specs.declared.counts.CutCounts.{CutCounts}
 use Rattle.rtk_cut.specs.Cut.{cut_of}
-use Rattle.rtk_cut.specs.CutWriting.{CountsPart}
 use Rattle.rtk_label.specs.Labelled.{LabelView, IsLabel, IsFor, labelled_text}
-use Rattle.rtk_commands.specs.declared.cutting.CutAnswer.TheVariants.{Written}
+use Rattle.rtk_commands.specs.declared.file_answer.FileAnswer.TheVariants.{Written, Cut}
 use Rattle.rtk_commands.specs.CheckInput.{SaysVerdict, Tells}
-use Rattle.rtk_commands.specs.ChartInput.{IsPicture, ChartsOrRefuses}
-use Rattle.rtk_commands.specs.CutInput.{CutsOrRefuses}
-use Rattle.rtk_commands.specs.LabelInput.{LabelsOrRefuses}
-use Rattle.rtk_commands.specs.WithLabel.{IsWithLabel}
+use Rattle.rtk_commands.specs.ChartInput.{IsPicture, DrawsTable}
+use Rattle.rtk_commands.specs.QualityInput.{TellsTable}
+use Rattle.rtk_commands.specs.CutInput.{part_counts, CutsTable}
+use Rattle.rtk_commands.specs.LabelInput.{LabelsTable}
+use Rattle.rtk_commands.specs.FileText.{WritesAll}
+use Rattle.rtk_commands.specs.WithLabel.{IsWithLabel, WritesOfTable}
 
 -- the line of an answer
 abbrev pub LineFollows : Type 0
@@ -23,19 +26,26 @@ LineFollows =
 -- the picture of a file
 abbrev pub PictureFollows : Type 0
 PictureFollows =
-    (width : Option ℕ) (text first last : List ℕ) → ChartsOrRefuses width text None (Some first) (Some last)
+    (width : Option ℕ) (text first last : List ℕ) → WritesAll (WritesOfTable (DrawsTable width) text Written) (Some first) (Some last)
     → (t : WellFormedTable) × IsWellFormedTable t × IsWithLabel text t
     × ((picture : List ℕ) × IsPicture width (table_text t) picture × (last ≡ first ++ picture))
+
+-- the numbers of a file
+abbrev pub NumbersFollow : Type 0
+NumbersFollow =
+    (form : Form) (text first last : List ℕ) → WritesAll (WritesOfTable (TellsTable form) text Written) (Some first) (Some last)
+    → (t : WellFormedTable) × IsWellFormedTable t × IsWithLabel text t
+    × ((numbers : List ℕ) × TellsQuality form (table_text t) numbers × (last ≡ first ++ numbers))
 
 -- the part of a file, and its counts
 abbrev pub PartFollows : Type 0
 PartFollows =
-    (text first last : List ℕ) (part : Part) (counts : CutCounts) → CutsOrRefuses text part (Written counts) (Some first) (Some last)
-    → (t : WellFormedTable) × IsWellFormedTable t × CountsPart (table_text t) part counts
+    (text first last : List ℕ) (part : Part) (counts : CutCounts) → WritesAll (WritesOfTable (CutsTable part) text (Cut counts)) (Some first) (Some last)
+    → (t : WellFormedTable) × IsWellFormedTable t × (counts ≡ part_counts part t)
     × ((l : LabelView) × IsLabel l × IsFor l t.site × (text ≡ labelled_text l t) × (last ≡ first ++ labelled_text l (cut_of part t)))
 
 -- the file with a label
 abbrev pub LabelFollows : Type 0
 LabelFollows =
-    (l : LabelView) (text first last : List ℕ) → LabelsOrRefuses l text None (Some first) (Some last)
+    (l : LabelView) (text first last : List ℕ) → WritesAll (WritesOfTable (LabelsTable l) text Written) (Some first) (Some last)
     → (t : WellFormedTable) × IsWellFormedTable t × IsWithLabel text t × IsFor l t.site × (last ≡ first ++ labelled_text l t)

@@ -7,7 +7,7 @@ ghost use Rattle.std.specs.Prelude.{◌≡◌, ℕ, List};
 ghost use Rattle.rtk_frame.specs.Frames.{Frame};
 ghost use Rattle.rtk_commands.specs.CheckLaws.{ValidTellsNumbers, FaultTextTellsFault, YesTellsNumbers, NoTellsFault, NoLineSaysBoth};
 ghost use Rattle.rtk_commands.specs.Shown.{IsLineOf, AreLinesOf};
-ghost use Rattle.rtk_commands.specs.WrittenLaws.{LineFollows, PictureFollows, PartFollows, LabelFollows};
+ghost use Rattle.rtk_commands.specs.WrittenLaws.{LineFollows, PictureFollows, NumbersFollow, PartFollows, LabelFollows};
 
 use rtk_rinex::one_fault;
 
@@ -40,12 +40,13 @@ pub fn one_line_tells_one_answer()
     one_fault();
 }
 
-/// What `check`, `chart`, `cut` and `label` are said to have written stands right after what the
+/// What `check`, `chart`, `quality`, `cut` and `label` are said to have written stands right after what the
 /// writer held, with nothing before, between or after it, however long it is; and it is of the whole
 /// text.
 pub fn written_follows()
     ensures line { LineFollows }
     ensures picture { PictureFollows }
+    ensures numbers { NumbersFollow }
     ensures part { PartFollows }
     ensures label { LabelFollows }
 {}

@@ -1,14 +1,17 @@
 //! The commands that convert nothing: `show`, `summary`, `check`, `chart`, `quality`, `cut` and `label`.
 //!
-//! Each command is one file of four layers, each of which calls the one before it. In that of `show`:
+//! `check`, `chart`, `quality`, `cut` and `label` implement `FileCommand`: each makes bytes of a text. One driver
+//! (`run_file`) opens and reads the file, has the command write, and answers the exit status.
+//!
+//! `show` and `summary`, which read captures, are one file of four layers each, each of which calls the one before it.
+//! In that of `show`:
 //!
 //! - `show` reads a source and writes to a sink;
 //! - `show_by` reads a reader and writes to a writer of std, by what a type says of their bytes;
 //! - `show_through` does so without that type, for any reader and writer;
 //! - `show_named` opens the file of a name, writes to standard output and answers the exit status.
 //!
-//! In place of `show` the others have `summarize`, `check_file`, `chart_input`, `assess_input` and
-//! `cut_input`.
+//! The layers of the driver are `answer_input`, `file_by`, `file_through` and `run_file`.
 //!
 //! ```rust
 //! use rtk_commands::check_file;
@@ -32,19 +35,21 @@ mod assessing;
 mod charting;
 mod checking;
 mod cutting;
+mod file_answer;
+mod file_command;
 mod hex_input;
 mod labelling;
 pub mod laws;
 mod payload_line;
+mod rendered;
 mod showing;
 mod summarizing;
 mod with_label;
 
-pub use assessing::{quality_named, quality_through};
-pub use charting::{chart_named, chart_through};
-pub use checking::{CHECK_LIMIT, check_file, check_named, check_through};
-pub use cutting::{Cut, CutAnswer, cut_named, cut_through};
-pub use labelling::{LabelRefusal, Labelled, label_named, label_through};
+pub use charting::Chart;
+pub use checking::{Check, check_file};
+pub use file_answer::FileAnswer;
+pub use file_command::{CHECK_LIMIT, FileCommand, file_through, gathered_through, run_file};
 pub use payload_line::show_line;
 pub use showing::{SHOW_LIMIT, show, show_bytes, show_named, show_through};
 pub use summarizing::{summarize_named, summarize_through, summary_status};

@@ -1,5 +1,6 @@
 //! Why the program, the tool, does not do a command.
 
+use std::alloc::AllocError;
 use thiserror::Error;
 
 /// Why the program, the tool, does not do a command, whatever its words ask for. All commands have
@@ -21,4 +22,15 @@ pub enum ToolFault {
     /// P5: a write failed.
     #[error("write failed")]
     Output,
+}
+
+impl From<AllocError> for ToolFault {
+    ghost use Rattle.std.specs.Prelude.{◌≡◌};
+    ghost use Rattle.rtk_streams.specs.declared.fault.ToolFault.TheVariants.{OutOfMemory};
+
+    ghost from_gives = { λ _ fault. fault ≡ OutOfMemory };
+
+    fn from(_refused: AllocError) -> ToolFault {
+        ToolFault::OutOfMemory
+    }
 }

@@ -47,9 +47,7 @@ pub fn read_whole<R: Source>(
         if count == 0 {
             return Ok(bytes);
         }
-        if bytes.extend_from_slice(&piece[..count]).is_err() {
-            return Err(ToolFault::OutOfMemory);
-        }
+        bytes.extend_from_slice(&piece[..count])?;
     }
     Err(ToolFault::TooLong)
 }

@@ -97,8 +97,6 @@ def branches(sources):
         # of rtk_equipment: a push was refused, and so it is said later
         rf"\bif take_message{ARGUMENTS}\.is_err\(\) \{{ self\.is_refused = true; \}}", r"\bif self\.is_refused \{ return Err\(AllocError\); \}",
         rf"\bmatch {call} \{{ Ok\({NAME}\) => {CODE}, Err\(_\) => {ANSWER}, \}}",
-        rf"= match check_text\(text\) \{{ Ok\(table\) => \(true, {call}\), Err\(fault\) => \(false, {call}\), \}}; "
-        rf"match line \{{ Ok\(line\) => {CODE}, Err\(_\) => {ANSWER}, \}}",
         rf"\blet text = if [^{{}};]* \{{ format!{ARGUMENTS} \}} else \{{ format!{ARGUMENTS} \}}; "
         rf"match text \{{ Ok\(text\) => {CODE}, Err\(_\) => {ANSWER}, \}}",
         # what was refused before; of PlanFault, which has no other variant

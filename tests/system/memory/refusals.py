@@ -285,7 +285,7 @@ def scenes() -> Iterator[Scene]:
         yield Scene(words.split())
     yield of_file("preambles")
     # Of more text than is gathered, as of `slips`, each record takes memory.
-    # refuses: a `cut_input` that writes something else if memory is refused
+    # refuses: a `cut` that writes something else if memory is refused
     for words in ("--every 30 examples/slip.rnx", "--from 2024-05-17T12:00:30 examples/slip.rnx", "--every 30 slips"):
         yield Scene(["cut", *words.split()])
     for words in ("--observer me examples/slip.rnx", "--blank slips"):

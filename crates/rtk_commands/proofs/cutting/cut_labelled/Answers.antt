@@ -1,4 +1,4 @@
-use Rattle.rtk_commands.proofs.WithLabelLemmas.{if-not-failed, on_ok-map, on_err-map}
+use Rattle.rtk_commands.proofs.ResultLemmas.{if-not-failed, on_ok-map, on_err-map}
 use Rattle.rtk_commands.proofs.LabelledPartLemmas.{wrote-part, wrote-first, wrote-more}
 use Rattle.rtk_commands.proofs.cutting.cut_labelled.Goals as goal
 

@@ -1,4 +1,4 @@
-use Rattle.rtk_commands.proofs.WrittenLemmas.{line-follows, picture-follows, part-follows, label-follows}
+use Rattle.rtk_commands.proofs.WrittenLemmas.{line-follows, picture-follows, numbers-follow, part-follows, label-follows}
 use Rattle.rtk_commands.proofs.laws.written_follows.Goals as goal
 
 pub returns-clause-line : goal.returns-clause-line
@@ -6,6 +6,9 @@ returns-clause-line c = line-follows
 
 pub returns-clause-picture : goal.returns-clause-picture
 returns-clause-picture c = picture-follows
+
+pub returns-clause-numbers : goal.returns-clause-numbers
+returns-clause-numbers c = numbers-follow
 
 pub returns-clause-part : goal.returns-clause-part
 returns-clause-part c = part-follows

@@ -5,8 +5,8 @@ use Rattle.rtk_frame.proofs.PublicLaws.{with_more-with_more}
 use Rattle.rtk_streams.proofs.input.read_whole.Goals as goal
 
 -- no memory for the bytes of the last read: they were read all the same
-pub returns-then-is_err-clause-within : goal.returns-then-is_err-clause-within
-returns-then-is_err-clause-within g c =
+pub returns-in_err-extend_from_slice-clause-within : goal.returns-in_err-extend_from_slice-clause-within
+returns-in_err-extend_from_slice-clause-within g c =
     let more : List ℕ = take c.in-Ok.count c.read.new.buf in
     let few : length (c.loop-piece.bytes.items ++ more) ≤ c.args.limit + 1 = grind (arith, common_steps) in (
       c.loop-piece.bytes.items ++ more,

@@ -1,0 +1,53 @@
+//! What a command of a file answers, and what it says of it.
+
+use rtk_cut::CutCounts;
+use rtk_rinex::CheckFault;
+use rtk_streams::{DONE, NOT_VALID, REFUSED};
+
+/// What came of a text that was read whole.
+#[derive(Clone, Copy, Debug, PartialEq, Eq)]
+pub enum FileAnswer {
+    /// All is written; of `check` it is the line that says yes.
+    Written,
+    /// The part is written. So many records has the file, and so many its part.
+    Cut(CutCounts),
+    /// The line of `check` is written that says no.
+    NotValid,
+    /// Nothing is written: without its label the text is no file of `check`. This is its first fault,
+    /// and the line is that of the text as it was read.
+    Refused(CheckFault),
+    /// Nothing is written: the label has an antenna height, and the stream told one.
+    Height,
+}
+
+impl FileAnswer {
+    ghost use Rattle.std.specs.Prelude.{◌≡◌};
+    ghost use Rattle.rtk_commands.specs.AnswerStatus.{answer_status};
+
+    /// Says what stands in no output, and answers the exit status.
+    pub(crate) fn tell<R: Eprint>(self, rt: &R) -> u8
+        ensures { result ≡ answer_status self }
+    {
+        match self {
+            FileAnswer::Written => DONE,
+            FileAnswer::Cut(counts) => {
+                let _printed = eprintln!(rt;
+                    "records {} written {}",
+                    counts.records, counts.written
+                );
+                DONE
+            }
+            FileAnswer::NotValid => NOT_VALID,
+            FileAnswer::Refused(fault) => {
+                let _printed = eprintln!(rt; "{fault}");
+                NOT_VALID
+            }
+            FileAnswer::Height => {
+                let _printed = eprintln!(rt;
+                    "rtcm2rinex: bad --delta-height: the file tells a height"
+                );
+                REFUSED
+            }
+        }
+    }
+}
