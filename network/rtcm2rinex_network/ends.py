@@ -37,6 +37,7 @@ class Refused(Ended):
         self.shown, self.kept = shown, kept
 
     def told(self) -> str:
+        """The same with the word by which all refusals begin."""
         return f"refused: {self}" + (f"\n{self.shown}" if self.shown else "")
 
 
@@ -44,6 +45,7 @@ class Again(Ended):
     """Another run may mend the cause, as a full disk."""
 
     def told(self) -> str:
+        """The same with what to do."""
         return f"{self}; try again"
 
 
