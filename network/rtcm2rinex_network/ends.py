@@ -49,6 +49,10 @@ class Again(Ended):
         return f"{self}; try again"
 
 
+class Stopped(Again):
+    """A signal told the run to end, so nothing else is begun."""
+
+
 def blamed(path: str, why: str) -> Ended:
     """How a write that failed ends the run. Another run does not mend a missing permission."""
     return Again(why) if os.access(path, os.W_OK) else Refused(f"{why}: no permission")
@@ -75,7 +79,7 @@ def run_script(name: str, main: Callable[[Sequence[str]], int], doc: str, usage:
 def end_by_signal(number: int, _frame: object) -> None:
     """Ends the run where it is. What it began is removed on the way out."""
     signal.signal(number, signal.SIG_IGN)
-    raise Again("told to end")
+    raise Stopped("told to end")
 
 
 def status_of(name: str, main: Callable[[Sequence[str]], int], doc: str, usage: str) -> int:
