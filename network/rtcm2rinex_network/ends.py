@@ -28,9 +28,11 @@ class NoCaptures(Ended):
 
 
 class Refused(Ended):
-    """Another run does not mend the cause. `shown` is printed beside it, and `kept` goes to the file NAME.refused."""
+    """Another run does not mend the cause. `shown` is printed beside it, and `kept` goes to the file NAME.refused. It may be excused if a
+    capture can't be read now that would mend it."""
 
     status = REFUSED
+    may_be_excused = True
 
     def __init__(self, why: str, shown: str = "", kept: str = "") -> None:
         super().__init__(why)
