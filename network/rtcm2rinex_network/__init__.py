@@ -2,9 +2,9 @@
 
 A script has the words of its command and one call. Each module has one subject, and imports only those that stand above it here:
 
-- `ends`, `settings`, `times`, `names`: statuses, settings, times, and the names of files
+- `ends`, `settings`, `times`, `names`, `program`: statuses, settings, times, the names of files, and the program
 - `table`, `labels`, `sources`, `checking`: the tables
-- `program`, `captures`, `lists`, `rinex`, `placing`, `places`: what a run reads and writes
+- `captures`, `lists`, `rinex`, `placing`, `places`: what a run reads and writes
 - `comparison`, `guards`: whether a new file is worse than the old one
 - `making`, `after`, `span`, `spans`, `parallel`: the file of a span, and the files of many
 - `stations`, `reporting`, `deleting`: what is there, how it is told, and what may go

@@ -49,7 +49,7 @@ def losses(old: Path, new: Path) -> Losses:
             comparison.take(key, satellites, satellites)
     found = comparison.found
     if found.slips:
-        firsts = first_phases(old, comparison.ranks, set(found.slips))
+        firsts = set(first_phases(old, comparison.ranks, {place[1:] for place in found.slips}))
         found.first_slips = [it for it in found.slips if it in firsts]
         found.slips = [it for it in found.slips if it not in firsts]
     return found
@@ -82,24 +82,18 @@ class Comparison:
         gained = self.gained.setdefault(place[1], set())
         lost = sum(bool(before) and not now for before, now in zip(old.values, new.values))
         self.found.values += [place] * lost
-        if not new.has_phase or old.is_of_same_message(new):
-            if new.has_phase and old.is_slip and not new.is_slip and place[2] not in gained:
-                self.found.slips.append(place)
-            if new.has_phase and old.is_half and not new.is_half:
-                self.found.halves.append(place)
-            if old.has_phase:
-                gained.discard(place[2])
-        else:
+        if new.has_phase and not old.is_of_same_message(new):
             gained.add(place[2])
+            return
+        if new.has_phase and old.is_slip and not new.is_slip and place[2] not in gained:
+            self.found.slips.append(place)
+        if new.has_phase and old.is_half and not new.is_half:
+            self.found.halves.append(place)
+        if old.has_phase:
+            gained.discard(place[2])
 
 
-def first_phases(path: Path, ranks: List[Tuple[str, int, int]], places: Set[Place]) -> Set[Place]:
-    """Those of the places that are the first phase of their satellite and code in the file."""
-    wanted = {place[1:] for place in places}
-    return {place for place in phases_once(path, ranks, wanted) if place in places}
-
-
-def phases_once(path: Path, ranks: List[Tuple[str, int, int]], wanted: Set[Tuple[str, str]]) -> Iterator[Place]:
+def first_phases(path: Path, ranks: List[Tuple[str, int, int]], wanted: Set[Tuple[str, str]]) -> Iterator[Place]:
     """Where the first phase of each of these satellites and codes stands."""
     for key, satellites in epochs_of(path):
         for code, rank, _ in ranks:

@@ -28,15 +28,18 @@ class NoCaptures(Ended):
 
 
 class Refused(Ended):
-    """Another run does not mend the cause. `shown` is printed beside it, and `kept` goes to the file NAME.refused."""
+    """Another run does not mend the cause. `shown` is printed beside it, and `kept` goes to the file NAME.refused. It may be excused if a
+    capture can't be read now that would mend it."""
 
     status = REFUSED
+    may_be_excused = True
 
     def __init__(self, why: str, shown: str = "", kept: str = "") -> None:
         super().__init__(why)
         self.shown, self.kept = shown, kept
 
     def told(self) -> str:
+        """The same with the word by which all refusals begin."""
         return f"refused: {self}" + (f"\n{self.shown}" if self.shown else "")
 
 
@@ -44,7 +47,12 @@ class Again(Ended):
     """Another run may mend the cause, as a full disk."""
 
     def told(self) -> str:
+        """The same with what to do."""
         return f"{self}; try again"
+
+
+class Stopped(Again):
+    """A signal told the run to end, so nothing else is begun."""
 
 
 def blamed(path: str, why: str) -> Ended:
@@ -73,7 +81,7 @@ def run_script(name: str, main: Callable[[Sequence[str]], int], doc: str, usage:
 def end_by_signal(number: int, _frame: object) -> None:
     """Ends the run where it is. What it began is removed on the way out."""
     signal.signal(number, signal.SIG_IGN)
-    raise Again("told to end")
+    raise Stopped("told to end")
 
 
 def status_of(name: str, main: Callable[[Sequence[str]], int], doc: str, usage: str) -> int:

@@ -157,9 +157,8 @@ def has_lost_bytes(before: Dict[str, Sum], found: Dict[str, Sum]) -> bool:
 
 
 def faults_of(old: Old, new: New, listed: Dict[str, Made], made: Dict[str, Made], lost_bytes: bool) -> Iterator[str]:
-    """Why the new files would be worse than those of before. The first name in `made` is that of the file, and thinned ones follow."""
+    """Why the records of the new files would be worse than those of before. The first name in `made` is that of the file, and thinned ones follow."""
     name = next(iter(made))
-    yield from guard_words(name, old.by, new.by)
     if old.path:
         yield from guard_position(name, old.header, read_header(new.path))
         yield from guard_conflicts(name, old.report, new.report)

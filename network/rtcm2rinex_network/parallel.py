@@ -58,10 +58,14 @@ def run_parallel(settings: Settings, tasks: List[str], log: str, options: Sequen
         file.writelines(f"{task}\n" for task in tasks)
         file.seek(0)
         with subprocess.Popen(command, stdin=file, stdout=subprocess.PIPE, env=dict(settings.words), text=True, errors="replace") as process:
-            for line in process.stdout or []:
-                print(line, end="", flush=True)
-                task, _, text = line.partition("\t")
-                told[task] = "".join(text.split()[:1])
+            try:
+                for line in process.stdout or []:
+                    print(line, end="", flush=True)
+                    task, _, text = line.partition("\t")
+                    told[task] = "".join(text.split()[:1])
+            except BaseException:
+                process.terminate()  # so that nobody waits for all its spans
+                raise
     return process.returncode
 
 

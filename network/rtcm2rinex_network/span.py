@@ -13,7 +13,7 @@ from typing import BinaryIO, Dict, Iterator, List, Optional, Sequence
 from .after import call_after, note_after
 from .captures import Capture, Sum, Unread, find_captures, is_old, look_at, sum_of
 from .ends import Again, Ended, NoCaptures, Refused, Usage, say
-from .guards import MadeBy, New, differences, faults_of, guard_captures, has_lost_bytes, old_file
+from .guards import MadeBy, New, differences, faults_of, guard_captures, guard_words, has_lost_bytes, old_file
 from .labels import checked_options, find_label, labels_beside
 from .lists import Record, read_list
 from .making import Conversion, Job, convert, label_files, seconds_of_thin
@@ -204,7 +204,7 @@ class Run:
                 self.judge(guard_captures(self.before.captures, self.now.captures, self.now.unread), done)
                 if not has_own(job, self.captures):
                     raise NoCaptures(f"no captures for {job.name}")
-                self.judge(self.guard_compact(), done)
+                self.judge(self.guard_compact(), done, False)
                 self.make(work, is_made, done)
         except Refused as end:
             end.report = done.report
@@ -219,10 +219,11 @@ class Run:
         job = self.job
         if not has_own(job, self.found.captures):
             raise Again("; ".join(self.faults))
-        convert(job, self.found.captures, self.before, work, is_made, done)
         name = str(job.name)
         old = old_file(job.path, self.before, self.is_intact(name))
         by = MadeBy(job.row.station, job.msm, tuple(job.row.codes.split(",")), job.fields())
+        self.judge(guard_words(name, old.by, by), done, False)
+        convert(job, self.found.captures, self.before, work, is_made, done)
         lost_bytes = bool(self.now.unread) or has_lost_bytes(self.before.captures, self.now.captures)
         self.judge(faults_of(old, New(work / name, by, done.report), self.before.made, done.made, lost_bytes), done)
         label_files(job, work, done)
@@ -237,19 +238,23 @@ class Run:
         if is_compact(it := self.form(str(self.job.name))):
             yield f"{it.name} can't be read here, so nobody knows whether the new file is worse"
 
-    def judge(self, faults: Iterator[str], done: Conversion) -> None:
-        """Refuses a worse file, or with FORCE says why it is worse. The lists of both are shown where they differ, and noted whole."""
+    def judge(self, faults: Iterator[str], done: Conversion, may_be_excused: bool = True) -> None:
+        """Refuses a worse file, or with FORCE says why it is worse. The lists of both are shown where they differ, and noted whole. A
+        cause that the captures can't mend is not excused by one that can't be read."""
         for why in faults:
             if self.job.settings.is_forced:
                 say(SCRIPT, f"{what_of(self.job)}: FORCE: {why}")
                 continue
             now = [*self.now.source(), *(it.line(name) for name, it in done.made.items())]
             kept = ["before:", *self.before.source(), *self.before.result(), "now:", *now]
-            raise Refused(f"{why}; to replace it nevertheless, set FORCE=1", "\n".join(differences(self.before, self.now)), "\n".join(kept))
+            shown = "\n".join(differences(self.before, self.now))
+            end = Refused(f"{why}; to replace it nevertheless, set FORCE=1", shown, "\n".join(kept))
+            end.may_be_excused = may_be_excused
+            raise end
 
     def excused(self, end: Refused) -> Ended:
         """A file may be worse because a capture can't be read now; another run may read it."""
-        if not self.faults:
+        if not self.faults or not end.may_be_excused:
             return end
         again = Again(f"{'; '.join(self.faults)}; without it: {end}")
         again.report = end.report

@@ -10,7 +10,7 @@ import time
 from pathlib import Path
 from typing import Dict, Iterable, Iterator, List, Sequence, Tuple
 
-from .ends import AGAIN, DONE, NOTHING, REFUSED, Ended, Refused, Usage, say
+from .ends import AGAIN, DONE, NOTHING, REFUSED, Ended, Refused, Stopped, Usage, say
 from .program import find_program
 from .settings import HERE, Settings, read_settings
 from .span import SCRIPT, convert_span
@@ -31,6 +31,8 @@ def end_of_span(settings: Settings, words: Sequence[str]) -> int:
         return REFUSED
     except Ended as end:
         say(SCRIPT, f"{named(settings, words)}: {end.told()}")
+        if isinstance(end, Stopped):
+            raise SystemExit(end.status) from None
         return end.status
 
 

@@ -195,26 +195,26 @@ class Station:
     def look_back(self, folder: Path, length: str, names: List[Name], newest: File) -> None:
         """Counts the files of the last day and week, and tells once of each kind what is to look at in those of the last day."""
         first = min(it.span.begin for it in names)
-        files: Dict[int, Optional[File]] = {}
+        epochs: Dict[Span, Optional[int]] = {}
         for window in WINDOWS:
-            self.windows.append(self.count(folder, window, length, first, files))
+            self.windows.append(self.count(folder, window, length, first, epochs))
         missing = self.windows[-1].missing
         if missing:
             self.alarm("missing", f"{len(missing)} spans of {length} of the last 7 d have captures and no file, the first is {missing[0].start}")
-        self.look_at_day(length, newest, files)
+        self.look_at_day(folder, length, newest, epochs)
 
-    def count(self, folder: Path, window: str, length: str, first: int, files: Dict[int, Optional[File]]) -> Window:
-        """The counts of a window. It begins with the first file of the station. `files` keeps each file that was read."""
+    def count(self, folder: Path, window: str, length: str, first: int, epochs: Dict[Span, Optional[int]]) -> Window:
+        """The counts of a window. It begins with the first file of the station. `epochs` keeps those of each file that was read."""
         size, found = LENGTHS[length], Window(window, length)
         end = int(self.clock.gps - GRACES[length]) // size * size
         for begin in range(max(first, end - WINDOWS[window]), end, size):
             span = Span(begin, length)
-            if begin not in files:
-                files[begin] = self.file(folder, Name(self.row.name9, span, self.row.interval))
-            it = files[begin]
+            if span not in epochs:
+                epochs[span] = epochs_made(folder, Name(self.row.name9, span, self.row.interval))
+            it = epochs[span]
             found.due += 1
             found.made += it is not None
-            found.epochs += it.epochs if it else 0
+            found.epochs += it or 0
             found.expected += self.expected(span)
             if it is None and self.has_captures(span):
                 found.missing.append(span)
@@ -224,17 +224,17 @@ class Station:
         """Whether a link has a capture of the span itself."""
         return any(is_capture(self.row.directory / capture_name(link.number, hour)) for link in self.links for hour in span.own_hours)
 
-    def look_at_day(self, length: str, newest: File, files: Dict[int, Optional[File]]) -> None:
+    def look_at_day(self, folder: Path, length: str, newest: File, epochs: Dict[Span, Optional[int]]) -> None:
         """Tells of the files of the last day but for the newest one, which is told of already."""
         day = next(it for it in self.windows if it.length == length)
         found: Dict[str, List[str]] = {}
         begin = int(self.clock.gps) - GRACES[length] - DAY
-        for at, it in sorted(files.items()):
-            if it and at >= begin and it.name != newest.name:
-                for kind, text in self.faults_of_report(it):
-                    found.setdefault(kind, []).append(text)
+        for span in sorted(it for it in epochs if it.begin >= begin and it != newest.name.span):
+            it = self.file(folder, Name(self.row.name9, span, self.row.interval))
+            for kind, text in self.faults_of_report(it) if it else []:
+                found.setdefault(kind, []).append(text)
         lacking = day.expected - day.epochs
-        if lacking and not (lacking == newest.expected - newest.epochs and newest.name.span.begin in files):
+        if lacking and not (lacking == newest.expected - newest.epochs and newest.name.span in epochs):
             self.alarm("epochs", f"the last 24 h of {length} lack {lacking} epochs of {day.expected}: {day.made} of {day.due} files are made")
         for kind, texts in found.items():
             self.alarm(kind, f"{len(texts)} earlier files of the last 24 h, as {texts[0]}")
@@ -253,6 +253,13 @@ class Station:
             self.not_made.append(text)
             often = f" ({count} times since {since})" if since else ""
             self.alarm("not-made", f"{name}: {text_if_there(place / text).split(chr(10))[0]}{often}")
+
+
+def epochs_made(folder: Path, name: Name) -> Optional[int]:
+    """How many epochs a file has by its list; None if it is not made. Many lists are looked at, and this alone is read of them."""
+    text = text_if_there(folder_with(folder, name) / f"{name}.captures")
+    at = text.find(f"\nmade {name} ")
+    return int(text[at:].split(maxsplit=4)[3]) if at >= 0 else None
 
 
 def captures_in(folder: Path) -> List[str]:

@@ -4,7 +4,7 @@ from __future__ import annotations
 
 import re
 import time
-from calendar import timegm
+from calendar import isleap, timegm
 from dataclasses import dataclass
 from typing import Optional
 
@@ -37,7 +37,10 @@ def stamp_of(seconds: float) -> str:
 
 def time_of_stamp(stamp: str) -> int:
     """The time of a name. Raises a ValueError if there is no such day or hour."""
-    return timegm(time.strptime(stamp, "%Y%j%H%M"))
+    year, day, hour, minute = (int(it) for it in (stamp[:4], stamp[4:7], stamp[7:9], stamp[9:]))
+    if not (1 <= day <= 365 + isleap(year) and hour < 24 and minute < 60):
+        raise ValueError(f"there is no time {stamp}")
+    return timegm((year, 1, 1, hour, minute, 0)) + (day - 1) * DAY
 
 
 def ms_of(interval: str) -> Optional[int]:

@@ -54,6 +54,7 @@ ROWS = [
     ("a slip, where the phase before it is the same", {0: [A], 1: [SLIP]}, {0: [A], 1: [B]}, (0, 0, 1, 0, 0)),
     ("a slip across a gap that is filled", {0: [A], 2: [SLIP]}, {0: [A], 1: [B], 2: [B]}, (0, 0, 0, 0, 0)),
     ("a slip after a filled gap that had ended", {0: [A], 2: [C], 3: [SLIP]}, {0: [A], 1: [B], 2: [C], 3: [B]}, (0, 0, 1, 0, 0)),
+    ("a slip after a lost epoch", {0: [A], 2: [C], 3: [SLIP]}, {0: [A], 1: [B], 3: [B]}, (1, 0, 1, 0, 0)),
     ("a gap of another code is filled", {0: ["G05 1/20_/45 -"], 1: [SLIP]}, {0: [A], 1: [B]}, (0, 0, 1, 0, 0)),
     ("a gap of another satellite is filled", {0: [A], 1: [SLIP]}, {0: [A, "G07 1/2_/3 -"], 1: [B]}, (0, 0, 1, 0, 0)),
     ("a slip at the first phase", {0: [SLIP]}, {0: [B]}, (0, 0, 0, 1, 0)),
