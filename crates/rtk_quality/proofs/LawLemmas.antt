@@ -204,8 +204,8 @@ no-phases [] none = refl
 no-phases (o ∷ os) none =
     let parts = or_parts (is_some o.phase_millicycles) (has_phase os) none in
     let rest = no-phases os parts.1 in
-    let more = sum_by-cons (λ x. cond (is_some x.phase_millicycles) 1 0) o os in
-    let here : cond (is_some o.phase_millicycles) 1 0 ≡ 0 = ap (λ (b : Bool). cond b 1 0) parts.0 in
+    let more = sum_by-cons (λ x. one (is_some x.phase_millicycles)) o os in
+    let here : one (is_some o.phase_millicycles) ≡ 0 = ap one parts.0 in
     omega (arith, rest, more, here)
 
 -- the phases of passes
