@@ -108,12 +108,12 @@ in-length gap on (s ∷ before) = elim (cases_Bool (has_phase s.observed)) [
   | inl has ↦
       let rest = in-length gap (not (begins_pass gap before s)) before in
       let is : count_in_passes gap on (s ∷ before) ≡ count_in_passes gap (not (begins_pass gap before s)) before + 1 =
-          ap (λ (b : Bool). cond b (count_in_passes gap (not (begins_pass gap before s)) before + 1) (count_in_passes gap on before + cond on 1 0)) has in
+      ap (λ (b : Bool). cond b (count_in_passes gap (not (begins_pass gap before s)) before + 1) (count_in_passes gap on before + cond on 1 0)) has in
       omega (arith, rest, is)
   | inr none ↦
       let rest = in-length gap on before in
       let is : count_in_passes gap on (s ∷ before) ≡ count_in_passes gap on before + cond on 1 0 =
-          ap (λ (b : Bool). cond b (count_in_passes gap (not (begins_pass gap before s)) before + 1) (count_in_passes gap on before + cond on 1 0)) none in
+      ap (λ (b : Bool). cond b (count_in_passes gap (not (begins_pass gap before s)) before + 1) (count_in_passes gap on before + cond on 1 0)) none in
       let one = at-most-one on in
       omega (arith, rest, is, one)
 ]
@@ -240,13 +240,13 @@ phases-in-passes gap (s ∷ before) few =
             | inl begins ↦
                 let p : PassCounts = record { from = reading_of s.time; until = reading_of s.time; phases = phases_in s.observed; slips = slips_at gap before s } in
                 let more : of-passes (passes_of gap (s ∷ before)) ≡ p.phases + of-passes (passes_of gap before) =
-                    ap (λ (ps : List PassCounts). of-passes ps) (begun-passes gap before s has begins) ∙ sum_by-cons (λ x. x.phases) p (passes_of gap before) in
+                ap (λ (ps : List PassCounts). of-passes ps) (begun-passes gap before s has begins) ∙ sum_by-cons (λ x. x.phases) p (passes_of gap before) in
                 omega (arith, all, was, more)
             | inr goes_on ↦
                 let last = had-last gap before s has goes_on in
                 let newest = has-pass gap before last.0 last.1 in
                 let more : of-passes (passes_of gap (s ∷ before)) ≡ of-passes (longer s (slips_at gap before s) (passes_of gap before)) =
-                    ap (λ (ps : List PassCounts). of-passes ps) (longer-passes gap before s has goes_on) in
+                ap (λ (ps : List PassCounts). of-passes ps) (longer-passes gap before s has goes_on) in
                 let longest = newest-longer s (slips_at gap before s) (passes_of gap before) newest.0 newest.1 newest.2 (omega (arith, few, all, was)) in
                 omega (arith, all, was, more, longest)
           ]
@@ -272,7 +272,7 @@ folded number added own (k ∷ ks) total fits =
       | inl seen ↦
           let here : number_if_seen number (own k) ≡ number (own k) = ap (λ (b : Bool). cond b (number (own k)) 0) seen in
           let step : number (with_satellite total (own k)) ≡ plus (number total) (number (own k)) =
-              ap (λ (b : Bool). number (cond b (joined total (own k)) total)) seen ∙ added.1 total (own k) in
+          ap (λ (b : Bool). number (cond b (joined total (own k)) total)) seen ∙ added.1 total (own k) in
           let rest = folded number added own ks (with_satellite total (own k)) (omega (arith, fits, more, here, step)) in
           omega (arith, fits, more, here, step, rest)
       | inr not_seen ↦
