@@ -11,7 +11,8 @@ import model
 import streams
 import summaries
 from model import COUNTS, Setup, moment
-from pictures import svg_picture
+from pictures import svg_picture, text_picture
+from qualities import quality, quality_in_json
 from station import NOON
 from wire import WEEK_MS, frame_of
 
@@ -67,6 +68,11 @@ def slipped(text, tick):
     """The text with a slip of the second code of G17 at this tick."""
     at = text.index(b"\nG17", text.index(model.epoch_line(NEAR + 100 * tick, 2).encode())) + 82
     return text[:at] + b"1" + text[at + 1:]
+
+
+def first_records(text, count):
+    """The header and so many records."""
+    return b"\n> ".join(text.split(b"\n> ", count + 1)[:count + 1]) + b"\n"
 
 
 def summary_of(few, size, last):
@@ -156,6 +162,13 @@ def main():
     shown.append(f"<text x='110' y='98'>records {EPOCHS}, satellites 4, slips {slips}, rises {rises}, missing epochs {missing}</text>\n")
     # pins: svg_span, svg_numbers
     test("chart_of_200_mb", ["chart"], text, 0, "\n".join(shown).encode(), begins=True)
+    # More epochs of a pass than 16 bits hold, and a sum of strengths that 32 bits do not hold.
+    some = first_records(text, 100_000)
+    # refuses: epochs of passes in 16 bits, a sum of strengths in 32
+    test("quality_of_100_000_epochs", ["quality"], some, 0, quality(some.decode()).encode())
+    test("quality_of_100_000_epochs_in_json", ["quality", "--json"], some, 0, quality_in_json(some.decode()).encode())
+    # refuses: slips in 16 bits
+    test("chart_of_100_000_epochs", ["chart", "--text"], some, 0, text_picture(some.decode(), 80).encode())
     print(passed, failed)
 
 

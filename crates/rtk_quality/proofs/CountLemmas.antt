@@ -120,7 +120,7 @@ some-or-none None = inl refl
 some-or-none (Some t) = inr (t, refl)
 
 -- a satellite that is not away has had a phase
-had-last : (gap : ℕ) (before : List Sighting) (s : Sighting) → has_phase s.observed ≡ true → begins_pass gap before s ≡ false → (t : ℕ) × (last_phase before ≡ Some t)
+pub had-last : (gap : ℕ) (before : List Sighting) (s : Sighting) → has_phase s.observed ≡ true → begins_pass gap before s ≡ false → (t : ℕ) × (last_phase before ≡ Some t)
 had-last gap before s has goes_on =
     elim (some-or-none (last_phase before)) [
       | inl none ↦ absurd (both_ways (begins_pass gap before s) goes_on (and_from (has_phase s.observed) (is_away gap (last_phase before) s.time) has (away-none gap s.time (last_phase before) none)))

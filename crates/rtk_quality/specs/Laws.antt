@@ -1,7 +1,13 @@
--- Laws of rises and slips.
-use Rattle.std.specs.Prelude.{◌≡◌, ℕ, false, ◌&&◌, ◌||◌, List}
-use Rattle.rtk_tracking.specs.Passes.{Sighting, has_bit_0, is_rise, is_slip}
-use Rattle.rtk_quality.specs.Counts.{Noted, plus, tally, counts_of}
+-- Laws of rises and slips, and of counts and means of any size.
+use Rattle.std.specs.Prelude.{◌≡◌, ◌<◌, ◌^◌, ◌*◌, ◌+◌, ◌==◌, ℕ, Bool, false, not, ◌&&◌, ◌||◌, List, [], ◌∷◌, length, count_by, sum_by, Option, None, Some, is_some, unwrap_or, if◌then◌else◌}
+use Rattle.std.specs.List.{range_with_len}
+use Rattle.rtk_rinex.specs.Record.{EpochTableView}
+use Rattle.rtk_tracking.specs.Passes.{Sighting, sightings_of, has_phase, begins_pass, has_bit_0, is_rise, is_slip}
+use Rattle.rtk_quality.specs.Counts.{Noted, plus, tally, counts_of, rounded_fraction, mean_hundredths}
+use Rattle.rtk_quality.specs.SatellitePasses.{phases_in, slips_at, passes_of, epochs_in_passes}
+use Rattle.rtk_quality.specs.Records.{rows_of, rows_total}
+use Rattle.rtk_quality.specs.Quality.{numbers_of, totals_of}
+use Rattle.rtk_quality.specs.declared.code_numbers.CodeNumbers.{CodeNumbers}
 
 -- each bit 0 is a rise or a slip
 abbrev pub EachBitIsOne : Type 0
@@ -14,3 +20,76 @@ NoBitIsBoth = (gap place : ℕ) (before : List Sighting) (s : Sighting) → (is_
 -- the slips and the rises of a code are together its digits with bit 0
 abbrev pub CountsHideNothing : Type 0
 CountsHideNothing = (ns : List Noted) → plus (counts_of ns).slips (counts_of ns).rises ≡ tally (λ n. n.observed.slip) ns
+
+-- ---- numbers of any size below 2^64
+
+-- each epoch of a code for which a test holds is counted
+abbrev pub EachIsCounted : Type 0
+EachIsCounted = (test : Noted → Bool) (ns : List Noted) → length ns < 2 ^ 64 → tally test ns ≡ count_by test ns
+
+-- the strengths of a code, in thousandths of a dB-Hz
+abbrev pub strength_or_0 : Noted → ℕ
+strength_or_0 n = unwrap_or n.observed.strength_millidbhz 0
+
+abbrev pub sum_of_strengths : List Noted → ℕ
+sum_of_strengths ns = sum_by strength_or_0 ns
+
+-- formula
+-- their mean in hundredths of a dB-Hz
+abbrev pub mean_of_strengths : List Noted → Option ℕ
+mean_of_strengths ns =
+    let there : ℕ = count_by (λ n. is_some n.observed.strength_millidbhz) ns in
+    if there == 0 then None else Some (rounded_fraction (sum_of_strengths ns) (10 * there))
+
+-- the mean that is shown is this mean
+abbrev pub MeanIsOfAll : Type 0
+MeanIsOfAll =
+    (ns : List Noted) → length ns < 2 ^ 64 → sum_of_strengths ns < 2 ^ 64
+    → mean_hundredths (counts_of ns).strength_sum (counts_of ns).strengths ≡ mean_of_strengths ns
+
+-- how many of these epochs, which are listed newest first, lie in a pass; and if the pass of the last of
+-- them goes on with the next phase that comes after them (on), each of them since the last phase
+abbrev pub count_in_passes : ℕ → Bool → List Sighting → ℕ
+count_in_passes gap on [] = 0
+count_in_passes gap on (s ∷ before) =
+    if has_phase s.observed then count_in_passes gap (not (begins_pass gap before s)) before + 1
+    else count_in_passes gap on before + (if on then 1 else 0)
+
+-- each epoch in a pass is counted
+abbrev pub EachInPassIsCounted : Type 0
+EachInPassIsCounted = (gap : ℕ) (before : List Sighting) → length before < 2 ^ 64 → epochs_in_passes gap before ≡ count_in_passes gap false before
+
+-- the phases of the passes of a satellite are together all of its phases
+abbrev pub PhasesAreInPasses : Type 0
+PhasesAreInPasses =
+    (gap : ℕ) (before : List Sighting) → sum_by (λ s. phases_in s.observed) before < 2 ^ 64
+    → sum_by (λ p. p.phases) (passes_of gap before) ≡ sum_by (λ s. phases_in s.observed) before
+
+-- a number of a code of a satellite, which is 0 if the satellite has the code nowhere
+abbrev pub number_if_seen : (CodeNumbers → ℕ) → CodeNumbers → ℕ
+number_if_seen number own = if own.counts.seen then number own else 0
+
+-- a number of the code at a place, of all satellites together
+abbrev pub sum_of_satellites : (CodeNumbers → ℕ) → ℕ → ℕ → List EpochTableView → ℕ
+sum_of_satellites number gap place es =
+    sum_by (λ satellite. number_if_seen number (numbers_of gap (sightings_of satellite es) place)) (range_with_len 1 32)
+
+-- the totals of a code have this sum
+abbrev pub IsTotal : (CodeNumbers → ℕ) → Type 0
+IsTotal number =
+    (gap place : ℕ) (es : List EpochTableView) → sum_of_satellites number gap place es < 2 ^ 64
+    → number (totals_of gap es place) ≡ sum_of_satellites number gap place es
+
+pub record TotalsAreSums : Type 0 where
+  pub phases : IsTotal (λ n. n.counts.phases)
+  pub possible : IsTotal (λ n. n.possible)
+  pub ranges : IsTotal (λ n. n.counts.ranges)
+  pub slips : IsTotal (λ n. n.counts.slips)
+  pub rises : IsTotal (λ n. n.counts.rises)
+  pub halves : IsTotal (λ n. n.counts.halves)
+  pub strengths : IsTotal (λ n. n.counts.strengths)
+  pub strength_sum : IsTotal (λ n. n.counts.strength_sum)
+
+-- the satellites of all records together
+abbrev pub RowsAreSum : Type 0
+RowsAreSum = (es : List EpochTableView) → sum_by rows_of es < 2 ^ 64 → rows_total es ≡ sum_by rows_of es

@@ -1,8 +1,8 @@
-//! Laws of the definitions: no loss-of-lock digit is hidden.
+//! Laws of the definitions: no loss-of-lock digit is hidden, and numbers may be of any size.
 //!
 //! Each function here does nothing. Its contract is the law, and a caller that calls it may cite it.
 
-ghost use Rattle.rtk_quality.specs.Laws.{EachBitIsOne, NoBitIsBoth, CountsHideNothing};
+ghost use Rattle.rtk_quality.specs.Laws.{EachBitIsOne, NoBitIsBoth, CountsHideNothing, EachIsCounted, MeanIsOfAll, EachInPassIsCounted, PhasesAreInPasses, TotalsAreSums, RowsAreSum};
 
 /// Each bit 0 of a loss-of-lock digit is a rise or a slip, and none is both. The rises and the slips of
 /// a code are together its digits with bit 0.
@@ -10,4 +10,16 @@ pub fn bits_are_rises_or_slips()
     ensures one { EachBitIsOne }
     ensures never_both { NoBitIsBoth }
     ensures counts { CountsHideNothing }
+{}
+
+/// Counts and sums stay at the greatest value of 64 bits. Below it each epoch of a code is counted, each
+/// strength is in the mean, each epoch of a pass is counted, each phase is in a pass, each satellite is
+/// in the totals of a code, and each row is in the mean of satellites.
+pub fn each_is_counted()
+    ensures codes { EachIsCounted }
+    ensures means { MeanIsOfAll }
+    ensures epochs { EachInPassIsCounted }
+    ensures phases { PhasesAreInPasses }
+    ensures totals { TotalsAreSums }
+    ensures rows { RowsAreSum }
 {}
