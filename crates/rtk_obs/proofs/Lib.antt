@@ -19,5 +19,7 @@ mod PairsLemmas
 mod DistinctLemmas
 mod MessageLemmas
 mod SatelliteLemmas
+mod AnyCodeLemmas
+mod SignalCellLemmas
 mod LeapLemmas
 mod ClockLemmas
