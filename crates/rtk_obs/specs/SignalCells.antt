@@ -13,6 +13,7 @@ use Rattle.rtk_obs.specs.MsmCells.{Slot, satellites_of, slots_of, cell_on}
 use Rattle.rtk_obs.specs.SatelliteIndex.{index_in}
 use Rattle.rtk_obs.specs.Signals.{code_in}
 
+-- table
 -- the channel of the satellite of a mask bit (DF394): a satellite of GLONASS has that of its slot, from 1
 -- to 27, if the slot has one
 abbrev pub channel_in : System → List (Option ℤ) → ℕ → Option ℤ
