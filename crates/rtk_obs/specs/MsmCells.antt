@@ -142,6 +142,7 @@ range_of_kind kind rough field = if has_extended_resolution kind then extended_r
 abbrev pub phase_of_kind : MsmKind → ℕ → Option ℤ → ℤ → Option ℤ
 phase_of_kind kind f rough field = if has_extended_resolution kind then extended_phase_of f rough field else msm_phase_of f rough field
 
+-- formula
 -- the phase of a frequency in Hz, if it is known
 abbrev pub phase_on : MsmKind → Option ℕ → Option ℤ → ℤ → Option ℤ
 phase_on kind None rough field = None
@@ -193,7 +194,8 @@ cell_on m k row frequency = record {
   offset = None;
 }
 
--- and that of an MSM of GPS
+-- formula
+-- and that of an MSM of GPS, whose frequencies are known
 abbrev pub cell_of_msm : Msm → ℕ → ℕ → Band → Cell
 cell_of_msm m k row band = cell_on m k row (Some (frequency_of band))
 

@@ -25,6 +25,7 @@ channel_in Qzss channels bit = None
 channel_in Sbas channels bit = None
 channel_in Navic channels bit = None
 
+-- formula
 -- the mask bit (DF394) of the satellite of a row
 abbrev pub bit_of_row : Msm → ℕ → ℕ
 bit_of_row m row = slice_index (satellites_of m.header) row
