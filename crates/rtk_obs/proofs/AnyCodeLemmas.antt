@@ -1,10 +1,11 @@
 -- The codes of all systems: a text, or a system and a place, belong to one code.
-use Rattle.std.proofs.Common.{◌≡◌, ◌≢◌, ℕ, ◌+◌, ◌<◌, Bool, false, ◌&&◌, nat_eq, cond, List, [], ◌∷◌, get_or, Option, Some, None, refl, sym, ap, ◌∙◌, arith}
+use Rattle.std.proofs.Common.{◌≡◌, ◌≢◌, ℕ, ◌+◌, ◌-◌, ◌*◌, ◌<◌, ◌≤◌, Bool, false, ◌&&◌, nat_eq, cond, List, [], ◌∷◌, get_or, Option, Some, None, refl, sym, ap, ◌∙◌, arith}
 use Rattle.std.specs.Prelude.{MatchOption}
 use Rattle.rtk_message.specs.declared.system.System.{System}
+use Rattle.rtk_obs.specs.SatelliteIndex.{system_at}
 use Rattle.rtk_obs.specs.declared.any_code.AnyCode.{AnyCode}
 use Rattle.rtk_obs.specs.declared.any_code.AnyCode.TheVariants.{G1C, G1P, G1W, G1S, G1L, G1X, G2C, G2D, G2P, G2W, G2S, G2L, G2X, G5I, G5Q, G5X, R1C, R1P, R2C, R2P, E1C, E1B, E1X, E6C, E6B, E6X, E7I, E7Q, E7X, E8I, E8Q, E8X, E5I, E5Q, E5X, C2I, C2Q, C2X, C6I, C6Q, C6X, C7I, C7Q, C7X, C5D, C5P, C5X, C7D, C1D, C1P, C1X, J1C, J6S, J6L, J6X, J2S, J2L, J2X, J5I, J5Q, J5X, J1S, J1L, J1X, S1C, S5I, S5Q, S5X, I5A}
-use Rattle.rtk_obs.specs.AnyCode.{system_of, place_of, text_of, codes_before, number_of, all_any_codes}
+use Rattle.rtk_obs.specs.AnyCode.{system_of, place_of, text_of, codes_before, number_of, all_any_codes, IsSignal, signal_place}
 
 pub place_below : (c : AnyCode) → place_of c < 16
 place_below G1C = omega arith
@@ -224,6 +225,19 @@ same_number c d e = sym (at_number c) ∙ ap (λ (k : ℕ). get_or all_any_codes
 
 pub same_place : (c d : AnyCode) → system_of c ≡ system_of d → place_of c ≡ place_of d → c ≡ d
 same_place c d s p = same_number c d (ap (λ (x : System). codes_before x + place_of c) s ∙ ap (λ (k : ℕ). codes_before (system_of d) + k) p)
+
+-- ---- places among all signals
+
+same_parts : (a b x y : ℕ) → 1 ≤ a → 1 ≤ b → x < 16 → y < 16 → (a - 1) * 16 + x ≡ (b - 1) * 16 + y → (a ≡ b) × (x ≡ y)
+same_parts a b x y ha hb hx hy e = (omega arith, omega arith)
+
+pub signal_below : (satellite : ℕ) (c : AnyCode) → IsSignal satellite c → signal_place satellite c < 3536
+signal_below satellite c h = omega (arith, h.0.0, h.0.1, place_below c)
+
+pub same_signal : (a b : ℕ) (c d : AnyCode) → IsSignal a c → IsSignal b d → signal_place a c ≡ signal_place b d → (a ≡ b) × (c ≡ d)
+same_signal a b c d h g e =
+    let p = same_parts a b (place_of c) (place_of d) h.0.0 g.0.0 (place_below c) (place_below d) e in
+    (p.0, same_place c d (h.1 ∙ ap system_at p.0 ∙ sym g.1) p.1)
 
 -- ---- texts
 

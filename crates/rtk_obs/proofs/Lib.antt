@@ -21,5 +21,6 @@ mod MessageLemmas
 mod SatelliteLemmas
 mod AnyCodeLemmas
 mod SignalCellLemmas
+mod OwnCodeLemmas
 mod LeapLemmas
 mod ClockLemmas

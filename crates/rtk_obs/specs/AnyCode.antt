@@ -1,13 +1,13 @@
 -- The observation codes of all systems: the system, the place, the name and the carrier of each.
 -- Source: RINEX 3.05, Tables 4 to 10
-use Rattle.std.specs.Prelude.{ℕ, ◌+◌, List, [], ◌∷◌, codes}
+use Rattle.std.specs.Prelude.{◌≡◌, ℕ, ◌+◌, ◌-◌, ◌*◌, List, [], ◌∷◌, codes}
 use Rattle.rtk_message.specs.declared.system.System.{System}
 use Rattle.rtk_message.specs.declared.system.System.TheVariants.{Gps, Glonass, Galileo, Beidou, Qzss, Sbas, Navic}
 use Rattle.rtk_obs.specs.declared.carrier.Carrier.{Carrier}
 use Rattle.rtk_obs.specs.declared.carrier.Carrier.TheVariants.{L1, L2, L5, G1, G2, B1, B3, E6, E5b, E5}
 use Rattle.rtk_obs.specs.declared.any_code.AnyCode.{AnyCode}
 use Rattle.rtk_obs.specs.declared.any_code.AnyCode.TheVariants.{G1C, G1P, G1W, G1S, G1L, G1X, G2C, G2D, G2P, G2W, G2S, G2L, G2X, G5I, G5Q, G5X, R1C, R1P, R2C, R2P, E1C, E1B, E1X, E6C, E6B, E6X, E7I, E7Q, E7X, E8I, E8Q, E8X, E5I, E5Q, E5X, C2I, C2Q, C2X, C6I, C6Q, C6X, C7I, C7Q, C7X, C5D, C5P, C5X, C7D, C1D, C1P, C1X, J1C, J6S, J6L, J6X, J2S, J2L, J2X, J5I, J5Q, J5X, J1S, J1L, J1X, S1C, S5I, S5Q, S5X, I5A}
-use Rattle.rtk_obs.specs.SatelliteIndex.{letter_of}
+use Rattle.rtk_obs.specs.SatelliteIndex.{IsSatelliteIndex, system_at, letter_of}
 
 -- the system of a code, its place among the codes of the system, from 0, its band and attribute, and its
 -- carrier
@@ -125,6 +125,15 @@ codes_before Navic = 68
 -- the number of a code among all, from 0: system by system, in the order of their places
 abbrev pub number_of : AnyCode → ℕ
 number_of c = codes_before (system_of c) + place_of c
+
+-- the code is one of the system of this satellite
+abbrev pub IsSignal : ℕ → AnyCode → Type 0
+IsSignal satellite c = IsSatelliteIndex satellite × (system_of c ≡ system_at satellite)
+
+-- formula
+-- the place of a satellite and a code of its system among those of all systems, from 0
+abbrev pub signal_place : ℕ → AnyCode → ℕ
+signal_place satellite c = (satellite - 1) * 16 + place_of c
 
 -- table
 -- all codes, in the order of their numbers

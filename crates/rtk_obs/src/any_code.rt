@@ -4,11 +4,11 @@ ghost use Rattle.std.specs.Prelude.{◌≡◌, ◌≢◌, ◌<◌, MatchOption};
 ghost use Rattle.rtk_obs.specs.declared.any_code.AnyCode.{AnyCode};
 ghost use Rattle.rtk_message.specs.declared.system.System.TheVariants.{Gps};
 ghost use Rattle.rtk_obs.specs.Code as gps;
-ghost use Rattle.rtk_obs.specs.AnyCode.{system_of, place_of, name_of, carrier_of, text_of, number_of};
+ghost use Rattle.rtk_obs.specs.AnyCode.{system_of, place_of, name_of, carrier_of, text_of, number_of, signal_place};
 
 use crate::carrier::Carrier;
 use crate::code::Code;
-use crate::satellite_index::letter_of;
+use crate::satellite_index::{SatelliteIndex, letter_of};
 use rtk_message::System;
 
 /// An observation code of any system: the letter of the system, band and attribute. Source: RINEX
@@ -371,4 +371,13 @@ impl AnyCode {
         }
         None
     }
+}
+
+/// Returns the place of a satellite and a code among those of all systems, from 0. If the codes are of
+/// the systems of their satellites, no two of them have one place.
+pub fn signal_place(satellite: SatelliteIndex, code: AnyCode) -> usize
+    ensures value { result ≡ signal_place satellite code }
+    ensures bound { result < 3536 }
+{
+    usize::from(satellite.index() - 1) * 16 + code.place()
 }

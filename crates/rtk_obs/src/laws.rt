@@ -38,6 +38,7 @@ ghost use Rattle.rtk_obs.specs.Rounding.{IsRounded, rounded};
 ghost use Rattle.rtk_obs.specs.Code.{name_of, place_of};
 ghost use Rattle.rtk_obs.specs.declared.any_code.AnyCode.{AnyCode};
 ghost use Rattle.rtk_obs.specs.AnyCode as any;
+ghost use Rattle.rtk_obs.specs.SignalCells.{signal_entries};
 ghost use Rattle.rtk_obs.specs.SatelliteIndex.{IsSatelliteIndex, IsOfSystem, index_in, system_at, bit_at, index_name};
 ghost use Rattle.rtk_obs.specs.PositionFields.{HasFields};
 ghost use Rattle.rtk_obs.specs.Cell.{IsSatellite, IsInRange, AreDistinct};
@@ -201,4 +202,14 @@ pub fn clock_laws()
     ensures one_moment { (system : System) (near clock : ℕ) (given : Option ℕ) (s t : ℕ)
         → IsClockMoment system near clock given s → IsClockMoment system near clock given t → s ≡ t }
     ensures in_week { (system : System) (clock : ℕ) → IsTrue (is_in_week system clock) → IsClock system clock }
+{}
+
+/// A place among the signals of all systems belongs to one satellite and one code of its system, and is
+/// below 3,536. The code of each entry of a message is one of the system of its satellite.
+pub fn signal_laws()
+    ensures bound { (satellite : ℕ) (c : AnyCode) → any.IsSignal satellite c → any.signal_place satellite c < 3536 }
+    ensures distinct { (a b : ℕ) (c d : AnyCode) → any.IsSignal a c → any.IsSignal b d
+        → any.signal_place a c ≡ any.signal_place b d → (a ≡ b) × (c ≡ d) }
+    ensures entries { (channels : List (Option ℤ)) (m : Msm)
+        → All (λ e. any.IsSignal e.satellite e.code) (signal_entries channels m) }
 {}

@@ -66,7 +66,7 @@ mod time;
 mod track;
 mod tracks;
 
-pub use any_code::{ALL_ANY_CODES, AnyCode};
+pub use any_code::{ALL_ANY_CODES, AnyCode, signal_place};
 pub use calendar::{civil, of_civil};
 pub use carrier::{Carrier, Channel, Channels};
 pub use cell::{Cell, CellEntry, CellSource};
@@ -79,7 +79,7 @@ pub use glonass_time::GlonassTime;
 pub use laws::{
     any_code_laws, cell_laws, cells_are_distinct, cells_are_in_range, civil_laws, clock_laws,
     code_laws, date_is_unique, leap_laws, moment_laws, places_are_distinct, position_laws,
-    rounded_is_unique, satellite_laws, track_laws, tracks_laws,
+    rounded_is_unique, satellite_laws, signal_laws, track_laws, tracks_laws,
 };
 pub use leap_seconds::leap_seconds_at;
 pub use legacy_cells::{cells_1004, put_cells_1004};
