@@ -34,13 +34,7 @@ fn channel_in(system: System, channels: &Channels, bit: u8) -> Option<Channel>
     ensures { result ≡ channel_in system channels.now bit }
 {
     match system {
-        System::Glonass => {
-            if bit <= 27 {
-                channels.channel(bit)
-            } else {
-                None
-            }
-        }
+        System::Glonass if bit <= 27 => channels.channel(bit),
         _ => None,
     }
 }
