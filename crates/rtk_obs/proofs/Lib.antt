@@ -22,5 +22,6 @@ mod SatelliteLemmas
 mod AnyCodeLemmas
 mod SignalCellLemmas
 mod OwnCodeLemmas
+mod DistinctEntryLemmas
 mod LeapLemmas
 mod ClockLemmas

@@ -1,6 +1,6 @@
 -- The cells of an MSM of any system.
 -- Source: RTCM 10403.3, messages 1071 to 1137
-use Rattle.std.specs.Prelude.{ℕ, ℤ, List, [], ◌∷◌, slice_index, Option, Some, None, nat_le, if◌then◌else◌}
+use Rattle.std.specs.Prelude.{◌≡◌, ◌≢◌, ℕ, ℤ, List, [], ◌∷◌, slice_index, Option, Some, None, nat_le, if◌then◌else◌}
 use Rattle.rtk_message.specs.declared.msm.Msm.{Msm}
 use Rattle.rtk_message.specs.declared.system.System.{System}
 use Rattle.rtk_message.specs.declared.system.System.TheVariants.{Gps, Glonass, Galileo, Beidou, Qzss, Sbas, Navic}
@@ -46,3 +46,7 @@ signal_entry channels m k s =
 -- the entries in the order of the message (this project's rule)
 abbrev pub signal_entries : List (Option ℤ) → Msm → List SignalEntry
 signal_entries channels m = join_from (signal_entry channels m) 0 (slots_of m.header m.cell_mask)
+
+-- two entries are of different satellites, or of one satellite and different codes
+abbrev pub AreDifferentEntries : SignalEntry → SignalEntry → Type 0
+AreDifferentEntries a b = a.satellite ≡ b.satellite → a.code ≢ b.code

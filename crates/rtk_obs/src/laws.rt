@@ -6,7 +6,7 @@
 
 ghost use Rattle.std.specs.Prelude.{◌≡◌, ◌≢◌, ◌↔◌, ℕ, ℤ, ◌+◌, ◌<◌, ◌≤◌, List, Option, Some, None, MatchOption, IsTrue};
 ghost use Rattle.std.specs.Ordering.{nat_cmp, partial_lt, partial_le};
-ghost use Rattle.std.specs.List.{All};
+ghost use Rattle.std.specs.List.{All, AllPairs};
 ghost use Rattle.rtk_message.specs.declared.any_message.AnyMessage.{AnyMessage};
 ghost use Rattle.rtk_message.specs.declared.obs1004.Satellite.{Satellite};
 ghost use Rattle.rtk_message.specs.declared.obs1004.Obs1004.{Obs1004};
@@ -38,7 +38,7 @@ ghost use Rattle.rtk_obs.specs.Rounding.{IsRounded, rounded};
 ghost use Rattle.rtk_obs.specs.Code.{name_of, place_of};
 ghost use Rattle.rtk_obs.specs.declared.any_code.AnyCode.{AnyCode};
 ghost use Rattle.rtk_obs.specs.AnyCode as any;
-ghost use Rattle.rtk_obs.specs.SignalCells.{signal_entries};
+ghost use Rattle.rtk_obs.specs.SignalCells.{signal_entries, AreDifferentEntries};
 ghost use Rattle.rtk_obs.specs.SatelliteIndex.{IsSatelliteIndex, IsOfSystem, index_in, system_at, bit_at, index_name};
 ghost use Rattle.rtk_obs.specs.PositionFields.{HasFields};
 ghost use Rattle.rtk_obs.specs.Cell.{IsSatellite, IsInRange, AreDistinct};
@@ -205,11 +205,14 @@ pub fn clock_laws()
 {}
 
 /// A place among the signals of all systems belongs to one satellite and one code of its system, and is
-/// below 3,536. The code of each entry of a message is one of the system of its satellite.
+/// below 3,536. The code of each entry of a message is one of the system of its satellite, and no two
+/// entries are of one satellite and code.
 pub fn signal_laws()
     ensures bound { (satellite : ℕ) (c : AnyCode) → any.IsSignal satellite c → any.signal_place satellite c < 3536 }
     ensures distinct { (a b : ℕ) (c d : AnyCode) → any.IsSignal a c → any.IsSignal b d
         → any.signal_place a c ≡ any.signal_place b d → (a ≡ b) × (c ≡ d) }
     ensures entries { (channels : List (Option ℤ)) (m : Msm)
         → All (λ e. any.IsSignal e.satellite e.code) (signal_entries channels m) }
+    ensures differ { (channels : List (Option ℤ)) (m : Msm) → IsValidMsm m
+        → AllPairs AreDifferentEntries (signal_entries channels m) }
 {}
