@@ -14,16 +14,17 @@ use arrayvec::ArrayVec;
 use rtk_obs::{Civil, Code, GpsMs, Position, civil};
 use std::alloc::{AllocError, Global};
 
-const TYPES: &[u8] = b"SYS / # / OBS TYPES";
+/// The label of the lines of observation types.
+pub(crate) const TYPES: &[u8] = b"SYS / # / OBS TYPES";
 
 /// The bytes of the longest header: 17 lines of 81 bytes, four of them with observation types.
 pub(crate) const LONGEST_HEADER: usize = 1377;
 
 // Appends a text and blanks after it, `width` columns in all.
-fn put_left(out: &mut ArrayVec<u8, LONGEST_HEADER>, text: &[u8], width: usize)
+fn put_left<const N: usize>(out: &mut ArrayVec<u8, N>, text: &[u8], width: usize)
     requires fits { length text.now ≤ width }
     requires small { width ≤ 80 }
-    requires room { length out.old.items + width ≤ 1377 }
+    requires room { length out.old.items + width ≤ N }
     ensures items { out.new.items ≡ out.old.items ++ left width text.now }
     ensures len { length out.new.items ≡ length out.old.items + width }
 {
@@ -32,11 +33,15 @@ fn put_left(out: &mut ArrayVec<u8, LONGEST_HEADER>, text: &[u8], width: usize)
     append(out, &blanks[..width - text.len()]);
 }
 
-// Appends a line: what stands in its first 60 columns, and its label.
-fn put_header_line(out: &mut ArrayVec<u8, LONGEST_HEADER>, content: &[u8], label: &[u8])
+/// Appends a line: what stands in its first 60 columns, and its label.
+pub(crate) fn put_header_line<const N: usize>(
+    out: &mut ArrayVec<u8, N>,
+    content: &[u8],
+    label: &[u8],
+)
     requires content { length content.now ≤ 60 }
     requires label { length label.now ≤ 20 }
-    requires room { length out.old.items + 81 ≤ 1377 }
+    requires room { length out.old.items + 81 ≤ N }
     ensures items { out.new.items ≡ out.old.items ++ header_line content.now label.now }
     ensures len { length out.new.items ≡ length out.old.items + 81 }
 {
@@ -216,9 +221,9 @@ fn continuation_content(text: &[u8]) -> ArrayVec<u8, 60>
     content
 }
 
-// Puts a further line of observation types if any types are left.
-fn put_continuation_line(out: &mut ArrayVec<u8, LONGEST_HEADER>, text: &[u8])
-    requires room { length out.old.items + 81 ≤ 1377 }
+/// Puts a further line of observation types if any types are left.
+pub(crate) fn put_continuation_line<const N: usize>(out: &mut ArrayVec<u8, N>, text: &[u8])
+    requires room { length out.old.items + 81 ≤ N }
     ensures items { out.new.items ≡ out.old.items ++ continuation_line text.now }
     ensures len { length out.new.items ≤ length out.old.items + 81 }
 {

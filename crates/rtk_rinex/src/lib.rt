@@ -61,6 +61,7 @@ mod records;
 mod records_check;
 mod satellite_line_check;
 mod satellite_line_read;
+mod system_lines;
 mod table_check;
 mod value_check;
 
