@@ -13,7 +13,7 @@ use Rattle.rtk_convert.specs.Setup.{SetupView, IsStation, IsWindow}
 use Rattle.rtk_convert.specs.SetupFault.{IsSetupFault}
 use Rattle.rtk_convert.specs.declared.setup.SetupFault.{SetupFault}
 use Rattle.rtk_convert.specs.declared.setup.SetupFault.TheVariants.{Station as BadStation, Near as BadNear, Window as BadWindow}
-use Rattle.rtk_args.specs.declared.options.ConvertOptions.{ConvertOptions}
+use Rattle.rtk_cli.specs.declared.options.ConvertOptions.{ConvertOptions}
 use Rattle.rtk_cli.specs.declared.words.BadWords.{BadWords}
 use Rattle.rtk_cli.specs.declared.words.WordsFault.{WordsFault}
 use Rattle.rtk_cli.specs.declared.words.WordsFault.TheVariants.{Clap, Bad, OutOfMemory}

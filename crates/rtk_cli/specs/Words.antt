@@ -1,16 +1,34 @@
 -- What the words of a command line may give.
-use Rattle.std.specs.Prelude.{◌≡◌, ◌⊎◌, ℕ, ◌≤◌, Bool, nat_eq, List, length, map, count_by, codes}
+use Rattle.std.specs.Prelude.{◌≡◌, ◌⊎◌, ℕ, ◌≤◌, Bool, nat_eq, List, length, map, count_by, codes, Option}
+use Rattle.std.specs.Int.{IsInRange}
+use Rattle.std.specs.Option.{ForSome}
 use Rattle.std.specs.Cmp.Lexicographic.{pointwise}
 use Rattle.rtk_convert.specs.Converter.{IsLinkCount}
 use Rattle.rtk_convert.specs.Setup.{IsStation, IsWindow}
 use Rattle.rtk_cut.specs.Cut.{IsStepOrNone}
-use Rattle.rtk_args.specs.Requests.{IsWidthOrNone}
 use Rattle.rtk_cli.specs.FaultLines.{fault_line}
+use Rattle.rtk_cli.specs.declared.limits.TheConstants.{LEAST_WIDTH, MOST_WIDTH}
+use Rattle.rtk_cli.specs.declared.options.MsmOption.{MsmOption}
+use Rattle.rtk_cli.specs.declared.options.MsmOption.TheVariants.{Four, Five, Six, Seven}
 use Rattle.rtk_cli.specs.declared.words.BadWords.{BadWords}
 use Rattle.rtk_cli.specs.declared.words.Job.{Job}
 use Rattle.rtk_cli.specs.declared.words.Job.TheVariants.{Convert, Chart, Cut}
 use Rattle.rtk_cli.specs.declared.words.WordsFault.{WordsFault}
 use Rattle.rtk_cli.specs.declared.words.WordsFault.TheVariants.{Clap, Bad, OutOfMemory}
+
+-- table
+-- the number of an MSM in the words (this project's rule)
+abbrev pub number_of_msm : MsmOption → ℕ
+number_of_msm Four = 4
+number_of_msm Five = 5
+number_of_msm Six = 6
+number_of_msm Seven = 7
+
+-- formula
+-- a picture in characters is 40 to 400 of them wide; other pictures have no such width (this project's
+-- rule)
+abbrev pub IsWidthOrNone : Option ℕ → Type 0
+IsWidthOrNone width = ForSome width (IsInRange LEAST_WIDTH MOST_WIDTH)
 
 -- formula
 -- the word that names standard input

@@ -4,11 +4,12 @@ ghost use Rattle.std.specs.Prelude.{◌≡◌, IfErr};
 ghost use Rattle.rtk_message.specs.Fields.{week_ms};
 ghost use Rattle.rtk_cli.specs.Words.{IsWordsFault};
 
+use crate::auto_options::AutoOptions;
 use crate::code_list::codes_of;
 use crate::convert_words::kind_of;
 use crate::moment_text::moment_of;
+use crate::options::MsmOption;
 use crate::words::{AutoWords, BadWords, WordsFault};
-use rtk_args::{AutoOptions, MsmOption};
 use rtk_auto::{Wanted, Ways};
 use rtk_convert::Setup;
 use rtk_message::MsmKind;

@@ -2,14 +2,13 @@
 
 ghost use Rattle.std.specs.Prelude.{◌≡◌, ◌+◌, map, IfOk, IfErr, Decides};
 ghost use Rattle.rtk_message.specs.Systems.{number_of_kind};
-ghost use Rattle.rtk_args.specs.Requests.{number_of_msm};
 ghost use Rattle.rtk_cli.specs.Steps.ConvertWords.{SaysConversion, RefusesConversion};
-ghost use Rattle.rtk_cli.specs.Words.{AreLinkNames, IsWithinLimits};
+ghost use Rattle.rtk_cli.specs.Words.{number_of_msm, AreLinkNames, IsWithinLimits};
 
 use crate::code_list::codes_of;
 use crate::moment_text::moment_of;
+use crate::options::{ConvertOptions, MsmOption};
 use crate::words::{BadWords, Job, WordsFault};
-use rtk_args::{ConvertOptions, MsmOption};
 use rtk_convert::{GREATEST_STATION, LEAST_WINDOW, MOST_LINKS, MOST_WINDOW, Setup};
 use rtk_message::MsmKind;
 use rtk_rinex::{Head, HeadFault};
@@ -17,11 +16,11 @@ use rtk_streams::STDIN;
 use std::alloc::Global;
 
 // What clap refuses is what no conversion is set up with.
-const _: () = prove!(rtk_args::GREATEST_STATION == GREATEST_STATION as u32);
+const _: () = prove!(crate::limits::GREATEST_STATION == GREATEST_STATION as u32);
 
-const _: () = prove!(rtk_args::LEAST_WINDOW as usize == LEAST_WINDOW);
+const _: () = prove!(crate::limits::LEAST_WINDOW as usize == LEAST_WINDOW);
 
-const _: () = prove!(rtk_args::MOST_WINDOW as usize == MOST_WINDOW);
+const _: () = prove!(crate::limits::MOST_WINDOW as usize == MOST_WINDOW);
 
 /// The conversion that the options and the links say. The causes are looked for in the order that
 /// `BadWords` says.

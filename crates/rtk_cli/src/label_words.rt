@@ -3,8 +3,8 @@
 ghost use Rattle.std.specs.Prelude.{◌≡◌, IfOk, IfErr};
 ghost use Rattle.rtk_cli.specs.Steps.LabelWords.{text_or_none, SaysLabel, RefusesLabel};
 
+use crate::label_options::LabelOptions;
 use crate::words::BadWords;
-use rtk_args::LabelOptions;
 use rtk_label::{Label, LabelParts};
 
 // The bytes of an option's text; no bytes without the option.

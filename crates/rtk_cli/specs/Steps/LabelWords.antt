@@ -3,7 +3,7 @@ use Rattle.std.specs.Prelude.{◌≡◌, ℕ, List, [], Option, None, Some}
 use Rattle.std.specs.Borrow.{Bor}
 use Rattle.rtk_label.specs.Labelled.{LabelView}
 use Rattle.rtk_label.specs.LabelFault.{IsLabelFault}
-use Rattle.rtk_args.specs.declared.label_options.LabelOptions.{LabelOptions}
+use Rattle.rtk_cli.specs.declared.label_options.LabelOptions.{LabelOptions}
 use Rattle.rtk_cli.specs.declared.words.BadWords.{BadWords}
 use Rattle.rtk_cli.specs.declared.words.BadWords.TheVariants.{Field}
 

@@ -2,7 +2,7 @@
 
 /// The texts of the options of `label`, as clap gives them; they are not yet read. A field without its
 /// option is blank.
-#[derive(Clone, Copy)]
+#[derive(Drop)]
 pub struct LabelOptions<'a> {
     pub run_by: Option<&'a str>,
     pub marker_number: Option<&'a str>,

@@ -3,10 +3,10 @@
 ghost use Rattle.std.specs.Prelude.{◌≤◌};
 ghost use Rattle.std.specs.Int.{IsInRange};
 ghost use Rattle.std.specs.Option.{ForSome};
-ghost use Rattle.rtk_args.specs.declared.limits.TheConstants.{GREATEST_STATION, LEAST_WINDOW, MOST_WINDOW, MOST_STEP};
+ghost use Rattle.rtk_cli.specs.declared.limits.TheConstants.{GREATEST_STATION, LEAST_WINDOW, MOST_WINDOW, MOST_STEP};
 
 /// An MSM that can be converted beside 1004.
-#[derive(Clone, Copy, Debug, PartialEq, Eq)]
+#[derive(Clone, Copy)]
 pub enum MsmOption {
     /// 1074.
     Four,
@@ -19,7 +19,7 @@ pub enum MsmOption {
 }
 
 /// The values of the options of `convert`, as clap gives them. Texts are not yet read.
-#[derive(Clone, Copy)]
+#[derive(Drop)]
 pub struct ConvertOptions<'a> {
     /// The reference station (DF003), at most 4095.
     pub station: u16,
@@ -42,7 +42,7 @@ pub struct ConvertOptions<'a> {
 }
 
 /// The values of the options of `cut`, as clap gives them. Texts are not yet read.
-#[derive(Clone, Copy)]
+#[derive(Drop)]
 pub struct CutOptions<'a> {
     /// The text of the moment at which the part begins.
     pub from: Option<&'a str>,

@@ -3,13 +3,13 @@
 ghost use Rattle.std.specs.Prelude.{◌≤◌};
 ghost use Rattle.std.specs.Int.{IsInRange};
 ghost use Rattle.std.specs.Option.{ForSome};
-ghost use Rattle.rtk_args.specs.declared.limits.TheConstants.{GREATEST_STATION, LEAST_WINDOW, MOST_WINDOW};
+ghost use Rattle.rtk_cli.specs.declared.limits.TheConstants.{GREATEST_STATION, LEAST_WINDOW, MOST_WINDOW};
 
 use crate::options::MsmOption;
 
 /// The values of the options of `auto`, as clap gives them. Texts are not yet read. `None` is to be
 /// found in the captures, or chosen.
-#[derive(Clone, Copy)]
+#[derive(Drop)]
 pub struct AutoOptions<'a> {
     /// The reference station (DF003), at most 4095.
     pub station: Option<u16>,
