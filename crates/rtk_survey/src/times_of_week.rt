@@ -1,0 +1,45 @@
+//! The times of week of a station's observation messages.
+
+ghost use Rattle.std.specs.Prelude.{◌≡◌, List, ℕ, [], ◌∷◌};
+ghost use Rattle.rtk_survey.specs.Contents.{times_of};
+ghost use Rattle.rtk_survey.specs.Tracing.{change_from};
+
+/// The first time and the last one, in ms, and how many differ from the one before.
+#[derive(Clone, Copy, Debug, PartialEq, Eq)]
+pub struct Times {
+    pub first: Option<u32>,
+    pub last: Option<u32>,
+    pub changes: u64,
+}
+
+fn change_from(before: Option<u32>, time: u32) -> u64
+    ensures { result ≡ change_from before time }
+{
+    match before {
+        Some(before) => u64::from(before != time),
+        None => 0,
+    }
+}
+
+impl Times {
+    /// No time came.
+    pub(crate) fn new() -> Times
+        ensures { result ≡ times_of [] }
+    {
+        Times {
+            first: None,
+            last: None,
+            changes: 0,
+        }
+    }
+
+    /// The next message has this time.
+    pub(crate) fn note_time(&mut self, time: u32)
+        ensures { (ts : List ℕ) → self.old ≡ times_of ts → self.new ≡ times_of (time ∷ ts) }
+    {
+        let change = change_from(self.last, time);
+        self.changes = self.changes.saturating_add(change);
+        self.first = Some(self.first.unwrap_or(time));
+        self.last = Some(time);
+    }
+}
