@@ -13,6 +13,7 @@ use rtk_find::{CaptureFound, Findings};
 use rtk_obs::GpsMs;
 use rtk_streams::{Before, MOST_READS, Reads, ToolFault, fail, fail_to_open, open_input};
 use rtk_summary::SummaryFault;
+use rtk_survey::SurveyFault;
 use std::alloc::{AllocError, Global};
 use std::fs::Files;
 use std::io::Read;
@@ -72,6 +73,16 @@ fn keep_dates(
     Ok(())
 }
 
+// The fault of a survey with the same cause.
+fn survey_fault(fault: SummaryFault) -> SurveyFault {
+    match fault {
+        SummaryFault::OutOfMemory => SurveyFault::OutOfMemory,
+        SummaryFault::Read => SurveyFault::Read,
+        SummaryFault::Endless => SurveyFault::Endless,
+        SummaryFault::Write => SurveyFault::Write,
+    }
+}
+
 // Reads the capture of this name.
 fn read_named<R: Files + Input + Eprint + AllocGlobal>(
     rt: &R,
@@ -86,7 +97,7 @@ fn read_named<R: Files + Input + Eprint + AllocGlobal>(
     };
     match find_through(rt.alloc(), findings, capture) {
         Ok(found) => Ok(found),
-        Err(fault) => Err(summary_status(rt, Err(fault))),
+        Err(fault) => Err(summary_status(rt, Err(survey_fault(fault)))),
     }
 }
 

@@ -19,7 +19,7 @@
 //!
 //! // A capture with one frame, a 1013 of station 278 that names 2020-01-25 02:15:41.
 //! fn example(alloc: Global) -> Result<bool, AllocError> {
-//!     let bytes = b"\xD3\x00\x09\x3F\x51\x16\xE5\xF9\x0F\xE6\x80\x48\x95\x12\xCA";
+//!     let bytes = b"\xD3\x00\x09\x3F\x51\x16\xE5\xF9\x0F\xE6\x80\x48\x47\x6B\x7C";
 //!     let mut capture = MemSource::new(alloc, bytes, 512, After::End)?;
 //!     let Ok(survey) = survey_capture(alloc, &mut capture, 100) else {
 //!         return Ok(false);
