@@ -7,7 +7,7 @@ ghost use Rattle.rtk_auto.specs.Linking as spec;
 use crate::captured::Captured;
 use crate::kept::{has_something_at, kept_captures};
 use crate::refusal::{PlanFault, Refusal, refused};
-use rtk_dates::Placed;
+use rtk_survey::Placed;
 use rtk_find::{CaptureFound, Ordered, in_order, links_of};
 use std::alloc::{AllocError, Global};
 

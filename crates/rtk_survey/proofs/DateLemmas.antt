@@ -6,7 +6,7 @@ use Rattle.std.specs.List.{count_by}
 use Rattle.rtk_survey.specs.Contents.{one_if, CountsWeeks}
 use Rattle.rtk_survey.specs.Counting.{shown_count, count_of}
 use Rattle.rtk_survey.specs.FrameDates.{dates_as, utc_if, earlier_or, first_date, date_count, station_dates, is_of_week}
-use Rattle.rtk_survey.specs.Moments.{is_date}
+use Rattle.rtk_survey.specs.Telling.{is_date}
 use Rattle.rtk_survey.specs.declared.date_message.DateMessage.{DateMessage}
 use Rattle.rtk_survey.specs.declared.date_message.DateMessage.TheVariants.{Utc, Ephemeris}
 use Rattle.rtk_survey.specs.declared.date_message.EphemerisDate.{EphemerisDate}

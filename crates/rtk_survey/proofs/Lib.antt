@@ -13,6 +13,8 @@ pub mod ListLemmas
 pub mod MapLemmas
 pub mod MsmLemmas
 pub mod NamedLemmas
+pub mod PlacedLemmas
+pub mod PublicLaws
 pub mod ReadLemmas
 pub mod ResultLemmas
 pub mod SignalLemmas

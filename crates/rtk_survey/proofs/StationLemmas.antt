@@ -9,7 +9,7 @@ use Rattle.rtk_message.specs.declared.any_message.AnyMessage.{AnyMessage}
 use Rattle.rtk_message.specs.AnyDecoded.{station_of}
 use Rattle.rtk_survey.specs.Contents.{IsStationOf, IsHeard, AreStations}
 use Rattle.rtk_survey.specs.EquipmentHistory.{no_equipment, equipment_of, with_message}
-use Rattle.rtk_survey.specs.FrameDates.{no_dates, station_dates}
+use Rattle.rtk_survey.specs.FrameDates.{no_station_dates, station_dates}
 use Rattle.rtk_survey.specs.ReadFrames.{messages_from, is_of_station}
 use Rattle.rtk_survey.specs.declared.date_message.DateMessage.{DateMessage}
 use Rattle.rtk_survey.specs.declared.date_message.DateMessage.TheVariants.{Utc, Ephemeris}
@@ -43,21 +43,21 @@ other-equipment station m es other =
 
 -- the survey of a station is that of its entry, else a new one
 entry-or-new : (ms : List AnyMessage) (d : StationDates) (e : Equipment) (o : Option StationSurvey) (new : StationSurvey)
-    → IsHeard ms d e o → IsStationOf [] no_dates no_equipment new → IsStationOf ms d e (unwrap_or o new)
+    → IsHeard ms d e o → IsStationOf [] no_station_dates no_equipment new → IsStationOf ms d e (unwrap_or o new)
 entry-or-new ms d e None new nothing begins =
     subst (λ (x : List AnyMessage). IsStationOf x d e new) (sym nothing.0)
-    (subst (λ (x : StationDates). IsStationOf [] x e new) (sym nothing.1) (subst (λ (x : Equipment). IsStationOf [] no_dates x new) (sym nothing.2) begins))
+    (subst (λ (x : StationDates). IsStationOf [] x e new) (sym nothing.1) (subst (λ (x : Equipment). IsStationOf [] no_station_dates x new) (sym nothing.2) begins))
 entry-or-new ms d e (Some s) new is begins = is
 
 module _ (m m' : BTreeMap ℕ StationSurvey) (old new fresh : StationSurvey) (ms : List AnyMessage) (ds : List DateMessage) (es : List EquipmentMessage) where
-  entry-is : (k : ℕ) → old ≡ unwrap_or (get nat_cmp m k) fresh → IsStationOf [] no_dates no_equipment fresh → AreStations ms ds es m
+  entry-is : (k : ℕ) → old ≡ unwrap_or (get nat_cmp m k) fresh → IsStationOf [] no_station_dates no_equipment fresh → AreStations ms ds es m
       → IsStationOf (messages_from k ms) (station_dates k ds) (equipment_of k es) old
   entry-is k was begins all =
       subst (λ (s : StationSurvey). IsStationOf (messages_from k ms) (station_dates k ds) (equipment_of k es) s) (sym was)
       (entry-or-new (messages_from k ms) (station_dates k ds) (equipment_of k es) (get nat_cmp m k) fresh (all k) begins)
 
   -- a message more
-  pub message-more : (x : AnyMessage) (k : ℕ) → k ≡ station_of x → old ≡ unwrap_or (get nat_cmp m k) fresh → IsStationOf [] no_dates no_equipment fresh → Updates nat_cmp m m' k (Some new)
+  pub message-more : (x : AnyMessage) (k : ℕ) → k ≡ station_of x → old ≡ unwrap_or (get nat_cmp m k) fresh → IsStationOf [] no_station_dates no_equipment fresh → Updates nat_cmp m m' k (Some new)
       → ((own : List AnyMessage) (d : StationDates) (e : Equipment) → IsStationOf own d e old → IsStationOf (x ∷ own) d e new)
       → AreStations ms ds es m → AreStations (x ∷ ms) ds es m'
   message-more x k is was begins puts takes all =
@@ -68,7 +68,7 @@ module _ (m m' : BTreeMap ℕ StationSurvey) (old new fresh : StationSurvey) (ms
       all
 
   -- a 1013 or a 1029 more
-  pub date-more-of : (x : UtcDate) → old ≡ unwrap_or (get nat_cmp m x.station) fresh → IsStationOf [] no_dates no_equipment fresh → Updates nat_cmp m m' x.station (Some new)
+  pub date-more-of : (x : UtcDate) → old ≡ unwrap_or (get nat_cmp m x.station) fresh → IsStationOf [] no_station_dates no_equipment fresh → Updates nat_cmp m m' x.station (Some new)
       → ((own : List AnyMessage) (dates : List DateMessage) (e : Equipment) → IsStationOf own (station_dates x.station dates) e old → IsStationOf own (station_dates x.station (Utc x ∷ dates)) e new)
       → AreStations ms ds es m → AreStations ms (Utc x ∷ ds) es m'
   date-more-of x was begins puts takes all =
@@ -78,7 +78,7 @@ module _ (m m' : BTreeMap ℕ StationSurvey) (old new fresh : StationSurvey) (ms
       all
 
   -- a 1007, 1008 or 1033 more
-  pub equipment-more : (x : EquipmentMessage) → old ≡ unwrap_or (get nat_cmp m x.station) fresh → IsStationOf [] no_dates no_equipment fresh → Updates nat_cmp m m' x.station (Some new)
+  pub equipment-more : (x : EquipmentMessage) → old ≡ unwrap_or (get nat_cmp m x.station) fresh → IsStationOf [] no_station_dates no_equipment fresh → Updates nat_cmp m m' x.station (Some new)
       → ((own : List AnyMessage) (d : StationDates) (e : Equipment) → IsStationOf own d e old → IsStationOf own d (with_message x e) new)
       → AreStations ms ds es m → AreStations ms ds (x ∷ es) m'
   equipment-more x was begins puts takes all =

@@ -15,7 +15,7 @@ use Rattle.rtk_obs.specs.declared.code.Code.{Code}
 use Rattle.rtk_obs.specs.Code.{place_of}
 use Rattle.rtk_survey.specs.Counting.{shown_count, count_of}
 use Rattle.rtk_survey.specs.EquipmentHistory.{no_equipment, equipment_of}
-use Rattle.rtk_survey.specs.FrameDates.{dates_in, no_dates, station_dates, is_of_week}
+use Rattle.rtk_survey.specs.FrameDates.{dates_in, no_station_dates, station_dates, is_of_week}
 use Rattle.rtk_survey.specs.FrameEquipment.{equipment_among}
 use Rattle.rtk_survey.specs.Proposal.{epochs_in, times_with_value, entries_with}
 use Rattle.rtk_survey.specs.ReadFrames.{ReadFrame, bytes_in, messages_in, faults_in, messages_from}
@@ -134,7 +134,7 @@ pub record IsStationOf (ms : List AnyMessage) (d : StationDates) (e : Equipment)
 
 -- of a station without an entry nothing came
 abbrev pub IsHeard : List AnyMessage → StationDates → Equipment → Option StationSurvey → Type 0
-IsHeard ms d e None = (ms ≡ []) × (d ≡ no_dates) × (e ≡ no_equipment)
+IsHeard ms d e None = (ms ≡ []) × (d ≡ no_station_dates) × (e ≡ no_equipment)
 IsHeard ms d e (Some s) = IsStationOf ms d e s
 
 -- each station has its own messages, dates, antenna and receiver

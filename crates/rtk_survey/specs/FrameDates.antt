@@ -6,7 +6,7 @@ use Rattle.rtk_bits.specs.Bits.{bits}
 use Rattle.rtk_message.specs.declared.any_message.AnyMessage.{AnyMessage}
 use Rattle.rtk_message.specs.declared.any_fault.AnyFault.{AnyFault}
 use Rattle.rtk_survey.specs.DateMessages.{date_in}
-use Rattle.rtk_survey.specs.Moments.{is_date}
+use Rattle.rtk_survey.specs.Telling.{is_date}
 use Rattle.rtk_survey.specs.declared.date_message.DateMessage.{DateMessage}
 use Rattle.rtk_survey.specs.declared.date_message.DateMessage.TheVariants.{Utc, Ephemeris}
 use Rattle.rtk_survey.specs.declared.date_message.UtcDate.{UtcDate}
@@ -61,8 +61,8 @@ station_dates station ds = record { of_1013 = date_count 1013 station ds; of_102
 abbrev pub no_date_count : DateCount
 no_date_count = record { first = None; count = 0 }
 
-abbrev pub no_dates : StationDates
-no_dates = record { of_1013 = no_date_count; of_1029 = no_date_count }
+abbrev pub no_station_dates : StationDates
+no_station_dates = record { of_1013 = no_date_count; of_1029 = no_date_count }
 
 -- some message dates the station
 abbrev pub has_date : StationDates → Bool

@@ -1,15 +1,18 @@
+pub mod CaptureDates
 pub mod Contents
 pub mod Counting
 pub mod CountingLaws
+pub mod DateLaws
 pub mod DateMessages
+pub mod Epochs
 pub mod EquipmentHistory
 pub mod EquipmentMessages
 pub mod EquipmentText
 pub mod FrameDates
 pub mod FrameEquipment
 pub mod Look
-pub mod Moments
 pub mod NumberLaws
+pub mod Placing
 pub mod Proposal
 pub mod ReadFrames
 pub mod ReferencePoints
@@ -17,4 +20,5 @@ pub mod Steps
 pub mod Summary
 pub mod SummaryText
 pub mod Surveys
+pub mod Telling
 pub mod Tracing

@@ -2,7 +2,7 @@
 -- after a blank.
 use Rattle.std.specs.Prelude.{ℕ, ◌+◌, ◌/◌, ◌%◌, ◌==◌, Bool, not, ◌&&◌, List, [], ◌∷◌, ◌++◌, filter, flat_map, codes, decimal, Option, None, Some, if◌then◌else◌}
 use Rattle.std.specs.List.{range_with_len}
-use Rattle.rtk_survey.specs.Moments.{moment_of}
+use Rattle.rtk_survey.specs.Telling.{moment_of}
 use Rattle.rtk_survey.specs.declared.date_message.UtcDate.{UtcDate}
 use Rattle.rtk_message.specs.ShellText.{sh_quoted}
 use Rattle.rtk_message.specs.declared.msm_kind.MsmKind.{MsmKind}

@@ -10,7 +10,7 @@ ghost use Rattle.rtk_survey.specs.Summary.{weeks_text};
 ghost use Rattle.rtk_survey.specs.SummaryText.{date_time_text, near_text, first_date_line, date_line, date_lines, week_line};
 
 use crate::date_message::UtcDate;
-use crate::date_moment::moment_of;
+use crate::telling::moment_of;
 use crate::line::put_line;
 use crate::station_dates::{DateCount, StationDates};
 use rtk_message::put_named;

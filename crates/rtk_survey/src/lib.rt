@@ -33,11 +33,12 @@
 
 #![tactic(auto)]
 
+mod capture_dates;
 mod contents;
 mod counting;
+mod date_laws;
 mod date_lines;
 mod date_message;
-mod date_moment;
 mod epochs;
 mod equipment;
 mod equipment_lines;
@@ -47,23 +48,28 @@ mod line;
 mod lines;
 mod look;
 mod msm_parts;
+mod placing;
 mod proposal_lines;
 mod reading;
 mod reference_point;
 mod signal_lines;
 mod signals;
+mod span;
 mod station;
 mod station_dates;
 mod stations;
 mod summary;
 mod survey;
 mod survey_fault;
+mod telling;
+mod tellings;
 mod times_of_week;
 mod unread;
 
+pub use capture_dates::CaptureDates;
 pub use contents::Contents;
+pub use date_laws::{dates_are_nearest, told_moments_are_nearest};
 pub use date_message::{DateMessage, EphemerisDate, UtcDate, date_in};
-pub use date_moment::{is_date, moment_of};
 pub use epochs::Epochs;
 pub use equipment::{Equipment, SetupHistory, TextHistory};
 pub use equipment_message::{Antenna, EquipmentMessage, Receiver, Text, equipment_in};
@@ -73,13 +79,20 @@ pub use laws::{
 };
 pub use look::{Look, look_of};
 pub use msm_parts::{MsmPart, MsmParts};
+pub use placing::{
+    CaptureEpochs, Placed, base_of, is_dated_near, least_with_if_any, near_of, place,
+    place_captures,
+};
 pub use reading::survey_capture;
-pub use reference_point::ReferencePoint;
+pub use reference_point::{ReferencePoint, first_point_with};
 pub use signals::{Codes, Signals, has_value, have_value};
+pub use span::Span;
 pub use station::{MessageCounts, StationSurvey};
 pub use station_dates::{DateCount, StationDates};
 pub use summary::summarize;
 pub use survey::CaptureSurvey;
 pub use survey_fault::SurveyFault;
+pub use telling::{dated, is_date, moment_of, told};
+pub use tellings::{Tellings, Told};
 pub use times_of_week::Times;
 pub use unread::Unread;

@@ -104,7 +104,7 @@ impl MsmPart {
 
 impl MsmParts {
     /// Nothing came.
-    pub(crate) fn new() -> MsmParts
+    pub fn new() -> MsmParts
         ensures { HasMsms result [] }
     {
         MsmParts {
@@ -116,7 +116,7 @@ impl MsmParts {
     }
 
     /// Adds a message of the station, with its cells and their codes.
-    pub(crate) fn add_message(&mut self, message: &AnyMessage, entries: &[CellEntry], codes: &Codes)
+    pub fn add_message(&mut self, message: &AnyMessage, entries: &[CellEntry], codes: &Codes)
         requires entries { entries.now ≡ entries_of_message message.now }
         requires codes { HasCodes codes.now (entries_of_message message.now) }
         ensures { (ms : List AnyMessage) → HasMsms self.old ms → HasMsms self.new (message.now ∷ ms) }

@@ -47,7 +47,7 @@ fn point_of(message: &AnyMessage) -> Option<ReferencePoint>
 }
 
 /// The first reference point of a station, after a message more.
-pub(crate) fn first_point_with(
+pub fn first_point_with(
     first: Option<ReferencePoint>,
     message: &AnyMessage,
 ) -> Option<ReferencePoint>

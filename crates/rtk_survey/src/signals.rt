@@ -57,7 +57,7 @@ pub fn have_value(entries: &[CellEntry]) -> bool
 
 impl Codes {
     /// Nothing has a value.
-    pub(crate) fn new() -> Codes
+    pub fn new() -> Codes
         ensures { HasCodes result [] }
     {
         Codes { marks: [false; CODES] }
@@ -70,7 +70,7 @@ impl Codes {
     }
 
     /// The codes with a value in these cells.
-    pub(crate) fn of(entries: &[CellEntry]) -> Codes
+    pub fn of(entries: &[CellEntry]) -> Codes
         ensures { HasCodes result entries.now }
     {
         let mut codes = Codes::new();
@@ -81,7 +81,7 @@ impl Codes {
     }
 
     /// The codes of more cells.
-    pub(crate) fn join(&mut self, more: &Codes)
+    pub fn join(&mut self, more: &Codes)
         ensures { (xs es : List CellEntry) → HasCodes more.now xs → HasCodes self.old es
             → HasCodes self.new (xs ++ es) }
     {
@@ -93,7 +93,7 @@ impl Codes {
 
 impl Signals {
     /// Nothing has a value.
-    pub(crate) fn new() -> Signals
+    pub fn new() -> Signals
         ensures { HasSignals result [] }
     {
         Signals {
@@ -114,7 +114,7 @@ impl Signals {
     }
 
     /// Marks the satellites and codes of more cells.
-    pub(crate) fn mark_entries(&mut self, entries: &[CellEntry])
+    pub fn mark_entries(&mut self, entries: &[CellEntry])
         ensures { (es : List CellEntry) → HasSignals self.old es → HasSignals self.new (entries.now ++ es) }
     {
         for entry in entries {

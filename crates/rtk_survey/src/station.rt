@@ -3,10 +3,10 @@
 ghost use Rattle.std.specs.Prelude.{◌≡◌, List, [], ◌∷◌, OnOk};
 ghost use Rattle.rtk_message.specs.AnyDecoded.{number_of};
 ghost use Rattle.rtk_message.specs.declared.any_message.AnyMessage.{AnyMessage};
-ghost use Rattle.rtk_survey.specs.Contents.{times_of, equipment_at, CountsMessages, HasCodes, IsStationOf};
+ghost use Rattle.rtk_survey.specs.Contents.{equipment_at, CountsMessages, HasCodes, IsStationOf};
 ghost use Rattle.rtk_survey.specs.EquipmentHistory.{no_equipment, with_message};
-ghost use Rattle.rtk_survey.specs.FrameDates.{no_dates, station_dates};
-ghost use Rattle.rtk_survey.specs.Tracing.{times_of_week, entries_of_message};
+ghost use Rattle.rtk_survey.specs.FrameDates.{no_station_dates, station_dates};
+ghost use Rattle.rtk_survey.specs.Tracing.{entries_of_message};
 ghost use Rattle.rtk_survey.specs.declared.date_message.DateMessage.{DateMessage};
 ghost use Rattle.rtk_survey.specs.declared.date_message.DateMessage.TheVariants.{Utc};
 ghost use Rattle.rtk_survey.specs.declared.equipment.Equipment.{Equipment};
@@ -53,8 +53,8 @@ pub struct StationSurvey {
 }
 
 impl MessageCounts {
-    // No message came.
-    fn new() -> MessageCounts
+    /// No message came.
+    pub fn new() -> MessageCounts
         ensures { CountsMessages result [] }
     {
         MessageCounts {
@@ -65,8 +65,8 @@ impl MessageCounts {
         }
     }
 
-    // Counts a message under its number.
-    fn count_number(&mut self, number: u16)
+    /// Counts a message under its number.
+    pub fn count_number(&mut self, number: u16)
         ensures { (ms : List AnyMessage) (m : AnyMessage) → number ≡ number_of m
             → CountsMessages self.old ms → CountsMessages self.new (m ∷ ms) }
     {
@@ -74,16 +74,6 @@ impl MessageCounts {
         self.obs_1004 = count_if(self.obs_1004, number == 1004);
         self.arp_1005 = count_if(self.arp_1005, number == 1005);
         self.arp_1006 = count_if(self.arp_1006, number == 1006);
-    }
-}
-
-// Notes the time of week of a message, if it has one.
-fn note_time_of(times: &mut Times, message: &AnyMessage)
-    ensures { (ms : List AnyMessage) → times.old ≡ times_of (times_of_week ms)
-        → times.new ≡ times_of (times_of_week (message.now ∷ ms)) }
-{
-    if let Some(time) = message.tow() {
-        times.note_time(time);
     }
 }
 
@@ -104,7 +94,7 @@ fn take_equipment(
 impl StationSurvey {
     /// Nothing came.
     pub(crate) fn new(alloc: Global) -> StationSurvey
-        ensures { IsStationOf [] no_dates no_equipment result }
+        ensures { IsStationOf [] no_station_dates no_equipment result }
     {
         StationSurvey {
             counts: MessageCounts::new(),
@@ -130,7 +120,7 @@ impl StationSurvey {
             → IsStationOf (message.now ∷ ms) d e self.new }
     {
         self.counts.count_number(message.number());
-        note_time_of(&mut self.times, message);
+        self.times.note_message(message);
         self.signals.mark_entries(entries);
         self.msm.add_message(message, entries, codes);
         self.reference_point = first_point_with(self.reference_point, message);

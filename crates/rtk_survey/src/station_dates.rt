@@ -1,14 +1,14 @@
 //! The dates that the messages of a station tell: those of 1013 and 1029.
 
 ghost use Rattle.std.specs.Prelude.{◌≡◌, ◌==◌, ◌&&◌, ℕ, List, [], ◌∷◌, None, Some, length, IfOk};
-ghost use Rattle.rtk_survey.specs.Moments.{is_date};
+ghost use Rattle.rtk_survey.specs.Telling.{is_date};
 ghost use Rattle.rtk_survey.specs.declared.date_message.DateMessage.{DateMessage};
 ghost use Rattle.rtk_survey.specs.declared.date_message.DateMessage.TheVariants.{Utc};
 ghost use Rattle.rtk_survey.specs.FrameDates as spec;
 
 use crate::counting::count_if;
 use crate::date_message::UtcDate;
-use crate::date_moment::is_date;
+use crate::telling::is_date;
 
 /// The first date that messages of one number tell, and how many tell one.
 #[derive(Clone, Copy, Debug, PartialEq, Eq)]
@@ -67,7 +67,7 @@ impl DateCount {
 impl StationDates {
     /// No message came.
     pub(crate) fn new() -> StationDates
-        ensures { result ≡ spec.no_dates }
+        ensures { result ≡ spec.no_station_dates }
     {
         StationDates {
             of_1013: DateCount::new(),

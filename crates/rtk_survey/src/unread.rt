@@ -35,7 +35,7 @@ pub(crate) fn count_at(counts: &mut Vec<u64>, number: u16)
 
 impl Unread {
     /// Nothing came.
-    pub(crate) fn new(alloc: Global) -> Result<Unread, AllocError>
+    pub fn new(alloc: Global) -> Result<Unread, AllocError>
         ensures { IfOk result (λ unread. CountsFaults unread []) }
     {
         Ok(Unread {
@@ -48,7 +48,7 @@ impl Unread {
     }
 
     /// Counts a fault.
-    pub(crate) fn count_fault(&mut self, fault: AnyFault)
+    pub fn count_fault(&mut self, fault: AnyFault)
         ensures { (fs : List AnyFault) → CountsFaults self.old fs → CountsFaults self.new (fault ∷ fs) }
     {
         match fault {
