@@ -12,11 +12,11 @@ ghost use Rattle.rtk_survey.specs.declared.placing.Placed.{Placed};
 use crate::captured::Captured;
 use crate::refusal::{PlanFault, Refusal, refused};
 use crate::span_line::{DateSource, DatedSpan};
-use rtk_survey::{DateMessage, Placed};
 use rtk_find::{
     Base, CaptureFound, is_out_of_reach, least_told, near_of, place_captures, reach_of,
 };
 use rtk_obs::{GpsMs, HALF_WEEK_MS};
+use rtk_survey::{DateMessage, Placed};
 use std::alloc::Global;
 
 /// The epochs of captures with their dates.

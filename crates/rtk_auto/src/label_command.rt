@@ -11,10 +11,10 @@ ghost use Rattle.rtk_auto.specs.LabelCommand as spec;
 
 use crate::said_command::put_word;
 use crate::told_label::parts_told;
-use rtk_survey::Equipment;
 use rtk_label::LabelParts;
 use rtk_message::put_sh_quoted;
 use rtk_summary::Summary;
+use rtk_survey::Equipment;
 use std::alloc::{AllocError, Global};
 
 // Appends the option of a field, if it is filled.

@@ -7,8 +7,8 @@ ghost use Rattle.rtk_auto.specs.Linking as spec;
 use crate::captured::Captured;
 use crate::kept::{has_something_at, kept_captures};
 use crate::refusal::{PlanFault, Refusal, refused};
-use rtk_survey::Placed;
 use rtk_find::{CaptureFound, Ordered, in_order, links_of};
+use rtk_survey::Placed;
 use std::alloc::{AllocError, Global};
 
 /// The most links of a conversion.

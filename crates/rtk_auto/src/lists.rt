@@ -9,12 +9,11 @@ ghost use Rattle.rtk_auto.specs.Lists as spec;
 
 use crate::said_command::put_time;
 use crate::span_line::put_message;
-use rtk_survey::Told;
 use rtk_find::CaptureFound;
 use rtk_message::{MsmKind, put_named, put_number, put_sh_quoted};
 use rtk_obs::GpsMs;
 use rtk_summary::Summary;
-use rtk_survey::{Look, ReferencePoint};
+use rtk_survey::{Look, ReferencePoint, Told};
 use std::alloc::AllocError;
 
 /// A first epoch that a capture tells, beside another one.

@@ -9,9 +9,9 @@ ghost use Rattle.rtk_summary.specs.Standing.{StandsForFrames};
 ghost use Rattle.rtk_auto.specs.ToldLabel as spec;
 
 use crate::wanted::Ways;
-use rtk_survey::{Equipment, Text};
 use rtk_label::{Label, LabelParts};
 use rtk_summary::Summary;
+use rtk_survey::{Equipment, Text};
 use std::alloc::AllocError;
 
 fn is_printed(byte: u8) -> bool

@@ -69,8 +69,7 @@ pub read-end : (given_0 given_1 given_2 : Option (List ℕ)) (waiting : List ℕ
     → ((n : ℕ) (bytes : List ℕ) → c_2.frames ≡ shown_count n → head ≡ take 512 bytes → look ≡ look_if_empty n bytes)
     → Surveys given_0 given_2 (record { bytes = count; look = look; contents = c_2 })
 read-end given_0 given_1 given_2 waiting count head c_1 c_2 look h gives t looks =
-    let next = t h.fs h.holds in
-    (
+    let next = t h.fs h.holds in (
       h.bytes,
       next.0,
       gives ∙ with_more-nil given_1 ∙ h.given,

@@ -10,9 +10,9 @@ ghost use Rattle.rtk_survey.specs.Summary.{weeks_text};
 ghost use Rattle.rtk_survey.specs.SummaryText.{date_time_text, near_text, first_date_line, date_line, date_lines, week_line};
 
 use crate::date_message::UtcDate;
-use crate::telling::moment_of;
 use crate::line::put_line;
 use crate::station_dates::{DateCount, StationDates};
+use crate::telling::moment_of;
 use rtk_message::put_named;
 use rtk_obs::{Civil, GpsMs, civil, put_clock, put_date};
 use std::alloc::AllocError;

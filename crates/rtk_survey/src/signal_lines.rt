@@ -9,7 +9,11 @@ use rtk_obs::{ALL_CODES, Code};
 use std::alloc::{AllocError, Global};
 
 // A satellite after a blank, if it has a value.
-fn put_satellite(text: &mut Vec<u8>, marks: &[bool; SATELLITES], satellite: u8) -> Result<(), AllocError>
+fn put_satellite(
+    text: &mut Vec<u8>,
+    marks: &[bool; SATELLITES],
+    satellite: u8,
+) -> Result<(), AllocError>
     requires { satellite < 33 }
     ensures { OnOk result (text.new.items
         ≡ text.old.items ++ listed_satellite (λ n. get_or marks.now n false) satellite) }

@@ -60,7 +60,9 @@ impl Codes {
     pub fn new() -> Codes
         ensures { HasCodes result [] }
     {
-        Codes { marks: [false; CODES] }
+        Codes {
+            marks: [false; CODES],
+        }
     }
 
     fn mark_code(&mut self, entry: &CellEntry)

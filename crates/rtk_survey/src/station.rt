@@ -78,10 +78,7 @@ impl MessageCounts {
 }
 
 // A message more that tells an antenna or a receiver; the first one makes the entry.
-fn take_equipment(
-    entries: &mut Vec<Equipment>,
-    message: EquipmentMessage,
-) -> Result<(), AllocError>
+fn take_equipment(entries: &mut Vec<Equipment>, message: EquipmentMessage) -> Result<(), AllocError>
     ensures { OnOk result (equipment_at entries.new ≡ with_message message (equipment_at entries.old)) }
 {
     if entries.is_empty() {
