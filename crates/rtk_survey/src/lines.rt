@@ -175,7 +175,7 @@ fn put_station_if_any(
     number: u16,
     station: Option<&StationSurvey>,
 ) -> Result<(), AllocError>
-    ensures { (ms : List AnyMessage) (d : StationDates) (e : Equipment) → IsHeard ms d e (option_copied station)
+    ensures { (ms : List AnyMessage) (d : StationDates) (e : Equipment) → IsHeard ms d e (option_copied station.entry)
         → OnOk result (lines.new.items ≡ lines.old.items ++ lines_if_any name.now number ms d e) }
 {
     let Some(station) = station else {
