@@ -103,7 +103,7 @@ pub record IsBeforeRow (s : SatelliteCounts) (interval : Option ℕ) (before : L
 
 pub before-row : (s : SatelliteCounts) (interval : Option ℕ) (t : ℕ) (before : List Sighting) → StandsForSatellite s interval (absent_at t ∷ before) → IsBeforeRow s interval before
 before-row s interval t before stands = record {
-  pass = record { last = stands.pass.last; had = stands.pass.had };
+  pass = record { last = stands.pass.last; had = stands.pass.had; kept = stands.pass.kept };
   codes = stands.codes ∙ same-codes interval t before;
   in_passes = stands.in_passes;
   since_phase = stands.since_phase;

@@ -13,7 +13,6 @@ use crate::record_counts::{RecordCounts, unit_ms};
 use crate::satellite_counts::{PassCounts, SatelliteCounts};
 use rtk_obs::{GpsMs, civil};
 use rtk_rinex::{EpochTable, TextTable};
-use rtk_tracking::longest_interval;
 use std::alloc::{AllocError, Global};
 
 /// A pass that ended, and its satellite.
@@ -174,7 +173,6 @@ pub(crate) fn count_file(
     ensures size { IfOk result (λ counts. length counts.satellites.items ≡ 32) }
     ensures counts { IfOk result (λ counts. HoldsOfEpochs table.now.text (StandsForFile counts interval (unit_of interval))) }
 {
-    let interval = longest_interval(interval);
     let unit_ms = unit_ms(interval);
     let mut counts = FileCounts::new(alloc)?;
     let mut epoch = EpochTable::new(table.heading().first);
