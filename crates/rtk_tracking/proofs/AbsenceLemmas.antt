@@ -1,10 +1,10 @@
 -- Absences in a thinned file, and by a clock that is not steered.
-use Rattle.std.proofs.Common.{◌≡◌, ◌<◌, ◌≤◌, ◌+◌, ◌*◌, ◌-◌, ◌/◌, ℕ, Bool, true, false, Option, Some, ◌⊎◌, inl, inr, sym, ◌∙◌, arith}
+use Rattle.std.proofs.Common.{◌≡◌, ◌<◌, ◌≤◌, ◌+◌, ◌*◌, ℕ, Some, ◌⊎◌, inl, inr, sym, ◌∙◌, arith}
 use Rattle.std.proofs.lemmas.Bool.{cases_lt, lt-ltb, le-ltb}
 use Rattle.std.proofs.Math.Nat.{mul-le-mul_right, add-mul}
 use Rattle.rtk_tracking.specs.Interval.{nearness_of}
 use Rattle.rtk_tracking.specs.Passes.{absence_of, is_longer}
-use Rattle.rtk_tracking.specs.Laws.{IsThinned, ChangesByLess, ThinningChangesLess, KeepsVerdict, ThinningKeepsVerdicts, IsBeside, ClockChangesNone}
+use Rattle.rtk_tracking.specs.Laws.{IsThinned, ThinningChangesLess, ThinningKeepsVerdicts, IsBeside, ClockChangesNone}
 
 pub changes-less : ThinningChangesLess
 changes-less interval step last next last_step next_step thinned =

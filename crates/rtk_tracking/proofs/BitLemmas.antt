@@ -1,8 +1,8 @@
 -- Each bit 0 is exactly one of three kinds.
-use Rattle.std.proofs.Common.{◌≡◌, ◌<◌, ◌+◌, ℕ, Bool, true, false, not, cond, ◌&&◌, ◌||◌, List, [], ◌∷◌, Option, None, Some, get_or, refl, sym, ap, ◌∙◌}
+use Rattle.std.proofs.Common.{◌≡◌, ◌+◌, ℕ, Bool, true, false, not, cond, ◌&&◌, ◌||◌, List, [], ◌∷◌, Option, refl}
 use Rattle.std.proofs.lemmas.Bool.{both_ways}
 use Rattle.rtk_tracking.specs.Epochs.{shows_phase}
-use Rattle.rtk_tracking.specs.Passes.{Sighting, has_phase, has_bit_0, begins_pass, ends_outage, is_break, had_phase, kept_phase, is_known, is_kept}
+use Rattle.rtk_tracking.specs.Passes.{Sighting, has_bit_0, begins_pass, ends_outage, had_phase, kept_phase, is_known, is_kept}
 use Rattle.rtk_tracking.specs.Laws.{EachBitIsOneOfThree, RiseOrReturnIsEither}
 
 -- what had a phase since the last outage had one since the pass began
