@@ -14,7 +14,7 @@ use Rattle.rtk_tracking.specs.Passes.{Sighting, sightings_of}
 use Rattle.rtk_quality.specs.Counts.{percent_tenths, phases_per_slip, mean_hundredths, mean_tenths}
 use Rattle.rtk_quality.specs.SatellitePasses.{passes_of}
 use Rattle.rtk_quality.specs.Records.{unit_of, record_counts_of}
-use Rattle.rtk_quality.specs.Quality.{numbers_of, totals_of, is_in_file, satellites_in}
+use Rattle.rtk_quality.specs.Quality.{numbers_of, totals_of, station_numbers, possible_in, is_in_file, satellites_in}
 use Rattle.rtk_quality.specs.Forms.{in_form, value_text, moment_text, name_text, start_text, end_text, json_text}
 use Rattle.rtk_quality.specs.declared.form.Form.{Form}
 use Rattle.rtk_quality.specs.declared.form.Decimals.TheVariants.{Whole, Tenths, Hundredths, Thousandths}
@@ -22,24 +22,45 @@ use Rattle.rtk_quality.specs.declared.sections.Section.{Section}
 use Rattle.rtk_quality.specs.declared.sections.Section.TheVariants.{Codes, Never, Passes}
 use Rattle.rtk_quality.specs.declared.code_counts.CodeCounts.{CodeCounts}
 use Rattle.rtk_quality.specs.declared.code_numbers.CodeNumbers.{CodeNumbers}
+use Rattle.rtk_quality.specs.declared.code_numbers.PerSlip.{PerSlip}
+use Rattle.rtk_quality.specs.declared.code_numbers.PerSlip.TheVariants.{NoPhase, NoneLost, Each}
 use Rattle.rtk_quality.specs.declared.record_counts.RecordCounts.{RecordCounts}
 use Rattle.rtk_quality.specs.declared.satellite_counts.PassCounts.{PassCounts}
 
 -- ---- one line
 
 -- formula
--- phases, and of how many that could be there; ranges without a phase; slips, rises, half cycles; phases
--- for each slip
+-- phases, and of how many that could be there
 unfoldable pub phases_text : Form → CodeNumbers → List ℕ
 phases_text form n =
     value_text form (codes " phases ") (codes ",\"phases\":") Whole (Some n.counts.phases)
     ++ value_text form (codes " of ") (codes ",\"possible\":") Whole (Some n.possible)
-    ++ value_text form (codes " percent ") (codes ",\"percent_tenths\":") Tenths (percent_tenths n.counts.phases n.possible)
-    ++ value_text form (codes " ranges-only ") (codes ",\"ranges_only\":") Whole (Some n.counts.ranges)
-    ++ value_text form (codes " slips ") (codes ",\"slips\":") Whole (Some n.counts.slips)
-    ++ value_text form (codes " rises ") (codes ",\"rises\":") Whole (Some n.counts.rises)
-    ++ value_text form (codes " half-cycles ") (codes ",\"half_cycles\":") Whole (Some n.counts.halves)
-    ++ value_text form (codes " phases-per-slip ") (codes ",\"phases_per_slip\":") Whole (phases_per_slip n.counts.phases n.counts.slips)
+    ++ value_text form (codes " percent ") (codes ",\"percent_tenths\":") Tenths (Some (percent_tenths n.counts.phases n.possible))
+
+-- formula
+-- on how many of the satellites
+unfoldable pub having_text : Form → ℕ → ℕ → List ℕ
+having_text form satellites tracked =
+    value_text form (codes " satellites ") (codes ",\"satellites\":") Whole (Some satellites)
+    ++ value_text form (codes " of ") (codes ",\"tracked\":") Whole (Some tracked)
+
+-- table
+-- phases for each slip: a word in a line, if there is no phase or no slip, and null in JSON
+unfoldable pub per_slip_text : Form → PerSlip → List ℕ
+per_slip_text form NoPhase = in_form form (codes " phases-per-slip no-phase") (codes ",\"phases_per_slip\":null")
+per_slip_text form NoneLost = in_form form (codes " phases-per-slip none-lost") (codes ",\"phases_per_slip\":null")
+per_slip_text form (Each n) = value_text form (codes " phases-per-slip ") (codes ",\"phases_per_slip\":") Whole (Some n)
+
+-- formula
+-- ranges without a phase; slips, returns, rises, half cycles; phases for each slip
+unfoldable pub locks_text : Form → CodeCounts → List ℕ
+locks_text form c =
+    value_text form (codes " ranges-only ") (codes ",\"ranges_only\":") Whole (Some c.ranges)
+    ++ value_text form (codes " slips ") (codes ",\"slips\":") Whole (Some c.slips)
+    ++ value_text form (codes " returns ") (codes ",\"returns\":") Whole (Some c.returns)
+    ++ value_text form (codes " rises ") (codes ",\"rises\":") Whole (Some c.rises)
+    ++ value_text form (codes " half-cycles ") (codes ",\"half_cycles\":") Whole (Some c.halves)
+    ++ per_slip_text form (phases_per_slip c.phases c.slips)
 
 -- formula
 -- strengths in dB-Hz: the least one, their mean, and the greatest one
@@ -49,9 +70,9 @@ strengths_text form c =
     ++ value_text form (codes " mean-strength ") (codes ",\"mean_strength_centidbhz\":") Hundredths (mean_hundredths c.strength_sum c.strengths)
     ++ value_text form (codes " greatest-strength ") (codes ",\"greatest_strength_millidbhz\":") Thousandths c.greatest
 
--- the numbers of a code, up to the end of their line
-unfoldable pub numbers_text : Form → CodeNumbers → List ℕ
-numbers_text form n = phases_text form n ++ strengths_text form n.counts ++ end_text form
+-- locks and strengths, up to the end of their line
+unfoldable pub counts_text : Form → CodeCounts → List ℕ
+counts_text form c = locks_text form c ++ strengths_text form c ++ end_text form
 
 -- a code of the file
 unfoldable pub code_name : Form → Code → List ℕ
@@ -62,14 +83,15 @@ code_name form code = name_text form (codes ",\"code\":\"") (name_of code)
 unfoldable pub satellite_name : Form → ℕ → List ℕ
 satellite_name form satellite = name_text form (codes ",\"satellite\":\"") (71 ∷ last_digits 2 satellite)
 
--- the line of a code over all satellites that have it
-unfoldable pub code_line : Form → Code → CodeNumbers → List ℕ
-code_line form code n = start_text form (codes "code") ++ code_name form code ++ numbers_text form n
+-- the line of a code over all satellites that have it, of so many that are tracked
+unfoldable pub code_line : Form → Code → ℕ → CodeNumbers → List ℕ
+code_line form code tracked n =
+    start_text form (codes "code") ++ code_name form code ++ phases_text form n ++ having_text form n.satellites tracked ++ counts_text form n.counts
 
 -- the line of a code that a satellite has
 unfoldable pub satellite_line : Form → ℕ → Code → CodeNumbers → List ℕ
 satellite_line form satellite code n =
-    start_text form (codes "satellite") ++ satellite_name form satellite ++ code_name form code ++ numbers_text form n
+    start_text form (codes "satellite") ++ satellite_name form satellite ++ code_name form code ++ phases_text form n ++ counts_text form n.counts
 
 -- the line of a code of the file that a satellite has nowhere
 unfoldable pub never_line : Form → ℕ → Code → List ℕ
@@ -155,7 +177,7 @@ unfoldable pub quality_text : Form → List ℕ → List Code → ℕ → ℕ �
 quality_text form marker listed first last interval es =
     heading_text form marker (reading_of first) (reading_of last) interval (satellites_in interval es)
     (record_counts_of (unit_of interval) es)
-    ++ each_code (λ place code. code_line form code (totals_of interval es place)) 0 listed
+    ++ each_code (λ place code. code_line form code (satellites_in interval es) (station_numbers (possible_in interval es) (totals_of interval es place))) 0 listed
     ++ section_text form Codes listed interval es ++ section_text form Never listed interval es ++ section_text form Passes listed interval es
     ++ close_text form
 

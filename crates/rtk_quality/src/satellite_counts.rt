@@ -4,7 +4,7 @@ ghost use Rattle.std.specs.Prelude.{◌≡◌, ◌<◌, ℕ, List, [], ◌∷◌
 ghost use Rattle.std.specs.List.{list_any};
 ghost use Rattle.rtk_rinex.specs.Reading.{reading_of};
 ghost use Rattle.rtk_tracking.specs.Passes.{Sighting, last_record, has_phase, is_kept, is_slip};
-ghost use Rattle.rtk_tracking.specs.Standing.{AreMarked};
+ghost use Rattle.rtk_tracking.specs.Standing.{AreMarked, AreKnown};
 ghost use Rattle.rtk_tracking.specs.Epochs.{shown_at};
 ghost use Rattle.rtk_quality.specs.Counts.{plus, code_counts_of};
 ghost use Rattle.rtk_quality.specs.Quality.{numbers_of, is_in_file};
@@ -15,7 +15,7 @@ use crate::code_counts::CodeCounts;
 use crate::code_numbers::CodeNumbers;
 use rtk_obs::{Civil, GpsMs};
 use rtk_rinex::Observed;
-use rtk_tracking::Pass;
+use rtk_tracking::{Known, Pass};
 
 /// A pass of a satellite: the moments of its first and its last phase, and its phases and slips.
 #[derive(Clone, Copy)]
@@ -47,13 +47,13 @@ fn shown_at(observed: &[Observed], place: usize) -> Observed
 }
 
 // Counts one more epoch of each code. What is not observed changes no count.
-fn note_codes(codes: &mut [CodeCounts; 16], observed: &[Observed], kept: &[bool; 16])
+fn note_codes(codes: &mut [CodeCounts; 16], observed: &[Observed], known: &Known)
     ensures { (interval : Option ℕ) (before : List Sighting) (s : Sighting) → observed.now ≡ s.observed
-        → AreMarked kept.now (λ place. is_kept interval place before s)
+        → AreKnown known.now interval before s
         → codes.old ≡ code_counts_of interval before → codes.new ≡ code_counts_of interval (s ∷ before) }
 {
     for place in 0..observed.len().min(16) {
-        codes[place].note(&observed[place], kept[place]);
+        codes[place].note(&observed[place], known.had[place], known.kept[place]);
     }
 }
 
@@ -154,6 +154,7 @@ impl SatelliteCounts {
         CodeNumbers {
             counts: self.codes[place],
             possible: self.in_passes,
+            satellites: 1,
         }
     }
 
@@ -219,7 +220,7 @@ impl SatelliteCounts {
         let time_ms = time.ms();
         let begins = self.pass.begins(interval, time_ms, observed);
         let known = self.pass.known(interval, record_ms, time_ms, observed);
-        note_codes(&mut self.codes, observed, &known.kept);
+        note_codes(&mut self.codes, observed, &known);
         self.pass.note(interval, record_ms, time_ms, observed);
         if !has_phase(observed) {
             return None;
