@@ -7,7 +7,7 @@ use Rattle.std.proofs.lemmas.List.FromFn.{fill_by_all, length-map-range_with_len
 use Rattle.rtk_obs.specs.declared.time.Civil.{Civil}
 use Rattle.rtk_rinex.specs.Reading.{reading_of}
 use Rattle.rtk_rinex.specs.declared.epoch_table.Observed.{Observed}
-use Rattle.rtk_tracking.specs.Passes.{Sighting, has_phase, has_bit_0, last_phase, is_away, begins_pass, is_kept, is_slip}
+use Rattle.rtk_tracking.specs.Passes.{Sighting, has_phase, has_bit_0, last_phase, is_away, begins_pass, is_known, is_kept, is_slip}
 use Rattle.rtk_tracking.specs.Standing.{StandsForPass}
 use Rattle.rtk_tracking.specs.Epochs.{shown_at}
 use Rattle.rtk_rinex.specs.Record.{no_observation}
@@ -19,15 +19,17 @@ use Rattle.rtk_quality.specs.declared.satellite_counts.SatelliteCounts.{Satellit
 use Rattle.rtk_quality.specs.declared.code_counts.CodeCounts.{CodeCounts}
 
 -- a code, an epoch more
-pub code-more : (interval : Option ℕ) (place : ℕ) (before : List Sighting) (s : Sighting) (os : List Observed) (o : Observed) (kept : Bool) (old new : CodeCounts)
-    → os ≡ s.observed → o ≡ shown_at place os → kept ≡ is_kept interval place before s → old ≡ counts_of (noted_of interval place before)
-    → ((ns : List Noted) → old ≡ counts_of ns → new ≡ counts_of (record { observed = o; kept = kept } ∷ ns))
+pub code-more : (interval : Option ℕ) (place : ℕ) (before : List Sighting) (s : Sighting) (os : List Observed) (o : Observed) (known kept : Bool) (old new : CodeCounts)
+    → os ≡ s.observed → o ≡ shown_at place os → known ≡ is_known interval place before s → kept ≡ is_kept interval place before s
+    → old ≡ counts_of (noted_of interval place before)
+    → ((ns : List Noted) → old ≡ counts_of ns → new ≡ counts_of (record { observed = o; known = known; kept = kept } ∷ ns))
     → new ≡ counts_of (noted_of interval place (s ∷ before))
-code-more interval place before s os o kept old new same is marked was took =
+code-more interval place before s os o known kept old new same is marked_known marked was took =
     let rest : List Noted = noted_of interval place before in
     took rest was
-    ∙ ap (λ (x : Observed). counts_of (record { observed = x; kept = kept } ∷ rest)) (is ∙ ap (λ (xs : List Observed). shown_at place xs) same)
-    ∙ ap (λ (b : Bool). counts_of (record { observed = shown_at place s.observed; kept = b } ∷ rest)) marked
+    ∙ ap (λ (x : Observed). counts_of (record { observed = x; known = known; kept = kept } ∷ rest)) (is ∙ ap (λ (xs : List Observed). shown_at place xs) same)
+    ∙ ap (λ (b : Bool). counts_of (record { observed = shown_at place s.observed; known = b; kept = kept } ∷ rest)) marked_known
+    ∙ ap (λ (b : Bool). counts_of (record { observed = shown_at place s.observed; known = is_known interval place before s; kept = b } ∷ rest)) marked
 
 -- bit 0 of a digit
 pub bit-at : (place : ℕ) (os : List Observed) → has_bit_0 place os ≡ (shown_at place os).slip
@@ -44,13 +46,13 @@ slip-is interval place before s os o kept same is marked =
 
 -- ---- what is not observed
 
-abbrev counts_with : Bool → ℕ → ℕ → ℕ → ℕ → ℕ → ℕ → ℕ → Option ℕ → Option ℕ → CodeCounts
-counts_with seen a b c d e f g least greatest =
-    record { seen = seen; phases = a; ranges = b; slips = c; rises = d; halves = e; strengths = f; strength_sum = g; least = least; greatest = greatest }
+abbrev counts_with : Bool → ℕ → ℕ → ℕ → ℕ → ℕ → ℕ → ℕ → ℕ → Option ℕ → Option ℕ → CodeCounts
+counts_with seen a b c r d e f g least greatest =
+    record { seen = seen; phases = a; ranges = b; slips = c; returns = r; rises = d; halves = e; strengths = f; strength_sum = g; least = least; greatest = greatest }
 
-same-counts : (seen : Bool) (a b c d e f g a2 b2 c2 d2 e2 f2 g2 : ℕ) (least greatest : Option ℕ) → a ≡ a2 → b ≡ b2 → c ≡ c2 → d ≡ d2 → e ≡ e2 → f ≡ f2 → g ≡ g2
-    → counts_with seen a b c d e f g least greatest ≡ counts_with seen a2 b2 c2 d2 e2 f2 g2 least greatest
-same-counts seen a b c d e f g a2 b2 c2 d2 e2 f2 g2 least greatest ea eb ec ed ee ef eg = cc
+same-counts : (seen : Bool) (a b c r d e f g a2 b2 c2 r2 d2 e2 f2 g2 : ℕ) (least greatest : Option ℕ) → a ≡ a2 → b ≡ b2 → c ≡ c2 → r ≡ r2 → d ≡ d2 → e ≡ e2 → f ≡ f2 → g ≡ g2
+    → counts_with seen a b c r d e f g least greatest ≡ counts_with seen a2 b2 c2 r2 d2 e2 f2 g2 least greatest
+same-counts seen a b c r d e f g a2 b2 c2 r2 d2 e2 f2 g2 least greatest ea eb ec er ed ee ef eg = cc
 
 plus-none : (test : Noted → Bool) (ns : List Noted) → plus (tally test ns) 0 ≡ tally test ns
 plus-none test [] = refl
@@ -61,13 +63,14 @@ total-none [] = refl
 total-none (n ∷ ns) = omega arith
 
 -- it changes no count
-pub nothing-more : (ns : List Noted) (kept : Bool) → counts_of (record { observed = no_observation; kept = kept } ∷ ns) ≡ counts_of ns
-nothing-more ns kept =
-    same-counts (list_any (λ n. is_observed n.observed) ns) _ _ _ _ _ _ _ _ _ _ _ _ _ _ (least_strength ns) (greatest_strength ns)
+pub nothing-more : (ns : List Noted) (known kept : Bool) → counts_of (record { observed = no_observation; known = known; kept = kept } ∷ ns) ≡ counts_of ns
+nothing-more ns known kept =
+    same-counts (list_any (λ n. is_observed n.observed) ns) _ _ _ _ _ _ _ _ _ _ _ _ _ _ _ _ (least_strength ns) (greatest_strength ns)
     (plus-none (λ n. is_some n.observed.phase_millicycles) ns)
     (plus-none (λ n. is_some n.observed.range_mm && not (is_some n.observed.phase_millicycles)) ns)
     (plus-none (λ n. n.observed.slip && n.kept) ns)
-    (plus-none (λ n. n.observed.slip && not n.kept) ns)
+    (plus-none (λ n. n.observed.slip && (n.known && not n.kept)) ns)
+    (plus-none (λ n. n.observed.slip && not n.known) ns)
     (plus-none (λ n. n.observed.half) ns)
     (plus-none (λ n. is_some n.observed.strength_millidbhz) ns)
     (total-none ns)
@@ -76,8 +79,8 @@ nothing-more ns kept =
 pub code-rest : (interval : Option ℕ) (place : ℕ) (before : List Sighting) (s : Sighting) → length s.observed ≤ place
     → counts_of (noted_of interval place (s ∷ before)) ≡ counts_of (noted_of interval place before)
 code-rest interval place before s past =
-    ap (λ (o : Observed). counts_of (record { observed = o; kept = is_kept interval place before s } ∷ noted_of interval place before)) (get_or_past s.observed place no_observation past)
-    ∙ nothing-more (noted_of interval place before) (is_kept interval place before s)
+    ap (λ (o : Observed). counts_of (record { observed = o; known = is_known interval place before s; kept = is_kept interval place before s } ∷ noted_of interval place before)) (get_or_past s.observed place no_observation past)
+    ∙ nothing-more (noted_of interval place before) (is_known interval place before s) (is_kept interval place before s)
 
 pub no-slip : (interval : Option ℕ) (place : ℕ) (before : List Sighting) (s : Sighting) → length s.observed ≤ place → is_slip interval place before s ≡ false
 no-slip interval place before s past =

@@ -67,3 +67,8 @@ possible_in interval es = fold (λ n satellite. plus n (epochs_in_passes interva
 abbrev pub station_numbers : ℕ → CodeNumbers → CodeNumbers
 station_numbers possible totals =
     if totals.counts.seen then totals else record { counts = totals.counts; possible = possible; satellites = 0 }
+
+-- formula
+-- the numbers of the code at a place for the station
+abbrev pub station_of : Option ℕ → List EpochTableView → ℕ → CodeNumbers
+station_of interval es place = station_numbers (possible_in interval es) (totals_of interval es place)

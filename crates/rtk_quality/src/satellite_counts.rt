@@ -8,7 +8,7 @@ ghost use Rattle.rtk_tracking.specs.Standing.{AreMarked, AreKnown};
 ghost use Rattle.rtk_tracking.specs.Epochs.{shown_at};
 ghost use Rattle.rtk_quality.specs.Counts.{plus, code_counts_of};
 ghost use Rattle.rtk_quality.specs.Quality.{numbers_of, is_in_file};
-ghost use Rattle.rtk_quality.specs.SatellitePasses.{phases_in, slips_at};
+ghost use Rattle.rtk_quality.specs.SatellitePasses.{phases_in, slips_at, epochs_in_passes};
 ghost use Rattle.rtk_quality.specs.Standing.{with_epoch, absent_at, StandsForSatellite, StandsForEnded};
 
 use crate::code_counts::CodeCounts;
@@ -156,6 +156,13 @@ impl SatelliteCounts {
             possible: self.in_passes,
             satellites: 1,
         }
+    }
+
+    /// How many phases could be there of each code.
+    pub(crate) fn possible(&self) -> u64
+        ensures { (interval : Option ℕ) (before : List Sighting) → StandsForSatellite self.now interval before → result ≡ epochs_in_passes interval before }
+    {
+        self.in_passes
     }
 
     /// Has the satellite a code?

@@ -1,8 +1,8 @@
 use Rattle.std.proofs.Common.{◌≡◌, ◌∷◌, ℕ, Bool, true, false, cond, not, ◌&&◌, Option, Some, None, refl, sym, ap, subst, ◌∙◌}
 use Rattle.rtk_obs.specs.declared.time.Civil.{Civil}
 use Rattle.rtk_rinex.specs.Reading.{reading_of}
-use Rattle.rtk_tracking.specs.Passes.{Sighting, has_phase, last_phase, is_away, begins_pass, is_kept}
-use Rattle.rtk_tracking.specs.Standing.{AreMarked, StandsForPass}
+use Rattle.rtk_tracking.specs.Passes.{Sighting, has_phase, last_phase, is_away, begins_pass}
+use Rattle.rtk_tracking.specs.Standing.{AreKnown, StandsForPass}
 use Rattle.rtk_tracking.specs.declared.passes.Pass.{Pass}
 use Rattle.rtk_quality.specs.Counts.{plus}
 use Rattle.rtk_quality.specs.SatellitePasses.{phases_in, slips_at, passes_of, epochs_since_phase, epochs_in_passes}
@@ -18,8 +18,8 @@ returns-then-not-has_phase-clause-stands c = λ before absent last.
     let at : c.ms-time_ms.result ≡ c.args.time = c.ms-time_ms.ensures.value in
     let s : Sighting = record { time = c.args.time; observed = c.args.observed.now } in
     let none : has_phase s.observed ≡ false = sym c.has_phase.ensures ∙ c.if-not-has_phase.true in
-    let marked : AreMarked c.known-known.result.kept (λ place. is_kept interval place before s) =
-    subst (λ (t : ℕ). AreMarked c.known-known.result.kept (λ place. is_kept interval place before (record { time = t; observed = c.args.observed.now }))) at (c.known-known.ensures before stands.pass last).kept in
+    let marked : AreKnown c.known-known.result interval before s =
+    subst (λ (t : ℕ). AreKnown c.known-known.result interval before (record { time = t; observed = c.args.observed.now })) at (c.known-known.ensures before stands.pass last) in
     record {
       pass = subst (λ (t : ℕ). StandsForPass c.note.new.self interval (record { time = t; observed = c.args.observed.now } ∷ before)) at (c.note.ensures before stands.pass last);
       codes = c.note_codes.ensures interval before s refl marked stands.codes;
@@ -44,11 +44,11 @@ returns-clause-stands c = λ before absent last.
     let at : c.ms-time_ms.result ≡ c.args.time = c.ms-time_ms.ensures.value in
     let s : Sighting = record { time = c.args.time; observed = c.args.observed.now } in
     let has : has_phase s.observed ≡ true = sym c.has_phase.ensures ∙ c.if-not-has_phase.false in
-    let marked : AreMarked c.known-known.result.kept (λ place. is_kept interval place before s) =
-    subst (λ (t : ℕ). AreMarked c.known-known.result.kept (λ place. is_kept interval place before (record { time = t; observed = c.args.observed.now }))) at (c.known-known.ensures before stands.pass last).kept in
+    let marked : AreKnown c.known-known.result interval before s =
+    subst (λ (t : ℕ). AreKnown c.known-known.result interval before (record { time = t; observed = c.args.observed.now })) at (c.known-known.ensures before stands.pass last) in
     let begins : c.begins-begins.result ≡ begins_pass interval before s =
     c.begins-begins.ensures before stands.pass ∙ ap (λ (t : ℕ). begins_pass interval before (record { time = t; observed = c.args.observed.now })) at in
-    let slips : c.slips_in-slips.result ≡ slips_at interval before s = c.slips_in-slips.ensures interval before s refl marked in
+    let slips : c.slips_in-slips.result ≡ slips_at interval before s = c.slips_in-slips.ensures interval before s refl marked.kept in
     let n = c.note_phases.ensures in
     record {
       pass = subst (λ (p : Pass). StandsForPass p interval (s ∷ before)) (sym n.pass)
