@@ -12,8 +12,9 @@ use Rattle.rtk_tracking.specs.Standing.{StandsForPass}
 use Rattle.rtk_tracking.specs.Epochs.{shown_at}
 use Rattle.rtk_rinex.specs.Record.{no_observation}
 use Rattle.rtk_quality.specs.Counts.{plus, Noted, is_observed, noted_of, tally, strength_total, least_strength, greatest_strength, counts_of, code_counts_of}
-use Rattle.rtk_quality.specs.SatellitePasses.{phases_in, slips_at, longer, passes_of, epochs_since_phase, epochs_in_passes}
+use Rattle.rtk_quality.specs.SatellitePasses.{sums_at, sums_plus, sums_in, longer, passes_of, epochs_since_phase, epochs_in_passes}
 use Rattle.rtk_quality.specs.Standing.{newest_pass, with_epoch, absent_at, StandsForSatellite}
+use Rattle.rtk_quality.specs.declared.pass_sums.PassSums.{PassSums}
 use Rattle.rtk_quality.specs.declared.satellite_counts.PassCounts.{PassCounts}
 use Rattle.rtk_quality.specs.declared.satellite_counts.SatelliteCounts.{SatelliteCounts}
 use Rattle.rtk_quality.specs.declared.code_counts.CodeCounts.{CodeCounts}
@@ -103,6 +104,7 @@ pub record IsBeforeRow (s : SatelliteCounts) (interval : Option ℕ) (before : L
   pub in_passes : s.in_passes ≡ epochs_in_passes interval before
   pub since_phase : s.since_phase ≡ plus (epochs_since_phase before) 1
   pub last : s.last ≡ newest_pass (passes_of interval before)
+  pub sums : s.sums ≡ sums_in interval before
 
 pub before-row : (s : SatelliteCounts) (interval : Option ℕ) (t : ℕ) (before : List Sighting) → StandsForSatellite s interval (absent_at t ∷ before) → IsBeforeRow s interval before
 before-row s interval t before stands = record {
@@ -111,6 +113,7 @@ before-row s interval t before stands = record {
   in_passes = stands.in_passes;
   since_phase = stands.since_phase;
   last = stands.last;
+  sums = stands.sums;
 }
 
 -- ---- passes
@@ -131,23 +134,23 @@ had-last interval before s has goes_on =
     ]
 
 pub begun-passes : (interval : Option ℕ) (before : List Sighting) (s : Sighting) → has_phase s.observed ≡ true → begins_pass interval before s ≡ true
-    → passes_of interval (s ∷ before) ≡ record { from = reading_of s.time; until = reading_of s.time; phases = phases_in s.observed; slips = slips_at interval before s } ∷ passes_of interval before
+    → passes_of interval (s ∷ before) ≡ record { from = reading_of s.time; until = reading_of s.time; sums = sums_at interval before s } ∷ passes_of interval before
 begun-passes interval before s has begins =
-    let begun : List PassCounts = record { from = reading_of s.time; until = reading_of s.time; phases = phases_in s.observed; slips = slips_at interval before s } ∷ passes_of interval before in
-    let on : List PassCounts = longer s (slips_at interval before s) (passes_of interval before) in
+    let begun : List PassCounts = record { from = reading_of s.time; until = reading_of s.time; sums = sums_at interval before s } ∷ passes_of interval before in
+    let on : List PassCounts = longer s (sums_at interval before s) (passes_of interval before) in
     ap (λ (b : Bool). cond (not b) (passes_of interval before) (cond (begins_pass interval before s) begun on)) has ∙ ap (λ (b : Bool). cond b begun on) begins
 
 pub longer-passes : (interval : Option ℕ) (before : List Sighting) (s : Sighting) → has_phase s.observed ≡ true → begins_pass interval before s ≡ false
-    → passes_of interval (s ∷ before) ≡ longer s (slips_at interval before s) (passes_of interval before)
+    → passes_of interval (s ∷ before) ≡ longer s (sums_at interval before s) (passes_of interval before)
 longer-passes interval before s has goes_on =
-    let begun : List PassCounts = record { from = reading_of s.time; until = reading_of s.time; phases = phases_in s.observed; slips = slips_at interval before s } ∷ passes_of interval before in
-    let on : List PassCounts = longer s (slips_at interval before s) (passes_of interval before) in
+    let begun : List PassCounts = record { from = reading_of s.time; until = reading_of s.time; sums = sums_at interval before s } ∷ passes_of interval before in
+    let on : List PassCounts = longer s (sums_at interval before s) (passes_of interval before) in
     ap (λ (b : Bool). cond (not b) (passes_of interval before) (cond (begins_pass interval before s) begun on)) has ∙ ap (λ (b : Bool). cond b begun on) goes_on
 
 pub same-passes : (interval : Option ℕ) (before : List Sighting) (s : Sighting) → has_phase s.observed ≡ false → passes_of interval (s ∷ before) ≡ passes_of interval before
 same-passes interval before s none =
-    let begun : List PassCounts = record { from = reading_of s.time; until = reading_of s.time; phases = phases_in s.observed; slips = slips_at interval before s } ∷ passes_of interval before in
-    let on : List PassCounts = longer s (slips_at interval before s) (passes_of interval before) in
+    let begun : List PassCounts = record { from = reading_of s.time; until = reading_of s.time; sums = sums_at interval before s } ∷ passes_of interval before in
+    let on : List PassCounts = longer s (sums_at interval before s) (passes_of interval before) in
     ap (λ (b : Bool). cond (not b) (passes_of interval before) (cond (begins_pass interval before s) begun on)) none
 
 -- a satellite with a phase has a pass
@@ -160,37 +163,36 @@ has-pass interval (s ∷ before) t had =
           (rest.0, rest.1, same-passes interval before s none ∙ rest.2)
       | inl has ↦
           elim (cases_Bool (begins_pass interval before s)) [
-            | inl begins ↦ (record { from = reading_of s.time; until = reading_of s.time; phases = phases_in s.observed; slips = slips_at interval before s }, passes_of interval before, begun-passes interval before s has begins)
+            | inl begins ↦ (record { from = reading_of s.time; until = reading_of s.time; sums = sums_at interval before s }, passes_of interval before, begun-passes interval before s has begins)
             | inr goes_on ↦
                 let last = had-last interval before s has goes_on in
                 let rest = has-pass interval before last.0 last.1 in (
-                  record { from = rest.0.from; until = reading_of s.time; phases = plus rest.0.phases (phases_in s.observed); slips = plus rest.0.slips (slips_at interval before s) },
+                  record { from = rest.0.from; until = reading_of s.time; sums = sums_plus rest.0.sums (sums_at interval before s) },
                   rest.1,
-                  longer-passes interval before s has goes_on ∙ ap (λ (ps : List PassCounts). longer s (slips_at interval before s) ps) rest.2,
+                  longer-passes interval before s has goes_on ∙ ap (λ (ps : List PassCounts). longer s (sums_at interval before s) ps) rest.2,
                 )
           ]
     ]
 
-begun-is : (last : Option PassCounts) (reading : Civil) (phases slips : ℕ) → with_epoch last true reading phases slips ≡ record { from = reading; until = reading; phases = phases; slips = slips }
-begun-is None reading phases slips = refl
-begun-is (Some p) reading phases slips = refl
+begun-is : (last : Option PassCounts) (reading : Civil) (sums : PassSums) → with_epoch last true reading sums ≡ record { from = reading; until = reading; sums = sums }
+begun-is None reading sums = refl
+begun-is (Some p) reading sums = refl
 
 -- the last pass, an epoch more
 pub last-more : (interval : Option ℕ) (before : List Sighting) (s : Sighting) (last : Option PassCounts) → last ≡ newest_pass (passes_of interval before) → has_phase s.observed ≡ true
-    → Some (with_epoch last (begins_pass interval before s) (reading_of s.time) (phases_in s.observed) (slips_at interval before s)) ≡ newest_pass (passes_of interval (s ∷ before))
+    → Some (with_epoch last (begins_pass interval before s) (reading_of s.time) (sums_at interval before s)) ≡ newest_pass (passes_of interval (s ∷ before))
 last-more interval before s last was has =
-    let phases : ℕ = phases_in s.observed in
-    let slips : ℕ = slips_at interval before s in
+    let sums : PassSums = sums_at interval before s in
     elim (cases_Bool (begins_pass interval before s)) [
       | inl begins ↦
-          ap (λ (b : Bool). Some (with_epoch last b (reading_of s.time) phases slips)) begins ∙ ap Some (begun-is last (reading_of s.time) phases slips)
+          ap (λ (b : Bool). Some (with_epoch last b (reading_of s.time) sums)) begins ∙ ap Some (begun-is last (reading_of s.time) sums)
           ∙ sym (ap newest_pass (begun-passes interval before s has begins))
       | inr goes_on ↦
           let seen = had-last interval before s has goes_on in
           let had = has-pass interval before seen.0 seen.1 in
-          ap (λ (b : Bool). Some (with_epoch last b (reading_of s.time) phases slips)) goes_on
-          ∙ ap (λ (o : Option PassCounts). Some (with_epoch o false (reading_of s.time) phases slips)) (was ∙ ap newest_pass had.2)
-          ∙ sym (ap newest_pass (longer-passes interval before s has goes_on ∙ ap (λ (ps : List PassCounts). longer s slips ps) had.2))
+          ap (λ (b : Bool). Some (with_epoch last b (reading_of s.time) sums)) goes_on
+          ∙ ap (λ (o : Option PassCounts). Some (with_epoch o false (reading_of s.time) sums)) (was ∙ ap newest_pass had.2)
+          ∙ sym (ap newest_pass (longer-passes interval before s has goes_on ∙ ap (λ (ps : List PassCounts). longer s sums ps) had.2))
     ]
 
 -- the epochs in passes, an epoch more

@@ -12,11 +12,12 @@ use Rattle.rtk_tracking.specs.Epochs.{capped, shown_at}
 use Rattle.rtk_tracking.specs.Passes.{Sighting, sightings_of, has_phase, begins_pass, is_known, is_kept}
 use Rattle.rtk_tracking.proofs.PublicLaws.{each-bit}
 use Rattle.rtk_quality.specs.Counts.{Noted, noted_of, plus, tally, strength_total, counts_of, rounded_fraction, mean_hundredths}
-use Rattle.rtk_quality.specs.SatellitePasses.{phases_in, slips_at, longer, passes_of, epochs_since_phase, epochs_in_passes}
+use Rattle.rtk_quality.specs.SatellitePasses.{phases_in, sums_at, sums_plus, longer, passes_of, epochs_since_phase, epochs_in_passes}
 use Rattle.rtk_quality.specs.Records.{rows_of, rows_total}
 use Rattle.rtk_quality.specs.Quality.{numbers_of, no_numbers, together, with_satellite, totals_of}
 use Rattle.rtk_quality.specs.Laws.{CountsHideNothing, EachIsCounted, strength_or_0, sum_of_strengths, mean_of_strengths, MeanIsOfAll, number_if_seen, count_in_passes, EachInPassIsCounted, PhasesAreInPasses, sum_of_satellites, IsTotal, TotalsAreSums, RowsAreSum}
 use Rattle.rtk_quality.specs.declared.code_numbers.CodeNumbers.{CodeNumbers}
+use Rattle.rtk_quality.specs.declared.pass_sums.PassSums.{PassSums}
 use Rattle.rtk_quality.specs.declared.satellite_counts.PassCounts.{PassCounts}
 use Rattle.rtk_quality.proofs.CountLemmas.{bit-at, had-last, begun-passes, longer-passes, same-passes, has-pass}
 
@@ -103,12 +104,12 @@ in-length interval on (s ∷ before) = elim (cases_Bool (has_phase s.observed)) 
   | inl has ↦
       let rest = in-length interval (not (begins_pass interval before s)) before in
       let is : count_in_passes interval on (s ∷ before) ≡ count_in_passes interval (not (begins_pass interval before s)) before + 1 =
-      ap (λ (b : Bool). cond b (count_in_passes interval (not (begins_pass interval before s)) before + 1) (count_in_passes interval on before + cond on 1 0)) has in
+          ap (λ (b : Bool). cond b (count_in_passes interval (not (begins_pass interval before s)) before + 1) (count_in_passes interval on before + cond on 1 0)) has in
       omega (arith, rest, is)
   | inr none ↦
       let rest = in-length interval on before in
       let is : count_in_passes interval on (s ∷ before) ≡ count_in_passes interval on before + cond on 1 0 =
-      ap (λ (b : Bool). cond b (count_in_passes interval (not (begins_pass interval before s)) before + 1) (count_in_passes interval on before + cond on 1 0)) none in
+          ap (λ (b : Bool). cond b (count_in_passes interval (not (begins_pass interval before s)) before + 1) (count_in_passes interval on before + cond on 1 0)) none in
       let one = at-most-one on in
       omega (arith, rest, is, one)
 ]
@@ -205,19 +206,19 @@ no-phases (o ∷ os) none =
 
 -- the phases of passes
 abbrev of-passes : List PassCounts → ℕ
-of-passes ps = sum_by (λ p. p.phases) ps
+of-passes ps = sum_by (λ p. p.sums.phases) ps
 
 -- all phases
 abbrev of-epochs : List Sighting → ℕ
 of-epochs before = sum_by (λ s. phases_in s.observed) before
 
 -- the newest pass gets the phases of one epoch more
-newest-longer : (s : Sighting) (slips : ℕ) (passes : List PassCounts) (p : PassCounts) (ps : List PassCounts) → passes ≡ p ∷ ps
-    → of-passes passes + phases_in s.observed < 2 ^ 64 → of-passes (longer s slips passes) ≡ of-passes passes + phases_in s.observed
-newest-longer s slips passes p ps are fits =
-    let q : PassCounts = record { from = p.from; until = reading_of s.time; phases = plus p.phases (phases_in s.observed); slips = plus p.slips slips } in
-    let was : of-passes passes ≡ p.phases + of-passes ps = ap (λ (xs : List PassCounts). of-passes xs) are ∙ sum_by-cons (λ x. x.phases) p ps in
-    let is : of-passes (longer s slips passes) ≡ q.phases + of-passes ps = ap (λ (xs : List PassCounts). of-passes (longer s slips xs)) are ∙ sum_by-cons (λ x. x.phases) q ps in
+newest-longer : (s : Sighting) (sums : PassSums) (passes : List PassCounts) (p : PassCounts) (ps : List PassCounts) → passes ≡ p ∷ ps
+    → of-passes passes + sums.phases < 2 ^ 64 → of-passes (longer s sums passes) ≡ of-passes passes + sums.phases
+newest-longer s sums passes p ps are fits =
+    let q : PassCounts = record { from = p.from; until = reading_of s.time; sums = sums_plus p.sums sums } in
+    let was : of-passes passes ≡ p.sums.phases + of-passes ps = ap (λ (xs : List PassCounts). of-passes xs) are ∙ sum_by-cons (λ x. x.sums.phases) p ps in
+    let is : of-passes (longer s sums passes) ≡ q.sums.phases + of-passes ps = ap (λ (xs : List PassCounts). of-passes (longer s sums xs)) are ∙ sum_by-cons (λ x. x.sums.phases) q ps in
     omega (arith, was, is, fits)
 
 pub phases-in-passes : PhasesAreInPasses
@@ -233,16 +234,16 @@ phases-in-passes interval (s ∷ before) few =
       | inl has ↦
           elim (cases_Bool (begins_pass interval before s)) [
             | inl begins ↦
-                let p : PassCounts = record { from = reading_of s.time; until = reading_of s.time; phases = phases_in s.observed; slips = slips_at interval before s } in
-                let more : of-passes (passes_of interval (s ∷ before)) ≡ p.phases + of-passes (passes_of interval before) =
-                ap (λ (ps : List PassCounts). of-passes ps) (begun-passes interval before s has begins) ∙ sum_by-cons (λ x. x.phases) p (passes_of interval before) in
+                let p : PassCounts = record { from = reading_of s.time; until = reading_of s.time; sums = sums_at interval before s } in
+                let more : of-passes (passes_of interval (s ∷ before)) ≡ p.sums.phases + of-passes (passes_of interval before) =
+                    ap (λ (ps : List PassCounts). of-passes ps) (begun-passes interval before s has begins) ∙ sum_by-cons (λ x. x.sums.phases) p (passes_of interval before) in
                 omega (arith, all, was, more)
             | inr goes_on ↦
                 let last = had-last interval before s has goes_on in
                 let newest = has-pass interval before last.0 last.1 in
-                let more : of-passes (passes_of interval (s ∷ before)) ≡ of-passes (longer s (slips_at interval before s) (passes_of interval before)) =
-                ap (λ (ps : List PassCounts). of-passes ps) (longer-passes interval before s has goes_on) in
-                let longest = newest-longer s (slips_at interval before s) (passes_of interval before) newest.0 newest.1 newest.2 (omega (arith, few, all, was)) in
+                let more : of-passes (passes_of interval (s ∷ before)) ≡ of-passes (longer s (sums_at interval before s) (passes_of interval before)) =
+                    ap (λ (ps : List PassCounts). of-passes ps) (longer-passes interval before s has goes_on) in
+                let longest = newest-longer s (sums_at interval before s) (passes_of interval before) newest.0 newest.1 newest.2 (omega (arith, few, all, was)) in
                 omega (arith, all, was, more, longest)
           ]
     ]
@@ -267,7 +268,7 @@ folded number added own (k ∷ ks) total fits =
       | inl seen ↦
           let here : number_if_seen number (own k) ≡ number (own k) = ap (λ (b : Bool). cond b (number (own k)) 0) seen in
           let step : number (with_satellite total (own k)) ≡ plus (number total) (number (own k)) =
-          ap (λ (b : Bool). number (cond b (joined total (own k)) total)) seen ∙ added.1 total (own k) in
+              ap (λ (b : Bool). number (cond b (joined total (own k)) total)) seen ∙ added.1 total (own k) in
           let rest = folded number added own ks (with_satellite total (own k)) (omega (arith, fits, more, here, step)) in
           omega (arith, fits, more, here, step, rest)
       | inr not_seen ↦

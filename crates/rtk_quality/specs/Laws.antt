@@ -58,7 +58,7 @@ EachInPassIsCounted = (interval : Option ℕ) (before : List Sighting) → lengt
 abbrev pub PhasesAreInPasses : Type 0
 PhasesAreInPasses =
     (interval : Option ℕ) (before : List Sighting) → sum_by (λ s. phases_in s.observed) before < 2 ^ 64
-    → sum_by (λ p. p.phases) (passes_of interval before) ≡ sum_by (λ s. phases_in s.observed) before
+    → sum_by (λ p. p.sums.phases) (passes_of interval before) ≡ sum_by (λ s. phases_in s.observed) before
 
 -- a number of a code of a satellite, which is 0 if the satellite has the code nowhere
 abbrev pub number_if_seen : (CodeNumbers → ℕ) → CodeNumbers → ℕ

@@ -5,8 +5,9 @@ use Rattle.rtk_rinex.specs.Record.{EpochTableView}
 use Rattle.rtk_tracking.specs.Extremes.{lesser, greater}
 use Rattle.rtk_tracking.specs.Passes.{Sighting, sightings_of}
 use Rattle.rtk_quality.specs.Counts.{plus, noted_of, counts_of}
-use Rattle.rtk_quality.specs.SatellitePasses.{epochs_in_passes}
+use Rattle.rtk_quality.specs.SatellitePasses.{no_sums, sums_plus, sums_in, epochs_in_passes}
 use Rattle.rtk_quality.specs.declared.code_counts.CodeCounts.{CodeCounts}
+use Rattle.rtk_quality.specs.declared.pass_sums.PassSums.{PassSums}
 use Rattle.rtk_quality.specs.declared.code_numbers.CodeNumbers.{CodeNumbers}
 
 -- formula
@@ -56,6 +57,11 @@ with_satellite total own =
 unfoldable pub totals_of : Option ℕ → List EpochTableView → ℕ → CodeNumbers
 totals_of interval es place =
     fold (λ total satellite. with_satellite total (numbers_of interval (sightings_of satellite es) place)) no_numbers (range_with_len 1 32)
+
+-- formula
+-- the sums of all satellites
+unfoldable pub station_sums : Option ℕ → List EpochTableView → PassSums
+station_sums interval es = fold (λ sums satellite. sums_plus sums (sums_in interval (sightings_of satellite es))) no_sums (range_with_len 1 32)
 
 -- how many phases could be there of a code that each satellite sends
 unfoldable pub possible_in : Option ℕ → List EpochTableView → ℕ

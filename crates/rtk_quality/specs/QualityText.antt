@@ -12,19 +12,20 @@ use Rattle.rtk_tracking.specs.Epochs.{newest_first}
 use Rattle.rtk_tracking.specs.Interval.{interval_of_file}
 use Rattle.rtk_tracking.specs.Passes.{Sighting, sightings_of}
 use Rattle.rtk_quality.specs.Counts.{percent_tenths, phases_per_slip, mean_hundredths, mean_tenths}
-use Rattle.rtk_quality.specs.SatellitePasses.{passes_of}
+use Rattle.rtk_quality.specs.SatellitePasses.{sums_in, passes_of}
 use Rattle.rtk_quality.specs.Records.{unit_of, record_counts_of}
-use Rattle.rtk_quality.specs.Quality.{numbers_of, station_of, is_in_file, satellites_in}
+use Rattle.rtk_quality.specs.Quality.{numbers_of, station_of, station_sums, is_in_file, satellites_in}
 use Rattle.rtk_quality.specs.Forms.{in_form, value_text, moment_text, name_text, start_text, end_text, json_text}
 use Rattle.rtk_quality.specs.declared.form.Form.{Form}
 use Rattle.rtk_quality.specs.declared.form.Decimals.TheVariants.{Whole, Tenths, Hundredths, Thousandths}
 use Rattle.rtk_quality.specs.declared.sections.Section.{Section}
-use Rattle.rtk_quality.specs.declared.sections.Section.TheVariants.{Codes, Never, Passes}
+use Rattle.rtk_quality.specs.declared.sections.Section.TheVariants.{Codes, Tracked, Never, Passes}
 use Rattle.rtk_quality.specs.declared.code_counts.CodeCounts.{CodeCounts}
 use Rattle.rtk_quality.specs.declared.code_numbers.CodeNumbers.{CodeNumbers}
 use Rattle.rtk_quality.specs.declared.code_numbers.PerSlip.{PerSlip}
 use Rattle.rtk_quality.specs.declared.code_numbers.PerSlip.TheVariants.{NoPhase, NoneLost, Each}
 use Rattle.rtk_quality.specs.declared.record_counts.RecordCounts.{RecordCounts}
+use Rattle.rtk_quality.specs.declared.pass_sums.PassSums.{PassSums}
 use Rattle.rtk_quality.specs.declared.satellite_counts.PassCounts.{PassCounts}
 
 -- ---- one line
@@ -98,13 +99,26 @@ unfoldable pub never_line : Form → ℕ → Code → List ℕ
 never_line form satellite code =
     start_text form (codes "never") ++ satellite_name form satellite ++ code_name form code ++ end_text form
 
+-- formula
+-- phases, slips and the moments at which they are, and outages with their time in seconds
+unfoldable pub sums_text : Form → PassSums → List ℕ
+sums_text form s =
+    value_text form (codes " phases ") (codes ",\"phases\":") Whole (Some s.phases)
+    ++ value_text form (codes " slips ") (codes ",\"slips\":") Whole (Some s.slips)
+    ++ value_text form (codes " moments ") (codes ",\"moments\":") Whole (Some s.moments)
+    ++ value_text form (codes " outages ") (codes ",\"outages\":") Whole (Some s.outages)
+    ++ value_text form (codes " outage-time ") (codes ",\"outage_time_ms\":") Thousandths (Some s.outage_ms)
+
+-- the line of all codes of a satellite
+unfoldable pub tracked_line : Form → ℕ → PassSums → List ℕ
+tracked_line form satellite s = start_text form (codes "tracked") ++ satellite_name form satellite ++ sums_text form s ++ end_text form
+
 -- the line of a pass
 unfoldable pub pass_line : Form → ℕ → PassCounts → List ℕ
 pass_line form satellite p =
     start_text form (codes "pass") ++ satellite_name form satellite
     ++ moment_text form (codes " from ") (codes ",\"from\":") p.from ++ moment_text form (codes " until ") (codes ",\"until\":") p.until
-    ++ value_text form (codes " phases ") (codes ",\"phases\":") Whole (Some p.phases)
-    ++ value_text form (codes " slips ") (codes ",\"slips\":") Whole (Some p.slips) ++ end_text form
+    ++ sums_text form p.sums ++ end_text form
 
 -- ---- the lines of codes and satellites
 
@@ -118,13 +132,16 @@ each_code line at (c ∷ cs) = line at c ++ each_code line (at + 1) cs
 abbrev pub code_in : Form → Section → ℕ → Code → CodeNumbers → List ℕ
 code_in form Codes satellite code n = if n.counts.seen then satellite_line form satellite code n else []
 code_in form Never satellite code n = if n.counts.seen then [] else never_line form satellite code
+code_in form Tracked satellite code n = []
 code_in form Passes satellite code n = []
 
 -- formula
--- what a section has of a satellite: its codes; the codes that it has nowhere, if it has any; its passes,
--- from the first to the last
+-- what a section has of a satellite: its codes; the sums of all its codes, if it has any; the codes that it
+-- has nowhere, if it has any; its passes, from the first to the last
 abbrev pub part_of : Form → Section → List Code → Option ℕ → List Sighting → ℕ → List ℕ
 part_of form Codes listed interval before satellite = each_code (λ place code. code_in form Codes satellite code (numbers_of interval before place)) 0 listed
+part_of form Tracked listed interval before satellite =
+    if is_in_file interval before then tracked_line form satellite (sums_in interval before) else []
 part_of form Never listed interval before satellite =
     if is_in_file interval before
     then each_code (λ place code. code_in form Never satellite code (numbers_of interval before place)) 0 listed
@@ -162,10 +179,19 @@ satellites_text form satellites r =
     ++ value_text form (codes "\nmean-satellites ") (codes ",\"mean_satellites_tenths\":") Tenths (mean_tenths r.rows r.records)
     ++ value_text form (codes "\ngreatest-satellites ") (codes ",\"greatest_satellites\":") Whole r.most_rows
 
+-- formula
+-- the slips of all satellites, their moments, and their outages
+unfoldable pub station_text : Form → PassSums → List ℕ
+station_text form s =
+    value_text form (codes "\nslips ") (codes ",\"slips\":") Whole (Some s.slips)
+    ++ value_text form (codes "\nmoments ") (codes ",\"moments\":") Whole (Some s.moments)
+    ++ value_text form (codes "\noutages ") (codes ",\"outages\":") Whole (Some s.outages)
+    ++ value_text form (codes "\noutage-time ") (codes ",\"outage_time_ms\":") Thousandths (Some s.outage_ms)
+
 -- the lines of the whole file
-unfoldable pub heading_text : Form → List ℕ → Civil → Civil → Option ℕ → ℕ → RecordCounts → List ℕ
-heading_text form marker from until interval satellites r =
-    marker_text form marker ++ span_text form from until interval r ++ satellites_text form satellites r ++ end_text form
+unfoldable pub heading_text : Form → List ℕ → Civil → Civil → Option ℕ → ℕ → RecordCounts → PassSums → List ℕ
+heading_text form marker from until interval satellites r s =
+    marker_text form marker ++ span_text form from until interval r ++ satellites_text form satellites r ++ station_text form s ++ end_text form
 
 -- the end of the document
 abbrev pub close_text : Form → List ℕ
@@ -176,9 +202,9 @@ close_text form = in_form form [] (codes "\n]\n")
 unfoldable pub quality_text : Form → List ℕ → List Code → ℕ → ℕ → Option ℕ → List EpochTableView → List ℕ
 quality_text form marker listed first last interval es =
     heading_text form marker (reading_of first) (reading_of last) interval (satellites_in interval es)
-    (record_counts_of (unit_of interval) es)
+    (record_counts_of (unit_of interval) es) (station_sums interval es)
     ++ each_code (λ place code. code_line form code (satellites_in interval es) (station_of interval es place)) 0 listed
-    ++ section_text form Codes listed interval es ++ section_text form Never listed interval es ++ section_text form Passes listed interval es
+    ++ section_text form Codes listed interval es ++ section_text form Tracked listed interval es ++ section_text form Never listed interval es ++ section_text form Passes listed interval es
     ++ close_text form
 
 -- a file without records has no other numbers

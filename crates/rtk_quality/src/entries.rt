@@ -2,7 +2,7 @@
 
 ghost use Rattle.std.specs.Prelude.{◌≡◌, ◌++◌, Some, OnOk};
 ghost use Rattle.rtk_quality.specs.Forms.{in_form, value_text};
-ghost use Rattle.rtk_quality.specs.QualityText.{phases_text, having_text, per_slip_text, locks_text, strengths_text, counts_text, code_name, satellite_name, code_line, satellite_line, never_line, pass_line};
+ghost use Rattle.rtk_quality.specs.QualityText.{phases_text, having_text, per_slip_text, locks_text, strengths_text, counts_text, code_name, satellite_name, code_line, satellite_line, sums_text, tracked_line, never_line, pass_line};
 ghost use Rattle.rtk_quality.specs.declared.form.Decimals.TheVariants.{Whole};
 
 use crate::code_counts::CodeCounts;
@@ -10,6 +10,7 @@ use crate::code_numbers::{CodeNumbers, PerSlip, mean_hundredths, percent_tenths,
 use crate::form::{
     Decimals, Form, put_end, put_moment, put_name, put_narrow, put_start, put_value,
 };
+use crate::pass_sums::PassSums;
 use crate::satellite_counts::PassCounts;
 use rtk_obs::{Code, two_digits};
 use std::alloc::AllocError;
@@ -249,6 +250,41 @@ pub(crate) fn put_never_line(
     put_end(text, form)
 }
 
+// Appends the sums of a pass or of a satellite.
+#[tactic(auto, unfolding(crate::specs::QualityText::sums_text))]
+fn put_sums(text: &mut Vec<u8>, form: Form, sums: &PassSums) -> Result<(), AllocError>
+    ensures { OnOk result (text.new.items ≡ text.old.items ++ sums_text form sums.now) }
+{
+    put_count(text, form, b" phases ", b",\"phases\":", sums.phases)?;
+    put_count(text, form, b" slips ", b",\"slips\":", sums.slips)?;
+    put_count(text, form, b" moments ", b",\"moments\":", sums.moments)?;
+    put_count(text, form, b" outages ", b",\"outages\":", sums.outages)?;
+    put_value(
+        text,
+        form,
+        b" outage-time ",
+        b",\"outage_time_ms\":",
+        Decimals::Thousandths,
+        Some(sums.outage_ms),
+    )
+}
+
+/// Appends the line of all codes of a satellite.
+#[tactic(auto, unfolding(crate::specs::QualityText::tracked_line))]
+pub(crate) fn put_tracked_line(
+    text: &mut Vec<u8>,
+    form: Form,
+    satellite: u8,
+    sums: &PassSums,
+) -> Result<(), AllocError>
+    ensures { OnOk result (text.new.items ≡ text.old.items ++ tracked_line form satellite sums.now) }
+{
+    put_start(text, form, b"tracked")?;
+    put_satellite_name(text, form, satellite)?;
+    put_sums(text, form, sums)?;
+    put_end(text, form)
+}
+
 /// Appends the line of a pass.
 #[tactic(auto, unfolding(crate::specs::QualityText::pass_line))]
 pub(crate) fn put_pass_line(
@@ -263,7 +299,6 @@ pub(crate) fn put_pass_line(
     put_satellite_name(text, form, satellite)?;
     put_moment(text, form, b" from ", b",\"from\":", pass.from)?;
     put_moment(text, form, b" until ", b",\"until\":", pass.until)?;
-    put_count(text, form, b" phases ", b",\"phases\":", pass.phases)?;
-    put_count(text, form, b" slips ", b",\"slips\":", pass.slips)?;
+    put_sums(text, form, &pass.sums)?;
     put_end(text, form)
 }

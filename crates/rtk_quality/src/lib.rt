@@ -56,6 +56,7 @@ mod file_counts;
 mod form;
 mod heading;
 mod laws;
+mod pass_sums;
 mod record_counts;
 mod satellite_counts;
 mod sections;

@@ -9,7 +9,9 @@ ghost use Rattle.rtk_quality.specs.QualityText.{code_line, pass_line, each_code,
 ghost use Rattle.rtk_quality.specs.Standing.{ended_of, StandsForSatellite, HasEnded, StandForSatellites, StandForEnded};
 
 use crate::code_numbers::CodeNumbers;
-use crate::entries::{put_code_line, put_never_line, put_pass_line, put_satellite_line};
+use crate::entries::{
+    put_code_line, put_never_line, put_pass_line, put_satellite_line, put_tracked_line,
+};
 use crate::file_counts::{EndedPass, possible_in, satellites_in, totals_of};
 use crate::form::Form;
 use crate::satellite_counts::SatelliteCounts;
@@ -21,6 +23,8 @@ use std::alloc::AllocError;
 pub(crate) enum Section {
     /// The codes that it has.
     Codes,
+    /// The sums of all its codes.
+    Tracked,
     /// The codes of the file that it has nowhere.
     Never,
     /// Its passes.
@@ -140,7 +144,8 @@ fn put_part(
 {
     match section {
         Section::Codes => put_codes_in(text, form, section, codes, satellite, counts),
-        Section::Never if !counts.is_in_file() => Ok(()),
+        Section::Tracked | Section::Never if !counts.is_in_file() => Ok(()),
+        Section::Tracked => put_tracked_line(text, form, satellite, &counts.sums()),
         Section::Never => put_codes_in(text, form, section, codes, satellite, counts),
         Section::Passes => put_passes(text, form, satellite, counts, ended),
     }
