@@ -6,7 +6,7 @@ use Rattle.rtk_obs.specs.declared.time.Civil.{Civil}
 use Rattle.rtk_rinex.specs.Reading.{reading_of}
 use Rattle.rtk_rinex.specs.Record.{EpochTableView}
 use Rattle.rtk_quality.specs.Records.{unit_of, record_counts_of}
-use Rattle.rtk_quality.specs.Quality.{station_of, station_sums, satellites_in}
+use Rattle.rtk_quality.specs.Quality.{code_of_station, station_sums, satellites_in}
 use Rattle.rtk_quality.specs.QualityText.{marker_text, code_line, each_code, section_text, heading_text, close_text, quality_text}
 use Rattle.rtk_quality.specs.Forms.{json_text}
 use Rattle.rtk_quality.specs.declared.form.Form.{Form}
@@ -26,13 +26,13 @@ pub text-is : (form : Form) (marker : List ℕ) (listed : List Code) (first last
     (from until : Civil) (seen : ℕ) (r : RecordCounts) (sums : PassSums) (t1 t2 t3 t4 t5 t6 t7 : List ℕ)
     → from ≡ reading_of first → until ≡ reading_of last → seen ≡ satellites_in interval es → r ≡ record_counts_of (unit_of interval) es → sums ≡ station_sums interval es
     → t1 ≡ heading_text form marker from until interval seen r sums
-    → t2 ≡ t1 ++ each_code (λ place code. code_line form code (satellites_in interval es) (station_of interval es place)) 0 listed
+    → t2 ≡ t1 ++ each_code (λ place code. code_line form code (satellites_in interval es) (code_of_station interval es place)) 0 listed
     → t3 ≡ t2 ++ section_text form Codes listed interval es → t4 ≡ t3 ++ section_text form Tracked listed interval es
     → t5 ≡ t4 ++ section_text form Never listed interval es → t6 ≡ t5 ++ section_text form Passes listed interval es
     → t7 ≡ t6 ++ close_text form → t7 ≡ quality_text form marker listed first last interval es
 unfolding quality_text
 text-is form marker listed first last interval es from until seen r sums t1 t2 t3 t4 t5 t6 t7 begins ends count records adds e1 e2 e3 e4 e5 e6 e7 =
-    let cs : List ℕ = each_code (λ place code. code_line form code (satellites_in interval es) (station_of interval es place)) 0 listed in
+    let cs : List ℕ = each_code (λ place code. code_line form code (satellites_in interval es) (code_of_station interval es place)) 0 listed in
     let s1 : List ℕ = section_text form Codes listed interval es in
     let s2 : List ℕ = section_text form Tracked listed interval es in
     let s3 : List ℕ = section_text form Never listed interval es in

@@ -76,5 +76,5 @@ station_numbers possible totals =
 
 -- formula
 -- the numbers of the code at a place for the station
-abbrev pub station_of : Option ℕ → List EpochTableView → ℕ → CodeNumbers
-station_of interval es place = station_numbers (possible_in interval es) (totals_of interval es place)
+abbrev pub code_of_station : Option ℕ → List EpochTableView → ℕ → CodeNumbers
+code_of_station interval es place = station_numbers (possible_in interval es) (totals_of interval es place)

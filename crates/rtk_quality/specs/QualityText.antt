@@ -14,7 +14,7 @@ use Rattle.rtk_tracking.specs.Passes.{Sighting, sightings_of}
 use Rattle.rtk_quality.specs.Counts.{percent_tenths, phases_per_slip, mean_hundredths, mean_tenths}
 use Rattle.rtk_quality.specs.SatellitePasses.{sums_in, passes_of}
 use Rattle.rtk_quality.specs.Records.{unit_of, record_counts_of}
-use Rattle.rtk_quality.specs.Quality.{numbers_of, station_of, station_sums, is_in_file, satellites_in}
+use Rattle.rtk_quality.specs.Quality.{numbers_of, code_of_station, station_sums, is_in_file, satellites_in}
 use Rattle.rtk_quality.specs.Forms.{in_form, value_text, moment_text, name_text, start_text, end_text, json_text}
 use Rattle.rtk_quality.specs.declared.form.Form.{Form}
 use Rattle.rtk_quality.specs.declared.form.Decimals.TheVariants.{Whole, Tenths, Hundredths, Thousandths}
@@ -203,7 +203,7 @@ unfoldable pub quality_text : Form → List ℕ → List Code → ℕ → ℕ �
 quality_text form marker listed first last interval es =
     heading_text form marker (reading_of first) (reading_of last) interval (satellites_in interval es)
     (record_counts_of (unit_of interval) es) (station_sums interval es)
-    ++ each_code (λ place code. code_line form code (satellites_in interval es) (station_of interval es place)) 0 listed
+    ++ each_code (λ place code. code_line form code (satellites_in interval es) (code_of_station interval es place)) 0 listed
     ++ section_text form Codes listed interval es ++ section_text form Tracked listed interval es ++ section_text form Never listed interval es ++ section_text form Passes listed interval es
     ++ close_text form
 

@@ -3,7 +3,7 @@
 ghost use Rattle.std.specs.Prelude.{◌≡◌, ◌<◌, ◌≤◌, ℕ, ◌+◌, List, ◌++◌, length, reverse, flat_map, OnOk};
 ghost use Rattle.rtk_rinex.specs.Record.{EpochTableView};
 ghost use Rattle.rtk_tracking.specs.Passes.{Sighting};
-ghost use Rattle.rtk_quality.specs.Quality.{numbers_of, station_of, satellites_in};
+ghost use Rattle.rtk_quality.specs.Quality.{numbers_of, code_of_station, satellites_in};
 ghost use Rattle.rtk_quality.specs.SatellitePasses.{passes_of};
 ghost use Rattle.rtk_quality.specs.QualityText.{code_line, pass_line, each_code, code_in, part_of, section_text};
 ghost use Rattle.rtk_quality.specs.Standing.{ended_of, StandsForSatellite, HasEnded, StandForSatellites, StandForEnded};
@@ -40,7 +40,7 @@ pub(crate) fn put_codes(
 ) -> Result<(), AllocError>
     requires { length codes.now ≤ 16 }
     ensures { OnOk result ((interval : Option ℕ) (es : List EpochTableView) → StandForSatellites satellites.now interval es
-        → text.new.items ≡ text.old.items ++ each_code (λ place code. code_line form code (satellites_in interval es) (station_of interval es place)) 0 codes.now) }
+        → text.new.items ≡ text.old.items ++ each_code (λ place code. code_line form code (satellites_in interval es) (code_of_station interval es place)) 0 codes.now) }
 {
     let tracked = satellites_in(satellites) as u64;
     let possible = possible_in(satellites);
