@@ -1,3 +1,4 @@
+mod HeadLemmas
 mod PutLemmas
 mod ToldLabelLemmas
 mod WalkLemmas
