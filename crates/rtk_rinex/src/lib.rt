@@ -68,7 +68,7 @@ pub use check_fault::{Cause, CheckFault};
 pub use creation_time::CreationTime;
 pub use epoch_table::{EpochTable, Observed, SatelliteRow};
 pub use field::is_field;
-pub use head::Head;
+pub use head::{Head, is_code_list};
 pub use head_fault::HeadFault;
 pub use header_text::header;
 pub use laws::{
