@@ -50,7 +50,7 @@ def main():
             connection = server.accept()[0]
         for at in range(0, len(part), 150):
             connection.sendall(part[at:at + 150])
-            time.sleep(0.005)
+            time.sleep(0.002)
         if number % 2 == 0:
             try:
                 connection.recv(1)
