@@ -1,5 +1,5 @@
 -- The numbers of satellites and of codes (this project's rule). What came is listed newest first.
-use Rattle.std.specs.Prelude.{ℕ, Bool, true, List, [], count_by, if◌then◌else◌}
+use Rattle.std.specs.Prelude.{ℕ, Bool, true, List, [], count_by, if◌then◌else◌, Option}
 use Rattle.std.specs.List.{list_any, fold, range_with_len}
 use Rattle.rtk_rinex.specs.Record.{EpochTableView}
 use Rattle.rtk_tracking.specs.Extremes.{lesser, greater}

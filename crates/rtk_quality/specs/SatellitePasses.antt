@@ -1,5 +1,5 @@
 -- The passes of a satellite with their spans (this project's rule). What came is listed newest first.
-use Rattle.std.specs.Prelude.{ℕ, not, List, [], ◌∷◌, count_by, is_some, if◌then◌else◌}
+use Rattle.std.specs.Prelude.{ℕ, not, List, [], ◌∷◌, count_by, is_some, if◌then◌else◌, Option}
 use Rattle.std.specs.List.{range_with_len}
 use Rattle.rtk_rinex.specs.Reading.{reading_of}
 use Rattle.rtk_rinex.specs.declared.epoch_table.Observed.{Observed}

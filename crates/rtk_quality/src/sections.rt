@@ -1,6 +1,6 @@
 //! The lines of all codes and satellites.
 
-ghost use Rattle.std.specs.Prelude.{◌≡◌, ◌<◌, ◌≤◌, ℕ, ◌+◌, List, ◌++◌, length, reverse, flat_map, OnOk};
+ghost use Rattle.std.specs.Prelude.{◌≡◌, ◌<◌, ◌≤◌, ℕ, ◌+◌, List, ◌++◌, length, reverse, flat_map, OnOk, Option};
 ghost use Rattle.rtk_rinex.specs.Record.{EpochTableView};
 ghost use Rattle.rtk_tracking.specs.Passes.{Sighting};
 ghost use Rattle.rtk_quality.specs.Quality.{numbers_of, totals_of};

@@ -1,4 +1,4 @@
-use Rattle.std.proofs.Common.{◌≡◌, ◌<◌, ◌≤◌, ◌+◌, ◌-◌, ◌∷◌, ◌∙◌, ℕ, List, length, get_or, sym, subst, length-set, arith}
+use Rattle.std.proofs.Common.{◌≡◌, ◌<◌, ◌≤◌, ◌+◌, ◌-◌, ◌∷◌, ◌∙◌, ℕ, List, length, get_or, sym, subst, length-set, arith, Option}
 use Rattle.std.proofs.lemmas.List.{take_all}
 use Rattle.rtk_rinex.proofs.PublicLaws.{reading_is}
 use Rattle.rtk_rinex.specs.Record.{EpochTableView, IsSatelliteRow}

@@ -1,4 +1,4 @@
-use Rattle.std.proofs.Common.{◌≡◌, ℕ, List, length}
+use Rattle.std.proofs.Common.{◌≡◌, ℕ, List, length, Option}
 use Rattle.rtk_rinex.specs.Record.{EpochTableView}
 use Rattle.rtk_quality.specs.Standing.{without_rows, StandForSatellites}
 use Rattle.rtk_quality.proofs.FileLemmas.{AreUpTo}

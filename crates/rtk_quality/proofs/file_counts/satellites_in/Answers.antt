@@ -1,4 +1,4 @@
-use Rattle.std.proofs.Common.{◌≡◌, ◌<◌, ◌+◌, ℕ, Bool, List, cond, count_by, length, sym, ap, ◌∙◌, arith}
+use Rattle.std.proofs.Common.{◌≡◌, ◌<◌, ◌+◌, ℕ, Bool, List, cond, count_by, length, sym, ap, ◌∙◌, arith, Option}
 use Rattle.std.specs.List.{range_with_len}
 use Rattle.rtk_rinex.specs.Record.{EpochTableView}
 use Rattle.rtk_tracking.specs.Passes.{Sighting, sightings_of}

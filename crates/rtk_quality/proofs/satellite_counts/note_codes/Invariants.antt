@@ -1,4 +1,4 @@
-use Rattle.std.proofs.Common.{◌≡◌, ◌∷◌, ℕ, List, map}
+use Rattle.std.proofs.Common.{◌≡◌, ◌∷◌, ℕ, List, map, Option}
 use Rattle.std.specs.List.{range_with_len}
 use Rattle.rtk_tracking.specs.Passes.{Sighting, is_kept}
 use Rattle.rtk_tracking.specs.Standing.{AreMarked}

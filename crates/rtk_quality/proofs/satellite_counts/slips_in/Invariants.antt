@@ -1,4 +1,4 @@
-use Rattle.std.proofs.Common.{◌≡◌, ◌≤◌, ℕ, List, count_by}
+use Rattle.std.proofs.Common.{◌≡◌, ◌≤◌, ℕ, List, count_by, Option}
 use Rattle.std.specs.List.{range_with_len}
 use Rattle.rtk_tracking.specs.Passes.{Sighting, is_kept, is_slip}
 use Rattle.rtk_tracking.specs.Standing.{AreMarked}

@@ -1,4 +1,4 @@
-use Rattle.std.proofs.Common.{◌≡◌, ◌++◌, ℕ, List, drop}
+use Rattle.std.proofs.Common.{◌≡◌, ◌++◌, ℕ, List, drop, Option}
 use Rattle.rtk_tracking.specs.Passes.{Sighting}
 use Rattle.rtk_quality.specs.Quality.{numbers_of}
 use Rattle.rtk_quality.specs.QualityText.{code_in, each_code}
