@@ -37,20 +37,20 @@ def columns(rng: Random, code: Code, time: int) -> str:
 
 
 def absences(rng: Random, times: list[int], interval: int) -> set[int]:
-    """The places of the records without a satellite: up to three spans, often about as long as ends a pass."""
-    longest = max(120_000, interval) // interval
+    """The places of the records without a satellite: up to three spans, often about as long as an outage or as ends a pass."""
+    longest = rng.choice((120_000, 120_000, 1_800_000)) // interval
     gone: set[int] = set()
     for _ in range(rng.choice((0, 1, 2, 3))):
         begin = rng.randrange(len(times))
-        gone |= set(range(begin, begin + rng.choice((1, longest - 1, longest, longest + 1, rng.randint(1, len(times))))))
+        gone |= set(range(begin, begin + rng.choice((1, max(1, longest - 1), longest, longest + 1, rng.randint(1, len(times))))))
     return gone
 
 
 def file_of_passes(rng: Random, setup: Setup) -> str:
     """Such a file, with the header of these options."""
     interval = rng.choice(INTERVALS)
-    # so many that a pass may end and return
-    count = rng.randint(2, 6 if interval > 60_000 else 20) + rng.choice((0, 120_000 // interval))
+    # so many that a satellite may return after an outage, or that a pass may end
+    count = rng.randint(2, 6 if interval > 60_000 else 20) + rng.choice((0, 120_000 // interval, min(1_800_000 // interval, 130)))
     start = (setup.near // interval + 1) * interval
     beside, drift = rng.choice(BESIDE), rng.choice((0, 0, 1, 3))
     sign = rng.choice((1, -1))

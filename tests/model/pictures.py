@@ -1,6 +1,6 @@
 """The slow model of pictures: each column is asked for its epochs, one after another."""
 # pins: IsMostFrequent, missing_before, nearest_intervals, bin_length, has_missing, IsScale, Scale.unit_of, half_of
-# pins: longest_gap, begins_pass, is_rise, is_slip, Grid.code_in, lacks_phase, times_in_epoch
+# pins: absence_of, is_longer, begins_pass, ends_outage, is_rise, is_return, is_slip, Grid.code_in, lacks_phase, times_in_epoch
 
 from __future__ import annotations
 
@@ -24,7 +24,7 @@ STEPS = [
 
 
 class Shown(NamedTuple):
-    """What a code shows: its phase, its loss-of-lock digit, its strength digit, and whether bit 0 is a rise."""
+    """What a code shows: its phase, its loss-of-lock digit, its strength digit, and whether bit 0 is a rise or a return."""
 
     phase: bool
     lock: int
@@ -68,20 +68,27 @@ def epochs_of(records: str, codes: int) -> list[Epoch]:
     ]
 
 
+def is_break(step: int, records: int, interval: int | None) -> bool:
+    """Whether a satellite whose phases are a step and so many records apart was away, or out for a time that has records."""
+    absence = step - (interval or 0) - 2 * min(25, (interval or 0) // 10)
+    return absence > 1_800_000 or (absence > 120_000 and records > 1)
+
+
 def with_rises(epochs: list[Epoch], interval: int | None) -> None:
-    """Tells rises and slips apart: satellite by satellite, each pass is looked through for the first phase of each code."""
-    gap = max(120_000, interval or 0)
+    """Tells slips from rises and returns: satellite by satellite, each span up to a break is looked through for the first phase of
+    each code."""
     for name in {name for epoch in epochs for name in epoch.satellites}:
-        seen = [(epoch, epoch.satellites[name]) for epoch in epochs if name in epoch.satellites]
-        last: int | None = None
+        seen = [(at, epoch) for at, epoch in enumerate(epochs) if name in epoch.satellites]
+        last: tuple[int, int] | None = None
         known: set[int] = set()
-        for epoch, codes in seen:
-            phases = {at for at, shown in enumerate(codes) if shown.phase}
-            if phases and (last is None or epoch.time - last > gap):
+        for at, epoch in seen:
+            codes = epoch.satellites[name]
+            phases = {code for code, shown in enumerate(codes) if shown.phase}
+            if phases and (last is None or is_break(epoch.time - last[1], at - last[0], interval)):
                 known = set()
-            epoch.satellites[name] = [shown._replace(rises=at not in known) for at, shown in enumerate(codes)]
+            epoch.satellites[name] = [shown._replace(rises=code not in known) for code, shown in enumerate(codes)]
             known |= phases
-            last = epoch.time if phases else last
+            last = (at, epoch.time) if phases else last
 
 
 def character(epochs: list[Epoch], name: str, had: set[int]) -> str:

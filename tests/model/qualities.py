@@ -1,5 +1,5 @@
 """The slow model of the numbers of a file: each number is counted on its own, over the text."""
-# pins: longest_gap, begins_pass, is_rise, is_slip, counts_of, passes_of, epochs_in_passes, percent_tenths, mean_hundredths
+# pins: absence_of, is_longer, begins_pass, ends_outage, is_rise, is_return, is_slip, counts_of, passes_of, epochs_in_passes, percent_tenths, mean_hundredths
 
 from __future__ import annotations
 
@@ -37,13 +37,22 @@ def missing_in(times: list[int], interval: int | None) -> int:
     return sum(it - 1 for it in nearest)
 
 
-def passes_of(seen: list[tuple[int, int]], longest: int) -> list[list[tuple[int, int]]]:
-    """Records with a phase, by their number and time, in passes."""
-    passes: list[list[tuple[int, int]]] = []
+def absence(step: int, interval: int | None) -> int:
+    """The time in ms between two phases without one interval and without the tolerance."""
+    return step - (interval or 0) - 2 * min(25, (interval or 0) // 10)
+
+
+def passes_of(seen: list[tuple[int, int]], interval: int | None) -> list[list[list[tuple[int, int]]]]:
+    """Records with a phase, by their number and time, in passes, each of them in spans between outages."""
+    passes: list[list[list[tuple[int, int]]]] = []
     for at, time in seen:
-        if not passes or time - passes[-1][-1][1] > longest:
-            passes.append([])
-        passes[-1].append((at, time))
+        last_at, last_time = passes[-1][-1][-1] if passes else (at, time)
+        away = absence(time - last_time, interval)
+        if not passes or away > 1_800_000:
+            passes.append([[]])
+        elif away > 120_000 and at - last_at > 1:
+            passes[-1].append([])
+        passes[-1][-1].append((at, time))
     return passes
 
 
@@ -84,7 +93,8 @@ def text(word: str, key: str, value: str) -> Field:
 
 
 def numbers(rows: list[Shown], knows: list[bool], possible: int) -> list[Field]:
-    """The numbers of a code: what it shows, whether it had a phase before in the pass, and how many phases could be there."""
+    """The numbers of a code: what it shows, whether it had a phase before in the pass and since the last outage, and how many phases
+    could be there."""
     phases = sum(it.phase for it in rows)
     slips = sum(it.digit & 1 and before for it, before in zip(rows, knows))
     strengths = [it.strength for it in rows if it.strength is not None]
@@ -108,11 +118,13 @@ def numbers(rows: list[Shown], knows: list[bool], possible: int) -> list[Field]:
 class Satellite:
     """A satellite: what its codes show in each record, and its passes."""
 
-    def __init__(self, name: str, records: list, times: list[int], codes: int, longest: int) -> None:
+    def __init__(self, name: str, records: list, times: list[int], codes: int, interval: int | None) -> None:
         self.name = name
         line = {at: it.lines[name][3:].ljust(48 * codes) for at, it in enumerate(records) if name in it.lines}
         self.shown = {at: [shown_in(row[48 * c : 48 * c + 48]) for c in range(codes)] for at, row in line.items()}
-        self.passes = passes_of([(at, times[at]) for at, row in self.shown.items() if any(it.phase for it in row)], longest)
+        spans = passes_of([(at, times[at]) for at, row in self.shown.items() if any(it.phase for it in row)], interval)
+        self.spans = [span for row in spans for span in row]
+        self.passes = [[it for span in row for it in span] for row in spans]
         self.possible = sum(row[-1][0] - row[0][0] + 1 for row in self.passes)
 
     def rows(self, code: int) -> list[Shown]:
@@ -122,9 +134,9 @@ class Satellite:
         return any(it.range or it.phase or it.strength is not None for it in self.rows(code))
 
     def knows(self, code: int) -> list[bool]:
-        """Whether the code had a phase earlier in the pass, for each record with the satellite."""
+        """Whether the code had a phase earlier in the pass and since the last outage, for each record with the satellite."""
         first = {}
-        for row in self.passes:
+        for row in self.spans:
             with_phase = [at for at, _ in row if self.shown[at][code].phase]
             first.update({at: with_phase[0] < at for at, _ in row if with_phase})
         return [first.get(at, False) for at in self.shown]
@@ -142,7 +154,7 @@ def entries_of(file: str) -> tuple[list[Field], list[tuple[str, list[Field]]]]:
     times = [(it.time - START) // MS for it in records]
     interval = interval_of(times)
     names = sorted({name for it in records for name in it.lines})
-    satellites = [Satellite(name, records, times, len(codes), max(120_000, interval or 0)) for name in names]
+    satellites = [Satellite(name, records, times, len(codes), interval) for name in names]
     seen = [it for it in satellites if any(it.has(c) for c in range(len(codes)))]
     counts = [len(it.lines) for it in records]
     heading = [

@@ -9,7 +9,6 @@ use Rattle.rtk_rinex.specs.Reading.{IsMoment}
 use Rattle.rtk_rinex.specs.Record.{EpochTableView}
 use Rattle.rtk_rinex.specs.Table.{WellFormedTable, IsWellFormedTable, IsTableEpoch}
 use Rattle.rtk_tracking.specs.Epochs.{epochs_onto, newest_first}
-use Rattle.rtk_tracking.specs.Passes.{longest_gap}
 use Rattle.rtk_chart.specs.Epochs.{slips_in, rises_in}
 use Rattle.rtk_tracking.specs.Interval.{steps_in, IsInterval, missing_in}
 use Rattle.rtk_chart.specs.Scale.{IsScale, unit_of, half_of, scale_of, bin_at, bin_length}
@@ -148,7 +147,7 @@ at-moments n es h = All-weaker (IsTableEpoch n) AtMoment (λ e is. is.time) es h
 
 pub tables-have-numbers : (t : WellFormedTable) (interval : Option ℕ) (allowed : ℕ) (e : EpochTableView) (before : List EpochTableView)
     → IsWellFormedTable t → newest_first t.epochs ≡ e ∷ before → IsInterval (steps_in (e ∷ before)) interval → IsInRange 1 1440 allowed
-    → length (e ∷ before) < 2 ^ 64 → slips_in (longest_gap interval) (e ∷ before) < 2 ^ 64 → rises_in (longest_gap interval) (e ∷ before) < 2 ^ 64
+    → length (e ∷ before) < 2 ^ 64 → slips_in interval (e ∷ before) < 2 ^ 64 → rises_in interval (e ∷ before) < 2 ^ 64
     → missing_in (unit_of interval) (e ∷ before) < 2 ^ 64
     → HasNumbers (scale_of t.first e.time interval allowed) (e ∷ before)
 tables-have-numbers t interval allowed e before is newest steps room records slips rises missing =

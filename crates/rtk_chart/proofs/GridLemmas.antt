@@ -9,7 +9,7 @@ use Rattle.rtk_rinex.specs.Record.{EpochTableView}
 use Rattle.rtk_rinex.specs.declared.epoch_table.Observed.{Observed}
 use Rattle.rtk_tracking.specs.Epochs.{capped, newest_moment, shows_phase, observed_in, shown_at}
 use Rattle.rtk_tracking.specs.Extremes.{lesser}
-use Rattle.rtk_tracking.specs.Passes.{Sighting, sightings_of, longest_gap, has_phase, has_bit_0, is_known, is_slip, is_rise}
+use Rattle.rtk_tracking.specs.Passes.{Sighting, sightings_of, last_record, has_phase, has_bit_0, is_kept, is_slip, is_rise_or_return}
 use Rattle.rtk_tracking.specs.Standing.{AreMarked, StandsForPass}
 use Rattle.rtk_tracking.specs.Interval.{missing_before, missing_in}
 use Rattle.rtk_tracking.specs.declared.passes.Pass.{Pass}
@@ -42,36 +42,36 @@ with_epoch s satellite e es c code own =
     record {
       phase = (own && shows_phase code (observed_in satellite e.rows)) || (code_in s satellite es c code).phase;
       missing = (own && lacks_phase code (observed_in satellite e.rows)) || (code_in s satellite es c code).missing;
-      slip = (own && is_slip (longest_gap s.interval) code (sightings_of satellite es) (sighting_of satellite e)) || (code_in s satellite es c code).slip;
-      rise = (own && is_rise (longest_gap s.interval) code (sightings_of satellite es) (sighting_of satellite e)) || (code_in s satellite es c code).rise;
+      slip = (own && is_slip s.interval code (sightings_of satellite es) (sighting_of satellite e)) || (code_in s satellite es c code).slip;
+      rise = (own && is_rise_or_return s.interval code (sightings_of satellite es) (sighting_of satellite e)) || (code_in s satellite es c code).rise;
       half = (own && has_bit_1 code (observed_in satellite e.rows)) || (code_in s satellite es c code).half;
       least = cond own (lesser (level_at code (observed_in satellite e.rows)) (code_in s satellite es c code).least) (code_in s satellite es c code).least;
     }
 
 -- what an epoch calls for, by its phase and bit 0
 abbrev called_by : Observed → Bool → Bool → Bool → Bool → CodeMarks → CodeMarks
-called_by o has known phase bit m =
+called_by o has kept phase bit m =
     record {
       phase = phase || m.phase;
       missing = (has && not phase) || m.missing;
-      slip = (bit && known) || m.slip;
-      rise = (bit && not known) || m.rise;
+      slip = (bit && kept) || m.slip;
+      rise = (bit && not kept) || m.rise;
       half = o.half || m.half;
       least = lesser (level_of o.strength_millidbhz) m.least;
     }
 
 code-own : (s : Scale) (satellite : ℕ) (e : EpochTableView) (es : List EpochTableView) (c code : ℕ) → bin_at s e.time ≡ c
     → code_in s satellite (e ∷ es) c code
-    ≡ both_marks (called_for (shown_at code (observed_in satellite e.rows)) (has_phase (observed_in satellite e.rows)) (is_known (longest_gap s.interval) code (sightings_of satellite es) (sighting_of satellite e)))
+    ≡ both_marks (called_for (shown_at code (observed_in satellite e.rows)) (has_phase (observed_in satellite e.rows)) (is_kept s.interval code (sightings_of satellite es) (sighting_of satellite e)))
     (code_in s satellite es c code)
 code-own s satellite e es c code at =
     let os : List Observed = observed_in satellite e.rows in
     let o : Observed = shown_at code os in
-    let known : Bool = is_known (longest_gap s.interval) code (sightings_of satellite es) (sighting_of satellite e) in
+    let kept : Bool = is_kept s.interval code (sightings_of satellite es) (sighting_of satellite e) in
     let m : CodeMarks = code_in s satellite es c code in
     ap (with_epoch s satellite e es c code) (eq-eqb (bin_at s e.time) c at)
-    ∙ ap (λ (phase : Bool). called_by o (has_phase os) known phase (has_bit_0 code os) m) (phase-at code os)
-    ∙ ap (λ (bit : Bool). called_by o (has_phase os) known (is_some o.phase_millicycles) bit m) (bit-at code os)
+    ∙ ap (λ (phase : Bool). called_by o (has_phase os) kept phase (has_bit_0 code os) m) (phase-at code os)
+    ∙ ap (λ (bit : Bool). called_by o (has_phase os) kept (is_some o.phase_millicycles) bit m) (bit-at code os)
 
 code-other : (s : Scale) (satellite : ℕ) (e : EpochTableView) (es : List EpochTableView) (c code : ℕ) → bin_at s e.time ≢ c
     → code_in s satellite (e ∷ es) c code ≡ code_in s satellite es c code
@@ -103,15 +103,15 @@ at-place f n k d inside =
     get_or-map-range_with_len f 0 n k k d inside here
 
 -- the codes of one epoch
-abbrev called_of : ℕ → List Sighting → Sighting → ℕ → CodeMarks
-called_of gap before now code = called_for (shown_at code now.observed) (has_phase now.observed) (is_known gap code before now)
+abbrev called_of : Option ℕ → List Sighting → Sighting → ℕ → CodeMarks
+called_of interval before now code = called_for (shown_at code now.observed) (has_phase now.observed) (is_kept interval code before now)
 
 codes-own : (s : Scale) (satellite : ℕ) (e : EpochTableView) (es : List EpochTableView) (c : ℕ) → bin_at s e.time ≡ c
     → codes_in s satellite (e ∷ es) c
-    ≡ map (both_codes (map (called_of (longest_gap s.interval) (sightings_of satellite es) (sighting_of satellite e)) (range_with_len 0 16)) (codes_in s satellite es c)) (range_with_len 0 16)
+    ≡ map (both_codes (map (called_of s.interval (sightings_of satellite es) (sighting_of satellite e)) (range_with_len 0 16)) (codes_in s satellite es c)) (range_with_len 0 16)
 unfolding codes_in
 codes-own s satellite e es c at =
-    let called : ℕ → CodeMarks = called_of (longest_gap s.interval) (sightings_of satellite es) (sighting_of satellite e) in
+    let called : ℕ → CodeMarks = called_of s.interval (sightings_of satellite es) (sighting_of satellite e) in
     let old : ℕ → CodeMarks = code_in s satellite es c in
     let mine : List CodeMarks = map called (range_with_len 0 16) in
     let others : List CodeMarks = map old (range_with_len 0 16) in
@@ -135,31 +135,31 @@ unseen-own : (s : Scale) (satellite : ℕ) (e : EpochTableView) (es : List Epoch
     → tracking_in s satellite (e ∷ es) c ≡ tracking_in s satellite es c
 unfolding codes_in
 unseen-own s satellite e es c at none =
-    let known : ℕ → Bool = λ code. is_known (longest_gap s.interval) code (sightings_of satellite es) (sighting_of satellite e) in
+    let kept : ℕ → Bool = λ code. is_kept s.interval code (sightings_of satellite es) (sighting_of satellite e) in
     same-tracking _ _ _ _
     (map-same (code_in s satellite (e ∷ es) c) (code_in s satellite es c) 0 16 (λ code lt.
     code-own s satellite e es c code at
-    ∙ ap (λ (os : List Observed). both_marks (called_for (shown_at code os) (has_phase os) (known code)) (code_in s satellite es c code)) none))
+    ∙ ap (λ (os : List Observed). both_marks (called_for (shown_at code os) (has_phase os) (kept code)) (code_in s satellite es c code)) none))
     (seen-own s satellite e es c at ∙ ap (λ (os : List Observed). is_seen os || (tracking_in s satellite es c).seen) none)
 
 tracking-by : (s : Scale) (satellite : ℕ) (e : EpochTableView) (es : List EpochTableView) (c : ℕ) → bin_at s e.time ≡ c
     → (os : List Observed) → observed_in satellite e.rows ≡ os
     → tracking_in s satellite (e ∷ es) c
-    ≡ both_trackings (tracking_of (longest_gap s.interval) (sightings_of satellite es) (sighting_of satellite e)) (tracking_in s satellite es c)
+    ≡ both_trackings (tracking_of s.interval (sightings_of satellite es) (sighting_of satellite e)) (tracking_in s satellite es c)
 unfolding both_trackings tracking_of
 tracking-by s satellite e es c at [] none =
-    let called : List CodeMarks = map (called_of (longest_gap s.interval) (sightings_of satellite es) (sighting_of satellite e)) (range_with_len 0 16) in
+    let called : List CodeMarks = map (called_of s.interval (sightings_of satellite es) (sighting_of satellite e)) (range_with_len 0 16) in
     unseen-own s satellite e es c at none
     ∙ sym (ap (λ (os : List Observed). cond (is_seen os) (tracking_with (map (both_codes called (codes_in s satellite es c)) (range_with_len 0 16)) true) (tracking_in s satellite es c)) none)
 tracking-by s satellite e es c at (o ∷ os) some =
-    let called : List CodeMarks = map (called_of (longest_gap s.interval) (sightings_of satellite es) (sighting_of satellite e)) (range_with_len 0 16) in
+    let called : List CodeMarks = map (called_of s.interval (sightings_of satellite es) (sighting_of satellite e)) (range_with_len 0 16) in
     let seen : is_seen (observed_in satellite e.rows) ≡ true = ap is_seen some ∙ has-row o os in
     same-tracking _ _ _ _ (codes-own s satellite e es c at) (seen-own s satellite e es c at ∙ ap (λ (b : Bool). b || (tracking_in s satellite es c).seen) seen)
     ∙ sym (ap (λ (b : Bool). cond b (tracking_with (map (both_codes called (codes_in s satellite es c)) (range_with_len 0 16)) true) (tracking_in s satellite es c)) seen)
 
 tracking-own : (s : Scale) (satellite : ℕ) (e : EpochTableView) (es : List EpochTableView) (c : ℕ) → bin_at s e.time ≡ c
     → tracking_in s satellite (e ∷ es) c
-    ≡ both_trackings (tracking_of (longest_gap s.interval) (sightings_of satellite es) (sighting_of satellite e)) (tracking_in s satellite es c)
+    ≡ both_trackings (tracking_of s.interval (sightings_of satellite es) (sighting_of satellite e)) (tracking_in s satellite es c)
 tracking-own s satellite e es c at = tracking-by s satellite e es c at (observed_in satellite e.rows) refl
 
 tracking-other : (s : Scale) (satellite : ℕ) (e : EpochTableView) (es : List EpochTableView) (c : ℕ) → bin_at s e.time ≢ c
@@ -173,11 +173,11 @@ bin_with trackings = record { satellites = trackings }
 
 -- an epoch in the bin
 bin-own : (s : Scale) (e : EpochTableView) (es : List EpochTableView) (c : ℕ) → bin_at s e.time ≡ c
-    → bin_in s (e ∷ es) c ≡ both_bins (bin_of (longest_gap s.interval) es e) (bin_in s es c)
+    → bin_in s (e ∷ es) c ≡ both_bins (bin_of s.interval es e) (bin_in s es c)
 unfolding trackings_in both_bins bin_of
 bin-own s e es c at =
-    let gap : ℕ = longest_gap s.interval in
-    let called : ℕ → Tracking = λ place. tracking_of gap (sightings_of (place + 1) es) (sighting_of (place + 1) e) in
+    let interval : Option ℕ = s.interval in
+    let called : ℕ → Tracking = λ place. tracking_of interval (sightings_of (place + 1) es) (sighting_of (place + 1) e) in
     let old : ℕ → Tracking = λ place. tracking_in s (place + 1) es c in
     let mine : List Tracking = map called (range_with_len 0 32) in
     let others : List Tracking = map old (range_with_len 0 32) in
@@ -194,58 +194,63 @@ bin-other s e es c apart =
 
 -- an epoch goes to its bin
 pub bin-more : (s : Scale) (e : EpochTableView) (es : List EpochTableView) (bins : List TimeBin) (place : ℕ) (called old new d : TimeBin)
-    → place ≡ bin_at s e.time → place < s.bins → bins ≡ bins_of s es → called ≡ bin_of (longest_gap s.interval) es e → old ≡ bin_in s es place
+    → place ≡ bin_at s e.time → place < s.bins → bins ≡ bins_of s es → called ≡ bin_of s.interval es e → old ≡ bin_in s es place
     → new ≡ both_bins called old → set bins place new ≡ bins_of s (e ∷ es)
 unfolding bins_of
 bin-more s e es bins place called old new d at within are calls was took =
     set-map (bin_in s es) (bin_in s (e ∷ es)) bins s.bins place new d are within
-    (took ∙ ap (λ (b : TimeBin). both_bins b old) calls ∙ ap (λ (b : TimeBin). both_bins (bin_of (longest_gap s.interval) es e) b) was ∙ sym (bin-own s e es place (sym at)))
+    (took ∙ ap (λ (b : TimeBin). both_bins b old) calls ∙ ap (λ (b : TimeBin). both_bins (bin_of s.interval es e) b) was ∙ sym (bin-own s e es place (sym at)))
     (λ k lt other. sym (bin-other s e es k (λ same. other (sym same ∙ sym at))))
 
 -- ---- what one epoch calls for
 
 -- the codes of a satellite
-pub codes-called : (gap : ℕ) (before : List Sighting) (now : Sighting) (os : List Observed) (known : List Bool) (t : Tracking)
-    → os ≡ now.observed → AreMarked known (λ code. is_known gap code before now)
-    → t.codes ≡ map (called_at os known) (range_with_len 0 16) → t.seen ≡ is_seen os → t ≡ tracking_of gap before now
+pub codes-called : (interval : Option ℕ) (before : List Sighting) (now : Sighting) (os : List Observed) (kept : List Bool) (t : Tracking)
+    → os ≡ now.observed → AreMarked kept (λ code. is_kept interval code before now)
+    → t.codes ≡ map (called_at os kept) (range_with_len 0 16) → t.seen ≡ is_seen os → t ≡ tracking_of interval before now
 unfolding tracking_of
-codes-called gap before now os known t shown marked codes seen =
+codes-called interval before now os kept t shown marked codes seen =
     same-tracking t.codes _ t.seen _
-    (codes ∙ map-same (called_at os known) (called_of gap before now) 0 16 (λ code lt.
+    (codes ∙ map-same (called_at os kept) (called_of interval before now) 0 16 (λ code lt.
     let inside : code < 16 = omega (arith, lt) in
-    ap (λ (xs : List Observed). called_at xs known code) shown
+    ap (λ (xs : List Observed). called_at xs kept code) shown
     ∙ ap (λ (b : Bool). called_for (shown_at code now.observed) (has_phase now.observed) b) (marked code inside)))
     (seen ∙ ap is_seen shown)
 
 -- a satellite without a row calls for nothing
-pub unseen-called : (gap : ℕ) (before : List Sighting) (time : ℕ) (os : List Observed) → is_seen os ≡ false
-    → no_tracking ≡ tracking_of gap before (record { time = time; observed = os })
+pub unseen-called : (interval : Option ℕ) (before : List Sighting) (time : ℕ) (os : List Observed) → is_seen os ≡ false
+    → no_tracking ≡ tracking_of interval before (record { time = time; observed = os })
 unfolding tracking_of
-unseen-called gap before time [] none = refl
-unseen-called gap before time (o ∷ os) none = absurd (both_ways (is_seen (o ∷ os)) none (has-row o os))
+unseen-called interval before time [] none = refl
+unseen-called interval before time (o ∷ os) none = absurd (both_ways (is_seen (o ∷ os)) none (has-row o os))
 
 -- a satellite in an epoch
-pub tracking-called : (gap : ℕ) (e : EpochTableView) (before : List EpochTableView) (i time : ℕ) (os : List Observed) (t : Tracking)
-    → time ≡ e.time → os ≡ observed_in (i + 1) e.rows → t ≡ tracking_of gap (sightings_of (i + 1) before) (record { time = time; observed = os })
-    → t ≡ tracking_of gap (sightings_of (i + 1) before) (sighting_of (i + 1) e)
-tracking-called gap e before i time os t at shown is =
+pub tracking-called : (interval : Option ℕ) (e : EpochTableView) (before : List EpochTableView) (i time : ℕ) (os : List Observed) (t : Tracking)
+    → time ≡ e.time → os ≡ observed_in (i + 1) e.rows → t ≡ tracking_of interval (sightings_of (i + 1) before) (record { time = time; observed = os })
+    → t ≡ tracking_of interval (sightings_of (i + 1) before) (sighting_of (i + 1) e)
+tracking-called interval e before i time os t at shown is =
     let came : List Sighting = sightings_of (i + 1) before in
-    is ∙ ap (λ (n : ℕ). tracking_of gap came (record { time = n; observed = os })) at
-    ∙ ap (λ (xs : List Observed). tracking_of gap came (record { time = e.time; observed = xs })) shown
+    is ∙ ap (λ (n : ℕ). tracking_of interval came (record { time = n; observed = os })) at
+    ∙ ap (λ (xs : List Observed). tracking_of interval came (record { time = e.time; observed = xs })) shown
 
 -- the pass of a satellite, at each default
-pub pass-of : (gap : ℕ) (es : List EpochTableView) (passes : List Pass) (i j : ℕ) (d : Pass) → j ≡ i → i < 32 → StandForPasses passes gap es
-    → StandsForPass (get_or passes j d) gap (sightings_of (i + 1) es)
-pass-of gap es passes i j d at within stands =
-    subst (λ (n : ℕ). StandsForPass (get_or passes n d) gap (sightings_of (i + 1) es)) (sym at) (stands i d within)
+pub pass-of : (interval : Option ℕ) (es : List EpochTableView) (passes : List Pass) (i j : ℕ) (d : Pass) → j ≡ i → i < 32 → StandForPasses passes interval es
+    → StandsForPass (get_or passes j d) interval (sightings_of (i + 1) es)
+pass-of interval es passes i j d at within stands =
+    subst (λ (n : ℕ). StandsForPass (get_or passes n d) interval (sightings_of (i + 1) es)) (sym at) (stands i d within)
+
+-- the last record, as each satellite has it
+pub record-is : (k : ℕ) (es : List EpochTableView) → newest_moment es ≡ last_record (sightings_of k es)
+record-is k [] = refl
+record-is k (e ∷ es) = refl
 
 -- the passes with an epoch more, satellite by satellite
-pub passes-more : (gap : ℕ) (e : EpochTableView) (es : List EpochTableView) (passes : List Pass) (i j j0 time : ℕ) (new d0 : Pass) (os : List Observed)
+pub passes-more : (interval : Option ℕ) (e : EpochTableView) (es : List EpochTableView) (passes : List Pass) (i j j0 time : ℕ) (new d0 : Pass) (os : List Observed)
     → j ≡ i → j0 ≡ i → i < 32 → length passes ≡ 32 → time ≡ e.time → os ≡ observed_in (i + 1) e.rows
-    → ((k : ℕ) (d : Pass) → k < 32 → StandsForPass (get_or passes k d) gap (cond (ltb k i) (sightings_of (k + 1) (e ∷ es)) (sightings_of (k + 1) es)))
-    → ((before : List Sighting) → StandsForPass (get_or passes j0 d0) gap before → StandsForPass new gap (record { time = time; observed = os } ∷ before))
-    → (k : ℕ) (d : Pass) → k < 32 → StandsForPass (get_or (set passes j new) k d) gap (cond (ltb k (i + 1)) (sightings_of (k + 1) (e ∷ es)) (sightings_of (k + 1) es))
-passes-more gap e es passes i j j0 time new d0 os at at0 within size same shown so_far takes k d lt =
+    → ((k : ℕ) (d : Pass) → k < 32 → StandsForPass (get_or passes k d) interval (cond (ltb k i) (sightings_of (k + 1) (e ∷ es)) (sightings_of (k + 1) es)))
+    → (StandsForPass (get_or passes j0 d0) interval (sightings_of (i + 1) es) → StandsForPass new interval (record { time = time; observed = os } ∷ sightings_of (i + 1) es))
+    → (k : ℕ) (d : Pass) → k < 32 → StandsForPass (get_or (set passes j new) k d) interval (cond (ltb k (i + 1)) (sightings_of (k + 1) (e ∷ es)) (sightings_of (k + 1) es))
+passes-more interval e es passes i j j0 time new d0 os at at0 within size same shown so_far takes k d lt =
     let inside : i < length passes = omega (arith, within, size) in
     let came : ℕ → Bool → List Sighting = λ n b. cond b (sightings_of (n + 1) (e ∷ es)) (sightings_of (n + 1) es) in
     elim (cases_eq k i) [
@@ -253,63 +258,63 @@ passes-more gap e es passes i j j0 time new d0 os at at0 within size same shown 
           let is : get_or (set passes j new) k d ≡ new =
           ap (λ (n : ℕ). get_or (set passes n new) k d) at ∙ ap (λ (n : ℕ). get_or (set passes i new) n d) here ∙ get_or-set_same passes i new d inside in
           let last : i ≤ i = omega arith in
-          let was : StandsForPass (get_or passes j0 d0) gap (sightings_of (i + 1) es) =
-          subst (λ (n : ℕ). StandsForPass (get_or passes n d0) gap (sightings_of (i + 1) es)) (sym at0)
-          (subst (λ (b : Bool). StandsForPass (get_or passes i d0) gap (came i b)) (le-ltb i i last) (so_far i d0 within)) in
-          let mine : StandsForPass new gap (sightings_of (i + 1) (e ∷ es)) =
-          subst (λ (n : ℕ). StandsForPass new gap (record { time = n; observed = observed_in (i + 1) e.rows } ∷ sightings_of (i + 1) es)) same
-          (subst (λ (xs : List Observed). StandsForPass new gap (record { time = time; observed = xs } ∷ sightings_of (i + 1) es)) shown (takes (sightings_of (i + 1) es) was)) in
+          let was : StandsForPass (get_or passes j0 d0) interval (sightings_of (i + 1) es) =
+          subst (λ (n : ℕ). StandsForPass (get_or passes n d0) interval (sightings_of (i + 1) es)) (sym at0)
+          (subst (λ (b : Bool). StandsForPass (get_or passes i d0) interval (came i b)) (le-ltb i i last) (so_far i d0 within)) in
+          let mine : StandsForPass new interval (sightings_of (i + 1) (e ∷ es)) =
+          subst (λ (n : ℕ). StandsForPass new interval (record { time = n; observed = observed_in (i + 1) e.rows } ∷ sightings_of (i + 1) es)) same
+          (subst (λ (xs : List Observed). StandsForPass new interval (record { time = time; observed = xs } ∷ sightings_of (i + 1) es)) shown (takes was)) in
           let below : k < i + 1 = omega (arith, here) in
-          subst (λ (p : Pass). StandsForPass p gap (came k (ltb k (i + 1)))) (sym is)
-          (subst (λ (b : Bool). StandsForPass new gap (came k b)) (sym (lt-ltb k (i + 1) below))
-          (subst (λ (n : ℕ). StandsForPass new gap (sightings_of (n + 1) (e ∷ es))) (sym here) mine))
+          subst (λ (p : Pass). StandsForPass p interval (came k (ltb k (i + 1)))) (sym is)
+          (subst (λ (b : Bool). StandsForPass new interval (came k b)) (sym (lt-ltb k (i + 1) below))
+          (subst (λ (n : ℕ). StandsForPass new interval (sightings_of (n + 1) (e ∷ es))) (sym here) mine))
       | inr other ↦
-          subst (λ (p : Pass). StandsForPass p gap (came k (ltb k (i + 1)))) (sym (ap (λ (n : ℕ). get_or (set passes n new) k d) at ∙ get_or-set_other passes i k new d other))
-          (subst (λ (b : Bool). StandsForPass (get_or passes k d) gap (came k b)) (ltb-other i k other) (so_far k d lt))
+          subst (λ (p : Pass). StandsForPass p interval (came k (ltb k (i + 1)))) (sym (ap (λ (n : ℕ). get_or (set passes n new) k d) at ∙ get_or-set_other passes i k new d other))
+          (subst (λ (b : Bool). StandsForPass (get_or passes k d) interval (came k b)) (ltb-other i k other) (so_far k d lt))
     ]
 
 -- all of them
-pub passes-all : (gap : ℕ) (e : EpochTableView) (es : List EpochTableView) (passes : List Pass) (i : ℕ) → i ≡ 32
-    → ((k : ℕ) (d : Pass) → k < 32 → StandsForPass (get_or passes k d) gap (cond (ltb k i) (sightings_of (k + 1) (e ∷ es)) (sightings_of (k + 1) es)))
-    → StandForPasses passes gap (e ∷ es)
-passes-all gap e es passes i end so_far = λ k d lt.
+pub passes-all : (interval : Option ℕ) (e : EpochTableView) (es : List EpochTableView) (passes : List Pass) (i : ℕ) → i ≡ 32
+    → ((k : ℕ) (d : Pass) → k < 32 → StandsForPass (get_or passes k d) interval (cond (ltb k i) (sightings_of (k + 1) (e ∷ es)) (sightings_of (k + 1) es)))
+    → StandForPasses passes interval (e ∷ es)
+passes-all interval e es passes i end so_far = λ k d lt.
     let below : k < i = omega (arith, lt, end) in
-    subst (λ (b : Bool). StandsForPass (get_or passes k d) gap (cond b (sightings_of (k + 1) (e ∷ es)) (sightings_of (k + 1) es))) (lt-ltb k i below) (so_far k d lt)
+    subst (λ (b : Bool). StandsForPass (get_or passes k d) interval (cond b (sightings_of (k + 1) (e ∷ es)) (sightings_of (k + 1) es))) (lt-ltb k i below) (so_far k d lt)
 
 -- how often a mark stands in an epoch
-slips-of-tracking : (gap : ℕ) (before : List Sighting) (now : Sighting)
-    → count_by (λ m. m.slip) (tracking_of gap before now).codes ≡ count_by (λ code. is_slip gap code before now) (range_with_len 0 16)
+slips-of-tracking : (interval : Option ℕ) (before : List Sighting) (now : Sighting)
+    → count_by (λ m. m.slip) (tracking_of interval before now).codes ≡ count_by (λ code. is_slip interval code before now) (range_with_len 0 16)
 unfolding tracking_of
-slips-of-tracking gap before now =
-    sum-map (λ (m : CodeMarks). cond m.slip 1 0) (called_of gap before now) (range_with_len 0 16)
-    ∙ sum-same (λ (code : ℕ). cond ((shown_at code now.observed).slip && is_known gap code before now) 1 0) (λ (code : ℕ). cond (is_slip gap code before now) 1 0) (range_with_len 0 16)
-    (λ code. ap (λ (bit : Bool). cond (bit && is_known gap code before now) 1 0) (sym (bit-at code now.observed)))
+slips-of-tracking interval before now =
+    sum-map (λ (m : CodeMarks). cond m.slip 1 0) (called_of interval before now) (range_with_len 0 16)
+    ∙ sum-same (λ (code : ℕ). cond ((shown_at code now.observed).slip && is_kept interval code before now) 1 0) (λ (code : ℕ). cond (is_slip interval code before now) 1 0) (range_with_len 0 16)
+    (λ code. ap (λ (bit : Bool). cond (bit && is_kept interval code before now) 1 0) (sym (bit-at code now.observed)))
 
-rises-of-tracking : (gap : ℕ) (before : List Sighting) (now : Sighting)
-    → count_by (λ m. m.rise) (tracking_of gap before now).codes ≡ count_by (λ code. is_rise gap code before now) (range_with_len 0 16)
+rises-of-tracking : (interval : Option ℕ) (before : List Sighting) (now : Sighting)
+    → count_by (λ m. m.rise) (tracking_of interval before now).codes ≡ count_by (λ code. is_rise_or_return interval code before now) (range_with_len 0 16)
 unfolding tracking_of
-rises-of-tracking gap before now =
-    sum-map (λ (m : CodeMarks). cond m.rise 1 0) (called_of gap before now) (range_with_len 0 16)
-    ∙ sum-same (λ (code : ℕ). cond ((shown_at code now.observed).slip && not (is_known gap code before now)) 1 0) (λ (code : ℕ). cond (is_rise gap code before now) 1 0) (range_with_len 0 16)
-    (λ code. ap (λ (bit : Bool). cond (bit && not (is_known gap code before now)) 1 0) (sym (bit-at code now.observed)))
+rises-of-tracking interval before now =
+    sum-map (λ (m : CodeMarks). cond m.rise 1 0) (called_of interval before now) (range_with_len 0 16)
+    ∙ sum-same (λ (code : ℕ). cond ((shown_at code now.observed).slip && not (is_kept interval code before now)) 1 0) (λ (code : ℕ). cond (is_rise_or_return interval code before now) 1 0) (range_with_len 0 16)
+    (λ code. ap (λ (bit : Bool). cond (bit && not (is_kept interval code before now)) 1 0) (sym (bit-at code now.observed)))
 
-pub slips-called : (gap : ℕ) (es : List EpochTableView) (e : EpochTableView) (called : TimeBin) → called ≡ bin_of gap es e
-    → sum_by (λ t. count_by (λ m. m.slip) t.codes) called.satellites ≡ times_in_epoch (is_slip gap) es e
+pub slips-called : (interval : Option ℕ) (es : List EpochTableView) (e : EpochTableView) (called : TimeBin) → called ≡ bin_of interval es e
+    → sum_by (λ t. count_by (λ m. m.slip) t.codes) called.satellites ≡ times_in_epoch (is_slip interval) es e
 unfolding bin_of
-slips-called gap es e called are =
-    let of : ℕ → Tracking = λ place. tracking_of gap (sightings_of (place + 1) es) (sighting_of (place + 1) e) in
+slips-called interval es e called are =
+    let of : ℕ → Tracking = λ place. tracking_of interval (sightings_of (place + 1) es) (sighting_of (place + 1) e) in
     ap (λ (b : TimeBin). sum_by (λ (t : Tracking). count_by (λ m. m.slip) t.codes) b.satellites) are
     ∙ sum-map (λ (t : Tracking). count_by (λ m. m.slip) t.codes) of (range_with_len 0 32)
-    ∙ sum-same (λ (place : ℕ). count_by (λ m. m.slip) (of place).codes) _ (range_with_len 0 32) (λ place. slips-of-tracking gap (sightings_of (place + 1) es) (sighting_of (place + 1) e))
+    ∙ sum-same (λ (place : ℕ). count_by (λ m. m.slip) (of place).codes) _ (range_with_len 0 32) (λ place. slips-of-tracking interval (sightings_of (place + 1) es) (sighting_of (place + 1) e))
 
-pub rises-called : (gap : ℕ) (es : List EpochTableView) (e : EpochTableView) (called : TimeBin) → called ≡ bin_of gap es e
-    → sum_by (λ t. count_by (λ m. m.rise) t.codes) called.satellites ≡ times_in_epoch (is_rise gap) es e
+pub rises-called : (interval : Option ℕ) (es : List EpochTableView) (e : EpochTableView) (called : TimeBin) → called ≡ bin_of interval es e
+    → sum_by (λ t. count_by (λ m. m.rise) t.codes) called.satellites ≡ times_in_epoch (is_rise_or_return interval) es e
 unfolding bin_of
-rises-called gap es e called are =
-    let of : ℕ → Tracking = λ place. tracking_of gap (sightings_of (place + 1) es) (sighting_of (place + 1) e) in
+rises-called interval es e called are =
+    let of : ℕ → Tracking = λ place. tracking_of interval (sightings_of (place + 1) es) (sighting_of (place + 1) e) in
     ap (λ (b : TimeBin). sum_by (λ (t : Tracking). count_by (λ m. m.rise) t.codes) b.satellites) are
     ∙ sum-map (λ (t : Tracking). count_by (λ m. m.rise) t.codes) of (range_with_len 0 32)
-    ∙ sum-same (λ (place : ℕ). count_by (λ m. m.rise) (of place).codes) _ (range_with_len 0 32) (λ place. rises-of-tracking gap (sightings_of (place + 1) es) (sighting_of (place + 1) e))
+    ∙ sum-same (λ (place : ℕ). count_by (λ m. m.rise) (of place).codes) _ (range_with_len 0 32) (λ place. rises-of-tracking interval (sightings_of (place + 1) es) (sighting_of (place + 1) e))
 
 -- whether a satellite has a row, at each default that has none
 pub seen-same : (satellites : List Tracking) (place : ℕ) (d e : Tracking) → d.seen ≡ e.seen → (get_or satellites place d).seen ≡ (get_or satellites place e).seen
@@ -382,9 +387,9 @@ fresh-bins s bins one are is =
     fill_by_all (bin_in s []) bins s.bins one (ap (λ xs. length xs) are ∙ length-replicate s.bins one)
     (λ k lt. ap (λ xs. get_or xs k one) are ∙ get_or-replicate s.bins k one one lt ∙ is ∙ sym (no-epoch s k))
 
-pub fresh-passes : (passes : List Pass) (one : Pass) (gap : ℕ) → passes ≡ replicate 32 one → StandsForPass one gap [] → StandForPasses passes gap []
-fresh-passes passes one gap are stands = λ place d inside.
-    subst (λ (p : Pass). StandsForPass p gap []) (sym (ap (λ (ps : List Pass). get_or ps place d) are ∙ get_or-replicate 32 place one d inside)) stands
+pub fresh-passes : (passes : List Pass) (one : Pass) (interval : Option ℕ) → passes ≡ replicate 32 one → StandsForPass one interval [] → StandForPasses passes interval []
+fresh-passes passes one interval are stands = λ place d inside.
+    subst (λ (p : Pass). StandsForPass p interval []) (sym (ap (λ (ps : List Pass). get_or ps place d) are ∙ get_or-replicate 32 place one d inside)) stands
 
 pub fresh-gaps : (s : Scale) (gaps : List Bool) → gaps ≡ replicate s.bins false → gaps ≡ gaps_of s []
 unfolding gaps_of

@@ -6,7 +6,6 @@ use Rattle.rtk_rinex.specs.Header.{IsMarker}
 use Rattle.rtk_rinex.specs.Reading.{IsMoment, reading_of}
 use Rattle.rtk_rinex.specs.Record.{EpochTableView}
 use Rattle.rtk_tracking.specs.Epochs.{capped}
-use Rattle.rtk_tracking.specs.Passes.{longest_gap}
 use Rattle.rtk_chart.specs.Epochs.{slips_in, rises_in}
 use Rattle.rtk_obs.specs.CivilText.{civil_text}
 use Rattle.rtk_chart.specs.Heading.{interval_lines}
@@ -216,8 +215,8 @@ fit s es =
     record {
       records = capped-fits (length es);
       satellites = satellites-fit (bins_of s es);
-      slips = capped-fits (slips_in (longest_gap s.interval) es);
-      rises = capped-fits (rises_in (longest_gap s.interval) es);
+      slips = capped-fits (slips_in s.interval es);
+      rises = capped-fits (rises_in s.interval es);
       missing = capped-fits (missing_in s.unit es);
     }
 
@@ -232,8 +231,8 @@ same-numbers s t es fs hs ht same =
       bin = same.bin;
       records = same-capped (length es) (length fs) hs.records ht.records n.records;
       satellites = sym (satellites-are s es hs.bins) ∙ n.satellites ∙ satellites-are t fs ht.bins;
-      slips = same-capped (slips_in (longest_gap s.interval) es) (slips_in (longest_gap t.interval) fs) hs.slips ht.slips n.slips;
-      rises = same-capped (rises_in (longest_gap s.interval) es) (rises_in (longest_gap t.interval) fs) hs.rises ht.rises n.rises;
+      slips = same-capped (slips_in s.interval es) (slips_in t.interval fs) hs.slips ht.slips n.slips;
+      rises = same-capped (rises_in s.interval es) (rises_in t.interval fs) hs.rises ht.rises n.rises;
       missing = same-capped (missing_in s.unit es) (missing_in t.unit fs) hs.missing ht.missing n.missing;
     }
 

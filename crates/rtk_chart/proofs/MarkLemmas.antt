@@ -10,7 +10,7 @@ use Rattle.std.proofs.lemmas.List.Sums.{sum_by-cons}
 use Rattle.rtk_rinex.specs.Record.{EpochTableView}
 use Rattle.rtk_tracking.specs.Epochs.{newest_moment, observed_in, shows_phase}
 use Rattle.rtk_tracking.specs.Extremes.{lesser}
-use Rattle.rtk_tracking.specs.Passes.{Sighting, sightings_of, longest_gap, has_bit_0, is_known, is_slip, is_rise}
+use Rattle.rtk_tracking.specs.Passes.{Sighting, sightings_of, has_bit_0, is_kept, is_slip, is_rise_or_return}
 use Rattle.rtk_tracking.specs.Interval.{steps_in, nearest_intervals, missing_in}
 use Rattle.rtk_chart.specs.Epochs.{sighting_of, is_seen, lacks_phase, has_bit_1, level_at, times_in_epoch, times_in, slips_in, rises_in}
 use Rattle.rtk_chart.specs.Scale.{bin_at}
@@ -100,8 +100,8 @@ marks-show s es c satellite code marks is =
     record {
       phase = mark-of (λ before now. shows_phase code now.observed) s satellite es c marks.phase (ap (λ (m : CodeMarks). m.phase) is);
       missing = mark-of (λ before now. lacks_phase code now.observed) s satellite es c marks.missing (ap (λ (m : CodeMarks). m.missing) is);
-      slip = mark-of (is_slip (longest_gap s.interval) code) s satellite es c marks.slip (ap (λ (m : CodeMarks). m.slip) is);
-      rise = mark-of (is_rise (longest_gap s.interval) code) s satellite es c marks.rise (ap (λ (m : CodeMarks). m.rise) is);
+      slip = mark-of (is_slip s.interval code) s satellite es c marks.slip (ap (λ (m : CodeMarks). m.slip) is);
+      rise = mark-of (is_rise_or_return s.interval code) s satellite es c marks.rise (ap (λ (m : CodeMarks). m.rise) is);
       half = mark-of (λ before now. has_bit_1 code now.observed) s satellite es c marks.half (ap (λ (m : CodeMarks). m.half) is);
       least = λ level. mark-of (λ before now. is_at_most level (level_at code now.observed)) s satellite es c (is_at_most level marks.least)
           (ap (λ (m : CodeMarks). is_at_most level m.least) is ∙ least-at-most level s satellite code es c);
@@ -171,26 +171,26 @@ one-of-two true true = refl
 one-of-two true false = refl
 one-of-two false known = refl
 
-bits-of-satellite : (gap : ℕ) (before : List Sighting) (now : Sighting)
-    → count_by (λ code. is_slip gap code before now) (range_with_len 0 16) + count_by (λ code. is_rise gap code before now) (range_with_len 0 16)
+bits-of-satellite : (interval : Option ℕ) (before : List Sighting) (now : Sighting)
+    → count_by (λ code. is_slip interval code before now) (range_with_len 0 16) + count_by (λ code. is_rise_or_return interval code before now) (range_with_len 0 16)
     ≡ count_by (λ code. has_bit_0 code now.observed) (range_with_len 0 16)
-bits-of-satellite gap before now =
-    sum-both (λ (code : ℕ). cond (is_slip gap code before now) 1 0) (λ (code : ℕ). cond (is_rise gap code before now) 1 0) (λ (code : ℕ). cond (has_bit_0 code now.observed) 1 0)
-    (range_with_len 0 16) (λ code. one-of-two (has_bit_0 code now.observed) (is_known gap code before now))
+bits-of-satellite interval before now =
+    sum-both (λ (code : ℕ). cond (is_slip interval code before now) 1 0) (λ (code : ℕ). cond (is_rise_or_return interval code before now) 1 0) (λ (code : ℕ). cond (has_bit_0 code now.observed) 1 0)
+    (range_with_len 0 16) (λ code. one-of-two (has_bit_0 code now.observed) (is_kept interval code before now))
 
-bits-of-epoch : (gap : ℕ) (es : List EpochTableView) (e : EpochTableView)
-    → times_in_epoch (is_slip gap) es e + times_in_epoch (is_rise gap) es e ≡ times_in_epoch (λ code before now. has_bit_0 code now.observed) es e
-bits-of-epoch gap es e =
-    sum-both (λ (place : ℕ). count_by (λ code. is_slip gap code (sightings_of (place + 1) es) (sighting_of (place + 1) e)) (range_with_len 0 16))
-    (λ (place : ℕ). count_by (λ code. is_rise gap code (sightings_of (place + 1) es) (sighting_of (place + 1) e)) (range_with_len 0 16))
+bits-of-epoch : (interval : Option ℕ) (es : List EpochTableView) (e : EpochTableView)
+    → times_in_epoch (is_slip interval) es e + times_in_epoch (is_rise_or_return interval) es e ≡ times_in_epoch (λ code before now. has_bit_0 code now.observed) es e
+bits-of-epoch interval es e =
+    sum-both (λ (place : ℕ). count_by (λ code. is_slip interval code (sightings_of (place + 1) es) (sighting_of (place + 1) e)) (range_with_len 0 16))
+    (λ (place : ℕ). count_by (λ code. is_rise_or_return interval code (sightings_of (place + 1) es) (sighting_of (place + 1) e)) (range_with_len 0 16))
     (λ (place : ℕ). count_by (λ code. has_bit_0 code (observed_in (place + 1) e.rows)) (range_with_len 0 16))
-    (range_with_len 0 32) (λ place. bits-of-satellite gap (sightings_of (place + 1) es) (sighting_of (place + 1) e))
+    (range_with_len 0 32) (λ place. bits-of-satellite interval (sightings_of (place + 1) es) (sighting_of (place + 1) e))
 
 sums-together : (a b c d e f : ℕ) → a + b ≡ c → d + e ≡ f → (a + d) + (b + e) ≡ c + f
 sums-together a b c d e f first second = omega (arith, first, second)
 
-pub slips-and-rises : (gap : ℕ) (es : List EpochTableView) → slips_in gap es + rises_in gap es ≡ times_in (λ code before now. has_bit_0 code now.observed) es
-slips-and-rises gap [] = refl
-slips-and-rises gap (e ∷ es) =
-    sums-together (slips_in gap es) (rises_in gap es) (times_in (λ code before now. has_bit_0 code now.observed) es) (times_in_epoch (is_slip gap) es e) (times_in_epoch (is_rise gap) es e)
-    (times_in_epoch (λ code before now. has_bit_0 code now.observed) es e) (slips-and-rises gap es) (bits-of-epoch gap es e)
+pub slips-and-rises : (interval : Option ℕ) (es : List EpochTableView) → slips_in interval es + rises_in interval es ≡ times_in (λ code before now. has_bit_0 code now.observed) es
+slips-and-rises interval [] = refl
+slips-and-rises interval (e ∷ es) =
+    sums-together (slips_in interval es) (rises_in interval es) (times_in (λ code before now. has_bit_0 code now.observed) es) (times_in_epoch (is_slip interval) es e) (times_in_epoch (is_rise_or_return interval) es e)
+    (times_in_epoch (λ code before now. has_bit_0 code now.observed) es e) (slips-and-rises interval es) (bits-of-epoch interval es e)

@@ -3,7 +3,6 @@ use Rattle.std.specs.Prelude.{◌≡◌, ℕ, ◌-◌, List, [], ◌∷◌, leng
 use Rattle.rtk_rinex.specs.Record.{EpochTableView}
 use Rattle.rtk_rinex.specs.Table.{WellFormedTable, IsWellFormedTable, table_text}
 use Rattle.rtk_tracking.specs.Epochs.{capped, newest_first}
-use Rattle.rtk_tracking.specs.Passes.{longest_gap}
 use Rattle.rtk_chart.specs.Epochs.{slips_in, rises_in}
 use Rattle.rtk_tracking.specs.Interval.{interval_of_file, missing_in}
 use Rattle.rtk_chart.specs.Scale.{scale_of}
@@ -15,10 +14,10 @@ use Rattle.rtk_chart.specs.declared.scale.Scale.{Scale}
 
 -- the slips of epochs as a picture at a scale counts them
 abbrev pub slips_at : Scale → List EpochTableView → ℕ
-slips_at s es = capped (slips_in (longest_gap s.interval) es)
+slips_at s es = capped (slips_in s.interval es)
 
 abbrev pub rises_at : Scale → List EpochTableView → ℕ
-rises_at s es = capped (rises_in (longest_gap s.interval) es)
+rises_at s es = capped (rises_in s.interval es)
 
 -- the picture in characters of these epochs, newest first, at a scale, of this width
 abbrev pub text_at : List ℕ → List Code → ℕ → Scale → List EpochTableView → List ℕ

@@ -4,7 +4,7 @@ use Rattle.std.specs.List.{range_with_len}
 use Rattle.rtk_rinex.specs.Record.{EpochTableView}
 use Rattle.rtk_tracking.specs.Epochs.{newest_moment, observed_in, shows_phase}
 use Rattle.rtk_tracking.specs.Extremes.{lesser}
-use Rattle.rtk_tracking.specs.Passes.{Sighting, sightings_of, longest_gap, is_rise, is_slip}
+use Rattle.rtk_tracking.specs.Passes.{Sighting, sightings_of, is_rise_or_return, is_slip}
 use Rattle.rtk_tracking.specs.Interval.{missing_before}
 use Rattle.rtk_chart.specs.Epochs.{sighting_of, is_seen, lacks_phase, has_bit_1, level_at}
 use Rattle.rtk_chart.specs.Scale.{bin_at}
@@ -47,8 +47,8 @@ code_in s satellite es c code =
     record {
       phase = some_epoch (λ before now. shows_phase code now.observed) s satellite es c;
       missing = some_epoch (λ before now. lacks_phase code now.observed) s satellite es c;
-      slip = some_epoch (is_slip (longest_gap s.interval) code) s satellite es c;
-      rise = some_epoch (is_rise (longest_gap s.interval) code) s satellite es c;
+      slip = some_epoch (is_slip s.interval code) s satellite es c;
+      rise = some_epoch (is_rise_or_return s.interval code) s satellite es c;
       half = some_epoch (λ before now. has_bit_1 code now.observed) s satellite es c;
       least = least_in s satellite code es c;
     }

@@ -8,7 +8,6 @@ use Rattle.rtk_rinex.specs.Header.{IsMarker}
 use Rattle.rtk_rinex.specs.Record.{EpochTableView}
 use Rattle.rtk_rinex.specs.Table.{WellFormedTable, IsWellFormedTable}
 use Rattle.rtk_tracking.specs.Epochs.{capped, newest_first, observed_in}
-use Rattle.rtk_tracking.specs.Passes.{longest_gap}
 use Rattle.rtk_chart.specs.Epochs.{is_seen, slips_in, rises_in}
 use Rattle.rtk_tracking.specs.Interval.{steps_in, IsInterval, missing_in}
 use Rattle.rtk_chart.specs.Scale.{IsScale, unit_of, scale_of, bin_at}
@@ -29,8 +28,8 @@ pub record HasNumbers (s : Scale) (es : List EpochTableView) : Type 0 where
   pub bins : All (λ e. bin_at s e.time < s.bins) es
   pub interval : ForSome s.interval (λ ms. ms < 2 ^ 64)
   pub records : length es < 2 ^ 64
-  pub slips : slips_in (longest_gap s.interval) es < 2 ^ 64
-  pub rises : rises_in (longest_gap s.interval) es < 2 ^ 64
+  pub slips : slips_in s.interval es < 2 ^ 64
+  pub rises : rises_in s.interval es < 2 ^ 64
   pub missing : missing_in s.unit es < 2 ^ 64
 
 -- a table with these epochs, newest first, has them at the scale of its picture, whatever room there is
@@ -38,7 +37,7 @@ abbrev pub TablesHaveNumbers : Type 0
 TablesHaveNumbers =
     (t : WellFormedTable) (interval : Option ℕ) (allowed : ℕ) (e : EpochTableView) (before : List EpochTableView)
     → IsWellFormedTable t → newest_first t.epochs ≡ e ∷ before → IsInterval (steps_in (e ∷ before)) interval → IsInRange 1 1440 allowed
-    → length (e ∷ before) < 2 ^ 64 → slips_in (longest_gap interval) (e ∷ before) < 2 ^ 64 → rises_in (longest_gap interval) (e ∷ before) < 2 ^ 64
+    → length (e ∷ before) < 2 ^ 64 → slips_in interval (e ∷ before) < 2 ^ 64 → rises_in interval (e ∷ before) < 2 ^ 64
     → missing_in (unit_of interval) (e ∷ before) < 2 ^ 64
     → HasNumbers (scale_of t.first e.time interval allowed) (e ∷ before)
 
@@ -55,8 +54,8 @@ pub record HaveSameNumbers (s t : Scale) (es fs : List EpochTableView) : Type 0 
   pub bin : HaveSameBins s.interval s.bin_ms t.bin_ms
   pub records : length es ≡ length fs
   pub satellites : satellites_shown_in es ≡ satellites_shown_in fs
-  pub slips : slips_in (longest_gap s.interval) es ≡ slips_in (longest_gap t.interval) fs
-  pub rises : rises_in (longest_gap s.interval) es ≡ rises_in (longest_gap t.interval) fs
+  pub slips : slips_in s.interval es ≡ slips_in t.interval fs
+  pub rises : rises_in s.interval es ≡ rises_in t.interval fs
   pub missing : missing_in s.unit es ≡ missing_in t.unit fs
 
 -- the heading of a picture in characters

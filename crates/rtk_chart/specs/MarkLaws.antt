@@ -4,7 +4,7 @@ use Rattle.std.specs.List.{list_any, sum_by}
 use Rattle.rtk_rinex.specs.Record.{EpochTableView}
 use Rattle.rtk_rinex.specs.Table.{IsTableEpoch}
 use Rattle.rtk_tracking.specs.Epochs.{newest_moment, observed_in, shows_phase}
-use Rattle.rtk_tracking.specs.Passes.{Sighting, sightings_of, longest_gap, is_rise, is_slip}
+use Rattle.rtk_tracking.specs.Passes.{Sighting, sightings_of, is_rise_or_return, is_slip}
 use Rattle.rtk_tracking.specs.Interval.{steps_in, nearest_intervals, missing_in}
 use Rattle.rtk_chart.specs.Epochs.{sighting_of, is_seen, lacks_phase, has_bit_1, level_at, slips_in, rises_in}
 use Rattle.rtk_chart.specs.Scale.{bin_at}
@@ -34,8 +34,8 @@ is_at_most level (Some digit) = nat_le digit level
 pub record ShowsEpochs (s : Scale) (es : List EpochTableView) (c satellite code : ℕ) (marks : CodeMarks) : Type 0 where
   pub phase : IsMarkOf s es c satellite marks.phase (λ before now. shows_phase code now.observed)
   pub missing : IsMarkOf s es c satellite marks.missing (λ before now. lacks_phase code now.observed)
-  pub slip : IsMarkOf s es c satellite marks.slip (is_slip (longest_gap s.interval) code)
-  pub rise : IsMarkOf s es c satellite marks.rise (is_rise (longest_gap s.interval) code)
+  pub slip : IsMarkOf s es c satellite marks.slip (is_slip s.interval code)
+  pub rise : IsMarkOf s es c satellite marks.rise (is_rise_or_return s.interval code)
   pub half : IsMarkOf s es c satellite marks.half (λ before now. has_bit_1 code now.observed)
   pub least : (level : ℕ) → IsMarkOf s es c satellite (is_at_most level marks.least) (λ before now. is_at_most level (level_at code now.observed))
 
@@ -79,5 +79,5 @@ MissingAreOfSteps = (unit : ℕ) (es : List EpochTableView) → missing_in unit 
 -- satellite in each epoch of a file of n codes
 abbrev pub SlipsAndRisesAreDigits : Type 0
 SlipsAndRisesAreDigits =
-    (gap n : ℕ) (es : List EpochTableView) → n ≤ 16 → All (IsTableEpoch n) es
-    → slips_in gap es + rises_in gap es ≡ sum_by (λ e. sum_by (λ r. count_by (λ o. o.slip) r.observed.items) e.rows) es
+    (interval : Option ℕ) (n : ℕ) (es : List EpochTableView) → n ≤ 16 → All (IsTableEpoch n) es
+    → slips_in interval es + rises_in interval es ≡ sum_by (λ e. sum_by (λ r. count_by (λ o. o.slip) r.observed.items) e.rows) es

@@ -39,15 +39,15 @@ impl CodeMarks {
 
     /// What an epoch calls for: the satellite has a phase or none, and the code had one earlier in the
     /// pass or had none.
-    pub(crate) fn of(observed: Observed, has_phase: bool, known: bool) -> CodeMarks
-        ensures { result ≡ called_for observed has_phase known }
+    pub(crate) fn of(observed: Observed, has_phase: bool, kept: bool) -> CodeMarks
+        ensures { result ≡ called_for observed has_phase kept }
     {
         let phase = observed.phase_millicycles.is_some();
         CodeMarks {
             phase,
             missing: has_phase && !phase,
-            slip: observed.slip && known,
-            rise: observed.slip && !known,
+            slip: observed.slip && kept,
+            rise: observed.slip && !kept,
             half: observed.half,
             least: level_of(observed.strength_millidbhz),
         }

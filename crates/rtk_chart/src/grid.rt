@@ -5,7 +5,7 @@ ghost use Rattle.rtk_rinex.specs.Reading.{IsMoment};
 ghost use Rattle.rtk_rinex.specs.Record.{EpochTableView};
 ghost use Rattle.rtk_tracking.specs.Interval.{missing_before};
 ghost use Rattle.rtk_chart.specs.Scale.{IsScale};
-ghost use Rattle.rtk_tracking.specs.Passes.{longest_gap};
+ghost use Rattle.rtk_tracking.specs.Epochs.{newest_moment};
 ghost use Rattle.rtk_chart.specs.Grid.{bins_of, has_missing_before};
 ghost use Rattle.rtk_chart.specs.Steps.Standing.{AddsMarks, CountsMissing, StandForPasses, StandsForGrid};
 ghost use Rattle.rtk_chart.specs.Steps.Shown.{bin_of};
@@ -14,7 +14,7 @@ use crate::scale::Scale;
 use crate::time_bin::TimeBin;
 use rtk_obs::GpsMs;
 use rtk_rinex::EpochTable;
-use rtk_tracking::{Pass, longest_gap_ms, missing_between, observed_in};
+use rtk_tracking::{Pass, missing_between, observed_in};
 use std::alloc::{AllocError, Global};
 
 /// The bins with what was read, and the epochs that are missing.
@@ -64,7 +64,7 @@ fn note_in_bin(bins: &mut Vec<TimeBin>, scale: &Scale, moment: u64, called: &Tim
     requires moment { IsMoment moment }
     ensures size { length bins.new.items ≡ length bins.old.items }
     ensures noted { (e : EpochTableView) (es : List EpochTableView) → moment ≡ e.time
-        → called.now ≡ bin_of (longest_gap scale.now.interval) es e
+        → called.now ≡ bin_of scale.now.interval es e
         → bins.old.items ≡ bins_of scale.now es → bins.new.items ≡ bins_of scale.now (e ∷ es) }
 {
     let place = scale.bin_at(moment) as usize;
@@ -73,16 +73,32 @@ fn note_in_bin(bins: &mut Vec<TimeBin>, scale: &Scale, moment: u64, called: &Tim
     }
 }
 
-// Notes an epoch in the pass of each satellite.
-fn note_passes(passes: &mut [Pass; 32], gap_ms: u64, epoch: &EpochTable)
-    ensures { (es : List EpochTableView) → StandForPasses passes.old gap_ms es
-        → StandForPasses passes.new gap_ms (epoch.now ∷ es) }
+// A moment in ms, if it is there.
+fn ms_of(moment: Option<GpsMs>) -> Option<u64>
+    ensures { result ≡ moment }
+{
+    match moment {
+        Some(moment) => Some(moment.ms()),
+        None => None,
+    }
+}
+
+// Notes an epoch in the pass of each satellite. It comes after a record at this moment, or is the first one.
+fn note_passes(
+    passes: &mut [Pass; 32],
+    interval: Option<u64>,
+    record_ms: Option<u64>,
+    epoch: &EpochTable,
+)
+    ensures { (es : List EpochTableView) → StandForPasses passes.old interval es → record_ms ≡ newest_moment es
+        → StandForPasses passes.new interval (epoch.now ∷ es) }
 {
     let rows = epoch.rows();
     let time_ms = epoch.time().ms();
     for place in 0u8..32 {
         let mut pass = passes[usize::from(place)];
-        pass.note(gap_ms, time_ms, observed_in(rows, place + 1));
+        let observed = observed_in(rows, place + 1);
+        pass.note(interval, record_ms, time_ms, observed);
         passes[usize::from(place)] = pass;
     }
 }
@@ -132,13 +148,14 @@ impl Grid {
         ensures grid { (es : List EpochTableView) → StandsForGrid self.old scale.now es
             → StandsForGrid self.new scale.now (epoch.now ∷ es) }
     {
-        let gap_ms = longest_gap_ms(scale.interval);
-        let called = TimeBin::of(&self.passes, gap_ms, epoch);
+        let interval = scale.interval;
+        let record_ms = ms_of(self.last);
+        let called = TimeBin::of(&self.passes, interval, record_ms, epoch);
         self.count_missing(scale, epoch);
         self.slips = self.slips.saturating_add(called.slips());
         self.rises = self.rises.saturating_add(called.rises());
         note_in_bin(&mut self.bins, scale, epoch.time().ms(), &called);
-        note_passes(&mut self.passes, gap_ms, epoch);
+        note_passes(&mut self.passes, interval, record_ms, epoch);
         self.last = Some(epoch.time());
     }
 }

@@ -3,6 +3,7 @@
 ghost use Rattle.std.specs.Prelude.{◌≡◌, ◌<◌, List, map, count_by};
 ghost use Rattle.std.specs.List.{range_with_len, sum_by};
 ghost use Rattle.rtk_rinex.specs.Record.{EpochTableView};
+ghost use Rattle.rtk_tracking.specs.Epochs.{newest_moment};
 ghost use Rattle.rtk_chart.specs.Grid.{no_bin, tracking_at};
 ghost use Rattle.rtk_chart.specs.Steps.Standing.{StandForPasses};
 ghost use Rattle.rtk_chart.specs.Steps.Shown.{both_satellites, both_bins, bin_of};
@@ -46,10 +47,16 @@ impl TimeBin {
         &self.satellites[place]
     }
 
-    /// What an epoch calls for, if the passes are those of the epochs before it.
-    pub(crate) fn of(passes: &[Pass; 32], gap_ms: u64, epoch: &EpochTable) -> TimeBin
-        ensures { (before : List EpochTableView) → StandForPasses passes.now gap_ms before
-            → result ≡ bin_of gap_ms before epoch.now }
+    /// What an epoch calls for, if the passes are those of the epochs before it, of which the last one is at
+    /// this moment.
+    pub(crate) fn of(
+        passes: &[Pass; 32],
+        interval: Option<u64>,
+        record_ms: Option<u64>,
+        epoch: &EpochTable,
+    ) -> TimeBin
+        ensures { (before : List EpochTableView) → StandForPasses passes.now interval before → record_ms ≡ newest_moment before
+            → result ≡ bin_of interval before epoch.now }
     {
         let rows = epoch.rows();
         let time_ms = epoch.time().ms();
@@ -58,7 +65,7 @@ impl TimeBin {
             let pass = passes[usize::from(place)];
             let observed = observed_in(rows, place + 1);
             bin.satellites[usize::from(place)] = Tracking::of_epoch(
-                &pass, gap_ms, time_ms, observed,
+                &pass, interval, record_ms, time_ms, observed,
             );
         }
         bin

@@ -2,7 +2,7 @@
 
 ghost use Rattle.std.specs.Prelude.{◌≡◌, ◌≤◌, ◌<◌, List, map, count_by};
 ghost use Rattle.std.specs.List.{range_with_len};
-ghost use Rattle.rtk_tracking.specs.Passes.{Sighting, has_phase};
+ghost use Rattle.rtk_tracking.specs.Passes.{Sighting, last_record, has_phase};
 ghost use Rattle.rtk_tracking.specs.Standing.{StandsForPass};
 ghost use Rattle.rtk_chart.specs.Epochs.{is_seen};
 ghost use Rattle.rtk_chart.specs.Grid.{no_tracking};
@@ -20,23 +20,24 @@ pub(crate) struct Tracking {
     pub(crate) seen: bool,
 }
 
-// What an epoch calls for of the code at this place; those that are known had a phase earlier in the pass.
-fn called_at(observed: &[Observed], tracked: bool, known: &[bool; 16], code: usize) -> CodeMarks
+// What an epoch calls for of the code at this place; those that are kept had a phase earlier in
+// the pass and since the last outage.
+fn called_at(observed: &[Observed], tracked: bool, kept: &[bool; 16], code: usize) -> CodeMarks
     requires tracked { tracked ≡ has_phase observed.now }
     requires code { code < 16 }
-    ensures { result ≡ called_at observed.now known.now code }
+    ensures { result ≡ called_at observed.now kept.now code }
 {
-    CodeMarks::of(shown_at(observed, code), tracked, known[code])
+    CodeMarks::of(shown_at(observed, code), tracked, kept[code])
 }
 
 // What an epoch calls for of each code.
-fn called_for(observed: &[Observed], known: &[bool; 16]) -> [CodeMarks; 16]
-    ensures { result ≡ map (called_at observed.now known.now) (range_with_len 0 16) }
+fn called_for(observed: &[Observed], kept: &[bool; 16]) -> [CodeMarks; 16]
+    ensures { result ≡ map (called_at observed.now kept.now) (range_with_len 0 16) }
 {
     let tracked = has_phase(observed);
     let mut codes = [CodeMarks::new(); 16];
     for code in 0..16 {
-        codes[code] = called_at(observed, tracked, known, code);
+        codes[code] = called_at(observed, tracked, kept, code);
     }
     codes
 }
@@ -63,32 +64,35 @@ impl Tracking {
         }
     }
 
-    // What an epoch calls for; the codes that are known had a phase earlier in the pass.
-    fn of(observed: &[Observed], known: &[bool; 16]) -> Tracking
-        ensures codes { result.codes ≡ map (called_at observed.now known.now) (range_with_len 0 16) }
+    // What an epoch calls for; the codes that are kept had a phase earlier in the pass and
+    // since the last outage.
+    fn of(observed: &[Observed], kept: &[bool; 16]) -> Tracking
+        ensures codes { result.codes ≡ map (called_at observed.now kept.now) (range_with_len 0 16) }
         ensures seen { result.seen ≡ is_seen observed.now }
     {
         Tracking {
-            codes: called_for(observed, known),
+            codes: called_for(observed, kept),
             seen: is_seen(observed),
         }
     }
 
-    /// What an epoch calls for, after what came before it.
+    /// What an epoch calls for, after what came before it, and after a record at this moment if it is not
+    /// the first one.
     pub(crate) fn of_epoch(
         pass: &Pass,
-        gap_ms: u64,
+        interval: Option<u64>,
+        record_ms: Option<u64>,
         time_ms: u64,
         observed: &[Observed],
     ) -> Tracking
-        ensures { (before : List Sighting) → StandsForPass pass.now gap_ms before
-            → result ≡ tracking_of gap_ms before (record { time = time_ms; observed = observed.now }) }
+        ensures { (before : List Sighting) → StandsForPass pass.now interval before → record_ms ≡ last_record before
+            → result ≡ tracking_of interval before (record { time = time_ms; observed = observed.now }) }
     {
         if !is_seen(observed) {
             return Tracking::new();
         }
-        let known = pass.known(gap_ms, time_ms, observed);
-        Tracking::of(observed, &known)
+        let known = pass.known(interval, record_ms, time_ms, observed);
+        Tracking::of(observed, &known.kept)
     }
 
     /// Adds what one more epoch calls for.

@@ -23,52 +23,52 @@ use Rattle.rtk_quality.proofs.CountLemmas.{same-passes, begun-passes, longer-pas
 -- ---- satellites
 
 -- the satellites before a place have an epoch more
-pub record AreUpTo (n : ℕ) (xs : List SatelliteCounts) (gap : ℕ) (e : EpochTableView) (es : List EpochTableView) : Type 0 where
+pub record AreUpTo (n : ℕ) (xs : List SatelliteCounts) (interval : Option ℕ) (e : EpochTableView) (es : List EpochTableView) : Type 0 where
   pub size : length xs ≡ 32
-  pub new : (place : ℕ) (d : SatelliteCounts) → place < n → StandsForSatellite (get_or xs place d) gap (sightings_of (place + 1) (e ∷ es))
-  pub old : (place : ℕ) (d : SatelliteCounts) → n ≤ place → place < 32 → StandsForSatellite (get_or xs place d) gap (sightings_of (place + 1) es)
+  pub new : (place : ℕ) (d : SatelliteCounts) → place < n → StandsForSatellite (get_or xs place d) interval (sightings_of (place + 1) (e ∷ es))
+  pub old : (place : ℕ) (d : SatelliteCounts) → n ≤ place → place < 32 → StandsForSatellite (get_or xs place d) interval (sightings_of (place + 1) es)
 
-pub none-yet : (xs : List SatelliteCounts) (gap : ℕ) (e : EpochTableView) (es : List EpochTableView) → StandForSatellites xs gap es → AreUpTo 0 xs gap e es
-none-yet xs gap e es are = record {
+pub none-yet : (xs : List SatelliteCounts) (interval : Option ℕ) (e : EpochTableView) (es : List EpochTableView) → StandForSatellites xs interval es → AreUpTo 0 xs interval e es
+none-yet xs interval e es are = record {
   size = are.size;
   new = λ place d below. absurd (omega arith);
   old = λ place d above within. are.each place d within;
 }
 
-pub all-now : (n : ℕ) (xs : List SatelliteCounts) (gap : ℕ) (e : EpochTableView) (es : List EpochTableView) → n ≡ 32 → AreUpTo n xs gap e es → StandForSatellites xs gap (e ∷ es)
-all-now n xs gap e es end are = record {
+pub all-now : (n : ℕ) (xs : List SatelliteCounts) (interval : Option ℕ) (e : EpochTableView) (es : List EpochTableView) → n ≡ 32 → AreUpTo n xs interval e es → StandForSatellites xs interval (e ∷ es)
+all-now n xs interval e es end are = record {
   size = are.size;
   each = λ place d within.
       let below : place < n = omega arith in
       are.new place d below;
 }
 
-pub one-more : (n i : ℕ) (xs : List SatelliteCounts) (y : SatelliteCounts) (gap : ℕ) (e : EpochTableView) (es : List EpochTableView) → i ≡ n → n < 32
-    → AreUpTo n xs gap e es → StandsForSatellite y gap (sightings_of (n + 1) (e ∷ es)) → AreUpTo (n + 1) (set xs i y) gap e es
-one-more n i xs y gap e es at within are stands =
-    subst (λ (j : ℕ). AreUpTo (n + 1) (set xs j y) gap e es) (sym at) (record {
+pub one-more : (n i : ℕ) (xs : List SatelliteCounts) (y : SatelliteCounts) (interval : Option ℕ) (e : EpochTableView) (es : List EpochTableView) → i ≡ n → n < 32
+    → AreUpTo n xs interval e es → StandsForSatellite y interval (sightings_of (n + 1) (e ∷ es)) → AreUpTo (n + 1) (set xs i y) interval e es
+one-more n i xs y interval e es at within are stands =
+    subst (λ (j : ℕ). AreUpTo (n + 1) (set xs j y) interval e es) (sym at) (record {
       size = length-set xs n y ∙ are.size;
       new = λ place d below.
           elim (cases_eq place n) [
             | inl same ↦
                 let inside : n < length xs = let size = are.size in omega (arith, size) in
-                subst (λ (k : ℕ). StandsForSatellite (get_or (set xs n y) k d) gap (sightings_of (k + 1) (e ∷ es))) (sym same)
-                (subst (λ (z : SatelliteCounts). StandsForSatellite z gap (sightings_of (n + 1) (e ∷ es))) (sym (get_or-set_same xs n y d inside)) stands)
+                subst (λ (k : ℕ). StandsForSatellite (get_or (set xs n y) k d) interval (sightings_of (k + 1) (e ∷ es))) (sym same)
+                (subst (λ (z : SatelliteCounts). StandsForSatellite z interval (sightings_of (n + 1) (e ∷ es))) (sym (get_or-set_same xs n y d inside)) stands)
             | inr other ↦
                 let earlier : place < n = omega arith in
-                subst (λ (z : SatelliteCounts). StandsForSatellite z gap (sightings_of (place + 1) (e ∷ es))) (sym (get_or-set_other xs n place y d other)) (are.new place d earlier)
+                subst (λ (z : SatelliteCounts). StandsForSatellite z interval (sightings_of (place + 1) (e ∷ es))) (sym (get_or-set_other xs n place y d other)) (are.new place d earlier)
           ];
       old = λ place d above inside.
           let other : place ≢ n = λ same. absurd (omega arith) in
           let later : n ≤ place = omega arith in
-          subst (λ (z : SatelliteCounts). StandsForSatellite z gap (sightings_of (place + 1) es)) (sym (get_or-set_other xs n place y d other)) (are.old place d later inside);
+          subst (λ (z : SatelliteCounts). StandsForSatellite z interval (sightings_of (place + 1) es)) (sym (get_or-set_other xs n place y d other)) (are.old place d later inside);
     })
 
-pub fresh-satellites : (xs : List SatelliteCounts) (one : SatelliteCounts) (gap : ℕ) → xs ≡ replicate 32 one → ((gap : ℕ) → StandsForSatellite one gap []) → StandForSatellites xs gap []
-fresh-satellites xs one gap are fresh = record {
+pub fresh-satellites : (xs : List SatelliteCounts) (one : SatelliteCounts) (interval : Option ℕ) → xs ≡ replicate 32 one → ((interval : Option ℕ) → StandsForSatellite one interval []) → StandForSatellites xs interval []
+fresh-satellites xs one interval are fresh = record {
   size = ap (λ (ys : List SatelliteCounts). length ys) are ∙ length-replicate 32 one;
   each = λ place d within.
-      subst (λ (z : SatelliteCounts). StandsForSatellite z gap []) (sym (ap (λ (ys : List SatelliteCounts). get_or ys place d) are ∙ get_or-replicate 32 place one d within)) (fresh gap);
+      subst (λ (z : SatelliteCounts). StandsForSatellite z interval []) (sym (ap (λ (ys : List SatelliteCounts). get_or ys place d) are ∙ get_or-replicate 32 place one d within)) (fresh interval);
 }
 
 -- ---- passes that ended
@@ -87,26 +87,26 @@ older-longer s slips [] = refl
 older-longer s slips (p ∷ ps) = refl
 
 -- the passes that ended, an epoch more
-pub older-more : (gap : ℕ) (before : List Sighting) (s : Sighting)
-    → reverse (older_passes (passes_of gap (s ∷ before)))
-    ≡ reverse (older_passes (passes_of gap before)) ++ list_of (cond (begins_pass gap before s) (newest_pass (passes_of gap before)) None)
-older-more gap before s =
-    let ps : List PassCounts = passes_of gap before in
+pub older-more : (interval : Option ℕ) (before : List Sighting) (s : Sighting)
+    → reverse (older_passes (passes_of interval (s ∷ before)))
+    ≡ reverse (older_passes (passes_of interval before)) ++ list_of (cond (begins_pass interval before s) (newest_pass (passes_of interval before)) None)
+older-more interval before s =
+    let ps : List PassCounts = passes_of interval before in
     let same : (b : Bool) → b ≡ false → reverse (older_passes ps) ≡ reverse (older_passes ps) ++ list_of (cond b (newest_pass ps) None) =
     λ b no. sym (append-nil (reverse (older_passes ps))) ∙ sym (ap (λ (x : Bool). reverse (older_passes ps) ++ list_of (cond x (newest_pass ps) None)) no) in
     elim (cases_Bool (has_phase s.observed)) [
       | inr none ↦
-          ap (λ (qs : List PassCounts). reverse (older_passes qs)) (same-passes gap before s none)
-          ∙ same (begins_pass gap before s) (ap (λ (b : Bool). b && is_away gap (last_phase before) s.time) none)
+          ap (λ (qs : List PassCounts). reverse (older_passes qs)) (same-passes interval before s none)
+          ∙ same (begins_pass interval before s) (ap (λ (b : Bool). b && is_away interval (last_phase before) s.time) none)
       | inl has ↦
-          elim (cases_Bool (begins_pass gap before s)) [
+          elim (cases_Bool (begins_pass interval before s)) [
             | inl begins ↦
-                ap (λ (qs : List PassCounts). reverse (older_passes qs)) (begun-passes gap before s has begins) ∙ older-and-newest ps
+                ap (λ (qs : List PassCounts). reverse (older_passes qs)) (begun-passes interval before s has begins) ∙ older-and-newest ps
                 ∙ sym (ap (λ (b : Bool). reverse (older_passes ps) ++ list_of (cond b (newest_pass ps) None)) begins)
             | inr goes_on ↦
-                ap (λ (qs : List PassCounts). reverse (older_passes qs)) (longer-passes gap before s has goes_on)
-                ∙ ap (λ (qs : List PassCounts). reverse qs) (older-longer s (slips_at gap before s) ps)
-                ∙ same (begins_pass gap before s) goes_on
+                ap (λ (qs : List PassCounts). reverse (older_passes qs)) (longer-passes interval before s has goes_on)
+                ∙ ap (λ (qs : List PassCounts). reverse qs) (older-longer s (slips_at interval before s) ps)
+                ∙ same (begins_pass interval before s) goes_on
           ]
     ]
 
@@ -141,12 +141,12 @@ with-other k satellite ended (Some p) other =
 
 -- ---- over all satellites
 
-pub totals-more : (gap : ℕ) (es : List EpochTableView) (place i : ℕ) (old own new : CodeNumbers)
-    → old ≡ fold (λ total satellite. with_satellite total (numbers_of gap (sightings_of satellite es) place)) no_numbers (range_with_len 1 i)
-    → own ≡ numbers_of gap (sightings_of (i + 1) es) place → new ≡ with_satellite old own
-    → new ≡ fold (λ total satellite. with_satellite total (numbers_of gap (sightings_of satellite es) place)) no_numbers (range_with_len 1 (i + 1))
-totals-more gap es place i old own new was is took =
-    let f : CodeNumbers → ℕ → CodeNumbers = λ total satellite. with_satellite total (numbers_of gap (sightings_of satellite es) place) in
+pub totals-more : (interval : Option ℕ) (es : List EpochTableView) (place i : ℕ) (old own new : CodeNumbers)
+    → old ≡ fold (λ total satellite. with_satellite total (numbers_of interval (sightings_of satellite es) place)) no_numbers (range_with_len 1 i)
+    → own ≡ numbers_of interval (sightings_of (i + 1) es) place → new ≡ with_satellite old own
+    → new ≡ fold (λ total satellite. with_satellite total (numbers_of interval (sightings_of satellite es) place)) no_numbers (range_with_len 1 (i + 1))
+totals-more interval es place i old own new was is took =
+    let f : CodeNumbers → ℕ → CodeNumbers = λ total satellite. with_satellite total (numbers_of interval (sightings_of satellite es) place) in
     let next : i + 1 ≡ 1 + i = omega arith in
     took ∙ ap (λ (n : CodeNumbers). with_satellite n own) was ∙ ap (λ (n : CodeNumbers). with_satellite (fold f no_numbers (range_with_len 1 i)) n) is
     ∙ ap (λ (k : ℕ). f (fold f no_numbers (range_with_len 1 i)) k) next
@@ -161,20 +161,20 @@ any-map p f (x ∷ xs) = ap (λ b. p (f x) || b) (any-map p f xs)
 
 -- ---- the numbers of a code
 
-pub numbers-are : (gap place : ℕ) (before : List Sighting) (codes : List CodeCounts) (d counts : CodeCounts) (possible : ℕ) → place < 16 → codes ≡ code_counts_of gap before
-    → counts ≡ get_or codes place d → possible ≡ epochs_in_passes gap before → record { counts = counts; possible = possible } ≡ numbers_of gap before place
+pub numbers-are : (interval : Option ℕ) (place : ℕ) (before : List Sighting) (codes : List CodeCounts) (d counts : CodeCounts) (possible : ℕ) → place < 16 → codes ≡ code_counts_of interval before
+    → counts ≡ get_or codes place d → possible ≡ epochs_in_passes interval before → record { counts = counts; possible = possible } ≡ numbers_of interval before place
 unfolding code_counts_of
-numbers-are gap place before codes d counts possible within are at in_passes =
+numbers-are interval place before codes d counts possible within are at in_passes =
     let here : 0 + place ≡ place = omega arith in
-    let is : counts ≡ counts_of (noted_of gap place before) =
-    at ∙ ap (λ (cs : List CodeCounts). get_or cs place d) are ∙ get_or-map-range_with_len (λ (k : ℕ). counts_of (noted_of gap k before)) 0 16 place place d within here in
-    ap (λ (c : CodeCounts). numbers_with c possible) is ∙ ap (λ (n : ℕ). numbers_with (counts_of (noted_of gap place before)) n) in_passes
+    let is : counts ≡ counts_of (noted_of interval place before) =
+    at ∙ ap (λ (cs : List CodeCounts). get_or cs place d) are ∙ get_or-map-range_with_len (λ (k : ℕ). counts_of (noted_of interval k before)) 0 16 place place d within here in
+    ap (λ (c : CodeCounts). numbers_with c possible) is ∙ ap (λ (n : ℕ). numbers_with (counts_of (noted_of interval place before)) n) in_passes
   where
     numbers_with : CodeCounts → ℕ → CodeNumbers
     numbers_with c n = record { counts = c; possible = n }
 
-pub in-file-is : (gap : ℕ) (before : List Sighting) (codes : List CodeCounts) → codes ≡ code_counts_of gap before → list_any (λ c. c.seen) codes ≡ is_in_file gap before
+pub in-file-is : (interval : Option ℕ) (before : List Sighting) (codes : List CodeCounts) → codes ≡ code_counts_of interval before → list_any (λ c. c.seen) codes ≡ is_in_file interval before
 unfolding code_counts_of is_in_file
-in-file-is gap before codes are =
+in-file-is interval before codes are =
     ap (λ (cs : List CodeCounts). list_any (λ (c : CodeCounts). c.seen) cs) are
-    ∙ any-map (λ (c : CodeCounts). c.seen) (λ (place : ℕ). counts_of (noted_of gap place before)) (range_with_len 0 16)
+    ∙ any-map (λ (c : CodeCounts). c.seen) (λ (place : ℕ). counts_of (noted_of interval place before)) (range_with_len 0 16)

@@ -1,4 +1,4 @@
--- Each bit 0 is a rise or a slip; and counts, sums and means below 2^64.
+-- No bit 0 is hidden; and counts, sums and means below 2^64.
 use Rattle.std.proofs.Common.{◌≡◌, ◌<◌, ◌≤◌, ◌+◌, ◌*◌, ◌^◌, ◌==◌, ℕ, zero, suc, Bool, true, false, not, cond, ◌&&◌, ◌||◌, List, [], ◌∷◌, length, Option, None, Some, is_some, inl, inr, refl, sym, ap, subst, ◌∙◌, arith}
 use Rattle.std.specs.Prelude.{count_by, sum_by}
 use Rattle.std.specs.List.{fold, range_with_len}
@@ -9,39 +9,21 @@ use Rattle.rtk_rinex.specs.declared.epoch_table.Observed.{Observed}
 use Rattle.rtk_rinex.specs.Reading.{reading_of}
 use Rattle.rtk_rinex.specs.Record.{EpochTableView}
 use Rattle.rtk_tracking.specs.Epochs.{capped}
-use Rattle.rtk_tracking.specs.Passes.{Sighting, sightings_of, has_phase, begins_pass, has_bit_0, is_known}
+use Rattle.rtk_tracking.specs.Passes.{Sighting, sightings_of, has_phase, begins_pass}
 use Rattle.rtk_quality.specs.Counts.{Noted, plus, tally, strength_total, counts_of, rounded_fraction, mean_hundredths}
 use Rattle.rtk_quality.specs.SatellitePasses.{phases_in, slips_at, longer, passes_of, epochs_since_phase, epochs_in_passes}
 use Rattle.rtk_quality.specs.Records.{rows_of, rows_total}
 use Rattle.rtk_quality.specs.Quality.{numbers_of, no_numbers, together, with_satellite, totals_of}
-use Rattle.rtk_quality.specs.Laws.{EachBitIsOne, NoBitIsBoth, CountsHideNothing, EachIsCounted, strength_or_0, sum_of_strengths, mean_of_strengths, MeanIsOfAll, number_if_seen, count_in_passes, EachInPassIsCounted, PhasesAreInPasses, sum_of_satellites, IsTotal, TotalsAreSums, RowsAreSum}
+use Rattle.rtk_quality.specs.Laws.{CountsHideNothing, EachIsCounted, strength_or_0, sum_of_strengths, mean_of_strengths, MeanIsOfAll, number_if_seen, count_in_passes, EachInPassIsCounted, PhasesAreInPasses, sum_of_satellites, IsTotal, TotalsAreSums, RowsAreSum}
 use Rattle.rtk_quality.specs.declared.code_numbers.CodeNumbers.{CodeNumbers}
 use Rattle.rtk_quality.specs.declared.satellite_counts.PassCounts.{PassCounts}
 use Rattle.rtk_quality.proofs.CountLemmas.{had-last, begun-passes, longer-passes, same-passes, has-pass}
-
-either : (bit known : Bool) → bit ≡ ((bit && not known) || (bit && known))
-either true true = refl
-either true false = refl
-either false true = refl
-either false false = refl
-
-not-both : (bit known : Bool) → ((bit && not known) && (bit && known)) ≡ false
-not-both true true = refl
-not-both true false = refl
-not-both false true = refl
-not-both false false = refl
-
-pub each-bit : EachBitIsOne
-each-bit gap place before s = either (has_bit_0 place s.observed) (is_known gap place before s)
-
-pub no-bit : NoBitIsBoth
-no-bit gap place before s = not-both (has_bit_0 place s.observed) (is_known gap place before s)
 
 -- one more
 abbrev one : Bool → ℕ
 one b = cond b 1 0
 
-split : (bit known : Bool) → one (bit && known) + one (bit && not known) ≡ one bit
+split : (bit kept : Bool) → one (bit && kept) + one (bit && not kept) ≡ one bit
 split true true = refl
 split true false = refl
 split false true = refl
@@ -53,8 +35,8 @@ sums a b x y z e = omega (arith, e)
 pub nothing-hidden : CountsHideNothing
 nothing-hidden [] = refl
 nothing-hidden (n ∷ ns) =
-    sums (tally (λ n. n.observed.slip && n.known) ns) (tally (λ n. n.observed.slip && not n.known) ns) (one (n.observed.slip && n.known)) (one (n.observed.slip && not n.known)) (one n.observed.slip)
-    (split n.observed.slip n.known)
+    sums (tally (λ n. n.observed.slip && n.kept) ns) (tally (λ n. n.observed.slip && not n.kept) ns) (one (n.observed.slip && n.kept)) (one (n.observed.slip && not n.kept)) (one n.observed.slip)
+    (split n.observed.slip n.kept)
     ∙ ap (λ (k : ℕ). plus k (one n.observed.slip)) (nothing-hidden ns)
 
 -- ---- numbers of any size below 2^64
@@ -102,18 +84,18 @@ abbrev since : List Sighting → ℕ
 since [] = 0
 since (s ∷ before) = cond (has_phase s.observed) 0 (since before + 1)
 
-in-length : (gap : ℕ) (on : Bool) (before : List Sighting) → count_in_passes gap on before ≤ length before
-in-length gap on [] = omega arith
-in-length gap on (s ∷ before) = elim (cases_Bool (has_phase s.observed)) [
+in-length : (interval : Option ℕ) (on : Bool) (before : List Sighting) → count_in_passes interval on before ≤ length before
+in-length interval on [] = omega arith
+in-length interval on (s ∷ before) = elim (cases_Bool (has_phase s.observed)) [
   | inl has ↦
-      let rest = in-length gap (not (begins_pass gap before s)) before in
-      let is : count_in_passes gap on (s ∷ before) ≡ count_in_passes gap (not (begins_pass gap before s)) before + 1 =
-      ap (λ (b : Bool). cond b (count_in_passes gap (not (begins_pass gap before s)) before + 1) (count_in_passes gap on before + cond on 1 0)) has in
+      let rest = in-length interval (not (begins_pass interval before s)) before in
+      let is : count_in_passes interval on (s ∷ before) ≡ count_in_passes interval (not (begins_pass interval before s)) before + 1 =
+      ap (λ (b : Bool). cond b (count_in_passes interval (not (begins_pass interval before s)) before + 1) (count_in_passes interval on before + cond on 1 0)) has in
       omega (arith, rest, is)
   | inr none ↦
-      let rest = in-length gap on before in
-      let is : count_in_passes gap on (s ∷ before) ≡ count_in_passes gap on before + cond on 1 0 =
-      ap (λ (b : Bool). cond b (count_in_passes gap (not (begins_pass gap before s)) before + 1) (count_in_passes gap on before + cond on 1 0)) none in
+      let rest = in-length interval on before in
+      let is : count_in_passes interval on (s ∷ before) ≡ count_in_passes interval on before + cond on 1 0 =
+      ap (λ (b : Bool). cond b (count_in_passes interval (not (begins_pass interval before s)) before + 1) (count_in_passes interval on before + cond on 1 0)) none in
       let one = at-most-one on in
       omega (arith, rest, is, one)
 ]
@@ -148,53 +130,53 @@ since-is (s ∷ before) few = elim (cases_Bool (has_phase s.observed)) [
 ]
 
 -- the next phase goes on with the pass: the epochs since the last phase lie in it too
-going-on : (gap : ℕ) (before : List Sighting) → count_in_passes gap true before ≡ count_in_passes gap false before + since before
-going-on gap [] = refl
-going-on gap (s ∷ before) = elim (cases_Bool (has_phase s.observed)) [
+going-on : (interval : Option ℕ) (before : List Sighting) → count_in_passes interval true before ≡ count_in_passes interval false before + since before
+going-on interval [] = refl
+going-on interval (s ∷ before) = elim (cases_Bool (has_phase s.observed)) [
   | inl has ↦
-      let n : ℕ = count_in_passes gap (not (begins_pass gap before s)) before + 1 in
-      let on : count_in_passes gap true (s ∷ before) ≡ n = ap (λ (b : Bool). cond b n (count_in_passes gap true before + 1)) has in
-      let off : count_in_passes gap false (s ∷ before) ≡ n = ap (λ (b : Bool). cond b n (count_in_passes gap false before + 0)) has in
+      let n : ℕ = count_in_passes interval (not (begins_pass interval before s)) before + 1 in
+      let on : count_in_passes interval true (s ∷ before) ≡ n = ap (λ (b : Bool). cond b n (count_in_passes interval true before + 1)) has in
+      let off : count_in_passes interval false (s ∷ before) ≡ n = ap (λ (b : Bool). cond b n (count_in_passes interval false before + 0)) has in
       let late : since (s ∷ before) ≡ 0 = ap (λ (b : Bool). cond b 0 (since before + 1)) has in
       omega (arith, on, off, late)
   | inr none ↦
-      let n : ℕ = count_in_passes gap (not (begins_pass gap before s)) before + 1 in
-      let on : count_in_passes gap true (s ∷ before) ≡ count_in_passes gap true before + 1 = ap (λ (b : Bool). cond b n (count_in_passes gap true before + 1)) none in
-      let off : count_in_passes gap false (s ∷ before) ≡ count_in_passes gap false before + 0 = ap (λ (b : Bool). cond b n (count_in_passes gap false before + 0)) none in
+      let n : ℕ = count_in_passes interval (not (begins_pass interval before s)) before + 1 in
+      let on : count_in_passes interval true (s ∷ before) ≡ count_in_passes interval true before + 1 = ap (λ (b : Bool). cond b n (count_in_passes interval true before + 1)) none in
+      let off : count_in_passes interval false (s ∷ before) ≡ count_in_passes interval false before + 0 = ap (λ (b : Bool). cond b n (count_in_passes interval false before + 0)) none in
       let late : since (s ∷ before) ≡ since before + 1 = ap (λ (b : Bool). cond b 0 (since before + 1)) none in
-      let rest = going-on gap before in
+      let rest = going-on interval before in
       omega (arith, on, off, late, rest)
 ]
 
 -- an epoch with a phase, which begins a pass or goes on with one
-phase-in-pass : (begins : Bool) (gap within late : ℕ) (before : List Sighting) → length before + 1 < 2 ^ 64
-    → within ≡ count_in_passes gap false before → late ≡ since before
-    → cond begins (plus within 1) (plus within (plus late 1)) ≡ count_in_passes gap (not begins) before + 1
-phase-in-pass true gap within late before few was since_phase =
-    let most = in-length gap false before in
+phase-in-pass : (begins : Bool) (interval : Option ℕ) (within late : ℕ) (before : List Sighting) → length before + 1 < 2 ^ 64
+    → within ≡ count_in_passes interval false before → late ≡ since before
+    → cond begins (plus within 1) (plus within (plus late 1)) ≡ count_in_passes interval (not begins) before + 1
+phase-in-pass true interval within late before few was since_phase =
+    let most = in-length interval false before in
     omega (arith, few, was, most)
-phase-in-pass false gap within late before few was since_phase =
-    let on = going-on gap before in
-    let most = in-length gap true before in
+phase-in-pass false interval within late before few was since_phase =
+    let on = going-on interval before in
+    let most = in-length interval true before in
     omega (arith, few, was, since_phase, on, most)
 
 pub each-in-pass : EachInPassIsCounted
-each-in-pass gap [] few = refl
-each-in-pass gap (s ∷ before) few =
-    let begins : Bool = begins_pass gap before s in
-    let within : ℕ = epochs_in_passes gap before in
+each-in-pass interval [] few = refl
+each-in-pass interval (s ∷ before) few =
+    let begins : Bool = begins_pass interval before s in
+    let within : ℕ = epochs_in_passes interval before in
     let late : ℕ = epochs_since_phase before in
-    let with : ℕ = count_in_passes gap (not begins) before + 1 in
-    let was = each-in-pass gap before (omega (arith, few)) in
+    let with : ℕ = count_in_passes interval (not begins) before + 1 in
+    let was = each-in-pass interval before (omega (arith, few)) in
     elim (cases_Bool (has_phase s.observed)) [
       | inl has ↦
           ap (λ (b : Bool). cond (not b) within (cond begins (plus within 1) (plus within (plus late 1)))) has
-          ∙ phase-in-pass begins gap within late before (omega (arith, few)) was (since-is before (omega (arith, few)))
-          ∙ sym (ap (λ (b : Bool). cond b with (count_in_passes gap false before + 0)) has)
+          ∙ phase-in-pass begins interval within late before (omega (arith, few)) was (since-is before (omega (arith, few)))
+          ∙ sym (ap (λ (b : Bool). cond b with (count_in_passes interval false before + 0)) has)
       | inr none ↦
-          let same : within ≡ count_in_passes gap false before + 0 = omega (arith, was) in
+          let same : within ≡ count_in_passes interval false before + 0 = omega (arith, was) in
           ap (λ (b : Bool). cond (not b) within (cond begins (plus within 1) (plus within (plus late 1)))) none
-          ∙ same ∙ sym (ap (λ (b : Bool). cond b with (count_in_passes gap false before + 0)) none)
+          ∙ same ∙ sym (ap (λ (b : Bool). cond b with (count_in_passes interval false before + 0)) none)
     ]
 
 -- ---- the phases of passes
@@ -226,28 +208,28 @@ newest-longer s slips passes p ps are fits =
     omega (arith, was, is, fits)
 
 pub phases-in-passes : PhasesAreInPasses
-phases-in-passes gap [] few = refl
-phases-in-passes gap (s ∷ before) few =
+phases-in-passes interval [] few = refl
+phases-in-passes interval (s ∷ before) few =
     let all = sum_by-cons (λ x. phases_in x.observed) s before in
-    let was = phases-in-passes gap before (omega (arith, few, all)) in
+    let was = phases-in-passes interval before (omega (arith, few, all)) in
     elim (cases_Bool (has_phase s.observed)) [
       | inr none ↦
           let here = no-phases s.observed none in
-          let same : of-passes (passes_of gap (s ∷ before)) ≡ of-passes (passes_of gap before) = ap (λ (ps : List PassCounts). of-passes ps) (same-passes gap before s none) in
+          let same : of-passes (passes_of interval (s ∷ before)) ≡ of-passes (passes_of interval before) = ap (λ (ps : List PassCounts). of-passes ps) (same-passes interval before s none) in
           omega (arith, all, was, here, same)
       | inl has ↦
-          elim (cases_Bool (begins_pass gap before s)) [
+          elim (cases_Bool (begins_pass interval before s)) [
             | inl begins ↦
-                let p : PassCounts = record { from = reading_of s.time; until = reading_of s.time; phases = phases_in s.observed; slips = slips_at gap before s } in
-                let more : of-passes (passes_of gap (s ∷ before)) ≡ p.phases + of-passes (passes_of gap before) =
-                ap (λ (ps : List PassCounts). of-passes ps) (begun-passes gap before s has begins) ∙ sum_by-cons (λ x. x.phases) p (passes_of gap before) in
+                let p : PassCounts = record { from = reading_of s.time; until = reading_of s.time; phases = phases_in s.observed; slips = slips_at interval before s } in
+                let more : of-passes (passes_of interval (s ∷ before)) ≡ p.phases + of-passes (passes_of interval before) =
+                ap (λ (ps : List PassCounts). of-passes ps) (begun-passes interval before s has begins) ∙ sum_by-cons (λ x. x.phases) p (passes_of interval before) in
                 omega (arith, all, was, more)
             | inr goes_on ↦
-                let last = had-last gap before s has goes_on in
-                let newest = has-pass gap before last.0 last.1 in
-                let more : of-passes (passes_of gap (s ∷ before)) ≡ of-passes (longer s (slips_at gap before s) (passes_of gap before)) =
-                ap (λ (ps : List PassCounts). of-passes ps) (longer-passes gap before s has goes_on) in
-                let longest = newest-longer s (slips_at gap before s) (passes_of gap before) newest.0 newest.1 newest.2 (omega (arith, few, all, was)) in
+                let last = had-last interval before s has goes_on in
+                let newest = has-pass interval before last.0 last.1 in
+                let more : of-passes (passes_of interval (s ∷ before)) ≡ of-passes (longer s (slips_at interval before s) (passes_of interval before)) =
+                ap (λ (ps : List PassCounts). of-passes ps) (longer-passes interval before s has goes_on) in
+                let longest = newest-longer s (slips_at interval before s) (passes_of interval before) newest.0 newest.1 newest.2 (omega (arith, few, all, was)) in
                 omega (arith, all, was, more, longest)
           ]
     ]
@@ -284,9 +266,9 @@ folded number added own (k ∷ ks) total fits =
 
 total-is : (number : CodeNumbers → ℕ) → IsAdded number → IsTotal number
 unfolding totals_of
-total-is number added gap place es fits =
+total-is number added interval place es fits =
     let none = added.0 in
-    let all = folded number added (λ k. numbers_of gap (sightings_of k es) place) (range_with_len 1 32) no_numbers (omega (arith, none, fits)) in
+    let all = folded number added (λ k. numbers_of interval (sightings_of k es) place) (range_with_len 1 32) no_numbers (omega (arith, none, fits)) in
     omega (arith, none, all)
 
 pub totals-are-sums : TotalsAreSums

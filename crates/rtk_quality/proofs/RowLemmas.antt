@@ -5,8 +5,8 @@ use Rattle.std.proofs.lemmas.List.{get_or-take, take_more, length-take-le}
 use Rattle.rtk_rinex.specs.Record.{EpochTableView, IsEpochTableView}
 use Rattle.rtk_rinex.specs.declared.epoch_table.Observed.{Observed}
 use Rattle.rtk_rinex.specs.declared.epoch_table.SatelliteRow.{SatelliteRow}
-use Rattle.rtk_tracking.specs.Epochs.{observed_in}
-use Rattle.rtk_tracking.specs.Passes.{Sighting, sightings_of}
+use Rattle.rtk_tracking.specs.Epochs.{newest_moment, observed_in}
+use Rattle.rtk_tracking.specs.Passes.{Sighting, sightings_of, last_record}
 use Rattle.rtk_quality.specs.SatellitePasses.{passes_of}
 use Rattle.rtk_quality.specs.Standing.{absent_at, older_passes, StandsForSatellite, StandsForEnded, StandForSatellites, ended_of, with_ended, HasEnded, StandForEnded}
 use Rattle.rtk_quality.specs.declared.satellite_counts.PassCounts.{PassCounts}
@@ -94,55 +94,60 @@ same-for k e i r es at other =
     seen : ℕ → List Observed → Sighting
     seen t os = record { time = t; observed = os }
 
+-- the last record, as each satellite has it
+pub record-is : (k : ℕ) (es : List EpochTableView) → newest_moment es ≡ last_record (sightings_of k es)
+record-is k [] = refl
+record-is k (e ∷ es) = refl
+
 -- ---- one more row
 
 -- the satellite of the row has none in the epoch so far
-pub row-due : (e : EpochTableView) (i place : ℕ) (r : SatelliteRow) (xs : List SatelliteCounts) (d : SatelliteCounts) (gap : ℕ) (es : List EpochTableView)
-    → IsRowAt e i r → place + 1 ≡ r.satellite → place < 32 → StandForSatellites xs gap (first_rows e i ∷ es)
-    → StandsForSatellite (get_or xs place d) gap (absent_at e.time ∷ sightings_of r.satellite es)
-row-due e i place r xs d gap es at number few are =
-    subst (λ (ss : List Sighting). StandsForSatellite (get_or xs place d) gap ss) (before-it e i r es at)
-    (subst (λ (n : ℕ). StandsForSatellite (get_or xs place d) gap (sightings_of n (first_rows e i ∷ es))) number (are.each place d few))
+pub row-due : (e : EpochTableView) (i place : ℕ) (r : SatelliteRow) (xs : List SatelliteCounts) (d : SatelliteCounts) (interval : Option ℕ) (es : List EpochTableView)
+    → IsRowAt e i r → place + 1 ≡ r.satellite → place < 32 → StandForSatellites xs interval (first_rows e i ∷ es)
+    → StandsForSatellite (get_or xs place d) interval (absent_at e.time ∷ sightings_of r.satellite es)
+row-due e i place r xs d interval es at number few are =
+    subst (λ (ss : List Sighting). StandsForSatellite (get_or xs place d) interval ss) (before-it e i r es at)
+    (subst (λ (n : ℕ). StandsForSatellite (get_or xs place d) interval (sightings_of n (first_rows e i ∷ es))) number (are.each place d few))
 
-pub row-noted : (e : EpochTableView) (i place : ℕ) (r : SatelliteRow) (xs : List SatelliteCounts) (y : SatelliteCounts) (gap : ℕ) (es : List EpochTableView)
-    → IsRowAt e i r → place + 1 ≡ r.satellite → place < 32 → StandForSatellites xs gap (first_rows e i ∷ es)
-    → StandsForSatellite y gap (record { time = e.time; observed = r.observed.items } ∷ sightings_of r.satellite es)
-    → StandForSatellites (set xs place y) gap (first_rows e (i + 1) ∷ es)
-row-noted e i place r xs y gap es at number few are stands = record {
+pub row-noted : (e : EpochTableView) (i place : ℕ) (r : SatelliteRow) (xs : List SatelliteCounts) (y : SatelliteCounts) (interval : Option ℕ) (es : List EpochTableView)
+    → IsRowAt e i r → place + 1 ≡ r.satellite → place < 32 → StandForSatellites xs interval (first_rows e i ∷ es)
+    → StandsForSatellite y interval (record { time = e.time; observed = r.observed.items } ∷ sightings_of r.satellite es)
+    → StandForSatellites (set xs place y) interval (first_rows e (i + 1) ∷ es)
+row-noted e i place r xs y interval es at number few are stands = record {
   size = length-set xs place y ∙ are.size;
   each = λ k z within.
       elim (cases_eq k place) [
         | inl same ↦
             let inside : place < length xs = let size = are.size in omega (arith, size, few) in
-            subst (λ (j : ℕ). StandsForSatellite (get_or (set xs place y) j z) gap (sightings_of (j + 1) (first_rows e (i + 1) ∷ es))) (sym same)
-            (subst (λ (s : SatelliteCounts). StandsForSatellite s gap (sightings_of (place + 1) (first_rows e (i + 1) ∷ es))) (sym (get_or-set_same xs place y z inside))
-            (subst (λ (n : ℕ). StandsForSatellite y gap (sightings_of n (first_rows e (i + 1) ∷ es))) (sym number)
-            (subst (λ (ss : List Sighting). StandsForSatellite y gap ss) (sym (with-it e i r es at)) stands)))
+            subst (λ (j : ℕ). StandsForSatellite (get_or (set xs place y) j z) interval (sightings_of (j + 1) (first_rows e (i + 1) ∷ es))) (sym same)
+            (subst (λ (s : SatelliteCounts). StandsForSatellite s interval (sightings_of (place + 1) (first_rows e (i + 1) ∷ es))) (sym (get_or-set_same xs place y z inside))
+            (subst (λ (n : ℕ). StandsForSatellite y interval (sightings_of n (first_rows e (i + 1) ∷ es))) (sym number)
+            (subst (λ (ss : List Sighting). StandsForSatellite y interval ss) (sym (with-it e i r es at)) stands)))
         | inr other ↦
             let apart : r.satellite ≢ k + 1 = λ alike. absurd (other (omega (arith, alike, number))) in
-            subst (λ (s : SatelliteCounts). StandsForSatellite s gap (sightings_of (k + 1) (first_rows e (i + 1) ∷ es))) (sym (get_or-set_other xs place k y z other))
-            (subst (λ (ss : List Sighting). StandsForSatellite (get_or xs k z) gap ss) (same-for (k + 1) e i r es at apart) (are.each k z within))
+            subst (λ (s : SatelliteCounts). StandsForSatellite s interval (sightings_of (k + 1) (first_rows e (i + 1) ∷ es))) (sym (get_or-set_other xs place k y z other))
+            (subst (λ (ss : List Sighting). StandsForSatellite (get_or xs k z) interval ss) (same-for (k + 1) e i r es at apart) (are.each k z within))
       ];
 }
 
-pub row-ended : (e : EpochTableView) (i : ℕ) (r : SatelliteRow) (old new : List EndedPass) (pass : Option PassCounts) (gap : ℕ) (es : List EpochTableView)
-    → IsRowAt e i r → StandForEnded old gap (first_rows e i ∷ es) → new ≡ with_ended old r.satellite pass
-    → StandsForEnded pass gap (sightings_of r.satellite es) (record { time = e.time; observed = r.observed.items })
-    → StandForEnded new gap (first_rows e (i + 1) ∷ es)
-row-ended e i r old new pass gap es at are took stands = λ place within.
+pub row-ended : (e : EpochTableView) (i : ℕ) (r : SatelliteRow) (old new : List EndedPass) (pass : Option PassCounts) (interval : Option ℕ) (es : List EpochTableView)
+    → IsRowAt e i r → StandForEnded old interval (first_rows e i ∷ es) → new ≡ with_ended old r.satellite pass
+    → StandsForEnded pass interval (sightings_of r.satellite es) (record { time = e.time; observed = r.observed.items })
+    → StandForEnded new interval (first_rows e (i + 1) ∷ es)
+row-ended e i r old new pass interval es at are took stands = λ place within.
     elim (cases_eq (place + 1) r.satellite) [
       | inl same ↦
-          let was : HasEnded old gap (absent_at e.time ∷ sightings_of r.satellite es) r.satellite =
-          subst (λ (ss : List Sighting). HasEnded old gap ss r.satellite) (before-it e i r es at)
-          (subst (λ (n : ℕ). HasEnded old gap (sightings_of n (first_rows e i ∷ es)) n) same (are place within)) in
-          subst (λ (n : ℕ). HasEnded new gap (sightings_of n (first_rows e (i + 1) ∷ es)) n) (sym same)
-          (subst (λ (ss : List Sighting). HasEnded new gap ss r.satellite) (sym (with-it e i r es at))
+          let was : HasEnded old interval (absent_at e.time ∷ sightings_of r.satellite es) r.satellite =
+          subst (λ (ss : List Sighting). HasEnded old interval ss r.satellite) (before-it e i r es at)
+          (subst (λ (n : ℕ). HasEnded old interval (sightings_of n (first_rows e i ∷ es)) n) same (are place within)) in
+          subst (λ (n : ℕ). HasEnded new interval (sightings_of n (first_rows e (i + 1) ∷ es)) n) (sym same)
+          (subst (λ (ss : List Sighting). HasEnded new interval ss r.satellite) (sym (with-it e i r es at))
           (ap (λ (xs : List EndedPass). ended_of r.satellite xs) took ∙ with-own r.satellite old pass
           ∙ ap (λ (ps : List PassCounts). ps ++ list_of pass) was
-          ∙ ap (λ (p : Option PassCounts). reverse (older_passes (passes_of gap (sightings_of r.satellite es))) ++ list_of p) stands
-          ∙ sym (older-more gap (sightings_of r.satellite es) (record { time = e.time; observed = r.observed.items }))))
+          ∙ ap (λ (p : Option PassCounts). reverse (older_passes (passes_of interval (sightings_of r.satellite es))) ++ list_of p) stands
+          ∙ sym (older-more interval (sightings_of r.satellite es) (record { time = e.time; observed = r.observed.items }))))
       | inr other ↦
           let apart : r.satellite ≢ place + 1 = λ alike. absurd (other (sym alike)) in
-          subst (λ (ss : List Sighting). HasEnded new gap ss (place + 1)) (same-for (place + 1) e i r es at apart)
+          subst (λ (ss : List Sighting). HasEnded new interval ss (place + 1)) (same-for (place + 1) e i r es at apart)
           (ap (λ (xs : List EndedPass). ended_of (place + 1) xs) took ∙ with-other (place + 1) r.satellite old pass apart ∙ are place within)
     ]

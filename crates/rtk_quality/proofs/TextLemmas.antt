@@ -21,23 +21,23 @@ unfolding marker_text
 json-marker marker t0 t1 t2 t3 e1 e2 e3 = three t0 t1 t2 t3 (codes "[{\"line\":\"file\",\"marker\":\"") (json_text marker) (codes "\"") e1 e2 e3
 
 -- the text of a file with records
-pub text-is : (form : Form) (marker : List ℕ) (listed : List Code) (first last : ℕ) (interval : Option ℕ) (gap : ℕ) (es : List EpochTableView)
+pub text-is : (form : Form) (marker : List ℕ) (listed : List Code) (first last : ℕ) (interval : Option ℕ) (es : List EpochTableView)
     (from until : Civil) (seen : ℕ) (r : RecordCounts) (t1 t2 t3 t4 t5 t6 : List ℕ)
-    → from ≡ reading_of first → until ≡ reading_of last → seen ≡ satellites_in gap es → r ≡ record_counts_of (unit_of interval) es
+    → from ≡ reading_of first → until ≡ reading_of last → seen ≡ satellites_in interval es → r ≡ record_counts_of (unit_of interval) es
     → t1 ≡ heading_text form marker from until interval seen r
-    → t2 ≡ t1 ++ each_code (λ place code. code_line form code (totals_of gap es place)) 0 listed
-    → t3 ≡ t2 ++ section_text form Codes listed gap es → t4 ≡ t3 ++ section_text form Never listed gap es → t5 ≡ t4 ++ section_text form Passes listed gap es
-    → t6 ≡ t5 ++ close_text form → t6 ≡ quality_text form marker listed first last interval gap es
+    → t2 ≡ t1 ++ each_code (λ place code. code_line form code (totals_of interval es place)) 0 listed
+    → t3 ≡ t2 ++ section_text form Codes listed interval es → t4 ≡ t3 ++ section_text form Never listed interval es → t5 ≡ t4 ++ section_text form Passes listed interval es
+    → t6 ≡ t5 ++ close_text form → t6 ≡ quality_text form marker listed first last interval es
 unfolding quality_text
-text-is form marker listed first last interval gap es from until seen r t1 t2 t3 t4 t5 t6 begins ends count records e1 e2 e3 e4 e5 e6 =
-    let cs : List ℕ = each_code (λ place code. code_line form code (totals_of gap es place)) 0 listed in
-    let s1 : List ℕ = section_text form Codes listed gap es in
-    let s2 : List ℕ = section_text form Never listed gap es in
-    let s3 : List ℕ = section_text form Passes listed gap es in
+text-is form marker listed first last interval es from until seen r t1 t2 t3 t4 t5 t6 begins ends count records e1 e2 e3 e4 e5 e6 =
+    let cs : List ℕ = each_code (λ place code. code_line form code (totals_of interval es place)) 0 listed in
+    let s1 : List ℕ = section_text form Codes listed interval es in
+    let s2 : List ℕ = section_text form Never listed interval es in
+    let s3 : List ℕ = section_text form Passes listed interval es in
     let end : List ℕ = close_text form in
-    let h : t1 ≡ heading_text form marker (reading_of first) (reading_of last) interval (satellites_in gap es) (record_counts_of (unit_of interval) es) =
+    let h : t1 ≡ heading_text form marker (reading_of first) (reading_of last) interval (satellites_in interval es) (record_counts_of (unit_of interval) es) =
     e1 ∙ ap (λ (c : Civil). heading_text form marker c until interval seen r) begins
     ∙ ap (λ (c : Civil). heading_text form marker (reading_of first) c interval seen r) ends
     ∙ ap (λ (n : ℕ). heading_text form marker (reading_of first) (reading_of last) interval n r) count
-    ∙ ap (λ (x : RecordCounts). heading_text form marker (reading_of first) (reading_of last) interval (satellites_in gap es) x) records in
+    ∙ ap (λ (x : RecordCounts). heading_text form marker (reading_of first) (reading_of last) interval (satellites_in interval es) x) records in
     e6 ∙ ap (λ (t : List ℕ). t ++ end) (e5 ∙ ap (λ (t : List ℕ). t ++ s3) (e4 ∙ ap (λ (t : List ℕ). t ++ s2) (e3 ∙ ap (λ (t : List ℕ). t ++ s1) (e2 ∙ ap (λ (t : List ℕ). t ++ cs) h))))

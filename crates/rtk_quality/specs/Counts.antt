@@ -4,19 +4,19 @@ use Rattle.std.specs.List.{list_any, range_with_len}
 use Rattle.rtk_rinex.specs.declared.epoch_table.Observed.{Observed}
 use Rattle.rtk_tracking.specs.Epochs.{capped, shown_at}
 use Rattle.rtk_tracking.specs.Extremes.{lesser, greater}
-use Rattle.rtk_tracking.specs.Passes.{Sighting, is_known}
+use Rattle.rtk_tracking.specs.Passes.{Sighting, is_kept}
 use Rattle.rtk_quality.specs.declared.code_counts.CodeCounts.{CodeCounts}
 
--- what a code shows in an epoch, and whether it had a phase earlier in the pass
+-- what a code shows in an epoch, and whether it had a phase earlier in the pass and since the last outage
 pub record Noted : Type 0 where
   pub observed : Observed
-  pub known : Bool
+  pub kept : Bool
 
 -- what came of a code of a satellite
-abbrev pub noted_of : ℕ → ℕ → List Sighting → List Noted
-noted_of gap place [] = []
-noted_of gap place (s ∷ before) =
-    record { observed = shown_at place s.observed; known = is_known gap place before s } ∷ noted_of gap place before
+abbrev pub noted_of : Option ℕ → ℕ → List Sighting → List Noted
+noted_of interval place [] = []
+noted_of interval place (s ∷ before) =
+    record { observed = shown_at place s.observed; kept = is_kept interval place before s } ∷ noted_of interval place before
 
 -- the code has a range, a phase or a strength
 abbrev pub is_observed : Observed → Bool
@@ -46,15 +46,15 @@ strength_total (n ∷ before) = plus (strength_total before) (unwrap_or n.observ
 
 -- formula
 -- the counts of what came of a code: its phases; its ranges without a phase; bit 0 of its digits, at the
--- first phase in a pass (rises) and elsewhere (slips); bit 1 (half cycles); its strengths
+-- first phase in a pass or after an outage (rises) and elsewhere (slips); bit 1 (half cycles); its strengths
 abbrev pub counts_of : List Noted → CodeCounts
 counts_of ns =
     record {
       seen = list_any (λ n. is_observed n.observed) ns;
       phases = tally (λ n. is_some n.observed.phase_millicycles) ns;
       ranges = tally (λ n. is_some n.observed.range_mm && not (is_some n.observed.phase_millicycles)) ns;
-      slips = tally (λ n. n.observed.slip && n.known) ns;
-      rises = tally (λ n. n.observed.slip && not n.known) ns;
+      slips = tally (λ n. n.observed.slip && n.kept) ns;
+      rises = tally (λ n. n.observed.slip && not n.kept) ns;
       halves = tally (λ n. n.observed.half) ns;
       strengths = tally (λ n. is_some n.observed.strength_millidbhz) ns;
       strength_sum = strength_total ns;
@@ -64,8 +64,8 @@ counts_of ns =
 
 -- formula
 -- the counts of 16 codes of a satellite, by their places
-unfoldable pub code_counts_of : ℕ → List Sighting → List CodeCounts
-code_counts_of gap before = map (λ place. counts_of (noted_of gap place before)) (range_with_len 0 16)
+unfoldable pub code_counts_of : Option ℕ → List Sighting → List CodeCounts
+code_counts_of interval before = map (λ place. counts_of (noted_of interval place before)) (range_with_len 0 16)
 
 -- ---- fractions, rounded once; of two alike the greater one
 

@@ -1,21 +1,13 @@
--- Laws of rises and slips, and of counts and means of any size.
+-- Laws of bits, and of counts and means of any size.
 use Rattle.std.specs.Prelude.{◌≡◌, ◌<◌, ◌^◌, ◌*◌, ◌+◌, ◌==◌, ℕ, Bool, false, not, ◌&&◌, ◌||◌, List, [], ◌∷◌, length, count_by, sum_by, Option, None, Some, is_some, unwrap_or, if◌then◌else◌}
 use Rattle.std.specs.List.{range_with_len}
 use Rattle.rtk_rinex.specs.Record.{EpochTableView}
-use Rattle.rtk_tracking.specs.Passes.{Sighting, sightings_of, has_phase, begins_pass, has_bit_0, is_rise, is_slip}
+use Rattle.rtk_tracking.specs.Passes.{Sighting, sightings_of, has_phase, begins_pass}
 use Rattle.rtk_quality.specs.Counts.{Noted, plus, tally, counts_of, rounded_fraction, mean_hundredths}
 use Rattle.rtk_quality.specs.SatellitePasses.{phases_in, slips_at, passes_of, epochs_in_passes}
 use Rattle.rtk_quality.specs.Records.{rows_of, rows_total}
 use Rattle.rtk_quality.specs.Quality.{numbers_of, totals_of}
 use Rattle.rtk_quality.specs.declared.code_numbers.CodeNumbers.{CodeNumbers}
-
--- each bit 0 is a rise or a slip
-abbrev pub EachBitIsOne : Type 0
-EachBitIsOne = (gap place : ℕ) (before : List Sighting) (s : Sighting) → has_bit_0 place s.observed ≡ (is_rise gap place before s || is_slip gap place before s)
-
--- and none is both
-abbrev pub NoBitIsBoth : Type 0
-NoBitIsBoth = (gap place : ℕ) (before : List Sighting) (s : Sighting) → (is_rise gap place before s && is_slip gap place before s) ≡ false
 
 -- the slips and the rises of a code are together its digits with bit 0
 abbrev pub CountsHideNothing : Type 0
@@ -49,36 +41,36 @@ MeanIsOfAll =
 
 -- how many of these epochs, which are listed newest first, lie in a pass; and if the pass of the last of
 -- them goes on with the next phase that comes after them (on), each of them since the last phase
-abbrev pub count_in_passes : ℕ → Bool → List Sighting → ℕ
-count_in_passes gap on [] = 0
-count_in_passes gap on (s ∷ before) =
-    if has_phase s.observed then count_in_passes gap (not (begins_pass gap before s)) before + 1
-    else count_in_passes gap on before + (if on then 1 else 0)
+abbrev pub count_in_passes : Option ℕ → Bool → List Sighting → ℕ
+count_in_passes interval on [] = 0
+count_in_passes interval on (s ∷ before) =
+    if has_phase s.observed then count_in_passes interval (not (begins_pass interval before s)) before + 1
+    else count_in_passes interval on before + (if on then 1 else 0)
 
 -- each epoch in a pass is counted
 abbrev pub EachInPassIsCounted : Type 0
-EachInPassIsCounted = (gap : ℕ) (before : List Sighting) → length before < 2 ^ 64 → epochs_in_passes gap before ≡ count_in_passes gap false before
+EachInPassIsCounted = (interval : Option ℕ) (before : List Sighting) → length before < 2 ^ 64 → epochs_in_passes interval before ≡ count_in_passes interval false before
 
 -- the phases of the passes of a satellite are together all of its phases
 abbrev pub PhasesAreInPasses : Type 0
 PhasesAreInPasses =
-    (gap : ℕ) (before : List Sighting) → sum_by (λ s. phases_in s.observed) before < 2 ^ 64
-    → sum_by (λ p. p.phases) (passes_of gap before) ≡ sum_by (λ s. phases_in s.observed) before
+    (interval : Option ℕ) (before : List Sighting) → sum_by (λ s. phases_in s.observed) before < 2 ^ 64
+    → sum_by (λ p. p.phases) (passes_of interval before) ≡ sum_by (λ s. phases_in s.observed) before
 
 -- a number of a code of a satellite, which is 0 if the satellite has the code nowhere
 abbrev pub number_if_seen : (CodeNumbers → ℕ) → CodeNumbers → ℕ
 number_if_seen number own = if own.counts.seen then number own else 0
 
 -- a number of the code at a place, of all satellites together
-abbrev pub sum_of_satellites : (CodeNumbers → ℕ) → ℕ → ℕ → List EpochTableView → ℕ
-sum_of_satellites number gap place es =
-    sum_by (λ satellite. number_if_seen number (numbers_of gap (sightings_of satellite es) place)) (range_with_len 1 32)
+abbrev pub sum_of_satellites : (CodeNumbers → ℕ) → Option ℕ → ℕ → List EpochTableView → ℕ
+sum_of_satellites number interval place es =
+    sum_by (λ satellite. number_if_seen number (numbers_of interval (sightings_of satellite es) place)) (range_with_len 1 32)
 
 -- the totals of a code have this sum
 abbrev pub IsTotal : (CodeNumbers → ℕ) → Type 0
 IsTotal number =
-    (gap place : ℕ) (es : List EpochTableView) → sum_of_satellites number gap place es < 2 ^ 64
-    → number (totals_of gap es place) ≡ sum_of_satellites number gap place es
+    (interval : Option ℕ) (place : ℕ) (es : List EpochTableView) → sum_of_satellites number interval place es < 2 ^ 64
+    → number (totals_of interval es place) ≡ sum_of_satellites number interval place es
 
 pub record TotalsAreSums : Type 0 where
   pub phases : IsTotal (λ n. n.counts.phases)

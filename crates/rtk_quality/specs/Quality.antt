@@ -1,5 +1,5 @@
 -- The numbers of satellites and of codes (this project's rule). What came is listed newest first.
-use Rattle.std.specs.Prelude.{ℕ, Bool, true, List, [], count_by, if◌then◌else◌}
+use Rattle.std.specs.Prelude.{ℕ, Bool, true, List, [], count_by, if◌then◌else◌, Option}
 use Rattle.std.specs.List.{list_any, fold, range_with_len}
 use Rattle.rtk_rinex.specs.Record.{EpochTableView}
 use Rattle.rtk_tracking.specs.Extremes.{lesser, greater}
@@ -11,17 +11,17 @@ use Rattle.rtk_quality.specs.declared.code_numbers.CodeNumbers.{CodeNumbers}
 
 -- formula
 -- the numbers of the code of a satellite at a place: its counts, and how many phases could be there
-abbrev pub numbers_of : ℕ → List Sighting → ℕ → CodeNumbers
-numbers_of gap before place = record { counts = counts_of (noted_of gap place before); possible = epochs_in_passes gap before }
+abbrev pub numbers_of : Option ℕ → List Sighting → ℕ → CodeNumbers
+numbers_of interval before place = record { counts = counts_of (noted_of interval place before); possible = epochs_in_passes interval before }
 
 -- the satellite has a code somewhere in the file
-unfoldable pub is_in_file : ℕ → List Sighting → Bool
-is_in_file gap before = list_any (λ place. (counts_of (noted_of gap place before)).seen) (range_with_len 0 16)
+unfoldable pub is_in_file : Option ℕ → List Sighting → Bool
+is_in_file interval before = list_any (λ place. (counts_of (noted_of interval place before)).seen) (range_with_len 0 16)
 
 -- formula
 -- how many satellites the file has
-unfoldable pub satellites_in : ℕ → List EpochTableView → ℕ
-satellites_in gap es = count_by (λ satellite. is_in_file gap (sightings_of satellite es)) (range_with_len 1 32)
+unfoldable pub satellites_in : Option ℕ → List EpochTableView → ℕ
+satellites_in interval es = count_by (λ satellite. is_in_file interval (sightings_of satellite es)) (range_with_len 1 32)
 
 -- two counts together
 abbrev pub together : CodeCounts → CodeCounts → CodeCounts
@@ -51,6 +51,6 @@ with_satellite total own =
 
 -- formula
 -- the numbers of the code at a place over all satellites that have it
-unfoldable pub totals_of : ℕ → List EpochTableView → ℕ → CodeNumbers
-totals_of gap es place =
-    fold (λ total satellite. with_satellite total (numbers_of gap (sightings_of satellite es) place)) no_numbers (range_with_len 1 32)
+unfoldable pub totals_of : Option ℕ → List EpochTableView → ℕ → CodeNumbers
+totals_of interval es place =
+    fold (λ total satellite. with_satellite total (numbers_of interval (sightings_of satellite es) place)) no_numbers (range_with_len 1 32)

@@ -10,7 +10,7 @@ use Rattle.rtk_rinex.specs.Record.{EpochTableView}
 use Rattle.rtk_rinex.specs.Table.{WellFormedTable, IsWellFormedTable, table_text}
 use Rattle.rtk_tracking.specs.Epochs.{newest_first}
 use Rattle.rtk_tracking.specs.Interval.{interval_of_file}
-use Rattle.rtk_tracking.specs.Passes.{Sighting, sightings_of, longest_gap}
+use Rattle.rtk_tracking.specs.Passes.{Sighting, sightings_of}
 use Rattle.rtk_quality.specs.Counts.{percent_tenths, phases_per_slip, mean_hundredths, mean_tenths}
 use Rattle.rtk_quality.specs.SatellitePasses.{passes_of}
 use Rattle.rtk_quality.specs.Records.{unit_of, record_counts_of}
@@ -101,18 +101,18 @@ code_in form Passes satellite code n = []
 -- formula
 -- what a section has of a satellite: its codes; the codes that it has nowhere, if it has any; its passes,
 -- from the first to the last
-abbrev pub part_of : Form → Section → List Code → ℕ → List Sighting → ℕ → List ℕ
-part_of form Codes listed gap before satellite = each_code (λ place code. code_in form Codes satellite code (numbers_of gap before place)) 0 listed
-part_of form Never listed gap before satellite =
-    if is_in_file gap before
-    then each_code (λ place code. code_in form Never satellite code (numbers_of gap before place)) 0 listed
+abbrev pub part_of : Form → Section → List Code → Option ℕ → List Sighting → ℕ → List ℕ
+part_of form Codes listed interval before satellite = each_code (λ place code. code_in form Codes satellite code (numbers_of interval before place)) 0 listed
+part_of form Never listed interval before satellite =
+    if is_in_file interval before
+    then each_code (λ place code. code_in form Never satellite code (numbers_of interval before place)) 0 listed
     else []
-part_of form Passes listed gap before satellite = flat_map (pass_line form satellite) (reverse (passes_of gap before))
+part_of form Passes listed interval before satellite = flat_map (pass_line form satellite) (reverse (passes_of interval before))
 
 -- a section has each satellite
-unfoldable pub section_text : Form → Section → List Code → ℕ → List EpochTableView → List ℕ
-section_text form section listed gap es =
-    flat_map (λ satellite. part_of form section listed gap (sightings_of satellite es) satellite) (range_with_len 1 32)
+unfoldable pub section_text : Form → Section → List Code → Option ℕ → List EpochTableView → List ℕ
+section_text form section listed interval es =
+    flat_map (λ satellite. part_of form section listed interval (sightings_of satellite es) satellite) (range_with_len 1 32)
 
 -- ---- the document
 
@@ -151,12 +151,12 @@ close_text form = in_form form [] (codes "\n]\n")
 
 -- formula
 -- the numbers of a file of this marker, these codes, and these moments of its first and its last record
-unfoldable pub quality_text : Form → List ℕ → List Code → ℕ → ℕ → Option ℕ → ℕ → List EpochTableView → List ℕ
-quality_text form marker listed first last interval gap es =
-    heading_text form marker (reading_of first) (reading_of last) interval (satellites_in gap es)
+unfoldable pub quality_text : Form → List ℕ → List Code → ℕ → ℕ → Option ℕ → List EpochTableView → List ℕ
+quality_text form marker listed first last interval es =
+    heading_text form marker (reading_of first) (reading_of last) interval (satellites_in interval es)
     (record_counts_of (unit_of interval) es)
-    ++ each_code (λ place code. code_line form code (totals_of gap es place)) 0 listed
-    ++ section_text form Codes listed gap es ++ section_text form Never listed gap es ++ section_text form Passes listed gap es
+    ++ each_code (λ place code. code_line form code (totals_of interval es place)) 0 listed
+    ++ section_text form Codes listed interval es ++ section_text form Never listed interval es ++ section_text form Passes listed interval es
     ++ close_text form
 
 -- a file without records has no other numbers
@@ -169,7 +169,7 @@ text_of_none form marker =
 abbrev pub text_of_epochs : Form → List ℕ → List Code → ℕ → Option ℕ → List EpochTableView → List ℕ
 text_of_epochs form marker listed first interval [] = text_of_none form marker
 text_of_epochs form marker listed first interval (e ∷ before) =
-    quality_text form marker listed first e.time interval (longest_gap interval) (e ∷ before)
+    quality_text form marker listed first e.time interval (e ∷ before)
 
 -- formula
 -- the numbers of a table

@@ -1,5 +1,5 @@
 -- The passes of a satellite with their spans (this project's rule). What came is listed newest first.
-use Rattle.std.specs.Prelude.{ℕ, not, List, [], ◌∷◌, count_by, is_some, if◌then◌else◌}
+use Rattle.std.specs.Prelude.{ℕ, not, List, [], ◌∷◌, count_by, is_some, if◌then◌else◌, Option}
 use Rattle.std.specs.List.{range_with_len}
 use Rattle.rtk_rinex.specs.Reading.{reading_of}
 use Rattle.rtk_rinex.specs.declared.epoch_table.Observed.{Observed}
@@ -12,8 +12,8 @@ abbrev pub phases_in : List Observed → ℕ
 phases_in os = count_by (λ o. is_some o.phase_millicycles) os
 
 -- the slips of all codes in an epoch
-abbrev pub slips_at : ℕ → List Sighting → Sighting → ℕ
-slips_at gap before s = count_by (λ place. is_slip gap place before s) (range_with_len 0 16)
+abbrev pub slips_at : Option ℕ → List Sighting → Sighting → ℕ
+slips_at interval before s = count_by (λ place. is_slip interval place before s) (range_with_len 0 16)
 
 -- one more epoch with a phase in the newest pass
 abbrev pub longer : Sighting → ℕ → List PassCounts → List PassCounts
@@ -23,13 +23,13 @@ longer s slips (p ∷ ps) = record { from = p.from; until = reading_of s.time; p
 -- formula
 -- the passes of a satellite, the newest first: the moments of the first and the last phase, and the
 -- phases and slips of all codes
-abbrev pub passes_of : ℕ → List Sighting → List PassCounts
-passes_of gap [] = []
-passes_of gap (s ∷ before) =
-    if not (has_phase s.observed) then passes_of gap before
-    else (if begins_pass gap before s
-    then record { from = reading_of s.time; until = reading_of s.time; phases = phases_in s.observed; slips = slips_at gap before s } ∷ passes_of gap before
-    else longer s (slips_at gap before s) (passes_of gap before))
+abbrev pub passes_of : Option ℕ → List Sighting → List PassCounts
+passes_of interval [] = []
+passes_of interval (s ∷ before) =
+    if not (has_phase s.observed) then passes_of interval before
+    else (if begins_pass interval before s
+    then record { from = reading_of s.time; until = reading_of s.time; phases = phases_in s.observed; slips = slips_at interval before s } ∷ passes_of interval before
+    else longer s (slips_at interval before s) (passes_of interval before))
 
 -- how many epochs came since the last phase
 abbrev pub epochs_since_phase : List Sighting → ℕ
@@ -39,9 +39,9 @@ epochs_since_phase (s ∷ before) = if has_phase s.observed then 0 else plus (ep
 -- formula
 -- how many epochs of the file lie within the passes of a satellite: from the first to the last phase of
 -- each
-abbrev pub epochs_in_passes : ℕ → List Sighting → ℕ
-epochs_in_passes gap [] = 0
-epochs_in_passes gap (s ∷ before) =
-    if not (has_phase s.observed) then epochs_in_passes gap before
-    else (if begins_pass gap before s then plus (epochs_in_passes gap before) 1
-    else plus (epochs_in_passes gap before) (plus (epochs_since_phase before) 1))
+abbrev pub epochs_in_passes : Option ℕ → List Sighting → ℕ
+epochs_in_passes interval [] = 0
+epochs_in_passes interval (s ∷ before) =
+    if not (has_phase s.observed) then epochs_in_passes interval before
+    else (if begins_pass interval before s then plus (epochs_in_passes interval before) 1
+    else plus (epochs_in_passes interval before) (plus (epochs_since_phase before) 1))

@@ -36,16 +36,16 @@ abbrev pub absent_at : ℕ → Sighting
 absent_at time = record { time = time; observed = [] }
 
 -- a satellite after what came of it
-pub record StandsForSatellite (s : SatelliteCounts) (gap : ℕ) (before : List Sighting) : Type 0 where
-  pub pass : StandsForPass s.pass gap before
-  pub codes : s.codes ≡ code_counts_of gap before
-  pub in_passes : s.in_passes ≡ epochs_in_passes gap before
+pub record StandsForSatellite (s : SatelliteCounts) (interval : Option ℕ) (before : List Sighting) : Type 0 where
+  pub pass : StandsForPass s.pass interval before
+  pub codes : s.codes ≡ code_counts_of interval before
+  pub in_passes : s.in_passes ≡ epochs_in_passes interval before
   pub since_phase : s.since_phase ≡ epochs_since_phase before
-  pub last : s.last ≡ newest_pass (passes_of gap before)
+  pub last : s.last ≡ newest_pass (passes_of interval before)
 
 -- the pass that ends when another one begins
-abbrev pub StandsForEnded : Option PassCounts → ℕ → List Sighting → Sighting → Type 0
-StandsForEnded ended gap before s = ended ≡ (if begins_pass gap before s then newest_pass (passes_of gap before) else None)
+abbrev pub StandsForEnded : Option PassCounts → Option ℕ → List Sighting → Sighting → Type 0
+StandsForEnded ended interval before s = ended ≡ (if begins_pass interval before s then newest_pass (passes_of interval before) else None)
 
 -- ---- a file
 
@@ -54,9 +54,9 @@ abbrev pub without_rows : ℕ → EpochTableView
 without_rows time = record { time = time; rows = [] }
 
 -- the satellites 1 to 32
-pub record StandForSatellites (satellites : List SatelliteCounts) (gap : ℕ) (es : List EpochTableView) : Type 0 where
+pub record StandForSatellites (satellites : List SatelliteCounts) (interval : Option ℕ) (es : List EpochTableView) : Type 0 where
   pub size : length satellites ≡ 32
-  pub each : (place : ℕ) (d : SatelliteCounts) → place < 32 → StandsForSatellite (get_or satellites place d) gap (sightings_of (place + 1) es)
+  pub each : (place : ℕ) (d : SatelliteCounts) → place < 32 → StandsForSatellite (get_or satellites place d) interval (sightings_of (place + 1) es)
 
 -- the passes of a satellite among those that ended
 abbrev pub ended_of : ℕ → List EndedPass → List PassCounts
@@ -69,14 +69,14 @@ with_ended ended satellite None = ended
 with_ended ended satellite (Some p) = ended ++ record { satellite = satellite; pass = p } ∷ []
 
 -- all passes but the newest one ended
-abbrev pub HasEnded : List EndedPass → ℕ → List Sighting → ℕ → Type 0
-HasEnded ended gap before satellite = ended_of satellite ended ≡ reverse (older_passes (passes_of gap before))
+abbrev pub HasEnded : List EndedPass → Option ℕ → List Sighting → ℕ → Type 0
+HasEnded ended interval before satellite = ended_of satellite ended ≡ reverse (older_passes (passes_of interval before))
 
 -- the passes that ended, of the satellites 1 to 32
-abbrev pub StandForEnded : List EndedPass → ℕ → List EpochTableView → Type 0
-StandForEnded ended gap es = (place : ℕ) → place < 32 → HasEnded ended gap (sightings_of (place + 1) es) (place + 1)
+abbrev pub StandForEnded : List EndedPass → Option ℕ → List EpochTableView → Type 0
+StandForEnded ended interval es = (place : ℕ) → place < 32 → HasEnded ended interval (sightings_of (place + 1) es) (place + 1)
 
-pub record StandsForFile (f : FileCounts) (gap unit : ℕ) (es : List EpochTableView) : Type 0 where
+pub record StandsForFile (f : FileCounts) (interval : Option ℕ) (unit : ℕ) (es : List EpochTableView) : Type 0 where
   pub records : f.records ≡ record_counts_of unit es
-  pub satellites : StandForSatellites f.satellites.items gap es
-  pub ended : StandForEnded f.ended.items gap es
+  pub satellites : StandForSatellites f.satellites.items interval es
+  pub ended : StandForEnded f.ended.items interval es

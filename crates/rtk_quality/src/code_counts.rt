@@ -58,18 +58,19 @@ impl CodeCounts {
         }
     }
 
-    /// Counts one more epoch: what the code shows, and whether it had a phase earlier in the pass.
-    pub(crate) fn note(&mut self, observed: &Observed, known: bool)
+    /// Counts one more epoch: what the code shows, and whether it had a phase
+    /// earlier in the pass and since the last outage.
+    pub(crate) fn note(&mut self, observed: &Observed, kept: bool)
         ensures { (ns : List Noted) → self.old ≡ counts_of ns
-            → self.new ≡ counts_of (record { observed = observed.now; known = known } ∷ ns) }
+            → self.new ≡ counts_of (record { observed = observed.now; kept = kept } ∷ ns) }
     {
         let phase = observed.phase_millicycles.is_some();
         let strength = observed.strength_millidbhz;
         self.seen = is_observed(observed) || self.seen;
         self.phases = one_more(self.phases, phase);
         self.ranges = one_more(self.ranges, observed.range_mm.is_some() && !phase);
-        self.slips = one_more(self.slips, observed.slip && known);
-        self.rises = one_more(self.rises, observed.slip && !known);
+        self.slips = one_more(self.slips, observed.slip && kept);
+        self.rises = one_more(self.rises, observed.slip && !kept);
         self.halves = one_more(self.halves, observed.half);
         self.strengths = one_more(self.strengths, strength.is_some());
         self.strength_sum = self

@@ -51,8 +51,8 @@ fn text_of(
 ) -> Result<Vec<u8>, AllocError>
     requires few { length codes.now ≤ 16 }
     requires size { length counts.now.satellites.items ≡ 32 }
-    ensures { IfOk result (λ text. (gap : ℕ) (es : List EpochTableView) → StandsForFile counts.now gap (unit_of interval) es
-        → text.items ≡ quality_text form marker.now codes.now first last interval gap es) }
+    ensures { IfOk result (λ text. (es : List EpochTableView) → StandsForFile counts.now interval (unit_of interval) es
+        → text.items ≡ quality_text form marker.now codes.now first last interval es) }
 {
     let satellites = counts.satellites.as_slice();
     let ended = counts.ended.as_slice();

@@ -3,18 +3,16 @@
 ghost use Rattle.std.specs.Prelude.{◌≡◌, ◌<◌, ℕ, List, [], ◌∷◌, ◌++◌, length, Option, IfOk, OnOk};
 ghost use Rattle.std.specs.List.{range_with_len};
 ghost use Rattle.rtk_rinex.specs.Record.{EpochTableView};
-ghost use Rattle.rtk_tracking.specs.Passes.{longest_gap};
 ghost use Rattle.rtk_quality.specs.Records.{unit_of};
 ghost use Rattle.rtk_quality.specs.Quality.{totals_of, satellites_in};
-ghost use Rattle.rtk_tracking.specs.Epochs.{HoldsOfEpochs};
+ghost use Rattle.rtk_tracking.specs.Epochs.{HoldsOfEpochs, newest_moment};
 ghost use Rattle.rtk_quality.specs.Standing.{without_rows, with_ended, StandForSatellites, StandForEnded, StandsForFile};
 
 use crate::code_numbers::CodeNumbers;
 use crate::record_counts::{RecordCounts, unit_ms};
 use crate::satellite_counts::{PassCounts, SatelliteCounts};
-use rtk_obs::civil;
+use rtk_obs::{GpsMs, civil};
 use rtk_rinex::{EpochTable, TextTable};
-use rtk_tracking::longest_gap_ms;
 use std::alloc::{AllocError, Global};
 
 /// A pass that ended, and its satellite.
@@ -51,38 +49,51 @@ fn add_ended(
     }
 }
 
+// A moment in ms, if it is there.
+fn ms_of(moment: Option<GpsMs>) -> Option<u64>
+    ensures { result ≡ moment }
+{
+    match moment {
+        Some(moment) => Some(moment.ms()),
+        None => None,
+    }
+}
+
 // Counts one more epoch of each satellite, of which no row came so far.
 fn note_satellites(satellites: &mut Vec<SatelliteCounts>)
     requires { length satellites.old.items ≡ 32 }
     ensures size { length satellites.new.items ≡ 32 }
-    ensures satellites { (gap : ℕ) (time : ℕ) (es : List EpochTableView) → StandForSatellites satellites.old.items gap es
-        → StandForSatellites satellites.new.items gap (without_rows time ∷ es) }
+    ensures satellites { (interval : Option ℕ) (time : ℕ) (es : List EpochTableView) → StandForSatellites satellites.old.items interval es
+        → StandForSatellites satellites.new.items interval (without_rows time ∷ es) }
 {
     for place in 0..32 {
         satellites[place].note_epoch();
     }
 }
 
-// Counts the rows of that epoch.
+// Counts the rows of that epoch, which comes after a record at this moment or is the first one.
 fn note_rows(
     satellites: &mut Vec<SatelliteCounts>,
     ended: &mut Vec<EndedPass>,
-    gap_ms: u64,
+    interval: Option<u64>,
+    record_ms: Option<u64>,
     epoch: &EpochTable,
 ) -> Result<(), AllocError>
     requires { length satellites.old.items ≡ 32 }
     ensures size { OnOk result (length satellites.new.items ≡ 32) }
-    ensures satellites { OnOk result ((es : List EpochTableView) → StandForSatellites satellites.old.items gap_ms (without_rows epoch.now.time ∷ es)
-        → StandForSatellites satellites.new.items gap_ms (epoch.now ∷ es)) }
-    ensures ended { OnOk result ((es : List EpochTableView) → StandForSatellites satellites.old.items gap_ms (without_rows epoch.now.time ∷ es)
-        → StandForEnded ended.old.items gap_ms es → StandForEnded ended.new.items gap_ms (epoch.now ∷ es)) }
+    ensures satellites { OnOk result ((es : List EpochTableView) → record_ms ≡ newest_moment es
+        → StandForSatellites satellites.old.items interval (without_rows epoch.now.time ∷ es)
+        → StandForSatellites satellites.new.items interval (epoch.now ∷ es)) }
+    ensures ended { OnOk result ((es : List EpochTableView) → record_ms ≡ newest_moment es
+        → StandForSatellites satellites.old.items interval (without_rows epoch.now.time ∷ es)
+        → StandForEnded ended.old.items interval es → StandForEnded ended.new.items interval (epoch.now ∷ es)) }
 {
     let time = epoch.time();
     let reading = civil(time);
     for row in epoch.rows() {
         let place = usize::from(row.satellite) - 1;
         let observed = row.observed.as_slice();
-        let pass = satellites[place].note_row(gap_ms, time, reading, observed);
+        let pass = satellites[place].note_row(interval, record_ms, time, reading, observed);
         add_ended(ended, row.satellite, pass)?;
     }
     Ok(())
@@ -91,7 +102,7 @@ fn note_rows(
 /// The numbers of the code at this place over all satellites that have it.
 pub(crate) fn totals_of(satellites: &[SatelliteCounts], place: usize) -> CodeNumbers
     requires { place < 16 }
-    ensures { (gap : ℕ) (es : List EpochTableView) → StandForSatellites satellites.now gap es → result ≡ totals_of gap es place }
+    ensures { (interval : Option ℕ) (es : List EpochTableView) → StandForSatellites satellites.now interval es → result ≡ totals_of interval es place }
 {
     let mut totals = CodeNumbers::none();
     for satellite in satellites {
@@ -102,7 +113,7 @@ pub(crate) fn totals_of(satellites: &[SatelliteCounts], place: usize) -> CodeNum
 
 /// How many satellites the file has.
 pub(crate) fn satellites_in(satellites: &[SatelliteCounts]) -> usize
-    ensures { (gap : ℕ) (es : List EpochTableView) → StandForSatellites satellites.now gap es → result ≡ satellites_in gap es }
+    ensures { (interval : Option ℕ) (es : List EpochTableView) → StandForSatellites satellites.now interval es → result ≡ satellites_in interval es }
 {
     let mut seen = 0;
     for satellite in satellites {
@@ -117,7 +128,7 @@ impl FileCounts {
     /// Of a file without records: 32 satellites, each of them without an epoch.
     pub(crate) fn new(alloc: Global) -> Result<FileCounts, AllocError>
         ensures size { IfOk result (λ counts. length counts.satellites.items ≡ 32) }
-        ensures counts { IfOk result (λ counts. (gap : ℕ) (unit : ℕ) → StandsForFile counts gap unit []) }
+        ensures counts { IfOk result (λ counts. (interval : Option ℕ) (unit : ℕ) → StandsForFile counts interval unit []) }
     {
         Ok(FileCounts {
             records: RecordCounts::new(),
@@ -129,19 +140,26 @@ impl FileCounts {
     /// Counts one more record.
     pub(crate) fn note_epoch(
         &mut self,
-        gap_ms: u64,
+        interval: Option<u64>,
         unit_ms: u64,
         epoch: &EpochTable,
     ) -> Result<(), AllocError>
         requires unit { 0 < unit_ms }
         requires size { length self.old.satellites.items ≡ 32 }
         ensures size { OnOk result (length self.new.satellites.items ≡ 32) }
-        ensures counts { OnOk result ((es : List EpochTableView) → StandsForFile self.old gap_ms unit_ms es
-            → StandsForFile self.new gap_ms unit_ms (epoch.now ∷ es)) }
+        ensures counts { OnOk result ((es : List EpochTableView) → StandsForFile self.old interval unit_ms es
+            → StandsForFile self.new interval unit_ms (epoch.now ∷ es)) }
     {
+        let record_ms = ms_of(self.records.last);
         self.records.note_record(unit_ms, epoch);
         note_satellites(&mut self.satellites);
-        note_rows(&mut self.satellites, &mut self.ended, gap_ms, epoch)?;
+        note_rows(
+            &mut self.satellites,
+            &mut self.ended,
+            interval,
+            record_ms,
+            epoch,
+        )?;
         Ok(())
     }
 }
@@ -153,15 +171,14 @@ pub(crate) fn count_file(
     interval: Option<u64>,
 ) -> Result<FileCounts, AllocError>
     ensures size { IfOk result (λ counts. length counts.satellites.items ≡ 32) }
-    ensures counts { IfOk result (λ counts. HoldsOfEpochs table.now.text (StandsForFile counts (longest_gap interval) (unit_of interval))) }
+    ensures counts { IfOk result (λ counts. HoldsOfEpochs table.now.text (StandsForFile counts interval (unit_of interval))) }
 {
-    let gap_ms = longest_gap_ms(interval);
     let unit_ms = unit_ms(interval);
     let mut counts = FileCounts::new(alloc)?;
     let mut epoch = EpochTable::new(table.heading().first);
     let mut records = table.records();
     while let Some(_record) = records.next(&mut epoch) {
-        counts.note_epoch(gap_ms, unit_ms, &epoch)?;
+        counts.note_epoch(interval, unit_ms, &epoch)?;
     }
     Ok(counts)
 }

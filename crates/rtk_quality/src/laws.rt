@@ -2,14 +2,11 @@
 //!
 //! Each function here does nothing. Its contract is the law, and a caller that calls it may cite it.
 
-ghost use Rattle.rtk_quality.specs.Laws.{EachBitIsOne, NoBitIsBoth, CountsHideNothing, EachIsCounted, MeanIsOfAll, EachInPassIsCounted, PhasesAreInPasses, TotalsAreSums, RowsAreSum};
+ghost use Rattle.rtk_quality.specs.Laws.{CountsHideNothing, EachIsCounted, MeanIsOfAll, EachInPassIsCounted, PhasesAreInPasses, TotalsAreSums, RowsAreSum};
 
-/// Each bit 0 of a loss-of-lock digit is a rise or a slip, and none is both. The rises and the slips of
-/// a code are together its digits with bit 0.
-pub fn bits_are_rises_or_slips()
-    ensures one { EachBitIsOne }
-    ensures never_both { NoBitIsBoth }
-    ensures counts { CountsHideNothing }
+/// The rises and the slips of a code are together its digits with bit 0.
+pub fn no_bit_is_hidden()
+    ensures { CountsHideNothing }
 {}
 
 /// Counts and sums stay at the greatest value of 64 bits. Below it each epoch of a code is counted, each

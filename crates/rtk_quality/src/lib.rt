@@ -62,4 +62,4 @@ mod sections;
 
 pub use document::quality;
 pub use form::Form;
-pub use laws::{bits_are_rises_or_slips, each_is_counted};
+pub use laws::{each_is_counted, no_bit_is_hidden};

@@ -1,9 +1,9 @@
 //! The counts of a satellite: its codes, and its passes.
 
-ghost use Rattle.std.specs.Prelude.{◌≡◌, ◌<◌, ℕ, List, [], ◌∷◌, None, Some, if◌then◌else◌};
+ghost use Rattle.std.specs.Prelude.{◌≡◌, ◌<◌, ℕ, List, [], ◌∷◌, Option, None, Some, if◌then◌else◌};
 ghost use Rattle.std.specs.List.{list_any};
 ghost use Rattle.rtk_rinex.specs.Reading.{reading_of};
-ghost use Rattle.rtk_tracking.specs.Passes.{Sighting, has_phase, is_known, is_slip};
+ghost use Rattle.rtk_tracking.specs.Passes.{Sighting, last_record, has_phase, is_kept, is_slip};
 ghost use Rattle.rtk_tracking.specs.Standing.{AreMarked};
 ghost use Rattle.rtk_tracking.specs.Epochs.{shown_at};
 ghost use Rattle.rtk_quality.specs.Counts.{plus, code_counts_of};
@@ -47,13 +47,13 @@ fn shown_at(observed: &[Observed], place: usize) -> Observed
 }
 
 // Counts one more epoch of each code. What is not observed changes no count.
-fn note_codes(codes: &mut [CodeCounts; 16], observed: &[Observed], known: &[bool; 16])
-    ensures { (gap : ℕ) (before : List Sighting) (s : Sighting) → observed.now ≡ s.observed
-        → AreMarked known.now (λ place. is_known gap place before s)
-        → codes.old ≡ code_counts_of gap before → codes.new ≡ code_counts_of gap (s ∷ before) }
+fn note_codes(codes: &mut [CodeCounts; 16], observed: &[Observed], kept: &[bool; 16])
+    ensures { (interval : Option ℕ) (before : List Sighting) (s : Sighting) → observed.now ≡ s.observed
+        → AreMarked kept.now (λ place. is_kept interval place before s)
+        → codes.old ≡ code_counts_of interval before → codes.new ≡ code_counts_of interval (s ∷ before) }
 {
     for place in 0..observed.len().min(16) {
-        codes[place].note(&observed[place], known[place]);
+        codes[place].note(&observed[place], kept[place]);
     }
 }
 
@@ -81,23 +81,25 @@ fn has_phase(observed: &[Observed]) -> bool
     observed.iter().any(|o| o.phase_millicycles.is_some())
 }
 
-// The code at this place has slipped: it had a phase earlier in the pass.
-fn is_slip(observed: &[Observed], known: &[bool; 16], place: usize) -> bool
+// The code at this place has slipped: it had a phase earlier in the pass and since
+// the last outage.
+fn is_slip(observed: &[Observed], kept: &[bool; 16], place: usize) -> bool
     requires { place < 16 }
-    ensures { (gap : ℕ) (before : List Sighting) (s : Sighting) → observed.now ≡ s.observed
-        → AreMarked known.now (λ place. is_known gap place before s) → result ≡ is_slip gap place before s }
+    ensures { (interval : Option ℕ) (before : List Sighting) (s : Sighting) → observed.now ≡ s.observed
+        → AreMarked kept.now (λ place. is_kept interval place before s) → result ≡ is_slip interval place before s }
 {
-    shown_at(observed, place).slip && known[place]
+    shown_at(observed, place).slip && kept[place]
 }
 
-// How many slips an epoch has, of codes that had a phase earlier in the pass.
-fn slips_in(observed: &[Observed], known: &[bool; 16]) -> u64
-    ensures { (gap : ℕ) (before : List Sighting) (s : Sighting) → observed.now ≡ s.observed
-        → AreMarked known.now (λ place. is_known gap place before s) → result ≡ slips_at gap before s }
+// How many slips an epoch has, of codes that had a phase earlier in the pass and since the
+// last outage.
+fn slips_in(observed: &[Observed], kept: &[bool; 16]) -> u64
+    ensures { (interval : Option ℕ) (before : List Sighting) (s : Sighting) → observed.now ≡ s.observed
+        → AreMarked kept.now (λ place. is_kept interval place before s) → result ≡ slips_at interval before s }
 {
     let mut slips = 0;
     for place in 0..observed.len().min(16) {
-        if is_slip(observed, known, place) {
+        if is_slip(observed, kept, place) {
             slips += 1;
         }
     }
@@ -133,7 +135,7 @@ fn with_epoch(
 impl SatelliteCounts {
     /// Of a satellite that no epoch has: no pass has begun, and each count is 0.
     pub(crate) fn new() -> SatelliteCounts
-        ensures { (gap : ℕ) → StandsForSatellite result gap [] }
+        ensures { (interval : Option ℕ) → StandsForSatellite result interval [] }
     {
         SatelliteCounts {
             pass: Pass::new(),
@@ -147,7 +149,7 @@ impl SatelliteCounts {
     /// The numbers of the code at this place.
     pub(crate) fn numbers(&self, place: usize) -> CodeNumbers
         requires { place < 16 }
-        ensures { (gap : ℕ) (before : List Sighting) → StandsForSatellite self.now gap before → result ≡ numbers_of gap before place }
+        ensures { (interval : Option ℕ) (before : List Sighting) → StandsForSatellite self.now interval before → result ≡ numbers_of interval before place }
     {
         CodeNumbers {
             counts: self.codes[place],
@@ -157,7 +159,7 @@ impl SatelliteCounts {
 
     /// Has the satellite a code?
     pub(crate) fn is_in_file(&self) -> bool
-        ensures { (gap : ℕ) (before : List Sighting) → StandsForSatellite self.now gap before → result ≡ is_in_file gap before }
+        ensures { (interval : Option ℕ) (before : List Sighting) → StandsForSatellite self.now interval before → result ≡ is_in_file interval before }
     {
         has_seen(&self.codes)
     }
@@ -192,36 +194,37 @@ impl SatelliteCounts {
 
     /// Notes one more epoch, of which no row came so far.
     pub(crate) fn note_epoch(&mut self)
-        ensures { (gap : ℕ) (before : List Sighting) (time : ℕ) → StandsForSatellite self.old gap before
-            → StandsForSatellite self.new gap (absent_at time ∷ before) }
+        ensures { (interval : Option ℕ) (before : List Sighting) (time : ℕ) → StandsForSatellite self.old interval before
+            → StandsForSatellite self.new interval (absent_at time ∷ before) }
     {
         self.since_phase = self.since_phase.saturating_add(1);
     }
 
-    /// Notes the row of that epoch: what the codes of the satellite show. If a pass begins, the answer is
-    /// the one before it.
+    /// Notes the row of that epoch, which comes after a record at this moment or is the first one: what
+    /// the codes of the satellite show. If a pass begins, the answer is the one before it.
     pub(crate) fn note_row(
         &mut self,
-        gap_ms: u64,
+        interval: Option<u64>,
+        record_ms: Option<u64>,
         time: GpsMs,
         reading: Civil,
         observed: &[Observed],
     ) -> Option<PassCounts>
         requires { reading ≡ reading_of time }
-        ensures stands { (before : List Sighting) → StandsForSatellite self.old gap_ms (absent_at time ∷ before)
-            → StandsForSatellite self.new gap_ms (record { time = time; observed = observed.now } ∷ before) }
-        ensures ended { (before : List Sighting) → StandsForSatellite self.old gap_ms (absent_at time ∷ before)
-            → StandsForEnded result gap_ms before (record { time = time; observed = observed.now }) }
+        ensures stands { (before : List Sighting) → StandsForSatellite self.old interval (absent_at time ∷ before)
+            → record_ms ≡ last_record before → StandsForSatellite self.new interval (record { time = time; observed = observed.now } ∷ before) }
+        ensures ended { (before : List Sighting) → StandsForSatellite self.old interval (absent_at time ∷ before)
+            → record_ms ≡ last_record before → StandsForEnded result interval before (record { time = time; observed = observed.now }) }
     {
         let time_ms = time.ms();
-        let begins = self.pass.begins(gap_ms, time_ms, observed);
-        let known = self.pass.known(gap_ms, time_ms, observed);
-        note_codes(&mut self.codes, observed, &known);
-        self.pass.note(gap_ms, time_ms, observed);
+        let begins = self.pass.begins(interval, time_ms, observed);
+        let known = self.pass.known(interval, record_ms, time_ms, observed);
+        note_codes(&mut self.codes, observed, &known.kept);
+        self.pass.note(interval, record_ms, time_ms, observed);
         if !has_phase(observed) {
             return None;
         }
-        let slips = slips_in(observed, &known);
+        let slips = slips_in(observed, &known.kept);
         self.note_phases(begins, reading, phases_in(observed), slips)
     }
 }

@@ -1,6 +1,6 @@
 //! The lines of all codes and satellites.
 
-ghost use Rattle.std.specs.Prelude.{◌≡◌, ◌<◌, ◌≤◌, ℕ, ◌+◌, List, ◌++◌, length, reverse, flat_map, OnOk};
+ghost use Rattle.std.specs.Prelude.{◌≡◌, ◌<◌, ◌≤◌, ℕ, ◌+◌, List, ◌++◌, length, reverse, flat_map, OnOk, Option};
 ghost use Rattle.rtk_rinex.specs.Record.{EpochTableView};
 ghost use Rattle.rtk_tracking.specs.Passes.{Sighting};
 ghost use Rattle.rtk_quality.specs.Quality.{numbers_of, totals_of};
@@ -35,8 +35,8 @@ pub(crate) fn put_codes(
     satellites: &[SatelliteCounts],
 ) -> Result<(), AllocError>
     requires { length codes.now ≤ 16 }
-    ensures { OnOk result ((gap : ℕ) (es : List EpochTableView) → StandForSatellites satellites.now gap es
-        → text.new.items ≡ text.old.items ++ each_code (λ place code. code_line form code (totals_of gap es place)) 0 codes.now) }
+    ensures { OnOk result ((interval : Option ℕ) (es : List EpochTableView) → StandForSatellites satellites.now interval es
+        → text.new.items ≡ text.old.items ++ each_code (λ place code. code_line form code (totals_of interval es place)) 0 codes.now) }
 {
     for (at, code) in codes.iter().enumerate() {
         put_code_line(text, form, *code, &totals_of(satellites, at))?;
@@ -74,8 +74,8 @@ fn put_codes_in(
     counts: &SatelliteCounts,
 ) -> Result<(), AllocError>
     requires { length codes.now ≤ 16 }
-    ensures { OnOk result ((gap : ℕ) (before : List Sighting) → StandsForSatellite counts.now gap before
-        → text.new.items ≡ text.old.items ++ each_code (λ place code. code_in form section satellite code (numbers_of gap before place)) 0 codes.now) }
+    ensures { OnOk result ((interval : Option ℕ) (before : List Sighting) → StandsForSatellite counts.now interval before
+        → text.new.items ≡ text.old.items ++ each_code (λ place code. code_in form section satellite code (numbers_of interval before place)) 0 codes.now) }
 {
     for (at, code) in codes.iter().enumerate() {
         put_code_in(text, form, section, satellite, *code, &counts.numbers(at))?;
@@ -108,8 +108,8 @@ fn put_passes(
     counts: &SatelliteCounts,
     ended: &[EndedPass],
 ) -> Result<(), AllocError>
-    ensures { OnOk result ((gap : ℕ) (before : List Sighting) → StandsForSatellite counts.now gap before → HasEnded ended.now gap before satellite
-        → text.new.items ≡ text.old.items ++ flat_map (pass_line form satellite) (reverse (passes_of gap before))) }
+    ensures { OnOk result ((interval : Option ℕ) (before : List Sighting) → StandsForSatellite counts.now interval before → HasEnded ended.now interval before satellite
+        → text.new.items ≡ text.old.items ++ flat_map (pass_line form satellite) (reverse (passes_of interval before))) }
 {
     put_ended(text, form, satellite, ended)?;
     match counts.last {
@@ -132,8 +132,8 @@ fn put_part(
     ended: &[EndedPass],
 ) -> Result<(), AllocError>
     requires { length codes.now ≤ 16 }
-    ensures { OnOk result ((gap : ℕ) (before : List Sighting) → StandsForSatellite counts.now gap before → HasEnded ended.now gap before satellite
-        → text.new.items ≡ text.old.items ++ part_of form section codes.now gap before satellite) }
+    ensures { OnOk result ((interval : Option ℕ) (before : List Sighting) → StandsForSatellite counts.now interval before → HasEnded ended.now interval before satellite
+        → text.new.items ≡ text.old.items ++ part_of form section codes.now interval before satellite) }
 {
     match section {
         Section::Codes => put_codes_in(text, form, section, codes, satellite, counts),
@@ -154,8 +154,8 @@ pub(crate) fn put_section(
 ) -> Result<(), AllocError>
     requires few { length codes.now ≤ 16 }
     requires size { length satellites.now ≡ 32 }
-    ensures { OnOk result ((gap : ℕ) (es : List EpochTableView) → StandForSatellites satellites.now gap es → StandForEnded ended.now gap es
-        → text.new.items ≡ text.old.items ++ section_text form section codes.now gap es) }
+    ensures { OnOk result ((interval : Option ℕ) (es : List EpochTableView) → StandForSatellites satellites.now interval es → StandForEnded ended.now interval es
+        → text.new.items ≡ text.old.items ++ section_text form section codes.now interval es) }
 {
     for (place, counts) in satellites.iter().enumerate() {
         let satellite = place as u8 + 1;

@@ -1,10 +1,11 @@
--- The passes of a satellite, and which of its loss-of-lock digits are rises and which are slips (this
--- project's rule). What came of a satellite is listed newest first.
-use Rattle.std.specs.Prelude.{ℕ, zero, suc, ◌-◌, nat_lt, Bool, true, false, not, ◌&&◌, ◌||◌, List, [], ◌∷◌, map, Option, None, Some, is_some, max, if◌then◌else◌}
+-- The passes and outages of a satellite, and which of its loss-of-lock digits are rises, returns and slips
+-- (this project's rule). What came of a satellite is listed newest first.
+use Rattle.std.specs.Prelude.{ℕ, zero, suc, ◌+◌, ◌-◌, ◌*◌, ◌==◌, nat_lt, Bool, true, false, not, ◌&&◌, ◌||◌, List, [], ◌∷◌, map, Option, None, Some, is_some, unwrap_or, if◌then◌else◌}
 use Rattle.std.specs.List.{list_any}
 use Rattle.rtk_rinex.specs.Record.{EpochTableView}
 use Rattle.rtk_rinex.specs.declared.epoch_table.Observed.{Observed}
 use Rattle.rtk_tracking.specs.Epochs.{observed_in, shows_phase}
+use Rattle.rtk_tracking.specs.Interval.{nearness_of}
 
 -- a moment, and what the codes of a satellite show in the epoch then; nothing if it has no row
 pub record Sighting : Type 0 where
@@ -14,12 +15,6 @@ pub record Sighting : Type 0 where
 -- what came of a satellite
 abbrev pub sightings_of : ℕ → List EpochTableView → List Sighting
 sightings_of satellite es = map (λ e. record { time = e.time; observed = observed_in satellite e.rows }) es
-
--- formula
--- how long in ms a satellite may be without a phase within a pass: 120 s, or the interval if it is longer
-abbrev pub longest_gap : Option ℕ → ℕ
-longest_gap None = 120_000
-longest_gap (Some interval) = max 120_000 interval
 
 -- some code has a phase
 abbrev pub has_phase : List Observed → Bool
@@ -36,31 +31,99 @@ abbrev pub last_phase : List Sighting → Option ℕ
 last_phase [] = None
 last_phase (s ∷ before) = if has_phase s.observed then Some s.time else last_phase before
 
--- no phase came before, or the last one lies more than the longest gap back
-abbrev pub is_away : ℕ → Option ℕ → ℕ → Bool
-is_away gap None t = true
-is_away gap (Some last) t = nat_lt gap (t - last)
+-- the moment of the last record of the file
+abbrev pub last_record : List Sighting → Option ℕ
+last_record [] = None
+last_record (s ∷ before) = Some s.time
+
+-- ---- absences
+
+-- formula
+-- the absence of a satellite in ms: the time from its last phase to its next one, less one interval
+abbrev pub absence_of : Option ℕ → ℕ → ℕ → ℕ
+absence_of interval last t = t - last - unwrap_or interval 0
+
+-- formula
+-- an absence is longer than so many ms, by more than twice the nearness that the interval has
+abbrev pub is_longer : Option ℕ → ℕ → ℕ → ℕ → Bool
+is_longer interval longest last t = nat_lt (longest + 2 * nearness_of interval) (absence_of interval last t)
+
+-- no phase came before, or the absence is longer than it may be within a pass: 1,800 s
+abbrev pub is_away : Option ℕ → Option ℕ → ℕ → Bool
+is_away interval None t = true
+is_away interval (Some last) t = is_longer interval 1_800_000 last t
+
+-- the absence is longer than 120 s
+abbrev pub is_out : Option ℕ → Option ℕ → ℕ → Bool
+is_out interval None t = false
+is_out interval (Some last) t = is_longer interval 120_000 last t
+
+-- the two moments are there and the same
+abbrev pub is_same_moment : Option ℕ → Option ℕ → Bool
+is_same_moment None b = false
+is_same_moment (Some a) None = false
+is_same_moment (Some a) (Some b) = a == b
+
+-- the last record has the last phase: the file has no record between that phase and the next one
+abbrev pub is_gap_of_file : List Sighting → Bool
+is_gap_of_file before = is_same_moment (last_phase before) (last_record before)
+
+-- ---- passes and outages
 
 -- formula
 -- a pass begins: with the first phase of a satellite, or with one after it was away
-abbrev pub begins_pass : ℕ → List Sighting → Sighting → Bool
-begins_pass gap before s = has_phase s.observed && is_away gap (last_phase before) s.time
+abbrev pub begins_pass : Option ℕ → List Sighting → Sighting → Bool
+begins_pass interval before s = has_phase s.observed && is_away interval (last_phase before) s.time
+
+-- formula
+-- an outage ends: with a phase after an absence within a pass, in which the file has records
+abbrev pub ends_outage : Option ℕ → List Sighting → Sighting → Bool
+ends_outage interval before s =
+    has_phase s.observed
+    && (not (is_away interval (last_phase before) s.time) && (is_out interval (last_phase before) s.time && not (is_gap_of_file before)))
+
+-- a pass begins, or an outage ends
+abbrev pub is_break : Option ℕ → List Sighting → Sighting → Bool
+is_break interval before s = begins_pass interval before s || ends_outage interval before s
 
 -- the code at this place has had a phase since the last pass began
-abbrev pub had_phase : ℕ → ℕ → List Sighting → Bool
-had_phase gap place [] = false
-had_phase gap place (s ∷ before) = shows_phase place s.observed || (not (begins_pass gap before s) && had_phase gap place before)
+abbrev pub had_phase : Option ℕ → ℕ → List Sighting → Bool
+had_phase interval place [] = false
+had_phase interval place (s ∷ before) =
+    shows_phase place s.observed || (not (begins_pass interval before s) && had_phase interval place before)
+
+-- the code at this place has had a phase since the last pass began and the last outage ended
+abbrev pub kept_phase : Option ℕ → ℕ → List Sighting → Bool
+kept_phase interval place [] = false
+kept_phase interval place (s ∷ before) =
+    shows_phase place s.observed || (not (is_break interval before s) && kept_phase interval place before)
 
 -- the code at this place has had a phase earlier in the pass that goes on
-abbrev pub is_known : ℕ → ℕ → List Sighting → Sighting → Bool
-is_known gap place before s = not (begins_pass gap before s) && had_phase gap place before
+abbrev pub is_known : Option ℕ → ℕ → List Sighting → Sighting → Bool
+is_known interval place before s = not (begins_pass interval before s) && had_phase interval place before
+
+-- and since the last outage in it
+abbrev pub is_kept : Option ℕ → ℕ → List Sighting → Sighting → Bool
+is_kept interval place before s = not (is_break interval before s) && kept_phase interval place before
+
+-- ---- the three kinds of bit 0
 
 -- formula
 -- a rise: bit 0 at the first phase of a code in a pass
-abbrev pub is_rise : ℕ → ℕ → List Sighting → Sighting → Bool
-is_rise gap place before s = has_bit_0 place s.observed && not (is_known gap place before s)
+abbrev pub is_rise : Option ℕ → ℕ → List Sighting → Sighting → Bool
+is_rise interval place before s = has_bit_0 place s.observed && not (is_known interval place before s)
+
+-- formula
+-- a return: bit 0 at its first phase after an outage
+abbrev pub is_return : Option ℕ → ℕ → List Sighting → Sighting → Bool
+is_return interval place before s = has_bit_0 place s.observed && (is_known interval place before s && not (is_kept interval place before s))
+
+-- formula
+-- a rise or a return: bit 0 at the first phase of a code in a pass or after an outage
+abbrev pub is_rise_or_return : Option ℕ → ℕ → List Sighting → Sighting → Bool
+is_rise_or_return interval place before s = has_bit_0 place s.observed && not (is_kept interval place before s)
 
 -- formula
 -- a slip: each other bit 0
-abbrev pub is_slip : ℕ → ℕ → List Sighting → Sighting → Bool
-is_slip gap place before s = has_bit_0 place s.observed && is_known gap place before s
+abbrev pub is_slip : Option ℕ → ℕ → List Sighting → Sighting → Bool
+is_slip interval place before s = has_bit_0 place s.observed && is_kept interval place before s

@@ -5,11 +5,12 @@ use Rattle.std.specs.Ordering.{nat_cmp}
 use Rattle.rtk_rinex.specs.Record.{EpochTableView}
 use Rattle.rtk_tracking.specs.Epochs.{newest_moment}
 use Rattle.rtk_tracking.specs.Interval.{times_of_step, steps_in, IsMostFrequent}
-use Rattle.rtk_tracking.specs.Passes.{Sighting, last_phase, had_phase}
+use Rattle.rtk_tracking.specs.Passes.{Sighting, last_phase, had_phase, is_known, is_kept, kept_phase}
 use Rattle.rtk_tracking.specs.declared.steps.Frequent.{Frequent}
 use Rattle.rtk_tracking.specs.declared.steps.Steps.{Steps}
 use Rattle.rtk_tracking.specs.declared.steps.StepCounts.{StepCounts}
 use Rattle.rtk_tracking.specs.declared.passes.Pass.{Pass}
+use Rattle.rtk_tracking.specs.declared.passes.Known.{Known}
 
 -- how often each step came
 abbrev pub CountsSteps : BTreeMap ℕ ℕ → List ℕ → Type 0
@@ -33,7 +34,14 @@ pub record StandsForStepsBetween (s : StepCounts) (es : List EpochTableView) : T
 abbrev pub AreMarked : List Bool → (ℕ → Bool) → Type 0
 AreMarked marks test = (place : ℕ) → place < 16 → get_or marks place false ≡ test place
 
--- a pass after what came of a satellite: its last phase, and the codes that had one
-pub record StandsForPass (p : Pass) (gap : ℕ) (before : List Sighting) : Type 0 where
+-- a pass after what came of a satellite: its last phase, the codes that had one, and those that had one
+-- since the last outage
+pub record StandsForPass (p : Pass) (interval : Option ℕ) (before : List Sighting) : Type 0 where
   pub last : p.last_ms ≡ last_phase before
-  pub had : AreMarked p.had (λ place. had_phase gap place before)
+  pub had : AreMarked p.had (λ place. had_phase interval place before)
+  pub kept : AreMarked p.kept (λ place. kept_phase interval place before)
+
+-- which codes had a phase before an epoch, in its pass and since the last outage in it
+pub record AreKnown (known : Known) (interval : Option ℕ) (before : List Sighting) (s : Sighting) : Type 0 where
+  pub had : AreMarked known.had (λ place. is_known interval place before s)
+  pub kept : AreMarked known.kept (λ place. is_kept interval place before s)

@@ -1,5 +1,5 @@
 //! How the satellites of a file were tracked: the interval of its epochs, those that are missing, and the
-//! passes of its satellites.
+//! passes and outages of its satellites.
 //!
 //! Its tests: tests/values/src/tracking.rt.in.
 //!
@@ -25,7 +25,7 @@ mod steps;
 
 pub use extremes::{greater, lesser};
 pub use intervals::{interval, missing_between, nearness_ms};
-pub use laws::interval_is_most_frequent;
+pub use laws::{absences_stay, bits_are_of_three_kinds, interval_is_most_frequent};
 pub use observations::{observed_in, shows_phase};
-pub use passes::{Pass, longest_gap_ms};
+pub use passes::{Known, Pass};
 pub use steps::StepCounts;

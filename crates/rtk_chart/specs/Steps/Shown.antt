@@ -1,10 +1,10 @@
 -- What one epoch calls for, and how it is added to the marks of a bin.
-use Rattle.std.specs.Prelude.{ℕ, ◌+◌, Bool, true, false, not, ◌&&◌, ◌||◌, List, map, get_or, is_some, if◌then◌else◌}
+use Rattle.std.specs.Prelude.{ℕ, ◌+◌, Bool, true, false, not, ◌&&◌, ◌||◌, List, map, get_or, is_some, if◌then◌else◌, Option}
 use Rattle.std.specs.List.{range_with_len}
 use Rattle.rtk_rinex.specs.Record.{EpochTableView}
 use Rattle.rtk_rinex.specs.declared.epoch_table.Observed.{Observed}
 use Rattle.rtk_tracking.specs.Extremes.{lesser}
-use Rattle.rtk_tracking.specs.Passes.{Sighting, sightings_of, has_phase, is_known}
+use Rattle.rtk_tracking.specs.Passes.{Sighting, sightings_of, has_phase, is_kept}
 use Rattle.rtk_tracking.specs.Epochs.{shown_at}
 use Rattle.rtk_chart.specs.Epochs.{sighting_of, is_seen, level_of}
 use Rattle.rtk_chart.specs.Grid.{no_marks, no_tracking}
@@ -15,19 +15,19 @@ use Rattle.rtk_chart.specs.declared.time_bin.TimeBin.{TimeBin}
 -- what an epoch calls for of a code: the satellite has a phase or none, and the code had one earlier in
 -- the pass or had none
 abbrev pub called_for : Observed → Bool → Bool → CodeMarks
-called_for o has_phase known =
+called_for o has_phase kept =
     record {
       phase = is_some o.phase_millicycles;
       missing = has_phase && not (is_some o.phase_millicycles);
-      slip = o.slip && known;
-      rise = o.slip && not known;
+      slip = o.slip && kept;
+      rise = o.slip && not kept;
       half = o.half;
       least = level_of o.strength_millidbhz;
     }
 
 -- the same of the code at a place, of codes that had a phase by their marks
 abbrev pub called_at : List Observed → List Bool → ℕ → CodeMarks
-called_at os known code = called_for (shown_at code os) (has_phase os) (get_or known code false)
+called_at os kept code = called_for (shown_at code os) (has_phase os) (get_or kept code false)
 
 -- the marks of two
 abbrev pub both_marks : CodeMarks → CodeMarks → CodeMarks
@@ -56,14 +56,14 @@ unfoldable pub both_bins : TimeBin → TimeBin → TimeBin
 both_bins a b = record { satellites = map (both_satellites a.satellites b.satellites) (range_with_len 0 32) }
 
 -- what an epoch calls for of a satellite, after what came before it
-unfoldable pub tracking_of : ℕ → List Sighting → Sighting → Tracking
-tracking_of gap before s =
+unfoldable pub tracking_of : Option ℕ → List Sighting → Sighting → Tracking
+tracking_of interval before s =
     record {
-      codes = map (λ code. called_for (shown_at code s.observed) (has_phase s.observed) (is_known gap code before s)) (range_with_len 0 16);
+      codes = map (λ code. called_for (shown_at code s.observed) (has_phase s.observed) (is_kept interval code before s)) (range_with_len 0 16);
       seen = is_seen s.observed;
     }
 
 -- what an epoch calls for, after these earlier ones
-unfoldable pub bin_of : ℕ → List EpochTableView → EpochTableView → TimeBin
-bin_of gap before e =
-    record { satellites = map (λ place. tracking_of gap (sightings_of (place + 1) before) (sighting_of (place + 1) e)) (range_with_len 0 32) }
+unfoldable pub bin_of : Option ℕ → List EpochTableView → EpochTableView → TimeBin
+bin_of interval before e =
+    record { satellites = map (λ place. tracking_of interval (sightings_of (place + 1) before) (sighting_of (place + 1) e)) (range_with_len 0 32) }

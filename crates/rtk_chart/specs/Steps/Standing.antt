@@ -1,8 +1,8 @@
 -- What the parts of a chart hold, tied to the epochs that came so far.
-use Rattle.std.specs.Prelude.{◌≡◌, ◌<◌, ℕ, ◌+◌, Bool, false, ◌||◌, List, ◌∷◌, length, get_or}
+use Rattle.std.specs.Prelude.{◌≡◌, ◌<◌, ℕ, ◌+◌, Bool, false, ◌||◌, List, ◌∷◌, length, get_or, Option}
 use Rattle.rtk_rinex.specs.Record.{EpochTableView}
 use Rattle.rtk_tracking.specs.Epochs.{capped, newest_moment}
-use Rattle.rtk_tracking.specs.Passes.{sightings_of, longest_gap}
+use Rattle.rtk_tracking.specs.Passes.{sightings_of}
 use Rattle.rtk_tracking.specs.Standing.{StandsForPass}
 use Rattle.rtk_tracking.specs.declared.passes.Pass.{Pass}
 use Rattle.rtk_chart.specs.Chart.{slips_at, rises_at}
@@ -33,13 +33,13 @@ CountsMissing old new s e =
     (es : List EpochTableView) → old.last ≡ newest_moment es → StandsForMissing old s es → StandsForMissing new s (e ∷ es)
 
 -- the passes of the satellites 1 to 32 after these epochs
-abbrev pub StandForPasses : List Pass → ℕ → List EpochTableView → Type 0
-StandForPasses passes gap es = (place : ℕ) (d : Pass) → place < 32 → StandsForPass (get_or passes place d) gap (sightings_of (place + 1) es)
+abbrev pub StandForPasses : List Pass → Option ℕ → List EpochTableView → Type 0
+StandForPasses passes interval es = (place : ℕ) (d : Pass) → place < 32 → StandsForPass (get_or passes place d) interval (sightings_of (place + 1) es)
 
 pub record StandsForGrid (g : Grid) (s : Scale) (es : List EpochTableView) : Type 0 where
   pub bins : g.bins.items ≡ bins_of s es
   pub missing : StandsForMissing g s es
   pub last : g.last ≡ newest_moment es
-  pub passes : StandForPasses g.passes (longest_gap s.interval) es
+  pub passes : StandForPasses g.passes s.interval es
   pub slips : g.slips ≡ slips_at s es
   pub rises : g.rises ≡ rises_at s es

@@ -1,19 +1,20 @@
-use Rattle.std.proofs.Common.{◌≡◌, ◌<◌, ◌≤◌, ◌+◌, ◌-◌, ◌∷◌, ◌∙◌, ℕ, List, length, get_or, sym, subst, length-set, arith}
+use Rattle.std.proofs.Common.{◌≡◌, ◌<◌, ◌≤◌, ◌+◌, ◌-◌, ◌∷◌, ◌∙◌, ℕ, List, length, get_or, sym, subst, length-set, arith, Option}
 use Rattle.std.proofs.lemmas.List.{take_all}
 use Rattle.rtk_rinex.proofs.PublicLaws.{reading_is}
 use Rattle.rtk_rinex.specs.Record.{EpochTableView, IsSatelliteRow}
 use Rattle.rtk_rinex.specs.declared.epoch_table.SatelliteRow.{SatelliteRow}
+use Rattle.rtk_tracking.specs.Epochs.{newest_moment}
 use Rattle.rtk_tracking.specs.Passes.{sightings_of}
 use Rattle.rtk_quality.specs.Standing.{absent_at, without_rows, StandsForSatellite, StandForSatellites, StandForEnded}
 use Rattle.rtk_quality.specs.declared.satellite_counts.SatelliteCounts.{SatelliteCounts}
-use Rattle.rtk_quality.proofs.RowLemmas.{all-rows, IsRowAt, row-due, row-noted, row-ended}
+use Rattle.rtk_quality.proofs.RowLemmas.{all-rows, IsRowAt, record-is, row-due, row-noted, row-ended}
 use Rattle.rtk_quality.proofs.file_counts.note_rows.Goals as goal
 
 pub loop-row-init : goal.loop-row-init
 loop-row-init c = record {
   size = c.requires;
-  satellites = λ es stand. stand;
-  ended = λ es stand ended. ended;
+  satellites = λ es last stand. stand;
+  ended = λ es last stand ended. ended;
 }
 
 pub note_row-pass-requires : goal.note_row-pass-requires
@@ -22,7 +23,7 @@ note_row-pass-requires c = reading_is c.time-time.result c.civil-reading.result 
 pub loop-row-preserved : goal.loop-row-preserved
 loop-row-preserved c =
     let e : EpochTableView = c.args.epoch.now in
-    let gap : ℕ = c.args.gap_ms in
+    let interval : Option ℕ = c.args.interval in
     let i : ℕ = c.loop-row.row-index in
     let r : SatelliteRow = c.row-item.result in
     let place : ℕ = c.from-place.result - 1 in
@@ -35,29 +36,29 @@ loop-row-preserved c =
     let few : place < 32 = omega (arith, good.satellite, number) in
     let stands = rw (c.time-time.ensures, c.as_slice-observed.ensures.value) at c.note_row-pass.ensures.stands in
     let ends = rw (c.time-time.ensures, c.as_slice-observed.ensures.value) at c.note_row-pass.ensures.ended in
-    let was : (es : List EpochTableView) → StandForSatellites c.args.satellites.now.items gap (without_rows e.time ∷ es)
-    → StandsForSatellite (get_or items place _) gap (absent_at e.time ∷ sightings_of r.satellite es) =
-    λ es stand. row-due e i place r items _ gap es at number few (c.loop-row.invariant.satellites es stand) in
+    let was : (es : List EpochTableView) → c.args.record_ms ≡ newest_moment es → StandForSatellites c.args.satellites.now.items interval (without_rows e.time ∷ es)
+    → StandsForSatellite (get_or items place _) interval (absent_at e.time ∷ sightings_of r.satellite es) =
+    λ es last stand. row-due e i place r items _ interval es at number few (c.loop-row.invariant.satellites es last stand) in
     record {
       size = length-set items place new ∙ c.loop-row.invariant.size;
-      satellites = λ es stand.
-          row-noted e i place r items new gap es at number few (c.loop-row.invariant.satellites es stand)
-          (stands (sightings_of r.satellite es) (subst (λ (s : SatelliteCounts). StandsForSatellite s gap (absent_at e.time ∷ sightings_of r.satellite es)) (sym c.index_mut.ensures.value) (was es stand)));
-      ended = λ es stand ended.
-          row-ended e i r c.loop-row.ended.items c.add_ended.new.ended.items c.note_row-pass.result gap es at (c.loop-row.invariant.ended es stand ended) c.in_ok-add_ended.ensures
-          (ends (sightings_of r.satellite es) (subst (λ (s : SatelliteCounts). StandsForSatellite s gap (absent_at e.time ∷ sightings_of r.satellite es)) (sym c.index_mut.ensures.value) (was es stand)));
+      satellites = λ es last stand.
+          row-noted e i place r items new interval es at number few (c.loop-row.invariant.satellites es last stand)
+          (stands (sightings_of r.satellite es) (subst (λ (s : SatelliteCounts). StandsForSatellite s interval (absent_at e.time ∷ sightings_of r.satellite es)) (sym c.index_mut.ensures.value) (was es last stand)) (last ∙ record-is r.satellite es));
+      ended = λ es last stand ended.
+          row-ended e i r c.loop-row.ended.items c.add_ended.new.ended.items c.note_row-pass.result interval es at (c.loop-row.invariant.ended es last stand ended) c.in_ok-add_ended.ensures
+          (ends (sightings_of r.satellite es) (subst (λ (s : SatelliteCounts). StandsForSatellite s interval (absent_at e.time ∷ sightings_of r.satellite es)) (sym c.index_mut.ensures.value) (was es last stand)) (last ∙ record-is r.satellite es));
     }
 
 pub returns-clause-satellites : goal.returns-clause-satellites
-returns-clause-satellites c = λ es stand.
+returns-clause-satellites c = λ es last stand.
     let e : EpochTableView = c.args.epoch.now in
     let long : length e.rows ≤ c.loop-row.row-index = rw c.rows-row-items.ensures.value at c.loop-row-test.false in
-    subst (λ (x : EpochTableView). StandForSatellites c.loop-row.satellites.items c.args.gap_ms (x ∷ es)) (all-rows e c.loop-row.row-index (take_all c.loop-row.row-index e.rows long))
-    (c.loop-row.invariant.satellites es stand)
+    subst (λ (x : EpochTableView). StandForSatellites c.loop-row.satellites.items c.args.interval (x ∷ es)) (all-rows e c.loop-row.row-index (take_all c.loop-row.row-index e.rows long))
+    (c.loop-row.invariant.satellites es last stand)
 
 pub returns-clause-ended : goal.returns-clause-ended
-returns-clause-ended c = λ es stand ended.
+returns-clause-ended c = λ es last stand ended.
     let e : EpochTableView = c.args.epoch.now in
     let long : length e.rows ≤ c.loop-row.row-index = rw c.rows-row-items.ensures.value at c.loop-row-test.false in
-    subst (λ (x : EpochTableView). StandForEnded c.loop-row.ended.items c.args.gap_ms (x ∷ es)) (all-rows e c.loop-row.row-index (take_all c.loop-row.row-index e.rows long))
-    (c.loop-row.invariant.ended es stand ended)
+    subst (λ (x : EpochTableView). StandForEnded c.loop-row.ended.items c.args.interval (x ∷ es)) (all-rows e c.loop-row.row-index (take_all c.loop-row.row-index e.rows long))
+    (c.loop-row.invariant.ended es last stand ended)

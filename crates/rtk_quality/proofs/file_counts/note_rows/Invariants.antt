@@ -1,5 +1,6 @@
 use Rattle.std.proofs.Common.{◌≡◌, ◌∷◌, List, length}
 use Rattle.rtk_rinex.specs.Record.{EpochTableView}
+use Rattle.rtk_tracking.specs.Epochs.{newest_moment}
 use Rattle.rtk_quality.specs.Standing.{without_rows, StandForSatellites, StandForEnded}
 use Rattle.rtk_quality.proofs.RowLemmas.{first_rows}
 use Rattle.rtk_quality.proofs.file_counts.note_rows.Given as goal
@@ -7,8 +8,8 @@ use Rattle.rtk_quality.proofs.file_counts.note_rows.Given as goal
 abbrev pub invariant-loop-row : goal.invariant-loop-row
 invariant-loop-row l = record {
   size : length l.satellites.items ≡ 32;
-  satellites : (es : List EpochTableView) → StandForSatellites l.fn.satellites.items l.gap_ms (without_rows l.epoch.time ∷ es)
-      → StandForSatellites l.satellites.items l.gap_ms (first_rows l.epoch l.row-index ∷ es);
-  ended : (es : List EpochTableView) → StandForSatellites l.fn.satellites.items l.gap_ms (without_rows l.epoch.time ∷ es) → StandForEnded l.fn.ended.items l.gap_ms es
-      → StandForEnded l.ended.items l.gap_ms (first_rows l.epoch l.row-index ∷ es);
+  satellites : (es : List EpochTableView) → l.record_ms ≡ newest_moment es → StandForSatellites l.fn.satellites.items l.interval (without_rows l.epoch.time ∷ es)
+      → StandForSatellites l.satellites.items l.interval (first_rows l.epoch l.row-index ∷ es);
+  ended : (es : List EpochTableView) → l.record_ms ≡ newest_moment es → StandForSatellites l.fn.satellites.items l.interval (without_rows l.epoch.time ∷ es) → StandForEnded l.fn.ended.items l.interval es
+      → StandForEnded l.ended.items l.interval (first_rows l.epoch l.row-index ∷ es);
 }

@@ -1,4 +1,4 @@
-use Rattle.std.proofs.Common.{◌≡◌, ℕ, List, length}
+use Rattle.std.proofs.Common.{◌≡◌, ℕ, List, length, Option}
 use Rattle.rtk_rinex.specs.Record.{EpochTableView}
 use Rattle.rtk_quality.specs.Standing.{without_rows, StandForSatellites}
 use Rattle.rtk_quality.proofs.FileLemmas.{AreUpTo}
@@ -7,5 +7,5 @@ use Rattle.rtk_quality.proofs.file_counts.note_satellites.Given as goal
 abbrev pub invariant-loop-place : goal.invariant-loop-place
 invariant-loop-place l = record {
   size : length l.satellites.items ≡ 32;
-  satellites : (gap time : ℕ) (es : List EpochTableView) → StandForSatellites l.fn.satellites.items gap es → AreUpTo l.place l.satellites.items gap (without_rows time) es;
+  satellites : (interval : Option ℕ) (time : ℕ) (es : List EpochTableView) → StandForSatellites l.fn.satellites.items interval es → AreUpTo l.place l.satellites.items interval (without_rows time) es;
 }

@@ -1,4 +1,4 @@
-use Rattle.std.proofs.Common.{◌≡◌, ℕ, List}
+use Rattle.std.proofs.Common.{◌≡◌, ℕ, List, Option}
 use Rattle.std.specs.List.{fold, range_with_len}
 use Rattle.rtk_rinex.specs.Record.{EpochTableView}
 use Rattle.rtk_tracking.specs.Passes.{sightings_of}
@@ -8,5 +8,5 @@ use Rattle.rtk_quality.proofs.file_counts.totals_of.Given as goal
 
 abbrev pub invariant-loop-satellite : goal.invariant-loop-satellite
 invariant-loop-satellite l =
-    (gap : ℕ) (es : List EpochTableView) → StandForSatellites l.satellites gap es
-    → l.totals ≡ fold (λ total satellite. with_satellite total (numbers_of gap (sightings_of satellite es) l.place)) no_numbers (range_with_len 1 l.satellite-index)
+    (interval : Option ℕ) (es : List EpochTableView) → StandForSatellites l.satellites interval es
+    → l.totals ≡ fold (λ total satellite. with_satellite total (numbers_of interval (sightings_of satellite es) l.place)) no_numbers (range_with_len 1 l.satellite-index)

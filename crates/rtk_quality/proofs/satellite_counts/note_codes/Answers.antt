@@ -10,26 +10,26 @@ use Rattle.rtk_quality.proofs.satellite_counts.note_codes.Goals as goal
 
 pub loop-place-init : goal.loop-place-init
 unfolding code_counts_of
-loop-place-init c = λ gap before s same marked are.
-    up_to-none (λ (place : ℕ). counts_of (noted_of gap place (s ∷ before))) (λ (place : ℕ). counts_of (noted_of gap place before)) c.args.codes.now 16 (counts_of []) are
+loop-place-init c = λ interval before s same marked are.
+    up_to-none (λ (place : ℕ). counts_of (noted_of interval place (s ∷ before))) (λ (place : ℕ). counts_of (noted_of interval place before)) c.args.codes.now 16 (counts_of []) are
 
 pub loop-place-preserved : goal.loop-place-preserved
 unfolding code_counts_of
-loop-place-preserved c = λ gap before s same marked are.
-    let so_far = c.loop-place.invariant gap before s same marked are in
-    let new : ℕ → CodeCounts = λ place. counts_of (noted_of gap place (s ∷ before)) in
-    let old : ℕ → CodeCounts = λ place. counts_of (noted_of gap place before) in
+loop-place-preserved c = λ interval before s same marked are.
+    let so_far = c.loop-place.invariant interval before s same marked are in
+    let new : ℕ → CodeCounts = λ place. counts_of (noted_of interval place (s ∷ before)) in
+    let old : ℕ → CodeCounts = λ place. counts_of (noted_of interval place before) in
     let few : c.loop-place.place < 16 = omega (arith, c.loop-place-test.true) in
     let inside : c.loop-place.place < length c.args.observed.now = omega (arith, c.loop-place-test.true) in
     up_to-more new old c.loop-place.codes 16 c.loop-place.place c.loop-place.place c.note.new.self (counts_of []) refl few so_far
-    (code-more gap c.loop-place.place before s c.args.observed.now _ _ _ c.note.new.self same (get_or_default c.args.observed.now c.loop-place.place _ no_observation inside) (marked c.loop-place.place few)
+    (code-more interval c.loop-place.place before s c.args.observed.now _ _ _ c.note.new.self same (get_or_default c.args.observed.now c.loop-place.place _ no_observation inside) (marked c.loop-place.place few)
     (up_to-here new old c.loop-place.codes 16 c.loop-place.place c.loop-place.place _ refl few so_far) c.note.ensures)
 
 pub returns : goal.returns
 unfolding code_counts_of
-returns c = λ gap before s same marked are.
-    let new : ℕ → CodeCounts = λ place. counts_of (noted_of gap place (s ∷ before)) in
-    let old : ℕ → CodeCounts = λ place. counts_of (noted_of gap place before) in
-    up_to-rest new old c.loop-place.codes 16 c.loop-place.place (counts_of []) (c.loop-place.invariant gap before s same marked are) (λ k above within.
+returns c = λ interval before s same marked are.
+    let new : ℕ → CodeCounts = λ place. counts_of (noted_of interval place (s ∷ before)) in
+    let old : ℕ → CodeCounts = λ place. counts_of (noted_of interval place before) in
+    up_to-rest new old c.loop-place.codes 16 c.loop-place.place (counts_of []) (c.loop-place.invariant interval before s same marked are) (λ k above within.
     let past : length c.args.observed.now ≤ k = omega (arith, above, within, c.loop-place-test.false) in
-    sym (code-rest gap k before s (subst (λ (os : List Observed). length os ≤ k) same past)))
+    sym (code-rest interval k before s (subst (λ (os : List Observed). length os ≤ k) same past)))

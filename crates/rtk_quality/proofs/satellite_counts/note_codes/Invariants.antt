@@ -1,6 +1,6 @@
-use Rattle.std.proofs.Common.{◌≡◌, ◌∷◌, ℕ, List, map}
+use Rattle.std.proofs.Common.{◌≡◌, ◌∷◌, ℕ, List, map, Option}
 use Rattle.std.specs.List.{range_with_len}
-use Rattle.rtk_tracking.specs.Passes.{Sighting, is_known}
+use Rattle.rtk_tracking.specs.Passes.{Sighting, is_kept}
 use Rattle.rtk_tracking.specs.Standing.{AreMarked}
 use Rattle.rtk_quality.specs.Counts.{noted_of, counts_of, code_counts_of}
 use Rattle.rtk_quality.proofs.ListLemmas.{up_to}
@@ -8,6 +8,6 @@ use Rattle.rtk_quality.proofs.satellite_counts.note_codes.Given as goal
 
 abbrev pub invariant-loop-place : goal.invariant-loop-place
 invariant-loop-place l =
-    (gap : ℕ) (before : List Sighting) (s : Sighting) → l.observed ≡ s.observed → AreMarked l.known (λ place. is_known gap place before s)
-    → l.fn.codes ≡ code_counts_of gap before
-    → l.codes ≡ map (up_to l.place (λ place. counts_of (noted_of gap place (s ∷ before))) (λ place. counts_of (noted_of gap place before))) (range_with_len 0 16)
+    (interval : Option ℕ) (before : List Sighting) (s : Sighting) → l.observed ≡ s.observed → AreMarked l.kept (λ place. is_kept interval place before s)
+    → l.fn.codes ≡ code_counts_of interval before
+    → l.codes ≡ map (up_to l.place (λ place. counts_of (noted_of interval place (s ∷ before))) (λ place. counts_of (noted_of interval place before))) (range_with_len 0 16)

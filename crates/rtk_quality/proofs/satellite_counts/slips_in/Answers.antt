@@ -14,28 +14,28 @@ pub loop-place-preserved : goal.loop-place-preserved
 loop-place-preserved c = elim c.if-is_slip.branch [
   | then-is_slip w ↦ record {
     few = let was = c.loop-place.invariant.few in let now = w.slips-is in omega (arith, was, now);
-    many = λ gap before s same marked.
-        let more = count-more (λ (place : ℕ). is_slip gap place before s) c.loop-place.place in
-        let is = c.loop-place.invariant.many gap before s same marked in
-        let one : once (is_slip gap c.loop-place.place before s) ≡ 1 = ap once (sym (c.is_slip.ensures gap before s same marked) ∙ w.if-is_slip.true) in
+    many = λ interval before s same marked.
+        let more = count-more (λ (place : ℕ). is_slip interval place before s) c.loop-place.place in
+        let is = c.loop-place.invariant.many interval before s same marked in
+        let one : once (is_slip interval c.loop-place.place before s) ≡ 1 = ap once (sym (c.is_slip.ensures interval before s same marked) ∙ w.if-is_slip.true) in
         let now = w.slips-is in
         omega (arith, more, is, one, now);
   }
   | else-is_slip w ↦ record {
     few = let was = c.loop-place.invariant.few in let now = w.slips-is in omega (arith, was, now);
-    many = λ gap before s same marked.
-        let more = count-more (λ (place : ℕ). is_slip gap place before s) c.loop-place.place in
-        let is = c.loop-place.invariant.many gap before s same marked in
-        let none : once (is_slip gap c.loop-place.place before s) ≡ 0 = ap once (sym (c.is_slip.ensures gap before s same marked) ∙ w.if-is_slip.false) in
+    many = λ interval before s same marked.
+        let more = count-more (λ (place : ℕ). is_slip interval place before s) c.loop-place.place in
+        let is = c.loop-place.invariant.many interval before s same marked in
+        let none : once (is_slip interval c.loop-place.place before s) ≡ 0 = ap once (sym (c.is_slip.ensures interval before s same marked) ∙ w.if-is_slip.false) in
         let now = w.slips-is in
         omega (arith, more, is, none, now);
   }
 ]
 
 pub returns : goal.returns
-returns c = λ gap before s same marked.
+returns c = λ interval before s same marked.
     let few : c.loop-place.place ≤ 16 = omega (arith, c.loop-place.auto.place-end) in
-    c.loop-place.invariant.many gap before s same marked
-    ∙ sym (count-rest (λ place. is_slip gap place before s) c.loop-place.place 16 few (λ k above within.
+    c.loop-place.invariant.many interval before s same marked
+    ∙ sym (count-rest (λ place. is_slip interval place before s) c.loop-place.place 16 few (λ k above within.
     let past : length c.args.observed.now ≤ k = omega (arith, above, within, c.loop-place-test.false) in
-    no-slip gap k before s (subst (λ (os : List Observed). length os ≤ k) same past)))
+    no-slip interval k before s (subst (λ (os : List Observed). length os ≤ k) same past)))

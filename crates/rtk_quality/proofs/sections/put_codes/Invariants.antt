@@ -1,4 +1,4 @@
-use Rattle.std.proofs.Common.{◌≡◌, ◌++◌, ℕ, List, drop}
+use Rattle.std.proofs.Common.{◌≡◌, ◌++◌, ℕ, List, drop, Option}
 use Rattle.rtk_rinex.specs.Record.{EpochTableView}
 use Rattle.rtk_quality.specs.Quality.{totals_of}
 use Rattle.rtk_quality.specs.QualityText.{code_line, each_code}
@@ -7,6 +7,6 @@ use Rattle.rtk_quality.proofs.sections.put_codes.Given as goal
 
 abbrev pub invariant-loop-at : goal.invariant-loop-at
 invariant-loop-at l =
-    (gap : ℕ) (es : List EpochTableView) → StandForSatellites l.satellites gap es
-    → l.fn.text.items ++ each_code (λ place code. code_line l.form code (totals_of gap es place)) 0 l.codes
-    ≡ l.text.items ++ each_code (λ place code. code_line l.form code (totals_of gap es place)) l.at (drop l.at l.codes)
+    (interval : Option ℕ) (es : List EpochTableView) → StandForSatellites l.satellites interval es
+    → l.fn.text.items ++ each_code (λ place code. code_line l.form code (totals_of interval es place)) 0 l.codes
+    ≡ l.text.items ++ each_code (λ place code. code_line l.form code (totals_of interval es place)) l.at (drop l.at l.codes)

@@ -5,11 +5,11 @@ use Rattle.rtk_quality.proofs.SectionLemmas.{some-put, none-put}
 use Rattle.rtk_quality.proofs.sections.put_passes.Goals as goal
 
 pub returns-in_ok-put_pass_line-in-Some : goal.returns-in_ok-put_pass_line-in-Some
-returns-in_ok-put_pass_line-in-Some c = λ gap before stands ended.
-    some-put (pass_line c.args.form c.args.satellite) (passes_of gap before) c.args.counts.now.last c.in-Some.pass (ended_of c.args.satellite c.args.ended.now)
+returns-in_ok-put_pass_line-in-Some c = λ interval before stands ended.
+    some-put (pass_line c.args.form c.args.satellite) (passes_of interval before) c.args.counts.now.last c.in-Some.pass (ended_of c.args.satellite c.args.ended.now)
     c.args.text.now.items c.put_ended.new.text.items c.put_pass_line.new.text.items stands.last c.in-Some.is ended c.in_ok-put_ended.ensures c.in_ok-put_pass_line-in-Some.ensures
 
 pub returns-in-None : goal.returns-in-None
-returns-in-None c = λ gap before stands ended.
-    none-put (pass_line c.args.form c.args.satellite) (passes_of gap before) c.args.counts.now.last (ended_of c.args.satellite c.args.ended.now)
+returns-in-None c = λ interval before stands ended.
+    none-put (pass_line c.args.form c.args.satellite) (passes_of interval before) c.args.counts.now.last (ended_of c.args.satellite c.args.ended.now)
     c.args.text.now.items c.put_ended.new.text.items stands.last c.in-None.is ended c.in_ok-put_ended.ensures

@@ -1,5 +1,4 @@
 use Rattle.std.proofs.Common.{refl}
-use Rattle.rtk_tracking.specs.Passes.{longest_gap}
 use Rattle.rtk_chart.proofs.GridLemmas.{fresh-bins, fresh-gaps, fresh-passes}
 use Rattle.rtk_chart.proofs.grid.Grid.new.Goals as goal
 
@@ -11,7 +10,7 @@ returns-clause-grid c = record {
     count = refl;
   };
   last = refl;
-  passes = fresh-passes _ c.new-2.result (longest_gap c.args.scale.now.interval) refl (c.new-2.ensures (longest_gap c.args.scale.now.interval));
+  passes = fresh-passes _ c.new-2.result c.args.scale.now.interval refl (c.new-2.ensures c.args.scale.now.interval);
   slips = refl;
   rises = refl;
 }

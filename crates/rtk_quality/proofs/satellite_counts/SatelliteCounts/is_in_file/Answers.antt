@@ -3,4 +3,4 @@ use Rattle.rtk_quality.proofs.FileLemmas.{in-file-is}
 use Rattle.rtk_quality.proofs.satellite_counts.SatelliteCounts.is_in_file.Goals as goal
 
 pub returns : goal.returns
-returns c = λ gap before stands. c.has_seen.ensures ∙ in-file-is gap before c.args.self.now.codes stands.codes
+returns c = λ interval before stands. c.has_seen.ensures ∙ in-file-is interval before c.args.self.now.codes stands.codes

@@ -9,8 +9,8 @@ all_alike counts = replicate 16 counts
 
 pub returns : goal.returns
 unfolding code_counts_of
-returns c = λ gap. record {
-  pass = c.new.ensures gap;
+returns c = λ interval. record {
+  pass = c.new.ensures interval;
   codes = ap all_alike c.new-2.ensures;
   in_passes = refl;
   since_phase = refl;

@@ -1,7 +1,7 @@
 use Rattle.std.proofs.Common.{◌≡◌, ◌∷◌, ℕ, Bool, true, false, cond, not, ◌&&◌, Option, Some, None, refl, sym, ap, subst, ◌∙◌}
 use Rattle.rtk_obs.specs.declared.time.Civil.{Civil}
 use Rattle.rtk_rinex.specs.Reading.{reading_of}
-use Rattle.rtk_tracking.specs.Passes.{Sighting, has_phase, last_phase, is_away, begins_pass, is_known}
+use Rattle.rtk_tracking.specs.Passes.{Sighting, has_phase, last_phase, is_away, begins_pass, is_kept}
 use Rattle.rtk_tracking.specs.Standing.{AreMarked, StandsForPass}
 use Rattle.rtk_tracking.specs.declared.passes.Pass.{Pass}
 use Rattle.rtk_quality.specs.Counts.{plus}
@@ -12,68 +12,68 @@ use Rattle.rtk_quality.proofs.CountLemmas.{before-row, same-passes, last-more, w
 use Rattle.rtk_quality.proofs.satellite_counts.SatelliteCounts.note_row.Goals as goal
 
 pub returns-then-not-has_phase-clause-stands : goal.returns-then-not-has_phase-clause-stands
-returns-then-not-has_phase-clause-stands c = λ before absent.
-    let stands = before-row c.args.self.now c.args.gap_ms c.args.time before absent in
-    let gap : ℕ = c.args.gap_ms in
+returns-then-not-has_phase-clause-stands c = λ before absent last.
+    let stands = before-row c.args.self.now c.args.interval c.args.time before absent in
+    let interval : Option ℕ = c.args.interval in
     let at : c.ms-time_ms.result ≡ c.args.time = c.ms-time_ms.ensures.value in
     let s : Sighting = record { time = c.args.time; observed = c.args.observed.now } in
     let none : has_phase s.observed ≡ false = sym c.has_phase.ensures ∙ c.if-not-has_phase.true in
-    let marked : AreMarked c.known-known.result (λ place. is_known gap place before s) =
-    subst (λ (t : ℕ). AreMarked c.known-known.result (λ place. is_known gap place before (record { time = t; observed = c.args.observed.now }))) at (c.known-known.ensures before stands.pass) in
+    let marked : AreMarked c.known-known.result.kept (λ place. is_kept interval place before s) =
+    subst (λ (t : ℕ). AreMarked c.known-known.result.kept (λ place. is_kept interval place before (record { time = t; observed = c.args.observed.now }))) at (c.known-known.ensures before stands.pass last).kept in
     record {
-      pass = subst (λ (t : ℕ). StandsForPass c.note.new.self gap (record { time = t; observed = c.args.observed.now } ∷ before)) at (c.note.ensures before stands.pass);
-      codes = c.note_codes.ensures gap before s refl marked stands.codes;
-      in_passes = stands.in_passes ∙ sym (ap (λ (b : Bool). cond (not b) (epochs_in_passes gap before)
-          (cond (begins_pass gap before s) (plus (epochs_in_passes gap before) 1) (plus (epochs_in_passes gap before) (plus (epochs_since_phase before) 1)))) none);
+      pass = subst (λ (t : ℕ). StandsForPass c.note.new.self interval (record { time = t; observed = c.args.observed.now } ∷ before)) at (c.note.ensures before stands.pass last);
+      codes = c.note_codes.ensures interval before s refl marked stands.codes;
+      in_passes = stands.in_passes ∙ sym (ap (λ (b : Bool). cond (not b) (epochs_in_passes interval before)
+          (cond (begins_pass interval before s) (plus (epochs_in_passes interval before) 1) (plus (epochs_in_passes interval before) (plus (epochs_since_phase before) 1)))) none);
       since_phase = stands.since_phase
           ∙ sym (ap (λ (b : Bool). cond b 0 (plus (epochs_since_phase before) 1)) none);
-      last = stands.last ∙ sym (ap newest_pass (same-passes gap before s none));
+      last = stands.last ∙ sym (ap newest_pass (same-passes interval before s none));
     }
 
 pub returns-then-not-has_phase-clause-ended : goal.returns-then-not-has_phase-clause-ended
-returns-then-not-has_phase-clause-ended c = λ before absent.
-    let stands = before-row c.args.self.now c.args.gap_ms c.args.time before absent in
+returns-then-not-has_phase-clause-ended c = λ before absent last.
+    let stands = before-row c.args.self.now c.args.interval c.args.time before absent in
     let s : Sighting = record { time = c.args.time; observed = c.args.observed.now } in
     let none : has_phase s.observed ≡ false = sym c.has_phase.ensures ∙ c.if-not-has_phase.true in
-    sym (ap (λ (b : Bool). cond (b && is_away c.args.gap_ms (last_phase before) s.time) (newest_pass (passes_of c.args.gap_ms before)) None) none)
+    sym (ap (λ (b : Bool). cond (b && is_away c.args.interval (last_phase before) s.time) (newest_pass (passes_of c.args.interval before)) None) none)
 
 pub returns-clause-stands : goal.returns-clause-stands
-returns-clause-stands c = λ before absent.
-    let stands = before-row c.args.self.now c.args.gap_ms c.args.time before absent in
-    let gap : ℕ = c.args.gap_ms in
+returns-clause-stands c = λ before absent last.
+    let stands = before-row c.args.self.now c.args.interval c.args.time before absent in
+    let interval : Option ℕ = c.args.interval in
     let at : c.ms-time_ms.result ≡ c.args.time = c.ms-time_ms.ensures.value in
     let s : Sighting = record { time = c.args.time; observed = c.args.observed.now } in
     let has : has_phase s.observed ≡ true = sym c.has_phase.ensures ∙ c.if-not-has_phase.false in
-    let marked : AreMarked c.known-known.result (λ place. is_known gap place before s) =
-    subst (λ (t : ℕ). AreMarked c.known-known.result (λ place. is_known gap place before (record { time = t; observed = c.args.observed.now }))) at (c.known-known.ensures before stands.pass) in
-    let begins : c.begins-begins.result ≡ begins_pass gap before s =
-    c.begins-begins.ensures before stands.pass ∙ ap (λ (t : ℕ). begins_pass gap before (record { time = t; observed = c.args.observed.now })) at in
-    let slips : c.slips_in-slips.result ≡ slips_at gap before s = c.slips_in-slips.ensures gap before s refl marked in
+    let marked : AreMarked c.known-known.result.kept (λ place. is_kept interval place before s) =
+    subst (λ (t : ℕ). AreMarked c.known-known.result.kept (λ place. is_kept interval place before (record { time = t; observed = c.args.observed.now }))) at (c.known-known.ensures before stands.pass last).kept in
+    let begins : c.begins-begins.result ≡ begins_pass interval before s =
+    c.begins-begins.ensures before stands.pass ∙ ap (λ (t : ℕ). begins_pass interval before (record { time = t; observed = c.args.observed.now })) at in
+    let slips : c.slips_in-slips.result ≡ slips_at interval before s = c.slips_in-slips.ensures interval before s refl marked in
     let n = c.note_phases.ensures in
     record {
-      pass = subst (λ (p : Pass). StandsForPass p gap (s ∷ before)) (sym n.pass)
-          (subst (λ (t : ℕ). StandsForPass c.note.new.self gap (record { time = t; observed = c.args.observed.now } ∷ before)) at (c.note.ensures before stands.pass));
-      codes = n.codes ∙ c.note_codes.ensures gap before s refl marked stands.codes;
+      pass = subst (λ (p : Pass). StandsForPass p interval (s ∷ before)) (sym n.pass)
+          (subst (λ (t : ℕ). StandsForPass c.note.new.self interval (record { time = t; observed = c.args.observed.now } ∷ before)) at (c.note.ensures before stands.pass last));
+      codes = n.codes ∙ c.note_codes.ensures interval before s refl marked stands.codes;
       in_passes = n.in_passes
           ∙ ap (λ (k : ℕ). plus k (cond c.begins-begins.result 1 c.args.self.now.since_phase)) stands.in_passes
-          ∙ ap (λ (k : ℕ). plus (epochs_in_passes gap before) (cond c.begins-begins.result 1 k)) stands.since_phase
-          ∙ ap (λ (b : Bool). plus (epochs_in_passes gap before) (cond b 1 (plus (epochs_since_phase before) 1))) begins
-          ∙ sym (within-more gap before s has);
+          ∙ ap (λ (k : ℕ). plus (epochs_in_passes interval before) (cond c.begins-begins.result 1 k)) stands.since_phase
+          ∙ ap (λ (b : Bool). plus (epochs_in_passes interval before) (cond b 1 (plus (epochs_since_phase before) 1))) begins
+          ∙ sym (within-more interval before s has);
       since_phase = n.since_phase ∙ sym (ap (λ (b : Bool). cond b 0 (plus (epochs_since_phase before) 1)) has);
       last = n.last
           ∙ ap (λ (r : Civil). Some (with_epoch c.args.self.now.last c.begins-begins.result r c.phases_in.result c.slips_in-slips.result)) c.requires
           ∙ ap (λ (b : Bool). Some (with_epoch c.args.self.now.last b (reading_of s.time) c.phases_in.result c.slips_in-slips.result)) begins
-          ∙ ap (λ (k : ℕ). Some (with_epoch c.args.self.now.last (begins_pass gap before s) (reading_of s.time) k c.slips_in-slips.result)) c.phases_in.ensures
-          ∙ ap (λ (k : ℕ). Some (with_epoch c.args.self.now.last (begins_pass gap before s) (reading_of s.time) (phases_in s.observed) k)) slips
-          ∙ last-more gap before s c.args.self.now.last stands.last has;
+          ∙ ap (λ (k : ℕ). Some (with_epoch c.args.self.now.last (begins_pass interval before s) (reading_of s.time) k c.slips_in-slips.result)) c.phases_in.ensures
+          ∙ ap (λ (k : ℕ). Some (with_epoch c.args.self.now.last (begins_pass interval before s) (reading_of s.time) (phases_in s.observed) k)) slips
+          ∙ last-more interval before s c.args.self.now.last stands.last has;
     }
 
 pub returns-clause-ended : goal.returns-clause-ended
-returns-clause-ended c = λ before absent.
-    let stands = before-row c.args.self.now c.args.gap_ms c.args.time before absent in
+returns-clause-ended c = λ before absent last.
+    let stands = before-row c.args.self.now c.args.interval c.args.time before absent in
     let s : Sighting = record { time = c.args.time; observed = c.args.observed.now } in
-    let begins : c.begins-begins.result ≡ begins_pass c.args.gap_ms before s =
-    c.begins-begins.ensures before stands.pass ∙ ap (λ (t : ℕ). begins_pass c.args.gap_ms before (record { time = t; observed = c.args.observed.now })) c.ms-time_ms.ensures.value in
+    let begins : c.begins-begins.result ≡ begins_pass c.args.interval before s =
+    c.begins-begins.ensures before stands.pass ∙ ap (λ (t : ℕ). begins_pass c.args.interval before (record { time = t; observed = c.args.observed.now })) c.ms-time_ms.ensures.value in
     c.note_phases.ensures.ended
     ∙ ap (λ (b : Bool). cond b c.args.self.now.last None) begins
-    ∙ ap (λ (o : Option PassCounts). cond (begins_pass c.args.gap_ms before s) o None) stands.last
+    ∙ ap (λ (o : Option PassCounts). cond (begins_pass c.args.interval before s) o None) stands.last
