@@ -139,7 +139,7 @@ rising_if : (b : Bool) (place : ℕ) (more rest : List ℕ) → AllByRecursion (
 rising_if true place more rest a p q = (a, p)
 rising_if false place more rest a p q = q
 
-set_bits_from-rise : (place w mask : ℕ) → Pairs IsBelow (set_bits_from place w mask)
+pub set_bits_from-rise : (place w mask : ℕ) → Pairs IsBelow (set_bits_from place w mask)
 unfolding set_bits_from
 set_bits_from-rise place zero mask = tt
 set_bits_from-rise place (suc w) mask =
@@ -196,7 +196,7 @@ module _ (satellites signals : List ℕ) (top : ℕ) where
     across rise k later ps a,
   )
 
-  slots_rise : Pairs IsBelow satellites → Pairs IsBelow signals → ((k : ℕ) → get_or signals k 0 < top) → (k : ℕ) (masks : List ℕ) → k + length masks ≤ length satellites
+  pub slots_rise : Pairs IsBelow satellites → Pairs IsBelow signals → ((k : ℕ) → get_or signals k 0 < top) → (k : ℕ) (masks : List ℕ) → k + length masks ≤ length satellites
       → Pairs IsSlotBefore (join_from (row_slots signals) k masks)
   unfolding join_from
   slots_rise rise signals_rise low k [] h = tt
@@ -347,7 +347,7 @@ differ h s t a b before p q same codes = elim before [
   | inr more ↦ absurd (omega (arith, more.1, signal_of_coded s.signal a.code p.1, signal_of_coded t.signal b.code q.1, ap signal_of codes))
 ]
 
-below_33 : (ps : List ℕ) → AllByRecursion (λ p. (1 ≤ p) × (p < 1 + 32)) ps → AllByRecursion (λ p. p < 33) ps
+pub below_33 : (ps : List ℕ) → AllByRecursion (λ p. (1 ≤ p) × (p < 1 + 32)) ps → AllByRecursion (λ p. p < 33) ps
 below_33 ps a = all_from (λ (p : ℕ). (1 ≤ p) × (p < 1 + 32)) (λ (p : ℕ). p < 33) (λ p b. b.1) ps a
 
 entries-distinct : (h : MsmHeader) (cell_of : ℕ → ℕ → Band → Cell) (rows : List ℕ) → IsCellMask h rows → AreDistinct (msm_entries h rows cell_of)

@@ -9,6 +9,7 @@ use Rattle.std.proofs.lemmas.Bool.Decides.{Decides-and, Decides-like}
 use denote.Enum.Bare.{same_true, true_same}
 use Rattle.rtk_obs.specs.declared.code.Band.{Band}
 use Rattle.rtk_obs.specs.declared.code.Code.{Code}
+use Rattle.rtk_obs.specs.declared.any_code.AnyCode.{AnyCode}
 use Rattle.rtk_obs.specs.declared.cell.CellSource.{CellSource}
 use Rattle.rtk_obs.specs.declared.cell.Cell.{Cell}
 use Rattle.rtk_obs.specs.declared.cell.CellEntry.{CellEntry}
@@ -19,9 +20,11 @@ use Rattle.rtk_obs.specs.declared.track.Digits.{Digits}
 use Rattle.rtk_obs.specs.PositionFields.{HasFields}
 use Rattle.rtk_obs.specs.contracts.code.Band as band_type
 use Rattle.rtk_obs.specs.contracts.code.Code as code_type
+use Rattle.rtk_obs.specs.contracts.any_code.AnyCode as any_code_type
 use Rattle.rtk_obs.specs.contracts.cell.CellSource as source_type
 use Rattle.rtk_obs.specs.contracts.code.BandPartialEq.TheImpl as band_eq
 use Rattle.rtk_obs.specs.contracts.code.CodePartialEq.TheImpl as code_eq
+use Rattle.rtk_obs.specs.contracts.any_code.AnyCodePartialEq.TheImpl as any_code_eq
 use Rattle.rtk_obs.specs.contracts.cell.CellSourcePartialEq.TheImpl as source_eq
 use Rattle.rtk_obs.specs.contracts.cell.CellPartialEq.TheImpl as cell_eq
 use Rattle.rtk_obs.specs.contracts.cell.CellEntryPartialEq.TheImpl as entry_eq
@@ -47,6 +50,9 @@ band_same a b = (λ h. same_true band_type.the_type (search rules) a b h, λ e. 
 
 pub code_same : (a b : Code) → Decides ((code_eq.ghosts).eq a b) (a ≡ b)
 code_same a b = (λ h. same_true code_type.the_type (search rules) a b h, λ e. true_same code_type.the_type a b e)
+
+pub any_code_same : (a b : AnyCode) → Decides ((any_code_eq.ghosts).eq a b) (a ≡ b)
+any_code_same a b = (λ h. same_true any_code_type.the_type (search rules) a b h, λ e. true_same any_code_type.the_type a b e)
 
 pub source_same : (a b : CellSource) → Decides ((source_eq.ghosts).eq a b) (a ≡ b)
 source_same a b = (λ h. same_true source_type.the_type (search rules) a b h, λ e. true_same source_type.the_type a b e)

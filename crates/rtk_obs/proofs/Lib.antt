@@ -19,5 +19,9 @@ mod PairsLemmas
 mod DistinctLemmas
 mod MessageLemmas
 mod SatelliteLemmas
+mod AnyCodeLemmas
+mod SignalCellLemmas
+mod OwnCodeLemmas
+mod DistinctEntryLemmas
 mod LeapLemmas
 mod ClockLemmas

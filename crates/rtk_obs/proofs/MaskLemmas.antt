@@ -257,3 +257,13 @@ module _ {X Y : Type 0} (f : ℕ → X → List Y) where
       let next = join_from-snoc 0 (take i xs) (get_or xs i d) in
       added ∙ (ap (λ (ys : List Y). ys ++ f i (get_or xs i d)) so_far
       ∙ (sym (next ∙ ap (λ (k : ℕ). join_from f 0 (take i xs) ++ f k (get_or xs i d)) n) ∙ ap (λ (zs : List X). join_from f 0 zs) (sym (take_more xs i d h))))
+
+  -- and after those that stood
+  pub join_from-next : (k : ℕ) (xs : List X) (i : ℕ) (d : X) (stood found new : List Y) → i < length xs → found ≡ stood ++ join_from f k (take i xs)
+      → new ≡ found ++ f (k + i) (get_or xs i d) → new ≡ stood ++ join_from f k (take (i + 1) xs)
+  join_from-next k xs i d stood found new h so_far added =
+      let n : k + length (take i xs) ≡ k + i = omega (arith, length-take-le i xs (omega arith)) in
+      let one : join_from f k (take (i + 1) xs) ≡ join_from f k (take i xs) ++ f (k + i) (get_or xs i d) =
+      ap (λ (zs : List X). join_from f k zs) (take_more xs i d h) ∙ (join_from-snoc k (take i xs) (get_or xs i d) ∙ ap (λ (j : ℕ). join_from f k (take i xs) ++ f j (get_or xs i d)) n) in
+      added ∙ (ap (λ (ys : List Y). ys ++ f (k + i) (get_or xs i d)) so_far
+      ∙ (append_assoc stood (join_from f k (take i xs)) (f (k + i) (get_or xs i d)) ∙ ap (λ (ys : List Y). stood ++ ys) (sym one)))

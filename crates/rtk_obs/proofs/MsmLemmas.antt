@@ -23,7 +23,7 @@ satellite_in satellites s = get_or satellites (s.row) 0
 
 -- ---- counts
 
-length-row_slots : (ss : List ℕ) (row bits : ℕ) → length (row_slots ss row bits) ≡ length (set_bits (length ss) bits)
+pub length-row_slots : (ss : List ℕ) (row bits : ℕ) → length (row_slots ss row bits) ≡ length (set_bits (length ss) bits)
 length-row_slots ss row bits = length-map (set_bits (length ss) bits) _
 
 module _ (h : MsmHeader) (rows : List ℕ) (is : IsCellMask h rows) where
@@ -164,23 +164,23 @@ module _ (h : MsmHeader) where
   pub no_row_length : 0 ≡ length (join_from (row_slots (signals_of h)) 0 [])
   no_row_length = sym (ap length (join_from-empty (row_slots (signals_of h)) 0))
 
-  pub next_row_entries : (f : ℕ → Slot → List CellEntry) (masks ss : List ℕ) (place d cell : ℕ) (stood stand : List CellEntry) → ss ≡ signals_of h → place < length masks
+  pub next_row_entries : {Y : Type 0} (f : ℕ → Slot → List Y) (masks ss : List ℕ) (place d cell : ℕ) (stood stand : List Y) → ss ≡ signals_of h → place < length masks
       → cell ≡ length (join_from (row_slots (signals_of h)) 0 (take place masks))
       → stood ≡ join_from f 0 (join_from (row_slots (signals_of h)) 0 (take place masks))
       → stand ≡ stood ++ join_from f cell (row_slots ss place (get_or masks place d))
       → stand ≡ join_from f 0 (join_from (row_slots (signals_of h)) 0 (take (place + 1) masks))
-  next_row_entries f masks ss place d cell stood stand is inside count so_far more =
+  next_row_entries {Y} f masks ss place d cell stood stand is inside count so_far more =
       let before : List Slot = join_from (row_slots (signals_of h)) 0 (take place masks) in
       let row : List Slot = row_slots (signals_of h) place (get_or masks place d) in
       let here : stand ≡ stood ++ join_from f cell row =
       more ∙ ap (λ (xs : List ℕ). stood ++ join_from f cell (row_slots xs place (get_or masks place d))) is in
       let e : 0 + length before ≡ cell = omega (arith, count) in
       here
-      ∙ (ap (λ (es : List CellEntry). es ++ join_from f cell row) so_far
+      ∙ (ap (λ (es : List Y). es ++ join_from f cell row) so_far
       ∙ sym (ap (λ (xs : List Slot). join_from f 0 xs) (next_row masks place d inside)
       ∙ (join_from-append f 0 before row ∙ ap (λ (k : ℕ). join_from f 0 before ++ join_from f k row) e)))
 
-  pub no_row_entries : (f : ℕ → Slot → List CellEntry) → [] ≡ join_from f 0 (join_from (row_slots (signals_of h)) 0 [])
+  pub no_row_entries : {Y : Type 0} (f : ℕ → Slot → List Y) → [] ≡ join_from f 0 (join_from (row_slots (signals_of h)) 0 [])
   no_row_entries f = sym (ap (λ (xs : List Slot). join_from f 0 xs) (join_from-empty (row_slots (signals_of h)) 0) ∙ join_from-empty f 0)
 
 -- ---- each entry is of a satellite from 1 to 32, and has the cell at its place

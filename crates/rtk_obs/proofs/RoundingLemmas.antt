@@ -121,3 +121,6 @@ rounded-parts n k d h =
     div-eq_of_lt-le (2 * d)
     (subst (λ (x : ℕ). (q * k + t) * (2 * d) ≤ 2 * (x * k) + d) whole p.0)
     (subst (λ (x : ℕ). 2 * (x * k) + d < (q * k + t + 1) * (2 * d)) whole p.1)
+
+pub four-times : (n q : ℕ) → n * (4 * q) ≡ 4 * (n * q)
+four-times n q = omega arith

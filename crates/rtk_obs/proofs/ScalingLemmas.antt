@@ -1,5 +1,5 @@
 -- Values of lengths and times that the code computed.
-use Rattle.std.proofs.Common.{◌≡◌, ℤ, ◌+ℤ◌, Option, Some, refl}
+use Rattle.std.proofs.Common.{◌≡◌, ℕ, ℤ, ◌+ℤ◌, Option, Some, refl}
 use Rattle.rtk_obs.specs.declared.code.Band.{Band}
 use Rattle.rtk_obs.specs.Scaling.{phase_of_length, phase_of_time}
 use Rattle.rtk_obs.specs.LegacyCells.{legacy_phase_of}
@@ -8,5 +8,5 @@ use Rattle.rtk_obs.specs.MsmCells.{fine_phase_of}
 pub legacy_phase-some : (band : Band) (length offset sum result shown : ℤ) (o : Option ℤ) → o ≡ Some offset → result ≡ phase_of_length band sum → sum ≡ length +ℤ offset → shown ≡ result → Some shown ≡ legacy_phase_of band length o
 legacy_phase-some band length offset sum result shown o e f g h = rw (e, h, f, g) refl
 
-pub fine_phase-some : (band : Band) (rough fine sum result shown : ℤ) (o : Option ℤ) → o ≡ Some fine → result ≡ phase_of_time band sum → sum ≡ rough +ℤ fine → shown ≡ result → Some shown ≡ fine_phase_of band rough o
-fine_phase-some band rough fine sum result shown o e f g h = rw (e, h, f, g) refl
+pub fine_phase-some : (f : ℕ) (rough fine sum result shown : ℤ) (o : Option ℤ) → o ≡ Some fine → result ≡ phase_of_time f sum → sum ≡ rough +ℤ fine → shown ≡ result → Some shown ≡ fine_phase_of f rough o
+fine_phase-some frequency rough fine sum result shown o e f g h = rw (e, h, f, g) refl

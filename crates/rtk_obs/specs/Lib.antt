@@ -6,6 +6,7 @@ pub mod LeapSeconds
 pub mod GlonassTime
 pub mod Clocks
 pub mod Carriers
+pub mod AnyCode
 pub mod Signals
 pub mod Rounding
 pub mod LockTime
@@ -19,6 +20,7 @@ pub mod LegacyCells
 pub mod CellsLeft
 pub mod Steps
 pub mod MsmCells
+pub mod SignalCells
 pub mod MessageCells
 pub mod Slip
 pub mod Rollover

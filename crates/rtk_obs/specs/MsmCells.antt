@@ -16,7 +16,7 @@ use Rattle.rtk_obs.specs.declared.cell.CellSource.TheVariants.{Msm as SourceMsm}
 use Rattle.rtk_obs.specs.declared.cell.Cell.{Cell}
 use Rattle.rtk_obs.specs.declared.cell.CellEntry.{CellEntry}
 use Rattle.rtk_obs.specs.Cell.{is_satellite, entry_of}
-use Rattle.rtk_obs.specs.Code.{band_of}
+use Rattle.rtk_obs.specs.Code.{band_of, frequency_of}
 use Rattle.rtk_obs.specs.LockTime.{least_lock_of_msm, least_lock_of_extended}
 use Rattle.rtk_obs.specs.Mask.{set_bits, join_from}
 use Rattle.rtk_obs.specs.Scaling.{unless_invalid, strength_of, strength_of_sixteenths, rough_time, range_time, range_of_time, phase_of_time, extended_phase_time, phase_of_extended_time}
@@ -93,15 +93,15 @@ msm_range_of None field = None
 msm_range_of (Some rough) field = fine_range_of rough (unless_invalid (negsuc 16_383) field)
 
 -- formula
--- the phase, if the rough range and DF401 (-2097152 is invalid) are valid
-abbrev pub fine_phase_of : Band → ℤ → Option ℤ → Option ℤ
-fine_phase_of band rough None = None
-fine_phase_of band rough (Some fine) = Some (phase_of_time band (rough +ℤ fine))
+-- the phase of a frequency in Hz, if the rough range and DF401 (-2097152 is invalid) are valid
+abbrev pub fine_phase_of : ℕ → ℤ → Option ℤ → Option ℤ
+fine_phase_of f rough None = None
+fine_phase_of f rough (Some fine) = Some (phase_of_time f (rough +ℤ fine))
 
 -- formula
-abbrev pub msm_phase_of : Band → Option ℤ → ℤ → Option ℤ
-msm_phase_of band None field = None
-msm_phase_of band (Some rough) field = fine_phase_of band rough (unless_invalid (negsuc 2_097_151) field)
+abbrev pub msm_phase_of : ℕ → Option ℤ → ℤ → Option ℤ
+msm_phase_of f None field = None
+msm_phase_of f (Some rough) field = fine_phase_of f rough (unless_invalid (negsuc 2_097_151) field)
 
 -- formula
 -- the pseudorange of extended resolution, if the rough range and DF405 (-524288 is invalid) are
@@ -117,14 +117,14 @@ extended_range_of (Some rough) field = extended_fine_range_of rough (unless_inva
 
 -- formula
 -- and the phase, if the rough range and DF406 (-8388608 is invalid) are valid
-abbrev pub extended_fine_phase_of : Band → ℤ → Option ℤ → Option ℤ
-extended_fine_phase_of band rough None = None
-extended_fine_phase_of band rough (Some fine) = Some (phase_of_extended_time band (extended_phase_time rough fine))
+abbrev pub extended_fine_phase_of : ℕ → ℤ → Option ℤ → Option ℤ
+extended_fine_phase_of f rough None = None
+extended_fine_phase_of f rough (Some fine) = Some (phase_of_extended_time f (extended_phase_time rough fine))
 
 -- formula
-abbrev pub extended_phase_of : Band → Option ℤ → ℤ → Option ℤ
-extended_phase_of band None field = None
-extended_phase_of band (Some rough) field = extended_fine_phase_of band rough (unless_invalid (negsuc 8_388_607) field)
+abbrev pub extended_phase_of : ℕ → Option ℤ → ℤ → Option ℤ
+extended_phase_of f None field = None
+extended_phase_of f (Some rough) field = extended_fine_phase_of f rough (unless_invalid (negsuc 8_388_607) field)
 
 -- ---- the values by the kind of message
 
@@ -139,8 +139,14 @@ has_extended_resolution Msm7 = true
 abbrev pub range_of_kind : MsmKind → Option ℤ → ℤ → Option ℤ
 range_of_kind kind rough field = if has_extended_resolution kind then extended_range_of rough field else msm_range_of rough field
 
-abbrev pub phase_of_kind : MsmKind → Band → Option ℤ → ℤ → Option ℤ
-phase_of_kind kind band rough field = if has_extended_resolution kind then extended_phase_of band rough field else msm_phase_of band rough field
+abbrev pub phase_of_kind : MsmKind → ℕ → Option ℤ → ℤ → Option ℤ
+phase_of_kind kind f rough field = if has_extended_resolution kind then extended_phase_of f rough field else msm_phase_of f rough field
+
+-- formula
+-- the phase of a frequency in Hz, if it is known
+abbrev pub phase_on : MsmKind → Option ℕ → Option ℤ → ℤ → Option ℤ
+phase_on kind None rough field = None
+phase_on kind (Some f) rough field = phase_of_kind kind f rough field
 
 -- formula
 -- the strength: DF408, or DF403 in steps of 1 dB-Hz
@@ -161,7 +167,7 @@ rough_at ms fraction row = rough_of (slice_index ms row) (slice_index fraction r
 abbrev pub cell_of_1074 : Msm1074 → ℕ → ℕ → Band → Cell
 cell_of_1074 m k row band = record {
   range_mm = msm_range_of (rough_at m.rough_ms m.rough_fraction row) (slice_index_or m.fine_range k (pos 0));
-  phase_millicycles = msm_phase_of band (rough_at m.rough_ms m.rough_fraction row) (slice_index_or m.fine_phase k (pos 0));
+  phase_millicycles = msm_phase_of (frequency_of band) (rough_at m.rough_ms m.rough_fraction row) (slice_index_or m.fine_phase k (pos 0));
   strength_millidbhz = strength_of 1000 (slice_index m.cnr k);
   lock_time_ms = least_lock_of_msm (slice_index m.lock_indicator k);
   half = slice_index_or m.half_cycle k false;
@@ -174,18 +180,24 @@ abbrev pub cells_of_1074 : Msm1074 → List CellEntry
 cells_of_1074 m = msm_entries m.header m.cell_mask (cell_of_1074 m)
 
 -- formula
--- the k-th cell of an MSM of GPS other than 1074: DF397, DF398, DF400 to DF403 or DF405 to DF408, and DF420.
--- The extended satellite information and the range rates (DF399, DF404) are not used.
-abbrev pub cell_of_msm : Msm → ℕ → ℕ → Band → Cell
-cell_of_msm m k row band = record {
+-- the k-th cell of an MSM other than 1074, on a carrier whose frequency in Hz is known or not: DF397, DF398,
+-- DF400 to DF403 or DF405 to DF408, and DF420. The extended satellite information and the range rates
+-- (DF399, DF404) are not used.
+abbrev pub cell_on : Msm → ℕ → ℕ → Option ℕ → Cell
+cell_on m k row frequency = record {
   range_mm = range_of_kind m.kind (rough_at m.rough_ms m.rough_fraction row) (slice_index_or m.fine_range k (pos 0));
-  phase_millicycles = phase_of_kind m.kind band (rough_at m.rough_ms m.rough_fraction row) (slice_index_or m.fine_phase k (pos 0));
+  phase_millicycles = phase_on m.kind frequency (rough_at m.rough_ms m.rough_fraction row) (slice_index_or m.fine_phase k (pos 0));
   strength_millidbhz = strength_of_kind m.kind (slice_index m.cnr k);
   lock_time_ms = least_lock_of_kind m.kind (slice_index m.lock_indicator k);
   half = slice_index_or m.half_cycle k false;
   source = SourceMsm;
   offset = None;
 }
+
+-- formula
+-- and that of an MSM of GPS, whose frequencies are known
+abbrev pub cell_of_msm : Msm → ℕ → ℕ → Band → Cell
+cell_of_msm m k row band = cell_on m k row (Some (frequency_of band))
 
 -- these cells of a message of GPS, and none of another system
 abbrev pub if_gps : System → List CellEntry → List CellEntry

@@ -62,9 +62,9 @@ abbrev pub range_of_time : ℤ → ℤ
 range_of_time time = rounded (time *ℤ pos 299_792_458) 536_870_912
 
 -- formula
--- a time as a phase in millicycles: time * f / 2^29
-abbrev pub phase_of_time : Band → ℤ → ℤ
-phase_of_time band time = rounded (time *ℤ pos (frequency_of band)) 536_870_912
+-- a time as a phase in millicycles of a frequency f in Hz: time * f / 2^29
+abbrev pub phase_of_time : ℕ → ℤ → ℤ
+phase_of_time f time = rounded (time *ℤ pos f) 536_870_912
 
 -- formula
 -- the rough range and a fine phase of extended resolution, DF406, in 2^-31 ms
@@ -73,5 +73,5 @@ extended_phase_time rough fine = pos 4 *ℤ rough +ℤ fine
 
 -- formula
 -- a time in 2^-31 ms as a phase in millicycles: time * f / 2^31
-abbrev pub phase_of_extended_time : Band → ℤ → ℤ
-phase_of_extended_time band time = rounded (time *ℤ pos (frequency_of band)) 2_147_483_648
+abbrev pub phase_of_extended_time : ℕ → ℤ → ℤ
+phase_of_extended_time f time = rounded (time *ℤ pos f) 2_147_483_648

@@ -1,6 +1,6 @@
 //! The frequencies of carriers, and the frequency channels of GLONASS.
 
-ghost use Rattle.std.specs.Prelude.{◌≡◌, ◌≢◌, ℕ, Some, None};
+ghost use Rattle.std.specs.Prelude.{◌≡◌, ◌≢◌, ℕ, ◌%◌, IfSome, Some, None};
 ghost use Rattle.std.specs.Option.{SomeIff};
 ghost use Rattle.rtk_obs.specs.declared.carrier.Carrier.TheVariants.{G1, G2};
 ghost use Rattle.rtk_obs.specs.Carriers.{IsChannel, frequency_at, IsSlot, channel_at};
@@ -74,14 +74,16 @@ pub enum Carrier {
 
 // Returns the frequency of G1 on a channel, in Hz.
 fn g1_frequency(channel: Channel) -> u32
-    ensures { Some result ≡ frequency_at G1 (Some channel) }
+    ensures whole { result % 4 ≡ 0 }
+    ensures value { Some result ≡ frequency_at G1 (Some channel) }
 {
     (1_602_000_000 + 562_500 * i32::from(channel.number())) as u32
 }
 
 // Returns the frequency of G2 on a channel, in Hz.
 fn g2_frequency(channel: Channel) -> u32
-    ensures { Some result ≡ frequency_at G2 (Some channel) }
+    ensures whole { result % 4 ≡ 0 }
+    ensures value { Some result ≡ frequency_at G2 (Some channel) }
 {
     (1_246_000_000 + 437_500 * i32::from(channel.number())) as u32
 }
@@ -89,7 +91,8 @@ fn g2_frequency(channel: Channel) -> u32
 impl Carrier {
     /// Returns the frequency in Hz, or `None` if it depends on a channel that is not known.
     pub fn frequency(self, channel: Option<Channel>) -> Option<u32>
-        ensures { result ≡ frequency_at self channel }
+        ensures value { result ≡ frequency_at self channel }
+        ensures whole { IfSome result (λ f. f % 4 ≡ 0) }
     {
         match self {
             Carrier::L1 => Some(1_575_420_000),

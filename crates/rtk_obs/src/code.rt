@@ -1,6 +1,6 @@
 //! Observation codes and the bands of their carriers.
 
-ghost use Rattle.std.specs.Prelude.{◌≡◌, ◌≢◌, ◌<◌, ◌≤◌, Option, Some, MatchOption};
+ghost use Rattle.std.specs.Prelude.{◌≡◌, ◌≢◌, ◌%◌, ◌<◌, ◌≤◌, Option, Some, MatchOption};
 ghost use Rattle.rtk_obs.specs.Code.{name_of};
 ghost use Rattle.rtk_obs.specs.declared.code.Code.{Code};
 
@@ -21,7 +21,8 @@ impl Band {
 
     /// Returns the frequency of the carrier, in Hz.
     pub fn frequency(self) -> u32
-        ensures { result ≡ frequency_of self }
+        ensures value { result ≡ frequency_of self }
+        ensures whole { result % 4 ≡ 0 }
     {
         match self {
             Band::L1 => 1_575_420_000,

@@ -6,7 +6,7 @@
 
 ghost use Rattle.std.specs.Prelude.{◌≡◌, ◌≢◌, ◌↔◌, ℕ, ℤ, ◌+◌, ◌<◌, ◌≤◌, List, Option, Some, None, MatchOption, IsTrue};
 ghost use Rattle.std.specs.Ordering.{nat_cmp, partial_lt, partial_le};
-ghost use Rattle.std.specs.List.{All};
+ghost use Rattle.std.specs.List.{All, AllPairs};
 ghost use Rattle.rtk_message.specs.declared.any_message.AnyMessage.{AnyMessage};
 ghost use Rattle.rtk_message.specs.declared.obs1004.Satellite.{Satellite};
 ghost use Rattle.rtk_message.specs.declared.obs1004.Obs1004.{Obs1004};
@@ -36,6 +36,9 @@ ghost use Rattle.rtk_obs.specs.GlonassTime.{glonass_tow, IsNumberOf};
 ghost use Rattle.rtk_obs.specs.Clocks.{IsClock, IsClockMoment};
 ghost use Rattle.rtk_obs.specs.Rounding.{IsRounded, rounded};
 ghost use Rattle.rtk_obs.specs.Code.{name_of, place_of};
+ghost use Rattle.rtk_obs.specs.declared.any_code.AnyCode.{AnyCode};
+ghost use Rattle.rtk_obs.specs.AnyCode as any;
+ghost use Rattle.rtk_obs.specs.SignalCells.{signal_entries, AreDifferentEntries};
 ghost use Rattle.rtk_obs.specs.SatelliteIndex.{IsSatelliteIndex, IsOfSystem, index_in, system_at, bit_at, index_name};
 ghost use Rattle.rtk_obs.specs.PositionFields.{HasFields};
 ghost use Rattle.rtk_obs.specs.Cell.{IsSatellite, IsInRange, AreDistinct};
@@ -45,6 +48,7 @@ ghost use Rattle.rtk_obs.specs.MessageCells.{cells_of, AreOfOneKind};
 ghost use Rattle.rtk_obs.specs.Tracks.{place_of_signal};
 ghost use Rattle.rtk_obs.specs.TracksLaws.{LastIsGreatest, LaterThanSteps, LaterAfterStep, AllLaterAfterStep};
 
+use crate::any_code::AnyCode;
 use crate::cell::{Cell, CellEntry, CellSource};
 use crate::code::{Band, Code};
 use crate::position::Position;
@@ -89,6 +93,20 @@ pub fn code_laws()
         → MatchOption answer ((d : Code) → name_of c ≢ name_of d) (λ d. name_of c ≡ name_of d) → answer ≡ Some c }
     ensures equality { (c d : Code) → IsTrue (⟦<Code as PartialEq>⟧.eq c d) ↔ (c ≡ d) }
     ensures bands { (a b : Band) → IsTrue (⟦<Band as PartialEq>⟧.eq a b) ↔ (a ≡ b) }
+{}
+
+/// No two codes of any systems have one text, and what `AnyCode::from_text` answers to a code's `text`
+/// is the code. A system and a place below 16 belong to one code, and so does a number. `==` says
+/// whether two codes are the same.
+pub fn any_code_laws()
+    ensures texts { (c d : AnyCode) → any.text_of c ≡ any.text_of d → c ≡ d }
+    ensures reads_back { (c : AnyCode) (answer : Option AnyCode)
+        → MatchOption answer ((d : AnyCode) → any.text_of c ≢ any.text_of d) (λ d. any.text_of c ≡ any.text_of d)
+        → answer ≡ Some c }
+    ensures bound { (c : AnyCode) → any.place_of c < 16 }
+    ensures places { (c d : AnyCode) → any.system_of c ≡ any.system_of d → any.place_of c ≡ any.place_of d → c ≡ d }
+    ensures numbers { (c d : AnyCode) → any.number_of c ≡ any.number_of d → c ≡ d }
+    ensures equality { (c d : AnyCode) → IsTrue (⟦<AnyCode as PartialEq>⟧.eq c d) ↔ (c ≡ d) }
 {}
 
 /// `==` on cells is equality of all their fields, also with their satellites and codes; and `==`
@@ -184,4 +202,17 @@ pub fn clock_laws()
     ensures one_moment { (system : System) (near clock : ℕ) (given : Option ℕ) (s t : ℕ)
         → IsClockMoment system near clock given s → IsClockMoment system near clock given t → s ≡ t }
     ensures in_week { (system : System) (clock : ℕ) → IsTrue (is_in_week system clock) → IsClock system clock }
+{}
+
+/// A place among the signals of all systems belongs to one satellite and one code of its system, and is
+/// below 3,536. The code of each entry of a message is one of the system of its satellite, and no two
+/// entries are of one satellite and code.
+pub fn signal_laws()
+    ensures bound { (satellite : ℕ) (c : AnyCode) → any.IsSignal satellite c → any.signal_place satellite c < 3536 }
+    ensures distinct { (a b : ℕ) (c d : AnyCode) → any.IsSignal a c → any.IsSignal b d
+        → any.signal_place a c ≡ any.signal_place b d → (a ≡ b) × (c ≡ d) }
+    ensures entries { (channels : List (Option ℤ)) (m : Msm)
+        → All (λ e. any.IsSignal e.satellite e.code) (signal_entries channels m) }
+    ensures differ { (channels : List (Option ℤ)) (m : Msm) → IsValidMsm m
+        → AllPairs AreDifferentEntries (signal_entries channels m) }
 {}

@@ -34,6 +34,7 @@
 //! Its tests: tests/values/src/obs.rt.in and obs/
 #![tactic(auto)]
 
+mod any_code;
 mod calendar;
 mod carrier;
 mod cell;
@@ -58,12 +59,14 @@ mod rollover;
 mod rounding;
 mod satellite_index;
 mod scaling;
+mod signal_cells;
 mod signals;
 mod slip;
 mod time;
 mod track;
 mod tracks;
 
+pub use any_code::{ALL_ANY_CODES, AnyCode, signal_place};
 pub use calendar::{civil, of_civil};
 pub use carrier::{Carrier, Channel, Channels};
 pub use cell::{Cell, CellEntry, CellSource};
@@ -74,9 +77,9 @@ pub use code::{ALL_CODES, Band, Code};
 pub use dating::{HALF_WEEK_MS, WEEK_MS, date};
 pub use glonass_time::GlonassTime;
 pub use laws::{
-    cell_laws, cells_are_distinct, cells_are_in_range, civil_laws, clock_laws, code_laws,
-    date_is_unique, leap_laws, moment_laws, places_are_distinct, position_laws, rounded_is_unique,
-    satellite_laws, track_laws, tracks_laws,
+    any_code_laws, cell_laws, cells_are_distinct, cells_are_in_range, civil_laws, clock_laws,
+    code_laws, date_is_unique, leap_laws, moment_laws, places_are_distinct, position_laws,
+    rounded_is_unique, satellite_laws, signal_laws, track_laws, tracks_laws,
 };
 pub use leap_seconds::leap_seconds_at;
 pub use legacy_cells::{cells_1004, put_cells_1004};
@@ -88,7 +91,8 @@ pub use position::Position;
 pub use rollover::rolled;
 pub use rounding::round_div;
 pub use satellite_index::{SatelliteIndex, satellite_in, satellite_name, satellite_named};
-pub use signals::{carrier_of_signal, signal_name};
+pub use signal_cells::{SignalEntry, signal_entries};
+pub use signals::code_of_signal;
 pub use time::{Civil, GpsMs, LAST_MS};
 pub use track::{Digits, Track};
 pub use tracks::{SIGNALS, Tracks, place_of_signal};

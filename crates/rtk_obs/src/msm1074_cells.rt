@@ -58,7 +58,11 @@ impl CellsOfMsm for Msm1074 {
     #[inline(always)]
     fn set_cell(&self, cell: &mut Cell, place: usize, rough: Option<i64>, code: Code) {
         cell.range_mm = msm_range(rough, i32::from(self.fine_range.as_slice()[place]));
-        cell.phase_millicycles = msm_phase(code, rough, self.fine_phase.as_slice()[place]);
+        cell.phase_millicycles = msm_phase(
+            code.band().frequency(),
+            rough,
+            self.fine_phase.as_slice()[place],
+        );
         cell.strength_millidbhz = strength_from_steps(
             MSM_STRENGTH_STEP,
             self.cnr.as_slice()[place],

@@ -1,10 +1,11 @@
 //! The cells of the MSM of GPS other than 1074.
 
-ghost use Rattle.std.specs.Prelude.{◌≡◌, ◌≤◌, length, IsTrue};
+ghost use Rattle.std.specs.Prelude.{◌≡◌, ℕ, ◌%◌, ◌^◌, ◌<◌, ◌≤◌, length, IsTrue, IfSome, unsigned_abs};
 ghost use Rattle.std.specs.List.{All};
 ghost use Rattle.rtk_message.specs.MsmForm.{IsValid};
 ghost use Rattle.rtk_obs.specs.Cell.{IsInRange, AreDistinct, AreRising};
-ghost use Rattle.rtk_obs.specs.MsmCells.{rough_at, has_extended_resolution, msm_entries, cell_of_msm, cells_of_msm};
+ghost use Rattle.rtk_obs.specs.MsmCells.{rough_at, has_extended_resolution, phase_on, cell_on, msm_entries, cell_of_msm, cells_of_msm};
+ghost use Rattle.rtk_obs.specs.Steps.MsmRows.{cells_in};
 
 use crate::cell::{Cell, CellEntry, CellSource};
 use crate::code::Code;
@@ -60,25 +61,58 @@ impl CellsOfMsm for Msm {
 
     #[inline(always)]
     fn set_cell(&self, cell: &mut Cell, place: usize, rough: Option<i64>, code: Code) {
-        let fine_range = self.fine_range.as_slice()[place];
-        let fine_phase = self.fine_phase.as_slice()[place];
-        let cnr = self.cnr.as_slice()[place];
-        let lock = self.lock_indicator.as_slice()[place];
-        if has_extended_resolution(self.kind) {
-            cell.range_mm = extended_range(rough, fine_range);
-            cell.phase_millicycles = extended_phase(code, rough, fine_phase);
-            cell.strength_millidbhz = strength_from_sixteenths(cnr);
-            cell.lock_time_ms = least_lock_extended(lock);
-        } else {
-            cell.range_mm = msm_range(rough, fine_range);
-            cell.phase_millicycles = msm_phase(code, rough, fine_phase);
-            cell.strength_millidbhz = strength_from_steps(MSM_STRENGTH_STEP, cnr as u8);
-            cell.lock_time_ms = least_lock_msm(lock as u8);
-        }
-        cell.half = self.half_cycle.as_slice()[place];
-        cell.source = CellSource::Msm;
-        cell.offset = None;
+        set_values(self, cell, place, rough, Some(code.band().frequency()));
     }
+}
+
+// Returns the phase in millicycles of a frequency in Hz, if it is known.
+fn phase_on(kind: MsmKind, frequency: Option<u32>, rough: Option<i64>, fine: i32) -> Option<i64>
+    requires frequency { IfSome frequency (λ f. f % 4 ≡ 0) }
+    requires rough { IfSome rough (λ r. unsigned_abs r ≤ 2 ^ 38) }
+    ensures { result ≡ phase_on kind frequency rough fine }
+{
+    let frequency = frequency?;
+    if has_extended_resolution(kind) {
+        extended_phase(frequency, rough, fine)
+    } else {
+        msm_phase(frequency, rough, fine)
+    }
+}
+
+/// Sets a cell to the one at this place in a message, of a satellite with this rough range, on a
+/// carrier whose frequency in Hz is known or not. Each field is written where it stays.
+#[inline(always)]
+pub(crate) fn set_values(
+    message: &Msm,
+    cell: &mut Cell,
+    place: usize,
+    rough: Option<i64>,
+    frequency: Option<u32>,
+)
+    requires valid { IsValid message.now }
+    requires place { place < cells_in message.now.cell_mask }
+    requires rough { IfSome rough (λ r. unsigned_abs r ≤ 2 ^ 38) }
+    requires frequency { IfSome frequency (λ f. f % 4 ≡ 0) }
+    ensures { (row : ℕ) → rough ≡ rough_at message.now.rough_ms message.now.rough_fraction row
+        → cell.new ≡ cell_on message.now place row frequency }
+{
+    let fine_range = message.fine_range.as_slice()[place];
+    let fine_phase = message.fine_phase.as_slice()[place];
+    let cnr = message.cnr.as_slice()[place];
+    let lock = message.lock_indicator.as_slice()[place];
+    if has_extended_resolution(message.kind) {
+        cell.range_mm = extended_range(rough, fine_range);
+        cell.strength_millidbhz = strength_from_sixteenths(cnr);
+        cell.lock_time_ms = least_lock_extended(lock);
+    } else {
+        cell.range_mm = msm_range(rough, fine_range);
+        cell.strength_millidbhz = strength_from_steps(MSM_STRENGTH_STEP, cnr as u8);
+        cell.lock_time_ms = least_lock_msm(lock as u8);
+    }
+    cell.phase_millicycles = phase_on(message.kind, frequency, rough, fine_phase);
+    cell.half = message.half_cycle.as_slice()[place];
+    cell.source = CellSource::Msm;
+    cell.offset = None;
 }
 
 /// Puts the cells of a message into a list in place of what it has, as `cells_msm` gives them. If

@@ -1,11 +1,9 @@
 //! The values of a cell of an MSM, from its fields.
 
-ghost use Rattle.std.specs.Prelude.{◌≡◌, ◌+◌, ◌^◌, ◌≤◌, IfSome, negsuc, unsigned_abs};
-ghost use Rattle.rtk_obs.specs.Code.{band_of};
+ghost use Rattle.std.specs.Prelude.{◌≡◌, ◌+◌, ◌%◌, ◌^◌, ◌≤◌, IfSome, negsuc, unsigned_abs};
 ghost use Rattle.rtk_obs.specs.Scaling.{range_time, extended_phase_time};
 ghost use Rattle.rtk_obs.specs.MsmCells.{rough_of, fine_range_of, fine_phase_of, msm_range_of, msm_phase_of, extended_fine_range_of, extended_fine_phase_of, extended_range_of, extended_phase_of};
 
-use crate::code::Code;
 use crate::scaling::{phase_from_extended_time, phase_from_time, range_from_time, unless_mark};
 
 // The invalid mark of DF397.
@@ -69,26 +67,25 @@ pub(crate) fn msm_range(rough: Option<i64>, fine: i32) -> Option<i64>
     }
 }
 
-// Returns the phase in millicycles, from the rough range in 2^-29 ms and a fine one (DF401), or
-// `None` without a fine one. The band is asked for here, so that the code is looked up in one table
-// of frequencies.
-fn fine_phase(code: Code, rough: i64, fine: Option<i32>) -> Option<i64>
+// Returns the phase in millicycles of a frequency in Hz, from the rough range in 2^-29 ms and a fine
+// one (DF401), or `None` without a fine one.
+fn fine_phase(frequency: u32, rough: i64, fine: Option<i32>) -> Option<i64>
     requires { unsigned_abs rough ≤ 2 ^ 38 }
-    ensures { result ≡ fine_phase_of (band_of code) rough fine }
+    ensures { result ≡ fine_phase_of frequency rough fine }
 {
     match fine {
-        Some(fine) => Some(phase_from_time(code.band(), rough + i64::from(fine))),
+        Some(fine) => Some(phase_from_time(frequency, rough + i64::from(fine))),
         None => None,
     }
 }
 
-/// Returns the phase in millicycles, from the rough range in 2^-29 ms and DF401.
-pub(crate) fn msm_phase(code: Code, rough: Option<i64>, fine: i32) -> Option<i64>
+/// Returns the phase in millicycles of a frequency in Hz, from the rough range in 2^-29 ms and DF401.
+pub(crate) fn msm_phase(frequency: u32, rough: Option<i64>, fine: i32) -> Option<i64>
     requires { IfSome rough (λ r. unsigned_abs r ≤ 2 ^ 38) }
-    ensures { result ≡ msm_phase_of (band_of code) rough fine }
+    ensures { result ≡ msm_phase_of frequency rough fine }
 {
     match rough {
-        Some(rough) => fine_phase(code, rough, unless_mark(fine, NO_FINE_PHASE)),
+        Some(rough) => fine_phase(frequency, rough, unless_mark(fine, NO_FINE_PHASE)),
         None => None,
     }
 }
@@ -125,25 +122,27 @@ fn extended_time(rough: i64, fine: i32) -> i64
     4 * rough + i64::from(fine)
 }
 
-// Returns the phase in millicycles, from the rough range in 2^-29 ms and a fine one (DF406), or
-// `None` without a fine one.
-fn extended_fine_phase(code: Code, rough: i64, fine: Option<i32>) -> Option<i64>
-    requires { unsigned_abs rough ≤ 2 ^ 38 }
-    ensures { result ≡ extended_fine_phase_of (band_of code) rough fine }
+// Returns the phase in millicycles of a frequency in Hz, from the rough range in 2^-29 ms and a fine
+// one (DF406), or `None` without a fine one.
+fn extended_fine_phase(frequency: u32, rough: i64, fine: Option<i32>) -> Option<i64>
+    requires frequency { frequency % 4 ≡ 0 }
+    requires rough { unsigned_abs rough ≤ 2 ^ 38 }
+    ensures { result ≡ extended_fine_phase_of frequency rough fine }
 {
     match fine {
-        Some(fine) => Some(phase_from_extended_time(code.band(), extended_time(rough, fine))),
+        Some(fine) => Some(phase_from_extended_time(frequency, extended_time(rough, fine))),
         None => None,
     }
 }
 
-/// Returns the phase in millicycles, from the rough range in 2^-29 ms and DF406.
-pub(crate) fn extended_phase(code: Code, rough: Option<i64>, fine: i32) -> Option<i64>
-    requires { IfSome rough (λ r. unsigned_abs r ≤ 2 ^ 38) }
-    ensures { result ≡ extended_phase_of (band_of code) rough fine }
+/// Returns the phase in millicycles of a frequency in Hz, from the rough range in 2^-29 ms and DF406.
+pub(crate) fn extended_phase(frequency: u32, rough: Option<i64>, fine: i32) -> Option<i64>
+    requires frequency { frequency % 4 ≡ 0 }
+    requires rough { IfSome rough (λ r. unsigned_abs r ≤ 2 ^ 38) }
+    ensures { result ≡ extended_phase_of frequency rough fine }
 {
     match rough {
-        Some(rough) => extended_fine_phase(code, rough, unless_mark(fine, NO_EXTENDED_PHASE)),
+        Some(rough) => extended_fine_phase(frequency, rough, unless_mark(fine, NO_EXTENDED_PHASE)),
         None => None,
     }
 }

@@ -33,6 +33,15 @@ impl Model for SatelliteIndex {
     ghost inverse = { λ n. record { index = n } };
 }
 
+impl Default for SatelliteIndex {
+    /// Returns the first satellite, G01.
+    fn default() -> SatelliteIndex
+        ensures { result ≡ 1 }
+    {
+        SatelliteIndex { index: 1 }
+    }
+}
+
 // Returns how many satellites of a system give cells.
 fn satellites_of_system(system: System) -> u8
     ensures { result ≡ satellites_of_system system }
@@ -121,8 +130,8 @@ pub fn satellite_in(system: System, bit: u8) -> Option<SatelliteIndex>
     }
 }
 
-// Returns the letter of a system in names of RINEX.
-fn letter_of(system: System) -> u8
+/// Returns the letter of a system in names of RINEX.
+pub(crate) fn letter_of(system: System) -> u8
     ensures { result ≡ letter_of system }
 {
     match system {

@@ -3,7 +3,7 @@
 //! The fractions have up to 68 bits. Values of an MSM are computed in 128 bits. Values of a
 //! 1004 are computed in 64 bits: the whole quotient times the factor, and the rounded rest, apart.
 
-ghost use Rattle.std.specs.Prelude.{◌≡◌, ◌+◌, ◌*◌, ◌^◌, ◌<◌, ◌≤◌, pos, ◌*ℤ◌, ◌≤ℤ◌, negsuc, unsigned_abs};
+ghost use Rattle.std.specs.Prelude.{◌≡◌, ◌+◌, ◌*◌, ◌%◌, ◌^◌, ◌<◌, ◌≤◌, pos, ◌*ℤ◌, ◌≤ℤ◌, negsuc, unsigned_abs};
 ghost use Rattle.rtk_obs.specs.Code.{frequency_of};
 ghost use Rattle.rtk_obs.specs.Rounding.{rounded, rounded_magnitude};
 ghost use Rattle.rtk_obs.specs.Scaling.{range_of_length, phase_of_length, range_of_time, phase_of_time, strength_of, strength_of_sixteenths, phase_of_extended_time, unless_invalid};
@@ -34,6 +34,9 @@ const LONGEST_PHASE: u64 = LONGEST_RANGE + 2_147_483_648;
 
 // 2^29: so many units of a travel time are a ms.
 const MS: u32 = 536_870_912;
+
+// 2^31: so many units of a travel time of extended resolution are a ms.
+const EXTENDED_MS: u32 = 2_147_483_648;
 
 // Returns the whole number nearest to n * factor / divisor in 64 bits. A tie goes up.
 fn scaled_magnitude(n: u64, factor: u32, divisor: u32) -> u64
@@ -69,6 +72,17 @@ fn time_magnitude(n: u64, factor: u32) -> u64
 {
     let product = u128::from(n) * u128::from(factor);
     ((product + u128::from(MS / 2)) / u128::from(MS)) as u64
+}
+
+// Returns the whole number nearest to n * factor / 2^31. A tie goes up.
+fn extended_magnitude(n: u64, factor: u32) -> u64
+    requires range { n ≤ 2 ^ 41 }
+    requires whole { factor % 4 ≡ 0 }
+    ensures value { result ≡ rounded_magnitude (n * factor) EXTENDED_MS }
+    ensures bound { result < 2 ^ 63 }
+{
+    // The factor is a whole multiple of 4, so factor / 2^31 is exactly (factor / 4) / 2^29.
+    time_magnitude(n, factor / 4)
 }
 
 // Returns the whole number nearest to time * factor / 2^29. A tie goes away from 0.
@@ -123,21 +137,24 @@ pub(crate) fn range_from_time(time: i64) -> i64
     scaled_time(time, LIGHT)
 }
 
-/// Returns a travel time of the signal, in 2^-29 ms, as a phase in millicycles.
-pub(crate) fn phase_from_time(band: Band, time: i64) -> i64
+/// Returns a travel time of the signal, in 2^-29 ms, as a phase in millicycles of a frequency in Hz.
+pub(crate) fn phase_from_time(frequency: u32, time: i64) -> i64
     requires { unsigned_abs time ≤ 2 ^ 40 }
-    ensures { result ≡ phase_of_time band time }
+    ensures { result ≡ phase_of_time frequency time }
 {
-    scaled_time(time, band.frequency())
+    scaled_time(time, frequency)
 }
 
-/// Returns a travel time of the signal, in 2^-31 ms, as a phase in millicycles.
-pub(crate) fn phase_from_extended_time(band: Band, time: i64) -> i64
-    requires { unsigned_abs time ≤ 2 ^ 41 }
-    ensures { result ≡ phase_of_extended_time band time }
+/// Returns a travel time of the signal, in 2^-31 ms, as a phase in millicycles of a frequency in Hz.
+pub(crate) fn phase_from_extended_time(frequency: u32, time: i64) -> i64
+    requires frequency { frequency % 4 ≡ 0 }
+    requires time { unsigned_abs time ≤ 2 ^ 41 }
+    ensures { result ≡ phase_of_extended_time frequency time }
 {
-    // Each frequency is a whole multiple of 4 Hz, so f / 2^31 is exactly (f / 4) / 2^29.
-    scaled_time(time, band.frequency() / 4)
+    if time < 0 {
+        return -(extended_magnitude(time.unsigned_abs(), frequency) as i64);
+    }
+    extended_magnitude(time as u64, frequency) as i64
 }
 
 /// Returns a signal strength in thousandths of a dB-Hz, from its number of steps. If there are 0

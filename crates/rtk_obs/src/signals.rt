@@ -1,228 +1,153 @@
-//! The signals of all systems: the names of their codes, and their carriers.
+//! The signals of all systems and their codes.
 
 ghost use Rattle.std.specs.Prelude.{◌≡◌};
-ghost use Rattle.rtk_message.specs.declared.system.System.TheVariants.{Galileo, Beidou};
-ghost use Rattle.rtk_obs.specs.Signals.{gps_signal, glonass_signal, galileo_signal, beidou_signal, qzss_signal, sbas_signal, navic_signal, signal_name, carrier_of_band, carrier_of_signal};
+ghost use Rattle.rtk_obs.specs.Signals.{gps_code, glonass_code, galileo_code, beidou_code, qzss_code, sbas_code, navic_code, code_in};
 
-use crate::carrier::Carrier;
+use crate::any_code::AnyCode;
 use rtk_message::System;
 
-// Returns the name of the code of a signal of GPS.
-fn gps_signal(signal: u8) -> Option<[u8; 2]>
-    ensures { result ≡ gps_signal signal }
+// Returns the code of a signal of GPS.
+fn gps_code(signal: u8) -> Option<AnyCode>
+    ensures { result ≡ gps_code signal }
 {
     match signal {
-        2 => Some(*b"1C"),
-        3 => Some(*b"1P"),
-        4 => Some(*b"1W"),
-        8 => Some(*b"2C"),
-        9 => Some(*b"2P"),
-        10 => Some(*b"2W"),
-        15 => Some(*b"2S"),
-        16 => Some(*b"2L"),
-        17 => Some(*b"2X"),
-        22 => Some(*b"5I"),
-        23 => Some(*b"5Q"),
-        24 => Some(*b"5X"),
-        30 => Some(*b"1S"),
-        31 => Some(*b"1L"),
-        32 => Some(*b"1X"),
+        2 => Some(AnyCode::G1C),
+        3 => Some(AnyCode::G1P),
+        4 => Some(AnyCode::G1W),
+        8 => Some(AnyCode::G2C),
+        9 => Some(AnyCode::G2P),
+        10 => Some(AnyCode::G2W),
+        15 => Some(AnyCode::G2S),
+        16 => Some(AnyCode::G2L),
+        17 => Some(AnyCode::G2X),
+        22 => Some(AnyCode::G5I),
+        23 => Some(AnyCode::G5Q),
+        24 => Some(AnyCode::G5X),
+        30 => Some(AnyCode::G1S),
+        31 => Some(AnyCode::G1L),
+        32 => Some(AnyCode::G1X),
         _ => None,
     }
 }
 
-// Returns the name of the code of a signal of GLONASS.
-fn glonass_signal(signal: u8) -> Option<[u8; 2]>
-    ensures { result ≡ glonass_signal signal }
+// Returns the code of a signal of GLONASS.
+fn glonass_code(signal: u8) -> Option<AnyCode>
+    ensures { result ≡ glonass_code signal }
 {
     match signal {
-        2 => Some(*b"1C"),
-        3 => Some(*b"1P"),
-        8 => Some(*b"2C"),
-        9 => Some(*b"2P"),
+        2 => Some(AnyCode::R1C),
+        3 => Some(AnyCode::R1P),
+        8 => Some(AnyCode::R2C),
+        9 => Some(AnyCode::R2P),
         _ => None,
     }
 }
 
-// Returns the name of the code of a signal of Galileo.
-fn galileo_signal(signal: u8) -> Option<[u8; 2]>
-    ensures { result ≡ galileo_signal signal }
+// Returns the code of a signal of Galileo.
+fn galileo_code(signal: u8) -> Option<AnyCode>
+    ensures { result ≡ galileo_code signal }
 {
     match signal {
-        2 => Some(*b"1C"),
-        4 => Some(*b"1B"),
-        5 => Some(*b"1X"),
-        8 => Some(*b"6C"),
-        10 => Some(*b"6B"),
-        11 => Some(*b"6X"),
-        14 => Some(*b"7I"),
-        15 => Some(*b"7Q"),
-        16 => Some(*b"7X"),
-        18 => Some(*b"8I"),
-        19 => Some(*b"8Q"),
-        20 => Some(*b"8X"),
-        22 => Some(*b"5I"),
-        23 => Some(*b"5Q"),
-        24 => Some(*b"5X"),
+        2 => Some(AnyCode::E1C),
+        4 => Some(AnyCode::E1B),
+        5 => Some(AnyCode::E1X),
+        8 => Some(AnyCode::E6C),
+        10 => Some(AnyCode::E6B),
+        11 => Some(AnyCode::E6X),
+        14 => Some(AnyCode::E7I),
+        15 => Some(AnyCode::E7Q),
+        16 => Some(AnyCode::E7X),
+        18 => Some(AnyCode::E8I),
+        19 => Some(AnyCode::E8Q),
+        20 => Some(AnyCode::E8X),
+        22 => Some(AnyCode::E5I),
+        23 => Some(AnyCode::E5Q),
+        24 => Some(AnyCode::E5X),
         _ => None,
     }
 }
 
-// Returns the name of the code of a signal of BeiDou.
-fn beidou_signal(signal: u8) -> Option<[u8; 2]>
-    ensures { result ≡ beidou_signal signal }
+// Returns the code of a signal of BeiDou.
+fn beidou_code(signal: u8) -> Option<AnyCode>
+    ensures { result ≡ beidou_code signal }
 {
     match signal {
-        2 => Some(*b"2I"),
-        3 => Some(*b"2Q"),
-        4 => Some(*b"2X"),
-        8 => Some(*b"6I"),
-        9 => Some(*b"6Q"),
-        10 => Some(*b"6X"),
-        14 => Some(*b"7I"),
-        15 => Some(*b"7Q"),
-        16 => Some(*b"7X"),
-        22 => Some(*b"5D"),
-        23 => Some(*b"5P"),
-        24 => Some(*b"5X"),
-        25 => Some(*b"7D"),
-        30 => Some(*b"1D"),
-        31 => Some(*b"1P"),
-        32 => Some(*b"1X"),
+        2 => Some(AnyCode::C2I),
+        3 => Some(AnyCode::C2Q),
+        4 => Some(AnyCode::C2X),
+        8 => Some(AnyCode::C6I),
+        9 => Some(AnyCode::C6Q),
+        10 => Some(AnyCode::C6X),
+        14 => Some(AnyCode::C7I),
+        15 => Some(AnyCode::C7Q),
+        16 => Some(AnyCode::C7X),
+        22 => Some(AnyCode::C5D),
+        23 => Some(AnyCode::C5P),
+        24 => Some(AnyCode::C5X),
+        25 => Some(AnyCode::C7D),
+        30 => Some(AnyCode::C1D),
+        31 => Some(AnyCode::C1P),
+        32 => Some(AnyCode::C1X),
         _ => None,
     }
 }
 
-// Returns the name of the code of a signal of QZSS.
-fn qzss_signal(signal: u8) -> Option<[u8; 2]>
-    ensures { result ≡ qzss_signal signal }
+// Returns the code of a signal of QZSS.
+fn qzss_code(signal: u8) -> Option<AnyCode>
+    ensures { result ≡ qzss_code signal }
 {
     match signal {
-        2 => Some(*b"1C"),
-        9 => Some(*b"6S"),
-        10 => Some(*b"6L"),
-        11 => Some(*b"6X"),
-        15 => Some(*b"2S"),
-        16 => Some(*b"2L"),
-        17 => Some(*b"2X"),
-        22 => Some(*b"5I"),
-        23 => Some(*b"5Q"),
-        24 => Some(*b"5X"),
-        30 => Some(*b"1S"),
-        31 => Some(*b"1L"),
-        32 => Some(*b"1X"),
+        2 => Some(AnyCode::J1C),
+        9 => Some(AnyCode::J6S),
+        10 => Some(AnyCode::J6L),
+        11 => Some(AnyCode::J6X),
+        15 => Some(AnyCode::J2S),
+        16 => Some(AnyCode::J2L),
+        17 => Some(AnyCode::J2X),
+        22 => Some(AnyCode::J5I),
+        23 => Some(AnyCode::J5Q),
+        24 => Some(AnyCode::J5X),
+        30 => Some(AnyCode::J1S),
+        31 => Some(AnyCode::J1L),
+        32 => Some(AnyCode::J1X),
         _ => None,
     }
 }
 
-// Returns the name of the code of a signal of SBAS.
-fn sbas_signal(signal: u8) -> Option<[u8; 2]>
-    ensures { result ≡ sbas_signal signal }
+// Returns the code of a signal of SBAS.
+fn sbas_code(signal: u8) -> Option<AnyCode>
+    ensures { result ≡ sbas_code signal }
 {
     match signal {
-        2 => Some(*b"1C"),
-        22 => Some(*b"5I"),
-        23 => Some(*b"5Q"),
-        24 => Some(*b"5X"),
+        2 => Some(AnyCode::S1C),
+        22 => Some(AnyCode::S5I),
+        23 => Some(AnyCode::S5Q),
+        24 => Some(AnyCode::S5X),
         _ => None,
     }
 }
 
-// Returns the name of the code of a signal of NavIC.
-fn navic_signal(signal: u8) -> Option<[u8; 2]>
-    ensures { result ≡ navic_signal signal }
+// Returns the code of a signal of NavIC.
+fn navic_code(signal: u8) -> Option<AnyCode>
+    ensures { result ≡ navic_code signal }
 {
     match signal {
-        22 => Some(*b"5A"),
+        22 => Some(AnyCode::I5A),
         _ => None,
     }
 }
 
-/// Returns the name of the code of a signal identifier (DF395): band and attribute in RINEX. `None` if
-/// the signal gives no cell.
-pub fn signal_name(system: System, signal: u8) -> Option<[u8; 2]>
-    ensures { result ≡ signal_name system signal }
+/// Returns the code of a signal identifier (DF395), or `None` if the signal gives no cell.
+pub fn code_of_signal(system: System, signal: u8) -> Option<AnyCode>
+    ensures { result ≡ code_in system signal }
 {
     match system {
-        System::Gps => gps_signal(signal),
-        System::Glonass => glonass_signal(signal),
-        System::Galileo => galileo_signal(signal),
-        System::Beidou => beidou_signal(signal),
-        System::Qzss => qzss_signal(signal),
-        System::Sbas => sbas_signal(signal),
-        System::Navic => navic_signal(signal),
+        System::Gps => gps_code(signal),
+        System::Glonass => glonass_code(signal),
+        System::Galileo => galileo_code(signal),
+        System::Beidou => beidou_code(signal),
+        System::Qzss => qzss_code(signal),
+        System::Sbas => sbas_code(signal),
+        System::Navic => navic_code(signal),
     }
-}
-
-// Returns the carrier of a band of Galileo.
-fn galileo_carrier(band: u8) -> Option<Carrier>
-    ensures { result ≡ carrier_of_band Galileo band }
-{
-    match band {
-        b'1' => Some(Carrier::L1),
-        b'5' => Some(Carrier::L5),
-        b'6' => Some(Carrier::E6),
-        b'7' => Some(Carrier::E5b),
-        b'8' => Some(Carrier::E5),
-        _ => None,
-    }
-}
-
-// Returns the carrier of a band of BeiDou.
-fn beidou_carrier(band: u8) -> Option<Carrier>
-    ensures { result ≡ carrier_of_band Beidou band }
-{
-    match band {
-        b'1' => Some(Carrier::L1),
-        b'2' => Some(Carrier::B1),
-        b'5' => Some(Carrier::L5),
-        b'6' => Some(Carrier::B3),
-        b'7' => Some(Carrier::E5b),
-        _ => None,
-    }
-}
-
-// Returns the carrier of a band, which is the first character of a code.
-fn carrier_of_band(system: System, band: u8) -> Option<Carrier>
-    ensures { result ≡ carrier_of_band system band }
-{
-    match system {
-        System::Gps => match band {
-            b'1' => Some(Carrier::L1),
-            b'2' => Some(Carrier::L2),
-            b'5' => Some(Carrier::L5),
-            _ => None,
-        },
-        System::Glonass => match band {
-            b'1' => Some(Carrier::G1),
-            b'2' => Some(Carrier::G2),
-            _ => None,
-        },
-        System::Galileo => galileo_carrier(band),
-        System::Beidou => beidou_carrier(band),
-        System::Qzss => match band {
-            b'1' => Some(Carrier::L1),
-            b'2' => Some(Carrier::L2),
-            b'5' => Some(Carrier::L5),
-            b'6' => Some(Carrier::E6),
-            _ => None,
-        },
-        System::Sbas => match band {
-            b'1' => Some(Carrier::L1),
-            b'5' => Some(Carrier::L5),
-            _ => None,
-        },
-        System::Navic => match band {
-            b'5' => Some(Carrier::L5),
-            _ => None,
-        },
-    }
-}
-
-/// Returns the carrier of a signal identifier (DF395), or `None` if the signal gives no cell.
-pub fn carrier_of_signal(system: System, signal: u8) -> Option<Carrier>
-    ensures { result ≡ carrier_of_signal system signal }
-{
-    let [band, _] = signal_name(system, signal)?;
-    carrier_of_band(system, band)
 }

@@ -1,0 +1,52 @@
+-- The cells of an MSM of any system.
+-- Source: RTCM 10403.3, messages 1071 to 1137
+use Rattle.std.specs.Prelude.{◌≡◌, ◌≢◌, ℕ, ℤ, List, [], ◌∷◌, slice_index, Option, Some, None, nat_le, if◌then◌else◌}
+use Rattle.rtk_message.specs.declared.msm.Msm.{Msm}
+use Rattle.rtk_message.specs.declared.system.System.{System}
+use Rattle.rtk_message.specs.declared.system.System.TheVariants.{Gps, Glonass, Galileo, Beidou, Qzss, Sbas, Navic}
+use Rattle.rtk_obs.specs.declared.any_code.AnyCode.{AnyCode}
+use Rattle.rtk_obs.specs.declared.signal_cells.SignalEntry.{SignalEntry}
+use Rattle.rtk_obs.specs.AnyCode.{carrier_of}
+use Rattle.rtk_obs.specs.Carriers.{channel_at, frequency_at}
+use Rattle.rtk_obs.specs.Mask.{join_from}
+use Rattle.rtk_obs.specs.MsmCells.{Slot, satellites_of, slots_of, cell_on}
+use Rattle.rtk_obs.specs.SatelliteIndex.{index_in}
+use Rattle.rtk_obs.specs.Signals.{code_in}
+
+-- table
+-- the channel of the satellite of a mask bit (DF394): a satellite of GLONASS has that of its slot, from 1
+-- to 27, if the slot has one
+abbrev pub channel_in : System → List (Option ℤ) → ℕ → Option ℤ
+channel_in Gps channels bit = None
+channel_in Glonass channels bit = if nat_le bit 27 then channel_at channels bit else None
+channel_in Galileo channels bit = None
+channel_in Beidou channels bit = None
+channel_in Qzss channels bit = None
+channel_in Sbas channels bit = None
+channel_in Navic channels bit = None
+
+-- formula
+-- the mask bit (DF394) of the satellite of a row
+abbrev pub bit_of_row : Msm → ℕ → ℕ
+bit_of_row m row = slice_index (satellites_of m.header) row
+
+-- the entry of a cell, if its satellite and its signal give one
+abbrev pub entry_if : Msm → ℕ → ℕ → Option ℤ → Option ℕ → Option AnyCode → List SignalEntry
+entry_if m k row channel None code = []
+entry_if m k row channel (Some satellite) None = []
+entry_if m k row channel (Some satellite) (Some code) =
+    record { satellite = satellite; code = code; cell = cell_on m k row (frequency_at (carrier_of code) channel) } ∷ []
+
+-- the entry of the k-th cell: of which satellite and signal it is, its row and the signal identifier
+-- (DF395) say
+abbrev pub signal_entry : List (Option ℤ) → Msm → ℕ → Slot → List SignalEntry
+signal_entry channels m k s =
+    entry_if m k s.row (channel_in m.system channels (bit_of_row m s.row)) (index_in m.system (bit_of_row m s.row)) (code_in m.system s.signal)
+
+-- the entries in the order of the message (this project's rule)
+abbrev pub signal_entries : List (Option ℤ) → Msm → List SignalEntry
+signal_entries channels m = join_from (signal_entry channels m) 0 (slots_of m.header m.cell_mask)
+
+-- two entries are of different satellites, or of one satellite and different codes
+abbrev pub AreDifferentEntries : SignalEntry → SignalEntry → Type 0
+AreDifferentEntries a b = a.satellite ≡ b.satellite → a.code ≢ b.code
