@@ -1,5 +1,5 @@
 -- No two entries of an MSM are of one satellite and code.
-use Rattle.std.proofs.Common.{◌≡◌, ◌≢◌, ◌∙◌, ℕ, suc, ℤ, ◌<◌, Bool, true, false, cond, nat_eq, [], ◌∷◌, List, Option, Some, None, inl, inr, refl, sym, ap, arith}
+use Rattle.std.proofs.Common.{◌≡◌, ◌∙◌, ℕ, suc, ℤ, Bool, true, false, cond, nat_eq, [], ◌∷◌, List, Option, Some, None, inl, inr, refl, sym, ap, arith}
 use Rattle.std.specs.Prelude.{IfSome}
 use Rattle.std.specs.List.{AllByRecursion, AllPairs}
 use Rattle.std.proofs.lemmas.Bool.{eqb-true}
@@ -13,7 +13,7 @@ use Rattle.rtk_obs.specs.declared.signal_cells.SignalEntry.{SignalEntry}
 use Rattle.rtk_obs.specs.Mask.{join_from}
 use Rattle.rtk_obs.specs.MsmCells.{Slot, satellites_of, signals_of, slots_of}
 use Rattle.rtk_obs.specs.SatelliteIndex.{bit_at, index_in}
-use Rattle.rtk_obs.specs.SignalCells.{channel_in, bit_of_row, entry_if, signal_entry, signal_entries, AreDifferentEntries}
+use Rattle.rtk_obs.specs.SignalCells.{channel_in, bit_of_row, field_of_row, entry_if, signal_entry, signal_entries, AreDifferentEntries}
 use Rattle.rtk_obs.specs.Signals.{gps_code, glonass_code, galileo_code, beidou_code, qzss_code, sbas_code, navic_code, code_in}
 use Rattle.rtk_obs.proofs.DistinctLemmas.{IsSlotBefore, slots_rise, set_bits_from-rise, below_33}
 use Rattle.rtk_obs.proofs.MaskLemmas.{set_bits_from-bounds}
@@ -232,7 +232,7 @@ module _ (channels : List (Option ℤ)) (m : Msm) where
   entry-of k s channel (Some i) (Some c) e f = ((e, f), tt)
 
   slot-of : (k : ℕ) (s : Slot) → AllByRecursion (IsOfSlot s) (signal_entry channels m k s)
-  slot-of k s = entry-of k s (channel_in m.system channels (bit_of_row m s.row)) (index_in m.system (bit_of_row m s.row)) (code_in m.system s.signal) refl refl
+  slot-of k s = entry-of k s (channel_in m.system channels (bit_of_row m s.row) (field_of_row m s.row)) (index_in m.system (bit_of_row m s.row)) (code_in m.system s.signal) refl refl
 
   one : (k row : ℕ) (channel : Option ℤ) (o : Option ℕ) (c : Option AnyCode) → Pairs AreDifferentEntries (entry_if m k row channel o c)
   one k row channel None c = tt
@@ -264,7 +264,7 @@ module _ (channels : List (Option ℤ)) (m : Msm) where
   of-slots k [] p = tt
   of-slots k (s ∷ ss) p =
       pairs-append AreDifferentEntries (signal_entry channels m k s) (join_from (signal_entry channels m) (suc k) ss)
-      (one k s.row (channel_in m.system channels (bit_of_row m s.row)) (index_in m.system (bit_of_row m s.row)) (code_in m.system s.signal))
+      (one k s.row (channel_in m.system channels (bit_of_row m s.row) (field_of_row m s.row)) (index_in m.system (bit_of_row m s.row)) (code_in m.system s.signal))
       (of-slots (suc k) ss p.1)
       (all_from (IsOfSlot s) (λ (a : SignalEntry). AllByRecursion (AreDifferentEntries a) (join_from (signal_entry channels m) (suc k) ss))
       (λ a is. later s a is (suc k) ss p.0) (signal_entry channels m k s) (slot-of k s))

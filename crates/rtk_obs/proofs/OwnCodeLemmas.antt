@@ -1,5 +1,5 @@
 -- The code of a signal is one of its system, and so is the code of each entry.
-use Rattle.std.proofs.Common.{◌≡◌, ◌∙◌, ℕ, ℤ, ◌+◌, Bool, true, false, cond, nat_eq, List, length, Option, Some, None, refl, sym, arith}
+use Rattle.std.proofs.Common.{◌≡◌, ◌∙◌, ℕ, ℤ, Bool, true, false, cond, nat_eq, List, length, Option, Some, None, refl, sym, arith}
 use Rattle.std.specs.Prelude.{IfSome}
 use Rattle.std.specs.List.{All, AllByRecursion}
 use Rattle.std.proofs.lemmas.List.Elements.{All-from_recursion}
@@ -12,8 +12,8 @@ use Rattle.rtk_obs.specs.declared.signal_cells.SignalEntry.{SignalEntry}
 use Rattle.rtk_obs.specs.AnyCode.{system_of, IsSignal}
 use Rattle.rtk_obs.specs.SatelliteIndex.{IsSatelliteIndex, system_at, index_in}
 use Rattle.rtk_obs.specs.Signals.{gps_code, glonass_code, galileo_code, beidou_code, qzss_code, sbas_code, navic_code, code_in}
-use Rattle.rtk_obs.specs.MsmCells.{Slot, slots_of}
-use Rattle.rtk_obs.specs.SignalCells.{channel_in, bit_of_row, entry_if, signal_entry, signal_entries}
+use Rattle.rtk_obs.specs.MsmCells.{slots_of}
+use Rattle.rtk_obs.specs.SignalCells.{channel_in, bit_of_row, field_of_row, entry_if, signal_entry, signal_entries}
 use Rattle.rtk_obs.proofs.MaskLemmas.{all-join_from}
 use Rattle.rtk_obs.proofs.SatelliteLemmas.{index_back}
 
@@ -140,5 +140,5 @@ pub entries-own : (channels : List (Option ℤ)) (m : Msm) → All HasOwn (signa
 entries-own channels m =
     All-from_recursion HasOwn (signal_entries channels m)
     (all-join_from (signal_entry channels m) HasOwn 0 (length (slots_of m.header m.cell_mask)) (slots_of m.header m.cell_mask) (omega arith)
-    (λ k slot below. entry-own m k slot.row (channel_in m.system channels (bit_of_row m slot.row)) (index_in m.system (bit_of_row m slot.row)) (code_in m.system slot.signal)
+    (λ k slot below. entry-own m k slot.row (channel_in m.system channels (bit_of_row m slot.row) (field_of_row m slot.row)) (index_in m.system (bit_of_row m slot.row)) (code_in m.system slot.signal)
     (own-index m.system (bit_of_row m slot.row) (index_in m.system (bit_of_row m slot.row)) refl) (own-code m.system slot.signal)))

@@ -1,6 +1,7 @@
 -- The cells of an MSM of any system.
 -- Source: RTCM 10403.3, messages 1071 to 1137
-use Rattle.std.specs.Prelude.{◌≡◌, ◌≢◌, ℕ, ℤ, List, [], ◌∷◌, slice_index, Option, Some, None, nat_le, if◌then◌else◌}
+use Rattle.std.specs.Prelude.{◌≡◌, ◌≢◌, ℕ, ◌==◌, ℤ, pos, ◌+ℤ◌, Bool, ◌||◌, List, [], ◌∷◌, slice_index, slice_index_or, Option, Some, None, nat_le, if◌then◌else◌}
+use Rattle.std.specs.Ordering.{int_eq}
 use Rattle.rtk_message.specs.declared.msm.Msm.{Msm}
 use Rattle.rtk_message.specs.declared.system.System.{System}
 use Rattle.rtk_message.specs.declared.system.System.TheVariants.{Gps, Glonass, Galileo, Beidou, Qzss, Sbas, Navic}
@@ -13,22 +14,37 @@ use Rattle.rtk_obs.specs.MsmCells.{Slot, satellites_of, slots_of, cell_on}
 use Rattle.rtk_obs.specs.SatelliteIndex.{index_in}
 use Rattle.rtk_obs.specs.Signals.{code_in}
 
+-- formula
+-- the field of a satellite of GLONASS (DF419) tells this channel by a number that is 7 greater, or none by 15
+abbrev pub agrees_with : ℤ → ℕ → Bool
+agrees_with k field = (field == 15) || int_eq (pos field) (k +ℤ pos 7)
+
+-- the channel of a slot, unless the field of its satellite tells another one (this project's rule)
+abbrev pub unless_other : ℕ → Option ℤ → Option ℤ
+unless_other field None = None
+unless_other field (Some k) = if agrees_with k field then Some k else None
+
 -- table
--- the channel of the satellite of a mask bit (DF394): a satellite of GLONASS has that of its slot, from 1
--- to 27, if the slot has one
-abbrev pub channel_in : System → List (Option ℤ) → ℕ → Option ℤ
-channel_in Gps channels bit = None
-channel_in Glonass channels bit = if nat_le bit 27 then channel_at channels bit else None
-channel_in Galileo channels bit = None
-channel_in Beidou channels bit = None
-channel_in Qzss channels bit = None
-channel_in Sbas channels bit = None
-channel_in Navic channels bit = None
+-- the channel of the satellite of a mask bit (DF394) with this field (DF419): a satellite of GLONASS has that of
+-- its slot, from 1 to 27, if the slot has one
+abbrev pub channel_in : System → List (Option ℤ) → ℕ → ℕ → Option ℤ
+channel_in Gps channels bit field = None
+channel_in Glonass channels bit field = if nat_le bit 27 then unless_other field (channel_at channels bit) else None
+channel_in Galileo channels bit field = None
+channel_in Beidou channels bit field = None
+channel_in Qzss channels bit field = None
+channel_in Sbas channels bit field = None
+channel_in Navic channels bit field = None
 
 -- formula
 -- the mask bit (DF394) of the satellite of a row
 abbrev pub bit_of_row : Msm → ℕ → ℕ
 bit_of_row m row = slice_index (satellites_of m.header) row
+
+-- formula
+-- the field of the channel (DF419) of the satellite of a row, or 15, which tells none, in a kind without it
+abbrev pub field_of_row : Msm → ℕ → ℕ
+field_of_row m row = slice_index_or m.extended row 15
 
 -- the entry of a cell, if its satellite and its signal give one
 abbrev pub entry_if : Msm → ℕ → ℕ → Option ℤ → Option ℕ → Option AnyCode → List SignalEntry
@@ -41,7 +57,7 @@ entry_if m k row channel (Some satellite) (Some code) =
 -- (DF395) say
 abbrev pub signal_entry : List (Option ℤ) → Msm → ℕ → Slot → List SignalEntry
 signal_entry channels m k s =
-    entry_if m k s.row (channel_in m.system channels (bit_of_row m s.row)) (index_in m.system (bit_of_row m s.row)) (code_in m.system s.signal)
+    entry_if m k s.row (channel_in m.system channels (bit_of_row m s.row) (field_of_row m s.row)) (index_in m.system (bit_of_row m s.row)) (code_in m.system s.signal)
 
 -- the entries in the order of the message (this project's rule)
 abbrev pub signal_entries : List (Option ℤ) → Msm → List SignalEntry

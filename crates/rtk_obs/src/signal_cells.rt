@@ -6,7 +6,7 @@ ghost use Rattle.rtk_message.specs.Msm1074.{satellite_count};
 ghost use Rattle.rtk_obs.specs.Mask.{join_from};
 ghost use Rattle.rtk_obs.specs.MsmCells.{row_slots, cell_on};
 ghost use Rattle.rtk_obs.specs.Steps.MsmRows.{cells_in};
-ghost use Rattle.rtk_obs.specs.SignalCells.{channel_in, bit_of_row, signal_entry, signal_entries};
+ghost use Rattle.rtk_obs.specs.SignalCells.{unless_other, channel_in, bit_of_row, field_of_row, signal_entry, signal_entries};
 
 use crate::any_code::AnyCode;
 use crate::carrier::{Channel, Channels};
@@ -24,18 +24,45 @@ use rtk_message::{Msm, System};
 pub struct SignalEntry {
     pub satellite: SatelliteIndex,
     pub code: AnyCode,
-    /// The values. A phase of GLONASS without a channel is missing.
+    /// The values. A phase of GLONASS is missing if its slot has no channel, or if the message tells another
+    /// one.
     pub cell: Cell,
 }
 
-// Returns the channel of the satellite of a mask bit.
-fn channel_in(system: System, channels: &Channels, bit: u8) -> Option<Channel>
+// The field of a satellite of GLONASS (DF419) that tells no channel.
+const NO_CHANNEL: u8 = 15;
+
+// Returns the channel of a slot, unless the field of its satellite tells another one. The field is 7 greater
+// than the number of its channel.
+fn unless_other(field: u8, channel: Option<Channel>) -> Option<Channel>
+    ensures { result ≡ unless_other field channel }
+{
+    let channel = channel?;
+    if field == NO_CHANNEL || i16::from(field) == i16::from(channel.number()) + 7 {
+        Some(channel)
+    } else {
+        None
+    }
+}
+
+// Returns the channel of a satellite, of which the message tells the mask bit and this field (DF419).
+fn channel_in(system: System, channels: &Channels, bit: u8, field: u8) -> Option<Channel>
     requires { 1 ≤ bit }
-    ensures { result ≡ channel_in system channels.now bit }
+    ensures { result ≡ channel_in system channels.now bit field }
 {
     match system {
-        System::Glonass if bit <= 27 => channels.channel(bit),
+        System::Glonass if bit <= 27 => unless_other(field, channels.channel(bit)),
         _ => None,
+    }
+}
+
+// Returns the field of the satellite of a row (DF419), or `NO_CHANNEL` in a kind without it.
+fn field_of_row(message: &Msm, row: usize) -> u8
+    ensures { result ≡ field_of_row message.now row }
+{
+    match message.extended.as_slice().get(row) {
+        Some(field) => *field,
+        None => NO_CHANNEL,
     }
 }
 
@@ -64,6 +91,8 @@ struct Row {
     place: usize,
     // Its mask bit (DF394).
     bit: u8,
+    // The field of its channel (DF419).
+    field: u8,
 }
 
 // Puts the entry of a cell of a signal, if there is one.
@@ -79,6 +108,7 @@ fn put_entry(
     requires cell { cell < cells_in message.now.cell_mask }
     requires place { row.place < satellite_count message.now.header }
     requires bit { row.bit ≡ bit_of_row message.now row.place }
+    requires field { row.field ≡ field_of_row message.now row.place }
     requires low { 1 ≤ row.bit }
     requires room { length found.old.items < 64 }
     ensures entries { found.new.items ≡ found.old.items
@@ -91,7 +121,7 @@ fn put_entry(
     let Some(code) = code_of_signal(message.system, signal) else {
         return;
     };
-    let channel = channel_in(message.system, channels, row.bit);
+    let channel = channel_in(message.system, channels, row.bit, row.field);
     let frequency = code.carrier().frequency(channel);
     found.push(SignalEntry {
         satellite,
@@ -113,6 +143,7 @@ fn put_row(
     requires valid { IsValid message.now }
     requires place { row.place < satellite_count message.now.header }
     requires bit { row.bit ≡ bit_of_row message.now row.place }
+    requires field { row.field ≡ field_of_row message.now row.place }
     requires low { 1 ≤ row.bit }
     requires width { length signals.now ≤ 64 }
     requires fits { bits < 2 ^ length signals.now }
@@ -134,7 +165,8 @@ fn put_row(
 }
 
 /// Returns the cells of a message in its order, for the satellites that have an index and the signals
-/// that have a code. The phases of a satellite of GLONASS need the channel of its slot.
+/// that have a code. A satellite of GLONASS has phases if its slot has a channel, and the message tells no
+/// other one.
 pub fn signal_entries(message: &Msm, channels: &Channels) -> ArrayVec<SignalEntry, 64>
     requires { IsValid message.now }
     ensures { result.items ≡ signal_entries channels.now message.now }
@@ -147,6 +179,7 @@ pub fn signal_entries(message: &Msm, channels: &Channels) -> ArrayVec<SignalEntr
         let row = Row {
             place,
             bit: bits_of_satellites.as_slice()[place],
+            field: field_of_row(message, place),
         };
         cell = put_row(
             &mut found,

@@ -43,8 +43,8 @@ fn is_new(listed: &[Code], at: usize) -> bool
     true
 }
 
-// Returns whether there are 1 to 16 codes and none stands twice.
-fn is_code_list(listed: &[Code]) -> bool
+/// Returns whether a head can list these codes: there are 1 to 16, and none stands twice.
+pub fn is_code_list(listed: &[Code]) -> bool
     ensures { Decides result (IsCodeList listed.now) }
 {
     if listed.len() == 0 || listed.len() > 16 {

@@ -73,7 +73,7 @@ pub use creation_time::CreationTime;
 pub use epoch_table::{EpochTable, Observed, SatelliteRow};
 pub use field::is_field;
 pub use glonass_head::Glonass;
-pub use head::Head;
+pub use head::{Head, is_code_list};
 pub use head_fault::HeadFault;
 pub use header_text::header;
 pub use laws::{
@@ -81,7 +81,7 @@ pub use laws::{
     text_of_a_table,
 };
 pub use marker_name::Marker;
-pub use mixed_head::MixedHead;
+pub use mixed_head::{MixedHead, is_mixed_list};
 pub use mixed_head_fault::MixedHeadFault;
 pub use mixed_header_text::mixed_header;
 pub use owned_table::{Table, check, text};

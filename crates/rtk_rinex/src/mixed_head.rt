@@ -70,8 +70,9 @@ fn follows(listed: &[AnyCode], at: usize) -> bool
     true
 }
 
-// Returns whether there are 1 to 69 codes, none stands twice, and the systems stand in their order.
-fn is_mixed_list(listed: &[AnyCode]) -> bool
+/// Returns whether a head can list these codes: there are 1 to 69, none stands twice, and the systems
+/// stand in the order G, R, E, C, J, S, I.
+pub fn is_mixed_list(listed: &[AnyCode]) -> bool
     ensures { Decides result (IsMixedList listed.now) }
 {
     if listed.len() == 0 || listed.len() > MOST_CODES {
