@@ -71,10 +71,6 @@ gps_none l (c ∷ cs) (d ∷ ds) h e =
     let f = gps_first c d cs ds e in
     left_if (letter c == l) c (codes_of l cs) (unlike_test (letter c) 71 l f.letter h) (gps_none l cs ds h f.rest)
 
-and_true : (a b : Bool) → a ≡ true → b ≡ true → (if a then b else false) ≡ true
-and_true true b e f = f
-and_true false b e f = absurd (cc)
-
 gps_letters : (cs : List AnyCode) (ds : List Code) → AreGps cs ds → list_all (λ c. letter c == 71) cs ≡ true
 gps_letters [] ds e = refl
 gps_letters (c ∷ cs) [] e = absurd (let n = gps_count (c ∷ cs) [] e in omega arith)
@@ -121,7 +117,7 @@ gps_shift cs ds some e = by_gps phase_shift_line cs ds (λ l. refl) e ∙ shift-
 
 gps-in_row : (v m k a b c d p t u f s z : List ℕ)
     → (((((((((v ++ m) ++ k) ++ (((a ++ b) ++ c) ++ d)) ++ p) ++ t) ++ u) ++ f) ++ s) ++ []) ++ z
-    ≡ (((((((((v ++ m) ++ k) ++ a) ++ b) ++ c) ++ d) ++ p) ++ t) ++ (((u ++ f) ++ s) ++ z)
+    ≡ ((((((((v ++ m) ++ k) ++ a) ++ b) ++ c) ++ d) ++ p) ++ t) ++ (((u ++ f) ++ s) ++ z)
 gps-in_row v m k a b c d p t u f s z = simp (append_assoc, append-nil)
 
 pub gps_stay : GpsFilesStay

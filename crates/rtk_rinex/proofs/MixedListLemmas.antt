@@ -4,7 +4,7 @@ use Rattle.std.specs.Prelude.{All, AllPairs, Contains}
 use Rattle.std.specs.List.{filter, list_any, list_all}
 use Rattle.std.proofs.lemmas.Bool.{eqb-true}
 use Rattle.std.proofs.lemmas.Bool.Decides.{Decides-eqb}
-use Rattle.std.proofs.lemmas.List.{get_or-map, length-map}
+use Rattle.std.proofs.lemmas.List.{get_or-map, get_or_default, length-map}
 use Rattle.std.proofs.lemmas.List.Elements.{filter_passes}
 use Rattle.std.proofs.lemmas.List.Kept.{AllPairs-filter}
 use Rattle.std.proofs.lemmas.Map.Made.{IsDistinct-from_AllPairs}
@@ -30,11 +30,14 @@ in_order-more cs i old new j k d jk ki =
     (below-or-at i k ki)
 
 -- the same of a code at one place
-pub at_place : (cs : List AnyCode) (at i : ℕ) → i < at → ((k : ℕ) (d : AnyCode) → k < i → AreInOrder (slice_index_or cs k d) (slice_index_or cs at d))
-    → ((d : AnyCode) → AreInOrder (slice_index_or cs i d) (slice_index_or cs at d))
+pub at_place : (cs : List AnyCode) (at i : ℕ) → i < at → at < length cs → ((k : ℕ) (d : AnyCode) → k < i → AreInOrder (slice_index_or cs k d) (slice_index_or cs at d))
+    → AreInOrder (slice_index_or cs i G1C) (slice_index_or cs at G1C)
     → (k : ℕ) (d : AnyCode) → k < i + 1 → AreInOrder (slice_index_or cs k d) (slice_index_or cs at d)
-at_place cs at i lt old new k d ki =
-    ⊎_elim (λ below. old k d below) (λ here. subst (λ (n : ℕ). AreInOrder (slice_index_or cs n d) (slice_index_or cs at d)) (sym here) (new d))
+at_place cs at i lt within old new k d ki =
+    let one : slice_index_or cs i G1C ≡ slice_index_or cs i d = get_or_default cs i G1C d (omega (arith, lt, within)) in
+    let other : slice_index_or cs at G1C ≡ slice_index_or cs at d = get_or_default cs at G1C d within in
+    let here : AreInOrder (slice_index_or cs i d) (slice_index_or cs at d) = rw (one, other) at new in
+    ⊎_elim (λ below. old k d below) (λ e. subst (λ (n : ℕ). AreInOrder (slice_index_or cs n d) (slice_index_or cs at d)) (sym e) here)
     (below-or-at i k ki)
 
 -- ---- systems and letters

@@ -98,13 +98,28 @@ fn has_glonass(listed: &[AnyCode]) -> bool
     false
 }
 
-// Returns whether a file of these codes tells of GLONASS what is handed in.
-fn tells_glonass(listed: &[AnyCode], glonass: &Option<Glonass>) -> bool
-    ensures { Decides result (TellsGlonass listed.now glonass.now) }
+// Returns what is told of GLONASS if a file of these codes tells it, else `MixedHeadFault::Glonass`.
+fn due_glonass(
+    listed: &[AnyCode],
+    glonass: Option<Glonass>,
+) -> Result<Option<Glonass>, MixedHeadFault>
+    ensures told { IfOk result (λ told. told ≡ glonass) }
+    ensures due { IfOk result (TellsGlonass listed.now) }
+    ensures fault { IfErr result (λ fault. (fault ≡ MixedHeadFault.Glonass) × ¬ (TellsGlonass listed.now glonass)) }
 {
     match glonass {
-        Some(_told) => has_glonass(listed),
-        None => !has_glonass(listed),
+        Some(told) => {
+            if !has_glonass(listed) {
+                return Err(MixedHeadFault::Glonass);
+            }
+            Ok(Some(told))
+        }
+        None => {
+            if has_glonass(listed) {
+                return Err(MixedHeadFault::Glonass);
+            }
+            Ok(None)
+        }
     }
 }
 
@@ -136,9 +151,7 @@ impl MixedHead {
         if !is_mixed_list(codes) {
             return Err(MixedHeadFault::Codes);
         }
-        if !tells_glonass(codes, &glonass) {
-            return Err(MixedHeadFault::Glonass);
-        }
+        let glonass = due_glonass(codes, glonass)?;
         let listed = kept_list(codes);
         Ok(MixedHead {
             marker,
