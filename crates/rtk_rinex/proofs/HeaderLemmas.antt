@@ -3,7 +3,7 @@ use Rattle.std.proofs.Common.{◌≡◌, ◌≢◌, ◌⊎◌, ⊎_elim, inl, in
 use Rattle.std.proofs.lemmas.Bool.Decides.{leb_tells}
 use Rattle.rtk_obs.specs.declared.code.Code.{Code}
 
-below-or-at : (i k : ℕ) → k < i + 1 → (k < i) ⊎ (k ≡ i)
+pub below-or-at : (i k : ℕ) → k < i + 1 → (k < i) ⊎ (k ≡ i)
 below-or-at i k h = ⊎_elim (λ l. inr (omega (arith, l.1, h))) (λ r. inl r.1) (leb_tells i k)
 
 -- one more code, unlike all before it

@@ -36,3 +36,6 @@ mod EqualityLemmas
 mod RecordsLemmas
 mod RecordLinesLemmas
 mod KeptLemmas
+mod MixedListLemmas
+mod MixedRoomLemmas
+mod GpsHeaderLemmas

@@ -4,3 +4,4 @@ pub mod HeaderShown
 pub mod HeaderRead
 pub mod CheckValues
 pub mod ReadRecords
+pub mod MixedRoom

@@ -14,16 +14,17 @@ use arrayvec::ArrayVec;
 use rtk_obs::{Civil, Code, GpsMs, Position, civil};
 use std::alloc::{AllocError, Global};
 
-const TYPES: &[u8] = b"SYS / # / OBS TYPES";
+/// The label of the lines of observation types.
+pub(crate) const TYPES: &[u8] = b"SYS / # / OBS TYPES";
 
 /// The bytes of the longest header: 17 lines of 81 bytes, four of them with observation types.
 pub(crate) const LONGEST_HEADER: usize = 1377;
 
 // Appends a text and blanks after it, `width` columns in all.
-fn put_left(out: &mut ArrayVec<u8, LONGEST_HEADER>, text: &[u8], width: usize)
+fn put_left<const N: usize>(out: &mut ArrayVec<u8, N>, text: &[u8], width: usize)
     requires fits { length text.now ≤ width }
     requires small { width ≤ 80 }
-    requires room { length out.old.items + width ≤ 1377 }
+    requires room { length out.old.items + width ≤ N }
     ensures items { out.new.items ≡ out.old.items ++ left width text.now }
     ensures len { length out.new.items ≡ length out.old.items + width }
 {
@@ -32,11 +33,15 @@ fn put_left(out: &mut ArrayVec<u8, LONGEST_HEADER>, text: &[u8], width: usize)
     append(out, &blanks[..width - text.len()]);
 }
 
-// Appends a line: what stands in its first 60 columns, and its label.
-fn put_header_line(out: &mut ArrayVec<u8, LONGEST_HEADER>, content: &[u8], label: &[u8])
+/// Appends a line: what stands in its first 60 columns, and its label.
+pub(crate) fn put_header_line<const N: usize>(
+    out: &mut ArrayVec<u8, N>,
+    content: &[u8],
+    label: &[u8],
+)
     requires content { length content.now ≤ 60 }
     requires label { length label.now ≤ 20 }
-    requires room { length out.old.items + 81 ≤ 1377 }
+    requires room { length out.old.items + 81 ≤ N }
     ensures items { out.new.items ≡ out.old.items ++ header_line content.now label.now }
     ensures len { length out.new.items ≡ length out.old.items + 81 }
 {
@@ -84,8 +89,8 @@ pub(crate) fn put_version_line(out: &mut ArrayVec<u8, LONGEST_HEADER>)
 }
 
 /// Puts the line with the program and the time at which the file is made.
-pub(crate) fn put_made_line(out: &mut ArrayVec<u8, LONGEST_HEADER>, made: Civil)
-    requires room { length out.old.items + 81 ≤ 1377 }
+pub(crate) fn put_made_line<const N: usize>(out: &mut ArrayVec<u8, N>, made: Civil)
+    requires room { length out.old.items + 81 ≤ N }
     ensures items { out.new.items ≡ out.old.items ++ made_line made }
     ensures len { length out.new.items ≡ length out.old.items + 81 }
 {
@@ -93,9 +98,9 @@ pub(crate) fn put_made_line(out: &mut ArrayVec<u8, LONGEST_HEADER>, made: Civil)
 }
 
 /// Puts the line with the marker's name.
-pub(crate) fn put_marker_line(out: &mut ArrayVec<u8, LONGEST_HEADER>, marker: &[u8])
+pub(crate) fn put_marker_line<const N: usize>(out: &mut ArrayVec<u8, N>, marker: &[u8])
     requires marker { length marker.now ≤ 60 }
-    requires room { length out.old.items + 81 ≤ 1377 }
+    requires room { length out.old.items + 81 ≤ N }
     ensures items { out.new.items ≡ out.old.items ++ marker_line marker.now }
     ensures len { length out.new.items ≡ length out.old.items + 81 }
 {
@@ -104,8 +109,8 @@ pub(crate) fn put_marker_line(out: &mut ArrayVec<u8, LONGEST_HEADER>, marker: &[
 
 /// Puts the lines from the marker's type to the antenna's type. Observer, receiver and antenna are
 /// blank, since no message that is converted tells them.
-pub(crate) fn put_unknown_lines(out: &mut ArrayVec<u8, LONGEST_HEADER>)
-    requires room { length out.old.items + 324 ≤ 1377 }
+pub(crate) fn put_unknown_lines<const N: usize>(out: &mut ArrayVec<u8, N>)
+    requires room { length out.old.items + 324 ≤ N }
     ensures items { out.new.items ≡ out.old.items ++ header_line (codes "GEODETIC") (codes "MARKER TYPE") ++ header_line [] (codes "OBSERVER / AGENCY")
         ++ header_line [] (codes "REC # / TYPE / VERS") ++ header_line [] (codes "ANT # / TYPE") }
     ensures len { length out.new.items ≡ length out.old.items + 324 }
@@ -141,8 +146,8 @@ fn height_content(height: u16) -> ArrayVec<u8, 60>
 }
 
 /// Puts the line with the position.
-pub(crate) fn put_place_line(out: &mut ArrayVec<u8, LONGEST_HEADER>, position: &Position)
-    requires room { length out.old.items + 81 ≤ 1377 }
+pub(crate) fn put_place_line<const N: usize>(out: &mut ArrayVec<u8, N>, position: &Position)
+    requires room { length out.old.items + 81 ≤ N }
     ensures items { out.new.items ≡ out.old.items ++ place_line (position_view position.now) }
     ensures len { length out.new.items ≡ length out.old.items + 81 }
 {
@@ -154,8 +159,8 @@ pub(crate) fn put_place_line(out: &mut ArrayVec<u8, LONGEST_HEADER>, position: &
 }
 
 /// Puts the line with the antenna's height.
-pub(crate) fn put_height_line(out: &mut ArrayVec<u8, LONGEST_HEADER>, height: u16)
-    requires room { length out.old.items + 81 ≤ 1377 }
+pub(crate) fn put_height_line<const N: usize>(out: &mut ArrayVec<u8, N>, height: u16)
+    requires room { length out.old.items + 81 ≤ N }
     ensures items { out.new.items ≡ out.old.items ++ height_line height }
     ensures len { length out.new.items ≡ length out.old.items + 81 }
 {
@@ -216,9 +221,9 @@ fn continuation_content(text: &[u8]) -> ArrayVec<u8, 60>
     content
 }
 
-// Puts a further line of observation types if any types are left.
-fn put_continuation_line(out: &mut ArrayVec<u8, LONGEST_HEADER>, text: &[u8])
-    requires room { length out.old.items + 81 ≤ 1377 }
+/// Puts a further line of observation types if any types are left.
+pub(crate) fn put_continuation_line<const N: usize>(out: &mut ArrayVec<u8, N>, text: &[u8])
+    requires room { length out.old.items + 81 ≤ N }
     ensures items { out.new.items ≡ out.old.items ++ continuation_line text.now }
     ensures len { length out.new.items ≤ length out.old.items + 81 }
 {
@@ -266,8 +271,8 @@ fn first_content(first: Civil) -> ArrayVec<u8, 60>
 }
 
 /// Puts the line with the unit of the signal strengths.
-pub(crate) fn put_unit_line(out: &mut ArrayVec<u8, LONGEST_HEADER>)
-    requires room { length out.old.items + 81 ≤ 1377 }
+pub(crate) fn put_unit_line<const N: usize>(out: &mut ArrayVec<u8, N>)
+    requires room { length out.old.items + 81 ≤ N }
     ensures items { out.new.items ≡ out.old.items ++ unit_line }
     ensures len { length out.new.items ≡ length out.old.items + 81 }
 {
@@ -275,10 +280,10 @@ pub(crate) fn put_unit_line(out: &mut ArrayVec<u8, LONGEST_HEADER>)
 }
 
 /// Puts the line with the time of the first observation.
-pub(crate) fn put_first_line(out: &mut ArrayVec<u8, LONGEST_HEADER>, first: Civil)
+pub(crate) fn put_first_line<const N: usize>(out: &mut ArrayVec<u8, N>, first: Civil)
     requires second { first.second < 60 }
     requires millisecond { first.millisecond < 1000 }
-    requires room { length out.old.items + 81 ≤ 1377 }
+    requires room { length out.old.items + 81 ≤ N }
     ensures items { out.new.items ≡ out.old.items ++ first_line first }
     ensures len { length out.new.items ≡ length out.old.items + 81 }
 {

@@ -8,14 +8,17 @@ ghost use Rattle.rtk_obs.specs.declared.time.Civil.{Civil};
 ghost use Rattle.rtk_obs.specs.Calendar.{ReadsAs};
 ghost use Rattle.rtk_rinex.specs.CheckTable.{OneFault, FaultMeansNoTable, OneTable, TextIsAccepted};
 ghost use Rattle.rtk_rinex.specs.KeptTable.{TextIsKept};
+ghost use Rattle.rtk_rinex.specs.MixedHeader.{GpsFilesStay};
 ghost use Rattle.rtk_rinex.specs.Reading.{IsMoment, reading_of};
 ghost use Rattle.rtk_rinex.specs.Table.{RecordsAreOfTables, FilesAreTables};
 ghost use Rattle.rtk_rinex.specs.declared.check_fault.Cause.{Cause};
 ghost use Rattle.rtk_rinex.specs.declared.check_fault.CheckFault.{CheckFault};
 ghost use Rattle.rtk_rinex.specs.declared.head_fault.HeadFault.{HeadFault};
+ghost use Rattle.rtk_rinex.specs.declared.mixed_head_fault.MixedHeadFault.{MixedHeadFault};
 
 use crate::check_fault::{Cause, CheckFault};
 use crate::head_fault::HeadFault;
+use crate::mixed_head_fault::MixedHeadFault;
 use rtk_obs::code_laws;
 
 /// A moment has one reading, which `reading_of` gives.
@@ -52,10 +55,16 @@ pub fn text_of_a_table()
     code_laws();
 }
 
+/// The header of a file of any systems, if its codes are of GPS alone, is the header of a file of GPS.
+pub fn gps_files_stay()
+    ensures { GpsFilesStay }
+{}
+
 /// `==` says whether two causes are the same, whether two faults of a text are the same in line and
 /// cause, and whether two faults of a head are the same.
 pub fn fault_laws()
     ensures causes { (a b : Cause) → IsTrue (⟦<Cause as PartialEq>⟧.eq a b) ↔ (a ≡ b) }
     ensures faults { (a b : CheckFault) → IsTrue (⟦<CheckFault as PartialEq>⟧.eq a b) ↔ (a ≡ b) }
     ensures heads { (a b : HeadFault) → IsTrue (⟦<HeadFault as PartialEq>⟧.eq a b) ↔ (a ≡ b) }
+    ensures mixed_heads { (a b : MixedHeadFault) → IsTrue (⟦<MixedHeadFault as PartialEq>⟧.eq a b) ↔ (a ≡ b) }
 {}

@@ -48,12 +48,16 @@ mod digits;
 mod epoch_line_check;
 mod epoch_table;
 mod field;
+mod glonass_head;
 mod head;
 mod head_fault;
 mod header_check;
 mod header_text;
 mod laws;
 mod marker_name;
+mod mixed_head;
+mod mixed_head_fault;
+mod mixed_header_text;
 mod owned_table;
 mod record_lines;
 mod record_text;
@@ -68,13 +72,18 @@ pub use check_fault::{Cause, CheckFault};
 pub use creation_time::CreationTime;
 pub use epoch_table::{EpochTable, Observed, SatelliteRow};
 pub use field::is_field;
+pub use glonass_head::Glonass;
 pub use head::{Head, is_code_list};
 pub use head_fault::HeadFault;
 pub use header_text::header;
 pub use laws::{
-    fault_laws, files_are_tables, one_fault, one_reading, records_are_of_tables, text_of_a_table,
+    fault_laws, files_are_tables, gps_files_stay, one_fault, one_reading, records_are_of_tables,
+    text_of_a_table,
 };
 pub use marker_name::Marker;
+pub use mixed_head::{MixedHead, is_mixed_list};
+pub use mixed_head_fault::MixedHeadFault;
+pub use mixed_header_text::mixed_header;
 pub use owned_table::{Table, check, text};
 pub use record_lines::{RecordLines, record};
 pub use records::Records;

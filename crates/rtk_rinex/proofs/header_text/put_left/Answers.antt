@@ -5,7 +5,7 @@ use Rattle.rtk_rinex.proofs.header_text.put_left.Goals as goal
 
 pub returns-clause-items : goal.returns-clause-items
 unfolding left
-returns-clause-items c =
+returns-clause-items g c =
     let out = c.args.out.now.items in
     let text = c.args.text.now in
     let n = c.args.width - length text in

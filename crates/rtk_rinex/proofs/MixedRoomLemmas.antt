@@ -1,0 +1,173 @@
+-- The lengths of the parts of a mixed header, and texts one after another.
+use Rattle.std.proofs.Common.{◌≡◌, ◌++◌, ◌*◌, ◌≤◌, ◌<◌, List, [], ◌∷◌, ℕ, append_assoc, length, length-append, length-drop, drop, take, codes, decimal, arith, refl, Bool, true, false, ◌==◌, if◌then◌else◌, ◌∙◌, inl, inr}
+use Rattle.std.proofs.lemmas.Bool.Decides.{leb_tells}
+use Rattle.std.proofs.lemmas.Fmt.{length-decimal-le}
+use Rattle.std.proofs.lemmas.List.{append-nil, length-take}
+use Rattle.rtk_obs.specs.declared.any_code.AnyCode.{AnyCode}
+use Rattle.rtk_obs.specs.declared.any_code.AnyCode.TheVariants.{G1C, G1P, G1W, G1S, G1L, G1X, G2C, G2D, G2P, G2W, G2S, G2L, G2X, G5I, G5Q, G5X, R1C, R1P, R2C, R2P, E1C, E1B, E1X, E6C, E6B, E6X, E7I, E7Q, E7X, E8I, E8Q, E8X, E5I, E5Q, E5X, C2I, C2Q, C2X, C6I, C6Q, C6X, C7I, C7Q, C7X, C5D, C5P, C5X, C7D, C1D, C1P, C1X, J1C, J6S, J6L, J6X, J2S, J2L, J2X, J5I, J5Q, J5X, J1S, J1L, J1X, S1C, S5I, S5Q, S5X, I5A}
+use Rattle.rtk_obs.specs.AnyCode.{name_of}
+use Rattle.rtk_rinex.specs.Columns.{left, right}
+use Rattle.rtk_rinex.specs.Header.{header_line, types_label, continuation_line}
+use Rattle.rtk_rinex.specs.MixedHeader.{three_types, types_text, types_lines_of, system_types_lines}
+use Rattle.rtk_rinex.specs.Steps.MixedRoom.{types_line_count}
+use Rattle.rtk_rinex.proofs.DigitsLemmas.{length-left, length-right}
+
+-- seven texts after another
+pub seven_texts : (o a b c d e f g : List ℕ) → ((((((o ++ a) ++ b) ++ c) ++ d) ++ e) ++ f) ++ g ≡ o ++ (a ++ (b ++ (c ++ (d ++ (e ++ (f ++ (g ++ [])))))))
+seven_texts o a b c d e f g = simp (append_assoc, append-nil)
+
+pub length-header_line : (content label : List ℕ) → length content ≤ 60 → length label ≤ 20 → length (header_line content label) ≡ 81
+unfolding header_line
+length-header_line content label h g =
+    length-append (left 60 content ++ left 20 label) (10 ∷ []) ∙ omega (arith, length-append (left 60 content) (left 20 label), length-left 60 content h, length-left 20 label g)
+
+continued-some : (text : List ℕ) (b : Bool) → length (if b then [] else header_line (codes "      " ++ take 52 text) types_label) ≤ 81
+continued-some text true = omega arith
+continued-some text false =
+    let n = length-take 52 text in
+    let long : length (codes "      " ++ take 52 text) ≤ 60 = omega (arith, n, length-append (codes "      ") (take 52 text)) in
+    omega (arith, length-header_line (codes "      " ++ take 52 text) types_label long (omega arith))
+
+continued-none : (text : List ℕ) → length text ≡ 0 → length (continuation_line text) ≡ 0
+continued-none [] e = refl
+continued-none (x ∷ text) e = absurd (omega arith)
+
+-- what is left after k columns fills no line, or one
+continued : (k : ℕ) (text : List ℕ) → (length text ≤ k → length (continuation_line (drop k text)) ≡ 0) × (length (continuation_line (drop k text)) ≤ 81)
+continued k text = (λ short. continued-none (drop k text) (length-drop k text ∙ omega arith), continued-some (drop k text) (length (drop k text) == 0))
+
+three_columns : (n : ℕ) → n ≤ 16 → length (right 3 (decimal (3 * n))) ≡ 3
+three_columns n h = length-right 3 (decimal (3 * n)) (length-decimal-le 3 (3 * n) (omega arith) (omega arith) (omega arith))
+
+lines_room : (l n : ℕ) (text : List ℕ) → 1 ≤ n → n ≤ 16 → length text ≡ 12 * n → length (types_lines_of l n text) ≤ 81 * types_line_count n
+lines_room l n text some few size =
+    let content : List ℕ = l ∷ codes "  " ++ right 3 (decimal (3 * n)) ++ take 52 text in
+    let first : List ℕ = header_line content types_label in
+    let a : List ℕ = continuation_line (drop 52 text) in
+    let b : List ℕ = continuation_line (drop 104 text) in
+    let d : List ℕ = continuation_line (drop 156 text) in
+    let long : length content ≤ 60 = let t = length-take 52 text in omega (arith, t, three_columns n few, length-append (l ∷ codes "  " ++ right 3 (decimal (3 * n))) (take 52 text), length-append (l ∷ codes "  ") (right 3 (decimal (3 * n)))) in
+    let one = length-header_line content types_label long (omega arith) in
+    let two = continued 52 text in
+    let more = continued 104 text in
+    let most = continued 156 text in
+    let all = length-append ((first ++ a) ++ b) d in
+    let front = length-append (first ++ a) b in
+    let start = length-append first a in
+    elim (leb_tells n 4) [
+      | inl le ↦
+          let m : types_line_count n ≡ 1 = omega (arith, some, le.1) in
+          let x = two.0 (omega (arith, size, le.1)) in
+          let y = more.0 (omega (arith, size, le.1)) in
+          let z = most.0 (omega (arith, size, le.1)) in
+          omega (arith, m, one, x, y, z, all, front, start)
+      | inr gt ↦ elim (leb_tells n 8) [
+        | inl le ↦
+            let m : types_line_count n ≡ 2 = omega (arith, gt.1, le.1) in
+            let y = more.0 (omega (arith, size, le.1)) in
+            let z = most.0 (omega (arith, size, le.1)) in
+            omega (arith, m, one, two.1, y, z, all, front, start)
+        | inr gt ↦ elim (leb_tells n 13) [
+          | inl le ↦
+              let m : types_line_count n ≡ 3 = omega (arith, gt.1, le.1) in
+              let z = most.0 (omega (arith, size, le.1)) in
+              omega (arith, m, one, two.1, more.1, z, all, front, start)
+          | inr gt ↦
+              let m : types_line_count n ≡ 4 = omega (arith, gt.1, few) in
+              omega (arith, m, one, two.1, more.1, most.1, all, front, start)
+        ]
+      ]
+    ]
+
+-- a name has two characters
+pub length-name : (c : AnyCode) → length (name_of c) ≡ 2
+length-name G1C = refl
+length-name G1P = refl
+length-name G1W = refl
+length-name G1S = refl
+length-name G1L = refl
+length-name G1X = refl
+length-name G2C = refl
+length-name G2D = refl
+length-name G2P = refl
+length-name G2W = refl
+length-name G2S = refl
+length-name G2L = refl
+length-name G2X = refl
+length-name G5I = refl
+length-name G5Q = refl
+length-name G5X = refl
+length-name R1C = refl
+length-name R1P = refl
+length-name R2C = refl
+length-name R2P = refl
+length-name E1C = refl
+length-name E1B = refl
+length-name E1X = refl
+length-name E6C = refl
+length-name E6B = refl
+length-name E6X = refl
+length-name E7I = refl
+length-name E7Q = refl
+length-name E7X = refl
+length-name E8I = refl
+length-name E8Q = refl
+length-name E8X = refl
+length-name E5I = refl
+length-name E5Q = refl
+length-name E5X = refl
+length-name C2I = refl
+length-name C2Q = refl
+length-name C2X = refl
+length-name C6I = refl
+length-name C6Q = refl
+length-name C6X = refl
+length-name C7I = refl
+length-name C7Q = refl
+length-name C7X = refl
+length-name C5D = refl
+length-name C5P = refl
+length-name C5X = refl
+length-name C7D = refl
+length-name C1D = refl
+length-name C1P = refl
+length-name C1X = refl
+length-name J1C = refl
+length-name J6S = refl
+length-name J6L = refl
+length-name J6X = refl
+length-name J2S = refl
+length-name J2L = refl
+length-name J2X = refl
+length-name J5I = refl
+length-name J5Q = refl
+length-name J5X = refl
+length-name J1S = refl
+length-name J1L = refl
+length-name J1X = refl
+length-name S1C = refl
+length-name S5I = refl
+length-name S5Q = refl
+length-name S5X = refl
+length-name I5A = refl
+
+length-three_types : (c : AnyCode) → length (three_types c) ≡ 12
+length-three_types c = simp length-append (omega (arith, length-name c))
+
+length-types_text : (cs : List AnyCode) → length (types_text cs) ≡ 12 * length cs
+length-types_text [] = refl
+length-types_text (c ∷ cs) = length-append (three_types c) (types_text cs) ∙ omega (arith, length-three_types c, length-types_text cs)
+
+pub types_lines-some : (l : ℕ) (cs : List AnyCode) → 0 < length cs → system_types_lines l cs ≡ types_lines_of l (length cs) (types_text cs)
+types_lines-some l [] h = absurd (omega arith)
+types_lines-some l (c ∷ cs) h = refl
+
+pub types_room : (l : ℕ) (cs : List AnyCode) → length cs ≤ 16 → length (system_types_lines l cs) ≤ 81 * types_line_count (length cs)
+types_room l [] h = omega arith
+types_room l (c ∷ cs) h = lines_room l (length (c ∷ cs)) (types_text (c ∷ cs)) (omega arith) h (length-types_text (c ∷ cs))
+
+-- the parts of a header one after another
+pub mixed-in_row : (v m k a b c d p q t u f s g z : List ℕ)
+    → (((((((((((((v ++ m) ++ k) ++ a) ++ b) ++ c) ++ d) ++ p) ++ q) ++ t) ++ u) ++ f) ++ s) ++ g) ++ z
+    ≡ (((((((((v ++ m) ++ k) ++ (((a ++ b) ++ c) ++ d)) ++ (p ++ q)) ++ t) ++ u) ++ f) ++ s) ++ g) ++ z
+mixed-in_row v m k a b c d p q t u f s g z = simp append_assoc
