@@ -5,18 +5,8 @@ use Rattle.std.specs.Option.{ForSome}
 use Rattle.rtk_args.specs.declared.answer.ClapAnswer.{ClapAnswer}
 use Rattle.rtk_args.specs.declared.answer.ClapAnswer.TheVariants.{Text, OutOfMemory}
 use Rattle.rtk_args.specs.declared.limits.TheConstants.{LEAST_WIDTH, MOST_WIDTH}
-use Rattle.rtk_args.specs.declared.options.MsmOption.{MsmOption}
-use Rattle.rtk_args.specs.declared.options.MsmOption.TheVariants.{Four, Five, Six, Seven}
 use Rattle.rtk_args.specs.declared.request.Request.{Request}
 use Rattle.rtk_args.specs.declared.request.Request.TheVariants.{Chart}
-
--- table
--- the number of an MSM in the words (this project's rule)
-abbrev pub number_of_msm : MsmOption → ℕ
-number_of_msm Four = 4
-number_of_msm Five = 5
-number_of_msm Six = 6
-number_of_msm Seven = 7
 
 -- formula
 -- a picture in characters is 40 to 400 of them wide; other pictures have no such width (this project's

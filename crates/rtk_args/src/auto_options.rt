@@ -1,20 +1,16 @@
 //! The values of the options of `auto`.
 
-ghost use Rattle.std.specs.Prelude.{◌≤◌};
-ghost use Rattle.std.specs.Int.{IsInRange};
-ghost use Rattle.std.specs.Option.{ForSome};
-ghost use Rattle.rtk_args.specs.declared.limits.TheConstants.{GREATEST_STATION, LEAST_WINDOW, MOST_WINDOW};
-
-use crate::options::MsmOption;
+use rtk_convert::{Station, Window};
+use rtk_message::MsmKind;
 
 /// The values of the options of `auto`, as clap gives them. Texts are not yet read. `None` is to be
 /// found in the captures, or chosen.
 #[derive(Clone, Copy)]
 pub struct AutoOptions<'a> {
-    /// The reference station (DF003), at most 4095.
-    pub station: Option<u16>,
+    /// The reference station.
+    pub station: Option<Station>,
     /// Which MSM is converted beside 1004.
-    pub msm: Option<MsmOption>,
+    pub msm: Option<MsmKind>,
     /// The names of the observation codes, with commas between.
     pub codes: Option<&'a str>,
     /// The text of the reference near which times of week are dated.
@@ -23,8 +19,8 @@ pub struct AutoOptions<'a> {
     pub made: Option<&'a str>,
     /// The marker's name.
     pub marker: Option<&'a str>,
-    /// How many epochs are kept open, 2 to 4096.
-    pub window: Option<u16>,
+    /// How many epochs are kept open.
+    pub window: Option<Window>,
     /// The name of the file that is written; `None` is standard output.
     pub output: Option<&'a str>,
     /// A file of that name is replaced.
@@ -37,8 +33,4 @@ pub struct AutoOptions<'a> {
     pub links_as_given: bool,
     /// The lines of `convert`'s report are shown.
     pub report: bool,
-
-    // Their parsers refuse other numbers.
-    ghost station_fits: { ForSome station (λ n. n ≤ GREATEST_STATION) },
-    ghost window_fits: { ForSome window (IsInRange LEAST_WINDOW MOST_WINDOW) },
 }

@@ -1,58 +1,44 @@
 //! Reads the words of `auto`.
 
 ghost use Rattle.std.specs.Prelude.{IfOk, IfSome};
-ghost use Rattle.std.specs.Option.{ForSome};
-ghost use Rattle.std.specs.Int.{IsInRange};
-ghost use Rattle.std.specs.Prelude.{◌≤◌};
 ghost use Rattle.rtk_args.specs.Requests.{IsRequest};
-ghost use Rattle.rtk_args.specs.declared.limits.TheConstants.{GREATEST_STATION, LEAST_WINDOW, MOST_WINDOW};
 
 use crate::auto_options::AutoOptions;
-use crate::limits::{GREATEST_STATION, LEAST_WINDOW, MOST_WINDOW};
-use crate::msm_reading::msm_of;
-use crate::options::MsmOption;
+use crate::number_reading::{msm_of, station_of, window_of};
 use crate::request::Request;
 use clap::ArgMatches;
+use rtk_convert::{Station, Window};
+use rtk_message::MsmKind;
 use std::alloc::{AllocError, Global};
 
-// The station, if it is one. clap refuses a station that is out of range.
-fn station_of(station: Option<u32>) -> Option<Option<u16>>
-    ensures { IfSome result (λ station. ForSome station (λ n. n ≤ GREATEST_STATION)) }
-{
-    let Some(station) = station else {
-        return Some(None);
-    };
-    if station > GREATEST_STATION {
-        return None;
+// The station, if one is given. `None` if the number is no station.
+fn station_if_any(number: Option<u32>) -> Option<Option<Station>> {
+    match number {
+        Some(number) => Some(Some(station_of(number)?)),
+        None => Some(None),
     }
-    Some(Some(station as u16))
 }
 
-// The window, if it is one. clap refuses a window that is out of range.
-fn window_of(window: Option<u32>) -> Option<Option<u16>>
-    ensures { IfSome result (λ window. ForSome window (IsInRange LEAST_WINDOW MOST_WINDOW)) }
-{
-    let Some(window) = window else {
-        return Some(None);
-    };
-    if window < LEAST_WINDOW || window > MOST_WINDOW {
-        return None;
+// The window, if one is given. `None` if the number is no window.
+fn window_if_any(epochs: Option<u32>) -> Option<Option<Window>> {
+    match epochs {
+        Some(epochs) => Some(Some(window_of(epochs)?)),
+        None => Some(None),
     }
-    Some(Some(window as u16))
 }
 
-// The MSM, if it is one. clap refuses an MSM that is out of range.
-fn msm_if_any(msm: Option<u32>) -> Option<Option<MsmOption>> {
-    match msm {
-        Some(msm) => Some(Some(msm_of(msm)?)),
+// The MSM, if one is given. `None` if no MSM has this digit.
+fn msm_if_any(digit: Option<u32>) -> Option<Option<MsmKind>> {
+    match digit {
+        Some(digit) => Some(Some(msm_of(digit)?)),
         None => Some(None),
     }
 }
 
 // The values of the options of `auto`.
 fn auto_option_values<'a>(matches: &ArgMatches<'a>) -> Option<AutoOptions<'a>> {
-    let station = station_of(matches.get_one::<u32>("station"))?;
-    let window = window_of(matches.get_one::<u32>("window"))?;
+    let station = station_if_any(matches.get_one::<u32>("station"))?;
+    let window = window_if_any(matches.get_one::<u32>("window"))?;
     let msm = msm_if_any(matches.get_one::<u32>("msm"))?;
     Some(AutoOptions {
         station,

@@ -1,17 +1,5 @@
-//! The limits of the values of options. clap refuses other values; since no clause of clap says so,
-//! they are looked at again.
-//!
-//! rtk_convert has the limits of the station and of the window too; that they are the same ones is
-//! proved in rtk_cli, which uses both.
-
-/// The greatest reference station: DF003 has 12 bits.
-pub const GREATEST_STATION: u32 = 4095;
-
-/// The fewest epochs that are kept open.
-pub const LEAST_WINDOW: u32 = 2;
-
-/// The most epochs that are kept open.
-pub const MOST_WINDOW: u32 = 4096;
+//! The limits of the values of options that have no type of their own. clap refuses other values; since
+//! no clause of clap says so, they are looked at again.
 
 /// How many characters wide a picture is at least.
 pub(crate) const LEAST_WIDTH: u32 = 40;

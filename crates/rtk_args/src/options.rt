@@ -1,28 +1,17 @@
 //! The values of the options of `convert` and of `cut`.
 
-ghost use Rattle.std.specs.Prelude.{◌≤◌};
 ghost use Rattle.std.specs.Int.{IsInRange};
 ghost use Rattle.std.specs.Option.{ForSome};
-ghost use Rattle.rtk_args.specs.declared.limits.TheConstants.{GREATEST_STATION, LEAST_WINDOW, MOST_WINDOW, MOST_STEP};
+ghost use Rattle.rtk_args.specs.declared.limits.TheConstants.{MOST_STEP};
 
-/// An MSM that can be converted beside 1004.
-#[derive(Clone, Copy, Debug, PartialEq, Eq)]
-pub enum MsmOption {
-    /// 1074.
-    Four,
-    /// 1075.
-    Five,
-    /// 1076.
-    Six,
-    /// 1077.
-    Seven,
-}
+use rtk_convert::{Station, Window};
+use rtk_message::MsmKind;
 
 /// The values of the options of `convert`, as clap gives them. Texts are not yet read.
 #[derive(Clone, Copy)]
 pub struct ConvertOptions<'a> {
-    /// The reference station (DF003), at most 4095.
-    pub station: u16,
+    /// The reference station.
+    pub station: Station,
     /// The text of the reference near which times of week are dated.
     pub near: &'a str,
     /// The text of the moment at which the file is made.
@@ -31,14 +20,10 @@ pub struct ConvertOptions<'a> {
     pub marker: &'a str,
     /// The names of the observation codes, with commas between.
     pub codes: &'a str,
-    /// How many epochs are kept open, 2 to 4096.
-    pub window: usize,
+    /// How many epochs are kept open.
+    pub window: Window,
     /// Which MSM is converted beside 1004.
-    pub msm: MsmOption,
-
-    // Their parsers refuse other numbers.
-    ghost station_fits: { station ≤ GREATEST_STATION },
-    ghost window_fits: { IsInRange LEAST_WINDOW MOST_WINDOW window },
+    pub msm: MsmKind,
 }
 
 /// The values of the options of `cut`, as clap gives them. Texts are not yet read.

@@ -10,10 +10,8 @@ use crate::answer::ClapAnswer;
 use crate::auto_reading::auto_request;
 use crate::command_line::program_command;
 use crate::label_words::label_request;
-use crate::limits::{
-    GREATEST_STATION, LEAST_WIDTH, LEAST_WINDOW, MOST_STEP, MOST_WIDTH, MOST_WINDOW,
-};
-use crate::msm_reading::msm_of;
+use crate::limits::{LEAST_WIDTH, MOST_STEP, MOST_WIDTH};
+use crate::number_reading::{msm_of, station_of, window_of};
 use crate::options::{ConvertOptions, CutOptions};
 use crate::request::Request;
 use clap::error::ErrorKind;
@@ -58,20 +56,14 @@ fn missing_word_answer(alloc: Global, program: &mut Command<'_>) -> ClapAnswer
 // or MSM is out of range, so all of them are always there. All numbers of the command line have one
 // type, since each further one is costly to check.
 fn convert_option_values<'a>(matches: &ArgMatches<'a>) -> Option<ConvertOptions<'a>> {
-    let station = matches.get_one::<u32>("station")?;
-    let window = matches.get_one::<u32>("window")?;
-    let msm = msm_of(matches.get_one::<u32>("msm")?)?;
-    if station > GREATEST_STATION || window < LEAST_WINDOW || window > MOST_WINDOW {
-        return None;
-    }
     Some(ConvertOptions {
-        station: station as u16,
+        station: station_of(matches.get_one::<u32>("station")?)?,
         near: matches.get_str("near")?,
         made: matches.get_str("made")?,
         marker: matches.get_str("marker")?,
         codes: matches.get_str("codes")?,
-        window: window as usize,
-        msm,
+        window: window_of(matches.get_one::<u32>("window")?)?,
+        msm: msm_of(matches.get_one::<u32>("msm")?)?,
     })
 }
 
