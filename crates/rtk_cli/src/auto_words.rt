@@ -7,9 +7,9 @@ ghost use Rattle.rtk_cli.specs.Words.{IsWordsFault};
 
 use crate::code_list::codes_of;
 use crate::moment_text::{creation_time_of, moment_of};
+use crate::options::AutoOptions;
 use crate::words::{AutoWords, BadWords, WordsFault};
-use rtk_args::AutoOptions;
-use rtk_auto::{Wanted, Ways, is_code_list};
+use rtk_auto::{Wanted, is_code_list};
 use rtk_convert::{MOST_WINDOW, Reference, Window};
 use rtk_obs::{Code, GpsMs};
 use rtk_rinex::{CreationTime, Marker};
@@ -84,17 +84,6 @@ fn greatest_window() -> Window {
     window
 }
 
-fn ways_of<'a>(options: &AutoOptions<'a>) -> Ways<'a> {
-    Ways {
-        output: options.output,
-        force: options.force,
-        label: options.label,
-        skip_empty: options.skip_empty,
-        links_as_given: options.links_as_given,
-        report: options.report,
-    }
-}
-
 /// What the options say. The causes are looked for in the order of `BadWords`.
 #[tactic(auto, using(crate::proofs::FaultLineLemmas::has_line))]
 pub(crate) fn auto_words<'a>(
@@ -118,6 +107,9 @@ pub(crate) fn auto_words<'a>(
         marker,
         window: options.window.unwrap_or(greatest_window()),
     };
-    let ways = ways_of(options);
-    Ok(AutoWords { wanted, made, ways })
+    Ok(AutoWords {
+        wanted,
+        made,
+        ways: options.ways,
+    })
 }

@@ -6,8 +6,8 @@ ghost use Rattle.rtk_cli.specs.Words.{AreLinkNames, IsWithinLimits};
 
 use crate::code_list::codes_of;
 use crate::moment_text::{creation_time_of, moment_of};
+use crate::options::ConvertOptions;
 use crate::words::{BadWords, Job, WordsFault};
-use rtk_args::ConvertOptions;
 use rtk_convert::{LinkCount, Reference, Setup};
 use rtk_rinex::{Head, Marker};
 use rtk_streams::STDIN;

@@ -5,7 +5,7 @@
 use crate::arguments::{file_arg, flag_arg, option_arg};
 use crate::auto_command::auto_command;
 use crate::help_texts;
-use crate::label_words::label_command;
+use crate::label_command::label_command;
 use crate::limits::{LEAST_WIDTH, MOST_STEP, MOST_WIDTH};
 use clap::{Arg, ArgAction, ArgGroup, Command, value_parser};
 use rtk_convert::{GREATEST_STATION, LEAST_WINDOW, MOST_WINDOW};
