@@ -11,9 +11,7 @@ use crate::command_line::program_command;
 use crate::convert_words::convert_job;
 use crate::cut_words::part_of;
 use crate::label_words::label_of;
-use crate::option_values::{
-    auto_options, chart_width, convert_options, cut_options, label_options,
-};
+use crate::options::{auto_options, chart_width, convert_options, cut_options, label_options};
 use crate::words::{Job, WordsFault};
 use clap::{ArgMatches, Command};
 use std::alloc::{AllocError, Global};

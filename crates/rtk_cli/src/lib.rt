@@ -37,7 +37,6 @@ mod label_command;
 mod label_words;
 mod limits;
 mod moment_text;
-mod option_values;
 mod options;
 mod refusing;
 mod running;
