@@ -1,8 +1,8 @@
 //! The command line of `label`.
 
-use crate::arguments::{file_arg, flag_arg, option_arg};
+use crate::arguments::{file_arg, option_arg, switch_arg};
 use crate::help_texts;
-use clap::{Arg, ArgAction, ArgGroup, Command};
+use clap::{Arg, ArgGroup, Command};
 use std::alloc::{AllocError, Global};
 
 /// The options that fill a field: the name, what follows it, and what the field is.
@@ -64,7 +64,7 @@ const FIELDS: [(&str, &str, &str); 12] = [
 // All fields are blank: no other option may stand beside it.
 fn blank_arg<'a>(alloc: Global) -> Result<Arg<'a>, AllocError> {
     let help = "No field: the file is again as convert wrote it";
-    let mut blank = flag_arg(alloc, "blank", help).action(ArgAction::SetTrue);
+    let mut blank = switch_arg(alloc, "blank", help);
     for (name, _, _) in FIELDS {
         blank = blank.conflicts_with(name)?;
     }

@@ -2,8 +2,7 @@
 //! yet read.
 //!
 //! clap refuses a number that is out of range, and words that lack what a command needs. Its contracts do
-//! not say this of a value, so all of it is looked at again: `None` is what clap should have refused. All
-//! numbers of the command line have one type, since each further one is costly to check.
+//! not say this of a value, so all of it is looked at again: `None` is what clap should have refused.
 
 ghost use Rattle.std.specs.Prelude.{◌≡◌, ◌+◌, IfSome, MatchOption};
 ghost use Rattle.std.specs.Int.{IsInRange};
