@@ -1,13 +1,12 @@
--- What makes a good head: codes that were found, and the digits of a number.
-use Rattle.std.proofs.Common.{◌≡◌, ◌≢◌, ◌<◌, ◌≤◌, ◌+◌, ℕ, zero, suc, Bool, List, [], ◌∷◌, length, refl, sym, ap, ◌∙◌, arith}
+-- Codes that were found are a list for a head.
+use Rattle.std.proofs.Common.{◌≡◌, ◌≢◌, ◌<◌, ◌≤◌, ◌+◌, ◌==◌, ℕ, zero, suc, Bool, true, false, List, [], ◌∷◌, length, refl, sym, ap, ◌∙◌, eq-eqb, subst, arith}
 use Rattle.std.specs.Prelude.{filter, All, AllPairs, slice_index_or, count_by}
 use Rattle.std.specs.Int.{IsInRange}
 use Rattle.std.proofs.lemmas.List.Kept.{AllPairs-filter}
 use Rattle.std.proofs.lemmas.List.Sums.{length-filter, count_by-le-length}
 use Rattle.rtk_obs.specs.declared.code.Code.{Code}
 use Rattle.rtk_obs.specs.Code.{place_of, all_codes}
-use Rattle.rtk_obs.specs.CivilText.{last_digits}
-use Rattle.rtk_rinex.specs.Header.{IsMarker, IsCodeList}
+use Rattle.rtk_rinex.specs.Header.{IsCodeList}
 
 -- the codes have the places from n on
 abbrev Counted : ℕ → List Code → Type 0
@@ -30,7 +29,7 @@ all-differ i j d lt within same =
     absurd (omega (arith, one, other, places))
 
 -- some of all codes
-pub some-of-all : (p : Code → Bool) → filter p all_codes ≢ [] → IsCodeList (filter p all_codes)
+some-of-all : (p : Code → Bool) → filter p all_codes ≢ [] → IsCodeList (filter p all_codes)
 some-of-all p some = (within (filter p all_codes) some count, AllPairs-filter (λ (a b : Code). a ≢ b) p all_codes all-differ)
   where
     count : length (filter p all_codes) ≤ 16
@@ -39,6 +38,10 @@ some-of-all p some = (within (filter p all_codes) some count, AllPairs-filter (�
     within [] some count = absurd (some refl)
     within (c ∷ cs) some count = omega arith
 
--- the digits of a number
-pub digits-good : (n : ℕ) → IsMarker (last_digits 4 n)
-digits-good n = grind arith
+-- the same, of a list that `is_empty` calls not empty
+pub some-found : (p : Code → Bool) (cs : List Code) (n : ℕ) (b : Bool) → cs ≡ filter p all_codes → n ≡ length cs → b ≡ (n == 0) → b ≡ false → IsCodeList cs
+some-found p cs n b found len is says = subst IsCodeList (sym found) (some-of-all p (λ none. not-empty cs len (found ∙ none)))
+  where
+    not-empty : (cs : List Code) → n ≡ length cs → cs ≢ []
+    not-empty [] len none = let q : true ≡ false = sym (eq-eqb n 0 len) ∙ sym is ∙ says in cc
+    not-empty (c ∷ cs) len none = let q : length (c ∷ cs) ≡ 0 = ap length none in absurd (omega (arith, q))

@@ -5,53 +5,29 @@ ghost use Rattle.std.specs.Option.{ForSome};
 ghost use Rattle.rtk_rinex.specs.Header.{IsCodeList};
 ghost use Rattle.rtk_cli.specs.Words.{IsWordsFault};
 
-use crate::code_list::codes_of;
-use crate::moment_text::{creation_time_of, moment_of};
+use crate::option_texts::{codes_said, made_said, marker_said, moment_if_any, reference_said};
 use crate::options::AutoOptions;
 use crate::words::{AutoWords, BadWords, WordsFault};
 use rtk_auto::{Wanted, is_code_list};
-use rtk_convert::{MOST_WINDOW, Reference, Window};
-use rtk_obs::{Code, GpsMs};
-use rtk_rinex::{CreationTime, Marker};
+use rtk_convert::{MOST_WINDOW, Window};
+use rtk_obs::Code;
 use std::alloc::Global;
 
-// The moment near which dates are, if one is given. Whether times of week can be dated near it is not
-// looked at.
-fn near_if_any(text: Option<&str>) -> Result<Option<GpsMs>, BadWords> {
-    let Some(text) = text else {
-        return Ok(None);
-    };
-    Ok(Some(moment_of(text.as_bytes()).ok_or(BadWords::Near)?))
-}
-
-// The time of making, if one is given.
-fn made_if_any(text: Option<&str>) -> Result<Option<CreationTime>, BadWords> {
-    let Some(text) = text else {
-        return Ok(None);
-    };
-    let made = creation_time_of(text.as_bytes()).ok_or(BadWords::Made)?;
-    Ok(Some(made))
+// What is read of an option, if it is given.
+fn if_given<T: Drop>(read: Option<Result<T, BadWords>>) -> Result<Option<T>, BadWords> {
+    match read {
+        Some(read) => Ok(Some(read?)),
+        None => Ok(None),
+    }
 }
 
 // The codes, if any are given. Whether they are good together is not looked at.
 fn codes_if_any(alloc: Global, text: Option<&str>) -> Result<Option<Vec<Code>>, WordsFault>
     ensures { IfErr result IsWordsFault }
 {
-    let Some(text) = text else {
-        return Ok(None);
-    };
-    let codes = codes_of(alloc, text.as_bytes())?.ok_or(BadWords::Codes)?;
-    Ok(Some(codes))
-}
-
-// The marker, if one is given.
-fn marker_if_any(name: Option<&str>) -> Result<Option<Marker>, BadWords> {
-    let Some(name) = name else {
-        return Ok(None);
-    };
-    match Marker::new(name.as_bytes()) {
-        Ok(marker) => Ok(Some(marker)),
-        Err(_) => Err(BadWords::Marker),
+    match text {
+        Some(text) => Ok(Some(codes_said(alloc, text)?)),
+        None => Ok(None),
     }
 }
 
@@ -62,17 +38,6 @@ fn are_good_codes(codes: &Option<Vec<Code>>) -> bool
     match codes {
         Some(codes) => is_code_list(codes.as_slice()),
         None => true,
-    }
-}
-
-// The reference of a moment, if one is given.
-fn reference_if_any(near: Option<GpsMs>) -> Result<Option<Reference>, BadWords> {
-    let Some(near) = near else {
-        return Ok(None);
-    };
-    match Reference::new(near) {
-        Ok(near) => Ok(Some(near)),
-        Err(_) => Err(BadWords::Near),
     }
 }
 
@@ -92,10 +57,10 @@ pub(crate) fn auto_words<'a>(
 ) -> Result<AutoWords<'a>, WordsFault>
     ensures { IfErr result IsWordsFault }
 {
-    let near = near_if_any(options.near)?;
-    let made = made_if_any(options.made)?;
+    let near = moment_if_any(options.near, BadWords::Near)?;
+    let made = if_given(options.made.map(made_said))?;
     let codes = codes_if_any(alloc, options.codes)?;
-    let marker = marker_if_any(options.marker)?;
+    let marker = if_given(options.marker.map(marker_said))?;
     if !are_good_codes(&codes) {
         return Err(BadWords::Codes.into());
     }
@@ -103,7 +68,7 @@ pub(crate) fn auto_words<'a>(
         station: options.station,
         msm: options.msm,
         codes,
-        near: reference_if_any(near)?,
+        near: if_given(near.map(reference_said))?,
         marker,
         window: options.window.unwrap_or(greatest_window()),
     };

@@ -4,12 +4,11 @@ ghost use Rattle.std.specs.Prelude.{map, IfOk, IfErr, Decides};
 ghost use Rattle.rtk_cli.specs.Steps.ConvertWords.{SaysConversion, RefusesConversion};
 ghost use Rattle.rtk_cli.specs.Words.{AreLinkNames, IsWithinLimits};
 
-use crate::code_list::codes_of;
-use crate::moment_text::{creation_time_of, moment_of};
+use crate::option_texts::{codes_said, made_said, marker_said, moment_said, reference_said};
 use crate::options::ConvertOptions;
 use crate::words::{BadWords, Job, WordsFault};
-use rtk_convert::{LinkCount, Reference, Setup};
-use rtk_rinex::{Head, Marker};
+use rtk_convert::{LinkCount, Setup};
+use rtk_rinex::Head;
 use rtk_streams::STDIN;
 use std::alloc::Global;
 
@@ -25,21 +24,17 @@ pub(crate) fn convert_job<'a>(
     // `OutOfMemory` comes only if memory is refused: tests/system/calls, rows `job of convert ..`.
     ensures refused { IfErr result (RefusesConversion options.now (map (λ link. link.now) links.entry.items)) }
 {
-    let near = moment_of(options.near.as_bytes()).ok_or(BadWords::Near)?;
-    let made = creation_time_of(options.made.as_bytes()).ok_or(BadWords::Made)?;
-    let codes = codes_of(alloc, options.codes.as_bytes())?.ok_or(BadWords::Codes)?;
-    let Ok(marker) = Marker::new(options.marker.as_bytes()) else {
-        return Err(BadWords::Marker.into());
-    };
+    let near = moment_said(options.near, BadWords::Near)?;
+    let made = made_said(options.made)?;
+    let codes = codes_said(alloc, options.codes)?;
+    let marker = marker_said(options.marker)?;
     let Ok(head) = Head::from_parts(marker, codes.as_slice(), made) else {
         return Err(BadWords::Codes.into());
     };
     if !are_links(links.as_slice()) {
         return Err(BadWords::Links.into());
     }
-    let Ok(near) = Reference::new(near) else {
-        return Err(BadWords::Near.into());
-    };
+    let near = reference_said(near)?;
     let setup = Setup::from_parts(options.station, near, head, options.window);
     Ok(Job::Convert {
         setup: setup.with_msm(options.msm),

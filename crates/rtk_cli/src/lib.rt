@@ -37,6 +37,7 @@ mod label_command;
 mod label_words;
 mod limits;
 mod moment_text;
+mod option_texts;
 mod options;
 mod refusing;
 mod running;

@@ -1,8 +1,7 @@
 -- What the words of `convert` say, and why they are refused.
-use Rattle.std.specs.Prelude.{◌≡◌, ◌⊎◌, ℕ, ◌≤◌, List, map}
+use Rattle.std.specs.Prelude.{◌≡◌, ◌⊎◌, ℕ, List, map}
 use Rattle.rtk_obs.specs.Dating.{IsReference}
 use Rattle.rtk_obs.specs.declared.code.Code.{Code}
-use Rattle.rtk_obs.specs.declared.time.TheConstants.{LAST_MS}
 use Rattle.rtk_rinex.specs.Header.{IsMarker, IsCodeList}
 use Rattle.rtk_convert.specs.Setup.{SetupView}
 use Rattle.rtk_cli.specs.declared.options.ConvertOptions.{ConvertOptions}
@@ -11,11 +10,10 @@ use Rattle.rtk_cli.specs.declared.words.BadWords.TheVariants.{Near, Made, Codes,
 use Rattle.rtk_cli.specs.declared.words.Job.{Job}
 use Rattle.rtk_cli.specs.declared.words.Job.TheVariants.{Convert}
 use Rattle.rtk_cli.specs.declared.words.WordsFault.{WordsFault}
-use Rattle.rtk_cli.specs.declared.words.WordsFault.TheVariants.{OutOfMemory}
-use Rattle.rtk_cli.specs.FaultLines.{HasCause}
+use Rattle.rtk_cli.specs.FaultLines.{IsRefusal}
 use Rattle.rtk_cli.specs.Words.{AreLinkNames}
 use Rattle.rtk_cli.specs.Steps.CodeList.{Lists}
-use Rattle.rtk_cli.specs.Steps.MomentText.{WritesMoment}
+use Rattle.rtk_cli.specs.Steps.MomentText.{WritesMoment, HasMoment}
 
 -- formula
 -- the setup is what the options write
@@ -29,10 +27,6 @@ SaysSetup o s =
 abbrev pub SaysConversion : ConvertOptions → List (List ℕ) → Job → Type 0
 SaysConversion o names (Convert setup links) = SaysSetup o setup × (map (λ link. link.now) links.items ≡ names)
 SaysConversion o names _ = ⊥
-
--- the text writes a moment up to the last one that is counted
-abbrev pub HasMoment : List ℕ → Type 0
-HasMoment text = (t : ℕ) × (t ≤ LAST_MS) × WritesMoment text t
 
 -- both times are moments
 abbrev pub HasTimes : ConvertOptions → Type 0
@@ -69,5 +63,4 @@ IsFirstCause o names _ = ⊥
 -- why the words give no conversion: the first cause, by its fault line, or refused memory; no text of
 -- clap's
 abbrev pub RefusesConversion : ConvertOptions → List (List ℕ) → WordsFault → Type 0
-RefusesConversion o names OutOfMemory = Unit {0}
-RefusesConversion o names fault = HasCause (IsFirstCause o names) fault
+RefusesConversion o names = IsRefusal (IsFirstCause o names)
