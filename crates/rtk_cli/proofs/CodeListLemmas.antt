@@ -1,10 +1,10 @@
 -- Lists of codes, read from the front.
-use Rattle.std.proofs.Common.{◌≡◌, ◌≢◌, ℕ, suc, ◌<◌, List, [], ◌∷◌, ◌++◌, length, take, drop, get_or, arith, refl, sym, ap, ◌∙◌, append_assoc, length-append}
+use Rattle.std.proofs.Common.{◌≡◌, ◌≢◌, ℕ, suc, ◌<◌, List, [], ◌∷◌, ◌++◌, length, take, drop, get_or, arith, refl, sym, ap, ◌∙◌, append_assoc, length-append, subst}
 use Rattle.std.proofs.Math.Seq.{take-append_seam, drop-append_seam}
 use Rattle.rtk_obs.specs.declared.code.Code.{Code}
 use Rattle.rtk_obs.specs.declared.code.Code.TheVariants.{G1C, G1P, G1W, G1S, G1L, G1X, G2C, G2D, G2P, G2W, G2S, G2L, G2X, G5I, G5Q, G5X}
 use Rattle.rtk_obs.specs.Code.{name_of}
-use Rattle.rtk_cli.specs.Steps.CodeList.{comma_names}
+use Rattle.rtk_cli.specs.Steps.CodeList.{comma_names, Lists}
 
 two-characters : (c : Code) → length (name_of c) ≡ 2
 two-characters G1C = refl
@@ -63,3 +63,7 @@ first-comma (c ∷ more) x xs e = ap (λ (t : List ℕ). get_or t 0 0) e
 pub no-other : (rest after next : List ℕ) (x : ℕ) → after ≡ drop 2 rest → after ≡ x ∷ next → x ≢ 44 → Next rest → ⊥
 no-other rest after next x e first other n =
     other (first-comma n.more x next (sym first ∙ e ∙ ap (λ (t : List ℕ). drop 2 t) n.split ∙ drop-name n.code (comma_names n.more)))
+
+-- a text that is the same lists no codes either
+pub no-list : (written text : List ℕ) → text ≡ written → ((listed : List Code) → ¬ (Lists text listed)) → (listed : List Code) → ¬ (Lists written listed)
+no-list written text same none listed lists = none listed (subst (λ (x : List ℕ). Lists x listed) (sym same) lists)

@@ -3,7 +3,7 @@ use Rattle.std.proofs.Common.{◌≡◌, ℕ, ◌+◌, ◌*◌, ◌/◌, ◌%◌
 use Rattle.rtk_obs.specs.declared.time.TheConstants.{LAST_MS}
 use Rattle.rtk_obs.specs.Calendar.{ReadsAs}
 use Rattle.rtk_obs.specs.declared.time.Civil.{Civil}
-use Rattle.rtk_cli.specs.Steps.MomentText.{moment_text, HasDigits, WritesMoment}
+use Rattle.rtk_cli.specs.Steps.MomentText.{moment_text, HasDigits, WritesMoment, HasMoment}
 
 -- what two digits are read as
 abbrev pub IsRead : ℕ → ℕ → ℕ → Type 0
@@ -62,3 +62,7 @@ pub writes : (o : Option ℕ) (text : List ℕ) (r : Civil) → HasDigits r → 
     → MatchOption o ((t : ℕ) → t ≤ LAST_MS → ¬ (WritesMoment text t)) (λ t. WritesMoment text t)
 writes None text r h e none = λ t late w. none t late (written-once text r h e t w)
 writes (Some t) text r h e reads = (r, reads, h, e)
+
+-- a text that is the same writes no moment either
+pub no-moment : (written text : List ℕ) → text ≡ written → ((t : ℕ) → t ≤ LAST_MS → ¬ (WritesMoment text t)) → ¬ (HasMoment written)
+no-moment written text same none (t, within, writes) = none t within (subst (λ (x : List ℕ). WritesMoment x t) (sym same) writes)

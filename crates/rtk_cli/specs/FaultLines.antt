@@ -4,7 +4,7 @@ use Rattle.rtk_label.specs.declared.label_fault.LabelFault.TheVariants.{RunBy, M
 use Rattle.rtk_cli.specs.declared.words.BadWords.{BadWords}
 use Rattle.rtk_cli.specs.declared.words.BadWords.TheVariants.{Near, Made, Codes, Marker, Links, From, Until, Field}
 use Rattle.rtk_cli.specs.declared.words.WordsFault.{WordsFault}
-use Rattle.rtk_cli.specs.declared.words.WordsFault.TheVariants.{Bad}
+use Rattle.rtk_cli.specs.declared.words.WordsFault.TheVariants.{Bad, OutOfMemory}
 
 -- table
 -- the fault line of a cause (this project's rule)
@@ -37,3 +37,8 @@ TellsCause cause _ = ⊥
 -- the words are refused by the fault line of a cause that there is
 abbrev pub HasCause : (BadWords → Type 0) → WordsFault → Type 0
 HasCause IsCause fault = (cause : BadWords) × IsCause cause × TellsCause cause fault
+
+-- the same, or memory was refused
+abbrev pub IsRefusal : (BadWords → Type 0) → WordsFault → Type 0
+IsRefusal IsCause OutOfMemory = Unit {0}
+IsRefusal IsCause fault = HasCause IsCause fault

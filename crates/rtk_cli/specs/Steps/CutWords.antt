@@ -1,24 +1,10 @@
 -- What the words of `cut` say, and why they are refused.
-use Rattle.std.specs.Prelude.{◌≡◌, ◌<◌, ◌⊎◌, ℕ, List, Option, None, Some}
-use Rattle.std.specs.Borrow.{Bor}
+use Rattle.std.specs.Prelude.{◌≡◌, ◌<◌, ◌⊎◌, ℕ, Option, Some}
 use Rattle.rtk_cut.specs.declared.part.Part.{Part}
-use Rattle.rtk_args.specs.declared.options.CutOptions.{CutOptions}
+use Rattle.rtk_cli.specs.declared.options.CutOptions.{CutOptions}
 use Rattle.rtk_cli.specs.declared.words.BadWords.{BadWords}
 use Rattle.rtk_cli.specs.declared.words.BadWords.TheVariants.{From, Until}
-use Rattle.rtk_cli.specs.Steps.ConvertWords.{HasMoment}
-use Rattle.rtk_cli.specs.Steps.MomentText.{WritesMoment}
-
--- the option's text writes this moment; without the option there is none
-abbrev pub SaysMomentOrNone : Option (Bor (List ℕ)) → Option ℕ → Type 0
-SaysMomentOrNone None None = Unit {0}
-SaysMomentOrNone None (Some t) = ⊥
-SaysMomentOrNone (Some text) None = ⊥
-SaysMomentOrNone (Some text) (Some t) = WritesMoment text.now t
-
--- the option is there, and its text writes no moment
-abbrev pub HasNoMoment : Option (Bor (List ℕ)) → Type 0
-HasNoMoment None = ⊥
-HasNoMoment (Some text) = ¬ (HasMoment text.now)
+use Rattle.rtk_cli.specs.Steps.MomentText.{SaysMomentOrNone, HasNoMoment}
 
 -- both moments are there, and the first one is after the second one
 abbrev pub IsAfter : Option ℕ → Option ℕ → Type 0

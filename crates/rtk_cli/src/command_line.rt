@@ -2,14 +2,14 @@
 //!
 //! clap is the costly part of the proof, so its command is built here alone, in small functions.
 
-use crate::arguments::{file_arg, flag_arg, option_arg};
+use crate::arguments::{
+    file_arg, marker_arg, msm_arg, number_arg, option_arg, station_arg, switch_arg, window_arg,
+};
 use crate::auto_command::auto_command;
 use crate::help_texts;
-use crate::label_words::label_command;
-use crate::limits::{
-    GREATEST_STATION, LEAST_WIDTH, LEAST_WINDOW, MOST_STEP, MOST_WIDTH, MOST_WINDOW,
-};
-use clap::{Arg, ArgAction, ArgGroup, Command, value_parser};
+use crate::label_command::label_command;
+use crate::limits::{LEAST_WIDTH, MOST_STEP, MOST_WIDTH};
+use clap::{Arg, ArgAction, ArgGroup, Command};
 use std::alloc::{AllocError, Global};
 
 /// The name of the program in its texts; no word gives it.
@@ -24,15 +24,11 @@ const WINDOW: &str = "64";
 /// The MSM if none is given: 1074.
 const MSM: &str = "4";
 
-fn hex_arg<'a>(alloc: Global) -> Arg<'a> {
-    flag_arg(alloc, "hex", "The capture is hex text").action(ArgAction::SetTrue)
-}
-
 fn show_command<'a>(alloc: Global) -> Result<Command<'a>, AllocError> {
     Command::new(alloc, "show")
         .about("Shows the messages of a capture, a line for each frame")
         .after_long_help(help_texts::SHOW)
-        .arg(hex_arg(alloc))?
+        .arg(switch_arg(alloc, "hex", "The capture is hex text"))?
         .arg(file_arg(alloc, "The capture, or stdin for standard input"))
 }
 
@@ -50,65 +46,32 @@ fn summary_command<'a>(alloc: Global) -> Result<Command<'a>, AllocError> {
         .arg(file_arg(alloc, "The capture, or stdin for standard input"))
 }
 
-fn text_arg<'a>(alloc: Global) -> Arg<'a> {
-    flag_arg(alloc, "text", "A picture in characters").action(ArgAction::SetTrue)
-}
-
 fn columns_arg<'a>(alloc: Global) -> Result<Arg<'a>, AllocError> {
     let help = "How many characters wide it is with --text, 40 to 400; 80 if not given";
-    option_arg(alloc, "columns", "N", help)
-        .value_parser(value_parser!(u32).range(i64::from(LEAST_WIDTH)..=i64::from(MOST_WIDTH)))
-        .requires_arg("text")
+    let range = i64::from(LEAST_WIDTH)..=i64::from(MOST_WIDTH);
+    number_arg(alloc, "columns", range, help).requires_arg("text")
 }
 
 fn chart_command<'a>(alloc: Global) -> Result<Command<'a>, AllocError> {
     Command::new(alloc, "chart")
         .about("Draws a file: its satellites along its time, with slips and gaps")
         .after_long_help(help_texts::CHART)
-        .arg(text_arg(alloc))?
+        .arg(switch_arg(alloc, "text", "A picture in characters"))?
         .arg(columns_arg(alloc)?)?
         .arg(file_arg(alloc, "The file, or stdin for standard input"))
 }
 
-fn json_arg<'a>(alloc: Global) -> Arg<'a> {
-    flag_arg(alloc, "json", "One JSON document in place of lines").action(ArgAction::SetTrue)
-}
-
 fn quality_command<'a>(alloc: Global) -> Result<Command<'a>, AllocError> {
+    let json = "One JSON document in place of lines";
     Command::new(alloc, "quality")
         .about("Tells the numbers of a file: phases, slips, strengths and passes")
         .after_long_help(help_texts::QUALITY)
-        .arg(json_arg(alloc))?
+        .arg(switch_arg(alloc, "json", json))?
         .arg(file_arg(alloc, "The file, or stdin for standard input"))
 }
 
 fn required_arg<'a>(alloc: Global, name: &'a str, value: &'a str, help: &'a str) -> Arg<'a> {
     option_arg(alloc, name, value, help).required(true)
-}
-
-fn station_arg<'a>(alloc: Global) -> Arg<'a> {
-    let help = "The reference station, 0 to 4095, as 2003";
-    required_arg(alloc, "station", "N", help).value_parser(value_parser!(u32).range(
-        0..=i64::from(GREATEST_STATION),
-    ))
-}
-
-fn marker_arg<'a>(alloc: Global) -> Arg<'a> {
-    required_arg(alloc, "marker", "NAME", "The marker's name, as BASE").allow_hyphen_values(true)
-}
-
-fn window_arg<'a>(alloc: Global) -> Arg<'a> {
-    let help = "How many epochs are kept open, 2 to 4096, as 600";
-    option_arg(alloc, "window", "N", help)
-        .default_value(WINDOW)
-        .value_parser(value_parser!(u32).range(i64::from(LEAST_WINDOW)..=i64::from(MOST_WINDOW)))
-}
-
-fn msm_arg<'a>(alloc: Global) -> Arg<'a> {
-    let help = "Which MSM is converted beside 1004: 4 is 1074, 5 is 1075, 6 is 1076, 7 is 1077";
-    option_arg(alloc, "msm", "N", help)
-        .default_value(MSM)
-        .value_parser(value_parser!(u32).range(4..=7))
 }
 
 fn links_arg<'a>(alloc: Global) -> Arg<'a> {
@@ -121,9 +84,7 @@ fn links_arg<'a>(alloc: Global) -> Arg<'a> {
 
 fn every_arg<'a>(alloc: Global) -> Arg<'a> {
     let help = "Records at whole multiples of this step are kept, 1 to 86400";
-    option_arg(alloc, "every", "SECONDS", help).value_parser(value_parser!(u32).range(
-        1..=i64::from(MOST_STEP),
-    ))
+    number_arg(alloc, "every", 1..=i64::from(MOST_STEP), help).value_name("SECONDS")
 }
 
 // One of the options of `cut` must be given.
@@ -148,23 +109,27 @@ fn cut_command<'a>(alloc: Global) -> Result<Command<'a>, AllocError> {
 // `convert` with its first options. Its arguments stand in two functions, since the check of one that
 // adds them all takes long.
 fn convert_with_times<'a>(alloc: Global) -> Result<Command<'a>, AllocError> {
+    let station = "The reference station, 0 to 4095, as 2003";
     let near = "A GPS time within half a week of all messages, as 2024-05-17T12:00:00";
     let made = "The UTC time of making that the file shows, as 2024-05-17T13:00:00";
     Command::new(alloc, "convert")
         .about("Converts captures of one station to a RINEX 3.05 observation file")
         .after_long_help(help_texts::CONVERT)
-        .arg(station_arg(alloc))?
+        .arg(station_arg(alloc, station).required(true))?
         .arg(required_arg(alloc, "near", "T", near))?
         .arg(required_arg(alloc, "made", "T", made))
 }
 
 fn convert_command<'a>(alloc: Global) -> Result<Command<'a>, AllocError> {
+    let marker = "The marker's name, as BASE";
     let codes = "The observation codes, as 1C,2W";
+    let window = "How many epochs are kept open, 2 to 4096, as 600";
+    let msm = "Which MSM is converted beside 1004: 4 is 1074, 5 is 1075, 6 is 1076, 7 is 1077";
     convert_with_times(alloc)?
-        .arg(marker_arg(alloc))?
+        .arg(marker_arg(alloc, marker).required(true))?
         .arg(required_arg(alloc, "codes", "LIST", codes))?
-        .arg(window_arg(alloc))?
-        .arg(msm_arg(alloc))?
+        .arg(window_arg(alloc, window).default_value(WINDOW))?
+        .arg(msm_arg(alloc, msm).default_value(MSM))?
         .arg(links_arg(alloc))
 }
 

@@ -2,11 +2,10 @@
 //!
 //! Its arguments stand in several functions, since the check of one that adds them all takes long.
 
-use crate::arguments::{flag_arg, option_arg};
+use crate::arguments::{marker_arg, msm_arg, option_arg, station_arg, switch_arg, window_arg};
 use crate::help_texts;
-use crate::limits::{GREATEST_STATION, LEAST_WINDOW, MOST_WINDOW};
 use clap::builder::ValueParser;
-use clap::{Arg, ArgAction, Command, value_parser};
+use clap::{Arg, ArgAction, Command};
 use std::alloc::{AllocError, Global};
 
 fn captures_arg<'a>(alloc: Global) -> Arg<'a> {
@@ -15,10 +14,6 @@ fn captures_arg<'a>(alloc: Global) -> Arg<'a> {
         .required(true)
         .action(ArgAction::Append)
         .num_args(1..)
-}
-
-fn switch_arg<'a>(alloc: Global, name: &'a str, help: &'a str) -> Arg<'a> {
-    flag_arg(alloc, name, help).action(ArgAction::SetTrue)
 }
 
 fn output_arg<'a>(alloc: Global) -> Arg<'a> {
@@ -41,67 +36,35 @@ fn label_arg<'a>(alloc: Global) -> Result<Arg<'a>, AllocError> {
     switch_arg(alloc, "label", help).requires_arg("output")
 }
 
-fn station_arg<'a>(alloc: Global) -> Arg<'a> {
-    let help = "The reference station, if there are several";
-    option_arg(alloc, "station", "N", help).value_parser(value_parser!(u32).range(
-        0..=i64::from(GREATEST_STATION),
-    ))
-}
-
-fn msm_arg<'a>(alloc: Global) -> Arg<'a> {
-    let help = "Which MSM is converted beside 1004, 4 to 7";
-    option_arg(alloc, "msm", "N", help).value_parser(value_parser!(u32).range(4..=7))
-}
-
-fn window_arg<'a>(alloc: Global) -> Arg<'a> {
-    let help = "How many epochs are kept open, 2 to 4096; 4096 if not given";
-    option_arg(alloc, "window", "N", help).value_parser(value_parser!(u32).range(
-        i64::from(LEAST_WINDOW)..=i64::from(MOST_WINDOW),
-    ))
-}
-
-fn near_arg<'a>(alloc: Global) -> Arg<'a> {
-    let help = "A GPS time within half a week of the captures, if they don't tell one";
-    option_arg(alloc, "near", "T", help)
-}
-
-fn made_arg<'a>(alloc: Global) -> Arg<'a> {
-    let help = "The UTC time of making that the file shows; now if not given";
-    option_arg(alloc, "made", "T", help)
-}
-
-fn marker_arg<'a>(alloc: Global) -> Arg<'a> {
-    let help = "The marker's name; the station's number if not given";
-    option_arg(alloc, "marker", "NAME", help).allow_hyphen_values(true)
-}
-
-fn codes_arg<'a>(alloc: Global) -> Arg<'a> {
-    let help = "The observation codes; all that have a value if not given";
-    option_arg(alloc, "codes", "LIST", help)
-}
-
 fn auto_alone<'a>(alloc: Global) -> Result<Command<'a>, AllocError> {
+    let marker = "The marker's name; the station's number if not given";
     Command::new(alloc, "auto")
         .about("Converts captures of one station; finds the options of convert in them")
         .after_long_help(help_texts::AUTO)
         .arg(output_arg(alloc))?
         .arg(force_arg(alloc))?
         .arg(label_arg(alloc)?)?
-        .arg(marker_arg(alloc))
+        .arg(marker_arg(alloc, marker))
 }
 
 fn auto_with_times<'a>(alloc: Global) -> Result<Command<'a>, AllocError> {
+    let near = "A GPS time within half a week of the captures, if they don't tell one";
+    let made = "The UTC time of making that the file shows; now if not given";
+    let station = "The reference station, if there are several";
     auto_alone(alloc)?
-        .arg(near_arg(alloc))?
-        .arg(made_arg(alloc))?
-        .arg(station_arg(alloc))
+        .arg(option_arg(alloc, "near", "T", near))?
+        .arg(option_arg(alloc, "made", "T", made))?
+        .arg(station_arg(alloc, station))
 }
 
 fn auto_with_values<'a>(alloc: Global) -> Result<Command<'a>, AllocError> {
+    let codes = "The observation codes; all that have a value if not given";
+    let msm = "Which MSM is converted beside 1004, 4 to 7";
+    let window = "How many epochs are kept open, 2 to 4096; 4096 if not given";
     auto_with_times(alloc)?
-        .arg(codes_arg(alloc))?
-        .arg(msm_arg(alloc))?
-        .arg(window_arg(alloc))
+        .arg(option_arg(alloc, "codes", "LIST", codes))?
+        .arg(msm_arg(alloc, msm))?
+        .arg(window_arg(alloc, window))
 }
 
 /// The command `auto`.

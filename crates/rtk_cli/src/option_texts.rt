@@ -1,0 +1,89 @@
+//! What the texts of options say: each by one call, which answers the cause if the words are refused.
+
+ghost use Rattle.std.specs.Prelude.{◌≡◌, ◌%◌, ◌≤◌, List, IfOk, IfErr};
+ghost use Rattle.rtk_obs.specs.Dating.{IsReference};
+ghost use Rattle.rtk_obs.specs.declared.code.Code.{Code};
+ghost use Rattle.rtk_obs.specs.declared.time.TheConstants.{LAST_MS};
+ghost use Rattle.rtk_rinex.specs.Header.{IsMarker};
+ghost use Rattle.rtk_cli.specs.FaultLines.{IsRefusal};
+ghost use Rattle.rtk_cli.specs.Steps.CodeList.{Lists};
+ghost use Rattle.rtk_cli.specs.Steps.MomentText.{WritesMoment, HasMoment, SaysMomentOrNone, HasNoMoment};
+
+use crate::code_list::codes_of;
+use crate::moment_text::moment_of;
+use crate::words::{BadWords, WordsFault};
+use rtk_convert::Reference;
+use rtk_obs::{Code, GpsMs};
+use rtk_rinex::{CreationTime, Marker};
+use std::alloc::Global;
+
+/// The moment that a text writes, else this cause.
+pub(crate) fn moment_said(text: &str, cause: BadWords) -> Result<GpsMs, BadWords>
+    ensures moment { IfOk result (WritesMoment text.now) }
+    ensures bound { IfOk result (λ t. t ≤ LAST_MS) }
+    ensures whole_second { IfOk result (λ t. t % 1000 ≡ 0) }
+    ensures cause { IfErr result (λ told. (told ≡ cause) × ¬ (HasMoment text.now)) }
+{
+    match moment_of(text.as_bytes()) {
+        Some(moment) => Ok(moment),
+        None => Err(cause),
+    }
+}
+
+/// The moment that a text writes, or none without a text; else this cause.
+pub(crate) fn moment_if_any(text: Option<&str>, cause: BadWords) -> Result<Option<GpsMs>, BadWords>
+    ensures moment { IfOk result (SaysMomentOrNone text.entry) }
+    ensures cause { IfErr result (λ told. (told ≡ cause) × HasNoMoment text.entry) }
+{
+    match text {
+        Some(text) => Ok(Some(moment_said(text, cause)?)),
+        None => Ok(None),
+    }
+}
+
+/// The time of making that a text writes.
+pub(crate) fn made_said(text: &str) -> Result<CreationTime, BadWords>
+    ensures moment { IfOk result (WritesMoment text.now) }
+    ensures bound { IfOk result (λ t. t ≤ LAST_MS) }
+    ensures cause { IfErr result (λ told. (told ≡ BadWords.Made) × ¬ (HasMoment text.now)) }
+{
+    let moment = moment_said(text, BadWords::Made)?;
+    let Ok(made) = CreationTime::new(moment) else {
+        unreachable!();
+    };
+    Ok(made)
+}
+
+/// The codes that a text lists; a code may stand twice.
+pub(crate) fn codes_said(alloc: Global, text: &str) -> Result<Vec<Code>, WordsFault>
+    ensures listed { IfOk result (λ codes. Lists text.now codes.items) }
+    // `OutOfMemory` comes only if memory is refused: tests/system/calls, rows `job of convert ..`.
+    ensures refused { IfErr result (IsRefusal (λ cause. (cause ≡ BadWords.Codes) × ((listed : List Code) → ¬ (Lists text.now listed)))) }
+{
+    match codes_of(alloc, text.as_bytes())? {
+        Some(codes) => Ok(codes),
+        None => Err(BadWords::Codes.into()),
+    }
+}
+
+/// The marker that a text names.
+pub(crate) fn marker_said(text: &str) -> Result<Marker, BadWords>
+    ensures marker { IfOk result (λ marker. marker ≡ text.now) }
+    ensures cause { IfErr result (λ told. (told ≡ BadWords.Marker) × ¬ (IsMarker text.now)) }
+{
+    match Marker::new(text.as_bytes()) {
+        Ok(marker) => Ok(marker),
+        Err(_) => Err(BadWords::Marker),
+    }
+}
+
+/// The reference of a moment.
+pub(crate) fn reference_said(moment: GpsMs) -> Result<Reference, BadWords>
+    ensures near { IfOk result (λ near. near ≡ moment) }
+    ensures cause { IfErr result (λ told. (told ≡ BadWords.Near) × ¬ (IsReference moment)) }
+{
+    match Reference::new(moment) {
+        Ok(near) => Ok(near),
+        Err(_) => Err(BadWords::Near),
+    }
+}
