@@ -7,7 +7,7 @@ use Rattle.std.specs.Prelude.{filter, if◌then◌else◌}
 use Rattle.std.specs.List.{range_with_len}
 use Rattle.std.specs.declared.vec.Vec.{Vec}
 use Rattle.rtk_message.specs.declared.any_fault.AnyFault.{AnyFault}
-use Rattle.rtk_dates.specs.declared.placing.Placed.{Placed}
+use Rattle.rtk_survey.specs.declared.placing.Placed.{Placed}
 use Rattle.rtk_find.specs.Dating.{is_out_of_reach}
 use Rattle.rtk_find.specs.declared.capture_found.CaptureFound.{CaptureFound}
 use Rattle.rtk_find.specs.declared.joining.Ordered.{Ordered}

@@ -4,13 +4,13 @@ use Rattle.std.specs.List.{list_any}
 use Rattle.std.specs.Option.{option_map_or}
 use Rattle.rtk_obs.specs.Dating.{IsReference}
 use Rattle.rtk_obs.specs.declared.time.TheConstants.{LAST_MS}
-use Rattle.rtk_summary.specs.ReadFrames.{ReadFrame}
+use Rattle.rtk_survey.specs.ReadFrames.{ReadFrame}
 use Rattle.rtk_summary.specs.Standing.{StandsForFrames}
-use Rattle.rtk_dates.specs.Placing.{second_of}
-use Rattle.rtk_dates.specs.Telling.{half_week_ms}
-use Rattle.rtk_dates.specs.declared.date_message.DateMessage.{DateMessage}
-use Rattle.rtk_dates.specs.declared.date_message.DateMessage.TheVariants.{Utc, Ephemeris}
-use Rattle.rtk_dates.specs.declared.placing.Placed.{Placed}
+use Rattle.rtk_survey.specs.Placing.{second_of}
+use Rattle.rtk_survey.specs.Telling.{half_week_ms}
+use Rattle.rtk_survey.specs.declared.date_message.DateMessage.{DateMessage}
+use Rattle.rtk_survey.specs.declared.date_message.DateMessage.TheVariants.{Utc, Ephemeris}
+use Rattle.rtk_survey.specs.declared.placing.Placed.{Placed}
 use Rattle.rtk_find.specs.ChosenStation.{IsMarked, AreSeveralMarked}
 use Rattle.rtk_find.specs.Dating.{least_of_captures, placed_if_any, reach_after}
 use Rattle.rtk_find.specs.declared.capture_found.CaptureFound.{CaptureFound}

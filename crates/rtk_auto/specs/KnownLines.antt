@@ -1,8 +1,8 @@
 -- What a person should know of a conversion that is done (this project's rule).
 use Rattle.std.specs.Prelude.{ℕ, ◌==◌, List, [], ◌++◌, Option, None, Some, codes, decimal, if◌then◌else◌}
-use Rattle.rtk_dates.specs.Placing.{placed}
-use Rattle.rtk_dates.specs.declared.span.Span.{Span}
-use Rattle.rtk_dates.specs.declared.tellings.Told.{Told}
+use Rattle.rtk_survey.specs.Placing.{placed}
+use Rattle.rtk_survey.specs.declared.span.Span.{Span}
+use Rattle.rtk_survey.specs.declared.tellings.Told.{Told}
 use Rattle.rtk_auto.specs.declared.known_lines.Known.{Known}
 
 -- what a capture with these epochs tells of its first one, if a conversion near this moment dates it

@@ -1,7 +1,7 @@
 -- The command of `label` that fits what messages told of a station, as sh takes it (this project's rule).
 use Rattle.std.specs.Prelude.{ℕ, ◌==◌, List, [], ◌∷◌, ◌++◌, length, codes, Option, None, Some, if◌then◌else◌}
 use Rattle.std.specs.Borrow.{Bor}
-use Rattle.rtk_equipment.specs.declared.equipment.Equipment.{Equipment}
+use Rattle.rtk_survey.specs.declared.equipment.Equipment.{Equipment}
 use Rattle.rtk_label.specs.Labelled.{LabelView}
 use Rattle.rtk_message.specs.ShellText.{sh_quoted}
 use Rattle.rtk_auto.specs.SaidCommand.{word_text}

@@ -3,7 +3,7 @@
 use Rattle.std.specs.Prelude.{◌≡◌, ℕ, ◌==◌, Bool, true, false, not, List, [], ◌∷◌, length, map, filter, Option, if◌then◌else◌}
 use Rattle.std.specs.List.{range_with_len}
 use Rattle.std.specs.declared.vec.Vec.{Vec}
-use Rattle.rtk_dates.specs.declared.placing.Placed.{Placed}
+use Rattle.rtk_survey.specs.declared.placing.Placed.{Placed}
 use Rattle.rtk_find.specs.Joining.{in_order, links_of}
 use Rattle.rtk_find.specs.declared.capture_found.CaptureFound.{CaptureFound}
 use Rattle.rtk_find.specs.declared.joining.Ordered.{Ordered}

@@ -7,11 +7,11 @@ use Rattle.rtk_message.specs.declared.msm_kind.MsmKind.{MsmKind}
 use Rattle.rtk_message.specs.declared.msm_kind.MsmKind.TheVariants.{Msm4, Msm5, Msm6, Msm7}
 use Rattle.rtk_message.specs.Systems.{number_of_kind}
 use Rattle.rtk_message.specs.ShellText.{sh_quoted}
-use Rattle.rtk_summary.specs.Counting.{count_of}
-use Rattle.rtk_summary.specs.Tracing.{is_numbered, is_other}
-use Rattle.rtk_summary.specs.Look.{look_name}
-use Rattle.rtk_summary.specs.declared.look.Look.{Look}
-use Rattle.rtk_summary.specs.declared.look.Look.TheVariants.{Unknown, Empty}
+use Rattle.rtk_survey.specs.Counting.{count_of}
+use Rattle.rtk_survey.specs.Tracing.{is_numbered, is_other}
+use Rattle.rtk_survey.specs.Look.{look_name}
+use Rattle.rtk_survey.specs.declared.look.Look.{Look}
+use Rattle.rtk_survey.specs.declared.look.Look.TheVariants.{Unknown, Empty}
 
 abbrev pub line_end : List ℕ
 line_end = 10 ∷ []

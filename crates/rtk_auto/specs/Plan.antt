@@ -6,12 +6,12 @@ use Rattle.rtk_obs.specs.declared.code.Code.{Code}
 use Rattle.rtk_obs.specs.Code.{all_codes}
 use Rattle.rtk_obs.specs.CivilText.{last_digits}
 use Rattle.rtk_convert.specs.Setup.{SetupView}
-use Rattle.rtk_summary.specs.Proposal.{epochs_with_value, entries_with, proposed}
-use Rattle.rtk_summary.specs.ReadFrames.{ReadFrame, messages_in, messages_from}
+use Rattle.rtk_survey.specs.Proposal.{epochs_with_value, entries_with, proposed}
+use Rattle.rtk_survey.specs.ReadFrames.{ReadFrame, messages_in, messages_from}
 use Rattle.rtk_summary.specs.Standing.{StandsForFrames}
-use Rattle.rtk_summary.specs.Tracing.{has_code}
-use Rattle.rtk_dates.specs.Placing.{second_of}
-use Rattle.rtk_dates.specs.declared.placing.Placed.{Placed}
+use Rattle.rtk_survey.specs.Tracing.{has_code}
+use Rattle.rtk_survey.specs.Placing.{second_of}
+use Rattle.rtk_survey.specs.declared.placing.Placed.{Placed}
 use Rattle.rtk_find.specs.ChosenStation.{IsMarked, IsOnlyMarked}
 use Rattle.rtk_find.specs.Dating.{least_of_captures, placed_if_any, reach_after, is_out_of_reach}
 use Rattle.rtk_find.specs.declared.capture_found.CaptureFound.{CaptureFound}

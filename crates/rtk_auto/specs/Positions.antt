@@ -3,7 +3,7 @@ use Rattle.std.specs.Prelude.{ℕ, Bool, false, List, map, Option, None, Some, c
 use Rattle.std.specs.List.{list_any}
 use Rattle.rtk_find.specs.Points.{are_far}
 use Rattle.rtk_find.specs.declared.capture_found.CaptureFound.{CaptureFound}
-use Rattle.rtk_find.specs.declared.heard.ReferencePoint.{ReferencePoint}
+use Rattle.rtk_survey.specs.declared.reference_point.ReferencePoint.{ReferencePoint}
 use Rattle.rtk_auto.specs.Kept.{has_something_of}
 
 -- the reference point of the station in a capture: that of its first 1005 or 1006, if one came

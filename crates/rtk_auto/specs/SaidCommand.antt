@@ -7,7 +7,7 @@ use Rattle.rtk_message.specs.ShellText.{sh_quoted}
 use Rattle.rtk_obs.specs.CivilText.{date_text, clock_text}
 use Rattle.rtk_rinex.specs.Header.{HeadView}
 use Rattle.rtk_rinex.specs.Reading.{reading_of}
-use Rattle.rtk_summary.specs.SummaryText.{joined_names, msm_option}
+use Rattle.rtk_survey.specs.SummaryText.{joined_names, msm_option}
 use Rattle.rtk_convert.specs.Setup.{SetupView}
 
 -- formula

@@ -1,8 +1,8 @@
 -- The line that tells the epochs of the station, and by what they are dated (this project's rule).
 use Rattle.std.specs.Prelude.{ℕ, ◌+◌, ◌-◌, ◌*◌, nat_lt, List, [], ◌∷◌, ◌++◌, codes, decimal, if◌then◌else◌}
 use Rattle.rtk_message.specs.Fields.{week_ms}
-use Rattle.rtk_dates.specs.declared.date_message.DateMessage.{DateMessage}
-use Rattle.rtk_dates.specs.declared.date_message.DateMessage.TheVariants.{Utc, Ephemeris}
+use Rattle.rtk_survey.specs.declared.date_message.DateMessage.{DateMessage}
+use Rattle.rtk_survey.specs.declared.date_message.DateMessage.TheVariants.{Utc, Ephemeris}
 use Rattle.rtk_obs.specs.CivilText.{date_text}
 use Rattle.rtk_obs.specs.declared.time.TheConstants.{LAST_MS}
 use Rattle.rtk_rinex.specs.Reading.{reading_of}

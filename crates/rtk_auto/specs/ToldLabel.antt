@@ -2,7 +2,7 @@
 use Rattle.std.specs.Prelude.{ℕ, ◌-◌, ◌==◌, Bool, false, not, ◌&&◌, ◌||◌, nat_eq, nat_le, nat_lt, List, [], length, get_or, codes, Option, None, Some, if◌then◌else◌}
 use Rattle.std.specs.List.{list_all, starts_with}
 use Rattle.arrayvec.specs.ArrayVec.{ArrayVec}
-use Rattle.rtk_equipment.specs.declared.equipment.Equipment.{Equipment}
+use Rattle.rtk_survey.specs.declared.equipment.Equipment.{Equipment}
 use Rattle.rtk_label.specs.Labelled.{LabelView}
 
 -- constant

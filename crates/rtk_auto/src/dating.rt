@@ -6,18 +6,18 @@ ghost use Rattle.rtk_auto.specs.Causes.{IfRefused, IsReachCause, IsDatingCause, 
 ghost use Rattle.rtk_auto.specs.Plan.{IsBaseOf, IsReachOf, IsNearOf, ArePlaced, some_out_of_reach};
 ghost use Rattle.rtk_find.specs.Dating.{placed_if_any};
 ghost use Rattle.rtk_obs.specs.declared.time.TheConstants.{LAST_MS};
-ghost use Rattle.rtk_dates.specs.Placing.{second_of};
-ghost use Rattle.rtk_dates.specs.declared.placing.Placed.{Placed};
+ghost use Rattle.rtk_survey.specs.Placing.{second_of};
+ghost use Rattle.rtk_survey.specs.declared.placing.Placed.{Placed};
 
 use crate::captured::Captured;
 use crate::refusal::{PlanFault, Refusal, refused};
 use crate::span_line::{DateSource, DatedSpan};
 use rtk_convert::Reference;
-use rtk_dates::{DateMessage, Placed};
 use rtk_find::{
     Base, CaptureFound, is_out_of_reach, least_told, near_of, place_captures, reach_of,
 };
 use rtk_obs::{GpsMs, HALF_WEEK_MS};
+use rtk_survey::{DateMessage, Placed};
 use std::alloc::Global;
 
 /// The epochs of captures with their dates.

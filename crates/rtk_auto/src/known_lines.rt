@@ -8,9 +8,9 @@ use crate::lists::{put_capture_line, put_date_line, put_msms, put_name_line, put
 use crate::planning::Plan;
 use crate::positions::put_no_position;
 use rtk_convert::{Counts, Setup};
-use rtk_dates::{CaptureEpochs, Span, Told, place};
 use rtk_message::put_named;
 use rtk_obs::GpsMs;
+use rtk_survey::{CaptureEpochs, Span, Told, place};
 use std::alloc::{AllocError, Global};
 
 // What a capture with these epochs tells of its first one, if a conversion near this moment dates it

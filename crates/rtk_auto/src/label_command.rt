@@ -3,18 +3,18 @@
 //! If memory is refused, a first part of what is put may stand there.
 
 ghost use Rattle.std.specs.Prelude.{◌≡◌, ◌<◌, ◌++◌, List, get_or, IfOk, OnOk};
-ghost use Rattle.rtk_equipment.specs.Told.{no_equipment, equipment_of};
-ghost use Rattle.rtk_summary.specs.EquipmentTold.{equipment_among};
-ghost use Rattle.rtk_summary.specs.ReadFrames.{ReadFrame};
+ghost use Rattle.rtk_survey.specs.EquipmentHistory.{no_equipment, equipment_of};
+ghost use Rattle.rtk_survey.specs.FrameEquipment.{equipment_among};
+ghost use Rattle.rtk_survey.specs.ReadFrames.{ReadFrame};
 ghost use Rattle.rtk_summary.specs.Standing.{StandsForFrames};
 ghost use Rattle.rtk_auto.specs.LabelCommand as spec;
 
 use crate::said_command::put_word;
 use crate::told_label::parts_told;
-use rtk_equipment::Equipment;
 use rtk_label::LabelParts;
 use rtk_message::put_sh_quoted;
 use rtk_summary::Summary;
+use rtk_survey::Equipment;
 use std::alloc::{AllocError, Global};
 
 // Appends the option of a field, if it is filled.

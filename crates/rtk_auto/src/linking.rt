@@ -8,8 +8,8 @@ use crate::captured::Captured;
 use crate::kept::{has_something_at, kept_captures};
 use crate::refusal::{PlanFault, Refusal, refused};
 use rtk_convert::MOST_LINKS;
-use rtk_dates::Placed;
 use rtk_find::{CaptureFound, Ordered, in_order, links_of};
+use rtk_survey::Placed;
 use std::alloc::{AllocError, Global};
 
 // The captures that have something of the station.

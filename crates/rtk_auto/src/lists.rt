@@ -3,17 +3,17 @@
 //! If memory is refused, a first part of what is put may stand there.
 
 ghost use Rattle.std.specs.Prelude.{◌≡◌, ◌<◌, ◌≤◌, ◌+◌, ◌++◌, List, OnOk};
-ghost use Rattle.rtk_summary.specs.ReadFrames.{ReadFrame, faults_in, messages_in, messages_from};
+ghost use Rattle.rtk_survey.specs.ReadFrames.{ReadFrame, faults_in, messages_in, messages_from};
 ghost use Rattle.rtk_summary.specs.Standing.{StandsForFrames};
 ghost use Rattle.rtk_auto.specs.Lists as spec;
 
 use crate::said_command::put_time;
 use crate::span_line::put_message;
-use rtk_dates::Told;
-use rtk_find::{CaptureFound, ReferencePoint};
+use rtk_find::CaptureFound;
 use rtk_message::{MsmKind, put_named, put_number, put_sh_quoted};
 use rtk_obs::GpsMs;
-use rtk_summary::{Look, Summary};
+use rtk_summary::Summary;
+use rtk_survey::{Look, ReferencePoint, Told};
 use std::alloc::AllocError;
 
 /// A first epoch that a capture tells, beside another one.

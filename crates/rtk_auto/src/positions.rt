@@ -9,7 +9,8 @@ use crate::captured::Captured;
 use crate::kept::has_something_of;
 use crate::lists::put_position_line;
 use crate::refusal::{PlanFault, Refusal, refused};
-use rtk_find::{CaptureFound, ReferencePoint, are_far};
+use rtk_find::{CaptureFound, are_far};
+use rtk_survey::ReferencePoint;
 use std::alloc::{AllocError, Global};
 
 // The reference point of the station in a capture.

@@ -4,7 +4,7 @@
 
 ghost use Rattle.std.specs.Prelude.{◌≡◌, ◌++◌, OnOk};
 ghost use Rattle.rtk_rinex.specs.Reading.{reading_of};
-ghost use Rattle.rtk_summary.specs.SummaryText.{joined_names, msm_option};
+ghost use Rattle.rtk_survey.specs.SummaryText.{joined_names, msm_option};
 ghost use Rattle.rtk_auto.specs.SaidCommand as spec;
 
 use rtk_convert::Setup;

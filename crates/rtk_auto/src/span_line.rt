@@ -5,9 +5,9 @@ ghost use Rattle.rtk_obs.specs.declared.time.TheConstants.{LAST_MS};
 ghost use Rattle.rtk_auto.specs.SpanLine as spec;
 
 use crate::said_command::{put_time, reading};
-use rtk_dates::DateMessage;
 use rtk_message::put_named;
 use rtk_obs::{GpsMs, LAST_MS, WEEK_MS, put_date};
+use rtk_survey::DateMessage;
 use std::alloc::AllocError;
 
 /// The weeks that a 1019 tells apart, in ms.

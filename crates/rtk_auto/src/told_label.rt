@@ -2,16 +2,16 @@
 
 ghost use Rattle.std.specs.Prelude.{◌≡◌, ◌<◌, List, None, true, false, get_or, IfOk};
 ghost use Rattle.std.specs.List.{list_all};
-ghost use Rattle.rtk_equipment.specs.Told.{no_equipment, equipment_of};
-ghost use Rattle.rtk_summary.specs.EquipmentTold.{equipment_among};
-ghost use Rattle.rtk_summary.specs.ReadFrames.{ReadFrame};
+ghost use Rattle.rtk_survey.specs.EquipmentHistory.{no_equipment, equipment_of};
+ghost use Rattle.rtk_survey.specs.FrameEquipment.{equipment_among};
+ghost use Rattle.rtk_survey.specs.ReadFrames.{ReadFrame};
 ghost use Rattle.rtk_summary.specs.Standing.{StandsForFrames};
 ghost use Rattle.rtk_auto.specs.ToldLabel as spec;
 
 use crate::wanted::Ways;
-use rtk_equipment::{Equipment, Text};
 use rtk_label::{Label, LabelParts};
 use rtk_summary::Summary;
+use rtk_survey::{Equipment, Text};
 use std::alloc::AllocError;
 
 fn is_printed(byte: u8) -> bool

@@ -2,7 +2,7 @@
 use Rattle.std.proofs.Common.{◌≡◌, ◌<◌, ◌⊎◌, inl, inr, ℕ, List, [], ◌∷◌, ◌++◌, Option, Some, refl, sym, ap, subst, ◌∙◌}
 use Rattle.std.specs.List.{All}
 use Rattle.std.proofs.lemmas.List.Elements.{All-push, All-same}
-use Rattle.rtk_summary.specs.ReadFrames.{ReadFrame}
+use Rattle.rtk_survey.specs.ReadFrames.{ReadFrame}
 use Rattle.rtk_find.specs.Captures.{StandsForCaptures, capture_found}
 use Rattle.rtk_find.specs.declared.capture_found.CaptureFound.{CaptureFound}
 use Rattle.rtk_find.specs.declared.finding.Findings.{Findings}

@@ -1,7 +1,7 @@
 -- What is found in a capture, by the bytes that its reader had.
 use Rattle.std.specs.Prelude.{◌≡◌, ℕ, ◌⊎◌, List, Option, Some, All, slice_set}
-use Rattle.rtk_summary.specs.ReadFrames.{ReadFrame}
-use Rattle.rtk_summary.specs.Summary.{AreFramesOf}
+use Rattle.rtk_survey.specs.ReadFrames.{ReadFrame}
+use Rattle.rtk_survey.specs.Summary.{AreFramesOf}
 use Rattle.rtk_find.specs.Captures.{FindsCapture, capture_found}
 use Rattle.rtk_find.specs.declared.capture_found.CaptureFound.{CaptureFound}
 use Rattle.rtk_find.specs.declared.finding.Findings.{Findings}

@@ -1,7 +1,7 @@
 //! The first pass of `auto`: it reads each capture to its end.
 
 ghost use Rattle.std.specs.Prelude.{◌≡◌, ◌<◌, ◌≤◌, ℕ, true, List, [], Some, length, IfOk, IfErr, IfSome, OnOk};
-ghost use Rattle.rtk_summary.specs.ReadFrames.{ReadFrame};
+ghost use Rattle.rtk_survey.specs.ReadFrames.{ReadFrame};
 ghost use Rattle.rtk_find.specs.Captures.{StandsForCaptures};
 ghost use Rattle.std.specs.Io.KnownBytes.{Keeps};
 ghost use Rattle.rtk_cli.specs.FindsText.{FindsText, AreFound, AreFoundOf, FindsForStation};
@@ -13,7 +13,7 @@ use rtk_convert::Station;
 use rtk_find::{CaptureFound, Findings};
 use rtk_obs::GpsMs;
 use rtk_streams::{Before, MOST_READS, Reads, ToolFault, fail, fail_to_open, open_input};
-use rtk_summary::SummaryFault;
+use rtk_survey::SurveyFault;
 use std::alloc::{AllocError, Global};
 use std::fs::Files;
 use std::io::Read;
@@ -32,7 +32,7 @@ fn find_by<R: Read + Drop, K: Before>(
     alloc: Global,
     findings: &mut Findings,
     reader: R,
-) -> Result<CaptureFound, SummaryFault>
+) -> Result<CaptureFound, SurveyFault>
     requires { Keeps (K.had 0) (R.remaining reader) }
     ensures had { IfOk result (λ found. IfSome (K.had 0) (λ bytes. FindsText bytes findings.old found findings.new)) }
     ensures some { IfOk result (λ found. (bytes : List ℕ) × FindsText bytes findings.old found findings.new) }
@@ -48,7 +48,7 @@ pub fn find_through<R: Read + Drop>(
     alloc: Global,
     findings: &mut Findings,
     reader: R,
-) -> Result<CaptureFound, SummaryFault>
+) -> Result<CaptureFound, SurveyFault>
     ensures remaining { IfOk result (λ found. IfSome (R.remaining reader) (λ bytes. FindsText bytes findings.old found findings.new)) }
     ensures some { IfOk result (λ found. (bytes : List ℕ) × FindsText bytes findings.old found findings.new) }
 {
@@ -59,7 +59,7 @@ pub fn find_through<R: Read + Drop>(
 fn keep_dates(
     differing: &mut Vec<DifferingDate>,
     place: usize,
-    dates: &[rtk_dates::Told],
+    dates: &[rtk_survey::Told],
 ) -> Result<(), AllocError> {
     if dates.len() < 2 {
         return Ok(());

@@ -3,7 +3,7 @@
 
 ghost use Rattle.std.specs.Prelude.{◌≡◌, ◌≤◌, List, Ok, None, IfOk, IfErr, IsOk, IsTrue};
 ghost use Rattle.rtk_convert.specs.Failure.{IsRunFault};
-ghost use Rattle.rtk_summary.specs.ReadFrames.{ReadFrame};
+ghost use Rattle.rtk_survey.specs.ReadFrames.{ReadFrame};
 ghost use Rattle.rtk_find.specs.Captures.{StandsForCaptures};
 ghost use Rattle.rtk_streams.specs.declared.exit_status.TheConstants.{NOT_VALID};
 

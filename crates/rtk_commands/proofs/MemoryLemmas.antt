@@ -6,7 +6,7 @@ use Rattle.rtk_frame.specs.Frames.{frames}
 use Rattle.rtk_frame.specs.Stream.{TakesPart}
 use Rattle.rtk_streams.specs.Passed.{given_of, IsLeft, taken_of}
 use Rattle.rtk_streams.proofs.PublicLaws.{all_text, given_first, lands}
-use Rattle.rtk_summary.specs.Summary.{Summarizes, SummarizesInPart, summary_text}
+use Rattle.rtk_survey.specs.Summary.{Summarizes, SummarizesInPart, summary_text}
 use Rattle.rtk_commands.specs.Show.{ShowsText}
 use Rattle.rtk_commands.specs.Shown.{AreLinesOf}
 use Rattle.rtk_commands.specs.Summarized.{SummarizesText, SummarizesPartOf}

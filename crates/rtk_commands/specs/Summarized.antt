@@ -1,8 +1,8 @@
 -- The command `summary`: what it writes of a text.
 use Rattle.std.specs.Prelude.{◌≡◌, ℕ, List, ◌++◌, Option}
 use Rattle.rtk_frame.specs.Stream.{with_more, TakesPart}
-use Rattle.rtk_summary.specs.ReadFrames.{ReadFrame}
-use Rattle.rtk_summary.specs.Summary.{AreFramesOf, summary_text}
+use Rattle.rtk_survey.specs.ReadFrames.{ReadFrame}
+use Rattle.rtk_survey.specs.Summary.{AreFramesOf, summary_text}
 
 -- the summary of the text of this name was written: before, after
 abbrev pub SummarizesText : List ℕ → List ℕ → Option (List ℕ) → Option (List ℕ) → Type 0

@@ -2,7 +2,7 @@
 
 ghost use Rattle.std.specs.Prelude.{◌≡◌, ◌≢◌, ℕ, ◌≤◌, ◌+◌, OnOk, OnErr, IfErr, IfSome, IsErrOf};
 ghost use Rattle.std.specs.Io.KnownBytes.{Keeps};
-ghost use Rattle.rtk_summary.specs.Summary.{Summarizes, SummarizesInPart, HasRisenBy};
+ghost use Rattle.rtk_survey.specs.Summary.{Summarizes, SummarizesInPart, HasRisenBy};
 ghost use Rattle.rtk_streams.specs.Passed.{taken_of};
 ghost use Rattle.rtk_commands.specs.Summarized.{SummarizesText, SummarizesPartOf};
 ghost use Rattle.rtk_streams.specs.Steps.ReadLimits.{most_reads};
@@ -12,7 +12,7 @@ use rtk_streams::{
     Before, DONE, FAILED, MOST_READS, Reads, ToolFault, Writes, fail, fail_to_end, fail_to_open,
     open_input, standard_output,
 };
-use rtk_summary::SummaryFault;
+use rtk_survey::SurveyFault;
 use std::alloc::Global;
 use std::fs::Files;
 use std::io::{Read, Write};
@@ -24,18 +24,18 @@ fn summarize<R: Source, W: Sink>(
     name: &[u8],
     capture: &mut R,
     out: &mut W,
-) -> Result<(), SummaryFault>
+) -> Result<(), SurveyFault>
     ensures summary { OnOk result (Summarizes name.now (R.given capture.old) (R.given capture.new) (W.taken out.old) (W.taken out.new)) }
     ensures to_the_end { OnOk result (R.is_at_end capture.new) }
     ensures nothing { IfErr result (λ fault.
-        fault ≢ SummaryFault.Write → W.taken out.new ≡ W.taken out.old) }
-    ensures part { IsErrOf result SummaryFault.Write
+        fault ≢ SurveyFault.Write → W.taken out.new ≡ W.taken out.old) }
+    ensures part { IsErrOf result SurveyFault.Write
         → SummarizesInPart name.now (R.given capture.old) (R.given capture.new) (W.taken out.old) (W.taken out.new) }
     ensures reads { R.calls capture.new ≤ R.calls capture.old + most_reads }
-    ensures endless { IsErrOf result SummaryFault.Endless
+    ensures endless { IsErrOf result SurveyFault.Endless
         → HasRisenBy (R.calls capture.old) (R.calls capture.new) most_reads }
 {
-    rtk_summary::summarize(alloc, name, capture, out, MOST_READS)
+    rtk_survey::summarize(alloc, name, capture, out, MOST_READS)
 }
 
 // The same over the reader and the writer of number 0, by what `K` knows of them.
@@ -44,15 +44,15 @@ fn summarize_by<R: Read + Drop, W: Write + Drop, K: Before>(
     name: &[u8],
     reader: R,
     out: W,
-) -> (W, Result<(), SummaryFault>)
+) -> (W, Result<(), SurveyFault>)
     requires had { Keeps (K.had 0) (R.remaining reader) }
     requires held { Keeps (K.held 0) (W.contents out) }
     requires one { (n : ℕ) → K.held n ≡ K.held 0 }
     ensures summary { OnOk result.1 (IfSome (K.had 0) (λ text.
         SummarizesText name.now text (K.held 0) (taken_of (K.held 0) (W.contents result.0)))) }
     ensures nothing { IfErr result.1 (λ fault.
-        fault ≢ SummaryFault.Write → taken_of (K.held 0) (W.contents result.0) ≡ K.held 0) }
-    ensures part { IsErrOf result.1 SummaryFault.Write → IfSome (K.had 0) (λ text.
+        fault ≢ SurveyFault.Write → taken_of (K.held 0) (W.contents result.0) ≡ K.held 0) }
+    ensures part { IsErrOf result.1 SurveyFault.Write → IfSome (K.had 0) (λ text.
         SummarizesPartOf name.now text (K.held 0) (taken_of (K.held 0) (W.contents result.0))) }
 {
     let mut source: Reads<R, K> = Reads::over(reader, 0);
@@ -69,31 +69,31 @@ pub fn summarize_through<R: Read + Drop, W: Write + Drop>(
     name: &[u8],
     reader: R,
     out: W,
-) -> (W, Result<(), SummaryFault>)
+) -> (W, Result<(), SurveyFault>)
     // Done: the summary of all that the reader had stands after what the writer held.
     ensures summary { OnOk result.1 (IfSome (R.remaining reader) (λ text.
         SummarizesText name.now text (W.contents out) (taken_of (W.contents out) (W.contents result.0)))) }
 
     // Not done: nothing is out, but a first part after a failed write.
     ensures nothing { IfErr result.1 (λ fault.
-        fault ≢ SummaryFault.Write → taken_of (W.contents out) (W.contents result.0) ≡ W.contents out) }
-    ensures part { IsErrOf result.1 SummaryFault.Write → IfSome (R.remaining reader) (λ text.
+        fault ≢ SurveyFault.Write → taken_of (W.contents out) (W.contents result.0) ≡ W.contents out) }
+    ensures part { IsErrOf result.1 SurveyFault.Write → IfSome (R.remaining reader) (λ text.
         SummarizesPartOf name.now text (W.contents out) (taken_of (W.contents out) (W.contents result.0))) }
 {
     summarize_by::<R, W, Brand>(alloc, name, reader, out)
 }
 
 /// The exit status of a summary, by its answer; the fault line goes to standard error.
-pub fn summary_status<R: Eprint>(rt: &R, done: Result<(), SummaryFault>) -> u8
+pub fn summary_status<R: Eprint>(rt: &R, done: Result<(), SurveyFault>) -> u8
     ensures done { OnOk done (result ≡ DONE) }
     ensures failed { OnErr done (result ≡ FAILED) }
 {
     match done {
         Ok(()) => DONE,
-        Err(SummaryFault::OutOfMemory) => fail(rt, ToolFault::OutOfMemory),
-        Err(SummaryFault::Read) => fail(rt, ToolFault::Input),
-        Err(SummaryFault::Endless) => fail_to_end(rt),
-        Err(SummaryFault::Write) => fail(rt, ToolFault::Output),
+        Err(SurveyFault::OutOfMemory) => fail(rt, ToolFault::OutOfMemory),
+        Err(SurveyFault::Read) => fail(rt, ToolFault::Input),
+        Err(SurveyFault::Endless) => fail_to_end(rt),
+        Err(SurveyFault::Write) => fail(rt, ToolFault::Output),
     }
 }
 

@@ -1,14 +1,14 @@
 -- What was found in captures stands for their frames.
 use Rattle.std.proofs.Common.{◌≡◌, ℕ, List, [], ◌∷◌, ◌++◌, Option, None, Some, Result, IfSome, length, sym, ap, subst, ◌∙◌, append-nil}
 use Rattle.std.specs.Prelude.{take, IfOk, ok_or}
-use Rattle.rtk_dates.specs.CaptureDates.{no_dates, counting}
-use Rattle.rtk_dates.specs.declared.span.Span.{Span}
-use Rattle.rtk_dates.specs.declared.tellings.Told.{Told}
+use Rattle.rtk_survey.specs.CaptureDates.{no_dates, counting}
+use Rattle.rtk_survey.specs.declared.span.Span.{Span}
+use Rattle.rtk_survey.specs.declared.tellings.Told.{Told}
 use Rattle.rtk_message.specs.declared.any_message.AnyMessage.{AnyMessage}
-use Rattle.rtk_summary.specs.Counting.{shown_count}
-use Rattle.rtk_summary.specs.declared.look.Look.{Look}
+use Rattle.rtk_survey.specs.Counting.{shown_count}
+use Rattle.rtk_survey.specs.declared.look.Look.{Look}
 use Rattle.rtk_summary.specs.Following.{FollowsAll, FollowsCapture}
-use Rattle.rtk_summary.specs.ReadFrames.{ReadFrame, messages_in}
+use Rattle.rtk_survey.specs.ReadFrames.{ReadFrame, messages_in}
 use Rattle.rtk_summary.specs.declared.reading.CaptureRead.{CaptureRead}
 use Rattle.rtk_find.specs.Captures.{StandsForCaptures, TakesFrame, look_if_empty, known_or, first_told, capture_dated, ReadsCapture}
 use Rattle.rtk_find.specs.Finding.{dates_with, dates_after, with_reading, dates_of, StandForStationPhases}

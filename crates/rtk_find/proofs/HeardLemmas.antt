@@ -5,10 +5,11 @@ use Rattle.std.proofs.lemmas.List.{length-set, get_or-replicate}
 use Rattle.std.specs.List.{list_any}
 use Rattle.rtk_message.specs.declared.any_message.AnyMessage.{AnyMessage}
 use Rattle.rtk_message.specs.AnyDecoded.{station_of}
-use Rattle.rtk_summary.specs.ReadFrames.{messages_from, is_of_station}
-use Rattle.rtk_find.specs.Heard.{point_of, first_point_or, first_point, heard_of, StandForHeard}
+use Rattle.rtk_survey.specs.ReadFrames.{messages_from, is_of_station}
+use Rattle.rtk_survey.specs.ReferencePoints.{first_point}
+use Rattle.rtk_find.specs.Heard.{heard_of, StandForHeard}
 use Rattle.rtk_find.specs.declared.heard.Heard.{Heard}
-use Rattle.rtk_find.specs.declared.heard.ReferencePoint.{ReferencePoint}
+use Rattle.rtk_survey.specs.declared.reference_point.ReferencePoint.{ReferencePoint}
 use Rattle.rtk_find.proofs.MarkLemmas.{as-many}
 
 abbrev heard_with : Bool → Option ReferencePoint → Heard
@@ -16,11 +17,11 @@ heard_with is_heard point = record { is_heard = is_heard; point = point }
 
 -- a message of the station
 pub heard-own : (n : ℕ) (m : AnyMessage) (ms : List AnyMessage) (old : Heard) (point : Option ReferencePoint) → n ≡ station_of m → old ≡ heard_of n ms
-    → point ≡ first_point_or old.point (point_of m) → heard_with true point ≡ heard_of n (m ∷ ms)
+    → ((own : List AnyMessage) → old.point ≡ first_point own → point ≡ first_point (m ∷ own)) → heard_with true point ≡ heard_of n (m ∷ ms)
 heard-own n m ms old point same stands is =
     let own_is : is_of_station n m ≡ true = eq-eqb (station_of m) n (sym same) in
     let own : List AnyMessage = messages_from n ms in
-    ap (λ (p : Option ReferencePoint). heard_with true p) (is ∙ ap (λ (h : Heard). first_point_or h.point (point_of m)) stands)
+    ap (λ (p : Option ReferencePoint). heard_with true p) (is own (ap (λ (h : Heard). h.point) stands))
     ∙ ap (λ (b : Bool). heard_with (b || list_any (is_of_station n) ms) (first_point (cond b (m ∷ own) own))) (sym own_is)
 
 -- and one of another

@@ -6,10 +6,10 @@ use Rattle.std.proofs.lemmas.List.Folds.{list_any-append, list_any_more}
 use Rattle.std.proofs.lemmas.List.Sums.{sum_by-cons, sum_by-append}
 use Rattle.std.specs.List.{list_any, count_by, sum_by, range_with_len}
 use Rattle.rtk_obs.specs.declared.cell.CellEntry.{CellEntry}
-use Rattle.rtk_summary.specs.Counting.{shown_count, count_of}
-use Rattle.rtk_summary.specs.Proposal.{entry_has_value}
-use Rattle.rtk_summary.specs.Standing.{one_if}
-use Rattle.rtk_summary.specs.Tracing.{has_value}
+use Rattle.rtk_survey.specs.Counting.{shown_count, count_of}
+use Rattle.rtk_survey.specs.Proposal.{entry_has_value}
+use Rattle.rtk_survey.specs.Contents.{one_if}
+use Rattle.rtk_survey.specs.Tracing.{has_value}
 use Rattle.rtk_find.specs.Phases.{place_in_table, is_at, gives_value_at, gives_phase_at, phase_count, StandsForTable}
 use Rattle.rtk_find.specs.declared.phases.PhaseCount.{PhaseCount}
 use Rattle.rtk_find.proofs.MarkLemmas.{as-many}

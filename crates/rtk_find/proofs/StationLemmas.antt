@@ -2,14 +2,14 @@
 use Rattle.std.proofs.Common.{◌≡◌, ◌≢◌, ◌==◌, ℕ, Bool, true, false, cond, List, [], ◌∷◌, ◌++◌, Option, None, Some, refl, sym, ap, subst, ◌∙◌, inl, inr, ne_eqb}
 use Rattle.std.specs.Prelude.{filter, unwrap_or}
 use Rattle.std.proofs.lemmas.Bool.{cases_Bool, cases_eq, eq-eqb, eqb-true}
-use Rattle.rtk_dates.specs.declared.date_message.DateMessage.{DateMessage}
+use Rattle.rtk_survey.specs.declared.date_message.DateMessage.{DateMessage}
 use Rattle.rtk_message.specs.declared.any_message.AnyMessage.{AnyMessage}
 use Rattle.rtk_message.specs.declared.any_message.AnyMessage.TheVariants as any
 use Rattle.rtk_message.specs.declared.message.Message.TheVariants.{Obs1004, Arp1005, Arp1006, Msm1074}
 use Rattle.rtk_message.specs.AnyDecoded.{station_of, tow_of}
 use Rattle.rtk_obs.specs.declared.cell.CellEntry.{CellEntry}
-use Rattle.rtk_summary.specs.ReadFrames.{messages_from, is_of_station}
-use Rattle.rtk_summary.specs.Tracing.{is_numbered, entries_in, entries_of_message}
+use Rattle.rtk_survey.specs.ReadFrames.{messages_from, is_of_station}
+use Rattle.rtk_survey.specs.Tracing.{is_numbered, entries_in, entries_of_message}
 use Rattle.rtk_find.specs.Finding.{observes, station_at, station_after, StandForStationPhases, with_time_of, with_observation, with_date_if_any}
 use Rattle.rtk_find.specs.Phases.{entries_numbered, StandsForTable, StandForPhases}
 use Rattle.rtk_find.specs.declared.finding.Dates.{Dates}

@@ -2,14 +2,14 @@
 -- newest first.
 use Rattle.std.specs.Prelude.{◌≡◌, ℕ, ◌==◌, List, [], ◌∷◌, ◌++◌, Option, None, Some, length, take, if◌then◌else◌}
 use Rattle.rtk_frame.specs.Stream.{with_more}
-use Rattle.rtk_dates.specs.CaptureDates.{counting}
-use Rattle.rtk_dates.specs.declared.tellings.Told.{Told}
-use Rattle.rtk_summary.specs.Counting.{shown_count}
-use Rattle.rtk_summary.specs.Look.{look_of}
-use Rattle.rtk_summary.specs.ReadFrames.{ReadFrame, messages_in}
+use Rattle.rtk_survey.specs.CaptureDates.{counting}
+use Rattle.rtk_survey.specs.declared.tellings.Told.{Told}
+use Rattle.rtk_survey.specs.Counting.{shown_count}
+use Rattle.rtk_survey.specs.Look.{look_of}
+use Rattle.rtk_survey.specs.ReadFrames.{ReadFrame, messages_in}
 use Rattle.rtk_summary.specs.Standing.{StandsForFrames, CountsFrame}
-use Rattle.rtk_summary.specs.Summary.{AreFramesOf}
-use Rattle.rtk_summary.specs.declared.look.Look.{Look}
+use Rattle.rtk_survey.specs.Summary.{AreFramesOf}
+use Rattle.rtk_survey.specs.declared.look.Look.{Look}
 use Rattle.rtk_find.specs.Finding.{with_reading, dates_of, MarkObserving, StandForStationPhases}
 use Rattle.rtk_find.specs.Heard.{heard_if_known, first_station, HoldsCapture}
 use Rattle.rtk_find.specs.declared.capture_found.CaptureFound.{CaptureFound}

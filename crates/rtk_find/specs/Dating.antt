@@ -1,10 +1,10 @@
 -- The dates of captures that were read (this project's rule).
 use Rattle.std.specs.Prelude.{ℕ, Bool, false, ◌||◌, not, nat_le, min, max, List, [], ◌∷◌, Option, None, Some, if◌then◌else◌}
 use Rattle.rtk_obs.specs.declared.time.TheConstants.{LAST_MS}
-use Rattle.rtk_dates.specs.Placing.{least_with_if_any, placed, is_dated_near}
-use Rattle.rtk_dates.specs.declared.placing.Placed.{Placed}
-use Rattle.rtk_dates.specs.declared.span.Span.{Span}
-use Rattle.rtk_dates.specs.declared.tellings.Told.{Told}
+use Rattle.rtk_survey.specs.Placing.{least_with_if_any, placed, is_dated_near}
+use Rattle.rtk_survey.specs.declared.placing.Placed.{Placed}
+use Rattle.rtk_survey.specs.declared.span.Span.{Span}
+use Rattle.rtk_survey.specs.declared.tellings.Told.{Told}
 use Rattle.rtk_find.specs.declared.capture_found.CaptureFound.{CaptureFound}
 use Rattle.rtk_find.specs.declared.dating.Base.{Base}
 use Rattle.rtk_find.specs.declared.dating.Base.TheVariants.{Given, Told as ByCaptures}

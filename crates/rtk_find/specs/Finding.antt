@@ -6,13 +6,13 @@ use Rattle.rtk_bits.specs.Bits.{bits}
 use Rattle.rtk_message.specs.declared.any_message.AnyMessage.{AnyMessage}
 use Rattle.rtk_message.specs.declared.any_fault.AnyFault.{AnyFault}
 use Rattle.rtk_message.specs.AnyDecoded.{station_of, tow_of}
-use Rattle.rtk_dates.specs.declared.capture_dates.CaptureDates.{CaptureDates}
-use Rattle.rtk_dates.specs.declared.date_message.DateMessage.{DateMessage}
-use Rattle.rtk_dates.specs.CaptureDates.{no_dates, with_epoch_time, with_date, with_waiting}
-use Rattle.rtk_dates.specs.DateMessages.{date_in}
-use Rattle.rtk_summary.specs.Proposal.{entry_has_value}
-use Rattle.rtk_summary.specs.ReadFrames.{ReadFrame, messages_from}
-use Rattle.rtk_summary.specs.Tracing.{entries_of_message}
+use Rattle.rtk_survey.specs.declared.capture_dates.CaptureDates.{CaptureDates}
+use Rattle.rtk_survey.specs.declared.date_message.DateMessage.{DateMessage}
+use Rattle.rtk_survey.specs.CaptureDates.{no_dates, with_epoch_time, with_date, with_waiting}
+use Rattle.rtk_survey.specs.DateMessages.{date_in}
+use Rattle.rtk_survey.specs.Proposal.{entry_has_value}
+use Rattle.rtk_survey.specs.ReadFrames.{ReadFrame, messages_from}
+use Rattle.rtk_survey.specs.Tracing.{entries_of_message}
 use Rattle.rtk_find.specs.Phases.{StandForPhases}
 use Rattle.rtk_find.specs.declared.finding.Dates.{Dates}
 use Rattle.rtk_find.specs.declared.phases.Phases.{Phases}

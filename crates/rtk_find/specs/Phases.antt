@@ -8,8 +8,8 @@ use Rattle.rtk_message.specs.Systems.{number_of_kind}
 use Rattle.rtk_obs.specs.declared.cell.CellEntry.{CellEntry}
 use Rattle.rtk_obs.specs.declared.code.Code.{Code}
 use Rattle.rtk_obs.specs.Code.{place_of, all_codes}
-use Rattle.rtk_summary.specs.Counting.{count_of}
-use Rattle.rtk_summary.specs.Tracing.{is_numbered, entries_in, has_value}
+use Rattle.rtk_survey.specs.Counting.{count_of}
+use Rattle.rtk_survey.specs.Tracing.{is_numbered, entries_in, has_value}
 use Rattle.rtk_find.specs.declared.phases.PhaseCount.{PhaseCount}
 use Rattle.rtk_find.specs.declared.phases.Phases.{Phases}
 

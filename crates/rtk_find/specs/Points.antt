@@ -1,6 +1,6 @@
 -- How far reference points are apart (this project's rule).
 use Rattle.std.specs.Prelude.{ℕ, ℤ, ◌+◌, ◌*◌, ◌-ℤ◌, unsigned_abs, Bool, nat_lt}
-use Rattle.rtk_find.specs.declared.heard.ReferencePoint.{ReferencePoint}
+use Rattle.rtk_survey.specs.declared.reference_point.ReferencePoint.{ReferencePoint}
 
 -- formula
 abbrev pub squared_apart : ℤ → ℤ → ℕ

@@ -1,8 +1,7 @@
 //! What is found of one capture.
 
 use crate::heard::Heard;
-use rtk_dates::{Span, Told};
-use rtk_summary::Look;
+use rtk_survey::{Look, Span, Told};
 
 /// What was found of a capture. It has at most 200 bytes.
 #[derive(Clone, Copy, Debug, PartialEq, Eq)]

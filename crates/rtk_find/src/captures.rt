@@ -1,12 +1,12 @@
 //! Reading captures, one after another, each to its end.
 
 ghost use Rattle.std.specs.Prelude.{◌≡◌, ◌≢◌, ◌≤◌, ◌+◌, ◌++◌, ℕ, List, [], ◌∷◌, Err, IfOk, IfSome, IsErrOf, OnOk, take};
-ghost use Rattle.rtk_dates.specs.CaptureDates.{counting};
+ghost use Rattle.rtk_survey.specs.CaptureDates.{counting};
 ghost use Rattle.rtk_frame.specs.Stream.{CountRises};
-ghost use Rattle.rtk_summary.specs.Counting.{shown_count};
-ghost use Rattle.rtk_summary.specs.ReadFrames.{ReadFrame};
-ghost use Rattle.rtk_summary.specs.Summary.{HasRisenBy};
-ghost use Rattle.rtk_summary.specs.declared.fault.SummaryFault.TheVariants.{Read, Endless, Write};
+ghost use Rattle.rtk_survey.specs.Counting.{shown_count};
+ghost use Rattle.rtk_survey.specs.ReadFrames.{ReadFrame};
+ghost use Rattle.rtk_survey.specs.Summary.{HasRisenBy};
+ghost use Rattle.rtk_survey.specs.declared.survey_fault.SurveyFault.TheVariants.{Read, Endless, Write};
 ghost use Rattle.rtk_find.specs.Captures as spec;
 ghost use Rattle.rtk_find.specs.Captures.{ReadsCapture};
 ghost use Rattle.rtk_find.specs.Heard.{HoldsCapture};
@@ -14,9 +14,9 @@ ghost use Rattle.rtk_find.specs.Heard.{HoldsCapture};
 use crate::capture_found::CaptureFound;
 use crate::finding::{Dates, Findings};
 use crate::heard::Contents;
-use rtk_dates::Told;
 use rtk_frame::Source;
-use rtk_summary::{Look, SummaryFault, look_of, read_capture};
+use rtk_summary::read_capture;
+use rtk_survey::{Look, SurveyFault, Told, look_of};
 use std::alloc::Global;
 
 // What a capture looks like, if it has no frame.
@@ -79,7 +79,7 @@ impl Findings {
         alloc: Global,
         reader: &mut R,
         max_reads: u64,
-    ) -> Result<CaptureFound, SummaryFault>
+    ) -> Result<CaptureFound, SurveyFault>
         // Done: what was read, and what was found in it.
         ensures found { IfOk result (λ found. ReadsCapture (R.given reader.old) (R.given reader.new) self.old found self.new) }
         ensures to_the_end { OnOk result (R.is_at_end reader.new) }
@@ -95,7 +95,7 @@ impl Findings {
         self.dates = Dates::new(self.dates.station);
         let read = read_capture(alloc, reader, self, max_reads)?;
         let found = capture_dated(&self.contents, &self.dates, read.head.as_slice());
-        keep(&mut self.captures, &found).ok_or(SummaryFault::OutOfMemory)
+        keep(&mut self.captures, &found).ok_or(SurveyFault::OutOfMemory)
     }
 
     /// The first epochs that the messages of the last capture told and that count, each that differs.

@@ -1,12 +1,12 @@
 //! The dates of captures that were read.
 
 ghost use Rattle.std.specs.Prelude.{◌≡◌, ◌-◌, ◌%◌, ◌∷◌, [], None, map, length, Some, IfOk};
-ghost use Rattle.rtk_dates.specs.Placing.{second_of};
+ghost use Rattle.rtk_survey.specs.Placing.{second_of};
 ghost use Rattle.rtk_find.specs.Dating as spec;
 
 use crate::capture_found::CaptureFound;
-use rtk_dates::{CaptureEpochs, Placed, Span, Told, is_dated_near, least_with_if_any, place};
 use rtk_obs::GpsMs;
+use rtk_survey::{CaptureEpochs, Placed, Span, Told, is_dated_near, least_with_if_any, place};
 use std::alloc::{AllocError, Global};
 
 /// The moment near which captures are dated.

@@ -2,18 +2,18 @@
 
 ghost use Rattle.std.specs.Prelude.{◌≡◌, ◌||◌, ◌==◌, ◌<◌, ℕ, List, Option, [], ◌∷◌, true, false, length, get_or, IfOk};
 ghost use Rattle.rtk_message.specs.declared.any_message.AnyMessage.{AnyMessage};
-ghost use Rattle.rtk_dates.specs.CaptureDates.{no_dates};
-ghost use Rattle.rtk_summary.specs.Tracing.{entries_of_message};
+ghost use Rattle.rtk_survey.specs.CaptureDates.{no_dates};
+ghost use Rattle.rtk_survey.specs.Tracing.{entries_of_message};
 ghost use Rattle.rtk_find.specs.Finding.{observes, dates_with, with_observation, with_date_if_any, station_after, MarkObserving, StandForStationPhases};
 ghost use Rattle.rtk_find.specs.Captures.{TakesFrame, StandsForCaptures};
 
 use crate::capture_found::CaptureFound;
 use crate::heard::{Contents, STATIONS};
 use crate::phases::Phases;
-use rtk_dates::{CaptureDates, DateMessage, date_in};
 use rtk_message::{AnyFault, AnyMessage};
 use rtk_obs::{CellEntry, GpsMs};
-use rtk_summary::{Follower, Summary, have_value};
+use rtk_summary::{Follower, Summary};
+use rtk_survey::{CaptureDates, DateMessage, date_in, have_value};
 use std::alloc::{AllocError, Global};
 
 /// The station that is known, and what a capture tells of its epochs.

@@ -4,25 +4,15 @@ ghost use Rattle.std.specs.Prelude.{◌≡◌, ℕ, List, [], ◌∷◌, Ok, Err
 ghost use Rattle.rtk_message.specs.declared.any_fault.AnyFault.{AnyFault};
 ghost use Rattle.rtk_message.specs.declared.any_message.AnyMessage.{AnyMessage};
 ghost use Rattle.rtk_message.specs.AnyDecoded.{station_of};
-ghost use Rattle.rtk_summary.specs.ReadFrames.{ReadFrame, read_frame, messages_in};
+ghost use Rattle.rtk_survey.specs.ReadFrames.{ReadFrame, read_frame, messages_in};
 ghost use Rattle.rtk_find.specs.Heard as spec;
 
-use rtk_message::{AnyMessage, Arp1005, Message};
+use rtk_message::AnyMessage;
+use rtk_survey::{ReferencePoint, first_point_with};
 use std::alloc::{AllocError, Global};
 
 /// How many stations there are: DF003 has 12 bits.
 pub const STATIONS: usize = 4096;
-
-/// The antenna reference point of a station (ECEF), in 0.0001 m.
-#[derive(Clone, Copy, Debug, PartialEq, Eq)]
-pub struct ReferencePoint {
-    /// X (DF025).
-    pub x: i64,
-    /// Y (DF026).
-    pub y: i64,
-    /// Z (DF027).
-    pub z: i64,
-}
 
 /// What came of a station in a capture.
 #[derive(Clone, Copy, Debug, PartialEq, Eq)]
@@ -43,48 +33,6 @@ pub(crate) struct Contents {
     pub(crate) stations: Vec<Heard>,
 }
 
-fn point_of_arp(arp: &Arp1005) -> ReferencePoint
-    ensures { result ≡ spec.point_of_arp arp.now }
-{
-    ReferencePoint {
-        x: arp.x,
-        y: arp.y,
-        z: arp.z,
-    }
-}
-
-fn point_of_four(message: &Message) -> Option<ReferencePoint>
-    ensures { result ≡ spec.point_of_four message.now }
-{
-    match message {
-        Message::Arp1005(message) => Some(point_of_arp(message)),
-        Message::Arp1006(message) => Some(point_of_arp(&message.arp)),
-        Message::Obs1004(_) | Message::Msm1074(_) => None,
-    }
-}
-
-// The reference point that a message has.
-fn point_of(message: &AnyMessage) -> Option<ReferencePoint>
-    ensures { result ≡ spec.point_of message.now }
-{
-    match message {
-        AnyMessage::Message(message) => point_of_four(message),
-        AnyMessage::Msm(_) => None,
-    }
-}
-
-fn first_point_or(
-    first: Option<ReferencePoint>,
-    later: Option<ReferencePoint>,
-) -> Option<ReferencePoint>
-    ensures { result ≡ spec.first_point_or first later }
-{
-    match first {
-        Some(point) => Some(point),
-        None => later,
-    }
-}
-
 impl Heard {
     // No message came.
     fn nothing() -> Heard
@@ -102,7 +50,7 @@ impl Heard {
             → self.new ≡ spec.heard_of n (message.now ∷ ms) }
     {
         self.is_heard = true;
-        self.point = first_point_or(self.point, point_of(message));
+        self.point = first_point_with(self.point, message);
     }
 }
 

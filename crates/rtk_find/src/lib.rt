@@ -37,7 +37,7 @@ pub use capture_found::CaptureFound;
 pub use chosen_station::{StationFound, only_station};
 pub use dating::{Base, is_out_of_reach, least_told, near_of, place_captures, reach_of};
 pub use finding::{Dates, Findings};
-pub use heard::{Heard, ReferencePoint, STATIONS};
+pub use heard::{Heard, STATIONS};
 pub use joining::{Ordered, in_order, links_of};
 pub use phases::Phases;
 pub use points::are_far;

@@ -4,14 +4,14 @@ ghost use Rattle.std.specs.Prelude.{◌≡◌, ◌≤◌, ◌<◌, ◌+◌, ◌*
 ghost use Rattle.rtk_message.specs.declared.any_message.AnyMessage.{AnyMessage};
 ghost use Rattle.rtk_message.specs.Systems.{number_of_kind};
 ghost use Rattle.rtk_obs.specs.declared.cell.CellEntry.{CellEntry};
-ghost use Rattle.rtk_summary.specs.Counting.{shown_count};
-ghost use Rattle.rtk_summary.specs.Standing.{one_if};
-ghost use Rattle.rtk_summary.specs.Tracing.{entries_of_message, has_value};
+ghost use Rattle.rtk_survey.specs.Counting.{shown_count};
+ghost use Rattle.rtk_survey.specs.Contents.{one_if};
+ghost use Rattle.rtk_survey.specs.Tracing.{entries_of_message, has_value};
 ghost use Rattle.rtk_find.specs.Phases as spec;
 
 use rtk_message::{AnyMessage, MsmKind};
 use rtk_obs::{ALL_CODES, Cell, CellEntry, Code};
-use rtk_summary::has_value;
+use rtk_survey::has_value;
 use std::alloc::{AllocError, Global};
 
 /// The places of a table: a satellite has 16 codes, and none has the number 0.

@@ -3,7 +3,7 @@
 ghost use Rattle.std.specs.Prelude.{◌≡◌, ◌<◌, ◌^◌};
 ghost use Rattle.rtk_find.specs.Points as spec;
 
-use crate::heard::ReferencePoint;
+use rtk_survey::ReferencePoint;
 
 /// More than 100 m, squared; coordinates are in 0.0001 m.
 const FAR_SQUARED: u128 = 1_000_000_000_000;

@@ -8,7 +8,7 @@ use Rattle.rtk_frame.specs.ScannerView.{ScannerView}
 use Rattle.rtk_frame.specs.declared.scanner.Answer.TheVariants.{Found, Hungry}
 use Rattle.rtk_frame.proofs.PublicLaws.{after_found, first_payloads}
 use Rattle.rtk_summary.specs.Following.{FollowsAll}
-use Rattle.rtk_summary.specs.ReadFrames.{ReadFrame, ReadsFrames, read_frame}
+use Rattle.rtk_survey.specs.ReadFrames.{ReadFrame, ReadsFrames, read_frame}
 use Rattle.rtk_summary.specs.Steps.Followed.{Follows}
 
 -- ---- what follows them

@@ -1,16 +1,14 @@
 -- A source that is read piece by piece, and what followed the frames so far.
-use Rattle.std.proofs.Common.{◌≡◌, ◌≤◌, ◌+◌, ℕ, List, [], ◌∷◌, ◌++◌, Option, length, take, drop, refl, sym, ap, subst, ◌∙◌, length-append, arith}
-use Rattle.std.proofs.Math.Seq.{take-append_seam}
-use Rattle.std.proofs.lemmas.Grind.{common_steps}
+use Rattle.std.proofs.Common.{◌≡◌, ◌+◌, ℕ, List, [], ◌∷◌, ◌++◌, Option, length, take, refl, sym, ap, subst, ◌∙◌, length-append, arith}
 use Rattle.rtk_frame.specs.Frames.{final_from, frames, final_frames, payloads, pending, pending_from}
-use Rattle.rtk_frame.specs.Stream.{with_more, count_after, CountRises}
+use Rattle.rtk_frame.specs.Stream.{with_more}
 use Rattle.rtk_frame.proofs.PublicLaws.{with_more-nil, with_more-with_more, final_payloads_cut, payloads_cut, pending_cut}
-use Rattle.rtk_summary.specs.Counting.{shown_count}
+use Rattle.rtk_survey.specs.Counting.{shown_count}
 use Rattle.rtk_summary.specs.Following.{FollowsAll, FollowsCapture}
-use Rattle.rtk_summary.specs.ReadFrames.{ReadFrame, ReadsFrames, read_frame}
+use Rattle.rtk_survey.specs.ReadFrames.{ReadFrame, ReadsFrames, read_frame}
 use Rattle.rtk_summary.specs.Steps.Followed.{Follows}
 use Rattle.rtk_summary.specs.declared.reading.CaptureRead.{CaptureRead}
-use Rattle.rtk_summary.proofs.CutLemmas.{take-none, take-again}
+use Rattle.rtk_survey.proofs.PublicLaws.{take-none, take-again}
 use Rattle.rtk_summary.proofs.FrameLemmas.{all-append, reads-behind}
 
 -- frames that come after others
@@ -77,14 +75,3 @@ read-end takes given_0 given_1 given_2 waiting read start s_1 s_2 h gives t = (
   h.begins,
   all-append takes start s_1 s_2 h.fs t.0 h.followed t.2,
 )
-
-pub count-rises : (before now after : ℕ) → now ≡ before → after ≡ count_after now → CountRises before after
-count-rises before now after same more = grind arith
-
--- a buffer of the same length took the place of all that a vector held
-pub refilled : (buf old : List ℕ) (len : ℕ) → length buf ≡ length old → len ≡ length old → take len (buf ++ drop (length buf) old) ≡ buf
-refilled buf old len as_many known =
-    ap (λ (n : ℕ). take n (buf ++ drop (length buf) old)) (known ∙ sym as_many) ∙ take-append_seam buf (drop (length buf) old)
-
-pub length-first : (n : ℕ) (xs : List ℕ) → n ≤ length xs → length (take n xs) ≡ n
-length-first n xs within = grind (arith, common_steps)

@@ -4,7 +4,7 @@ use Rattle.std.proofs.lemmas.Bool.{cases_eq, eq-eqb}
 use Rattle.std.proofs.lemmas.List.{length-set}
 use Rattle.rtk_message.specs.declared.any_message.AnyMessage.{AnyMessage}
 use Rattle.rtk_message.specs.AnyDecoded.{station_of}
-use Rattle.rtk_summary.specs.ReadFrames.{messages_from, is_of_station}
+use Rattle.rtk_survey.specs.ReadFrames.{messages_from, is_of_station}
 use Rattle.rtk_summary.specs.Standing.{StandsForMessages, StandForStations}
 use Rattle.rtk_summary.specs.declared.station.Station.{Station}
 

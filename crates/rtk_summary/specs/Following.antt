@@ -1,9 +1,9 @@
 -- Frames that are followed one after another (this project's rule). Lists of frames are newest first.
 use Rattle.std.specs.Prelude.{◌≡◌, ℕ, List, [], ◌∷◌, Option, length, take}
 use Rattle.rtk_frame.specs.Stream.{with_more}
-use Rattle.rtk_summary.specs.Counting.{shown_count}
-use Rattle.rtk_summary.specs.ReadFrames.{ReadFrame}
-use Rattle.rtk_summary.specs.Summary.{AreFramesOf}
+use Rattle.rtk_survey.specs.Counting.{shown_count}
+use Rattle.rtk_survey.specs.ReadFrames.{ReadFrame}
+use Rattle.rtk_survey.specs.Summary.{AreFramesOf}
 use Rattle.rtk_summary.specs.declared.reading.CaptureRead.{CaptureRead}
 
 -- what takes a frame took these, one after another: before, after

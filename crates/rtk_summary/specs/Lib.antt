@@ -1,16 +1,4 @@
-pub mod Counting
-pub mod CountingLaws
-pub mod DatesTold
-pub mod EquipmentText
-pub mod EquipmentTold
 pub mod Following
-pub mod Look
-pub mod NumberLaws
-pub mod Proposal
-pub mod ReadFrames
 pub mod Standing
-pub mod StandingDates
+pub mod StandingStations
 pub mod Steps
-pub mod Summary
-pub mod SummaryText
-pub mod Tracing

@@ -4,11 +4,11 @@ ghost use Rattle.std.specs.Prelude.{◌≡◌, ◌<◌, List, false, length, get
 ghost use Rattle.rtk_message.specs.Systems.{number_of_kind};
 ghost use Rattle.rtk_message.specs.declared.any_message.AnyMessage.{AnyMessage};
 ghost use Rattle.rtk_obs.specs.Code.{place_of, all_codes};
-ghost use Rattle.rtk_summary.specs.Counting.{count_of};
-ghost use Rattle.rtk_summary.specs.Proposal.{epochs_with_value, entries_with, proposed};
-ghost use Rattle.rtk_summary.specs.ReadFrames.{ReadFrame, messages_in, messages_from, faults_in};
+ghost use Rattle.rtk_survey.specs.Counting.{count_of};
+ghost use Rattle.rtk_survey.specs.Proposal.{epochs_with_value, entries_with, proposed};
+ghost use Rattle.rtk_survey.specs.ReadFrames.{ReadFrame, messages_in, messages_from, faults_in};
 ghost use Rattle.rtk_summary.specs.Standing.{StandsForMessages, StandForStations, StandsForFrames};
-ghost use Rattle.rtk_summary.specs.Tracing.{has_code, is_numbered, is_other};
+ghost use Rattle.rtk_survey.specs.Tracing.{has_code, is_numbered, is_other};
 
 use crate::station::Station;
 use crate::summary::Summary;

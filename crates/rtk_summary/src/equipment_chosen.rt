@@ -1,13 +1,13 @@
 //! What messages told of the antenna and the receiver of a station that a command names.
 
 ghost use Rattle.std.specs.Prelude.{◌≡◌, ◌<◌, List, get_or, IfOk};
-ghost use Rattle.rtk_equipment.specs.Told.{no_equipment, equipment_of};
-ghost use Rattle.rtk_summary.specs.EquipmentTold.{equipment_among};
-ghost use Rattle.rtk_summary.specs.ReadFrames.{ReadFrame};
+ghost use Rattle.rtk_survey.specs.EquipmentHistory.{no_equipment, equipment_of};
+ghost use Rattle.rtk_survey.specs.FrameEquipment.{equipment_among};
+ghost use Rattle.rtk_survey.specs.ReadFrames.{ReadFrame};
 ghost use Rattle.rtk_summary.specs.Standing.{StandsForFrames};
 
 use crate::summary::Summary;
-use rtk_equipment::Equipment;
+use rtk_survey::Equipment;
 use std::alloc::AllocError;
 
 impl Summary {

@@ -1,8 +1,8 @@
 //! What follows the frames of a capture while it is read.
 
 ghost use Rattle.std.specs.Prelude.{◌≡◌, Ok, Err};
-ghost use Rattle.rtk_summary.specs.ReadFrames.{ReadFrame, read_frame};
-ghost use Rattle.rtk_summary.specs.Tracing.{entries_of_message};
+ghost use Rattle.rtk_survey.specs.ReadFrames.{ReadFrame, read_frame};
+ghost use Rattle.rtk_survey.specs.Tracing.{entries_of_message};
 
 use rtk_message::{AnyFault, AnyMessage};
 use rtk_obs::CellEntry;

@@ -8,17 +8,17 @@ ghost use Rattle.rtk_frame.specs.Frames.{frames, final_frames, payloads, pending
 ghost use Rattle.rtk_frame.specs.Stream.{CountRises};
 ghost use Rattle.rtk_message.specs.AnyDecoded.{IsValid};
 ghost use Rattle.rtk_summary.specs.Following.{FollowsCapture};
-ghost use Rattle.rtk_summary.specs.Summary.{HasRisenBy};
+ghost use Rattle.rtk_survey.specs.Summary.{HasRisenBy};
 ghost use Rattle.rtk_summary.specs.Steps.Followed.{Follows};
-ghost use Rattle.rtk_summary.specs.Tracing.{entries_of_message};
-ghost use Rattle.rtk_summary.specs.declared.fault.SummaryFault.TheVariants.{Read, Endless, Write};
+ghost use Rattle.rtk_survey.specs.Tracing.{entries_of_message};
+ghost use Rattle.rtk_survey.specs.declared.survey_fault.SurveyFault.TheVariants.{Read, Endless, Write};
 
-use crate::fault::SummaryFault;
 use crate::follower::Follower;
 use arrayvec::ArrayVec;
 use rtk_frame::{Answer, Scanner, Source};
 use rtk_message::{Accepted, AnyDecoder, AnyMessage};
 use rtk_obs::{CellEntry, put_cells_msm, put_cells_of};
+use rtk_survey::SurveyFault;
 use std::alloc::Global;
 
 /// The most bytes that one read asks for.
@@ -136,7 +136,7 @@ pub fn read_capture<R: Source, F: Follower>(
     reader: &mut R,
     follower: &mut F,
     max_reads: u64,
-) -> Result<CaptureRead, SummaryFault>
+) -> Result<CaptureRead, SurveyFault>
     // Done: what was read, and what the follower is after its frames.
     ensures read { IfOk result (λ read.
         FollowsCapture F.takes (R.given reader.old) (R.given reader.new) read follower.old follower.new) }
@@ -150,7 +150,7 @@ pub fn read_capture<R: Source, F: Follower>(
     ensures no_write { IsErrOf result Write → ⊥ }
 {
     let Ok(mut scanner) = Scanner::new(alloc) else {
-        return Err(SummaryFault::OutOfMemory);
+        return Err(SurveyFault::OutOfMemory);
     };
     let mut decoding = Decoding::new();
     let mut piece = vec![in alloc; 0u8; PIECE]?;
@@ -158,7 +158,7 @@ pub fn read_capture<R: Source, F: Follower>(
     let mut head = ArrayVec::new();
     'reads: for _made in 0..max_reads {
         let Ok(count) = reader.read(piece.as_mut_slice()) else {
-            return Err(SummaryFault::Read);
+            return Err(SurveyFault::Read);
         };
         if count == 0 {
             follow_rest(&mut scanner, &mut decoding, follower);
@@ -169,5 +169,5 @@ pub fn read_capture<R: Source, F: Follower>(
         add_piece(&mut head, part);
         follow_piece(&mut scanner, &mut decoding, follower, part);
     }
-    Err(SummaryFault::Endless)
+    Err(SurveyFault::Endless)
 }

@@ -5,22 +5,21 @@
 
 ghost use Rattle.std.specs.Prelude.{◌≡◌, List, [], ◌∷◌, length, IfOk};
 ghost use Rattle.std.specs.List.{cons_option};
-ghost use Rattle.rtk_equipment.specs.EquipmentMessages.{equipment_in};
-ghost use Rattle.rtk_equipment.specs.StandingStations.{StandsForEquipment};
-ghost use Rattle.rtk_equipment.specs.declared.equipment_message.EquipmentMessage.{EquipmentMessage};
+ghost use Rattle.rtk_survey.specs.EquipmentMessages.{equipment_in};
+ghost use Rattle.rtk_summary.specs.StandingStations.{StandsForEquipment};
+ghost use Rattle.rtk_survey.specs.declared.equipment_message.EquipmentMessage.{EquipmentMessage};
 ghost use Rattle.rtk_message.specs.declared.any_message.AnyMessage.{AnyMessage};
-ghost use Rattle.rtk_summary.specs.Counting.{shown_count};
-ghost use Rattle.rtk_summary.specs.ReadFrames.{ReadFrame};
+ghost use Rattle.rtk_survey.specs.Counting.{shown_count};
+ghost use Rattle.rtk_survey.specs.ReadFrames.{ReadFrame};
 ghost use Rattle.rtk_summary.specs.Standing.{StandsForFrames, StandForStations, CountsFrame};
-ghost use Rattle.rtk_summary.specs.Tracing.{entries_of_message};
+ghost use Rattle.rtk_survey.specs.Tracing.{entries_of_message};
 
 use crate::follower::Follower;
-use crate::signals::Signals;
 use crate::station::Station;
-use crate::unread::{NUMBERS, Unread};
-use rtk_equipment::{StationsEquipment, equipment_in};
+use crate::stations_equipment::{STATIONS, StationsEquipment};
 use rtk_message::{AnyFault, AnyMessage};
 use rtk_obs::CellEntry;
+use rtk_survey::{Signals, Unread, equipment_in};
 use std::alloc::{AllocError, Global};
 
 /// What captures hold, as far as they were read. Its memory grows with the stations of which messages
@@ -69,7 +68,7 @@ impl Summary {
         Ok(Summary {
             frames: 0,
             framed: 0,
-            stations: vec![in alloc; Station::new(); NUMBERS]?,
+            stations: vec![in alloc; Station::new(); STATIONS]?,
             signals: Signals::new(),
             unread: Unread::new(alloc)?,
             equipment: StationsEquipment::new(alloc)?,

@@ -44,7 +44,7 @@ if window == 600 || list.push(1).is_err() { return Err(AllocError); }
 if window == 600 && list.push(1).is_ok() { return Err(AllocError); }
 if !list.push(1).is_err() { return fail(rt, ToolFault::OutOfMemory); }
 if let Err(_) = names.try_extend_from_slice(more) { return Err(AllocError); }
-while window == 600 { return Err(SummaryFault::OutOfMemory); }
+while window == 600 { return Err(SurveyFault::OutOfMemory); }
 match window { 600 => Err(ToolFault::OutOfMemory), _ => Ok(()), }
 match u16::try_from(window) { Ok(width) => width, Err(_) => return Err(AllocError), }
 match list.push(1) { Ok(()) => { if window == 600 { return Err(AllocError); } } Err(_) => return Err(AllocError), }
@@ -94,7 +94,7 @@ def branches(sources):
         rf"\blet Ok\({NAME}\) = {call} else \{{ {ANSWER}; \}}",
         rf"(?<=[=;{{] ){call}\.map_err\(\|_\| {FAULT}\)\?",
         rf"(?<=; )keep{ARGUMENTS}\.ok_or\({FAULT}\)",  # of rtk_find: None if a push was refused
-        # of rtk_equipment: a push was refused, and so it is said later
+        # of rtk_summary: a push was refused, and so it is said later
         rf"\bif take_message{ARGUMENTS}\.is_err\(\) \{{ self\.is_refused = true; \}}", r"\bif self\.is_refused \{ return Err\(AllocError\); \}",
         rf"\bmatch {call} \{{ Ok\({NAME}\) => {CODE}, Err\(_\) => {ANSWER}, \}}",
         rf"\blet text = if [^{{}};]* \{{ format!{ARGUMENTS} \}} else \{{ format!{ARGUMENTS} \}}; "

@@ -35,8 +35,9 @@ LINK = 62_000
 GATHERED = 2 * 65_536
 # What a conversion of one link holds besides: the manual says some 89 kB.
 LEAST_BESIDE, MOST_BESIDE = 84_500, 89_500
-# What a summary holds: some 1.6 MB. `auto` holds as much besides what its conversion holds, and so much for each capture.
-LEAST_OF_SUMMARY, MOST_OF_SUMMARY = 1_580_000, 1_600_000
+# What a summary of one station holds: some 0.2 MB. `auto` holds some 1.5 MB besides what its conversion holds, and so much for
+# each capture.
+LEAST_OF_SUMMARY, MOST_OF_SUMMARY = 180_000, 200_000
 LEAST_OF_AUTO, MOST_OF_AUTO = 1_400_000, 1_520_000
 CAPTURE = 600
 

@@ -1,8 +1,8 @@
 use Rattle.std.proofs.Common.{◌≡◌, ◌++◌, ℕ, List, [], ◌∷◌, length, get_or, Option, refl, sym, ap, ◌∙◌, arith}
 use Rattle.std.proofs.lemmas.List.{append-nil}
 use Rattle.std.specs.Borrow.{Bor}
-use Rattle.rtk_equipment.specs.Told.{no_equipment}
-use Rattle.rtk_equipment.specs.declared.equipment.Equipment.{Equipment}
+use Rattle.rtk_survey.specs.EquipmentHistory.{no_equipment}
+use Rattle.rtk_survey.specs.declared.equipment.Equipment.{Equipment}
 use Rattle.rtk_auto.specs.LabelCommand.{label_words, label_text}
 use Rattle.rtk_auto.proofs.label_command.put_told.Goals as goal
 

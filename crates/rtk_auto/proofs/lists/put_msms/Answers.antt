@@ -1,7 +1,7 @@
 use Rattle.std.proofs.Common.{ℕ, List, ◌++◌, ap, ◌∙◌}
 use Rattle.rtk_message.specs.declared.msm_kind.MsmKind.{MsmKind}
 use Rattle.rtk_message.specs.declared.msm_kind.MsmKind.TheVariants.{Msm4, Msm5, Msm6, Msm7}
-use Rattle.rtk_summary.specs.ReadFrames.{messages_in, messages_from}
+use Rattle.rtk_survey.specs.ReadFrames.{messages_in, messages_from}
 use Rattle.rtk_auto.specs.Lists.{msm_line, msm_lines}
 use Rattle.rtk_auto.proofs.PutLemmas.{four-parts}
 use Rattle.rtk_auto.proofs.lists.put_msms.Goals as goal

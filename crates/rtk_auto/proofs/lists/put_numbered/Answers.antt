@@ -1,5 +1,5 @@
 use Rattle.std.proofs.Common.{◌≡◌, ◌+◌, ◌-◌, ◌++◌, ℕ, List, sym, ap, ◌∙◌, append_assoc, arith}
-use Rattle.rtk_summary.specs.ReadFrames.{faults_in}
+use Rattle.rtk_survey.specs.ReadFrames.{faults_in}
 use Rattle.rtk_auto.specs.Lists.{count_line_of, unread_line, unread_lines_from}
 use Rattle.rtk_auto.proofs.WalkLemmas.{numbered-step}
 use Rattle.rtk_auto.proofs.lists.put_numbered.Goals as goal

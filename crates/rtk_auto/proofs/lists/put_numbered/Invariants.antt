@@ -1,5 +1,5 @@
 use Rattle.std.proofs.Common.{◌≡◌, ◌++◌, ◌+◌, ◌-◌, List}
-use Rattle.rtk_summary.specs.ReadFrames.{ReadFrame, faults_in}
+use Rattle.rtk_survey.specs.ReadFrames.{ReadFrame, faults_in}
 use Rattle.rtk_summary.specs.Standing.{StandsForFrames}
 use Rattle.rtk_auto.specs.Lists.{unread_lines_from}
 use Rattle.rtk_auto.proofs.lists.put_numbered.Given as goal

@@ -1,5 +1,5 @@
 use Rattle.std.proofs.Common.{◌++◌, ap, ◌∙◌}
-use Rattle.rtk_summary.specs.ReadFrames.{faults_in}
+use Rattle.rtk_survey.specs.ReadFrames.{faults_in}
 use Rattle.rtk_auto.specs.Lists.{unread_gps, unread_glonass_to_sbas, unread_qzss_to_navic, all_unread}
 use Rattle.rtk_auto.proofs.PutLemmas.{three-parts}
 use Rattle.rtk_auto.proofs.lists.put_unread.Goals as goal

@@ -1,5 +1,5 @@
 use Rattle.std.proofs.Common.{◌++◌, ap, ◌∙◌, append_assoc, codes}
-use Rattle.rtk_summary.specs.ReadFrames.{faults_in}
+use Rattle.rtk_survey.specs.ReadFrames.{faults_in}
 use Rattle.rtk_auto.specs.Lists.{unread_lines_from, unread_gps}
 use Rattle.rtk_auto.proofs.lists.put_unread_gps.Goals as goal
 

@@ -1,5 +1,5 @@
 use Rattle.std.proofs.Common.{◌≡◌, ◌++◌, drop}
-use Rattle.rtk_summary.specs.SummaryText.{joined_names}
+use Rattle.rtk_survey.specs.SummaryText.{joined_names}
 use Rattle.rtk_auto.proofs.said_command.put_codes.Given as goal
 
 -- the names so far and those of the codes that are left are the names of all

@@ -1,5 +1,5 @@
 use Rattle.std.proofs.Common.{◌≡◌, List, length}
-use Rattle.rtk_summary.specs.ReadFrames.{ReadFrame}
+use Rattle.rtk_survey.specs.ReadFrames.{ReadFrame}
 use Rattle.rtk_find.specs.Captures.{StandsForCaptures}
 use Rattle.rtk_cli.specs.FindsText.{AreFound}
 use Rattle.rtk_cli.proofs.auto_reading.read_all.Given as goal

@@ -2,7 +2,7 @@ use Rattle.std.proofs.Common.{◌≡◌, ◌++◌, List, true, false, sym, ap, s
 use Rattle.std.proofs.lemmas.Bool.{eq-eqb}
 use Rattle.rtk_message.specs.AnyDecoded.{number_of}
 use Rattle.rtk_obs.specs.declared.cell.CellEntry.{CellEntry}
-use Rattle.rtk_summary.specs.Tracing.{is_numbered}
+use Rattle.rtk_survey.specs.Tracing.{is_numbered}
 use Rattle.rtk_find.specs.Phases.{entries_numbered, StandsForTable}
 use Rattle.rtk_find.proofs.StationLemmas.{numbered, not-numbered}
 use Rattle.rtk_find.proofs.phases.take_numbered.Goals as goal

@@ -1,6 +1,6 @@
 use Rattle.std.proofs.Common.{ap, ◌∙◌}
-use Rattle.rtk_summary.specs.declared.msm_parts.MsmPart.{MsmPart}
-use Rattle.rtk_summary.proofs.MsmLemmas.{stands-of}
+use Rattle.rtk_survey.specs.declared.msm_parts.MsmPart.{MsmPart}
+use Rattle.rtk_survey.proofs.PublicLaws.{stands-of}
 use Rattle.rtk_summary.proofs.chosen.count_of_station.Goals as goal
 
 pub returns : goal.returns

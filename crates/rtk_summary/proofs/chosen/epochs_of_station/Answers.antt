@@ -1,7 +1,7 @@
 use Rattle.std.proofs.Common.{ap, ◌∙◌}
-use Rattle.rtk_summary.specs.declared.msm_parts.MsmPart.{MsmPart}
-use Rattle.rtk_summary.specs.declared.epochs.Epochs.{Epochs}
-use Rattle.rtk_summary.proofs.MsmLemmas.{stands-of}
+use Rattle.rtk_survey.specs.declared.msm_parts.MsmPart.{MsmPart}
+use Rattle.rtk_survey.specs.declared.epochs.Epochs.{Epochs}
+use Rattle.rtk_survey.proofs.PublicLaws.{stands-of}
 use Rattle.rtk_summary.proofs.chosen.epochs_of_station.Goals as goal
 
 pub returns : goal.returns

@@ -4,7 +4,7 @@ use Rattle.std.specs.Prelude.{filter}
 use Rattle.rtk_obs.specs.declared.code.Code.{Code}
 use Rattle.rtk_obs.specs.declared.code.Code.TheVariants.{G1C}
 use Rattle.rtk_obs.specs.Code.{place_of, all_codes}
-use Rattle.rtk_summary.proofs.LineLemmas.{code-kept, code-left}
+use Rattle.rtk_survey.proofs.PublicLaws.{code-kept, code-left}
 use Rattle.rtk_summary.proofs.chosen.marked_codes.Goals.{then-marks-place+in_ok-push, else-marks-place}
 use Rattle.rtk_summary.proofs.chosen.marked_codes.Goals as goal
 

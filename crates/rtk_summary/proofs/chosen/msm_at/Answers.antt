@@ -1,4 +1,4 @@
-use Rattle.rtk_summary.specs.ReadFrames.{messages_from}
+use Rattle.rtk_survey.specs.ReadFrames.{messages_from}
 use Rattle.rtk_summary.proofs.chosen.msm_at.Goals as goal
 
 pub returns : goal.returns

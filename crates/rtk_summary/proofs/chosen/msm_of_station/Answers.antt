@@ -1,7 +1,7 @@
 use Rattle.std.proofs.Common.{ℕ, ap, ◌∙◌}
 use Rattle.rtk_message.specs.declared.msm_kind.MsmKind.{MsmKind}
-use Rattle.rtk_summary.specs.Proposal.{proposed}
-use Rattle.rtk_summary.proofs.MsmLemmas.{epochs-are}
+use Rattle.rtk_survey.specs.Proposal.{proposed}
+use Rattle.rtk_survey.proofs.PublicLaws.{epochs-are}
 use Rattle.rtk_summary.proofs.chosen.msm_of_station.Goals as goal
 
 pub returns : goal.returns

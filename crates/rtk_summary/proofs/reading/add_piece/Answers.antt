@@ -1,6 +1,6 @@
 use Rattle.std.proofs.Common.{◌∙◌, arith}
-use Rattle.rtk_summary.proofs.CutLemmas.{head-more}
-use Rattle.rtk_summary.proofs.ReadLemmas.{length-first}
+use Rattle.rtk_survey.proofs.PublicLaws.{head-more}
+use Rattle.rtk_survey.proofs.PublicLaws.{length-first}
 use Rattle.rtk_summary.proofs.reading.add_piece.Goals as goal
 
 pub add-requires : goal.add-requires

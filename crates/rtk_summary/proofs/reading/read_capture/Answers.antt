@@ -2,10 +2,10 @@ use Rattle.std.proofs.Common.{◌≡◌, ◌+◌, ◌++◌, ℕ, List, length, t
 use Rattle.rtk_frame.specs.Frames.{final_frames, payloads, pending}
 use Rattle.rtk_frame.specs.ScannerView.{ScannerView}
 use Rattle.rtk_frame.specs.Stream.{with_more}
-use Rattle.rtk_summary.specs.Counting.{shown_count}
+use Rattle.rtk_survey.specs.Counting.{shown_count}
 use Rattle.rtk_summary.specs.Steps.Followed.{Follows}
-use Rattle.rtk_summary.proofs.FreshLemmas.{as-many}
-use Rattle.rtk_summary.proofs.ReadLemmas.{read-nothing, read-piece, read-end, count-rises, refilled, length-first}
+use Rattle.rtk_summary.proofs.ReadLemmas.{read-nothing, read-piece, read-end}
+use Rattle.rtk_survey.proofs.PublicLaws.{as-many, count-rises, refilled, length-first}
 use Rattle.rtk_summary.proofs.reading.read_capture.Goals as goal
 
 pub reads-init : goal.reads-init

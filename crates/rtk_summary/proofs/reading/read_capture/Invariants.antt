@@ -1,5 +1,5 @@
 use Rattle.std.proofs.Common.{◌≡◌, ◌≤◌, ◌+◌, false, length}
-use Rattle.rtk_summary.specs.Summary.{HasRisenBy}
+use Rattle.rtk_survey.specs.Summary.{HasRisenBy}
 use Rattle.rtk_summary.proofs.ReadLemmas.{HasRead}
 use Rattle.rtk_summary.proofs.reading.read_capture.Given as goal
 

@@ -1,6 +1,6 @@
 use Rattle.std.proofs.Common.{Option, ℕ, refl, sym, ap, subst, ◌∙◌}
-use Rattle.rtk_dates.specs.declared.date_message.DateMessage.{DateMessage}
-use Rattle.rtk_summary.specs.ReadFrames.{messages_in}
+use Rattle.rtk_survey.specs.declared.date_message.DateMessage.{DateMessage}
+use Rattle.rtk_survey.specs.ReadFrames.{messages_in}
 use Rattle.rtk_find.specs.Finding.{with_date_if_any, StandForStationPhases}
 use Rattle.rtk_find.specs.declared.finding.Dates.{Dates}
 use Rattle.rtk_find.proofs.StationLemmas.{station-of-date}

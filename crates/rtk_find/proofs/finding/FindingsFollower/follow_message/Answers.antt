@@ -1,5 +1,5 @@
 use Rattle.std.proofs.Common.{refl, ap, ◌∙◌}
-use Rattle.rtk_summary.specs.ReadFrames.{messages_in}
+use Rattle.rtk_survey.specs.ReadFrames.{messages_in}
 use Rattle.rtk_find.specs.declared.finding.Dates.{Dates}
 use Rattle.rtk_find.proofs.StationLemmas.{station-of-dates}
 use Rattle.rtk_find.proofs.finding.FindingsFollower.follow_message.Goals as goal

@@ -1,6 +1,6 @@
 use Rattle.std.proofs.Common.{ℕ, Option, Some, ap, ◌∙◌, arith}
 use Rattle.std.specs.Prelude.{unwrap_or}
-use Rattle.rtk_summary.specs.ReadFrames.{messages_in}
+use Rattle.rtk_survey.specs.ReadFrames.{messages_in}
 use Rattle.rtk_find.specs.Heard.{first_station}
 use Rattle.rtk_find.proofs.heard.Contents.take_message.Goals as goal
 

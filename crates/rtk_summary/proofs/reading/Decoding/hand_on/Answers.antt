@@ -3,7 +3,7 @@ use Rattle.rtk_bits.specs.Bits.{bits}
 use Rattle.rtk_message.specs.declared.any_message.AnyMessage.{AnyMessage}
 use Rattle.rtk_message.specs.declared.any_fault.AnyFault.{AnyFault}
 use Rattle.rtk_message.specs.AnyDecoded.{DecodesBy}
-use Rattle.rtk_summary.specs.ReadFrames.{messages_read, read_frame}
+use Rattle.rtk_survey.specs.ReadFrames.{messages_read, read_frame}
 use Rattle.rtk_summary.proofs.reading.Decoding.hand_on.Goals as goal
 
 pub returns-in-Ok : goal.returns-in-Ok

@@ -1,10 +1,10 @@
 use Rattle.std.proofs.Common.{◌≡◌, ℕ, List, length, sym, ap, subst, ◌∙◌, arith}
 use Rattle.std.specs.Prelude.{filter, IfOk}
 use Rattle.rtk_obs.specs.Code.{all_codes}
-use Rattle.rtk_summary.specs.Proposal.{entries_with}
-use Rattle.rtk_summary.specs.ReadFrames.{messages_in, messages_from}
+use Rattle.rtk_survey.specs.Proposal.{entries_with}
+use Rattle.rtk_survey.specs.ReadFrames.{messages_in, messages_from}
 use Rattle.rtk_summary.specs.Standing.{StandForStations}
-use Rattle.rtk_summary.specs.Tracing.{has_code}
+use Rattle.rtk_survey.specs.Tracing.{has_code}
 use Rattle.rtk_summary.specs.declared.station.Station.{Station}
 use Rattle.rtk_summary.proofs.summary.Summary.codes_of.Goals as goal
 

@@ -1,6 +1,6 @@
 use Rattle.std.proofs.Common.{ℕ, List, length, sym, ap, subst, ◌∙◌, arith}
-use Rattle.rtk_summary.specs.Proposal.{epochs_with_value}
-use Rattle.rtk_summary.specs.ReadFrames.{messages_in, messages_from}
+use Rattle.rtk_survey.specs.Proposal.{epochs_with_value}
+use Rattle.rtk_survey.specs.ReadFrames.{messages_in, messages_from}
 use Rattle.rtk_summary.specs.Standing.{StandForStations}
 use Rattle.rtk_summary.specs.declared.station.Station.{Station}
 use Rattle.rtk_summary.proofs.summary.Summary.epochs_of.Goals as goal

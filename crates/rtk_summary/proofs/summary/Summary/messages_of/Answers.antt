@@ -1,8 +1,8 @@
 use Rattle.std.proofs.Common.{ℕ, List, length, sym, ap, subst, ◌∙◌, arith}
 use Rattle.rtk_message.specs.Systems.{number_of_kind}
-use Rattle.rtk_summary.specs.Counting.{count_of}
-use Rattle.rtk_summary.specs.Tracing.{is_numbered}
-use Rattle.rtk_summary.specs.ReadFrames.{messages_in, messages_from}
+use Rattle.rtk_survey.specs.Counting.{count_of}
+use Rattle.rtk_survey.specs.Tracing.{is_numbered}
+use Rattle.rtk_survey.specs.ReadFrames.{messages_in, messages_from}
 use Rattle.rtk_summary.specs.Standing.{StandForStations}
 use Rattle.rtk_summary.specs.declared.station.Station.{Station}
 use Rattle.rtk_summary.proofs.summary.Summary.messages_of.Goals as goal

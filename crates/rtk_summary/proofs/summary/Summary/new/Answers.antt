@@ -1,5 +1,6 @@
 use Rattle.std.proofs.Common.{refl}
-use Rattle.rtk_summary.proofs.FreshLemmas.{as-many, fresh-stations}
+use Rattle.rtk_summary.proofs.FreshLemmas.{fresh-stations}
+use Rattle.rtk_survey.proofs.PublicLaws.{as-many}
 use Rattle.rtk_summary.proofs.summary.Summary.new.Goals as goal
 
 pub returns : goal.returns

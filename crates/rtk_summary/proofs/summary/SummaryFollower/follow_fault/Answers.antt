@@ -1,6 +1,6 @@
 use Rattle.std.proofs.Common.{arith}
-use Rattle.rtk_summary.specs.EquipmentTold.{equipment_among}
-use Rattle.rtk_summary.specs.ReadFrames.{faults_in}
+use Rattle.rtk_survey.specs.FrameEquipment.{equipment_among}
+use Rattle.rtk_survey.specs.ReadFrames.{faults_in}
 use Rattle.rtk_summary.proofs.summary.SummaryFollower.follow_fault.Goals as goal
 
 pub returns : goal.returns

@@ -1,2 +1,0 @@
-pub mod BitLemmas
-pub mod ListLemmas

@@ -1,3 +1,0 @@
-pub mod EquipmentMessages
-pub mod StandingStations
-pub mod Told

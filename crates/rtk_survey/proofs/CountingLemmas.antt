@@ -1,0 +1,206 @@
+-- What a summary counts, and the parts that stand in it.
+use Rattle.std.proofs.Common.{◌≡◌, ◌<◌, ◌+◌, ◌==◌, ℕ, suc, Bool, false, ◌&&◌, not, cond, List, [], ◌∷◌, ◌++◌, length, take, codes, refl, sym, ap, subst, ◌∙◌, append_assoc, Result, Ok, Err, ne_eqb, arith}
+use Rattle.std.specs.Prelude.{flat_map}
+use Rattle.std.specs.List.{AllByRecursion, count_by, sum_by}
+use Rattle.std.proofs.Math.Path.{fun_ext}
+use Rattle.std.proofs.lemmas.List.{append-nil, length-map}
+use Rattle.std.proofs.lemmas.List.Sums.{sum_by-cons, count_by-le-length}
+use Rattle.rtk_frame.specs.Frames.{Frame, frames, payloads}
+use Rattle.rtk_message.specs.declared.any_message.AnyMessage.{AnyMessage}
+use Rattle.rtk_message.specs.declared.any_message.AnyMessage.TheVariants as any
+use Rattle.rtk_message.specs.declared.any_fault.AnyFault.{AnyFault}
+use Rattle.rtk_message.specs.declared.message.Message.TheVariants.{Obs1004, Arp1005, Arp1006, Msm1074}
+use Rattle.rtk_message.specs.declared.msm_kind.MsmKind.{MsmKind}
+use Rattle.rtk_message.specs.declared.msm_kind.MsmKind.TheVariants.{Msm4, Msm5, Msm6, Msm7}
+use Rattle.rtk_message.specs.declared.system.System.{System}
+use Rattle.rtk_message.specs.declared.system.System.TheVariants.{Gps}
+use Rattle.rtk_bits.specs.Bits.{bits}
+use Rattle.rtk_message.specs.Accepted.{all_kinds}
+use Rattle.rtk_message.specs.AnyDecoded.{DecodesBy, number_of}
+use Rattle.rtk_message.specs.MsmForm.{type_of}
+use Rattle.rtk_message.specs.Systems.{number_of_type, number_of_kind}
+use Rattle.rtk_message.proofs.PublicLaws.{accepts-type, takes-gps}
+use Rattle.rtk_survey.specs.Counting.{count_of}
+use Rattle.rtk_survey.specs.CountingLaws.{IsReadMessage, EachFrameIsCounted, EachMessageIsCounted, StandsIn, PartsStand, StationsStand, ProposalsStand, UntakenStand}
+use Rattle.rtk_survey.specs.EquipmentHistory.{equipment_of}
+use Rattle.rtk_survey.specs.declared.equipment.Equipment.{Equipment}
+use Rattle.rtk_survey.specs.FrameDates.{dates_in, station_dates, proposed_date}
+use Rattle.rtk_survey.specs.FrameEquipment.{equipment_among, is_mentioned, told_lines}
+use Rattle.rtk_survey.specs.NumberLaws.{IsHeld}
+use Rattle.rtk_survey.specs.Proposal.{epochs_in, times_with_value, epochs_with_value, entries_with}
+use Rattle.rtk_survey.specs.ReadFrames.{messages_read, ReadFrame, ReadsFrames, read_frame, with_message, with_fault, bytes_in, messages_in, faults_in, messages_from}
+use Rattle.rtk_survey.specs.Summary.{all_numbers, size_lines, station_lines, lines_if_any, stations_text, weeks_text, unread_lines, summary_text}
+use Rattle.rtk_survey.specs.SummaryText.{number_line, counted_line, numbered_line, time_lines, look_line, near_text, signal_lines, proposal_lines, codes_text, nothing_line, untaken_numbers}
+use Rattle.rtk_survey.specs.declared.station_dates.StationDates.{StationDates}
+use Rattle.rtk_survey.specs.Tracing.{is_numbered, is_other, is_short, is_outside_week, is_no_number, is_too_many_cells, times_of_week, entries_in, has_satellite, has_code}
+use Rattle.rtk_survey.proofs.SummaryTellingLemmas.{each-weaker, of-all}
+
+-- ---- what is counted
+
+as-many : (ps : List (List ℕ)) (before after : List ReadFrame) → ReadsFrames ps before after → length after ≡ length before + length ps
+as-many [] before after reads = let same = ap (λ (fs : List ReadFrame). length fs) reads in omega (arith, same)
+as-many (p ∷ ps) before after reads = let more = as-many ps (read_frame p reads.0 ∷ before) after reads.2 in omega (arith, more)
+
+sizes : List (List ℕ) → ℕ
+sizes ps = sum_by (λ (payload : List ℕ). length payload + 6) ps
+
+as-long : (ps : List (List ℕ)) (before after : List ReadFrame) → ReadsFrames ps before after → bytes_in after ≡ bytes_in before + sizes ps
+unfolding sizes
+as-long [] before after reads = let same = ap bytes_in reads in omega (arith, same)
+as-long (p ∷ ps) before after reads =
+    let more = as-long ps (read_frame p reads.0 ∷ before) after reads.2 in
+    let one = sum_by-cons (λ (payload : List ℕ). length payload + 6) p ps in
+    omega (arith, more, one)
+
+one-of-two : (reading : Result AnyMessage AnyFault) (ms : List AnyMessage) (fs : List AnyFault) → length (with_message reading ms) + length (with_fault reading fs) ≡ suc (length ms + length fs)
+one-of-two (Ok m) ms fs = omega arith
+one-of-two (Err fault) ms fs = omega arith
+
+each-is : (fs : List ReadFrame) → length (messages_in fs) + length (faults_in fs) ≡ length fs
+each-is [] = omega arith
+each-is (f ∷ before) =
+    let rest = each-is before in
+    let one = one-of-two f.reading (messages_in before) (faults_in before) in
+    omega (arith, rest, one)
+
+-- the messages that are read are those of the set
+one-read : (reading : Result AnyMessage AnyFault) (bs : List Bool) (ms : List AnyMessage) → DecodesBy messages_read bs reading → AllByRecursion IsReadMessage ms → AllByRecursion IsReadMessage (with_message reading ms)
+one-read (Ok m) bs ms d read = (d.accepted, read)
+one-read (Err fault) bs ms d read = read
+
+all-read : (ps : List (List ℕ)) (before after : List ReadFrame) → ReadsFrames ps before after → AllByRecursion IsReadMessage (messages_in before) → AllByRecursion IsReadMessage (messages_in after)
+all-read [] before after reads read = subst (λ (fs : List ReadFrame). AllByRecursion IsReadMessage (messages_in fs)) (sym reads) read
+all-read (p ∷ ps) before after reads read = all-read ps (read_frame p reads.0 ∷ before) after reads.2 (one-read reads.0 (bits p) (messages_in before) reads.1 read)
+
+pub frames-counted : EachFrameIsCounted
+unfolding sizes
+frames-counted bytes fs reads =
+    let all = as-many (payloads (frames bytes)) [] fs reads in
+    let framed = as-long (payloads (frames bytes)) [] fs reads in
+    let size = length-map (frames bytes) (λ (f : Frame). f.payload) in
+    record { all = omega (arith, all, size); framed = omega (arith, framed); each = each-is fs; read = all-read (payloads (frames bytes)) [] fs reads tt }
+
+-- how many of the seven numbers this one is
+hits : ℕ → ℕ
+hits k =
+    cond (k == 1004) 1 0 + cond (k == 1005) 1 0 + cond (k == 1006) 1 0 + cond (k == 1074) 1 0 + cond (k == 1075) 1 0 + cond (k == 1076) 1 0 + cond (k == 1077) 1 0
+
+hit-kind : (kind : MsmKind) → hits (number_of_kind kind) ≡ 1
+unfolding hits
+hit-kind Msm4 = refl
+hit-kind Msm5 = refl
+hit-kind Msm6 = refl
+hit-kind Msm7 = refl
+
+hit : (m : AnyMessage) → IsReadMessage m → hits (number_of m) ≡ 1
+unfolding hits
+hit (any.Message (Obs1004 m)) read = refl
+hit (any.Message (Arp1005 m)) read = refl
+hit (any.Message (Arp1006 m)) read = refl
+hit (any.Message (Msm1074 m)) read = refl
+hit (any.Msm m) read =
+    let is_gps : m.system ≡ Gps = takes-gps all_kinds (type_of m) (sym (accepts-type messages_read (type_of m)) ∙ read) in
+    subst (λ (s : System). hits (number_of_type (record { system = s; kind = m.kind })) ≡ 1) (sym is_gps) (hit-kind m.kind)
+
+pub messages-counted : EachMessageIsCounted
+unfolding hits
+messages-counted [] read = refl
+messages-counted (m ∷ ms) read =
+    let count : ℕ → AnyMessage → ℕ = λ n x. cond (is_numbered n x) 1 0 in
+    let rest = messages-counted ms read.1 in
+    let one = hit m read.0 in
+    let a = sum_by-cons (count 1004) m ms in
+    let b = sum_by-cons (count 1005) m ms in
+    let c = sum_by-cons (count 1006) m ms in
+    let d = sum_by-cons (count 1074) m ms in
+    let e = sum_by-cons (count 1075) m ms in
+    let f = sum_by-cons (count 1076) m ms in
+    let g = sum_by-cons (count 1077) m ms in
+    omega (arith, rest, one, a, b, c, d, e, f, g)
+
+-- ---- what stands in the text
+
+behind-regrouped : (u b p a : List ℕ) → u ++ (b ++ p ++ a) ≡ (u ++ b) ++ p ++ a
+behind-regrouped u b p a = simp append_assoc
+
+stands-behind : (u part text : List ℕ) → StandsIn part text → StandsIn part (u ++ text)
+stands-behind u part text stands = (u ++ stands.0, stands.1, ap (λ (t : List ℕ). u ++ t) stands.2 ∙ behind-regrouped u stands.0 part stands.1)
+
+stands-before : (part text v : List ℕ) → StandsIn part text → StandsIn part (text ++ v)
+stands-before part text v stands = (stands.0, stands.1 ++ v, ap (λ (t : List ℕ). t ++ v) stands.2 ∙ append_assoc (stands.0 ++ part) stands.1 v)
+
+stands-first : (part v : List ℕ) → StandsIn part (part ++ v)
+stands-first part v = ([], v, refl)
+
+each-stands : (f : ℕ → List ℕ) (ns : List ℕ) → AllByRecursion (λ n. StandsIn (f n) (flat_map f ns)) ns
+each-stands f [] = tt
+each-stands f (n ∷ ns) =
+    (stands-first (f n) (flat_map f ns), each-weaker (λ k. StandsIn (f k) (flat_map f ns)) (λ k. StandsIn (f k) (f n ++ flat_map f ns)) ns (λ k stands. stands-behind (f n) (f k) (flat_map f ns) stands) (each-stands f ns))
+
+pub parts-stand : PartsStand
+unfolding summary_text
+parts-stand name bytes fs =
+    let head : List ℕ = size_lines (length bytes) fs ++ look_line (length fs) (take 512 bytes) in
+    let stations : List ℕ = stations_text name (messages_in fs) (dates_in fs) (equipment_among fs) in
+    let weeks : List ℕ = weeks_text (dates_in fs) in
+    let unread : List ℕ = unread_lines (faults_in fs) in
+    let last : List ℕ = nothing_line (codes_text (has_code (entries_in (messages_in fs)))) in (
+      (head, weeks ++ unread ++ last, append_assoc (head ++ stations ++ weeks) unread last ∙ append_assoc (head ++ stations) weeks (unread ++ last) ∙ ap (λ (t : List ℕ). (head ++ stations) ++ t) (sym (append_assoc weeks unread last))),
+      (head ++ stations, unread ++ last, append_assoc (head ++ stations ++ weeks) unread last),
+      (head ++ stations ++ weeks, last, refl),
+    )
+
+lines-if-some : (name : List ℕ) (n : ℕ) (ms : List AnyMessage) (d : StationDates) (e : Equipment) → 0 < length ms → lines_if_any name n ms d e ≡ station_lines name n ms d e
+lines-if-some name n ms d e some =
+    let above : (length ms == 0) ≡ false = ne_eqb (length ms) 0 (λ none. omega (arith, none, some)) in
+    ap (λ (b : Bool). cond (b && not (is_mentioned d e)) [] (station_lines name n ms d e)) above
+
+pub stations-stand : StationsStand
+unfolding stations_text
+stations-stand name ms ds es n within some =
+    let f : ℕ → List ℕ = λ s. lines_if_any name s (messages_from s ms) (station_dates s ds) (equipment_of s es) in
+    subst (λ (part : List ℕ). StandsIn part (flat_map f all_numbers)) (lines-if-some name n (messages_from n ms) (station_dates n ds) (equipment_of n es) some)
+    (of-all (λ k. StandsIn (f k) (flat_map f all_numbers)) (each-stands f all_numbers) n within)
+
+epochs-are : (ms : List AnyMessage) → ((kind : MsmKind) → IsHeld (epochs_in (times_with_value kind ms))) → ◌≡◌ {A = MsmKind → ℕ} (λ kind. epochs_with_value kind ms) (λ kind. epochs_in (times_with_value kind ms))
+epochs-are ms held = fun_ext (λ kind. let few = held kind in omega (arith, few))
+
+pub proposals-stand : ProposalsStand
+unfolding station_lines
+proposals-stand name station ms d e held =
+    let proposal : (MsmKind → ℕ) → List ℕ = λ epochs. proposal_lines name (near_text (proposed_date d)) station epochs (λ kind. has_code (entries_with kind ms)) in
+    let count : List ℕ → ℕ → List ℕ = λ words n. counted_line words (count_of (is_numbered n) ms) in
+    let lines : List ℕ =
+    number_line (codes "station ") station
+    ++ count (codes " message 1004 ") 1004
+    ++ count (codes " message 1005 ") 1005
+    ++ count (codes " message 1006 ") 1006
+    ++ count (codes " message 1074 ") 1074
+    ++ count (codes " message 1075 ") 1075
+    ++ count (codes " message 1076 ") 1076
+    ++ count (codes " message 1077 ") 1077
+    ++ time_lines (times_of_week ms)
+    ++ told_lines d e
+    ++ signal_lines (has_satellite (entries_in ms)) (has_code (entries_in ms)) in
+    let whole = append-nil (station_lines name station ms d e) in
+    subst (λ (epochs : MsmKind → ℕ). StandsIn (proposal epochs) (station_lines name station ms d e)) (epochs-are ms held) (lines, [], sym whole)
+
+pub untaken-stand : UntakenStand
+unfolding unread_lines
+untaken-stand fs few =
+    let other : ℕ → ℕ = λ n. count_of (is_other n) fs in
+    let line : ℕ → List ℕ = λ n. numbered_line (codes "untaken GPS ") n (other n) in
+    let others : List ℕ = flat_map (λ n. numbered_line (codes "other ") n (other n)) all_numbers in
+    let one : List ℕ = counted_line (codes "refused M1 - ") (count_of is_no_number fs) in
+    let three : List ℕ = flat_map (λ n. numbered_line (codes "refused M3 ") n (count_of (is_short n) fs)) all_numbers in
+    let four : List ℕ = flat_map (λ n. numbered_line (codes "refused M4 ") n (count_of (is_outside_week n) fs)) all_numbers in
+    let five : List ℕ = flat_map (λ n. numbered_line (codes "refused M5 ") n (count_of (is_too_many_cells n) fs)) all_numbers in
+    let untaken : List ℕ = flat_map line untaken_numbers in
+    each-weaker (λ n. StandsIn (line n) (flat_map line untaken_numbers)) (λ n. StandsIn (numbered_line (codes "untaken GPS ") n (count_by (is_other n) fs)) (unread_lines fs)) untaken_numbers
+    (λ n stands.
+    let most = count_by-le-length (is_other n) fs in
+    let told : other n ≡ count_by (is_other n) fs = omega (arith, most, few) in
+    subst (λ (k : ℕ). StandsIn (numbered_line (codes "untaken GPS ") n k) (unread_lines fs)) told
+    (stands-before (line n) (others ++ untaken ++ one ++ three ++ four) five (stands-before (line n) (others ++ untaken ++ one ++ three) four
+    (stands-before (line n) (others ++ untaken ++ one) three (stands-before (line n) (others ++ untaken) one (stands-behind others (line n) untaken stands))))))
+    (each-stands line untaken_numbers)

@@ -1,0 +1,100 @@
+-- The stations that were heard, each with its own messages, dates, antenna and receiver.
+use Rattle.std.proofs.Common.{◌≡◌, ◌≢◌, ℕ, Bool, true, false, cond, List, [], ◌∷◌, Option, None, Some, Result, Ok, Err, OnOk, refl, sym, ap, subst, ◌∙◌, ne_eqb, arith}
+use Rattle.std.proofs.lemmas.Bool.{eq-eqb}
+use Rattle.std.specs.BTreeMap.{BTreeMap, get, is_at, Updates}
+use Rattle.std.specs.Map.{lookup}
+use Rattle.std.specs.Option.{unwrap_or}
+use Rattle.std.specs.Ordering.{nat_cmp}
+use Rattle.rtk_message.specs.declared.any_message.AnyMessage.{AnyMessage}
+use Rattle.rtk_message.specs.AnyDecoded.{station_of}
+use Rattle.rtk_survey.specs.Contents.{IsStationOf, IsHeard, AreStations}
+use Rattle.rtk_survey.specs.EquipmentHistory.{no_equipment, equipment_of, with_message}
+use Rattle.rtk_survey.specs.FrameDates.{no_station_dates, station_dates}
+use Rattle.rtk_survey.specs.ReadFrames.{messages_from, is_of_station}
+use Rattle.rtk_survey.specs.declared.date_message.DateMessage.{DateMessage}
+use Rattle.rtk_survey.specs.declared.date_message.DateMessage.TheVariants.{Utc, Ephemeris}
+use Rattle.rtk_survey.specs.declared.date_message.EphemerisDate.{EphemerisDate}
+use Rattle.rtk_survey.specs.declared.date_message.UtcDate.{UtcDate}
+use Rattle.rtk_survey.specs.declared.equipment.Equipment.{Equipment}
+use Rattle.rtk_survey.specs.declared.equipment_message.EquipmentMessage.{EquipmentMessage}
+use Rattle.rtk_survey.specs.declared.station.StationSurvey.{StationSurvey}
+use Rattle.rtk_survey.specs.declared.station_dates.StationDates.{StationDates}
+use Rattle.rtk_survey.proofs.DateLemmas.{same-dates-of, same-dates-without}
+use Rattle.rtk_survey.proofs.MapLemmas.{put-one}
+
+-- a message of a station is one of its messages, and one of another is none
+own-message : (station : ℕ) (m : AnyMessage) (ms : List AnyMessage) → station ≡ station_of m → messages_from station (m ∷ ms) ≡ m ∷ messages_from station ms
+own-message station m ms same =
+    let yes : is_of_station station m ≡ true = eq-eqb (station_of m) station (sym same) in
+    ap (λ (b : Bool). cond b (m ∷ messages_from station ms) (messages_from station ms)) yes
+
+other-message : (station : ℕ) (m : AnyMessage) (ms : List AnyMessage) → station ≢ station_of m → messages_from station (m ∷ ms) ≡ messages_from station ms
+other-message station m ms other =
+    let no : is_of_station station m ≡ false = grind arith in
+    ap (λ (b : Bool). cond b (m ∷ messages_from station ms) (messages_from station ms)) no
+
+own-equipment : (station : ℕ) (m : EquipmentMessage) (es : List EquipmentMessage) → station ≡ m.station → equipment_of station (m ∷ es) ≡ with_message m (equipment_of station es)
+own-equipment station m es same =
+    ap (λ (b : Bool). cond b (with_message m (equipment_of station es)) (equipment_of station es)) (eq-eqb m.station station (sym same))
+
+other-equipment : (station : ℕ) (m : EquipmentMessage) (es : List EquipmentMessage) → station ≢ m.station → equipment_of station (m ∷ es) ≡ equipment_of station es
+other-equipment station m es other =
+    ap (λ (b : Bool). cond b (with_message m (equipment_of station es)) (equipment_of station es)) (ne_eqb m.station station (λ same. other (sym same)))
+
+-- the survey of a station is that of its entry, else a new one
+entry-or-new : (ms : List AnyMessage) (d : StationDates) (e : Equipment) (o : Option StationSurvey) (new : StationSurvey)
+    → IsHeard ms d e o → IsStationOf [] no_station_dates no_equipment new → IsStationOf ms d e (unwrap_or o new)
+entry-or-new ms d e None new nothing begins =
+    subst (λ (x : List AnyMessage). IsStationOf x d e new) (sym nothing.0)
+    (subst (λ (x : StationDates). IsStationOf [] x e new) (sym nothing.1) (subst (λ (x : Equipment). IsStationOf [] no_station_dates x new) (sym nothing.2) begins))
+entry-or-new ms d e (Some s) new is begins = is
+
+module _ (m m' : BTreeMap ℕ StationSurvey) (old new fresh : StationSurvey) (ms : List AnyMessage) (ds : List DateMessage) (es : List EquipmentMessage) where
+  entry-is : (k : ℕ) → old ≡ unwrap_or (get nat_cmp m k) fresh → IsStationOf [] no_station_dates no_equipment fresh → AreStations ms ds es m
+      → IsStationOf (messages_from k ms) (station_dates k ds) (equipment_of k es) old
+  entry-is k was begins all =
+      subst (λ (s : StationSurvey). IsStationOf (messages_from k ms) (station_dates k ds) (equipment_of k es) s) (sym was)
+      (entry-or-new (messages_from k ms) (station_dates k ds) (equipment_of k es) (get nat_cmp m k) fresh (all k) begins)
+
+  -- a message more
+  pub message-more : (x : AnyMessage) (k : ℕ) → k ≡ station_of x → old ≡ unwrap_or (get nat_cmp m k) fresh → IsStationOf [] no_station_dates no_equipment fresh → Updates nat_cmp m m' k (Some new)
+      → ((own : List AnyMessage) (d : StationDates) (e : Equipment) → IsStationOf own d e old → IsStationOf (x ∷ own) d e new)
+      → AreStations ms ds es m → AreStations (x ∷ ms) ds es m'
+  message-more x k is was begins puts takes all =
+      put-one (λ n o. IsHeard (messages_from n ms) (station_dates n ds) (equipment_of n es) o) (λ n o. IsHeard (messages_from n (x ∷ ms)) (station_dates n ds) (equipment_of n es) o) m m' k new puts
+      (subst (λ (own : List AnyMessage). IsStationOf own (station_dates k ds) (equipment_of k es) new) (sym (own-message k x ms is))
+      (takes (messages_from k ms) (station_dates k ds) (equipment_of k es) (entry-is k was begins all)))
+      (λ n other heard. subst (λ (own : List AnyMessage). IsHeard own (station_dates n ds) (equipment_of n es) (get nat_cmp m n)) (sym (other-message n x ms (λ same. other (same ∙ sym is)))) heard)
+      all
+
+  -- a 1013 or a 1029 more
+  pub date-more-of : (x : UtcDate) → old ≡ unwrap_or (get nat_cmp m x.station) fresh → IsStationOf [] no_station_dates no_equipment fresh → Updates nat_cmp m m' x.station (Some new)
+      → ((own : List AnyMessage) (dates : List DateMessage) (e : Equipment) → IsStationOf own (station_dates x.station dates) e old → IsStationOf own (station_dates x.station (Utc x ∷ dates)) e new)
+      → AreStations ms ds es m → AreStations ms (Utc x ∷ ds) es m'
+  date-more-of x was begins puts takes all =
+      put-one (λ n o. IsHeard (messages_from n ms) (station_dates n ds) (equipment_of n es) o) (λ n o. IsHeard (messages_from n ms) (station_dates n (Utc x ∷ ds)) (equipment_of n es) o) m m' x.station new puts
+      (takes (messages_from x.station ms) ds (equipment_of x.station es) (entry-is x.station was begins all))
+      (λ n other heard. subst (λ (d : StationDates). IsHeard (messages_from n ms) d (equipment_of n es) (get nat_cmp m n)) (sym (same-dates-of n x ds other)) heard)
+      all
+
+  -- a 1007, 1008 or 1033 more
+  pub equipment-more : (x : EquipmentMessage) → old ≡ unwrap_or (get nat_cmp m x.station) fresh → IsStationOf [] no_station_dates no_equipment fresh → Updates nat_cmp m m' x.station (Some new)
+      → ((own : List AnyMessage) (d : StationDates) (e : Equipment) → IsStationOf own d e old → IsStationOf own d (with_message x e) new)
+      → AreStations ms ds es m → AreStations ms ds (x ∷ es) m'
+  equipment-more x was begins puts takes all =
+      put-one (λ n o. IsHeard (messages_from n ms) (station_dates n ds) (equipment_of n es) o) (λ n o. IsHeard (messages_from n ms) (station_dates n ds) (equipment_of n (x ∷ es)) o) m m' x.station new puts
+      (subst (λ (e : Equipment). IsStationOf (messages_from x.station ms) (station_dates x.station ds) e new) (sym (own-equipment x.station x es refl))
+      (takes (messages_from x.station ms) (station_dates x.station ds) (equipment_of x.station es) (entry-is x.station was begins all)))
+      (λ n other heard. subst (λ (e : Equipment). IsHeard (messages_from n ms) (station_dates n ds) e (get nat_cmp m n)) (sym (other-equipment n x es other)) heard)
+      all
+
+-- a message more without a station
+pub ephemeris-more : (m : BTreeMap ℕ StationSurvey) (e : EphemerisDate) (ms : List AnyMessage) (ds : List DateMessage) (es : List EquipmentMessage)
+    → AreStations ms ds es m → AreStations ms (Ephemeris e ∷ ds) es m
+ephemeris-more m e ms ds es all = λ n.
+    subst (λ (d : StationDates). IsHeard (messages_from n ms) d (equipment_of n es) (get nat_cmp m n)) (sym (same-dates-without n e ds)) (all n)
+
+-- none was heard
+pub no-stations : (m : BTreeMap ℕ StationSurvey) → m.entries ≡ [] → AreStations [] [] [] m
+no-stations m empty = λ n.
+    subst (λ (entries : List (ℕ × StationSurvey)). IsHeard (messages_from n []) (station_dates n []) (equipment_of n []) (lookup (is_at (nat_cmp n)) entries)) (sym empty) (refl, refl, refl)

@@ -1,0 +1,13 @@
+use Rattle.std.proofs.Common.{refl}
+use Rattle.rtk_survey.proofs.station.StationSurvey.take_date.Goals as goal
+
+pub returns : goal.returns
+returns c = λ ms ds e stands. record {
+  counts = stands.counts;
+  times = stands.times;
+  signals = stands.signals;
+  msm = stands.msm;
+  point = stands.point;
+  dates = c.count.ensures c.args.date.station ds refl stands.dates;
+  equipment = stands.equipment;
+}

@@ -1,0 +1,16 @@
+use Rattle.std.proofs.Common.{ap, ◌∙◌}
+use Rattle.rtk_survey.specs.EquipmentHistory.{with_message}
+use Rattle.rtk_survey.specs.declared.equipment.Equipment.{Equipment}
+use Rattle.rtk_survey.proofs.ResultLemmas.{on-ok}
+use Rattle.rtk_survey.proofs.station.StationSurvey.take_equipment.Goals as goal
+
+pub returns : goal.returns
+returns c = on-ok c.take_equipment.result (λ took ms d e stands. record {
+  counts = stands.counts;
+  times = stands.times;
+  signals = stands.signals;
+  msm = stands.msm;
+  point = stands.point;
+  dates = stands.dates;
+  equipment = took ∙ ap (λ (x : Equipment). with_message c.args.message x) stands.equipment;
+}) c.take_equipment.ensures

@@ -1,0 +1,109 @@
+-- What a capture tells of the moment of its first epoch (this project's rule).
+use Rattle.std.specs.Prelude.{ℕ, ◌+◌, ◌-◌, ◌==◌, Bool, ◌&&◌, nat_le, nat_lt, List, [], ◌∷◌, ◌++◌, length, Option, None, Some, if◌then◌else◌}
+use Rattle.std.specs.List.{list_any}
+use Rattle.arrayvec.specs.ArrayVec.{ArrayVec}
+use Rattle.rtk_message.specs.Fields.{week_ms}
+use Rattle.rtk_survey.specs.Epochs.{with_time, begun, last_time_of_week}
+use Rattle.rtk_survey.specs.Telling.{told}
+use Rattle.rtk_survey.specs.declared.capture_dates.CaptureDates.{CaptureDates}
+use Rattle.rtk_survey.specs.declared.date_message.DateMessage.{DateMessage}
+use Rattle.rtk_survey.specs.declared.date_message.DateMessage.TheVariants.{Utc, Ephemeris}
+use Rattle.rtk_survey.specs.declared.span.Span.{Span}
+use Rattle.rtk_survey.specs.declared.tellings.Told.{Told}
+use Rattle.rtk_survey.specs.declared.tellings.Tellings.{Tellings}
+
+-- ---- the first epoch that one message tells
+
+-- constant
+-- a moment near which a conversion dates: 1980-01-13 00:00:00.000 to 2099-12-31 23:59:59.999
+abbrev pub is_reference : ℕ → Bool
+is_reference t = nat_le week_ms t && nat_le t 3_786_479_999_999
+
+-- formula
+-- the first epoch, if the last one so far is at this moment; others than references tell nothing
+abbrev pub first_epoch_from : Span → Option ℕ → Option ℕ
+first_epoch_from s None = None
+first_epoch_from s (Some t) = if is_reference (t + s.first - s.last) then Some (t + s.first - s.last) else None
+
+-- the first epoch that a message tells after these epochs, by the present
+abbrev pub first_epoch_told : ℕ → Span → DateMessage → Option ℕ
+first_epoch_told now s d = first_epoch_from s (told now d (last_time_of_week s))
+
+-- ---- what all messages tell
+
+abbrev pub tells_same : ℕ → Told → Bool
+tells_same first x = x.first == first
+
+-- constant
+-- the first 16 first epochs that differ, each with the message that told it first
+abbrev pub with_told : ArrayVec Told → Told → ArrayVec Told
+with_told list x =
+    if list_any (tells_same x.first) list.items then list else
+    if nat_lt (length list.items) 16 then record { items = list.items ++ x ∷ [] } else list
+
+abbrev pub told_first : DateMessage → ℕ → Told
+told_first d first = record { message = d; first = first }
+
+-- dates of the station, those of ephemerides, and dates of other stations stand apart
+abbrev pub with_first : ℕ → DateMessage → ℕ → Tellings → Tellings
+with_first station (Utc d) first t =
+    if d.station == station then record t { own = with_told t.own (told_first (Utc d) first) }
+    else record t { others = with_told t.others (told_first (Utc d) first) }
+with_first station (Ephemeris e) first t = record t { weeks = with_told t.weeks (told_first (Ephemeris e) first) }
+
+abbrev pub with_first_if_any : ℕ → DateMessage → Option ℕ → Tellings → Tellings
+with_first_if_any station d None t = t
+with_first_if_any station d (Some first) t = with_first station d first t
+
+-- a message more after these epochs of the station
+abbrev pub with_telling : ℕ → ℕ → Span → DateMessage → Tellings → Tellings
+with_telling now station s d t = with_first_if_any station d (first_epoch_told now s d) t
+
+-- messages more, in this order
+abbrev pub with_tellings : ℕ → ℕ → Span → List DateMessage → Tellings → Tellings
+with_tellings now station s [] t = t
+with_tellings now station s (d ∷ ds) t = with_tellings now station s ds (with_telling now station s d t)
+
+abbrev pub no_tellings : Tellings
+no_tellings = record { own = record { items = [] }; weeks = record { items = [] }; others = record { items = [] } }
+
+-- ---- the capture so far
+
+abbrev pub no_dates : CaptureDates
+no_dates = record { span = None; waiting = record { items = [] }; told = no_tellings }
+
+-- constant
+-- a message before the first epoch waits for it; 64 wait at most, and others are passed over
+abbrev pub with_waiting : CaptureDates → DateMessage → CaptureDates
+with_waiting c d = if nat_lt (length c.waiting.items) 64 then record c { waiting = record { items = c.waiting.items ++ d ∷ [] } } else c
+
+-- the first epoch of the station, which the messages that wait tell
+abbrev pub with_first_epoch : ℕ → ℕ → CaptureDates → Span → CaptureDates
+with_first_epoch now station c s = record { span = Some s; waiting = record { items = [] }; told = with_tellings now station s c.waiting.items c.told }
+
+-- after some epochs, or none: the time of week of an epoch more of the station
+abbrev pub with_epoch_after : ℕ → ℕ → Option Span → CaptureDates → ℕ → CaptureDates
+with_epoch_after now station None c tow = with_first_epoch now station c (begun tow)
+with_epoch_after now station (Some s) c tow = record c { span = Some (with_time s tow) }
+
+abbrev pub with_epoch_time : ℕ → ℕ → CaptureDates → ℕ → CaptureDates
+with_epoch_time now station c tow = with_epoch_after now station c.span c tow
+
+-- after some epochs, or none: a date message more
+abbrev pub with_date_after : ℕ → ℕ → Option Span → CaptureDates → DateMessage → CaptureDates
+with_date_after now station None c d = with_waiting c d
+with_date_after now station (Some s) c d = record c { told = with_telling now station s d c.told }
+
+abbrev pub with_date : ℕ → ℕ → CaptureDates → DateMessage → CaptureDates
+with_date now station c d = with_date_after now station c.span c d
+
+-- ---- which of them count
+
+-- the first of these lists that is not empty
+abbrev pub or_else : List Told → List Told → List Told
+or_else [] others = others
+or_else (x ∷ xs) others = x ∷ xs
+
+-- the dates of the station; if there are none, those of ephemerides; if none, those of other stations
+abbrev pub counting : Tellings → List Told
+counting t = or_else t.own.items (or_else t.weeks.items t.others.items)

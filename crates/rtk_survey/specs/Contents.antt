@@ -1,0 +1,158 @@
+-- What is held of a capture and of each station that was heard in it, tied to the frames that came so
+-- far. Lists of frames, messages, dates and entries are newest first.
+use Rattle.std.specs.Prelude.{◌≡◌, ℕ, ◌<◌, Bool, false, cond, List, [], length, get_or, Option, None, Some}
+use Rattle.std.specs.BTreeMap.{BTreeMap, get}
+use Rattle.std.specs.List.{list_any}
+use Rattle.std.specs.Ordering.{nat_cmp}
+use Rattle.std.specs.declared.vec.Vec.{Vec}
+use Rattle.rtk_message.specs.declared.any_message.AnyMessage.{AnyMessage}
+use Rattle.rtk_message.specs.declared.any_fault.AnyFault.{AnyFault}
+use Rattle.rtk_message.specs.declared.msm_kind.MsmKind.{MsmKind}
+use Rattle.rtk_message.specs.declared.msm_kind.MsmKind.TheVariants.{Msm4, Msm5, Msm6, Msm7}
+use Rattle.rtk_message.specs.Systems.{number_of_kind}
+use Rattle.rtk_obs.specs.declared.cell.CellEntry.{CellEntry}
+use Rattle.rtk_obs.specs.declared.code.Code.{Code}
+use Rattle.rtk_obs.specs.Code.{place_of}
+use Rattle.rtk_survey.specs.Counting.{shown_count, count_of}
+use Rattle.rtk_survey.specs.EquipmentHistory.{no_equipment, equipment_of}
+use Rattle.rtk_survey.specs.FrameDates.{dates_in, no_station_dates, station_dates, is_of_week}
+use Rattle.rtk_survey.specs.FrameEquipment.{equipment_among}
+use Rattle.rtk_survey.specs.Proposal.{epochs_in, times_with_value, entries_with}
+use Rattle.rtk_survey.specs.ReadFrames.{ReadFrame, bytes_in, messages_in, faults_in, messages_from}
+use Rattle.rtk_survey.specs.ReferencePoints.{first_point}
+use Rattle.rtk_survey.specs.Tracing.{is_numbered, is_other, is_short, is_outside_week, is_no_number, is_too_many_cells, times_of_week, newest_time, oldest_time, changes_in, entries_in, gives_satellite, gives_place}
+use Rattle.rtk_survey.specs.declared.contents.Contents.{Contents}
+use Rattle.rtk_survey.specs.declared.date_message.DateMessage.{DateMessage}
+use Rattle.rtk_survey.specs.declared.epochs.Epochs.{Epochs}
+use Rattle.rtk_survey.specs.declared.equipment.Equipment.{Equipment}
+use Rattle.rtk_survey.specs.declared.equipment_message.EquipmentMessage.{EquipmentMessage}
+use Rattle.rtk_survey.specs.declared.msm_parts.MsmPart.{MsmPart}
+use Rattle.rtk_survey.specs.declared.msm_parts.MsmParts.{MsmParts}
+use Rattle.rtk_survey.specs.declared.signals.Codes.{Codes}
+use Rattle.rtk_survey.specs.declared.signals.Signals.{Signals}
+use Rattle.rtk_survey.specs.declared.station.MessageCounts.{MessageCounts}
+use Rattle.rtk_survey.specs.declared.station.StationSurvey.{StationSurvey}
+use Rattle.rtk_survey.specs.declared.station_dates.StationDates.{StationDates}
+use Rattle.rtk_survey.specs.declared.times_of_week.Times.{Times}
+use Rattle.rtk_survey.specs.declared.unread.Unread.{Unread}
+
+-- 1 for a test that holds
+abbrev pub one_if : Bool → ℕ
+one_if b = cond b 1 0
+
+-- ---- payloads that are not read
+
+-- the counts by number of those that pass a test of that number
+abbrev pub Tallies : (ℕ → AnyFault → Bool) → List ℕ → List AnyFault → Type 0
+Tallies test counts fs = (n : ℕ) → n < length counts → get_or counts n 0 ≡ count_of (test n) fs
+
+pub record CountsFaults (u : Unread) (fs : List AnyFault) : Type 0 where
+  pub no_number : u.no_number ≡ count_of is_no_number fs
+  pub others_size : length u.others.items ≡ 4096
+  pub others : Tallies is_other u.others.items fs
+  pub short_size : length u.short.items ≡ 4096
+  pub short : Tallies is_short u.short.items fs
+  pub outside_week_size : length u.outside_week.items ≡ 4096
+  pub outside_week : Tallies is_outside_week u.outside_week.items fs
+  pub too_many_cells_size : length u.too_many_cells.items ≡ 4096
+  pub too_many_cells : Tallies is_too_many_cells u.too_many_cells.items fs
+
+-- ---- satellites and codes
+
+-- a mark stands at each place for which an entry passes a test
+abbrev pub Marks : (ℕ → CellEntry → Bool) → List Bool → List CellEntry → Type 0
+Marks test marks es = (n : ℕ) → n < length marks → get_or marks n false ≡ list_any (test n) es
+
+pub record HasCodes (c : Codes) (es : List CellEntry) : Type 0 where
+  pub size : length c.marks ≡ 16
+  pub marks : Marks gives_place c.marks es
+
+pub record HasSignals (s : Signals) (es : List CellEntry) : Type 0 where
+  pub satellites_size : length s.satellites ≡ 33
+  pub satellites : Marks gives_satellite s.satellites es
+  pub codes : HasCodes s.codes es
+
+-- ---- times and epochs
+
+-- the first time, the last one, and how many differ from the one before
+abbrev pub times_of : List ℕ → Times
+times_of ts = record { first = oldest_time ts; last = newest_time ts; changes = shown_count (changes_in ts) }
+
+-- the last of times of week, and how many epochs there are of them
+abbrev pub epochs_so_far : List ℕ → Epochs
+epochs_so_far ts = record { last = newest_time ts; count = shown_count (epochs_in ts) }
+
+-- ---- the MSM of a station
+
+pub record HasMsm (kind : MsmKind) (p : MsmPart) (ms : List AnyMessage) : Type 0 where
+  pub messages : p.messages ≡ count_of (is_numbered (number_of_kind kind)) ms
+  pub epochs : p.epochs ≡ epochs_so_far (times_with_value kind ms)
+  pub codes : HasCodes p.codes (entries_with kind ms)
+
+pub record HasMsms (p : MsmParts) (ms : List AnyMessage) : Type 0 where
+  pub msm4 : HasMsm Msm4 p.msm4 ms
+  pub msm5 : HasMsm Msm5 p.msm5 ms
+  pub msm6 : HasMsm Msm6 p.msm6 ms
+  pub msm7 : HasMsm Msm7 p.msm7 ms
+
+-- what is held of an MSM
+abbrev pub msm_part : MsmParts → MsmKind → MsmPart
+msm_part p Msm4 = p.msm4
+msm_part p Msm5 = p.msm5
+msm_part p Msm6 = p.msm6
+msm_part p Msm7 = p.msm7
+
+-- how many epochs of an MSM have a value
+abbrev pub epochs_held : MsmParts → MsmKind → ℕ
+epochs_held p kind = (msm_part p kind).epochs.count
+
+-- whether a code has a value in a message that `convert` takes with an MSM
+abbrev pub codes_held : MsmParts → MsmKind → Code → Bool
+codes_held p kind c = get_or (msm_part p kind).codes.marks (place_of c) false
+
+-- ---- a station
+
+pub record CountsMessages (s : MessageCounts) (ms : List AnyMessage) : Type 0 where
+  pub messages : s.messages ≡ shown_count (length ms)
+  pub obs_1004 : s.obs_1004 ≡ count_of (is_numbered 1004) ms
+  pub arp_1005 : s.arp_1005 ≡ count_of (is_numbered 1005) ms
+  pub arp_1006 : s.arp_1006 ≡ count_of (is_numbered 1006) ms
+
+-- what is held of the antenna and the receiver: an entry, or none
+abbrev pub equipment_at : {A : Type 0} → Vec Equipment A → Equipment
+equipment_at entries = get_or entries.items 0 no_equipment
+
+-- the survey of a station with these messages, these dates, and this antenna and receiver
+pub record IsStationOf (ms : List AnyMessage) (d : StationDates) (e : Equipment) (s : StationSurvey) : Type 0 where
+  pub counts : CountsMessages s.counts ms
+  pub times : s.times ≡ times_of (times_of_week ms)
+  pub signals : HasSignals s.signals (entries_in ms)
+  pub msm : HasMsms s.msm ms
+  pub point : s.reference_point ≡ first_point ms
+  pub dates : s.dates ≡ d
+  pub equipment : equipment_at s.equipment ≡ e
+
+-- of a station without an entry nothing came
+abbrev pub IsHeard : List AnyMessage → StationDates → Equipment → Option StationSurvey → Type 0
+IsHeard ms d e None = (ms ≡ []) × (d ≡ no_station_dates) × (e ≡ no_equipment)
+IsHeard ms d e (Some s) = IsStationOf ms d e s
+
+-- each station has its own messages, dates, antenna and receiver
+abbrev pub AreStations : List AnyMessage → List DateMessage → List EquipmentMessage → BTreeMap ℕ StationSurvey → Type 0
+AreStations ms ds es stations =
+    (n : ℕ) → IsHeard (messages_from n ms) (station_dates n ds) (equipment_of n es) (get nat_cmp stations n)
+
+-- ---- a capture
+
+abbrev pub CountsWeeks : List ℕ → List DateMessage → Type 0
+CountsWeeks weeks ds = (n : ℕ) → n < length weeks → get_or weeks n 0 ≡ count_of (is_of_week n) ds
+
+-- what is held of these frames
+pub record HoldsFrames (fs : List ReadFrame) (c : Contents) : Type 0 where
+  pub frames : c.frames ≡ shown_count (length fs)
+  pub framed : c.framed ≡ shown_count (bytes_in fs)
+  pub stations : AreStations (messages_in fs) (dates_in fs) (equipment_among fs) c.stations
+  pub codes : HasCodes c.codes (entries_in (messages_in fs))
+  pub weeks_size : length c.weeks.items ≡ 1024
+  pub weeks : CountsWeeks c.weeks.items (dates_in fs)
+  pub unread : CountsFaults c.unread (faults_in fs)

@@ -1,0 +1,104 @@
+-- The text of a summary, from the bytes of a capture and its frames (this project's rule).
+use Rattle.std.specs.Prelude.{◌≡◌, ℕ, ◌+◌, ◌-◌, ◌≤◌, ◌==◌, ◌&&◌, not, List, [], ◌++◌, length, take, flat_map, codes, Option, min, if◌then◌else◌}
+use Rattle.std.specs.List.{range_with_len}
+use Rattle.rtk_frame.specs.Frames.{frames, payloads}
+use Rattle.rtk_frame.specs.Stream.{with_more, TakesPart, greatest_count}
+use Rattle.rtk_survey.specs.declared.date_message.DateMessage.{DateMessage}
+use Rattle.rtk_survey.specs.EquipmentHistory.{equipment_of}
+use Rattle.rtk_survey.specs.declared.equipment.Equipment.{Equipment}
+use Rattle.rtk_survey.specs.declared.equipment_message.EquipmentMessage.{EquipmentMessage}
+use Rattle.rtk_message.specs.declared.any_message.AnyMessage.{AnyMessage}
+use Rattle.rtk_message.specs.declared.any_fault.AnyFault.{AnyFault}
+use Rattle.rtk_survey.specs.Counting.{shown_count, count_of}
+use Rattle.rtk_survey.specs.FrameDates.{dates_in, station_dates, proposed_date, is_of_week}
+use Rattle.rtk_survey.specs.FrameEquipment.{equipment_among, is_mentioned, told_lines}
+use Rattle.rtk_survey.specs.Proposal.{epochs_with_value, entries_with}
+use Rattle.rtk_survey.specs.ReadFrames.{ReadFrame, ReadsFrames, bytes_in, messages_in, faults_in, messages_from}
+use Rattle.rtk_survey.specs.Tracing.{is_numbered, is_other, is_short, is_outside_week, is_no_number, is_too_many_cells, times_of_week, entries_in, has_satellite, has_code}
+use Rattle.rtk_survey.specs.SummaryText.{number_line, counted_line, numbered_line, time_lines, week_line, look_line, signal_lines, near_text, proposal_lines, codes_text, nothing_line, untaken_numbers}
+use Rattle.rtk_survey.specs.declared.station_dates.StationDates.{StationDates}
+
+-- table
+-- the numbers of stations and of messages, of 12 bits
+-- Source: RTCM 10403.3, DF002 and DF003
+unfoldable pub all_numbers : List ℕ
+all_numbers = range_with_len 0 4096
+
+-- formula
+-- the lines of a station in the file of this name, of which these messages came, with what others told of it
+unfoldable pub station_lines : List ℕ → ℕ → List AnyMessage → StationDates → Equipment → List ℕ
+station_lines name station ms d e =
+    number_line (codes "station ") station
+    ++ counted_line (codes " message 1004 ") (count_of (is_numbered 1004) ms)
+    ++ counted_line (codes " message 1005 ") (count_of (is_numbered 1005) ms)
+    ++ counted_line (codes " message 1006 ") (count_of (is_numbered 1006) ms)
+    ++ counted_line (codes " message 1074 ") (count_of (is_numbered 1074) ms)
+    ++ counted_line (codes " message 1075 ") (count_of (is_numbered 1075) ms)
+    ++ counted_line (codes " message 1076 ") (count_of (is_numbered 1076) ms)
+    ++ counted_line (codes " message 1077 ") (count_of (is_numbered 1077) ms)
+    ++ time_lines (times_of_week ms)
+    ++ told_lines d e
+    ++ signal_lines (has_satellite (entries_in ms)) (has_code (entries_in ms))
+    ++ proposal_lines name (near_text (proposed_date d)) station (λ kind. epochs_with_value kind ms) (λ kind. has_code (entries_with kind ms))
+
+-- a station of which no message came, and which no other one mentions, has no lines
+abbrev pub lines_if_any : List ℕ → ℕ → List AnyMessage → StationDates → Equipment → List ℕ
+lines_if_any name station ms d e = if (length ms == 0) && not (is_mentioned d e) then [] else station_lines name station ms d e
+
+-- the lines of all stations, their numbers rising
+unfoldable pub stations_text : List ℕ → List AnyMessage → List DateMessage → List EquipmentMessage → List ℕ
+stations_text name ms ds es = flat_map (λ s. lines_if_any name s (messages_from s ms) (station_dates s ds) (equipment_of s es)) all_numbers
+
+-- formula
+-- the weeks modulo 1,024 that 1019 name, rising
+unfoldable pub weeks_text : List DateMessage → List ℕ
+weeks_text ds = flat_map (λ w. week_line w (count_of (is_of_week w) ds)) (range_with_len 0 1024)
+
+-- formula
+-- the payloads that are not read: other messages, those with GPS observations named once more, and
+-- for each fault the numbers of the messages that are refused
+unfoldable pub unread_lines : List AnyFault → List ℕ
+unread_lines fs =
+    flat_map (λ n. numbered_line (codes "other ") n (count_of (is_other n) fs)) all_numbers
+    ++ flat_map (λ n. numbered_line (codes "untaken GPS ") n (count_of (is_other n) fs)) untaken_numbers
+    ++ counted_line (codes "refused M1 - ") (count_of is_no_number fs)
+    ++ flat_map (λ n. numbered_line (codes "refused M3 ") n (count_of (is_short n) fs)) all_numbers
+    ++ flat_map (λ n. numbered_line (codes "refused M4 ") n (count_of (is_outside_week n) fs)) all_numbers
+    ++ flat_map (λ n. numbered_line (codes "refused M5 ") n (count_of (is_too_many_cells n) fs)) all_numbers
+
+-- formula
+-- how many bytes a capture has, how many of them outside of frames, and how many frames
+abbrev pub size_lines : ℕ → List ReadFrame → List ℕ
+size_lines size fs =
+    number_line (codes "bytes ") (shown_count size)
+    ++ number_line (codes "outside-frames ") (shown_count size - shown_count (bytes_in fs))
+    ++ number_line (codes "frames ") (shown_count (length fs))
+
+-- formula
+-- the summary of the capture of this name, with these bytes and these frames, newest first
+unfoldable pub summary_text : List ℕ → List ℕ → List ReadFrame → List ℕ
+summary_text name bytes fs =
+    size_lines (length bytes) fs ++ look_line (length fs) (take 512 bytes)
+    ++ stations_text name (messages_in fs) (dates_in fs) (equipment_among fs) ++ weeks_text (dates_in fs) ++ unread_lines (faults_in fs)
+    ++ nothing_line (codes_text (has_code (entries_in (messages_in fs))))
+
+-- these are all the frames of a capture, newest first
+abbrev pub AreFramesOf : List ℕ → List ReadFrame → Type 0
+AreFramesOf bytes fs = ReadsFrames (payloads (frames bytes)) [] fs
+
+-- the summary of what was read of the capture of this name was written: before, after of the source and of the sink
+abbrev pub Summarizes : List ℕ → Option (List ℕ) → Option (List ℕ) → Option (List ℕ) → Option (List ℕ) → Type 0
+Summarizes name given_old given_new taken_old taken_new =
+    (bytes : List ℕ) × (fs : List ReadFrame) × (given_new ≡ with_more given_old bytes) × AreFramesOf bytes fs
+    × (taken_new ≡ with_more taken_old (summary_text name bytes fs))
+
+-- a first part of the summary of what was read was written, perhaps none or all of it: before, after of
+-- the source and of the sink
+abbrev pub SummarizesInPart : List ℕ → Option (List ℕ) → Option (List ℕ) → Option (List ℕ) → Option (List ℕ) → Type 0
+SummarizesInPart name given_old given_new taken_old taken_new =
+    (bytes : List ℕ) × (fs : List ReadFrame) × (given_new ≡ with_more given_old bytes) × AreFramesOf bytes fs
+    × TakesPart taken_old taken_new (summary_text name bytes fs)
+
+-- a count of calls has risen by so many, or is at its greatest value
+abbrev pub HasRisenBy : ℕ → ℕ → ℕ → Type 0
+HasRisenBy before after n = min (before + n) greatest_count ≤ after

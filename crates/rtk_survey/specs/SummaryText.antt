@@ -1,0 +1,198 @@
+-- The lines of a summary (this project's rule): a keyword at the head of each, those of a station
+-- after a blank.
+use Rattle.std.specs.Prelude.{ℕ, ◌+◌, ◌/◌, ◌%◌, ◌==◌, Bool, not, ◌&&◌, List, [], ◌∷◌, ◌++◌, filter, flat_map, codes, decimal, Option, None, Some, if◌then◌else◌}
+use Rattle.std.specs.List.{range_with_len}
+use Rattle.rtk_survey.specs.Telling.{moment_of}
+use Rattle.rtk_survey.specs.declared.date_message.UtcDate.{UtcDate}
+use Rattle.rtk_message.specs.ShellText.{sh_quoted}
+use Rattle.rtk_message.specs.declared.msm_kind.MsmKind.{MsmKind}
+use Rattle.rtk_message.specs.declared.msm_kind.MsmKind.TheVariants.{Msm4, Msm5, Msm6, Msm7}
+use Rattle.rtk_message.specs.Systems.{number_of_kind}
+use Rattle.rtk_obs.specs.declared.code.Code.{Code}
+use Rattle.rtk_obs.specs.declared.code.Code.TheVariants.{G2P, G2W}
+use Rattle.rtk_obs.specs.CivilText.{last_digits, date_text, clock_text}
+use Rattle.rtk_obs.specs.Code.{name_of, all_codes}
+use Rattle.rtk_rinex.specs.Reading.{reading_of}
+use Rattle.rtk_survey.specs.Counting.{shown_count}
+use Rattle.rtk_survey.specs.Look.{look_of, look_name}
+use Rattle.rtk_survey.specs.Proposal.{proposed}
+use Rattle.rtk_survey.specs.Tracing.{newest_time, oldest_time, changes_in}
+use Rattle.rtk_survey.specs.declared.station_dates.DateCount.{DateCount}
+use Rattle.rtk_survey.specs.declared.station_dates.StationDates.{StationDates}
+
+-- formula
+-- words and a number
+abbrev pub number_line : List ℕ → ℕ → List ℕ
+number_line words n = words ++ decimal n ++ 10 ∷ []
+
+-- words and a count; a count of 0 has no line
+abbrev pub counted_line : List ℕ → ℕ → List ℕ
+counted_line words n = if n == 0 then [] else number_line words n
+
+-- formula
+-- words, a message number and its count
+abbrev pub numbered_line : List ℕ → ℕ → ℕ → List ℕ
+numbered_line words number n = counted_line (words ++ decimal number ++ codes " ") n
+
+-- formula
+-- a hyphen in the place of an empty list
+abbrev pub or_hyphen : List ℕ → List ℕ
+or_hyphen [] = codes " -"
+or_hyphen (x ∷ xs) = x ∷ xs
+
+-- formula
+-- words and a list
+abbrev pub list_line : List ℕ → List ℕ → List ℕ
+list_line words list = words ++ or_hyphen list ++ 10 ∷ []
+
+-- ---- times
+
+-- formula
+-- the first and the last time of week, in ms, or a hyphen if no time came
+abbrev pub time_line : Option ℕ → Option ℕ → List ℕ
+time_line None last = codes " time-of-week -\n"
+time_line (Some first) None = codes " time-of-week -\n"
+time_line (Some first) (Some last) = codes " time-of-week " ++ decimal first ++ codes " " ++ decimal last ++ 10 ∷ []
+
+-- formula
+-- the lines of the times of a station's observation messages, newest first
+abbrev pub time_lines : List ℕ → List ℕ
+time_lines ts =
+    time_line (oldest_time ts) (newest_time ts)
+    ++ number_line (codes " changes-of-time ") (shown_count (changes_in ts))
+
+-- ---- dates
+
+-- formula
+-- a date and a time of day, as in 2011-03-01T05:56:37
+abbrev pub date_time_text : UtcDate → List ℕ
+date_time_text d = date_text (reading_of (moment_of d)) ++ codes "T" ++ clock_text (reading_of (moment_of d))
+
+-- formula
+-- the first date that messages of this number tell, and how many messages do; without one there is none
+abbrev pub first_date_line : ℕ → ℕ → Option UtcDate → List ℕ
+first_date_line number count None = []
+first_date_line number count (Some d) = number_line (codes " date " ++ date_time_text d ++ codes " " ++ decimal number ++ codes " ") count
+
+abbrev pub date_line : ℕ → DateCount → List ℕ
+date_line number c = first_date_line number c.count c.first
+
+-- formula
+-- the lines of the dates of a station
+abbrev pub date_lines : StationDates → List ℕ
+date_lines d = date_line 1013 d.of_1013 ++ date_line 1029 d.of_1029
+
+-- formula
+-- a week modulo 1,024, and how many 1019 name it
+abbrev pub week_line : ℕ → ℕ → List ℕ
+week_line week n = counted_line (codes "week " ++ decimal week ++ codes " 1019 ") n
+
+-- formula
+-- what a file without a frame looks like, by its first bytes
+abbrev pub look_line : ℕ → List ℕ → List ℕ
+look_line frames head = if frames == 0 then codes "looks-like " ++ look_name (look_of head) ++ 10 ∷ [] else []
+
+-- ---- satellites and codes, by the tests which of them have a value
+
+-- formula
+-- as in: G05
+abbrev pub satellite_name : ℕ → List ℕ
+satellite_name n = 71 ∷ (48 + n / 10) ∷ (48 + n % 10) ∷ []
+
+-- formula
+abbrev pub listed_satellite : (ℕ → Bool) → ℕ → List ℕ
+listed_satellite test n = if test n then 32 ∷ satellite_name n else []
+
+-- formula
+-- the satellites from 1 to 32 that have a value, each after a blank
+unfoldable pub satellites_text : (ℕ → Bool) → List ℕ
+satellites_text test = flat_map (listed_satellite test) (range_with_len 1 32)
+
+-- formula
+-- the names of codes, the first after this separator and each other one after a comma
+abbrev pub joined_names : ℕ → List Code → List ℕ
+joined_names separator [] = []
+joined_names separator (c ∷ cs) = separator ∷ name_of c ++ joined_names 44 cs
+
+-- formula
+-- the codes that have a value, as an option lists them, after a blank
+unfoldable pub codes_text : (Code → Bool) → List ℕ
+codes_text test = joined_names 32 (filter test all_codes)
+
+-- formula
+-- the second frequency is 2P, which an option with 2W would leave out
+abbrev pub second_frequency_line : (Code → Bool) → List ℕ
+second_frequency_line test = if test G2P && not (test G2W) then codes " second-frequency 2P\n" else []
+
+-- formula
+unfoldable pub signal_lines : (ℕ → Bool) → (Code → Bool) → List ℕ
+signal_lines satellite code =
+    list_line (codes " satellites") (satellites_text satellite) ++ list_line (codes " codes") (codes_text code)
+
+-- ---- the commands that convert a station, by how many epochs of each MSM have a value, and by the
+-- codes that `convert` takes with each
+
+-- formula
+-- an MSM with such epochs that the command does not name
+abbrev pub other_msm_line : (MsmKind → ℕ) → MsmKind → MsmKind → List ℕ
+other_msm_line epochs named kind =
+    if number_of_kind kind == number_of_kind named then [] else numbered_line (codes " other-msm ") (number_of_kind kind) (epochs kind)
+
+-- formula
+unfoldable pub other_msm_lines : (MsmKind → ℕ) → MsmKind → List ℕ
+other_msm_lines epochs named =
+    other_msm_line epochs named Msm4 ++ other_msm_line epochs named Msm5
+    ++ other_msm_line epochs named Msm6 ++ other_msm_line epochs named Msm7
+
+-- table
+-- the option that names an MSM; `convert` takes 1074 without one
+abbrev pub msm_option : MsmKind → List ℕ
+msm_option Msm4 = []
+msm_option Msm5 = codes " --msm 5"
+msm_option Msm6 = codes " --msm 6"
+msm_option Msm7 = codes " --msm 7"
+
+-- formula
+-- the moment near which the command converts; words in capitals if the capture does not tell it
+abbrev pub near_text : Option UtcDate → List ℕ
+near_text None = codes "GPS-TIME-WITHIN-HALF-A-WEEK"
+near_text (Some d) = date_time_text d
+
+-- formula
+-- the words of the command behind its moment
+abbrev pub words_text : List ℕ → ℕ → MsmKind → List ℕ → List ℕ
+words_text name station named names =
+    codes " --made \"$(date -u +%FT%T)\" --marker " ++ last_digits 4 station
+    ++ codes " --codes" ++ names ++ msm_option named ++ codes " " ++ sh_quoted name ++ 10 ∷ []
+
+-- formula
+-- the command that finds the other options by itself
+abbrev pub auto_line : List ℕ → ℕ → List ℕ
+auto_line name station =
+    codes " auto rtcm2rinex auto --station " ++ decimal station ++ codes " -o " ++ last_digits 4 station ++ codes ".rnx " ++ sh_quoted name ++ 10 ∷ []
+
+-- formula
+-- the command that converts the station in the file of this name with this MSM, near this moment, and
+-- the one that finds its options; without codes there is none
+abbrev pub next_lines : List ℕ → List ℕ → ℕ → MsmKind → List ℕ → List ℕ
+next_lines name near station named [] = []
+next_lines name near station named (x ∷ xs) =
+    codes " next rtcm2rinex convert --station " ++ decimal station ++ codes " --near " ++ near ++ words_text name station named (x ∷ xs) ++ auto_line name station
+
+-- formula
+-- the commands, and before them the second frequency and the MSM that they leave out
+unfoldable pub proposal_lines : List ℕ → List ℕ → ℕ → (MsmKind → ℕ) → (MsmKind → Code → Bool) → List ℕ
+proposal_lines name near station epochs code =
+    second_frequency_line (code (proposed epochs)) ++ other_msm_lines epochs (proposed epochs)
+    ++ next_lines name near station (proposed epochs) (codes_text (code (proposed epochs)))
+
+-- formula
+-- no station has a code
+abbrev pub nothing_line : List ℕ → List ℕ
+nothing_line [] = codes "nothing taken\n"
+nothing_line (x ∷ xs) = []
+
+-- formula
+-- the messages of GPS observations that are not read
+abbrev pub untaken_numbers : List ℕ
+untaken_numbers = 1001 ∷ 1002 ∷ 1003 ∷ 1071 ∷ 1072 ∷ 1073 ∷ []

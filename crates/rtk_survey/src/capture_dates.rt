@@ -1,0 +1,80 @@
+//! The epochs of a station in a capture, and what the capture tells of the first of them.
+
+ghost use Rattle.std.specs.Prelude.{◌≡◌};
+ghost use Rattle.rtk_survey.specs.CaptureDates.{no_dates, with_tellings, with_waiting, with_epoch_time, with_date};
+
+use crate::date_message::DateMessage;
+use crate::span::Span;
+use crate::tellings::Tellings;
+use arrayvec::ArrayVec;
+use rtk_obs::GpsMs;
+
+/// How many messages wait for the first epoch. Others are passed over.
+const MOST_WAITING: usize = 64;
+
+/// The epochs of a station in a capture, and the first epochs that its messages tell. It has some 4 kB
+/// and asks for no memory.
+#[derive(Clone, Drop)]
+pub struct CaptureDates {
+    /// The epochs of the station; `None` if there is none.
+    pub span: Option<Span>,
+    /// The messages that came before the first epoch: the first 64 of them.
+    pub waiting: ArrayVec<DateMessage, MOST_WAITING>,
+    /// What messages told of the first epoch.
+    pub told: Tellings,
+}
+
+// What messages tell, in their order.
+fn take_all(told: &mut Tellings, now: GpsMs, station: u16, span: &Span, messages: &[DateMessage])
+    ensures { told.new ≡ with_tellings now station span.now messages.now told.old }
+{
+    for message in messages {
+        told.take(now, station, span, message);
+    }
+}
+
+impl CaptureDates {
+    /// Nothing came.
+    pub fn new() -> CaptureDates
+        ensures { result ≡ no_dates }
+    {
+        CaptureDates {
+            span: None,
+            waiting: ArrayVec::new(),
+            told: Tellings::new(),
+        }
+    }
+
+    /// A message more that has a date, before the first epoch, as long as no station is known.
+    pub fn wait(&mut self, message: DateMessage)
+        ensures { self.new ≡ with_waiting self.old message }
+    {
+        if self.waiting.len() < MOST_WAITING {
+            self.waiting.push(message);
+        }
+    }
+
+    /// An epoch more of this station, by its time of week (DF004, in ms).
+    pub fn take_epoch(&mut self, now: GpsMs, station: u16, tow: u32)
+        ensures { self.new ≡ with_epoch_time now station self.old tow }
+    {
+        if let Some(span) = &mut self.span {
+            span.take(tow);
+            return;
+        }
+        let span = Span::begun(tow);
+        take_all(&mut self.told, now, station, &span, self.waiting.as_slice());
+        self.waiting.clear();
+        self.span = Some(span);
+    }
+
+    /// A message more that has a date. Before the first epoch of the station it waits.
+    pub fn take_date(&mut self, now: GpsMs, station: u16, message: DateMessage)
+        ensures { self.new ≡ with_date now station self.old message }
+    {
+        match &self.span {
+            None => self.wait(message),
+            Some(span) => self.told.take(now, station, span, &message),
+        }
+    }
+}

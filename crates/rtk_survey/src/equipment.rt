@@ -1,0 +1,148 @@
+//! What the messages of a station told last of its antenna and its receiver.
+
+ghost use Rattle.std.specs.Prelude.{◌≡◌};
+ghost use Rattle.rtk_survey.specs.EquipmentHistory as spec;
+
+use crate::equipment_message::{Antenna, EquipmentMessage, Receiver, Text};
+
+/// A text that was told.
+#[derive(Clone, Drop)]
+pub struct TextHistory {
+    /// The last; `None` if no message told it.
+    pub last: Option<Text>,
+    /// How many messages told another text than the one that told it before.
+    pub changes: u64,
+}
+
+/// An antenna setup that was told.
+#[derive(Clone, Copy, Debug, PartialEq, Eq)]
+pub struct SetupHistory {
+    /// The last; `None` if no message told it.
+    pub last: Option<u8>,
+    /// How many messages told another setup than the one that told it before.
+    pub changes: u64,
+}
+
+/// What the messages of a station told. It has some 1.4 kB.
+#[derive(Clone, Drop)]
+pub struct Equipment {
+    pub antenna_type: TextHistory,
+    pub antenna_serial: TextHistory,
+    pub antenna_setup: SetupHistory,
+    pub receiver_type: TextHistory,
+    pub receiver_version: TextHistory,
+    pub receiver_serial: TextHistory,
+}
+
+fn is_other_text(last: &Option<Text>, text: &Text) -> bool
+    ensures { result ≡ spec.is_other_text last.now text.now }
+{
+    match last {
+        Some(last) => last.as_slice() != text.as_slice(),
+        None => false,
+    }
+}
+
+fn is_other_setup(last: Option<u8>, setup: u8) -> bool
+    ensures { result ≡ spec.is_other_setup last setup }
+{
+    match last {
+        Some(last) => last != setup,
+        None => false,
+    }
+}
+
+impl TextHistory {
+    // No message told it.
+    fn new() -> TextHistory
+        ensures { result ≡ spec.no_text }
+    {
+        TextHistory {
+            last: None,
+            changes: 0,
+        }
+    }
+
+    // A message more that tells it.
+    fn take(&mut self, text: Text)
+        ensures { self.new ≡ spec.with_text text self.old }
+    {
+        if is_other_text(&self.last, &text) {
+            self.changes = self.changes.saturating_add(1);
+        }
+        self.last = Some(text);
+    }
+
+    // A message more that may tell it.
+    fn take_if_any(&mut self, text: Option<Text>)
+        ensures { self.new ≡ spec.with_text_if_any text self.old }
+    {
+        if let Some(text) = text {
+            self.take(text);
+        }
+    }
+}
+
+impl SetupHistory {
+    // No message told it.
+    fn new() -> SetupHistory
+        ensures { result ≡ spec.no_setup }
+    {
+        SetupHistory {
+            last: None,
+            changes: 0,
+        }
+    }
+
+    // A message more that tells it.
+    fn take(&mut self, setup: u8)
+        ensures { self.new ≡ spec.with_setup setup self.old }
+    {
+        if is_other_setup(self.last, setup) {
+            self.changes = self.changes.saturating_add(1);
+        }
+        self.last = Some(setup);
+    }
+}
+
+impl Equipment {
+    /// No message came.
+    pub fn new() -> Equipment
+        ensures { result ≡ spec.no_equipment }
+    {
+        Equipment {
+            antenna_type: TextHistory::new(),
+            antenna_serial: TextHistory::new(),
+            antenna_setup: SetupHistory::new(),
+            receiver_type: TextHistory::new(),
+            receiver_version: TextHistory::new(),
+            receiver_serial: TextHistory::new(),
+        }
+    }
+
+    fn take_antenna(&mut self, antenna: Antenna)
+        ensures { self.new ≡ spec.with_antenna antenna self.old }
+    {
+        self.antenna_type.take(antenna.antenna_type);
+        self.antenna_serial.take_if_any(antenna.serial);
+        self.antenna_setup.take(antenna.setup);
+    }
+
+    fn take_receiver(&mut self, receiver: Receiver)
+        ensures { self.new ≡ spec.with_receiver receiver self.old }
+    {
+        self.receiver_type.take(receiver.receiver_type);
+        self.receiver_version.take(receiver.version);
+        self.receiver_serial.take(receiver.serial);
+    }
+
+    /// A message more of this station.
+    pub fn take(&mut self, message: EquipmentMessage)
+        ensures { self.new ≡ spec.with_message message self.old }
+    {
+        self.take_antenna(message.antenna);
+        if let Some(receiver) = message.receiver {
+            self.take_receiver(receiver);
+        }
+    }
+}

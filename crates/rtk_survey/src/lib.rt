@@ -1,0 +1,98 @@
+//! What a capture holds: its frames, and for each station that was heard its messages, times,
+//! satellites and codes, its reference point, the dates that it tells, its antenna and its receiver.
+//!
+//! A [`CaptureSurvey`] is plain data. A station gets a [`StationSurvey`] with the first frame that
+//! names it, so memory grows with the stations that were heard; if it is refused, the survey is not
+//! made ([`SurveyFault::OutOfMemory`]). A frame costs a look-up among the stations and the work on its
+//! own cells, whatever other stations there are. Sizes that depend on the satellites and codes of a
+//! system stand in `signals.rt` alone.
+//!
+//! The definitions go from the frames of a capture (specs/ReadFrames.antt) to what is held of them
+//! (specs/Contents.antt, specs/Surveys.antt) and to the text of a summary (specs/Summary.antt).
+//!
+//! Its tests: tests/values/src/survey.rt.in and survey/.
+//!
+//! ```rust
+//! use rtk_frame::{After, MemSource};
+//! use rtk_survey::survey_capture;
+//! use std::alloc::{AllocError, Global};
+//!
+//! // A capture with one frame, a 1013 of station 278 that names 2020-01-25 02:15:41.
+//! fn example(alloc: Global) -> Result<bool, AllocError> {
+//!     let bytes = b"\xD3\x00\x09\x3F\x51\x16\xE5\xF9\x0F\xE6\x80\x48\x47\x6B\x7C";
+//!     let mut capture = MemSource::new(alloc, bytes, 512, After::End)?;
+//!     let Ok(survey) = survey_capture(alloc, &mut capture, 100) else {
+//!         return Ok(false);
+//!     };
+//!     match survey.contents.stations.get(&278) {
+//!         Some(station) => Ok(station.dates.of_1013.count == 1),
+//!         None => Ok(false),
+//!     }
+//! }
+//! ```
+
+#![tactic(auto)]
+
+mod capture_dates;
+mod contents;
+mod counting;
+mod date_laws;
+mod date_lines;
+mod date_message;
+mod epochs;
+mod equipment;
+mod equipment_lines;
+mod equipment_message;
+mod laws;
+mod line;
+mod lines;
+mod look;
+mod msm_parts;
+mod placing;
+mod proposal_lines;
+mod reading;
+mod reference_point;
+mod signal_lines;
+mod signals;
+mod span;
+mod station;
+mod station_dates;
+mod stations;
+mod summary;
+mod survey;
+mod survey_fault;
+mod telling;
+mod tellings;
+mod times_of_week;
+mod unread;
+
+pub use capture_dates::CaptureDates;
+pub use contents::Contents;
+pub use date_laws::{dates_are_nearest, told_moments_are_nearest};
+pub use date_message::{DateMessage, EphemerisDate, UtcDate, date_in};
+pub use epochs::Epochs;
+pub use equipment::{Equipment, SetupHistory, TextHistory};
+pub use equipment_message::{Antenna, EquipmentMessage, Receiver, Text, equipment_in};
+pub use laws::{
+    all_are_taken_alike, each_frame_is_counted, four_need_no_option, lines_tell_numbers,
+    most_epochs_are_named, parts_stand_in_a_summary, summaries_tell_counts,
+};
+pub use look::{Look, look_of};
+pub use msm_parts::{MsmPart, MsmParts};
+pub use placing::{
+    CaptureEpochs, Placed, base_of, is_dated_near, least_with_if_any, near_of, place,
+    place_captures,
+};
+pub use reading::survey_capture;
+pub use reference_point::{ReferencePoint, first_point_with};
+pub use signals::{Codes, Signals, has_value, have_value};
+pub use span::Span;
+pub use station::{MessageCounts, StationSurvey};
+pub use station_dates::{DateCount, StationDates};
+pub use summary::summarize;
+pub use survey::CaptureSurvey;
+pub use survey_fault::SurveyFault;
+pub use telling::{dated, is_date, moment_of, told};
+pub use tellings::{Tellings, Told};
+pub use times_of_week::Times;
+pub use unread::Unread;

@@ -1,0 +1,142 @@
+//! What a capture tells of one station.
+
+ghost use Rattle.std.specs.Prelude.{◌≡◌, List, [], ◌∷◌, OnOk};
+ghost use Rattle.rtk_message.specs.AnyDecoded.{number_of};
+ghost use Rattle.rtk_message.specs.declared.any_message.AnyMessage.{AnyMessage};
+ghost use Rattle.rtk_survey.specs.Contents.{equipment_at, CountsMessages, HasCodes, IsStationOf};
+ghost use Rattle.rtk_survey.specs.EquipmentHistory.{no_equipment, with_message};
+ghost use Rattle.rtk_survey.specs.FrameDates.{no_station_dates, station_dates};
+ghost use Rattle.rtk_survey.specs.Tracing.{entries_of_message};
+ghost use Rattle.rtk_survey.specs.declared.date_message.DateMessage.{DateMessage};
+ghost use Rattle.rtk_survey.specs.declared.date_message.DateMessage.TheVariants.{Utc};
+ghost use Rattle.rtk_survey.specs.declared.equipment.Equipment.{Equipment};
+ghost use Rattle.rtk_survey.specs.declared.station_dates.StationDates.{StationDates};
+
+use crate::counting::count_if;
+use crate::date_message::UtcDate;
+use crate::equipment::Equipment;
+use crate::equipment_message::EquipmentMessage;
+use crate::msm_parts::MsmParts;
+use crate::reference_point::{ReferencePoint, first_point_with};
+use crate::signals::{Codes, Signals};
+use crate::station_dates::StationDates;
+use crate::times_of_week::Times;
+use rtk_message::AnyMessage;
+use rtk_obs::CellEntry;
+use std::alloc::{AllocError, Global};
+
+/// How many messages of a station were read. Counts stop at the greatest `u64`.
+#[derive(Clone, Copy, Debug, PartialEq, Eq)]
+pub struct MessageCounts {
+    /// Those of all numbers.
+    pub messages: u64,
+    pub obs_1004: u64,
+    pub arp_1005: u64,
+    pub arp_1006: u64,
+}
+
+/// What one capture tells of a station that was heard in it.
+#[derive(Drop)]
+pub struct StationSurvey {
+    pub counts: MessageCounts,
+    /// The times of week of its observation messages.
+    pub times: Times,
+    /// The satellites and codes that have a value.
+    pub signals: Signals,
+    pub msm: MsmParts,
+    /// That of its first 1005 or 1006.
+    pub reference_point: Option<ReferencePoint>,
+    /// The dates that its 1013 and 1029 tell.
+    pub dates: StationDates,
+    /// What its 1007, 1008 and 1033 tell: an entry, or none if there is no such message.
+    pub equipment: Vec<Equipment>,
+}
+
+impl MessageCounts {
+    /// No message came.
+    pub fn new() -> MessageCounts
+        ensures { CountsMessages result [] }
+    {
+        MessageCounts {
+            messages: 0,
+            obs_1004: 0,
+            arp_1005: 0,
+            arp_1006: 0,
+        }
+    }
+
+    /// Counts a message under its number.
+    pub fn count_number(&mut self, number: u16)
+        ensures { (ms : List AnyMessage) (m : AnyMessage) → number ≡ number_of m
+            → CountsMessages self.old ms → CountsMessages self.new (m ∷ ms) }
+    {
+        self.messages = count_if(self.messages, true);
+        self.obs_1004 = count_if(self.obs_1004, number == 1004);
+        self.arp_1005 = count_if(self.arp_1005, number == 1005);
+        self.arp_1006 = count_if(self.arp_1006, number == 1006);
+    }
+}
+
+// A message more that tells an antenna or a receiver; the first one makes the entry.
+fn take_equipment(entries: &mut Vec<Equipment>, message: EquipmentMessage) -> Result<(), AllocError>
+    ensures { OnOk result (equipment_at entries.new ≡ with_message message (equipment_at entries.old)) }
+{
+    if entries.is_empty() {
+        entries.push(Equipment::new())?;
+    }
+    entries[0].take(message);
+    Ok(())
+}
+
+impl StationSurvey {
+    /// Nothing came.
+    pub(crate) fn new(alloc: Global) -> StationSurvey
+        ensures { IsStationOf [] no_station_dates no_equipment result }
+    {
+        StationSurvey {
+            counts: MessageCounts::new(),
+            times: Times::new(),
+            signals: Signals::new(),
+            msm: MsmParts::new(),
+            reference_point: None,
+            dates: StationDates::new(),
+            equipment: Vec::new(alloc),
+        }
+    }
+
+    /// A message more of the station, with its cells and their codes.
+    pub(crate) fn take_message(
+        &mut self,
+        message: &AnyMessage,
+        entries: &[CellEntry],
+        codes: &Codes,
+    )
+        requires entries { entries.now ≡ entries_of_message message.now }
+        requires codes { HasCodes codes.now (entries_of_message message.now) }
+        ensures { (ms : List AnyMessage) (d : StationDates) (e : Equipment) → IsStationOf ms d e self.old
+            → IsStationOf (message.now ∷ ms) d e self.new }
+    {
+        self.counts.count_number(message.number());
+        self.times.note_message(message);
+        self.signals.mark_entries(entries);
+        self.msm.add_message(message, entries, codes);
+        self.reference_point = first_point_with(self.reference_point, message);
+    }
+
+    /// A 1013 or a 1029 more of the station.
+    pub(crate) fn take_date(&mut self, date: UtcDate)
+        ensures { (ms : List AnyMessage) (ds : List DateMessage) (e : Equipment)
+            → IsStationOf ms (station_dates date.station ds) e self.old
+            → IsStationOf ms (station_dates date.station (Utc date ∷ ds)) e self.new }
+    {
+        self.dates.count(date);
+    }
+
+    /// A 1007, 1008 or 1033 more of the station.
+    pub(crate) fn take_equipment(&mut self, message: EquipmentMessage) -> Result<(), AllocError>
+        ensures { OnOk result ((ms : List AnyMessage) (d : StationDates) (e : Equipment) → IsStationOf ms d e self.old
+            → IsStationOf ms d (with_message message e) self.new) }
+    {
+        take_equipment(&mut self.equipment, message)
+    }
+}

@@ -1,0 +1,130 @@
+//! What the messages of a capture tell of its first epoch.
+
+ghost use Rattle.std.specs.Prelude.{◌≡◌, ◌^◌, ◌<◌, Some};
+ghost use Rattle.std.specs.List.{list_any};
+ghost use Rattle.rtk_survey.specs.CaptureDates.{tells_same, is_reference, first_epoch_from, first_epoch_told, with_told, with_first, with_telling, no_tellings, counting};
+
+use crate::date_message::DateMessage;
+use crate::span::Span;
+use crate::telling::told;
+use arrayvec::ArrayVec;
+use rtk_obs::{GpsMs, WEEK_MS};
+
+/// The last moment near which a conversion dates: 2099-12-31 23:59:59.999.
+const LAST_REFERENCE_MS: u64 = 3_786_479_999_999;
+
+/// How many first epochs that differ are kept.
+const MOST_TOLD: usize = 16;
+
+/// A first epoch, with the first message that told it.
+#[derive(Clone, Copy, Debug, Default, PartialEq, Eq)]
+pub struct Told {
+    pub message: DateMessage,
+    /// The moment of the first epoch, in ms since 1980-01-06 of GPS time: one near which a conversion
+    /// dates.
+    pub first: u64,
+}
+
+/// The first epochs that messages told: of each kind of message the first 16 that differ.
+#[derive(Clone, Drop)]
+pub struct Tellings {
+    /// By 1013 and 1029 of the station.
+    pub own: ArrayVec<Told, MOST_TOLD>,
+    /// By 1019, which names no station.
+    pub weeks: ArrayVec<Told, MOST_TOLD>,
+    /// By 1013 and 1029 of other stations.
+    pub others: ArrayVec<Told, MOST_TOLD>,
+}
+
+// Is it a moment near which a conversion dates?
+fn is_reference(ms: u64) -> bool
+    ensures { result ≡ is_reference ms }
+{
+    WEEK_MS <= ms && ms <= LAST_REFERENCE_MS
+}
+
+// The first epoch, if the last one so far is at this moment.
+fn first_epoch_from(span: &Span, last: u64) -> Option<u64>
+    requires { last < 2 ^ 62 }
+    ensures { result ≡ first_epoch_from span.now (Some last) }
+{
+    let first = (last + span.first.ms()).saturating_sub(span.last.ms());
+    if is_reference(first) {
+        Some(first)
+    } else {
+        None
+    }
+}
+
+// The first epoch that a message tells after these epochs.
+fn first_epoch_told(now: GpsMs, span: &Span, message: &DateMessage) -> Option<u64>
+    ensures { result ≡ first_epoch_told now span.now message.now }
+{
+    let last = told(now, message, span.last_time_of_week())?;
+    first_epoch_from(span, last)
+}
+
+fn is_known(list: &[Told], first: u64) -> bool
+    ensures { result ≡ list_any (tells_same first) list.now }
+{
+    list.iter().any(|told| told.first == first)
+}
+
+// Adds a first epoch that differs from those before, if there is room.
+fn put(list: &mut ArrayVec<Told, MOST_TOLD>, told: Told)
+    ensures { list.new ≡ with_told list.old told }
+{
+    if !is_known(list.as_slice(), told.first) && list.len() < MOST_TOLD {
+        list.push(told);
+    }
+}
+
+impl Tellings {
+    /// No message came.
+    pub(crate) fn new() -> Tellings
+        ensures { result ≡ no_tellings }
+    {
+        Tellings {
+            own: ArrayVec::new(),
+            weeks: ArrayVec::new(),
+            others: ArrayVec::new(),
+        }
+    }
+
+    fn put_first(&mut self, station: u16, message: &DateMessage, first: u64)
+        ensures { self.new ≡ with_first station message.now first self.old }
+    {
+        let told = Told {
+            message: *message,
+            first,
+        };
+        match message {
+            DateMessage::Utc(date) if date.station == station => put(&mut self.own, told),
+            DateMessage::Utc(_) => put(&mut self.others, told),
+            DateMessage::Ephemeris(_) => put(&mut self.weeks, told),
+        }
+    }
+
+    /// A message more, after these epochs of the station.
+    pub(crate) fn take(&mut self, now: GpsMs, station: u16, span: &Span, message: &DateMessage)
+        ensures { self.new ≡ with_telling now station span.now message.now self.old }
+    {
+        if let Some(first) = first_epoch_told(now, span, message) {
+            self.put_first(station, message, first);
+        }
+    }
+
+    /// The first epochs that count: those by 1013 and 1029 of the station; if there are none, those by
+    /// 1019; if there are none, those by 1013 and 1029 of other stations.
+    pub fn counting(&self) -> &[Told]
+        ensures { result.now ≡ counting self.now }
+    {
+        if !self.own.is_empty() {
+            return self.own.as_slice();
+        }
+        if !self.weeks.is_empty() {
+            return self.weeks.as_slice();
+        }
+        self.others.as_slice()
+    }
+}
