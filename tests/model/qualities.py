@@ -209,7 +209,7 @@ def entries_of(file: str) -> tuple[list[Field], list[tuple[str, list[Field]]]]:
                 names_of_it = [text("", "satellite", it.name), text("", "code", code)]
                 out.append(("satellite", [*names_of_it, *numbers(it.rows(c), it.knows(c), it.possible, [])]))
     out += [("tracked", [text("", "satellite", it.name), *sums[it.name]]) for it in seen]
-    out += [("never", [text("", "satellite", it.name), text("", "code", code)]) for it in seen for c, code in enumerate(codes) if not it.has(c)]
+    out += [("never", [text("", "satellite", it.name), text("", "code", code)]) for it in seen for c, code in enumerate(codes) if not any(row.phase for row in it.rows(c))]
     for it in satellites:
         for row in it.spans:
             span = [text("from", "from", moment(row[0][0][1])), text("until", "until", moment(row[-1][-1][1]))]

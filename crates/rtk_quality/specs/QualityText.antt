@@ -94,7 +94,7 @@ unfoldable pub satellite_line : Form → ℕ → Code → CodeNumbers → List �
 satellite_line form satellite code n =
     start_text form (codes "satellite") ++ satellite_name form satellite ++ code_name form code ++ phases_text form n ++ counts_text form n.counts
 
--- the line of a code of the file that a satellite has nowhere
+-- the line of a code of the file of which a satellite has no phase
 unfoldable pub never_line : Form → ℕ → Code → List ℕ
 never_line form satellite code =
     start_text form (codes "never") ++ satellite_name form satellite ++ code_name form code ++ end_text form
@@ -131,13 +131,13 @@ each_code line at (c ∷ cs) = line at c ++ each_code line (at + 1) cs
 -- nowhere
 abbrev pub code_in : Form → Section → ℕ → Code → CodeNumbers → List ℕ
 code_in form Codes satellite code n = if n.counts.seen then satellite_line form satellite code n else []
-code_in form Never satellite code n = if n.counts.seen then [] else never_line form satellite code
+code_in form Never satellite code n = if n.counts.phases == 0 then never_line form satellite code else []
 code_in form Tracked satellite code n = []
 code_in form Passes satellite code n = []
 
 -- formula
--- what a section has of a satellite: its codes; the sums of all its codes, if it has any; the codes that it
--- has nowhere, if it has any; its passes, from the first to the last
+-- what a section has of a satellite: its codes; the sums of all its codes, if it has any; the codes of which it
+-- has no phase, if it has any; its passes, from the first to the last
 abbrev pub part_of : Form → Section → List Code → Option ℕ → List Sighting → ℕ → List ℕ
 part_of form Codes listed interval before satellite = each_code (λ place code. code_in form Codes satellite code (numbers_of interval before place)) 0 listed
 part_of form Tracked listed interval before satellite =

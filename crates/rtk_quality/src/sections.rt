@@ -25,7 +25,7 @@ pub(crate) enum Section {
     Codes,
     /// The sums of all its codes.
     Tracked,
-    /// The codes of the file that it has nowhere.
+    /// The codes of the file of which it has no phase.
     Never,
     /// Its passes.
     Passes,
@@ -66,7 +66,9 @@ fn put_code_in(
         Section::Codes if numbers.counts.seen => {
             put_satellite_line(text, form, satellite, code, numbers)
         }
-        Section::Never if !numbers.counts.seen => put_never_line(text, form, satellite, code),
+        Section::Never if numbers.counts.phases == 0 => {
+            put_never_line(text, form, satellite, code)
+        }
         _ => Ok(()),
     }
 }
