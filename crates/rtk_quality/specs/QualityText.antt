@@ -1,5 +1,5 @@
 -- The text of the numbers of a file, in both forms (this project's rule).
-use Rattle.std.specs.Prelude.{◌≡◌, ℕ, ◌+◌, List, [], ◌∷◌, ◌++◌, reverse, flat_map, codes, Option, Some, if◌then◌else◌}
+use Rattle.std.specs.Prelude.{◌≡◌, ◌==◌, ℕ, ◌+◌, List, [], ◌∷◌, ◌++◌, reverse, flat_map, codes, Option, Some, if◌then◌else◌}
 use Rattle.std.specs.List.{range_with_len}
 use Rattle.rtk_obs.specs.declared.code.Code.{Code}
 use Rattle.rtk_obs.specs.Code.{name_of}
