@@ -104,12 +104,12 @@ in-length interval on (s ∷ before) = elim (cases_Bool (has_phase s.observed)) 
   | inl has ↦
       let rest = in-length interval (not (begins_pass interval before s)) before in
       let is : count_in_passes interval on (s ∷ before) ≡ count_in_passes interval (not (begins_pass interval before s)) before + 1 =
-          ap (λ (b : Bool). cond b (count_in_passes interval (not (begins_pass interval before s)) before + 1) (count_in_passes interval on before + cond on 1 0)) has in
+      ap (λ (b : Bool). cond b (count_in_passes interval (not (begins_pass interval before s)) before + 1) (count_in_passes interval on before + cond on 1 0)) has in
       omega (arith, rest, is)
   | inr none ↦
       let rest = in-length interval on before in
       let is : count_in_passes interval on (s ∷ before) ≡ count_in_passes interval on before + cond on 1 0 =
-          ap (λ (b : Bool). cond b (count_in_passes interval (not (begins_pass interval before s)) before + 1) (count_in_passes interval on before + cond on 1 0)) none in
+      ap (λ (b : Bool). cond b (count_in_passes interval (not (begins_pass interval before s)) before + 1) (count_in_passes interval on before + cond on 1 0)) none in
       let one = at-most-one on in
       omega (arith, rest, is, one)
 ]
@@ -236,13 +236,13 @@ phases-in-passes interval (s ∷ before) few =
             | inl begins ↦
                 let p : PassCounts = record { from = reading_of s.time; until = reading_of s.time; sums = sums_at interval before s } in
                 let more : of-passes (passes_of interval (s ∷ before)) ≡ p.sums.phases + of-passes (passes_of interval before) =
-                    ap (λ (ps : List PassCounts). of-passes ps) (begun-passes interval before s has begins) ∙ sum_by-cons (λ x. x.sums.phases) p (passes_of interval before) in
+                ap (λ (ps : List PassCounts). of-passes ps) (begun-passes interval before s has begins) ∙ sum_by-cons (λ x. x.sums.phases) p (passes_of interval before) in
                 omega (arith, all, was, more)
             | inr goes_on ↦
                 let last = had-last interval before s has goes_on in
                 let newest = has-pass interval before last.0 last.1 in
                 let more : of-passes (passes_of interval (s ∷ before)) ≡ of-passes (longer s (sums_at interval before s) (passes_of interval before)) =
-                    ap (λ (ps : List PassCounts). of-passes ps) (longer-passes interval before s has goes_on) in
+                ap (λ (ps : List PassCounts). of-passes ps) (longer-passes interval before s has goes_on) in
                 let longest = newest-longer s (sums_at interval before s) (passes_of interval before) newest.0 newest.1 newest.2 (omega (arith, few, all, was)) in
                 omega (arith, all, was, more, longest)
           ]
@@ -268,7 +268,7 @@ folded number added own (k ∷ ks) total fits =
       | inl seen ↦
           let here : number_if_seen number (own k) ≡ number (own k) = ap (λ (b : Bool). cond b (number (own k)) 0) seen in
           let step : number (with_satellite total (own k)) ≡ plus (number total) (number (own k)) =
-              ap (λ (b : Bool). number (cond b (joined total (own k)) total)) seen ∙ added.1 total (own k) in
+          ap (λ (b : Bool). number (cond b (joined total (own k)) total)) seen ∙ added.1 total (own k) in
           let rest = folded number added own ks (with_satellite total (own k)) (omega (arith, fits, more, here, step)) in
           omega (arith, fits, more, here, step, rest)
       | inr not_seen ↦

@@ -57,23 +57,12 @@ fn put_having(
 ) -> Result<(), AllocError>
     ensures { OnOk result (text.new.items ≡ text.old.items ++ having_text form satellites tracked) }
 {
-    put_count(
-        text,
-        form,
-        b" satellites ",
-        b",\"satellites\":",
-        satellites,
-    )?;
+    put_count(text, form, b" satellites ", b",\"satellites\":", satellites)?;
     put_count(text, form, b" of ", b",\"tracked\":", tracked)
 }
 
 // Appends a text in a line, or another one in JSON.
-fn put_either(
-    text: &mut Vec<u8>,
-    form: Form,
-    line: &[u8],
-    json: &[u8],
-) -> Result<(), AllocError>
+fn put_either(text: &mut Vec<u8>, form: Form, line: &[u8], json: &[u8]) -> Result<(), AllocError>
     ensures { OnOk result (text.new.items ≡ text.old.items ++ in_form form line.now json.now) }
 {
     match form {
@@ -132,7 +121,9 @@ fn put_locks(text: &mut Vec<u8>, form: Form, counts: &CodeCounts) -> Result<(), 
         b",\"half_cycles\":",
         counts.halves,
     )?;
-    put_per_slip(text, form, phases_per_slip(counts.phases, counts.slips))
+    let each = phases_per_slip(counts.phases, counts.slips);
+    put_per_slip(text, form, each)?;
+    Ok(())
 }
 
 // Appends strengths.
@@ -266,7 +257,8 @@ fn put_sums(text: &mut Vec<u8>, form: Form, sums: &PassSums) -> Result<(), Alloc
         b",\"outage_time_ms\":",
         Decimals::Thousandths,
         Some(sums.outage_ms),
-    )
+    )?;
+    Ok(())
 }
 
 /// Appends the line of all codes of a satellite.

@@ -117,7 +117,8 @@ fn put_station(text: &mut Vec<u8>, form: Form, sums: &PassSums) -> Result<(), Al
         b",\"outage_time_ms\":",
         Decimals::Thousandths,
         Some(sums.outage_ms),
-    )
+    )?;
+    Ok(())
 }
 
 /// Appends the lines of the whole file.

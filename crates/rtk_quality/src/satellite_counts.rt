@@ -109,12 +109,7 @@ fn slips_in(observed: &[Observed], kept: &[bool; 16]) -> u64
 }
 
 // The last pass with an epoch more, or a pass that begins with it.
-fn with_epoch(
-    last: Option<PassCounts>,
-    begins: bool,
-    reading: Civil,
-    sums: &PassSums,
-) -> PassCounts
+fn with_epoch(last: Option<PassCounts>, begins: bool, reading: Civil, sums: &PassSums) -> PassCounts
     ensures { result ≡ with_epoch last begins reading sums.now }
 {
     match last {
@@ -181,12 +176,7 @@ impl SatelliteCounts {
 
     // Notes that the epoch has a phase: it goes on with the last pass, or begins one, and then the answer
     // is the pass before it.
-    fn note_phases(
-        &mut self,
-        begins: bool,
-        reading: Civil,
-        sums: &PassSums,
-    ) -> Option<PassCounts>
+    fn note_phases(&mut self, begins: bool, reading: Civil, sums: &PassSums) -> Option<PassCounts>
         ensures pass { self.new.pass ≡ self.old.pass }
         ensures codes { self.new.codes ≡ self.old.codes }
         ensures in_passes { self.new.in_passes ≡ plus self.old.in_passes (if begins then 1 else self.old.since_phase) }

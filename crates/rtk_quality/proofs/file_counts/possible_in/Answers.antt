@@ -10,8 +10,8 @@ use Rattle.rtk_quality.proofs.file_counts.possible_in.Goals as goal
 pub loop-satellite-preserved : goal.loop-satellite-preserved
 loop-satellite-preserved c = λ interval es stand.
     let within : c.loop-satellite.satellite-index < 32 = omega (arith, c.loop-satellite-test.true, stand.size) in
-    possible-more interval es c.loop-satellite.satellite-index c.loop-satellite.possible c.possible.result c.saturating_add.result
-    (c.loop-satellite.invariant interval es stand) (c.possible.ensures interval (sightings_of (c.loop-satellite.satellite-index + 1) es) (stand.each c.loop-satellite.satellite-index _ within)) c.saturating_add.ensures
+    possible-more interval es c.loop-satellite.satellite-index c.loop-satellite.possible c.possible.result c.saturating_add-possible.result
+    (c.loop-satellite.invariant interval es stand) (c.possible.ensures interval (sightings_of (c.loop-satellite.satellite-index + 1) es) (stand.each c.loop-satellite.satellite-index _ within)) c.saturating_add-possible.ensures
 
 pub returns : goal.returns
 unfolding possible_in

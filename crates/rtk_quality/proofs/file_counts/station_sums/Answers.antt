@@ -9,8 +9,8 @@ use Rattle.rtk_quality.proofs.file_counts.station_sums.Goals as goal
 pub loop-satellite-preserved : goal.loop-satellite-preserved
 loop-satellite-preserved c = λ interval es stand.
     let within : c.loop-satellite.satellite-index < 32 = omega (arith, c.loop-satellite-test.true, stand.size) in
-    sums-more interval es c.loop-satellite.satellite-index c.loop-satellite.sums c.sums.result c.plus.result
-    (c.loop-satellite.invariant interval es stand) (c.sums.ensures interval (sightings_of (c.loop-satellite.satellite-index + 1) es) (stand.each c.loop-satellite.satellite-index _ within)) c.plus.ensures
+    sums-more interval es c.loop-satellite.satellite-index c.loop-satellite.sums c.sums.result c.plus-sums.result
+    (c.loop-satellite.invariant interval es stand) (c.sums.ensures interval (sightings_of (c.loop-satellite.satellite-index + 1) es) (stand.each c.loop-satellite.satellite-index _ within)) c.plus-sums.ensures
 
 pub returns : goal.returns
 unfolding station_sums

@@ -1,10 +1,10 @@
-use Rattle.std.proofs.Common.{◌≡◌, ◌≤◌, ◌++◌, ℕ, List, length, get_or, sym, ap, ◌∙◌, arith}
+use Rattle.std.proofs.Common.{◌≡◌, ◌≤◌, ◌++◌, ℕ, List, length, sym, ap, ◌∙◌, arith}
 use Rattle.std.proofs.lemmas.List.{append-nil, drop_all}
 use Rattle.rtk_obs.specs.declared.code.Code.{Code}
 use Rattle.rtk_quality.specs.Quality.{possible_in, satellites_in, station_numbers, code_of_station}
 use Rattle.rtk_quality.specs.QualityText.{code_line, each_code}
 use Rattle.rtk_quality.specs.declared.code_numbers.CodeNumbers.{CodeNumbers}
-use Rattle.rtk_quality.proofs.SectionLemmas.{numbers-more}
+use Rattle.rtk_quality.proofs.SectionLemmas.{station-more}
 use Rattle.rtk_quality.proofs.sections.put_codes.Goals as goal
 
 pub loop-at-preserved : goal.loop-at-preserved
@@ -15,11 +15,8 @@ loop-at-preserved c = λ interval es stand.
     c.of_station-numbers.ensures
     ∙ ap (λ (n : ℕ). station_numbers n c.totals_of.result) possible
     ∙ ap (λ (t : CodeNumbers). station_numbers (possible_in interval es) t) (c.totals_of.ensures interval es stand) in
-    numbers-more (λ code n. code_line c.args.form code (satellites_in interval es) n) (code_of_station interval es) c.loop-at.at c.args.codes.now _ c.of_station-numbers.result _ c.loop-at.text.items c.put_code_line.new.text.items
-    c.loop-at-test.true (c.loop-at.invariant interval es stand)
-    (c.in_ok-put_code_line.ensures
-    ∙ ap (λ (k : ℕ). c.loop-at.text.items ++ code_line c.args.form (get_or c.args.codes.now c.loop-at.at _) k c.of_station-numbers.result) tracked)
-    numbers
+    station-more c.args.form (code_of_station interval es) c.loop-at.at c.args.codes.now _ (satellites_in interval es) c.satellites_in-tracked.result c.of_station-numbers.result _ c.loop-at.text.items c.put_code_line.new.text.items
+    c.loop-at-test.true (c.loop-at.invariant interval es stand) tracked c.in_ok-put_code_line.ensures numbers
 
 pub returns : goal.returns
 returns c = λ interval es stand.
