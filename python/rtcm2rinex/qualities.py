@@ -17,18 +17,22 @@ from .reports import moment_of
 class CodeQuality:
     """The numbers of a code, of one satellite or over all satellites that have the code (`satellite` is None).
 
-    The code has `phases` of the `possible` phases, which are `percent` of them. `ranges_only` counts the ranges without a phase.
-    `slips`, `rises` and `half_cycles` count marks, as the manual defines them. The three strengths are in dB-Hz. A number that does
-    not exist is None, as `phases_per_slip` without a slip.
+    The code has `phases` of the `possible` phases, which are `percent` of them, rounded down to a tenth. `satellites` says how many
+    satellites have the code, of the `tracked` satellites of the file, and both are None for one satellite. `ranges_only` counts the
+    ranges without a phase. `slips`, `returns`, `rises` and `half_cycles` count marks, as the manual defines them. The three strengths
+    are in dB-Hz. A number that does not exist is None, as `phases_per_slip` without a slip or a phase.
     """
 
     satellite: Optional[str]
     code: str
     phases: int
     possible: int
-    percent: Optional[float]
+    percent: float
+    satellites: Optional[int]
+    tracked: Optional[int]
     ranges_only: int
     slips: int
+    returns: int
     rises: int
     half_cycles: int
     phases_per_slip: Optional[int]
@@ -38,14 +42,30 @@ class CodeQuality:
 
 
 @dataclass(frozen=True)
+class Tracked:
+    """A satellite over all its codes: its phases and slips, the moments at which at least one code slips, and its outages with their
+    time in seconds (s)."""
+
+    satellite: str
+    phases: int
+    slips: int
+    moments: int
+    outages: int
+    outage_time: float
+
+
+@dataclass(frozen=True)
 class Pass:
-    """A pass of a satellite: the GPS times of its first and its last phase, and its phases and slips over all codes."""
+    """A pass of a satellite: the GPS times of its first and its last phase, and the numbers of `Tracked` for this pass."""
 
     satellite: str
     first: datetime
     last: datetime
     phases: int
     slips: int
+    moments: int
+    outages: int
+    outage_time: float
 
 
 @dataclass(frozen=True)
@@ -54,11 +74,12 @@ class Quality:
 
     `first` and `last` are the GPS times of the first and the last record, and `interval` is the most frequent step in seconds (s).
     `records` and `missing` count the records and the missing epochs. `satellites` counts the satellites of the file, and the next
-    three numbers say how many satellites a record has. A file without records has only `marker` and `records`, and all else is None
-    or empty.
+    three numbers say how many satellites a record has. `slips`, `moments`, `outages` and `outage_time` add up all satellites. A file
+    without records has only `marker` and `records`, and all else is None or empty.
 
-    `codes` has the numbers of each code over all satellites, and `satellite_codes` the numbers of each code of each satellite. `never`
-    has the satellites and codes without any value. `passes` has the passes of all satellites.
+    `codes` has the numbers of each code over all satellites, and `satellite_codes` the numbers of each code of each satellite.
+    `tracked` has the numbers of each satellite. `never` has the satellites and codes without any phase. `passes` has the passes of all
+    satellites.
     """
 
     marker: str
@@ -71,8 +92,13 @@ class Quality:
     least_satellites: Optional[int]
     mean_satellites: Optional[float]
     greatest_satellites: Optional[int]
+    slips: Optional[int]
+    moments: Optional[int]
+    outages: Optional[int]
+    outage_time: Optional[float]
     codes: Tuple[CodeQuality, ...]
     satellite_codes: Tuple[CodeQuality, ...]
+    tracked: Tuple[Tracked, ...]
     never: Tuple[Tuple[str, str], ...]
     passes: Tuple[Pass, ...]
 
@@ -89,13 +115,13 @@ def read_quality(text: str) -> Quality:
     """Reads the JSON of `quality`."""
     try:
         first, *rows = json.loads(text)
-        rows_of: Dict[str, List[Any]] = {"code": [], "satellite": [], "never": [], "pass": []}
+        rows_of: Dict[str, List[Any]] = {"code": [], "satellite": [], "tracked": [], "never": [], "pass": []}
         for row in rows:
             rows_of[row["line"]].append(row)
         codes, satellite_codes = (tuple(map(code_of, rows_of[it])) for it in ("code", "satellite"))
         never = tuple((row["satellite"], row["code"]) for row in rows_of["never"])
         return Quality(**file_of(first), codes=codes, satellite_codes=satellite_codes, never=never,
-            passes=tuple(map(pass_of, rows_of["pass"])))
+            tracked=tuple(map(tracked_of, rows_of["tracked"])), passes=tuple(map(pass_of, rows_of["pass"])))
     except (ValueError, KeyError, TypeError) as fault:
         raise FormError(1, f"the JSON of quality has another form: {fault!r}") from fault
 
@@ -108,19 +134,23 @@ def part_of(number: Optional[int], parts: int) -> Optional[float]:
 def file_of(row: Dict[str, Any]) -> Dict[str, Any]:
     """The numbers of the whole file. Without records there are only two."""
     if row["records"] == 0:
-        absent = ("first", "last", "interval", "missing", "satellites", "least_satellites", "mean_satellites", "greatest_satellites")
+        absent = ("first", "last", "interval", "missing", "satellites", "least_satellites", "mean_satellites", "greatest_satellites",
+            "slips", "moments", "outages", "outage_time")
         return {"marker": row["marker"], "records": 0, **dict.fromkeys(absent)}
-    same = ("marker", "records", "missing", "satellites", "least_satellites", "greatest_satellites")
+    same = ("marker", "records", "missing", "satellites", "least_satellites", "greatest_satellites", "slips", "moments", "outages")
     return {**{name: row[name] for name in same}, "first": moment_of(row["from"]), "last": moment_of(row["until"]),
-        "interval": part_of(row["interval_ms"], 1000), "mean_satellites": part_of(row["mean_satellites_tenths"], 10)}
+        "interval": part_of(row["interval_ms"], 1000), "mean_satellites": part_of(row["mean_satellites_tenths"], 10),
+        "outage_time": row["outage_time_ms"] / 1000}
 
 
 def code_of(row: Dict[str, Any]) -> CodeQuality:
     """The numbers of a code."""
-    same = ("code", "phases", "possible", "ranges_only", "slips", "rises", "half_cycles", "phases_per_slip")
+    same = ("code", "phases", "possible", "ranges_only", "slips", "returns", "rises", "half_cycles", "phases_per_slip")
     return CodeQuality(
         satellite=row.get("satellite"),
-        percent=part_of(row["percent_tenths"], 10),
+        percent=row["percent_tenths"] / 10,
+        satellites=row.get("satellites"),
+        tracked=row.get("tracked"),
         least_strength=part_of(row["least_strength_millidbhz"], 1000),
         mean_strength=part_of(row["mean_strength_centidbhz"], 100),
         greatest_strength=part_of(row["greatest_strength_millidbhz"], 1000),
@@ -128,9 +158,19 @@ def code_of(row: Dict[str, Any]) -> CodeQuality:
     )
 
 
+def sums_of(row: Dict[str, Any]) -> Tuple[int, int, int, int, float]:
+    """What the epochs of a satellite or of a pass add up to."""
+    return row["phases"], row["slips"], row["moments"], row["outages"], row["outage_time_ms"] / 1000
+
+
+def tracked_of(row: Dict[str, Any]) -> Tracked:
+    """A satellite over all its codes."""
+    return Tracked(row["satellite"], *sums_of(row))
+
+
 def pass_of(row: Dict[str, Any]) -> Pass:
     """A pass of a satellite."""
     first, last = moment_of(row["from"]), moment_of(row["until"])
     if first is None or last is None:
         raise ValueError("a pass has no time")
-    return Pass(row["satellite"], first, last, row["phases"], row["slips"])
+    return Pass(row["satellite"], first, last, *sums_of(row))

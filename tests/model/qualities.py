@@ -72,15 +72,17 @@ def point(number: int | None, digits: int) -> str:
 
 
 class Field(NamedTuple):
-    """A number or a text of a line: its word there, its key in JSON, and the digits behind its point (a text has none)."""
+    """A number or a text of a line: its word there, its key in JSON, the digits behind its point (a text has none), and what stands
+    there without a value."""
 
     word: str
     key: str
     value: int | str | None
     digits: int | None = 0
+    none: str = "-"
 
     def in_line(self) -> str:
-        shown = str(self.value) if self.digits is None else point(self.value, self.digits)
+        shown = self.none if self.value is None else str(self.value) if self.digits is None else point(self.value, self.digits)
         return f"{self.word} {shown}" if self.word else shown
 
 
@@ -92,23 +94,28 @@ def text(word: str, key: str, value: str) -> Field:
     return Field(word, key, value, None)
 
 
-def numbers(rows: list[Shown], knows: list[bool], possible: int) -> list[Field]:
-    """The numbers of a code: what it shows, whether it had a phase before in the pass and since the last outage, and how many phases
-    could be there."""
+def numbers(rows: list[Shown], knows: list[str], possible: int, having: list[Field]) -> list[Field]:
+    """The numbers of a code: what it shows, what a bit 0 is there, how many phases could be there, and on how many satellites the
+    code is."""
     phases = sum(it.phase for it in rows)
-    slips = sum(it.digit & 1 and before for it, before in zip(rows, knows))
+    bits = Counter(kind for it, kind in zip(rows, knows) if it.digit & 1)
+    slips = bits["slip"]
     strengths = [it.strength for it in rows if it.strength is not None]
-    percent = whole(Fraction(1000 * phases, possible)) if possible else None
+    percent = 1000 * phases // possible if possible else 0
     mean = whole(Fraction(sum(strengths), 10 * len(strengths))) if strengths else None
     return [
         counted("phases", phases),
         Field("of", "possible", possible),
         Field("percent", "percent_tenths", percent, 1),
+        *having,
         counted("ranges-only", sum(it.range and not it.phase for it in rows)),
         counted("slips", slips),
-        counted("rises", sum(it.digit & 1 for it in rows) - slips),
+        counted("returns", bits["return"]),
+        counted("rises", bits["rise"]),
         counted("half-cycles", sum(it.digit >> 1 for it in rows)),
-        counted("phases-per-slip", whole(Fraction(phases, slips)) if slips else None),
+        Field(
+            "phases-per-slip", "phases_per_slip", whole(Fraction(phases, slips)) if phases and slips else None,
+            none="none-lost" if phases else "no-phase"),
         Field("least-strength", "least_strength_millidbhz", min(strengths, default=None), 3),
         Field("mean-strength", "mean_strength_centidbhz", mean, 2),
         Field("greatest-strength", "greatest_strength_millidbhz", max(strengths, default=None), 3),
@@ -122,10 +129,8 @@ class Satellite:
         self.name = name
         line = {at: it.lines[name][3:].ljust(48 * codes) for at, it in enumerate(records) if name in it.lines}
         self.shown = {at: [shown_in(row[48 * c : 48 * c + 48]) for c in range(codes)] for at, row in line.items()}
-        spans = passes_of([(at, times[at]) for at, row in self.shown.items() if any(it.phase for it in row)], interval)
-        self.spans = [span for row in spans for span in row]
-        self.passes = [[it for span in row for it in span] for row in spans]
-        self.possible = sum(row[-1][0] - row[0][0] + 1 for row in self.passes)
+        self.spans = passes_of([(at, times[at]) for at, row in self.shown.items() if any(it.phase for it in row)], interval)
+        self.possible = sum(row[-1][-1][0] - row[0][0][0] + 1 for row in self.spans)
 
     def rows(self, code: int) -> list[Shown]:
         return [row[code] for row in self.shown.values()]
@@ -133,13 +138,34 @@ class Satellite:
     def has(self, code: int) -> bool:
         return any(it.range or it.phase or it.strength is not None for it in self.rows(code))
 
-    def knows(self, code: int) -> list[bool]:
-        """Whether the code had a phase earlier in the pass and since the last outage, for each record with the satellite."""
-        first = {}
+    def knows(self, code: int) -> list[str]:
+        """What a bit 0 of the code is, for each record with the satellite: a slip if the code had a phase earlier in the pass and since
+        the last outage, a return if it had one earlier in the pass, or else a rise."""
+        kinds = {}
         for row in self.spans:
-            with_phase = [at for at, _ in row if self.shown[at][code].phase]
-            first.update({at: with_phase[0] < at for at, _ in row if with_phase})
-        return [first.get(at, False) for at in self.shown]
+            had = False
+            for span in row:
+                kept = False
+                for at, _ in span:
+                    kinds[at] = "slip" if kept else "return" if had else "rise"
+                    kept = kept or self.shown[at][code].phase
+                    had = had or kept
+        return [kinds.get(at, "rise") for at in self.shown]
+
+    def sums(self, rows: list[list[list[tuple[int, int]]]], interval: int | None) -> list[Field]:
+        """The phases and slips of passes, the moments at which a code slips, and the outages."""
+        codes = len(next(iter(self.shown.values())))
+        kinds = [dict(zip(self.shown, self.knows(code))) for code in range(codes)]
+        seen = {at: [self.shown[at][code] for code in range(codes)] for row in rows for span in row for at, _ in span}
+        slips = {at: sum(it.digit & 1 and kinds[code][at] == "slip" for code, it in enumerate(row)) for at, row in seen.items()}
+        out = [span[0][1] - before[-1][1] - (interval or 0) for row in rows for before, span in zip(row, row[1:])]
+        return [
+            counted("phases", sum(it.phase for row in seen.values() for it in row)),
+            counted("slips", sum(slips.values())),
+            counted("moments", sum(it > 0 for it in slips.values())),
+            counted("outages", len(out)),
+            Field("outage-time", "outage_time_ms", sum(out), 3),
+        ]
 
 
 def entries_of(file: str) -> tuple[list[Field], list[tuple[str, list[Field]]]]:
@@ -157,6 +183,7 @@ def entries_of(file: str) -> tuple[list[Field], list[tuple[str, list[Field]]]]:
     satellites = [Satellite(name, records, times, len(codes), interval) for name in names]
     seen = [it for it in satellites if any(it.has(c) for c in range(len(codes)))]
     counts = [len(it.lines) for it in records]
+    sums = {it.name: it.sums(it.spans, interval) for it in satellites}
     heading = [
         marker,
         text("from", "from", moment(times[0])),
@@ -168,25 +195,25 @@ def entries_of(file: str) -> tuple[list[Field], list[tuple[str, list[Field]]]]:
         counted("least-satellites", min(counts)),
         Field("mean-satellites", "mean_satellites_tenths", whole(Fraction(10 * sum(counts), len(records))), 1),
         counted("greatest-satellites", max(counts)),
+        *(one[0]._replace(value=sum(it.value for it in one)) for one in list(zip(*sums.values()))[1:]),
     ]
     out: list[tuple[str, list[Field]]] = []
     for c, code in enumerate(codes):
         having = [it for it in satellites if it.has(c)]
         rows, knows = [row for it in having for row in it.rows(c)], [k for it in having for k in it.knows(c)]
-        out.append(("code", [text("", "code", code), *numbers(rows, knows, sum(it.possible for it in having))]))
+        on = [counted("satellites", len(having)), Field("of", "tracked", len(seen))]
+        out.append(("code", [text("", "code", code), *numbers(rows, knows, sum(it.possible for it in having or satellites), on)]))
     for it in seen:
         for c, code in enumerate(codes):
             if it.has(c):
                 names_of_it = [text("", "satellite", it.name), text("", "code", code)]
-                out.append(("satellite", [*names_of_it, *numbers(it.rows(c), it.knows(c), it.possible)]))
-    out += [("never", [text("", "satellite", it.name), text("", "code", code)]) for it in seen for c, code in enumerate(codes) if not it.has(c)]
+                out.append(("satellite", [*names_of_it, *numbers(it.rows(c), it.knows(c), it.possible, [])]))
+    out += [("tracked", [text("", "satellite", it.name), *sums[it.name]]) for it in seen]
+    out += [("never", [text("", "satellite", it.name), text("", "code", code)]) for it in seen for c, code in enumerate(codes) if not any(row.phase for row in it.rows(c))]
     for it in satellites:
-        knows_of = {c: dict(zip(it.shown, it.knows(c))) for c in range(len(codes))}
-        for row in it.passes:
-            shown = [(c, at, it.shown[at][c]) for at, _ in row for c in range(len(codes))]
-            phases, slips = sum(one.phase for *_, one in shown), sum(one.digit & 1 and knows_of[c][at] for c, at, one in shown)
-            span = [text("from", "from", moment(row[0][1])), text("until", "until", moment(row[-1][1]))]
-            out.append(("pass", [text("", "satellite", it.name), *span, counted("phases", phases), counted("slips", slips)]))
+        for row in it.spans:
+            span = [text("from", "from", moment(row[0][0][1])), text("until", "until", moment(row[-1][-1][1]))]
+            out.append(("pass", [text("", "satellite", it.name), *span, *it.sums([row], interval)]))
     return heading, out
 
 

@@ -10,15 +10,17 @@ quality() { run quality "$@"; }
 # Its numbers, slip.numbers, were looked up in it by hand.
 lines=$root/tests/program/slip.numbers
 cat >json <<'END'
-[{"line":"file","marker":"BASE","from":"2024-05-17 12:00:00.000","until":"2024-05-17 12:01:00.000","interval_ms":1000,"records":61,"missing":0,"satellites":2,"least_satellites":1,"mean_satellites_tenths":18,"greatest_satellites":2},
-{"line":"code","code":"1C","phases":112,"possible":122,"percent_tenths":918,"ranges_only":0,"slips":2,"rises":0,"half_cycles":2,"phases_per_slip":56,"least_strength_millidbhz":41500,"mean_strength_centidbhz":4341,"greatest_strength_millidbhz":45000},
-{"line":"code","code":"2W","phases":112,"possible":122,"percent_tenths":918,"ranges_only":0,"slips":2,"rises":0,"half_cycles":0,"phases_per_slip":56,"least_strength_millidbhz":30250,"mean_strength_centidbhz":3284,"greatest_strength_millidbhz":35000},
-{"line":"satellite","satellite":"G05","code":"1C","phases":61,"possible":61,"percent_tenths":1000,"ranges_only":0,"slips":2,"rises":0,"half_cycles":0,"phases_per_slip":31,"least_strength_millidbhz":45000,"mean_strength_centidbhz":4500,"greatest_strength_millidbhz":45000},
-{"line":"satellite","satellite":"G05","code":"2W","phases":61,"possible":61,"percent_tenths":1000,"ranges_only":0,"slips":1,"rises":0,"half_cycles":0,"phases_per_slip":61,"least_strength_millidbhz":35000,"mean_strength_centidbhz":3500,"greatest_strength_millidbhz":35000},
-{"line":"satellite","satellite":"G07","code":"1C","phases":51,"possible":61,"percent_tenths":836,"ranges_only":0,"slips":0,"rises":0,"half_cycles":2,"phases_per_slip":null,"least_strength_millidbhz":41500,"mean_strength_centidbhz":4150,"greatest_strength_millidbhz":41500},
-{"line":"satellite","satellite":"G07","code":"2W","phases":51,"possible":61,"percent_tenths":836,"ranges_only":0,"slips":1,"rises":0,"half_cycles":0,"phases_per_slip":51,"least_strength_millidbhz":30250,"mean_strength_centidbhz":3025,"greatest_strength_millidbhz":30250},
-{"line":"pass","satellite":"G05","from":"2024-05-17 12:00:00.000","until":"2024-05-17 12:01:00.000","phases":122,"slips":3},
-{"line":"pass","satellite":"G07","from":"2024-05-17 12:00:00.000","until":"2024-05-17 12:01:00.000","phases":102,"slips":1}
+[{"line":"file","marker":"BASE","from":"2024-05-17 12:00:00.000","until":"2024-05-17 12:01:00.000","interval_ms":1000,"records":61,"missing":0,"satellites":2,"least_satellites":1,"mean_satellites_tenths":18,"greatest_satellites":2,"slips":4,"moments":4,"outages":0,"outage_time_ms":0},
+{"line":"code","code":"1C","phases":112,"possible":122,"percent_tenths":918,"satellites":2,"tracked":2,"ranges_only":0,"slips":2,"returns":0,"rises":0,"half_cycles":2,"phases_per_slip":56,"least_strength_millidbhz":41500,"mean_strength_centidbhz":4341,"greatest_strength_millidbhz":45000},
+{"line":"code","code":"2W","phases":112,"possible":122,"percent_tenths":918,"satellites":2,"tracked":2,"ranges_only":0,"slips":2,"returns":0,"rises":0,"half_cycles":0,"phases_per_slip":56,"least_strength_millidbhz":30250,"mean_strength_centidbhz":3284,"greatest_strength_millidbhz":35000},
+{"line":"satellite","satellite":"G05","code":"1C","phases":61,"possible":61,"percent_tenths":1000,"ranges_only":0,"slips":2,"returns":0,"rises":0,"half_cycles":0,"phases_per_slip":31,"least_strength_millidbhz":45000,"mean_strength_centidbhz":4500,"greatest_strength_millidbhz":45000},
+{"line":"satellite","satellite":"G05","code":"2W","phases":61,"possible":61,"percent_tenths":1000,"ranges_only":0,"slips":1,"returns":0,"rises":0,"half_cycles":0,"phases_per_slip":61,"least_strength_millidbhz":35000,"mean_strength_centidbhz":3500,"greatest_strength_millidbhz":35000},
+{"line":"satellite","satellite":"G07","code":"1C","phases":51,"possible":61,"percent_tenths":836,"ranges_only":0,"slips":0,"returns":0,"rises":0,"half_cycles":2,"phases_per_slip":null,"least_strength_millidbhz":41500,"mean_strength_centidbhz":4150,"greatest_strength_millidbhz":41500},
+{"line":"satellite","satellite":"G07","code":"2W","phases":51,"possible":61,"percent_tenths":836,"ranges_only":0,"slips":1,"returns":0,"rises":0,"half_cycles":0,"phases_per_slip":51,"least_strength_millidbhz":30250,"mean_strength_centidbhz":3025,"greatest_strength_millidbhz":30250},
+{"line":"tracked","satellite":"G05","phases":122,"slips":3,"moments":3,"outages":0,"outage_time_ms":0},
+{"line":"tracked","satellite":"G07","phases":102,"slips":1,"moments":1,"outages":0,"outage_time_ms":0},
+{"line":"pass","satellite":"G05","from":"2024-05-17 12:00:00.000","until":"2024-05-17 12:01:00.000","phases":122,"slips":3,"moments":3,"outages":0,"outage_time_ms":0},
+{"line":"pass","satellite":"G07","from":"2024-05-17 12:00:00.000","until":"2024-05-17 12:01:00.000","phases":102,"slips":1,"moments":1,"outages":0,"outage_time_ms":0}
 ]
 END
 # pins: counts_of, passes_of, epochs_in_passes, percent_tenths, mean_hundredths
@@ -26,7 +28,7 @@ quality "$file";              leaves quality_of_a_file 0 "$lines" /dev/null
 quality --json "$file";       leaves quality_in_json 0 json /dev/null
 quality "$file" --json;       leaves quality_in_json_after_the_file 0 json /dev/null
 quality --json stdin <"$file"; leaves quality_of_standard_input_in_json 0 json /dev/null
-python3 -c 'import json, sys; print(len(json.load(sys.stdin)))' <out >got; echo 9 >want
+python3 -c 'import json, sys; print(len(json.load(sys.stdin)))' <out >got; echo 11 >want
 same other_programs_read_the_document got want
 
 # Fields in the header change no number.
@@ -42,10 +44,107 @@ leaves quality_without_records_in_json 0 want /dev/null
 
 # A record alone has no interval.
 sed '/^> .* 1.0000000 /,$d' "$file" >one
-quality one; sed '11,$d' out >heading
+quality one; sed '15,$d' out >heading
 printf '%s\n' 'marker BASE' 'from 2024-05-17 12:00:00.000' 'until 2024-05-17 12:00:00.000' 'interval -' 'records 1' 'missing 0' \
-    'satellites 2' 'least-satellites 2' 'mean-satellites 2.0' 'greatest-satellites 2' >want
+    'satellites 2' 'least-satellites 2' 'mean-satellites 2.0' 'greatest-satellites 2' 'slips 0' 'moments 0' 'outages 0' \
+    'outage-time 0.000' >want
 same quality_of_a_record heading want
+
+# away N: six hours at 1 s of G05 and G07. G05 is away for the last N seconds of each 600 but the last ones, so 35 times, and bit 0
+# stands where it is back.
+away() {
+    sed '/END OF HEADER/q' "$file"
+    awk -v away="$1" 'BEGIN {
+        for (s = 0; s < 21600; s++) {
+            there = s % 600 < 600 - away || s >= 21000
+            printf "> 2024 05 17 %02d %02d %2d.0000000  0 %2d\n", 12 + int(s / 3600), int(s / 60) % 60, s % 60, 1 + there
+            if (there) printf "G05  21085472.060 7 110804903.547%s7        45.000\n", s % 600 || !s ? " " : "1"
+            print "G07  22963108.863 6 120671906.430 6        41.500"
+        }
+    }'
+}
+
+# For how many seconds G05 is away, the step of `cut`, and what is due: phases, slips, returns, outages and their seconds. Only an
+# absence of 125 s is judged in another way after `cut`, where it is one of 120 s.
+# pins: absence_of, is_longer, ends_outage, is_return, is_slip, epochs_in_passes, percent_tenths, sums_of, station_sums
+cat >rows <<'END'
+119  1 17435 21600 80.7 35  0  0     0
+119 30   615   720 85.4 35  0  0     0
+120  1 17400 21600 80.5 35  0  0     0
+120 30   580   720 80.5 35  0  0     0
+125  1 17225 21600 79.7  0 35 35  4375
+125 30   580   720 80.5 35  0  0     0
+300  1 11100 21600 51.3  0 35 35 10500
+300 30   370   720 51.3  0 35 35 10500
+END
+while read -r seconds step phases possible percent slips returns outages time <&3; do
+    away "$seconds" >gone
+    "$program" cut --every "$step" gone >part 2>log
+    quality part
+    grep -E '^(slips|moments|outages|outage-time|satellite G05 1C|tracked G05) ' out | sed 's/ half-cycles .*//' >got
+    cat >want <<END
+slips $slips
+moments $slips
+outages $outages
+outage-time $time.000
+satellite G05 1C phases $phases of $possible percent $percent ranges-only 0 slips $slips returns $returns rises 0
+tracked G05 phases $phases slips $slips moments $slips outages $outages outage-time $time.000
+END
+    same "quality_of_a_satellite_away_for_${seconds}_s_at_$step" got want
+done 3<rows
+
+# twelve KIND: 83 records of twelve satellites. G07 slips twice on its codes. G11 has no 2W, and G05 lacks two phases of it. Of the
+# kind `ranges` G12 has only ranges of 2W, and of the kind `none` no satellite has 2W.
+twelve() {
+    sed '/END OF HEADER/q' "$file"
+    awk -v kind="$1" 'BEGIN {
+        for (s = 0; s < 83; s++) {
+            printf "> 2024 05 17 12 %02d %2d.0000000  0 12\n", s / 60, s % 60
+            for (n = 1; n <= 12; n++) {
+                slip = n == 7 && (s == 20 || s == 40) ? "1" : " "
+                printf "G%02d  21085472.060 7 110804903.547%s7        45.000", n, slip
+                if (kind == "ranges" && n == 12)
+                    printf "    21085474.060 5"
+                else if (kind != "none" && n != 11 && !(n == 5 && (s == 10 || s == 11)))
+                    printf "    21085474.060 5  86341483.321%s5        35.000", slip
+                print ""
+            }
+        }
+    }'
+}
+
+# pins: percent_tenths, station_numbers, code_of_station, phases_per_slip, sums_of
+twelve most >most
+quality most
+grep -E '^(slips|moments|code|tracked G07|never) ' out | sed 's/ ranges-only .*//' >got
+cat >want <<'END'
+slips 4
+moments 2
+code 1C phases 996 of 996 percent 100.0 satellites 12 of 12
+code 2W phases 911 of 913 percent 99.7 satellites 11 of 12
+tracked G07 phases 166 slips 4 moments 2 outages 0 outage-time 0.000
+never G11 2W
+END
+same quality_of_a_code_that_one_satellite_never_sends got want
+twelve ranges >ranges
+quality ranges
+grep -E '^(code 2W|satellite G12 2W|never) ' out | sed 's/ slips .*//' >got
+cat >want <<'END'
+code 2W phases 828 of 913 percent 90.6 satellites 11 of 12 ranges-only 83
+satellite G12 2W phases 0 of 83 percent 0.0 ranges-only 83
+never G11 2W
+never G12 2W
+END
+same quality_of_a_code_with_ranges_alone got want
+twelve none >none
+quality none
+grep '^code 2W ' out >got
+echo 'code 2W phases 0 of 996 percent 0.0 satellites 0 of 12 ranges-only 0 slips 0 returns 0 rises 0 half-cycles 0 phases-per-slip no-phase least-strength - mean-strength - greatest-strength -' >want
+same quality_of_a_code_that_no_satellite_sends got want
+quality --json none
+grep '"line":"code","code":"2W"' out | sed 's/,"ranges_only".*//' >got
+echo '{"line":"code","code":"2W","phases":0,"possible":996,"percent_tenths":0,"satellites":0,"tracked":12' >want
+same quality_of_a_code_that_no_satellite_sends_in_json got want
 
 # A file that `check` refuses: its line, on standard error, and no number.
 sed '20s/^/x/' "$file" >wrong

@@ -90,12 +90,16 @@ class Qualities(Case):
         self.assertEqual((found.records, found.missing, found.satellites), (94, 6, 3))
         self.assertEqual((found.least_satellites, found.mean_satellites, found.greatest_satellites), (2, 2.4, 3))
         code = found.codes[1]
-        self.assertEqual((code.satellite, code.code, code.phases, code.possible, code.percent), (None, "2W", 221, 224, 98.7))
-        self.assertEqual((code.ranges_only, code.slips, code.rises, code.half_cycles, code.phases_per_slip), (3, 1, 0, 1, 221))
+        self.assertEqual((code.satellite, code.code, code.phases, code.possible, code.percent), (None, "2W", 221, 224, 98.6))
+        self.assertEqual((code.satellites, code.tracked, code.ranges_only, code.half_cycles, code.phases_per_slip), (3, 3, 3, 1, 221))
+        self.assertEqual((code.slips, code.returns, code.rises), (1, 0, 0))
         self.assertEqual((code.least_strength, code.mean_strength, code.greatest_strength), (22.0, 30.74, 36.0))
         code = next(it for it in found.satellite_codes if (it.satellite, it.code) == ("G12", "1C"))
         self.assertEqual((code.phases, code.half_cycles, code.phases_per_slip, code.mean_strength), (74, 4, None, 39.2))
-        self.assertIn(rtcm2rinex.Pass("G12", second(20), second(99), 145, 1), found.passes)
+        self.assertEqual((code.satellites, code.tracked), (None, None))
+        self.assertIn(rtcm2rinex.Pass("G12", second(20), second(99), 145, 1, 1, 0, 0.0), found.passes)
+        self.assertIn(rtcm2rinex.Tracked("G12", 145, 1, 1, 0, 0.0), found.tracked)
+        self.assertEqual((found.slips, found.moments, found.outages, found.outage_time), (2, 2, 0, 0.0))
         self.assertEqual(found.never, ())
 
     def test_codes_that_a_satellite_never_has(self) -> None:
@@ -107,6 +111,7 @@ class Qualities(Case):
         header = b"".join((EXAMPLES / "base.rnx").read_bytes().splitlines(True)[:14])
         found = rtcm2rinex.quality(io.BytesIO(header))
         self.assertEqual((found.marker, found.records, found.first, found.codes, found.passes), ("BASE", 0, None, (), ()))
+        self.assertEqual((found.slips, found.outage_time, found.tracked), (None, None, ()))
 
     def test_a_wrong_file(self) -> None:
         text = (EXAMPLES / "base.rnx").read_bytes().replace(b"45.000", b"45.100")

@@ -7,27 +7,30 @@ use Rattle.std.proofs.lemmas.List.FromFn.{fill_by_all, length-map-range_with_len
 use Rattle.rtk_obs.specs.declared.time.Civil.{Civil}
 use Rattle.rtk_rinex.specs.Reading.{reading_of}
 use Rattle.rtk_rinex.specs.declared.epoch_table.Observed.{Observed}
-use Rattle.rtk_tracking.specs.Passes.{Sighting, has_phase, has_bit_0, last_phase, is_away, begins_pass, is_kept, is_slip}
+use Rattle.rtk_tracking.specs.Passes.{Sighting, has_phase, has_bit_0, last_phase, is_away, begins_pass, is_known, is_kept, is_slip}
 use Rattle.rtk_tracking.specs.Standing.{StandsForPass}
 use Rattle.rtk_tracking.specs.Epochs.{shown_at}
 use Rattle.rtk_rinex.specs.Record.{no_observation}
 use Rattle.rtk_quality.specs.Counts.{plus, Noted, is_observed, noted_of, tally, strength_total, least_strength, greatest_strength, counts_of, code_counts_of}
-use Rattle.rtk_quality.specs.SatellitePasses.{phases_in, slips_at, longer, passes_of, epochs_since_phase, epochs_in_passes}
+use Rattle.rtk_quality.specs.SatellitePasses.{sums_at, sums_plus, sums_in, longer, passes_of, epochs_since_phase, epochs_in_passes}
 use Rattle.rtk_quality.specs.Standing.{newest_pass, with_epoch, absent_at, StandsForSatellite}
+use Rattle.rtk_quality.specs.declared.pass_sums.PassSums.{PassSums}
 use Rattle.rtk_quality.specs.declared.satellite_counts.PassCounts.{PassCounts}
 use Rattle.rtk_quality.specs.declared.satellite_counts.SatelliteCounts.{SatelliteCounts}
 use Rattle.rtk_quality.specs.declared.code_counts.CodeCounts.{CodeCounts}
 
 -- a code, an epoch more
-pub code-more : (interval : Option ℕ) (place : ℕ) (before : List Sighting) (s : Sighting) (os : List Observed) (o : Observed) (kept : Bool) (old new : CodeCounts)
-    → os ≡ s.observed → o ≡ shown_at place os → kept ≡ is_kept interval place before s → old ≡ counts_of (noted_of interval place before)
-    → ((ns : List Noted) → old ≡ counts_of ns → new ≡ counts_of (record { observed = o; kept = kept } ∷ ns))
+pub code-more : (interval : Option ℕ) (place : ℕ) (before : List Sighting) (s : Sighting) (os : List Observed) (o : Observed) (known kept : Bool) (old new : CodeCounts)
+    → os ≡ s.observed → o ≡ shown_at place os → known ≡ is_known interval place before s → kept ≡ is_kept interval place before s
+    → old ≡ counts_of (noted_of interval place before)
+    → ((ns : List Noted) → old ≡ counts_of ns → new ≡ counts_of (record { observed = o; known = known; kept = kept } ∷ ns))
     → new ≡ counts_of (noted_of interval place (s ∷ before))
-code-more interval place before s os o kept old new same is marked was took =
+code-more interval place before s os o known kept old new same is marked_known marked was took =
     let rest : List Noted = noted_of interval place before in
     took rest was
-    ∙ ap (λ (x : Observed). counts_of (record { observed = x; kept = kept } ∷ rest)) (is ∙ ap (λ (xs : List Observed). shown_at place xs) same)
-    ∙ ap (λ (b : Bool). counts_of (record { observed = shown_at place s.observed; kept = b } ∷ rest)) marked
+    ∙ ap (λ (x : Observed). counts_of (record { observed = x; known = known; kept = kept } ∷ rest)) (is ∙ ap (λ (xs : List Observed). shown_at place xs) same)
+    ∙ ap (λ (b : Bool). counts_of (record { observed = shown_at place s.observed; known = b; kept = kept } ∷ rest)) marked_known
+    ∙ ap (λ (b : Bool). counts_of (record { observed = shown_at place s.observed; known = is_known interval place before s; kept = b } ∷ rest)) marked
 
 -- bit 0 of a digit
 pub bit-at : (place : ℕ) (os : List Observed) → has_bit_0 place os ≡ (shown_at place os).slip
@@ -44,13 +47,13 @@ slip-is interval place before s os o kept same is marked =
 
 -- ---- what is not observed
 
-abbrev counts_with : Bool → ℕ → ℕ → ℕ → ℕ → ℕ → ℕ → ℕ → Option ℕ → Option ℕ → CodeCounts
-counts_with seen a b c d e f g least greatest =
-    record { seen = seen; phases = a; ranges = b; slips = c; rises = d; halves = e; strengths = f; strength_sum = g; least = least; greatest = greatest }
+abbrev counts_with : Bool → ℕ → ℕ → ℕ → ℕ → ℕ → ℕ → ℕ → ℕ → Option ℕ → Option ℕ → CodeCounts
+counts_with seen a b c r d e f g least greatest =
+    record { seen = seen; phases = a; ranges = b; slips = c; returns = r; rises = d; halves = e; strengths = f; strength_sum = g; least = least; greatest = greatest }
 
-same-counts : (seen : Bool) (a b c d e f g a2 b2 c2 d2 e2 f2 g2 : ℕ) (least greatest : Option ℕ) → a ≡ a2 → b ≡ b2 → c ≡ c2 → d ≡ d2 → e ≡ e2 → f ≡ f2 → g ≡ g2
-    → counts_with seen a b c d e f g least greatest ≡ counts_with seen a2 b2 c2 d2 e2 f2 g2 least greatest
-same-counts seen a b c d e f g a2 b2 c2 d2 e2 f2 g2 least greatest ea eb ec ed ee ef eg = cc
+same-counts : (seen : Bool) (a b c r d e f g a2 b2 c2 r2 d2 e2 f2 g2 : ℕ) (least greatest : Option ℕ) → a ≡ a2 → b ≡ b2 → c ≡ c2 → r ≡ r2 → d ≡ d2 → e ≡ e2 → f ≡ f2 → g ≡ g2
+    → counts_with seen a b c r d e f g least greatest ≡ counts_with seen a2 b2 c2 r2 d2 e2 f2 g2 least greatest
+same-counts seen a b c r d e f g a2 b2 c2 r2 d2 e2 f2 g2 least greatest ea eb ec er ed ee ef eg = cc
 
 plus-none : (test : Noted → Bool) (ns : List Noted) → plus (tally test ns) 0 ≡ tally test ns
 plus-none test [] = refl
@@ -61,13 +64,14 @@ total-none [] = refl
 total-none (n ∷ ns) = omega arith
 
 -- it changes no count
-pub nothing-more : (ns : List Noted) (kept : Bool) → counts_of (record { observed = no_observation; kept = kept } ∷ ns) ≡ counts_of ns
-nothing-more ns kept =
-    same-counts (list_any (λ n. is_observed n.observed) ns) _ _ _ _ _ _ _ _ _ _ _ _ _ _ (least_strength ns) (greatest_strength ns)
+pub nothing-more : (ns : List Noted) (known kept : Bool) → counts_of (record { observed = no_observation; known = known; kept = kept } ∷ ns) ≡ counts_of ns
+nothing-more ns known kept =
+    same-counts (list_any (λ n. is_observed n.observed) ns) _ _ _ _ _ _ _ _ _ _ _ _ _ _ _ _ (least_strength ns) (greatest_strength ns)
     (plus-none (λ n. is_some n.observed.phase_millicycles) ns)
     (plus-none (λ n. is_some n.observed.range_mm && not (is_some n.observed.phase_millicycles)) ns)
     (plus-none (λ n. n.observed.slip && n.kept) ns)
-    (plus-none (λ n. n.observed.slip && not n.kept) ns)
+    (plus-none (λ n. n.observed.slip && (n.known && not n.kept)) ns)
+    (plus-none (λ n. n.observed.slip && not n.known) ns)
     (plus-none (λ n. n.observed.half) ns)
     (plus-none (λ n. is_some n.observed.strength_millidbhz) ns)
     (total-none ns)
@@ -76,8 +80,8 @@ nothing-more ns kept =
 pub code-rest : (interval : Option ℕ) (place : ℕ) (before : List Sighting) (s : Sighting) → length s.observed ≤ place
     → counts_of (noted_of interval place (s ∷ before)) ≡ counts_of (noted_of interval place before)
 code-rest interval place before s past =
-    ap (λ (o : Observed). counts_of (record { observed = o; kept = is_kept interval place before s } ∷ noted_of interval place before)) (get_or_past s.observed place no_observation past)
-    ∙ nothing-more (noted_of interval place before) (is_kept interval place before s)
+    ap (λ (o : Observed). counts_of (record { observed = o; known = is_known interval place before s; kept = is_kept interval place before s } ∷ noted_of interval place before)) (get_or_past s.observed place no_observation past)
+    ∙ nothing-more (noted_of interval place before) (is_known interval place before s) (is_kept interval place before s)
 
 pub no-slip : (interval : Option ℕ) (place : ℕ) (before : List Sighting) (s : Sighting) → length s.observed ≤ place → is_slip interval place before s ≡ false
 no-slip interval place before s past =
@@ -100,6 +104,7 @@ pub record IsBeforeRow (s : SatelliteCounts) (interval : Option ℕ) (before : L
   pub in_passes : s.in_passes ≡ epochs_in_passes interval before
   pub since_phase : s.since_phase ≡ plus (epochs_since_phase before) 1
   pub last : s.last ≡ newest_pass (passes_of interval before)
+  pub sums : s.sums ≡ sums_in interval before
 
 pub before-row : (s : SatelliteCounts) (interval : Option ℕ) (t : ℕ) (before : List Sighting) → StandsForSatellite s interval (absent_at t ∷ before) → IsBeforeRow s interval before
 before-row s interval t before stands = record {
@@ -108,6 +113,7 @@ before-row s interval t before stands = record {
   in_passes = stands.in_passes;
   since_phase = stands.since_phase;
   last = stands.last;
+  sums = stands.sums;
 }
 
 -- ---- passes
@@ -128,23 +134,23 @@ had-last interval before s has goes_on =
     ]
 
 pub begun-passes : (interval : Option ℕ) (before : List Sighting) (s : Sighting) → has_phase s.observed ≡ true → begins_pass interval before s ≡ true
-    → passes_of interval (s ∷ before) ≡ record { from = reading_of s.time; until = reading_of s.time; phases = phases_in s.observed; slips = slips_at interval before s } ∷ passes_of interval before
+    → passes_of interval (s ∷ before) ≡ record { from = reading_of s.time; until = reading_of s.time; sums = sums_at interval before s } ∷ passes_of interval before
 begun-passes interval before s has begins =
-    let begun : List PassCounts = record { from = reading_of s.time; until = reading_of s.time; phases = phases_in s.observed; slips = slips_at interval before s } ∷ passes_of interval before in
-    let on : List PassCounts = longer s (slips_at interval before s) (passes_of interval before) in
+    let begun : List PassCounts = record { from = reading_of s.time; until = reading_of s.time; sums = sums_at interval before s } ∷ passes_of interval before in
+    let on : List PassCounts = longer s (sums_at interval before s) (passes_of interval before) in
     ap (λ (b : Bool). cond (not b) (passes_of interval before) (cond (begins_pass interval before s) begun on)) has ∙ ap (λ (b : Bool). cond b begun on) begins
 
 pub longer-passes : (interval : Option ℕ) (before : List Sighting) (s : Sighting) → has_phase s.observed ≡ true → begins_pass interval before s ≡ false
-    → passes_of interval (s ∷ before) ≡ longer s (slips_at interval before s) (passes_of interval before)
+    → passes_of interval (s ∷ before) ≡ longer s (sums_at interval before s) (passes_of interval before)
 longer-passes interval before s has goes_on =
-    let begun : List PassCounts = record { from = reading_of s.time; until = reading_of s.time; phases = phases_in s.observed; slips = slips_at interval before s } ∷ passes_of interval before in
-    let on : List PassCounts = longer s (slips_at interval before s) (passes_of interval before) in
+    let begun : List PassCounts = record { from = reading_of s.time; until = reading_of s.time; sums = sums_at interval before s } ∷ passes_of interval before in
+    let on : List PassCounts = longer s (sums_at interval before s) (passes_of interval before) in
     ap (λ (b : Bool). cond (not b) (passes_of interval before) (cond (begins_pass interval before s) begun on)) has ∙ ap (λ (b : Bool). cond b begun on) goes_on
 
 pub same-passes : (interval : Option ℕ) (before : List Sighting) (s : Sighting) → has_phase s.observed ≡ false → passes_of interval (s ∷ before) ≡ passes_of interval before
 same-passes interval before s none =
-    let begun : List PassCounts = record { from = reading_of s.time; until = reading_of s.time; phases = phases_in s.observed; slips = slips_at interval before s } ∷ passes_of interval before in
-    let on : List PassCounts = longer s (slips_at interval before s) (passes_of interval before) in
+    let begun : List PassCounts = record { from = reading_of s.time; until = reading_of s.time; sums = sums_at interval before s } ∷ passes_of interval before in
+    let on : List PassCounts = longer s (sums_at interval before s) (passes_of interval before) in
     ap (λ (b : Bool). cond (not b) (passes_of interval before) (cond (begins_pass interval before s) begun on)) none
 
 -- a satellite with a phase has a pass
@@ -157,37 +163,36 @@ has-pass interval (s ∷ before) t had =
           (rest.0, rest.1, same-passes interval before s none ∙ rest.2)
       | inl has ↦
           elim (cases_Bool (begins_pass interval before s)) [
-            | inl begins ↦ (record { from = reading_of s.time; until = reading_of s.time; phases = phases_in s.observed; slips = slips_at interval before s }, passes_of interval before, begun-passes interval before s has begins)
+            | inl begins ↦ (record { from = reading_of s.time; until = reading_of s.time; sums = sums_at interval before s }, passes_of interval before, begun-passes interval before s has begins)
             | inr goes_on ↦
                 let last = had-last interval before s has goes_on in
                 let rest = has-pass interval before last.0 last.1 in (
-                  record { from = rest.0.from; until = reading_of s.time; phases = plus rest.0.phases (phases_in s.observed); slips = plus rest.0.slips (slips_at interval before s) },
+                  record { from = rest.0.from; until = reading_of s.time; sums = sums_plus rest.0.sums (sums_at interval before s) },
                   rest.1,
-                  longer-passes interval before s has goes_on ∙ ap (λ (ps : List PassCounts). longer s (slips_at interval before s) ps) rest.2,
+                  longer-passes interval before s has goes_on ∙ ap (λ (ps : List PassCounts). longer s (sums_at interval before s) ps) rest.2,
                 )
           ]
     ]
 
-begun-is : (last : Option PassCounts) (reading : Civil) (phases slips : ℕ) → with_epoch last true reading phases slips ≡ record { from = reading; until = reading; phases = phases; slips = slips }
-begun-is None reading phases slips = refl
-begun-is (Some p) reading phases slips = refl
+begun-is : (last : Option PassCounts) (reading : Civil) (sums : PassSums) → with_epoch last true reading sums ≡ record { from = reading; until = reading; sums = sums }
+begun-is None reading sums = refl
+begun-is (Some p) reading sums = refl
 
 -- the last pass, an epoch more
 pub last-more : (interval : Option ℕ) (before : List Sighting) (s : Sighting) (last : Option PassCounts) → last ≡ newest_pass (passes_of interval before) → has_phase s.observed ≡ true
-    → Some (with_epoch last (begins_pass interval before s) (reading_of s.time) (phases_in s.observed) (slips_at interval before s)) ≡ newest_pass (passes_of interval (s ∷ before))
+    → Some (with_epoch last (begins_pass interval before s) (reading_of s.time) (sums_at interval before s)) ≡ newest_pass (passes_of interval (s ∷ before))
 last-more interval before s last was has =
-    let phases : ℕ = phases_in s.observed in
-    let slips : ℕ = slips_at interval before s in
+    let sums : PassSums = sums_at interval before s in
     elim (cases_Bool (begins_pass interval before s)) [
       | inl begins ↦
-          ap (λ (b : Bool). Some (with_epoch last b (reading_of s.time) phases slips)) begins ∙ ap Some (begun-is last (reading_of s.time) phases slips)
+          ap (λ (b : Bool). Some (with_epoch last b (reading_of s.time) sums)) begins ∙ ap Some (begun-is last (reading_of s.time) sums)
           ∙ sym (ap newest_pass (begun-passes interval before s has begins))
       | inr goes_on ↦
           let seen = had-last interval before s has goes_on in
           let had = has-pass interval before seen.0 seen.1 in
-          ap (λ (b : Bool). Some (with_epoch last b (reading_of s.time) phases slips)) goes_on
-          ∙ ap (λ (o : Option PassCounts). Some (with_epoch o false (reading_of s.time) phases slips)) (was ∙ ap newest_pass had.2)
-          ∙ sym (ap newest_pass (longer-passes interval before s has goes_on ∙ ap (λ (ps : List PassCounts). longer s slips ps) had.2))
+          ap (λ (b : Bool). Some (with_epoch last b (reading_of s.time) sums)) goes_on
+          ∙ ap (λ (o : Option PassCounts). Some (with_epoch o false (reading_of s.time) sums)) (was ∙ ap newest_pass had.2)
+          ∙ sym (ap newest_pass (longer-passes interval before s has goes_on ∙ ap (λ (ps : List PassCounts). longer s sums ps) had.2))
     ]
 
 -- the epochs in passes, an epoch more

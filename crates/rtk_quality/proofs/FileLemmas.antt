@@ -8,10 +8,11 @@ use Rattle.std.proofs.lemmas.List.Sums.{fold-append, sum_by_push}
 use Rattle.std.proofs.lemmas.Grind.{reverse_onto}
 use Rattle.rtk_rinex.specs.Record.{EpochTableView}
 use Rattle.rtk_tracking.specs.Passes.{Sighting, sightings_of, has_phase, last_phase, is_away, begins_pass}
-use Rattle.rtk_quality.specs.Counts.{noted_of, counts_of, code_counts_of}
-use Rattle.rtk_quality.specs.SatellitePasses.{slips_at, longer, passes_of, epochs_in_passes}
+use Rattle.rtk_quality.specs.Counts.{plus, noted_of, counts_of, code_counts_of}
+use Rattle.rtk_quality.specs.SatellitePasses.{no_sums, sums_at, sums_plus, sums_in, longer, passes_of, epochs_in_passes}
 use Rattle.rtk_quality.specs.Quality.{numbers_of, is_in_file, with_satellite, no_numbers}
 use Rattle.rtk_quality.specs.Standing.{newest_pass, older_passes, StandsForSatellite, StandForSatellites, ended_of, with_ended}
+use Rattle.rtk_quality.specs.declared.pass_sums.PassSums.{PassSums}
 use Rattle.rtk_quality.specs.declared.satellite_counts.PassCounts.{PassCounts}
 use Rattle.rtk_quality.specs.declared.satellite_counts.SatelliteCounts.{SatelliteCounts}
 use Rattle.rtk_quality.specs.declared.code_counts.CodeCounts.{CodeCounts}
@@ -82,9 +83,9 @@ pub older-and-newest : (ps : List PassCounts) → reverse ps ≡ reverse (older_
 older-and-newest [] = refl
 older-and-newest (p ∷ ps) = reverse_onto ps p []
 
-older-longer : (s : Sighting) (slips : ℕ) (ps : List PassCounts) → older_passes (longer s slips ps) ≡ older_passes ps
-older-longer s slips [] = refl
-older-longer s slips (p ∷ ps) = refl
+older-longer : (s : Sighting) (sums : PassSums) (ps : List PassCounts) → older_passes (longer s sums ps) ≡ older_passes ps
+older-longer s sums [] = refl
+older-longer s sums (p ∷ ps) = refl
 
 -- the passes that ended, an epoch more
 pub older-more : (interval : Option ℕ) (before : List Sighting) (s : Sighting)
@@ -105,7 +106,7 @@ older-more interval before s =
                 ∙ sym (ap (λ (b : Bool). reverse (older_passes ps) ++ list_of (cond b (newest_pass ps) None)) begins)
             | inr goes_on ↦
                 ap (λ (qs : List PassCounts). reverse (older_passes qs)) (longer-passes interval before s has goes_on)
-                ∙ ap (λ (qs : List PassCounts). reverse qs) (older-longer s (slips_at interval before s) ps)
+                ∙ ap (λ (qs : List PassCounts). reverse qs) (older-longer s (sums_at interval before s) ps)
                 ∙ same (begins_pass interval before s) goes_on
           ]
     ]
@@ -152,6 +153,28 @@ totals-more interval es place i old own new was is took =
     ∙ ap (λ (k : ℕ). f (fold f no_numbers (range_with_len 1 i)) k) next
     ∙ sym (ap (λ (ks : List ℕ). fold f no_numbers ks) (range-more 1 i) ∙ fold-append f no_numbers (range_with_len 1 i) ((1 + i) ∷ []))
 
+pub possible-more : (interval : Option ℕ) (es : List EpochTableView) (i old own new : ℕ)
+    → old ≡ fold (λ n satellite. plus n (epochs_in_passes interval (sightings_of satellite es))) 0 (range_with_len 1 i)
+    → own ≡ epochs_in_passes interval (sightings_of (i + 1) es) → new ≡ plus old own
+    → new ≡ fold (λ n satellite. plus n (epochs_in_passes interval (sightings_of satellite es))) 0 (range_with_len 1 (i + 1))
+possible-more interval es i old own new was is took =
+    let f : ℕ → ℕ → ℕ = λ n satellite. plus n (epochs_in_passes interval (sightings_of satellite es)) in
+    let next : i + 1 ≡ 1 + i = omega arith in
+    took ∙ ap (λ (n : ℕ). plus n own) was ∙ ap (λ (n : ℕ). plus (fold f 0 (range_with_len 1 i)) n) is
+    ∙ ap (λ (k : ℕ). f (fold f 0 (range_with_len 1 i)) k) next
+    ∙ sym (ap (λ (ks : List ℕ). fold f 0 ks) (range-more 1 i) ∙ fold-append f 0 (range_with_len 1 i) ((1 + i) ∷ []))
+
+pub sums-more : (interval : Option ℕ) (es : List EpochTableView) (i : ℕ) (old own new : PassSums)
+    → old ≡ fold (λ sums satellite. sums_plus sums (sums_in interval (sightings_of satellite es))) no_sums (range_with_len 1 i)
+    → own ≡ sums_in interval (sightings_of (i + 1) es) → new ≡ sums_plus old own
+    → new ≡ fold (λ sums satellite. sums_plus sums (sums_in interval (sightings_of satellite es))) no_sums (range_with_len 1 (i + 1))
+sums-more interval es i old own new was is took =
+    let f : PassSums → ℕ → PassSums = λ sums satellite. sums_plus sums (sums_in interval (sightings_of satellite es)) in
+    let next : i + 1 ≡ 1 + i = omega arith in
+    took ∙ ap (λ (n : PassSums). sums_plus n own) was ∙ ap (λ (n : PassSums). sums_plus (fold f no_sums (range_with_len 1 i)) n) is
+    ∙ ap (λ (k : ℕ). f (fold f no_sums (range_with_len 1 i)) k) next
+    ∙ sym (ap (λ (ks : List ℕ). fold f no_sums ks) (range-more 1 i) ∙ fold-append f no_sums (range_with_len 1 i) ((1 + i) ∷ []))
+
 pub count-next : (p : ℕ → Bool) (a n : ℕ) → count_by p (range_with_len a (n + 1)) ≡ count_by p (range_with_len a n) + cond (p (a + n)) 1 0
 count-next p a n = ap (λ t. count_by p t) (range-more a n) ∙ sum_by_push (λ x. cond (p x) 1 0) (range_with_len a n) (a + n)
 
@@ -162,7 +185,7 @@ any-map p f (x ∷ xs) = ap (λ b. p (f x) || b) (any-map p f xs)
 -- ---- the numbers of a code
 
 pub numbers-are : (interval : Option ℕ) (place : ℕ) (before : List Sighting) (codes : List CodeCounts) (d counts : CodeCounts) (possible : ℕ) → place < 16 → codes ≡ code_counts_of interval before
-    → counts ≡ get_or codes place d → possible ≡ epochs_in_passes interval before → record { counts = counts; possible = possible } ≡ numbers_of interval before place
+    → counts ≡ get_or codes place d → possible ≡ epochs_in_passes interval before → record { counts = counts; possible = possible; satellites = 1 } ≡ numbers_of interval before place
 unfolding code_counts_of
 numbers-are interval place before codes d counts possible within are at in_passes =
     let here : 0 + place ≡ place = omega arith in
@@ -171,7 +194,7 @@ numbers-are interval place before codes d counts possible within are at in_passe
     ap (λ (c : CodeCounts). numbers_with c possible) is ∙ ap (λ (n : ℕ). numbers_with (counts_of (noted_of interval place before)) n) in_passes
   where
     numbers_with : CodeCounts → ℕ → CodeNumbers
-    numbers_with c n = record { counts = c; possible = n }
+    numbers_with c n = record { counts = c; possible = n; satellites = 1 }
 
 pub in-file-is : (interval : Option ℕ) (before : List Sighting) (codes : List CodeCounts) → codes ≡ code_counts_of interval before → list_any (λ c. c.seen) codes ≡ is_in_file interval before
 unfolding code_counts_of is_in_file

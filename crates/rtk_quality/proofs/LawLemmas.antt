@@ -8,36 +8,50 @@ use Rattle.std.proofs.Math.Nat.{div-le_of_le-mul}
 use Rattle.rtk_rinex.specs.declared.epoch_table.Observed.{Observed}
 use Rattle.rtk_rinex.specs.Reading.{reading_of}
 use Rattle.rtk_rinex.specs.Record.{EpochTableView}
-use Rattle.rtk_tracking.specs.Epochs.{capped}
-use Rattle.rtk_tracking.specs.Passes.{Sighting, sightings_of, has_phase, begins_pass}
-use Rattle.rtk_quality.specs.Counts.{Noted, plus, tally, strength_total, counts_of, rounded_fraction, mean_hundredths}
-use Rattle.rtk_quality.specs.SatellitePasses.{phases_in, slips_at, longer, passes_of, epochs_since_phase, epochs_in_passes}
+use Rattle.rtk_tracking.specs.Epochs.{capped, shown_at}
+use Rattle.rtk_tracking.specs.Passes.{Sighting, sightings_of, has_phase, begins_pass, is_known, is_kept}
+use Rattle.rtk_tracking.proofs.PublicLaws.{each-bit}
+use Rattle.rtk_quality.specs.Counts.{Noted, noted_of, plus, tally, strength_total, counts_of, rounded_fraction, mean_hundredths}
+use Rattle.rtk_quality.specs.SatellitePasses.{phases_in, sums_at, sums_plus, longer, passes_of, epochs_since_phase, epochs_in_passes}
 use Rattle.rtk_quality.specs.Records.{rows_of, rows_total}
 use Rattle.rtk_quality.specs.Quality.{numbers_of, no_numbers, together, with_satellite, totals_of}
 use Rattle.rtk_quality.specs.Laws.{CountsHideNothing, EachIsCounted, strength_or_0, sum_of_strengths, mean_of_strengths, MeanIsOfAll, number_if_seen, count_in_passes, EachInPassIsCounted, PhasesAreInPasses, sum_of_satellites, IsTotal, TotalsAreSums, RowsAreSum}
 use Rattle.rtk_quality.specs.declared.code_numbers.CodeNumbers.{CodeNumbers}
+use Rattle.rtk_quality.specs.declared.pass_sums.PassSums.{PassSums}
 use Rattle.rtk_quality.specs.declared.satellite_counts.PassCounts.{PassCounts}
-use Rattle.rtk_quality.proofs.CountLemmas.{had-last, begun-passes, longer-passes, same-passes, has-pass}
+use Rattle.rtk_quality.proofs.CountLemmas.{bit-at, had-last, begun-passes, longer-passes, same-passes, has-pass}
 
 -- one more
 abbrev one : Bool → ℕ
 one b = cond b 1 0
 
-split : (bit kept : Bool) → one (bit && kept) + one (bit && not kept) ≡ one bit
-split true true = refl
-split true false = refl
-split false true = refl
-split false false = refl
+-- the three kinds of a bit 0
+three-kinds : (interval : Option ℕ) (place : ℕ) (before : List Sighting) (s : Sighting)
+    → one ((shown_at place s.observed).slip && is_kept interval place before s)
+    + one ((shown_at place s.observed).slip && (is_known interval place before s && not (is_kept interval place before s)))
+    + one ((shown_at place s.observed).slip && not (is_known interval place before s))
+    ≡ one (shown_at place s.observed).slip
+three-kinds interval place before s =
+    let known : Bool = is_known interval place before s in
+    let kept : Bool = is_kept interval place before s in
+    let kinds : one ((shown_at place s.observed).slip && not known) + one ((shown_at place s.observed).slip && (known && not kept)) + one ((shown_at place s.observed).slip && kept)
+    ≡ one (shown_at place s.observed).slip =
+    subst (λ (bit : Bool). one (bit && not known) + one (bit && (known && not kept)) + one (bit && kept) ≡ one bit) (bit-at place s.observed) (each-bit interval place before s) in
+    omega (arith, kinds)
 
-sums : (a b x y z : ℕ) → x + y ≡ z → plus (plus a x) (plus b y) ≡ plus (plus a b) z
-sums a b x y z e = omega (arith, e)
+sums : (a b c x y z w : ℕ) → x + y + z ≡ w → plus (plus (plus a x) (plus b y)) (plus c z) ≡ plus (plus (plus a b) c) w
+sums a b c x y z w e = omega (arith, e)
 
 pub nothing-hidden : CountsHideNothing
-nothing-hidden [] = refl
-nothing-hidden (n ∷ ns) =
-    sums (tally (λ n. n.observed.slip && n.kept) ns) (tally (λ n. n.observed.slip && not n.kept) ns) (one (n.observed.slip && n.kept)) (one (n.observed.slip && not n.kept)) (one n.observed.slip)
-    (split n.observed.slip n.kept)
-    ∙ ap (λ (k : ℕ). plus k (one n.observed.slip)) (nothing-hidden ns)
+nothing-hidden interval place [] = refl
+nothing-hidden interval place (s ∷ before) =
+    let ns : List Noted = noted_of interval place before in
+    let bit : Bool = (shown_at place s.observed).slip in
+    let known : Bool = is_known interval place before s in
+    let kept : Bool = is_kept interval place before s in
+    sums (tally (λ n. n.observed.slip && n.kept) ns) (tally (λ n. n.observed.slip && (n.known && not n.kept)) ns) (tally (λ n. n.observed.slip && not n.known) ns)
+    (one (bit && kept)) (one (bit && (known && not kept))) (one (bit && not known)) (one bit) (three-kinds interval place before s)
+    ∙ ap (λ (k : ℕ). plus k (one bit)) (nothing-hidden interval place before)
 
 -- ---- numbers of any size below 2^64
 
@@ -192,19 +206,19 @@ no-phases (o ∷ os) none =
 
 -- the phases of passes
 abbrev of-passes : List PassCounts → ℕ
-of-passes ps = sum_by (λ p. p.phases) ps
+of-passes ps = sum_by (λ p. p.sums.phases) ps
 
 -- all phases
 abbrev of-epochs : List Sighting → ℕ
 of-epochs before = sum_by (λ s. phases_in s.observed) before
 
 -- the newest pass gets the phases of one epoch more
-newest-longer : (s : Sighting) (slips : ℕ) (passes : List PassCounts) (p : PassCounts) (ps : List PassCounts) → passes ≡ p ∷ ps
-    → of-passes passes + phases_in s.observed < 2 ^ 64 → of-passes (longer s slips passes) ≡ of-passes passes + phases_in s.observed
-newest-longer s slips passes p ps are fits =
-    let q : PassCounts = record { from = p.from; until = reading_of s.time; phases = plus p.phases (phases_in s.observed); slips = plus p.slips slips } in
-    let was : of-passes passes ≡ p.phases + of-passes ps = ap (λ (xs : List PassCounts). of-passes xs) are ∙ sum_by-cons (λ x. x.phases) p ps in
-    let is : of-passes (longer s slips passes) ≡ q.phases + of-passes ps = ap (λ (xs : List PassCounts). of-passes (longer s slips xs)) are ∙ sum_by-cons (λ x. x.phases) q ps in
+newest-longer : (s : Sighting) (sums : PassSums) (passes : List PassCounts) (p : PassCounts) (ps : List PassCounts) → passes ≡ p ∷ ps
+    → of-passes passes + sums.phases < 2 ^ 64 → of-passes (longer s sums passes) ≡ of-passes passes + sums.phases
+newest-longer s sums passes p ps are fits =
+    let q : PassCounts = record { from = p.from; until = reading_of s.time; sums = sums_plus p.sums sums } in
+    let was : of-passes passes ≡ p.sums.phases + of-passes ps = ap (λ (xs : List PassCounts). of-passes xs) are ∙ sum_by-cons (λ x. x.sums.phases) p ps in
+    let is : of-passes (longer s sums passes) ≡ q.sums.phases + of-passes ps = ap (λ (xs : List PassCounts). of-passes (longer s sums xs)) are ∙ sum_by-cons (λ x. x.sums.phases) q ps in
     omega (arith, was, is, fits)
 
 pub phases-in-passes : PhasesAreInPasses
@@ -220,16 +234,16 @@ phases-in-passes interval (s ∷ before) few =
       | inl has ↦
           elim (cases_Bool (begins_pass interval before s)) [
             | inl begins ↦
-                let p : PassCounts = record { from = reading_of s.time; until = reading_of s.time; phases = phases_in s.observed; slips = slips_at interval before s } in
-                let more : of-passes (passes_of interval (s ∷ before)) ≡ p.phases + of-passes (passes_of interval before) =
-                ap (λ (ps : List PassCounts). of-passes ps) (begun-passes interval before s has begins) ∙ sum_by-cons (λ x. x.phases) p (passes_of interval before) in
+                let p : PassCounts = record { from = reading_of s.time; until = reading_of s.time; sums = sums_at interval before s } in
+                let more : of-passes (passes_of interval (s ∷ before)) ≡ p.sums.phases + of-passes (passes_of interval before) =
+                ap (λ (ps : List PassCounts). of-passes ps) (begun-passes interval before s has begins) ∙ sum_by-cons (λ x. x.sums.phases) p (passes_of interval before) in
                 omega (arith, all, was, more)
             | inr goes_on ↦
                 let last = had-last interval before s has goes_on in
                 let newest = has-pass interval before last.0 last.1 in
-                let more : of-passes (passes_of interval (s ∷ before)) ≡ of-passes (longer s (slips_at interval before s) (passes_of interval before)) =
+                let more : of-passes (passes_of interval (s ∷ before)) ≡ of-passes (longer s (sums_at interval before s) (passes_of interval before)) =
                 ap (λ (ps : List PassCounts). of-passes ps) (longer-passes interval before s has goes_on) in
-                let longest = newest-longer s (slips_at interval before s) (passes_of interval before) newest.0 newest.1 newest.2 (omega (arith, few, all, was)) in
+                let longest = newest-longer s (sums_at interval before s) (passes_of interval before) newest.0 newest.1 newest.2 (omega (arith, few, all, was)) in
                 omega (arith, all, was, more, longest)
           ]
     ]
@@ -238,7 +252,7 @@ phases-in-passes interval (s ∷ before) few =
 
 -- a satellite that has the code is added
 abbrev joined : CodeNumbers → CodeNumbers → CodeNumbers
-joined total own = record { counts = together total.counts own.counts; possible = plus total.possible own.possible }
+joined total own = record { counts = together total.counts own.counts; possible = plus total.possible own.possible; satellites = plus total.satellites own.satellites }
 
 -- a number is added
 abbrev IsAdded : (CodeNumbers → ℕ) → Type 0
@@ -277,6 +291,7 @@ totals-are-sums = record {
   possible = total-is (λ n. n.possible) (refl, λ total own. refl);
   ranges = total-is (λ n. n.counts.ranges) (refl, λ total own. refl);
   slips = total-is (λ n. n.counts.slips) (refl, λ total own. refl);
+  returns = total-is (λ n. n.counts.returns) (refl, λ total own. refl);
   rises = total-is (λ n. n.counts.rises) (refl, λ total own. refl);
   halves = total-is (λ n. n.counts.halves) (refl, λ total own. refl);
   strengths = total-is (λ n. n.counts.strengths) (refl, λ total own. refl);

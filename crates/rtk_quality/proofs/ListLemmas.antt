@@ -62,7 +62,7 @@ push-item f xs i x before mid after within is so_far more =
 pub and-then : (l0 l1 l2 a b : List ℕ) → l1 ≡ l0 ++ a → l2 ≡ l1 ++ b → l2 ≡ l0 ++ (a ++ b)
 and-then l0 l1 l2 a b first second = second ∙ ap (λ t. t ++ b) first ∙ append_assoc l0 a b
 
--- three texts, four and five, one after another
+-- three texts, four, five and six, one after another
 pub three : (t0 t1 t2 t3 a b c : List ℕ) → t1 ≡ t0 ++ a → t2 ≡ t1 ++ b → t3 ≡ t2 ++ c → t3 ≡ t0 ++ ((a ++ b) ++ c)
 three t0 t1 t2 t3 a b c e1 e2 e3 = and-then t0 t2 t3 (a ++ b) c (and-then t0 t1 t2 a b e1 e2) e3
 
@@ -71,6 +71,9 @@ four t0 t1 t2 t3 t4 a b c d e1 e2 e3 e4 = and-then t0 t3 t4 ((a ++ b) ++ c) d (t
 
 pub five : (t0 t1 t2 t3 t4 t5 a b c d e : List ℕ) → t1 ≡ t0 ++ a → t2 ≡ t1 ++ b → t3 ≡ t2 ++ c → t4 ≡ t3 ++ d → t5 ≡ t4 ++ e → t5 ≡ t0 ++ ((((a ++ b) ++ c) ++ d) ++ e)
 five t0 t1 t2 t3 t4 t5 a b c d e e1 e2 e3 e4 e5 = and-then t0 t4 t5 (((a ++ b) ++ c) ++ d) e (four t0 t1 t2 t3 t4 a b c d e1 e2 e3 e4) e5
+
+pub six : (t0 t1 t2 t3 t4 t5 t6 a b c d e f : List ℕ) → t1 ≡ t0 ++ a → t2 ≡ t1 ++ b → t3 ≡ t2 ++ c → t4 ≡ t3 ++ d → t5 ≡ t4 ++ e → t6 ≡ t5 ++ f → t6 ≡ t0 ++ (((((a ++ b) ++ c) ++ d) ++ e) ++ f)
+six t0 t1 t2 t3 t4 t5 t6 a b c d e f e1 e2 e3 e4 e5 e6 = and-then t0 t5 t6 ((((a ++ b) ++ c) ++ d) ++ e) f (five t0 t1 t2 t3 t4 t5 a b c d e e1 e2 e3 e4 e5) e6
 
 -- ---- lists whose items are those of a function of the place
 

@@ -6,12 +6,13 @@ use Rattle.rtk_obs.specs.declared.time.Civil.{Civil}
 use Rattle.rtk_rinex.specs.Reading.{reading_of}
 use Rattle.rtk_rinex.specs.Record.{EpochTableView}
 use Rattle.rtk_quality.specs.Records.{unit_of, record_counts_of}
-use Rattle.rtk_quality.specs.Quality.{totals_of, satellites_in}
+use Rattle.rtk_quality.specs.Quality.{code_of_station, station_sums, satellites_in}
 use Rattle.rtk_quality.specs.QualityText.{marker_text, code_line, each_code, section_text, heading_text, close_text, quality_text}
 use Rattle.rtk_quality.specs.Forms.{json_text}
 use Rattle.rtk_quality.specs.declared.form.Form.{Form}
 use Rattle.rtk_quality.specs.declared.form.Form.TheVariants.{Json}
-use Rattle.rtk_quality.specs.declared.sections.Section.TheVariants.{Codes, Never, Passes}
+use Rattle.rtk_quality.specs.declared.sections.Section.TheVariants.{Codes, Tracked, Never, Passes}
+use Rattle.rtk_quality.specs.declared.pass_sums.PassSums.{PassSums}
 use Rattle.rtk_quality.specs.declared.record_counts.RecordCounts.{RecordCounts}
 use Rattle.rtk_quality.proofs.ListLemmas.{three}
 
@@ -22,22 +23,25 @@ json-marker marker t0 t1 t2 t3 e1 e2 e3 = three t0 t1 t2 t3 (codes "[{\"line\":\
 
 -- the text of a file with records
 pub text-is : (form : Form) (marker : List ℕ) (listed : List Code) (first last : ℕ) (interval : Option ℕ) (es : List EpochTableView)
-    (from until : Civil) (seen : ℕ) (r : RecordCounts) (t1 t2 t3 t4 t5 t6 : List ℕ)
-    → from ≡ reading_of first → until ≡ reading_of last → seen ≡ satellites_in interval es → r ≡ record_counts_of (unit_of interval) es
-    → t1 ≡ heading_text form marker from until interval seen r
-    → t2 ≡ t1 ++ each_code (λ place code. code_line form code (totals_of interval es place)) 0 listed
-    → t3 ≡ t2 ++ section_text form Codes listed interval es → t4 ≡ t3 ++ section_text form Never listed interval es → t5 ≡ t4 ++ section_text form Passes listed interval es
-    → t6 ≡ t5 ++ close_text form → t6 ≡ quality_text form marker listed first last interval es
+    (from until : Civil) (seen : ℕ) (r : RecordCounts) (sums : PassSums) (t1 t2 t3 t4 t5 t6 t7 : List ℕ)
+    → from ≡ reading_of first → until ≡ reading_of last → seen ≡ satellites_in interval es → r ≡ record_counts_of (unit_of interval) es → sums ≡ station_sums interval es
+    → t1 ≡ heading_text form marker from until interval seen r sums
+    → t2 ≡ t1 ++ each_code (λ place code. code_line form code (satellites_in interval es) (code_of_station interval es place)) 0 listed
+    → t3 ≡ t2 ++ section_text form Codes listed interval es → t4 ≡ t3 ++ section_text form Tracked listed interval es
+    → t5 ≡ t4 ++ section_text form Never listed interval es → t6 ≡ t5 ++ section_text form Passes listed interval es
+    → t7 ≡ t6 ++ close_text form → t7 ≡ quality_text form marker listed first last interval es
 unfolding quality_text
-text-is form marker listed first last interval es from until seen r t1 t2 t3 t4 t5 t6 begins ends count records e1 e2 e3 e4 e5 e6 =
-    let cs : List ℕ = each_code (λ place code. code_line form code (totals_of interval es place)) 0 listed in
+text-is form marker listed first last interval es from until seen r sums t1 t2 t3 t4 t5 t6 t7 begins ends count records adds e1 e2 e3 e4 e5 e6 e7 =
+    let cs : List ℕ = each_code (λ place code. code_line form code (satellites_in interval es) (code_of_station interval es place)) 0 listed in
     let s1 : List ℕ = section_text form Codes listed interval es in
-    let s2 : List ℕ = section_text form Never listed interval es in
-    let s3 : List ℕ = section_text form Passes listed interval es in
+    let s2 : List ℕ = section_text form Tracked listed interval es in
+    let s3 : List ℕ = section_text form Never listed interval es in
+    let s4 : List ℕ = section_text form Passes listed interval es in
     let end : List ℕ = close_text form in
-    let h : t1 ≡ heading_text form marker (reading_of first) (reading_of last) interval (satellites_in interval es) (record_counts_of (unit_of interval) es) =
-    e1 ∙ ap (λ (c : Civil). heading_text form marker c until interval seen r) begins
-    ∙ ap (λ (c : Civil). heading_text form marker (reading_of first) c interval seen r) ends
-    ∙ ap (λ (n : ℕ). heading_text form marker (reading_of first) (reading_of last) interval n r) count
-    ∙ ap (λ (x : RecordCounts). heading_text form marker (reading_of first) (reading_of last) interval (satellites_in interval es) x) records in
-    e6 ∙ ap (λ (t : List ℕ). t ++ end) (e5 ∙ ap (λ (t : List ℕ). t ++ s3) (e4 ∙ ap (λ (t : List ℕ). t ++ s2) (e3 ∙ ap (λ (t : List ℕ). t ++ s1) (e2 ∙ ap (λ (t : List ℕ). t ++ cs) h))))
+    let h : t1 ≡ heading_text form marker (reading_of first) (reading_of last) interval (satellites_in interval es) (record_counts_of (unit_of interval) es) (station_sums interval es) =
+    e1 ∙ ap (λ (c : Civil). heading_text form marker c until interval seen r sums) begins
+    ∙ ap (λ (c : Civil). heading_text form marker (reading_of first) c interval seen r sums) ends
+    ∙ ap (λ (n : ℕ). heading_text form marker (reading_of first) (reading_of last) interval n r sums) count
+    ∙ ap (λ (x : RecordCounts). heading_text form marker (reading_of first) (reading_of last) interval (satellites_in interval es) x sums) records
+    ∙ ap (λ (x : PassSums). heading_text form marker (reading_of first) (reading_of last) interval (satellites_in interval es) (record_counts_of (unit_of interval) es) x) adds in
+    e7 ∙ ap (λ (t : List ℕ). t ++ end) (e6 ∙ ap (λ (t : List ℕ). t ++ s4) (e5 ∙ ap (λ (t : List ℕ). t ++ s3) (e4 ∙ ap (λ (t : List ℕ). t ++ s2) (e3 ∙ ap (λ (t : List ℕ). t ++ s1) (e2 ∙ ap (λ (t : List ℕ). t ++ cs) h)))))

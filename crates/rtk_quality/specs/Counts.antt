@@ -4,19 +4,23 @@ use Rattle.std.specs.List.{list_any, range_with_len}
 use Rattle.rtk_rinex.specs.declared.epoch_table.Observed.{Observed}
 use Rattle.rtk_tracking.specs.Epochs.{capped, shown_at}
 use Rattle.rtk_tracking.specs.Extremes.{lesser, greater}
-use Rattle.rtk_tracking.specs.Passes.{Sighting, is_kept}
+use Rattle.rtk_tracking.specs.Passes.{Sighting, is_known, is_kept}
 use Rattle.rtk_quality.specs.declared.code_counts.CodeCounts.{CodeCounts}
+use Rattle.rtk_quality.specs.declared.code_numbers.PerSlip.{PerSlip}
+use Rattle.rtk_quality.specs.declared.code_numbers.PerSlip.TheVariants.{NoPhase, NoneLost, Each}
 
--- what a code shows in an epoch, and whether it had a phase earlier in the pass and since the last outage
+-- what a code shows in an epoch, and whether it had a phase earlier in the pass, and since the last outage
+-- in it
 pub record Noted : Type 0 where
   pub observed : Observed
+  pub known : Bool
   pub kept : Bool
 
 -- what came of a code of a satellite
 abbrev pub noted_of : Option ℕ → ℕ → List Sighting → List Noted
 noted_of interval place [] = []
 noted_of interval place (s ∷ before) =
-    record { observed = shown_at place s.observed; kept = is_kept interval place before s } ∷ noted_of interval place before
+    record { observed = shown_at place s.observed; known = is_known interval place before s; kept = is_kept interval place before s } ∷ noted_of interval place before
 
 -- the code has a range, a phase or a strength
 abbrev pub is_observed : Observed → Bool
@@ -46,7 +50,7 @@ strength_total (n ∷ before) = plus (strength_total before) (unwrap_or n.observ
 
 -- formula
 -- the counts of what came of a code: its phases; its ranges without a phase; bit 0 of its digits, at the
--- first phase in a pass or after an outage (rises) and elsewhere (slips); bit 1 (half cycles); its strengths
+-- first phase in a pass (rises), at the first one after an outage (returns) and elsewhere (slips); bit 1 (half cycles); its strengths
 abbrev pub counts_of : List Noted → CodeCounts
 counts_of ns =
     record {
@@ -54,7 +58,8 @@ counts_of ns =
       phases = tally (λ n. is_some n.observed.phase_millicycles) ns;
       ranges = tally (λ n. is_some n.observed.range_mm && not (is_some n.observed.phase_millicycles)) ns;
       slips = tally (λ n. n.observed.slip && n.kept) ns;
-      rises = tally (λ n. n.observed.slip && not n.kept) ns;
+      returns = tally (λ n. n.observed.slip && (n.known && not n.kept)) ns;
+      rises = tally (λ n. n.observed.slip && not n.known) ns;
       halves = tally (λ n. n.observed.half) ns;
       strengths = tally (λ n. is_some n.observed.strength_millidbhz) ns;
       strength_sum = strength_total ns;
@@ -67,7 +72,7 @@ counts_of ns =
 unfoldable pub code_counts_of : Option ℕ → List Sighting → List CodeCounts
 code_counts_of interval before = map (λ place. counts_of (noted_of interval place before)) (range_with_len 0 16)
 
--- ---- fractions, rounded once; of two alike the greater one
+-- ---- fractions; if they are rounded, of two alike the greater one
 
 -- formula
 -- a fraction in whole numbers
@@ -75,14 +80,15 @@ abbrev pub rounded_fraction : ℕ → ℕ → ℕ
 rounded_fraction n d = (2 * n + d) / (2 * d)
 
 -- formula
--- how many of those that could be there are there, in tenths of a percent
-abbrev pub percent_tenths : ℕ → ℕ → Option ℕ
-percent_tenths n possible = if possible == 0 then None else Some (capped (rounded_fraction (1000 * n) possible))
+-- how many of those that could be there are there, in tenths of a percent, rounded down: 100.0 means all
+abbrev pub percent_tenths : ℕ → ℕ → ℕ
+percent_tenths n possible = if possible == 0 then 0 else capped (1000 * n / possible)
 
 -- formula
--- how many phases there are for each slip
-abbrev pub phases_per_slip : ℕ → ℕ → Option ℕ
-phases_per_slip phases slips = if slips == 0 then None else Some (capped (rounded_fraction phases slips))
+-- how many phases there are for each slip, if there is a phase and a slip
+abbrev pub phases_per_slip : ℕ → ℕ → PerSlip
+phases_per_slip phases slips =
+    if phases == 0 then NoPhase else (if slips == 0 then NoneLost else Each (capped (rounded_fraction phases slips)))
 
 -- formula
 -- the mean of strengths in hundredths of a dB-Hz; their sum is in thousandths

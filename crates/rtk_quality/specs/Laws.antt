@@ -3,15 +3,18 @@ use Rattle.std.specs.Prelude.{◌≡◌, ◌<◌, ◌^◌, ◌*◌, ◌+◌, ◌
 use Rattle.std.specs.List.{range_with_len}
 use Rattle.rtk_rinex.specs.Record.{EpochTableView}
 use Rattle.rtk_tracking.specs.Passes.{Sighting, sightings_of, has_phase, begins_pass}
-use Rattle.rtk_quality.specs.Counts.{Noted, plus, tally, counts_of, rounded_fraction, mean_hundredths}
+use Rattle.rtk_quality.specs.Counts.{Noted, plus, tally, noted_of, counts_of, rounded_fraction, mean_hundredths}
 use Rattle.rtk_quality.specs.SatellitePasses.{phases_in, slips_at, passes_of, epochs_in_passes}
 use Rattle.rtk_quality.specs.Records.{rows_of, rows_total}
 use Rattle.rtk_quality.specs.Quality.{numbers_of, totals_of}
 use Rattle.rtk_quality.specs.declared.code_numbers.CodeNumbers.{CodeNumbers}
 
--- the slips and the rises of a code are together its digits with bit 0
+-- the slips, returns and rises of a code of a satellite are together its digits with bit 0
 abbrev pub CountsHideNothing : Type 0
-CountsHideNothing = (ns : List Noted) → plus (counts_of ns).slips (counts_of ns).rises ≡ tally (λ n. n.observed.slip) ns
+CountsHideNothing =
+    (interval : Option ℕ) (place : ℕ) (before : List Sighting)
+    → plus (plus (counts_of (noted_of interval place before)).slips (counts_of (noted_of interval place before)).returns) (counts_of (noted_of interval place before)).rises
+    ≡ tally (λ n. n.observed.slip) (noted_of interval place before)
 
 -- ---- numbers of any size below 2^64
 
@@ -55,7 +58,7 @@ EachInPassIsCounted = (interval : Option ℕ) (before : List Sighting) → lengt
 abbrev pub PhasesAreInPasses : Type 0
 PhasesAreInPasses =
     (interval : Option ℕ) (before : List Sighting) → sum_by (λ s. phases_in s.observed) before < 2 ^ 64
-    → sum_by (λ p. p.phases) (passes_of interval before) ≡ sum_by (λ s. phases_in s.observed) before
+    → sum_by (λ p. p.sums.phases) (passes_of interval before) ≡ sum_by (λ s. phases_in s.observed) before
 
 -- a number of a code of a satellite, which is 0 if the satellite has the code nowhere
 abbrev pub number_if_seen : (CodeNumbers → ℕ) → CodeNumbers → ℕ
@@ -77,6 +80,7 @@ pub record TotalsAreSums : Type 0 where
   pub possible : IsTotal (λ n. n.possible)
   pub ranges : IsTotal (λ n. n.counts.ranges)
   pub slips : IsTotal (λ n. n.counts.slips)
+  pub returns : IsTotal (λ n. n.counts.returns)
   pub rises : IsTotal (λ n. n.counts.rises)
   pub halves : IsTotal (λ n. n.counts.halves)
   pub strengths : IsTotal (λ n. n.counts.strengths)

@@ -1,5 +1,5 @@
 -- The text of the numbers of a file, in both forms (this project's rule).
-use Rattle.std.specs.Prelude.{◌≡◌, ℕ, ◌+◌, List, [], ◌∷◌, ◌++◌, reverse, flat_map, codes, Option, Some, if◌then◌else◌}
+use Rattle.std.specs.Prelude.{◌≡◌, ◌==◌, ℕ, ◌+◌, List, [], ◌∷◌, ◌++◌, reverse, flat_map, codes, Option, Some, if◌then◌else◌}
 use Rattle.std.specs.List.{range_with_len}
 use Rattle.rtk_obs.specs.declared.code.Code.{Code}
 use Rattle.rtk_obs.specs.Code.{name_of}
@@ -12,34 +12,56 @@ use Rattle.rtk_tracking.specs.Epochs.{newest_first}
 use Rattle.rtk_tracking.specs.Interval.{interval_of_file}
 use Rattle.rtk_tracking.specs.Passes.{Sighting, sightings_of}
 use Rattle.rtk_quality.specs.Counts.{percent_tenths, phases_per_slip, mean_hundredths, mean_tenths}
-use Rattle.rtk_quality.specs.SatellitePasses.{passes_of}
+use Rattle.rtk_quality.specs.SatellitePasses.{sums_in, passes_of}
 use Rattle.rtk_quality.specs.Records.{unit_of, record_counts_of}
-use Rattle.rtk_quality.specs.Quality.{numbers_of, totals_of, is_in_file, satellites_in}
+use Rattle.rtk_quality.specs.Quality.{numbers_of, code_of_station, station_sums, is_in_file, satellites_in}
 use Rattle.rtk_quality.specs.Forms.{in_form, value_text, moment_text, name_text, start_text, end_text, json_text}
 use Rattle.rtk_quality.specs.declared.form.Form.{Form}
 use Rattle.rtk_quality.specs.declared.form.Decimals.TheVariants.{Whole, Tenths, Hundredths, Thousandths}
 use Rattle.rtk_quality.specs.declared.sections.Section.{Section}
-use Rattle.rtk_quality.specs.declared.sections.Section.TheVariants.{Codes, Never, Passes}
+use Rattle.rtk_quality.specs.declared.sections.Section.TheVariants.{Codes, Tracked, Never, Passes}
 use Rattle.rtk_quality.specs.declared.code_counts.CodeCounts.{CodeCounts}
 use Rattle.rtk_quality.specs.declared.code_numbers.CodeNumbers.{CodeNumbers}
+use Rattle.rtk_quality.specs.declared.code_numbers.PerSlip.{PerSlip}
+use Rattle.rtk_quality.specs.declared.code_numbers.PerSlip.TheVariants.{NoPhase, NoneLost, Each}
 use Rattle.rtk_quality.specs.declared.record_counts.RecordCounts.{RecordCounts}
+use Rattle.rtk_quality.specs.declared.pass_sums.PassSums.{PassSums}
 use Rattle.rtk_quality.specs.declared.satellite_counts.PassCounts.{PassCounts}
 
 -- ---- one line
 
 -- formula
--- phases, and of how many that could be there; ranges without a phase; slips, rises, half cycles; phases
--- for each slip
+-- phases, and of how many that could be there
 unfoldable pub phases_text : Form → CodeNumbers → List ℕ
 phases_text form n =
     value_text form (codes " phases ") (codes ",\"phases\":") Whole (Some n.counts.phases)
     ++ value_text form (codes " of ") (codes ",\"possible\":") Whole (Some n.possible)
-    ++ value_text form (codes " percent ") (codes ",\"percent_tenths\":") Tenths (percent_tenths n.counts.phases n.possible)
-    ++ value_text form (codes " ranges-only ") (codes ",\"ranges_only\":") Whole (Some n.counts.ranges)
-    ++ value_text form (codes " slips ") (codes ",\"slips\":") Whole (Some n.counts.slips)
-    ++ value_text form (codes " rises ") (codes ",\"rises\":") Whole (Some n.counts.rises)
-    ++ value_text form (codes " half-cycles ") (codes ",\"half_cycles\":") Whole (Some n.counts.halves)
-    ++ value_text form (codes " phases-per-slip ") (codes ",\"phases_per_slip\":") Whole (phases_per_slip n.counts.phases n.counts.slips)
+    ++ value_text form (codes " percent ") (codes ",\"percent_tenths\":") Tenths (Some (percent_tenths n.counts.phases n.possible))
+
+-- formula
+-- on how many of the satellites
+unfoldable pub having_text : Form → ℕ → ℕ → List ℕ
+having_text form satellites tracked =
+    value_text form (codes " satellites ") (codes ",\"satellites\":") Whole (Some satellites)
+    ++ value_text form (codes " of ") (codes ",\"tracked\":") Whole (Some tracked)
+
+-- table
+-- phases for each slip: a word in a line, if there is no phase or no slip, and null in JSON
+unfoldable pub per_slip_text : Form → PerSlip → List ℕ
+per_slip_text form NoPhase = in_form form (codes " phases-per-slip no-phase") (codes ",\"phases_per_slip\":null")
+per_slip_text form NoneLost = in_form form (codes " phases-per-slip none-lost") (codes ",\"phases_per_slip\":null")
+per_slip_text form (Each n) = value_text form (codes " phases-per-slip ") (codes ",\"phases_per_slip\":") Whole (Some n)
+
+-- formula
+-- ranges without a phase; slips, returns, rises, half cycles; phases for each slip
+unfoldable pub locks_text : Form → CodeCounts → List ℕ
+locks_text form c =
+    value_text form (codes " ranges-only ") (codes ",\"ranges_only\":") Whole (Some c.ranges)
+    ++ value_text form (codes " slips ") (codes ",\"slips\":") Whole (Some c.slips)
+    ++ value_text form (codes " returns ") (codes ",\"returns\":") Whole (Some c.returns)
+    ++ value_text form (codes " rises ") (codes ",\"rises\":") Whole (Some c.rises)
+    ++ value_text form (codes " half-cycles ") (codes ",\"half_cycles\":") Whole (Some c.halves)
+    ++ per_slip_text form (phases_per_slip c.phases c.slips)
 
 -- formula
 -- strengths in dB-Hz: the least one, their mean, and the greatest one
@@ -49,9 +71,9 @@ strengths_text form c =
     ++ value_text form (codes " mean-strength ") (codes ",\"mean_strength_centidbhz\":") Hundredths (mean_hundredths c.strength_sum c.strengths)
     ++ value_text form (codes " greatest-strength ") (codes ",\"greatest_strength_millidbhz\":") Thousandths c.greatest
 
--- the numbers of a code, up to the end of their line
-unfoldable pub numbers_text : Form → CodeNumbers → List ℕ
-numbers_text form n = phases_text form n ++ strengths_text form n.counts ++ end_text form
+-- locks and strengths, up to the end of their line
+unfoldable pub counts_text : Form → CodeCounts → List ℕ
+counts_text form c = locks_text form c ++ strengths_text form c ++ end_text form
 
 -- a code of the file
 unfoldable pub code_name : Form → Code → List ℕ
@@ -62,27 +84,41 @@ code_name form code = name_text form (codes ",\"code\":\"") (name_of code)
 unfoldable pub satellite_name : Form → ℕ → List ℕ
 satellite_name form satellite = name_text form (codes ",\"satellite\":\"") (71 ∷ last_digits 2 satellite)
 
--- the line of a code over all satellites that have it
-unfoldable pub code_line : Form → Code → CodeNumbers → List ℕ
-code_line form code n = start_text form (codes "code") ++ code_name form code ++ numbers_text form n
+-- the line of a code over all satellites that have it, of so many that are tracked
+unfoldable pub code_line : Form → Code → ℕ → CodeNumbers → List ℕ
+code_line form code tracked n =
+    start_text form (codes "code") ++ code_name form code ++ phases_text form n ++ having_text form n.satellites tracked ++ counts_text form n.counts
 
 -- the line of a code that a satellite has
 unfoldable pub satellite_line : Form → ℕ → Code → CodeNumbers → List ℕ
 satellite_line form satellite code n =
-    start_text form (codes "satellite") ++ satellite_name form satellite ++ code_name form code ++ numbers_text form n
+    start_text form (codes "satellite") ++ satellite_name form satellite ++ code_name form code ++ phases_text form n ++ counts_text form n.counts
 
--- the line of a code of the file that a satellite has nowhere
+-- the line of a code of the file of which a satellite has no phase
 unfoldable pub never_line : Form → ℕ → Code → List ℕ
 never_line form satellite code =
     start_text form (codes "never") ++ satellite_name form satellite ++ code_name form code ++ end_text form
+
+-- formula
+-- phases, slips and the moments at which they are, and outages with their time in seconds
+unfoldable pub sums_text : Form → PassSums → List ℕ
+sums_text form s =
+    value_text form (codes " phases ") (codes ",\"phases\":") Whole (Some s.phases)
+    ++ value_text form (codes " slips ") (codes ",\"slips\":") Whole (Some s.slips)
+    ++ value_text form (codes " moments ") (codes ",\"moments\":") Whole (Some s.moments)
+    ++ value_text form (codes " outages ") (codes ",\"outages\":") Whole (Some s.outages)
+    ++ value_text form (codes " outage-time ") (codes ",\"outage_time_ms\":") Thousandths (Some s.outage_ms)
+
+-- the line of all codes of a satellite
+unfoldable pub tracked_line : Form → ℕ → PassSums → List ℕ
+tracked_line form satellite s = start_text form (codes "tracked") ++ satellite_name form satellite ++ sums_text form s ++ end_text form
 
 -- the line of a pass
 unfoldable pub pass_line : Form → ℕ → PassCounts → List ℕ
 pass_line form satellite p =
     start_text form (codes "pass") ++ satellite_name form satellite
     ++ moment_text form (codes " from ") (codes ",\"from\":") p.from ++ moment_text form (codes " until ") (codes ",\"until\":") p.until
-    ++ value_text form (codes " phases ") (codes ",\"phases\":") Whole (Some p.phases)
-    ++ value_text form (codes " slips ") (codes ",\"slips\":") Whole (Some p.slips) ++ end_text form
+    ++ sums_text form p.sums ++ end_text form
 
 -- ---- the lines of codes and satellites
 
@@ -95,14 +131,17 @@ each_code line at (c ∷ cs) = line at c ++ each_code line (at + 1) cs
 -- nowhere
 abbrev pub code_in : Form → Section → ℕ → Code → CodeNumbers → List ℕ
 code_in form Codes satellite code n = if n.counts.seen then satellite_line form satellite code n else []
-code_in form Never satellite code n = if n.counts.seen then [] else never_line form satellite code
+code_in form Never satellite code n = if n.counts.phases == 0 then never_line form satellite code else []
+code_in form Tracked satellite code n = []
 code_in form Passes satellite code n = []
 
 -- formula
--- what a section has of a satellite: its codes; the codes that it has nowhere, if it has any; its passes,
--- from the first to the last
+-- what a section has of a satellite: its codes; the sums of all its codes, if it has any; the codes of which it
+-- has no phase, if it has any; its passes, from the first to the last
 abbrev pub part_of : Form → Section → List Code → Option ℕ → List Sighting → ℕ → List ℕ
 part_of form Codes listed interval before satellite = each_code (λ place code. code_in form Codes satellite code (numbers_of interval before place)) 0 listed
+part_of form Tracked listed interval before satellite =
+    if is_in_file interval before then tracked_line form satellite (sums_in interval before) else []
 part_of form Never listed interval before satellite =
     if is_in_file interval before
     then each_code (λ place code. code_in form Never satellite code (numbers_of interval before place)) 0 listed
@@ -140,10 +179,19 @@ satellites_text form satellites r =
     ++ value_text form (codes "\nmean-satellites ") (codes ",\"mean_satellites_tenths\":") Tenths (mean_tenths r.rows r.records)
     ++ value_text form (codes "\ngreatest-satellites ") (codes ",\"greatest_satellites\":") Whole r.most_rows
 
+-- formula
+-- the slips of all satellites, their moments, and their outages
+unfoldable pub station_text : Form → PassSums → List ℕ
+station_text form s =
+    value_text form (codes "\nslips ") (codes ",\"slips\":") Whole (Some s.slips)
+    ++ value_text form (codes "\nmoments ") (codes ",\"moments\":") Whole (Some s.moments)
+    ++ value_text form (codes "\noutages ") (codes ",\"outages\":") Whole (Some s.outages)
+    ++ value_text form (codes "\noutage-time ") (codes ",\"outage_time_ms\":") Thousandths (Some s.outage_ms)
+
 -- the lines of the whole file
-unfoldable pub heading_text : Form → List ℕ → Civil → Civil → Option ℕ → ℕ → RecordCounts → List ℕ
-heading_text form marker from until interval satellites r =
-    marker_text form marker ++ span_text form from until interval r ++ satellites_text form satellites r ++ end_text form
+unfoldable pub heading_text : Form → List ℕ → Civil → Civil → Option ℕ → ℕ → RecordCounts → PassSums → List ℕ
+heading_text form marker from until interval satellites r s =
+    marker_text form marker ++ span_text form from until interval r ++ satellites_text form satellites r ++ station_text form s ++ end_text form
 
 -- the end of the document
 abbrev pub close_text : Form → List ℕ
@@ -154,9 +202,9 @@ close_text form = in_form form [] (codes "\n]\n")
 unfoldable pub quality_text : Form → List ℕ → List Code → ℕ → ℕ → Option ℕ → List EpochTableView → List ℕ
 quality_text form marker listed first last interval es =
     heading_text form marker (reading_of first) (reading_of last) interval (satellites_in interval es)
-    (record_counts_of (unit_of interval) es)
-    ++ each_code (λ place code. code_line form code (totals_of interval es place)) 0 listed
-    ++ section_text form Codes listed interval es ++ section_text form Never listed interval es ++ section_text form Passes listed interval es
+    (record_counts_of (unit_of interval) es) (station_sums interval es)
+    ++ each_code (λ place code. code_line form code (satellites_in interval es) (code_of_station interval es place)) 0 listed
+    ++ section_text form Codes listed interval es ++ section_text form Tracked listed interval es ++ section_text form Never listed interval es ++ section_text form Passes listed interval es
     ++ close_text form
 
 -- a file without records has no other numbers

@@ -4,9 +4,10 @@ use Rattle.rtk_obs.specs.declared.time.Civil.{Civil}
 use Rattle.rtk_rinex.specs.Record.{EpochTableView}
 use Rattle.rtk_tracking.specs.Passes.{Sighting, sightings_of, begins_pass}
 use Rattle.rtk_tracking.specs.Standing.{StandsForPass}
-use Rattle.rtk_quality.specs.Counts.{plus, code_counts_of}
-use Rattle.rtk_quality.specs.SatellitePasses.{passes_of, epochs_since_phase, epochs_in_passes}
+use Rattle.rtk_quality.specs.Counts.{code_counts_of}
+use Rattle.rtk_quality.specs.SatellitePasses.{sums_plus, sums_in, passes_of, epochs_since_phase, epochs_in_passes}
 use Rattle.rtk_quality.specs.Records.{record_counts_of}
+use Rattle.rtk_quality.specs.declared.pass_sums.PassSums.{PassSums}
 use Rattle.rtk_quality.specs.declared.satellite_counts.PassCounts.{PassCounts}
 use Rattle.rtk_quality.specs.declared.satellite_counts.SatelliteCounts.{SatelliteCounts}
 use Rattle.rtk_quality.specs.declared.file_counts.EndedPass.{EndedPass}
@@ -25,11 +26,10 @@ older_passes [] = []
 older_passes (p ∷ ps) = ps
 
 -- the last pass with an epoch more, or a pass that begins with it
-abbrev pub with_epoch : Option PassCounts → Bool → Civil → ℕ → ℕ → PassCounts
-with_epoch (Some p) false reading phases slips =
-    record { from = p.from; until = reading; phases = plus p.phases phases; slips = plus p.slips slips }
-with_epoch (Some p) true reading phases slips = record { from = reading; until = reading; phases = phases; slips = slips }
-with_epoch None begins reading phases slips = record { from = reading; until = reading; phases = phases; slips = slips }
+abbrev pub with_epoch : Option PassCounts → Bool → Civil → PassSums → PassCounts
+with_epoch (Some p) false reading sums = record { from = p.from; until = reading; sums = sums_plus p.sums sums }
+with_epoch (Some p) true reading sums = record { from = reading; until = reading; sums = sums }
+with_epoch None begins reading sums = record { from = reading; until = reading; sums = sums }
 
 -- a satellite without a row in an epoch
 abbrev pub absent_at : ℕ → Sighting
@@ -42,6 +42,7 @@ pub record StandsForSatellite (s : SatelliteCounts) (interval : Option ℕ) (bef
   pub in_passes : s.in_passes ≡ epochs_in_passes interval before
   pub since_phase : s.since_phase ≡ epochs_since_phase before
   pub last : s.last ≡ newest_pass (passes_of interval before)
+  pub sums : s.sums ≡ sums_in interval before
 
 -- the pass that ends when another one begins
 abbrev pub StandsForEnded : Option PassCounts → Option ℕ → List Sighting → Sighting → Type 0

@@ -15,6 +15,7 @@ pub(crate) struct CodeCounts {
     /// Ranges without a phase.
     pub(crate) ranges: u64,
     pub(crate) slips: u64,
+    pub(crate) returns: u64,
     pub(crate) rises: u64,
     /// Half cycles.
     pub(crate) halves: u64,
@@ -49,6 +50,7 @@ impl CodeCounts {
             phases: 0,
             ranges: 0,
             slips: 0,
+            returns: 0,
             rises: 0,
             halves: 0,
             strengths: 0,
@@ -58,11 +60,11 @@ impl CodeCounts {
         }
     }
 
-    /// Counts one more epoch: what the code shows, and whether it had a phase
-    /// earlier in the pass and since the last outage.
-    pub(crate) fn note(&mut self, observed: &Observed, kept: bool)
+    /// Counts one more epoch: what the code shows, and whether it had a phase earlier in the pass, and since
+    /// the last outage in it.
+    pub(crate) fn note(&mut self, observed: &Observed, known: bool, kept: bool)
         ensures { (ns : List Noted) → self.old ≡ counts_of ns
-            → self.new ≡ counts_of (record { observed = observed.now; kept = kept } ∷ ns) }
+            → self.new ≡ counts_of (record { observed = observed.now; known = known; kept = kept } ∷ ns) }
     {
         let phase = observed.phase_millicycles.is_some();
         let strength = observed.strength_millidbhz;
@@ -70,7 +72,8 @@ impl CodeCounts {
         self.phases = one_more(self.phases, phase);
         self.ranges = one_more(self.ranges, observed.range_mm.is_some() && !phase);
         self.slips = one_more(self.slips, observed.slip && kept);
-        self.rises = one_more(self.rises, observed.slip && !kept);
+        self.returns = one_more(self.returns, observed.slip && known && !kept);
+        self.rises = one_more(self.rises, observed.slip && !known);
         self.halves = one_more(self.halves, observed.half);
         self.strengths = one_more(self.strengths, strength.is_some());
         self.strength_sum = self

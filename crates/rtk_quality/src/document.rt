@@ -7,7 +7,7 @@ ghost use Rattle.rtk_quality.specs.QualityText.{close_text, quality_text, text_o
 ghost use Rattle.rtk_quality.specs.Standing.{StandsForFile};
 
 use crate::entries::put_count;
-use crate::file_counts::{FileCounts, count_file, satellites_in};
+use crate::file_counts::{FileCounts, count_file, satellites_in, station_sums};
 use crate::form::{Form, put_end};
 use crate::heading::{put_heading, put_marker};
 use crate::sections::{Section, put_codes, put_section};
@@ -57,6 +57,7 @@ fn text_of(
     let satellites = counts.satellites.as_slice();
     let ended = counts.ended.as_slice();
     let seen = satellites_in(satellites) as u64;
+    let sums = station_sums(satellites);
     let from = civil(first);
     let until = civil(last);
     let mut text = Vec::new(alloc);
@@ -69,9 +70,11 @@ fn text_of(
         interval,
         seen,
         &counts.records,
+        &sums,
     )?;
     put_codes(&mut text, form, codes, satellites)?;
     put_section(&mut text, form, Section::Codes, codes, satellites, ended)?;
+    put_section(&mut text, form, Section::Tracked, codes, satellites, ended)?;
     put_section(&mut text, form, Section::Never, codes, satellites, ended)?;
     put_section(&mut text, form, Section::Passes, codes, satellites, ended)?;
     put_close(&mut text, form)?;

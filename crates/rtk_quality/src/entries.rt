@@ -1,15 +1,16 @@
 //! The lines of a code, of a satellite and of a pass.
 
 ghost use Rattle.std.specs.Prelude.{◌≡◌, ◌++◌, Some, OnOk};
-ghost use Rattle.rtk_quality.specs.Forms.{value_text};
-ghost use Rattle.rtk_quality.specs.QualityText.{phases_text, strengths_text, numbers_text, code_name, satellite_name, code_line, satellite_line, never_line, pass_line};
+ghost use Rattle.rtk_quality.specs.Forms.{in_form, value_text};
+ghost use Rattle.rtk_quality.specs.QualityText.{phases_text, having_text, per_slip_text, locks_text, strengths_text, counts_text, code_name, satellite_name, code_line, satellite_line, sums_text, tracked_line, never_line, pass_line};
 ghost use Rattle.rtk_quality.specs.declared.form.Decimals.TheVariants.{Whole};
 
 use crate::code_counts::CodeCounts;
-use crate::code_numbers::{CodeNumbers, mean_hundredths, percent_tenths, phases_per_slip};
+use crate::code_numbers::{CodeNumbers, PerSlip, mean_hundredths, percent_tenths, phases_per_slip};
 use crate::form::{
     Decimals, Form, put_end, put_moment, put_name, put_narrow, put_start, put_value,
 };
+use crate::pass_sums::PassSums;
 use crate::satellite_counts::PassCounts;
 use rtk_obs::{Code, two_digits};
 use std::alloc::AllocError;
@@ -27,23 +28,82 @@ pub(crate) fn put_count(
     put_value(text, form, words, key, Decimals::Whole, Some(number))
 }
 
-// Appends phases, slips and half cycles.
+// Appends phases, and of how many that could be there.
 #[tactic(auto, unfolding(crate::specs::QualityText::phases_text))]
 fn put_phases(text: &mut Vec<u8>, form: Form, numbers: &CodeNumbers) -> Result<(), AllocError>
     ensures { OnOk result (text.new.items ≡ text.old.items ++ phases_text form numbers.now) }
 {
-    let counts = &numbers.counts;
-    put_count(text, form, b" phases ", b",\"phases\":", counts.phases)?;
+    let phases = numbers.counts.phases;
+    put_count(text, form, b" phases ", b",\"phases\":", phases)?;
     put_count(text, form, b" of ", b",\"possible\":", numbers.possible)?;
-    let percent = percent_tenths(counts.phases, numbers.possible);
+    let percent = percent_tenths(phases, numbers.possible);
     put_value(
         text,
         form,
         b" percent ",
         b",\"percent_tenths\":",
         Decimals::Tenths,
-        percent,
-    )?;
+        Some(percent),
+    )
+}
+
+// Appends on how many of the satellites a code is.
+#[tactic(auto, unfolding(crate::specs::QualityText::having_text))]
+fn put_having(
+    text: &mut Vec<u8>,
+    form: Form,
+    satellites: u64,
+    tracked: u64,
+) -> Result<(), AllocError>
+    ensures { OnOk result (text.new.items ≡ text.old.items ++ having_text form satellites tracked) }
+{
+    put_count(text, form, b" satellites ", b",\"satellites\":", satellites)?;
+    put_count(text, form, b" of ", b",\"tracked\":", tracked)
+}
+
+// Appends a text in a line, or another one in JSON.
+fn put_either(text: &mut Vec<u8>, form: Form, line: &[u8], json: &[u8]) -> Result<(), AllocError>
+    ensures { OnOk result (text.new.items ≡ text.old.items ++ in_form form line.now json.now) }
+{
+    match form {
+        Form::Lines => text.extend_from_slice(line),
+        Form::Json => text.extend_from_slice(json),
+    }
+}
+
+// Appends how many phases there are for each slip.
+#[tactic(auto, unfolding(crate::specs::QualityText::per_slip_text))]
+fn put_per_slip(text: &mut Vec<u8>, form: Form, per_slip: PerSlip) -> Result<(), AllocError>
+    ensures { OnOk result (text.new.items ≡ text.old.items ++ per_slip_text form per_slip) }
+{
+    match per_slip {
+        PerSlip::NoPhase => put_either(
+            text,
+            form,
+            b" phases-per-slip no-phase",
+            b",\"phases_per_slip\":null",
+        ),
+        PerSlip::NoneLost => put_either(
+            text,
+            form,
+            b" phases-per-slip none-lost",
+            b",\"phases_per_slip\":null",
+        ),
+        PerSlip::Each(number) => put_count(
+            text,
+            form,
+            b" phases-per-slip ",
+            b",\"phases_per_slip\":",
+            number,
+        ),
+    }
+}
+
+// Appends ranges without a phase, bits 0, half cycles, and phases for each slip.
+#[tactic(auto, unfolding(crate::specs::QualityText::locks_text))]
+fn put_locks(text: &mut Vec<u8>, form: Form, counts: &CodeCounts) -> Result<(), AllocError>
+    ensures { OnOk result (text.new.items ≡ text.old.items ++ locks_text form counts.now) }
+{
     put_count(
         text,
         form,
@@ -52,6 +112,7 @@ fn put_phases(text: &mut Vec<u8>, form: Form, numbers: &CodeNumbers) -> Result<(
         counts.ranges,
     )?;
     put_count(text, form, b" slips ", b",\"slips\":", counts.slips)?;
+    put_count(text, form, b" returns ", b",\"returns\":", counts.returns)?;
     put_count(text, form, b" rises ", b",\"rises\":", counts.rises)?;
     put_count(
         text,
@@ -61,14 +122,8 @@ fn put_phases(text: &mut Vec<u8>, form: Form, numbers: &CodeNumbers) -> Result<(
         counts.halves,
     )?;
     let each = phases_per_slip(counts.phases, counts.slips);
-    put_value(
-        text,
-        form,
-        b" phases-per-slip ",
-        b",\"phases_per_slip\":",
-        Decimals::Whole,
-        each,
-    )
+    put_per_slip(text, form, each)?;
+    Ok(())
 }
 
 // Appends strengths.
@@ -104,13 +159,13 @@ fn put_strengths(text: &mut Vec<u8>, form: Form, counts: &CodeCounts) -> Result<
     Ok(())
 }
 
-// Appends the numbers of a code, up to the end of their line.
-#[tactic(auto, unfolding(crate::specs::QualityText::numbers_text))]
-fn put_numbers(text: &mut Vec<u8>, form: Form, numbers: &CodeNumbers) -> Result<(), AllocError>
-    ensures { OnOk result (text.new.items ≡ text.old.items ++ numbers_text form numbers.now) }
+// Appends locks and strengths, up to the end of their line.
+#[tactic(auto, unfolding(crate::specs::QualityText::counts_text))]
+fn put_counts(text: &mut Vec<u8>, form: Form, counts: &CodeCounts) -> Result<(), AllocError>
+    ensures { OnOk result (text.new.items ≡ text.old.items ++ counts_text form counts.now) }
 {
-    put_phases(text, form, numbers)?;
-    put_strengths(text, form, &numbers.counts)?;
+    put_locks(text, form, counts)?;
+    put_strengths(text, form, counts)?;
     put_end(text, form)
 }
 
@@ -134,19 +189,22 @@ fn put_satellite_name(text: &mut Vec<u8>, form: Form, satellite: u8) -> Result<(
     )
 }
 
-/// Appends the line of a code over all satellites that have it.
+/// Appends the line of a code over all satellites that have it, of so many that are tracked.
 #[tactic(auto, unfolding(crate::specs::QualityText::code_line))]
 pub(crate) fn put_code_line(
     text: &mut Vec<u8>,
     form: Form,
     code: Code,
+    tracked: u64,
     numbers: &CodeNumbers,
 ) -> Result<(), AllocError>
-    ensures { OnOk result (text.new.items ≡ text.old.items ++ code_line form code numbers.now) }
+    ensures { OnOk result (text.new.items ≡ text.old.items ++ code_line form code tracked numbers.now) }
 {
     put_start(text, form, b"code")?;
     put_code_name(text, form, code)?;
-    put_numbers(text, form, numbers)
+    put_phases(text, form, numbers)?;
+    put_having(text, form, numbers.satellites, tracked)?;
+    put_counts(text, form, &numbers.counts)
 }
 
 /// Appends the line of a code that a satellite has.
@@ -163,7 +221,8 @@ pub(crate) fn put_satellite_line(
     put_start(text, form, b"satellite")?;
     put_satellite_name(text, form, satellite)?;
     put_code_name(text, form, code)?;
-    put_numbers(text, form, numbers)
+    put_phases(text, form, numbers)?;
+    put_counts(text, form, &numbers.counts)
 }
 
 /// Appends the line of a code of the file that a satellite has nowhere.
@@ -182,6 +241,42 @@ pub(crate) fn put_never_line(
     put_end(text, form)
 }
 
+// Appends the sums of a pass or of a satellite.
+#[tactic(auto, unfolding(crate::specs::QualityText::sums_text))]
+fn put_sums(text: &mut Vec<u8>, form: Form, sums: &PassSums) -> Result<(), AllocError>
+    ensures { OnOk result (text.new.items ≡ text.old.items ++ sums_text form sums.now) }
+{
+    put_count(text, form, b" phases ", b",\"phases\":", sums.phases)?;
+    put_count(text, form, b" slips ", b",\"slips\":", sums.slips)?;
+    put_count(text, form, b" moments ", b",\"moments\":", sums.moments)?;
+    put_count(text, form, b" outages ", b",\"outages\":", sums.outages)?;
+    put_value(
+        text,
+        form,
+        b" outage-time ",
+        b",\"outage_time_ms\":",
+        Decimals::Thousandths,
+        Some(sums.outage_ms),
+    )?;
+    Ok(())
+}
+
+/// Appends the line of all codes of a satellite.
+#[tactic(auto, unfolding(crate::specs::QualityText::tracked_line))]
+pub(crate) fn put_tracked_line(
+    text: &mut Vec<u8>,
+    form: Form,
+    satellite: u8,
+    sums: &PassSums,
+) -> Result<(), AllocError>
+    ensures { OnOk result (text.new.items ≡ text.old.items ++ tracked_line form satellite sums.now) }
+{
+    put_start(text, form, b"tracked")?;
+    put_satellite_name(text, form, satellite)?;
+    put_sums(text, form, sums)?;
+    put_end(text, form)
+}
+
 /// Appends the line of a pass.
 #[tactic(auto, unfolding(crate::specs::QualityText::pass_line))]
 pub(crate) fn put_pass_line(
@@ -196,7 +291,6 @@ pub(crate) fn put_pass_line(
     put_satellite_name(text, form, satellite)?;
     put_moment(text, form, b" from ", b",\"from\":", pass.from)?;
     put_moment(text, form, b" until ", b",\"until\":", pass.until)?;
-    put_count(text, form, b" phases ", b",\"phases\":", pass.phases)?;
-    put_count(text, form, b" slips ", b",\"slips\":", pass.slips)?;
+    put_sums(text, form, &pass.sums)?;
     put_end(text, form)
 }

@@ -4,11 +4,12 @@ ghost use Rattle.std.specs.Prelude.{◌≡◌, ◌<◌, ℕ, List, [], ◌∷◌
 ghost use Rattle.std.specs.List.{range_with_len};
 ghost use Rattle.rtk_rinex.specs.Record.{EpochTableView};
 ghost use Rattle.rtk_quality.specs.Records.{unit_of};
-ghost use Rattle.rtk_quality.specs.Quality.{totals_of, satellites_in};
+ghost use Rattle.rtk_quality.specs.Quality.{totals_of, station_sums, possible_in, satellites_in};
 ghost use Rattle.rtk_tracking.specs.Epochs.{HoldsOfEpochs, newest_moment};
 ghost use Rattle.rtk_quality.specs.Standing.{without_rows, with_ended, StandForSatellites, StandForEnded, StandsForFile};
 
 use crate::code_numbers::CodeNumbers;
+use crate::pass_sums::PassSums;
 use crate::record_counts::{RecordCounts, unit_ms};
 use crate::satellite_counts::{PassCounts, SatelliteCounts};
 use rtk_obs::{GpsMs, civil};
@@ -109,6 +110,28 @@ pub(crate) fn totals_of(satellites: &[SatelliteCounts], place: usize) -> CodeNum
         totals.add_satellite(&satellite.numbers(place));
     }
     totals
+}
+
+/// How many phases could be there of a code that each satellite sends.
+pub(crate) fn possible_in(satellites: &[SatelliteCounts]) -> u64
+    ensures { (interval : Option ℕ) (es : List EpochTableView) → StandForSatellites satellites.now interval es → result ≡ possible_in interval es }
+{
+    let mut possible = 0_u64;
+    for satellite in satellites {
+        possible = possible.saturating_add(satellite.possible());
+    }
+    possible
+}
+
+/// The sums of all satellites.
+pub(crate) fn station_sums(satellites: &[SatelliteCounts]) -> PassSums
+    ensures { (interval : Option ℕ) (es : List EpochTableView) → StandForSatellites satellites.now interval es → result ≡ station_sums interval es }
+{
+    let mut sums = PassSums::none();
+    for satellite in satellites {
+        sums = sums.plus(&satellite.sums());
+    }
+    sums
 }
 
 /// How many satellites the file has.

@@ -1,11 +1,12 @@
 //! The lines of the whole file.
 
 ghost use Rattle.std.specs.Prelude.{◌≡◌, ◌++◌, OnOk};
-ghost use Rattle.rtk_quality.specs.QualityText.{marker_text, span_text, satellites_text, heading_text};
+ghost use Rattle.rtk_quality.specs.QualityText.{marker_text, span_text, satellites_text, station_text, heading_text};
 
 use crate::code_numbers::mean_tenths;
 use crate::entries::put_count;
 use crate::form::{Decimals, Form, put_end, put_json_text, put_moment, put_narrow, put_value};
+use crate::pass_sums::PassSums;
 use crate::record_counts::RecordCounts;
 use rtk_obs::Civil;
 use std::alloc::AllocError;
@@ -101,6 +102,25 @@ fn put_satellites(
     Ok(())
 }
 
+// Appends the slips of all satellites, their moments, and their outages.
+#[tactic(auto, unfolding(crate::specs::QualityText::station_text))]
+fn put_station(text: &mut Vec<u8>, form: Form, sums: &PassSums) -> Result<(), AllocError>
+    ensures { OnOk result (text.new.items ≡ text.old.items ++ station_text form sums.now) }
+{
+    put_count(text, form, b"\nslips ", b",\"slips\":", sums.slips)?;
+    put_count(text, form, b"\nmoments ", b",\"moments\":", sums.moments)?;
+    put_count(text, form, b"\noutages ", b",\"outages\":", sums.outages)?;
+    put_value(
+        text,
+        form,
+        b"\noutage-time ",
+        b",\"outage_time_ms\":",
+        Decimals::Thousandths,
+        Some(sums.outage_ms),
+    )?;
+    Ok(())
+}
+
 /// Appends the lines of the whole file.
 #[tactic(auto, unfolding(crate::specs::QualityText::heading_text))]
 pub(crate) fn put_heading(
@@ -112,11 +132,13 @@ pub(crate) fn put_heading(
     interval: Option<u64>,
     satellites: u64,
     records: &RecordCounts,
+    sums: &PassSums,
 ) -> Result<(), AllocError>
-    ensures { OnOk result (text.new.items ≡ text.old.items ++ heading_text form marker.now from until interval satellites records.now) }
+    ensures { OnOk result (text.new.items ≡ text.old.items ++ heading_text form marker.now from until interval satellites records.now sums.now) }
 {
     put_marker(text, form, marker)?;
     put_span(text, form, from, until, interval, records)?;
     put_satellites(text, form, satellites, records)?;
+    put_station(text, form, sums)?;
     put_end(text, form)
 }

@@ -41,7 +41,7 @@
 //!     let Ok(text) = str::from_utf8(numbers.as_slice()) else {
 //!         return Ok(false);
 //!     };
-//!     let code = "code 1C phases 3 of 3 percent 100.0 ranges-only 0 slips 1 rises 0 ";
+//!     let code = "code 1C phases 3 of 3 percent 100.0 satellites 1 of 1 ranges-only 0 slips 1 ";
 //!     Ok(text.lines().any(|line| line.starts_with(code)))
 //! }
 //! ```
@@ -56,6 +56,7 @@ mod file_counts;
 mod form;
 mod heading;
 mod laws;
+mod pass_sums;
 mod record_counts;
 mod satellite_counts;
 mod sections;

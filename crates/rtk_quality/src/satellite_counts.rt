@@ -4,26 +4,26 @@ ghost use Rattle.std.specs.Prelude.{◌≡◌, ◌<◌, ℕ, List, [], ◌∷◌
 ghost use Rattle.std.specs.List.{list_any};
 ghost use Rattle.rtk_rinex.specs.Reading.{reading_of};
 ghost use Rattle.rtk_tracking.specs.Passes.{Sighting, last_record, has_phase, is_kept, is_slip};
-ghost use Rattle.rtk_tracking.specs.Standing.{AreMarked};
+ghost use Rattle.rtk_tracking.specs.Standing.{AreMarked, AreKnown};
 ghost use Rattle.rtk_tracking.specs.Epochs.{shown_at};
 ghost use Rattle.rtk_quality.specs.Counts.{plus, code_counts_of};
 ghost use Rattle.rtk_quality.specs.Quality.{numbers_of, is_in_file};
-ghost use Rattle.rtk_quality.specs.SatellitePasses.{phases_in, slips_at};
+ghost use Rattle.rtk_quality.specs.SatellitePasses.{phases_in, slips_at, sums_plus, sums_in, epochs_in_passes};
 ghost use Rattle.rtk_quality.specs.Standing.{with_epoch, absent_at, StandsForSatellite, StandsForEnded};
 
 use crate::code_counts::CodeCounts;
 use crate::code_numbers::CodeNumbers;
+use crate::pass_sums::PassSums;
 use rtk_obs::{Civil, GpsMs};
 use rtk_rinex::Observed;
-use rtk_tracking::Pass;
+use rtk_tracking::{Known, Pass};
 
-/// A pass of a satellite: the moments of its first and its last phase, and its phases and slips.
+/// A pass of a satellite: the moments of its first and its last phase, and the sums of its epochs.
 #[derive(Clone, Copy)]
 pub(crate) struct PassCounts {
     pub(crate) from: Civil,
     pub(crate) until: Civil,
-    pub(crate) phases: u64,
-    pub(crate) slips: u64,
+    pub(crate) sums: PassSums,
 }
 
 /// A satellite so far.
@@ -37,6 +37,8 @@ pub(crate) struct SatelliteCounts {
     pub(crate) since_phase: u64,
     /// The last pass.
     pub(crate) last: Option<PassCounts>,
+    /// The sums of all epochs.
+    pub(crate) sums: PassSums,
 }
 
 // What the code at this place shows.
@@ -47,13 +49,13 @@ fn shown_at(observed: &[Observed], place: usize) -> Observed
 }
 
 // Counts one more epoch of each code. What is not observed changes no count.
-fn note_codes(codes: &mut [CodeCounts; 16], observed: &[Observed], kept: &[bool; 16])
+fn note_codes(codes: &mut [CodeCounts; 16], observed: &[Observed], known: &Known)
     ensures { (interval : Option ℕ) (before : List Sighting) (s : Sighting) → observed.now ≡ s.observed
-        → AreMarked kept.now (λ place. is_kept interval place before s)
+        → AreKnown known.now interval before s
         → codes.old ≡ code_counts_of interval before → codes.new ≡ code_counts_of interval (s ∷ before) }
 {
     for place in 0..observed.len().min(16) {
-        codes[place].note(&observed[place], kept[place]);
+        codes[place].note(&observed[place], known.had[place], known.kept[place]);
     }
 }
 
@@ -107,27 +109,19 @@ fn slips_in(observed: &[Observed], kept: &[bool; 16]) -> u64
 }
 
 // The last pass with an epoch more, or a pass that begins with it.
-fn with_epoch(
-    last: Option<PassCounts>,
-    begins: bool,
-    reading: Civil,
-    phases: u64,
-    slips: u64,
-) -> PassCounts
-    ensures { result ≡ with_epoch last begins reading phases slips }
+fn with_epoch(last: Option<PassCounts>, begins: bool, reading: Civil, sums: &PassSums) -> PassCounts
+    ensures { result ≡ with_epoch last begins reading sums.now }
 {
     match last {
         Some(pass) if !begins => PassCounts {
             from: pass.from,
             until: reading,
-            phases: pass.phases.saturating_add(phases),
-            slips: pass.slips.saturating_add(slips),
+            sums: pass.sums.plus(sums),
         },
         _ => PassCounts {
             from: reading,
             until: reading,
-            phases,
-            slips,
+            sums: *sums,
         },
     }
 }
@@ -143,6 +137,7 @@ impl SatelliteCounts {
             in_passes: 0,
             since_phase: 0,
             last: None,
+            sums: PassSums::none(),
         }
     }
 
@@ -154,7 +149,22 @@ impl SatelliteCounts {
         CodeNumbers {
             counts: self.codes[place],
             possible: self.in_passes,
+            satellites: 1,
         }
+    }
+
+    /// How many phases could be there of each code.
+    pub(crate) fn possible(&self) -> u64
+        ensures { (interval : Option ℕ) (before : List Sighting) → StandsForSatellite self.now interval before → result ≡ epochs_in_passes interval before }
+    {
+        self.in_passes
+    }
+
+    /// The sums of all epochs.
+    pub(crate) fn sums(&self) -> PassSums
+        ensures { (interval : Option ℕ) (before : List Sighting) → StandsForSatellite self.now interval before → result ≡ sums_in interval before }
+    {
+        self.sums
     }
 
     /// Has the satellite a code?
@@ -166,22 +176,18 @@ impl SatelliteCounts {
 
     // Notes that the epoch has a phase: it goes on with the last pass, or begins one, and then the answer
     // is the pass before it.
-    fn note_phases(
-        &mut self,
-        begins: bool,
-        reading: Civil,
-        phases: u64,
-        slips: u64,
-    ) -> Option<PassCounts>
+    fn note_phases(&mut self, begins: bool, reading: Civil, sums: &PassSums) -> Option<PassCounts>
         ensures pass { self.new.pass ≡ self.old.pass }
         ensures codes { self.new.codes ≡ self.old.codes }
         ensures in_passes { self.new.in_passes ≡ plus self.old.in_passes (if begins then 1 else self.old.since_phase) }
         ensures since_phase { self.new.since_phase ≡ 0 }
-        ensures last { self.new.last ≡ Some (with_epoch self.old.last begins reading phases slips) }
+        ensures last { self.new.last ≡ Some (with_epoch self.old.last begins reading sums.now) }
+        ensures sums { self.new.sums ≡ sums_plus self.old.sums sums.now }
         ensures ended { result ≡ (if begins then self.old.last else None) }
     {
         let had = self.last;
-        self.last = Some(with_epoch(had, begins, reading, phases, slips));
+        self.last = Some(with_epoch(had, begins, reading, sums));
+        self.sums = self.sums.plus(sums);
         let since_phase = self.since_phase;
         self.since_phase = 0;
         if begins {
@@ -219,12 +225,14 @@ impl SatelliteCounts {
         let time_ms = time.ms();
         let begins = self.pass.begins(interval, time_ms, observed);
         let known = self.pass.known(interval, record_ms, time_ms, observed);
-        note_codes(&mut self.codes, observed, &known.kept);
+        note_codes(&mut self.codes, observed, &known);
+        let outage_ms = self.pass.outage_ms(interval, record_ms, time_ms, observed);
         self.pass.note(interval, record_ms, time_ms, observed);
         if !has_phase(observed) {
             return None;
         }
         let slips = slips_in(observed, &known.kept);
-        self.note_phases(begins, reading, phases_in(observed), slips)
+        let sums = PassSums::of(phases_in(observed), slips, outage_ms);
+        self.note_phases(begins, reading, &sums)
     }
 }

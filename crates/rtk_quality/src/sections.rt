@@ -3,14 +3,16 @@
 ghost use Rattle.std.specs.Prelude.{◌≡◌, ◌<◌, ◌≤◌, ℕ, ◌+◌, List, ◌++◌, length, reverse, flat_map, OnOk, Option};
 ghost use Rattle.rtk_rinex.specs.Record.{EpochTableView};
 ghost use Rattle.rtk_tracking.specs.Passes.{Sighting};
-ghost use Rattle.rtk_quality.specs.Quality.{numbers_of, totals_of};
+ghost use Rattle.rtk_quality.specs.Quality.{numbers_of, code_of_station, satellites_in};
 ghost use Rattle.rtk_quality.specs.SatellitePasses.{passes_of};
 ghost use Rattle.rtk_quality.specs.QualityText.{code_line, pass_line, each_code, code_in, part_of, section_text};
 ghost use Rattle.rtk_quality.specs.Standing.{ended_of, StandsForSatellite, HasEnded, StandForSatellites, StandForEnded};
 
 use crate::code_numbers::CodeNumbers;
-use crate::entries::{put_code_line, put_never_line, put_pass_line, put_satellite_line};
-use crate::file_counts::{EndedPass, totals_of};
+use crate::entries::{
+    put_code_line, put_never_line, put_pass_line, put_satellite_line, put_tracked_line,
+};
+use crate::file_counts::{EndedPass, possible_in, satellites_in, totals_of};
 use crate::form::Form;
 use crate::satellite_counts::SatelliteCounts;
 use rtk_obs::Code;
@@ -21,7 +23,9 @@ use std::alloc::AllocError;
 pub(crate) enum Section {
     /// The codes that it has.
     Codes,
-    /// The codes of the file that it has nowhere.
+    /// The sums of all its codes.
+    Tracked,
+    /// The codes of the file of which it has no phase.
     Never,
     /// Its passes.
     Passes,
@@ -36,10 +40,13 @@ pub(crate) fn put_codes(
 ) -> Result<(), AllocError>
     requires { length codes.now ≤ 16 }
     ensures { OnOk result ((interval : Option ℕ) (es : List EpochTableView) → StandForSatellites satellites.now interval es
-        → text.new.items ≡ text.old.items ++ each_code (λ place code. code_line form code (totals_of interval es place)) 0 codes.now) }
+        → text.new.items ≡ text.old.items ++ each_code (λ place code. code_line form code (satellites_in interval es) (code_of_station interval es place)) 0 codes.now) }
 {
+    let tracked = satellites_in(satellites) as u64;
+    let possible = possible_in(satellites);
     for (at, code) in codes.iter().enumerate() {
-        put_code_line(text, form, *code, &totals_of(satellites, at))?;
+        let numbers = totals_of(satellites, at).of_station(possible);
+        put_code_line(text, form, *code, tracked, &numbers)?;
     }
     Ok(())
 }
@@ -59,7 +66,9 @@ fn put_code_in(
         Section::Codes if numbers.counts.seen => {
             put_satellite_line(text, form, satellite, code, numbers)
         }
-        Section::Never if !numbers.counts.seen => put_never_line(text, form, satellite, code),
+        Section::Never if numbers.counts.phases == 0 => {
+            put_never_line(text, form, satellite, code)
+        }
         _ => Ok(()),
     }
 }
@@ -137,7 +146,8 @@ fn put_part(
 {
     match section {
         Section::Codes => put_codes_in(text, form, section, codes, satellite, counts),
-        Section::Never if !counts.is_in_file() => Ok(()),
+        Section::Tracked | Section::Never if !counts.is_in_file() => Ok(()),
+        Section::Tracked => put_tracked_line(text, form, satellite, &counts.sums()),
         Section::Never => put_codes_in(text, form, section, codes, satellite, counts),
         Section::Passes => put_passes(text, form, satellite, counts, ended),
     }

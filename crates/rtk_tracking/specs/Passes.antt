@@ -82,6 +82,17 @@ ends_outage interval before s =
     has_phase s.observed
     && (not (is_away interval (last_phase before) s.time) && (is_out interval (last_phase before) s.time && not (is_gap_of_file before)))
 
+-- the absence in ms before an epoch; 0 if no phase came before it
+abbrev pub absence_before : Option ℕ → Option ℕ → ℕ → ℕ
+absence_before interval None t = 0
+absence_before interval (Some last) t = absence_of interval last t
+
+-- formula
+-- how long in ms the outage was that ends with an epoch
+abbrev pub outage_before : Option ℕ → List Sighting → Sighting → Option ℕ
+outage_before interval before s =
+    if ends_outage interval before s then Some (absence_before interval (last_phase before) s.time) else None
+
 -- a pass begins, or an outage ends
 abbrev pub is_break : Option ℕ → List Sighting → Sighting → Bool
 is_break interval before s = begins_pass interval before s || ends_outage interval before s

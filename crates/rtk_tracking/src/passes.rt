@@ -3,7 +3,7 @@
 ghost use Rattle.std.specs.Prelude.{◌≡◌, ◌<◌, ◌^◌, ℕ, ◌||◌, Bool, true, false, List, [], ◌∷◌, Option, get_or, is_some, not, ◌&&◌};
 ghost use Rattle.std.specs.List.{list_any};
 ghost use Rattle.rtk_tracking.specs.Epochs.{shows_phase};
-ghost use Rattle.rtk_tracking.specs.Passes.{Sighting, absence_of, is_longer, has_phase, last_record, is_away, is_out, is_same_moment, begins_pass, is_break, is_known, is_kept};
+ghost use Rattle.rtk_tracking.specs.Passes.{Sighting, absence_of, absence_before, outage_before, is_longer, has_phase, last_record, is_away, is_out, is_same_moment, begins_pass, is_break, is_known, is_kept};
 ghost use Rattle.rtk_tracking.specs.Standing.{AreMarked, StandsForPass, AreKnown};
 
 use crate::intervals::nearness_ms;
@@ -87,6 +87,16 @@ fn is_same_moment(one_ms: Option<u64>, other_ms: Option<u64>) -> bool
     }
 }
 
+// Returns the absence in ms before an epoch, or 0 if no phase came before it.
+fn absence_before_ms(interval: Option<u64>, last_ms: Option<u64>, time_ms: u64) -> u64
+    ensures { result ≡ absence_before interval last_ms time_ms }
+{
+    match last_ms {
+        Some(last_ms) => absence_ms(interval, last_ms, time_ms),
+        None => 0,
+    }
+}
+
 // Marks the codes that have a phase.
 fn add_phases(had: &mut [bool; 16], observed: &[Observed])
     ensures { AreMarked had.new (λ place. shows_phase place observed.now || get_or had.old place false) }
@@ -114,6 +124,25 @@ impl Pass {
             → result ≡ begins_pass interval before (record { time = time_ms; observed = observed.now }) }
     {
         has_phase(observed) && is_away(interval, self.last_ms, time_ms)
+    }
+
+    /// Returns how long in ms the outage was that ends with the next epoch, which comes after a record at
+    /// this moment or is the first one, or `None` if no outage ends.
+    pub fn outage_ms(
+        &self,
+        interval: Option<u64>,
+        record_ms: Option<u64>,
+        time_ms: u64,
+        observed: &[Observed],
+    ) -> Option<u64>
+        ensures { (before : List Sighting) → StandsForPass self.now interval before → record_ms ≡ last_record before
+            → result ≡ outage_before interval before (record { time = time_ms; observed = observed.now }) }
+    {
+        let begins = self.begins(interval, time_ms, observed);
+        if begins || !self.breaks(interval, record_ms, time_ms, observed) {
+            return None;
+        }
+        Some(absence_before_ms(interval, self.last_ms, time_ms))
     }
 
     // Returns whether a pass begins or an outage ends with the next epoch, which comes after a record at

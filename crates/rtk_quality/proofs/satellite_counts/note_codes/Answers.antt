@@ -22,7 +22,7 @@ loop-place-preserved c = λ interval before s same marked are.
     let few : c.loop-place.place < 16 = omega (arith, c.loop-place-test.true) in
     let inside : c.loop-place.place < length c.args.observed.now = omega (arith, c.loop-place-test.true) in
     up_to-more new old c.loop-place.codes 16 c.loop-place.place c.loop-place.place c.note.new.self (counts_of []) refl few so_far
-    (code-more interval c.loop-place.place before s c.args.observed.now _ _ _ c.note.new.self same (get_or_default c.args.observed.now c.loop-place.place _ no_observation inside) (marked c.loop-place.place few)
+    (code-more interval c.loop-place.place before s c.args.observed.now _ _ _ _ c.note.new.self same (get_or_default c.args.observed.now c.loop-place.place _ no_observation inside) (marked.had c.loop-place.place few) (marked.kept c.loop-place.place few)
     (up_to-here new old c.loop-place.codes 16 c.loop-place.place c.loop-place.place _ refl few so_far) c.note.ensures)
 
 pub returns : goal.returns

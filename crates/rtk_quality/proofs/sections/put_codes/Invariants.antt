@@ -1,6 +1,6 @@
-use Rattle.std.proofs.Common.{◌≡◌, ◌++◌, ℕ, List, drop, Option}
+use Rattle.std.proofs.Common.{◌≡◌, ◌++◌, ℕ, List, Option, drop}
 use Rattle.rtk_rinex.specs.Record.{EpochTableView}
-use Rattle.rtk_quality.specs.Quality.{totals_of}
+use Rattle.rtk_quality.specs.Quality.{code_of_station, satellites_in}
 use Rattle.rtk_quality.specs.QualityText.{code_line, each_code}
 use Rattle.rtk_quality.specs.Standing.{StandForSatellites}
 use Rattle.rtk_quality.proofs.sections.put_codes.Given as goal
@@ -8,5 +8,5 @@ use Rattle.rtk_quality.proofs.sections.put_codes.Given as goal
 abbrev pub invariant-loop-at : goal.invariant-loop-at
 invariant-loop-at l =
     (interval : Option ℕ) (es : List EpochTableView) → StandForSatellites l.satellites interval es
-    → l.fn.text.items ++ each_code (λ place code. code_line l.form code (totals_of interval es place)) 0 l.codes
-    ≡ l.text.items ++ each_code (λ place code. code_line l.form code (totals_of interval es place)) l.at (drop l.at l.codes)
+    → l.fn.text.items ++ each_code (λ place code. code_line l.form code (satellites_in interval es) (code_of_station interval es place)) 0 l.codes
+    ≡ l.text.items ++ each_code (λ place code. code_line l.form code (satellites_in interval es) (code_of_station interval es place)) l.at (drop l.at l.codes)

@@ -15,4 +15,5 @@ returns c = λ interval. record {
   in_passes = refl;
   since_phase = refl;
   last = refl;
+  sums = c.none.ensures;
 }

@@ -10,4 +10,5 @@ returns c = λ interval before time stands. record {
   in_passes = stands.in_passes;
   since_phase = c.saturating_add-self.ensures ∙ ap (λ (n : ℕ). plus n 1) stands.since_phase;
   last = stands.last;
+  sums = stands.sums;
 }

@@ -1,12 +1,13 @@
 use Rattle.std.proofs.Common.{◌≡◌, ◌∷◌, ℕ, Bool, true, false, cond, not, ◌&&◌, Option, Some, None, refl, sym, ap, subst, ◌∙◌}
 use Rattle.rtk_obs.specs.declared.time.Civil.{Civil}
 use Rattle.rtk_rinex.specs.Reading.{reading_of}
-use Rattle.rtk_tracking.specs.Passes.{Sighting, has_phase, last_phase, is_away, begins_pass, is_kept}
-use Rattle.rtk_tracking.specs.Standing.{AreMarked, StandsForPass}
+use Rattle.rtk_tracking.specs.Passes.{Sighting, has_phase, last_phase, is_away, begins_pass, outage_before}
+use Rattle.rtk_tracking.specs.Standing.{AreKnown, StandsForPass}
 use Rattle.rtk_tracking.specs.declared.passes.Pass.{Pass}
 use Rattle.rtk_quality.specs.Counts.{plus}
-use Rattle.rtk_quality.specs.SatellitePasses.{phases_in, slips_at, passes_of, epochs_since_phase, epochs_in_passes}
+use Rattle.rtk_quality.specs.SatellitePasses.{phases_in, slips_at, sums_of, sums_at, sums_plus, sums_in, passes_of, epochs_since_phase, epochs_in_passes}
 use Rattle.rtk_quality.specs.Standing.{newest_pass, with_epoch}
+use Rattle.rtk_quality.specs.declared.pass_sums.PassSums.{PassSums}
 use Rattle.rtk_quality.specs.declared.satellite_counts.PassCounts.{PassCounts}
 use Rattle.rtk_quality.proofs.CountLemmas.{before-row, same-passes, last-more, within-more}
 use Rattle.rtk_quality.proofs.satellite_counts.SatelliteCounts.note_row.Goals as goal
@@ -18,8 +19,8 @@ returns-then-not-has_phase-clause-stands c = λ before absent last.
     let at : c.ms-time_ms.result ≡ c.args.time = c.ms-time_ms.ensures.value in
     let s : Sighting = record { time = c.args.time; observed = c.args.observed.now } in
     let none : has_phase s.observed ≡ false = sym c.has_phase.ensures ∙ c.if-not-has_phase.true in
-    let marked : AreMarked c.known-known.result.kept (λ place. is_kept interval place before s) =
-    subst (λ (t : ℕ). AreMarked c.known-known.result.kept (λ place. is_kept interval place before (record { time = t; observed = c.args.observed.now }))) at (c.known-known.ensures before stands.pass last).kept in
+    let marked : AreKnown c.known-known.result interval before s =
+    subst (λ (t : ℕ). AreKnown c.known-known.result interval before (record { time = t; observed = c.args.observed.now })) at (c.known-known.ensures before stands.pass last) in
     record {
       pass = subst (λ (t : ℕ). StandsForPass c.note.new.self interval (record { time = t; observed = c.args.observed.now } ∷ before)) at (c.note.ensures before stands.pass last);
       codes = c.note_codes.ensures interval before s refl marked stands.codes;
@@ -28,6 +29,7 @@ returns-then-not-has_phase-clause-stands c = λ before absent last.
       since_phase = stands.since_phase
           ∙ sym (ap (λ (b : Bool). cond b 0 (plus (epochs_since_phase before) 1)) none);
       last = stands.last ∙ sym (ap newest_pass (same-passes interval before s none));
+      sums = stands.sums ∙ sym (ap (λ (b : Bool). cond b (sums_plus (sums_in interval before) (sums_at interval before s)) (sums_in interval before)) none);
     }
 
 pub returns-then-not-has_phase-clause-ended : goal.returns-then-not-has_phase-clause-ended
@@ -44,11 +46,18 @@ returns-clause-stands c = λ before absent last.
     let at : c.ms-time_ms.result ≡ c.args.time = c.ms-time_ms.ensures.value in
     let s : Sighting = record { time = c.args.time; observed = c.args.observed.now } in
     let has : has_phase s.observed ≡ true = sym c.has_phase.ensures ∙ c.if-not-has_phase.false in
-    let marked : AreMarked c.known-known.result.kept (λ place. is_kept interval place before s) =
-    subst (λ (t : ℕ). AreMarked c.known-known.result.kept (λ place. is_kept interval place before (record { time = t; observed = c.args.observed.now }))) at (c.known-known.ensures before stands.pass last).kept in
+    let marked : AreKnown c.known-known.result interval before s =
+    subst (λ (t : ℕ). AreKnown c.known-known.result interval before (record { time = t; observed = c.args.observed.now })) at (c.known-known.ensures before stands.pass last) in
     let begins : c.begins-begins.result ≡ begins_pass interval before s =
     c.begins-begins.ensures before stands.pass ∙ ap (λ (t : ℕ). begins_pass interval before (record { time = t; observed = c.args.observed.now })) at in
-    let slips : c.slips_in-slips.result ≡ slips_at interval before s = c.slips_in-slips.ensures interval before s refl marked in
+    let slips : c.slips_in-slips.result ≡ slips_at interval before s = c.slips_in-slips.ensures interval before s refl marked.kept in
+    let outage : c.outage_ms-outage_ms.result ≡ outage_before interval before s =
+    c.outage_ms-outage_ms.ensures before stands.pass last ∙ ap (λ (t : ℕ). outage_before interval before (record { time = t; observed = c.args.observed.now })) at in
+    let sums : c.of-sums.result ≡ sums_at interval before s =
+    c.of-sums.ensures
+    ∙ ap (λ (k : ℕ). sums_of k c.slips_in-slips.result c.outage_ms-outage_ms.result) c.phases_in.ensures
+    ∙ ap (λ (k : ℕ). sums_of (phases_in s.observed) k c.outage_ms-outage_ms.result) slips
+    ∙ ap (λ (o : Option ℕ). sums_of (phases_in s.observed) (slips_at interval before s) o) outage in
     let n = c.note_phases.ensures in
     record {
       pass = subst (λ (p : Pass). StandsForPass p interval (s ∷ before)) (sym n.pass)
@@ -61,11 +70,14 @@ returns-clause-stands c = λ before absent last.
           ∙ sym (within-more interval before s has);
       since_phase = n.since_phase ∙ sym (ap (λ (b : Bool). cond b 0 (plus (epochs_since_phase before) 1)) has);
       last = n.last
-          ∙ ap (λ (r : Civil). Some (with_epoch c.args.self.now.last c.begins-begins.result r c.phases_in.result c.slips_in-slips.result)) c.requires
-          ∙ ap (λ (b : Bool). Some (with_epoch c.args.self.now.last b (reading_of s.time) c.phases_in.result c.slips_in-slips.result)) begins
-          ∙ ap (λ (k : ℕ). Some (with_epoch c.args.self.now.last (begins_pass interval before s) (reading_of s.time) k c.slips_in-slips.result)) c.phases_in.ensures
-          ∙ ap (λ (k : ℕ). Some (with_epoch c.args.self.now.last (begins_pass interval before s) (reading_of s.time) (phases_in s.observed) k)) slips
+          ∙ ap (λ (r : Civil). Some (with_epoch c.args.self.now.last c.begins-begins.result r c.of-sums.result)) c.requires
+          ∙ ap (λ (b : Bool). Some (with_epoch c.args.self.now.last b (reading_of s.time) c.of-sums.result)) begins
+          ∙ ap (λ (k : PassSums). Some (with_epoch c.args.self.now.last (begins_pass interval before s) (reading_of s.time) k)) sums
           ∙ last-more interval before s c.args.self.now.last stands.last has;
+      sums = n.sums
+          ∙ ap (λ (k : PassSums). sums_plus k c.of-sums.result) stands.sums
+          ∙ ap (λ (k : PassSums). sums_plus (sums_in interval before) k) sums
+          ∙ sym (ap (λ (b : Bool). cond b (sums_plus (sums_in interval before) (sums_at interval before s)) (sums_in interval before)) has);
     }
 
 pub returns-clause-ended : goal.returns-clause-ended
