@@ -4,3 +4,4 @@ mod LinkLemmas
 mod MomentTextLemmas
 mod ReadLemmas
 mod RefusedLemmas
+mod SaidLemmas

@@ -3,7 +3,6 @@
 use clap::{Arg, ArgAction, value_parser};
 use rtk_convert::{GREATEST_STATION, LEAST_WINDOW, MOST_WINDOW};
 use std::alloc::Global;
-use std::ops::RangeInclusive;
 
 /// The name of the one input of a command.
 pub(crate) fn file_arg<'a>(alloc: Global, help: &'a str) -> Arg<'a> {
@@ -30,20 +29,21 @@ pub(crate) fn option_arg<'a>(
     flag_arg(alloc, name, help).value_name(value)
 }
 
-/// An option whose value is a number in this range. All numbers of the command line have one type,
+/// An option whose value is a number between these two. All numbers of the command line have one type,
 /// since each further one is costly to check.
 pub(crate) fn number_arg<'a>(
     alloc: Global,
     name: &'a str,
-    range: RangeInclusive<i64>,
+    least: i64,
+    most: i64,
     help: &'a str,
 ) -> Arg<'a> {
-    option_arg(alloc, name, "N", help).value_parser(value_parser!(u32).range(range))
+    option_arg(alloc, name, "N", help).value_parser(value_parser!(u32).range(least..=most))
 }
 
 /// The reference station.
 pub(crate) fn station_arg<'a>(alloc: Global, help: &'a str) -> Arg<'a> {
-    number_arg(alloc, "station", 0..=i64::from(GREATEST_STATION), help)
+    number_arg(alloc, "station", 0, i64::from(GREATEST_STATION), help)
 }
 
 /// How many epochs are kept open.
@@ -51,14 +51,15 @@ pub(crate) fn window_arg<'a>(alloc: Global, help: &'a str) -> Arg<'a> {
     number_arg(
         alloc,
         "window",
-        LEAST_WINDOW as i64..=MOST_WINDOW as i64,
+        LEAST_WINDOW as i64,
+        MOST_WINDOW as i64,
         help,
     )
 }
 
 /// Which MSM is converted beside 1004.
 pub(crate) fn msm_arg<'a>(alloc: Global, help: &'a str) -> Arg<'a> {
-    number_arg(alloc, "msm", 4..=7, help)
+    number_arg(alloc, "msm", 4, 7, help)
 }
 
 /// The marker's name.

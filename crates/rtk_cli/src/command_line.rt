@@ -48,8 +48,8 @@ fn summary_command<'a>(alloc: Global) -> Result<Command<'a>, AllocError> {
 
 fn columns_arg<'a>(alloc: Global) -> Result<Arg<'a>, AllocError> {
     let help = "How many characters wide it is with --text, 40 to 400; 80 if not given";
-    let range = i64::from(LEAST_WIDTH)..=i64::from(MOST_WIDTH);
-    number_arg(alloc, "columns", range, help).requires_arg("text")
+    let (least, most) = (i64::from(LEAST_WIDTH), i64::from(MOST_WIDTH));
+    number_arg(alloc, "columns", least, most, help).requires_arg("text")
 }
 
 fn chart_command<'a>(alloc: Global) -> Result<Command<'a>, AllocError> {
@@ -84,7 +84,7 @@ fn links_arg<'a>(alloc: Global) -> Arg<'a> {
 
 fn every_arg<'a>(alloc: Global) -> Arg<'a> {
     let help = "Records at whole multiples of this step are kept, 1 to 86400";
-    number_arg(alloc, "every", 1..=i64::from(MOST_STEP), help).value_name("SECONDS")
+    number_arg(alloc, "every", 1, i64::from(MOST_STEP), help).value_name("SECONDS")
 }
 
 // One of the options of `cut` must be given.

@@ -69,6 +69,7 @@ pub(crate) fn codes_said(alloc: Global, text: &str) -> Result<Vec<Code>, WordsFa
 /// The marker that a text names.
 pub(crate) fn marker_said(text: &str) -> Result<Marker, BadWords>
     ensures marker { IfOk result (λ marker. marker ≡ text.now) }
+    ensures good { IfOk result IsMarker }
     ensures cause { IfErr result (λ told. (told ≡ BadWords.Marker) × ¬ (IsMarker text.now)) }
 {
     match Marker::new(text.as_bytes()) {

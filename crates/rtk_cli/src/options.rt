@@ -69,8 +69,6 @@ pub(crate) struct CutOptions<'a> {
     pub(crate) until: Option<&'a str>,
     /// The step in s.
     pub(crate) every: Option<u32>,
-
-    ghost step_fits: { IsStepOrNone every },
 }
 
 // The station of this number; `None` exactly if there is none.
@@ -164,7 +162,9 @@ pub(crate) fn chart_width(words: &ArgMatches<'_>) -> Option<Option<u16>>
 }
 
 /// The options of `cut`.
-pub(crate) fn cut_options<'a>(words: &ArgMatches<'a>) -> Option<CutOptions<'a>> {
+pub(crate) fn cut_options<'a>(words: &ArgMatches<'a>) -> Option<CutOptions<'a>>
+    ensures { IfSome result (λ options. IsStepOrNone options.every) }
+{
     let every = words.get_one::<u32>("every");
     if let Some(step) = every {
         if step < 1 || step > MOST_STEP {
