@@ -1,4 +1,3 @@
-mod CodeListLemmas
 mod HeadLemmas
 mod PutLemmas
 mod ToldLabelLemmas

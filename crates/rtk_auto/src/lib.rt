@@ -40,7 +40,6 @@
 #![tactic(auto)]
 
 mod captured;
-mod code_list;
 mod count_lines;
 mod dating;
 mod kept;
@@ -57,7 +56,6 @@ mod told_label;
 mod wanted;
 
 pub use captured::Captured;
-pub use code_list::is_code_list;
 pub use count_lines::put_counts;
 pub use known_lines::{Known, put_known, what_is_known};
 pub use label_command::put_label_command;
