@@ -66,7 +66,6 @@ away() {
 
 # For how many seconds G05 is away, the step of `cut`, and what is due: phases, slips, returns, outages and their seconds. Only an
 # absence of 125 s is judged in another way after `cut`, where it is one of 120 s.
-# pins: absence_of, is_longer, ends_outage, is_return, is_slip, epochs_in_passes, percent_tenths, sums_of, station_sums
 cat >rows <<'END'
 119  1 17435 21600 80.7 35  0  0     0
 119 30   615   720 85.4 35  0  0     0
@@ -90,6 +89,7 @@ outage-time $time.000
 satellite G05 1C phases $phases of $possible percent $percent ranges-only 0 slips $slips returns $returns rises 0
 tracked G05 phases $phases slips $slips moments $slips outages $outages outage-time $time.000
 END
+    # pins: absence_of, is_longer, ends_outage, is_return, is_slip, epochs_in_passes, percent_tenths, sums_of, station_sums
     same "quality_of_a_satellite_away_for_${seconds}_s_at_$step" got want
 done 3<rows
 
@@ -113,7 +113,6 @@ twelve() {
     }'
 }
 
-# pins: percent_tenths, station_numbers, code_of_station, phases_per_slip, sums_of
 twelve most >most
 quality most
 grep -E '^(slips|moments|code|tracked G07|never) ' out | sed 's/ ranges-only .*//' >got
@@ -125,6 +124,7 @@ code 2W phases 911 of 913 percent 99.7 satellites 11 of 12
 tracked G07 phases 166 slips 4 moments 2 outages 0 outage-time 0.000
 never G11 2W
 END
+# pins: percent_tenths, station_numbers, code_of_station, phases_per_slip, sums_of
 same quality_of_a_code_that_one_satellite_never_sends got want
 twelve ranges >ranges
 quality ranges
