@@ -32,7 +32,7 @@ SIZES = {
     ".reserve(": set(),
     ".reserve_exact(": set(),
     ".resize(": set(),
-    "vec![in alloc; ": {"0u8; PIECE", "0; NUMBERS", "Station::new(); NUMBERS", "StationDates::new(); NUMBERS", "0; WEEKS",
+    "vec![in alloc; ": {"0u8; PIECE", "0; NUMBERS", "Station::new(); STATIONS", "StationDates::new(); NUMBERS", "0; WEEKS",
         "false; STATIONS", "Heard::nothing(); STATIONS", "PhaseCount::nothing(); PLACES"},
 }
 
