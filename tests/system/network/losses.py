@@ -1,4 +1,4 @@
-"""What a new file lacks of an old one, in files of a few cells whose losses are worked out by hand.
+"""What a new file lacks of an old one, in files of a few cells whose losses are worked out by hand; and the steps of such files.
 
 A file is written as cells: a time in seconds, a satellite, and for each of its codes 1C and 2W the range, the phase with its
 loss-of-lock digit, and the strength, or a - for a code without values. The last line is 'N passed, M failed'.
@@ -13,6 +13,7 @@ from pathlib import Path
 sys.path.insert(0, str(Path(__file__).resolve().parents[3] / "network"))
 
 from rtcm2rinex_network.comparison import losses  # noqa: E402
+from rtcm2rinex_network.rinex import most_frequent_step  # noqa: E402
 
 HEADER = "G    6 C1C L1C S1C C2W L2W S2W ".ljust(60) + "SYS / # / OBS TYPES\n" + " " * 60 + "END OF HEADER\n"
 
@@ -67,6 +68,9 @@ ROWS = [
     ("a half cycle of both", {0: [A], 1: [BOTH]}, {0: [A], 1: [HALF]}, (0, 0, 1, 0, 0)),
 ]
 
+# Of each row: the seconds of a file's epochs, and its step in ms.
+STEPS = [([0], None), ([0, 30], 30_000), ([0, 1, 21, 41], 20_000), ([0, 30, 31, 32], 1_000), ([0, 30, 31], 1_000), ([0, 1, 31], 1_000)]
+
 
 def main() -> int:
     failed = 0
@@ -76,7 +80,11 @@ def main() -> int:
             got = tuple(map(len, (it.epochs, it.values, it.slips, it.first_slips, it.halves)))
             failed += got != due
             print(f"{'ok' if got == due else 'FAILED'} {name}" + ("" if got == due else f": {got}, and not {due}"))
-    print(f"{len(ROWS) - failed} passed, {failed} failed")
+        for seconds, step in STEPS:
+            found = most_frequent_step(file_of(Path(folder), "steps", {it: [A] for it in seconds}))
+            failed += found != step
+            print(f"{'ok' if found == step else 'FAILED'} the step of {seconds}" + ("" if found == step else f": {found}, and not {step}"))
+    print(f"{len(ROWS) + len(STEPS) - failed} passed, {failed} failed")
     return failed
 
 

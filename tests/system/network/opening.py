@@ -1,8 +1,9 @@
-"""When a stream is opened again.
+"""Why a stream ends, and when it is opened again.
 
-    pauses.py refused    the pauses in seconds if nothing listens, and on standard error what is said
-    pauses.py steady     the same if three tries fail, then bytes come for 11 s, then for 9 s, and then none
-    pauses.py silent     why a stream ends that stays open and brings one byte
+    opening.py refused       the pauses in seconds if nothing listens, and on standard error what is said
+    opening.py steady        the same if three tries fail, then bytes come for 11 s, then for 9 s, and then none
+    opening.py silent        why a stream ends that stays open and brings one byte
+    opening.py ntrip LINE..  why the stream of a caster ends that answers these lines
 """
 
 import socket
@@ -61,19 +62,24 @@ class Kept:
         """Takes all bytes."""
 
 
-def silent():
-    """Why a stream ends that brings a byte and then nothing."""
+def ended(scheme, answer):
+    """Why a stream ends that brings this and then nothing."""
     streams.SILENT = 0.2
     server = socket.create_server(("127.0.0.1", 0))
     held = []
 
     def serve():
         held.append(server.accept()[0])
-        held[0].sendall(b"x")
+        held[0].sendall(answer)
 
     threading.Thread(target=serve, daemon=True).start()
-    return streams.take(f"tcpcli://127.0.0.1:{server.getsockname()[1]}", Kept(), lambda: None)
+    return streams.take(f"{scheme}://127.0.0.1:{server.getsockname()[1]}/BASE", Kept(), lambda: None)
 
 
-kind = sys.argv[1]
-print(silent() if kind == "silent" else " ".join(map(str, steady() if kind == "steady" else pauses(9))))
+kind, *lines = sys.argv[1:]
+if kind == "silent":
+    print(ended("tcpcli", b"x"))
+elif kind == "ntrip":
+    print(ended("ntrip", "".join(f"{it}\r\n" for it in [*lines, ""]).encode()))
+else:
+    print(*(steady() if kind == "steady" else pauses(9)))
