@@ -5,7 +5,7 @@ field, which takes several times as long."""
 from __future__ import annotations
 
 from bisect import bisect_right
-from collections.abc import Iterable, Iterator
+from collections.abc import Iterator
 from functools import cached_property, lru_cache
 from math import sin
 from operator import and_, lshift
@@ -116,9 +116,10 @@ def head_of(number: int, satellites: tuple[int, ...], more: int) -> tuple[int, i
     return packer.width, packer.number(*header(number, **told).values()), packer.shifts[place]
 
 
-def put_columns(bits: BitWriter, fields: Table, rows: Iterable[tuple[int, ...]]) -> None:
+def put_columns(bits: BitWriter, fields: Table, rows: list[tuple[int, ...]]) -> None:
     """Each field of all rows before the next field."""
-    for entry, values in zip(fields, zip(*rows, strict=True), strict=True):
+    assert all(len(row) == len(fields) for row in rows)
+    for entry, values in zip(fields, zip(*rows)):
         width, most, column = entry.width, (1 << entry.width) - 1, 0
         for value in values:
             column = column << width | value & most

@@ -5,11 +5,12 @@ from __future__ import annotations
 import os
 import re
 from pathlib import Path
+from typing import Union
 
 from .antt import SpecFile
 from .rust import Block, Function, Item, RustFile
 
-Declared = Item | Block
+Declared = Union[Item, Block]
 
 
 def enter_root() -> None:

@@ -54,7 +54,8 @@ def main(words: List[str]) -> None:
     strengths = strengths_of(file)
     if not strengths:
         sys.exit(f"plot_strengths.py: {file} has no strength")
-    plot(strengths, f"Strengths of {rtcm2rinex.header(file).marker}", picture)
+    head = rtcm2rinex.header(file)
+    plot(strengths, f"Strengths of {head.marker} from {head.first}", picture)
 
 
 if __name__ == "__main__":

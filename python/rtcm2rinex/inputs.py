@@ -28,15 +28,23 @@ def is_open(given: Input) -> bool:
     return hasattr(given, "read")
 
 
+def text_of(name: Name) -> str:
+    """The name as a text. Bytes are no name: they may be what a file holds."""
+    text = os.fspath(name)
+    if not isinstance(text, str):
+        raise TypeError("a file is a name or an open binary file, and not bytes; io.BytesIO(it) opens bytes")
+    return text
+
+
 def word_of(name: Name) -> str:
     """The name as a word of the command line, where it is neither an option nor standard input."""
-    text = os.fspath(name)
+    text = text_of(name)
     return f"./{text}" if text.startswith("-") or text == "stdin" else text
 
 
 def listed(given: Union[Input, Sequence[Input]]) -> List[Input]:
     """One input or several, as a list."""
-    if isinstance(given, (str, os.PathLike)) or is_open(cast(Input, given)):
+    if isinstance(given, (str, bytes, os.PathLike)) or is_open(cast(Input, given)):
         return [cast(Input, given)]
     return list(cast(Sequence[Input], given))
 

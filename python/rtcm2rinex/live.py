@@ -102,8 +102,8 @@ class Converter:
                     print(epoch.time, len(epoch.observations))
             report = converter.finish()
 
-    The options are those of `convert`. `links` is the number of links, which count from 0 here. With a window of N epochs, a record
-    stands once N newer epochs came. `output` is an open binary file that gets the RINEX file as it grows.
+    The options are those of `convert`. `links` is the number of links, which count from 1, as in the report. With a window of N epochs,
+    a record stands once N newer epochs came. `output` is an open binary file that gets the RINEX file as it grows.
 
     Neither `feed` nor the program ever waits for the other: what is fed and the records that nobody takes are kept in memory. With
     several links the program waits for the link that is behind, so call `end` when a link ends. If the block ends by an exception, the
@@ -147,23 +147,24 @@ class Converter:
         self._running()
         return self._outlet.header
 
-    def feed(self, piece: bytes, link: int = 0) -> None:
+    def feed(self, piece: bytes, link: int = 1) -> None:
         """Hands over bytes that came on a link, and returns at once.
 
-        Raises `ValueError` if the link has ended, the fault of the program if the program has ended with one, and the fault of `output` if
-        it cannot be written.
+        Raises `ValueError` if the link has ended or there is no such link, the fault of the program if the program has ended with one, and
+        the fault of `output` if it cannot be written.
         """
-        if self._links[link].has_ended:
+        fed = self._fed(link)
+        if fed.has_ended:
             raise ValueError(f"link {link} has ended")
         if self._running().poll():
             self._wait()
         if self._outlet.fault_of_copy is not None:
             raise self._outlet.fault_of_copy
-        self._links[link].put(memoryview(piece).tobytes())
+        fed.put(memoryview(piece).tobytes())
 
-    def end(self, link: int = 0) -> None:
-        """Says that nothing more comes on a link."""
-        self._links[link].end()
+    def end(self, link: int = 1) -> None:
+        """Says that nothing more comes on a link. Raises `ValueError` if there is no such link."""
+        self._fed(link).end()
 
     def records(self, wait: Optional[float] = 0.0) -> Iterator[Epoch]:
         """Gives the records that have come out and were not given yet.
@@ -192,6 +193,12 @@ class Converter:
         for link in self._links:
             link.end()
         return self._wait()
+
+    def _fed(self, link: int) -> Fed:
+        """The link with this number."""
+        if not 1 <= link <= len(self._links):
+            raise ValueError(f"there is no link {link}: the links are 1 to {len(self._links)}")
+        return self._links[link - 1]
 
     def _running(self) -> subprocess.Popen[bytes]:
         """The process of the program."""

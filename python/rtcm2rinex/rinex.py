@@ -12,7 +12,7 @@ from typing import Iterator, List, NamedTuple, Optional, Protocol, Tuple, Union,
 
 from .faults import FormError
 from .headers import Header, Lines, digits_in, moment_in, read_header
-from .inputs import Name
+from .inputs import Name, text_of
 
 CELL = 48  # columns of range, phase and strength
 VALUE = r"( {0,10}-?[0-9]{1,10}\.[0-9]{3})"
@@ -62,7 +62,7 @@ def opened(file: Union[Name, ReadableLines]) -> Iterator[ReadableLines]:
     if hasattr(file, "readline"):
         yield cast(ReadableLines, file)
     else:
-        with open(cast(Name, file), "rb") as named:
+        with open(text_of(cast(Name, file)), "rb") as named:
             yield named
 
 

@@ -12,7 +12,7 @@ from pathlib import Path
 from typing import IO, BinaryIO, Iterator, Optional, Sequence, Tuple, cast
 
 from .headers import Header
-from .inputs import Input, Name, is_open
+from .inputs import Input, Name, is_open, text_of
 from .rinex import Epoch, Observation, epochs, header, observations
 
 
@@ -46,7 +46,7 @@ class Written:
 def is_same(one: Path, other: Input) -> bool:
     """Whether both are names of one file that is there."""
     try:
-        return not is_open(other) and os.path.samefile(one, cast(Name, other))
+        return not is_open(other) and os.path.samefile(one, text_of(cast(Name, other)))
     except OSError:
         return False
 

@@ -75,18 +75,18 @@ def any_times(rng: Random, setup: Setup, count: int, step: int) -> list[int]:
     half = WEEK_MS // 2
     start = rng.choice((setup.near, setup.near, setup.near + half - 3 * step, -2 * step, half))
     times = [(start + at * step) % WEEK_MS for at in range(count)]
-    match rng.randrange(8):
-        case 0:
-            times.reverse()
-        case 1:
-            rng.shuffle(times)
-        case 2:
-            at = rng.randrange(count)
-            times[at:] = times[at + 1 :] + times[at : at + 1]
-        case 3:
-            times.insert(rng.randrange(count), (setup.near + half - 1) % WEEK_MS)
-        case 4:
-            times = [rng.randrange(WEEK_MS) for _ in times]
+    kind = rng.randrange(8)
+    if kind == 0:
+        times.reverse()
+    elif kind == 1:
+        rng.shuffle(times)
+    elif kind == 2:
+        at = rng.randrange(count)
+        times[at:] = times[at + 1 :] + times[at : at + 1]
+    elif kind == 3:
+        times.insert(rng.randrange(count), (setup.near + half - 1) % WEEK_MS)
+    elif kind == 4:
+        times = [rng.randrange(WEEK_MS) for _ in times]
     return [time for time in times for _ in range(rng.choice((1, 1, 1, 2, 3)))]
 
 

@@ -106,38 +106,38 @@ def other_line(rng: Random, line: bytes) -> bytes:
 def damage(rng: Random, lines: Lines, at: int) -> None:
     """Damages the lines at this one."""
     line = lines[at]
-    match rng.randrange(10):
-        case 0:
-            del lines[at]
-        case 1:
-            lines.insert(at, line)
-        case 2:
-            other = min(max(at + rng.randint(-3, 3), 0), len(lines) - 1)
-            lines[at], lines[other] = lines[other], line
-        case 3 | 4:  # a line again, and not as before
-            lines.insert(at + 1, other_line(rng, line))
-        case 5:  # the last epoch line again, after its record
-            begin = next((row for row in range(at, -1, -1) if lines[row][:2] == b"> "), at)
-            end = next((row for row in range(at + 1, len(lines)) if lines[row][:2] == b"> "), len(lines))
-            lines.insert(end, rng.choice((lines[begin], other_line(rng, lines[begin]))))
-        case _:
-            lines[at] = other_line(rng, line)
+    kind = rng.randrange(10)
+    if kind == 0:
+        del lines[at]
+    elif kind == 1:
+        lines.insert(at, line)
+    elif kind == 2:
+        other = min(max(at + rng.randint(-3, 3), 0), len(lines) - 1)
+        lines[at], lines[other] = lines[other], line
+    elif kind in (3, 4):  # a line again, and not as before
+        lines.insert(at + 1, other_line(rng, line))
+    elif kind == 5:  # the last epoch line again, after its record
+        begin = next((row for row in range(at, -1, -1) if lines[row][:2] == b"> "), at)
+        end = next((row for row in range(at + 1, len(lines)) if lines[row][:2] == b"> "), len(lines))
+        lines.insert(end, rng.choice((lines[begin], other_line(rng, lines[begin]))))
+    else:
+        lines[at] = other_line(rng, line)
 
 
 def ended(rng: Random, lines: Lines, at: int) -> bytes:
     """The text, which may end early, also soon after this line, or without its last LF."""
     text = b"".join(lines)
-    match rng.randrange(12):
-        case 0:
-            return text[:-1]
-        case 1:
-            return text[: rng.randint(0, len(text))]
-        case 2:
-            return b"".join(lines[: at + rng.randint(0, 3)])
-        case 3:
-            return b"".join(lines[: at + rng.randint(1, 3)])[:-1]
-        case 4:
-            return text + rng.choice((any_byte(rng), b"\n", b"> 20", b"G", lines[-1][:-1]))
+    kind = rng.randrange(12)
+    if kind == 0:
+        return text[:-1]
+    if kind == 1:
+        return text[: rng.randint(0, len(text))]
+    if kind == 2:
+        return b"".join(lines[: at + rng.randint(0, 3)])
+    if kind == 3:
+        return b"".join(lines[: at + rng.randint(1, 3)])[:-1]
+    if kind == 4:
+        return text + rng.choice((any_byte(rng), b"\n", b"> 20", b"G", lines[-1][:-1]))
     return text
 
 

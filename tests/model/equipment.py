@@ -2,7 +2,6 @@
 
 from __future__ import annotations
 
-from itertools import pairwise
 
 from wire import BitReader, table
 
@@ -39,6 +38,6 @@ def equipment_lines(told: list[Told]) -> list[str]:
     lines = []
     for name in LINES:
         values = [it[name] for it in told if name in it]
-        changes = sum(before != after for before, after in pairwise(values))
+        changes = sum(before != after for before, after in zip(values, values[1:]))
         lines += [f" {name} {it}" for it in values[-1:] if it] + [f" changes-of-{name} {changes}"] * (changes > 0)
     return lines

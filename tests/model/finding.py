@@ -42,19 +42,19 @@ def date_of(payload: bytes) -> Fields | None:
     """The fields of a 1013, 1029 or 1019; None for another message, and for one that is cut short."""
     bits = BitReader(payload)
     try:
-        match BitReader(payload).take(12):
-            case 1013:
-                fields = bits.take_row(SYSTEM_PARAMETERS)
-                for _ in range(fields["announced"]):
-                    bits.take_row(ANNOUNCED)
-            case 1029:
-                fields = bits.take_row(TEXT)
-                for _ in range(fields["code_units"]):
-                    bits.take(8)
-            case 1019:
-                fields = bits.take_row(EPHEMERIS)
-            case _:
-                return None
+        number = BitReader(payload).take(12)
+        if number == 1013:
+            fields = bits.take_row(SYSTEM_PARAMETERS)
+            for _ in range(fields["announced"]):
+                bits.take_row(ANNOUNCED)
+        elif number == 1029:
+            fields = bits.take_row(TEXT)
+            for _ in range(fields["code_units"]):
+                bits.take(8)
+        elif number == 1019:
+            fields = bits.take_row(EPHEMERIS)
+        else:
+            return None
     except EOFError:
         return None
     return fields
@@ -276,7 +276,7 @@ def few_phases(taken: list[Message], codes: list[str]) -> list[str]:
     by_number = Counter((number, satellite, code) for number, satellite, code, cell in cells if cell.phase is not None)
     phases: dict[tuple[int, str], int] = {}
     for (_, *of), count in by_number.items():
-        phases[*of] = max(phases.get((*of,), 0), count)
+        phases[(*of,)] = max(phases.get((*of,), 0), count)
 
     def count(code: str, other: str) -> int:
         return sum(n for (satellite, it), n in phases.items() if it == other and (satellite, code) in shown)

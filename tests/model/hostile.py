@@ -114,7 +114,7 @@ def keep(folder: Path, number: int, capture: Capture) -> None:
     own = folder / f"capture{number}"
     own.mkdir(parents=True, exist_ok=True)
     names = [f"link{at}" for at in range(1, len(capture.links) + 1)]
-    for name, link in zip(names, capture.links, strict=True):
+    for name, link in zip(names, capture.links):
         (own / name).write_bytes(link)
     command = shlex.join(["rtcm2rinex", "convert", *capture.setup.words(), *names])
     (own / "command").write_text(f"{command}\n")
@@ -142,7 +142,7 @@ class Tally:
         """Prints what came of a property that must be checked on so many of a hundred captures, and
         answers whether it passed; None if it had no need to be checked and was not."""
         checked, failed = self.checked[entry.name], self.failed[entry.name]
-        due = floor * self.scenes.total() // 100
+        due = floor * sum(self.scenes.values()) // 100
         if failed:
             print(f"FAILED {entry.name}: {failed} of {checked} captures")
             print(*self.shown[entry.name], sep="\n")

@@ -9,7 +9,7 @@ from functools import lru_cache
 from typing import NamedTuple
 
 from wire import HEADERS, LEGACY_SATELLITE, MSM_CELL, MSM_SATELLITE, MSMS, PREAMBLE, WEEK_MS
-from wire import BitReader, Fields, Message, is_frame, size_at
+from wire import BitReader, Fields, Message, is_frame, ones, paired, size_at
 
 
 class Placed(NamedTuple):
@@ -78,7 +78,7 @@ def read_message(payload: bytes, msms: tuple[int, ...] = (1074,)) -> Message | R
 
 
 def _cell_mask_width(header: Fields) -> int:
-    return header["satellite_mask"].bit_count() * header["signal_mask"].bit_count()
+    return ones(header["satellite_mask"]) * ones(header["signal_mask"])
 
 
 def _read_rest(bits: BitReader, header: Fields) -> Message:
@@ -89,7 +89,7 @@ def _read_rest(bits: BitReader, header: Fields) -> Message:
         message.satellites = [bits.take_row(LEGACY_SATELLITE) for _ in range(header["satellites"])]
     if number in MSMS:
         message.cell_mask = [bits.take(1) for _ in range(_cell_mask_width(header))]
-        satellites = header["satellite_mask"].bit_count()
+        satellites = ones(header["satellite_mask"])
         message.satellites = bits.take_columns(MSM_SATELLITE[number], satellites)
         message.cells = bits.take_columns(MSM_CELL[number], sum(message.cell_mask))
     return message
@@ -107,13 +107,11 @@ def show_line(payload: bytes) -> str:
         return f"{message.number} other" if message.fault == "M2" else f"refused {message}"
     header = message.header
     begin = f"{header['number']} station {header['station']}"
-    match header["number"]:
-        case 1004:
-            return f"{begin} tow {header['tow']} satellites {header['satellites']}"
-        case 1074:
-            satellites, signals = header["satellite_mask"], header["signal_mask"]
-            masks = f"satellites {satellites.bit_count()} signals {signals.bit_count()}"
-            return f"{begin} tow {header['tow']} {masks} cells {sum(message.cell_mask)}"
+    if header["number"] == 1004:
+        return f"{begin} tow {header['tow']} satellites {header['satellites']}"
+    if header["number"] == 1074:
+        masks = f"satellites {ones(header['satellite_mask'])} signals {ones(header['signal_mask'])}"
+        return f"{begin} tow {header['tow']} {masks} cells {sum(message.cell_mask)}"
     position = " ".join(f"{axis} {fixed(header[axis], 4)}" for axis in "xyz")
     height = f" height {fixed(header['height'], 4)}" if "height" in header else ""
     return f"{begin} {position}{height}"
@@ -231,9 +229,9 @@ def _msm_cells(message: Message) -> list[CellOf]:
     satellites = set_bits(message.header["satellite_mask"], 64)
     signals = set_bits(message.header["signal_mask"], 32)
     pairs = [(at, signal) for at in range(len(satellites)) for signal in signals]
-    set_pairs = [pair for pair, is_set in zip(pairs, message.cell_mask, strict=True) if is_set]
+    set_pairs = [pair for pair, is_set in paired(pairs, message.cell_mask) if is_set]
     cells: list[CellOf] = []
-    for (at, signal), row in zip(set_pairs, message.cells, strict=True):
+    for (at, signal), row in paired(set_pairs, message.cells):
         if satellites[at] <= 32 and signal in SIGNALS:
             code = SIGNALS[signal]
             cell = _msm_cell(message.satellites[at], row, code, message.header["number"])

@@ -12,7 +12,7 @@ from datetime import datetime, timedelta
 from typing import Iterator, NamedTuple
 
 from messages import FREQUENCY, LIGHT, Cell, Placed, Refusal, cells_of, fixed, read_message, scan
-from wire import WEEK_MS, Fields, Message
+from wire import WEEK_MS, Fields, Message, paired
 
 READ_SIZE = 512
 KINDS = ("other", "refused", "foreign", "taken", "repeat", "conflict", "late")
@@ -293,7 +293,7 @@ def header(setup: Setup, stations: dict[int, Fields], first: int) -> list[str]:
         ("".join(f"{fixed(value, 4):>14}" for value in antenna), "ANTENNA: DELTA H/E/N"),
         *(
             (begin + "".join(" " + name for name in row), "SYS / # / OBS TYPES")
-            for begin, row in zip(begins, rows, strict=True)
+            for begin, row in paired(begins, rows)
         ),
         ("DBHZ", "SIGNAL STRENGTH UNIT"),
         (f"{date}{seconds:>13}     GPS", "TIME OF FIRST OBS"),

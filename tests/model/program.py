@@ -72,7 +72,7 @@ class Program:
     def convert(self, setup: Setup, links: list[bytes], on_stdin: int | None = None) -> Ended:
         """A conversion of these links; one of them may be given as standard input."""
         names = [f"link{number}" for number in range(1, len(links) + 1)]
-        for name, link in zip(names, links, strict=True):
+        for name, link in zip(names, links):
             self.write(name, link)
         if on_stdin is None:
             return self.run(["convert", *setup.words(), *names])

@@ -16,7 +16,7 @@ from dataclasses import dataclass
 from datetime import timedelta
 from itertools import zip_longest
 from random import Random
-from typing import Callable, Iterable, NamedTuple
+from typing import Callable, Iterable, NamedTuple, Optional
 
 import finding
 from captures import LAST_MADE, Capture
@@ -37,7 +37,7 @@ from wire import MSMS, WEEK_MS, BitWriter, Message, frame_of
 MOST_LINKS = 16
 HOLDS = ""
 NOT_MET = None
-Answer = str | None
+Answer = Optional[str]
 
 
 @dataclass
@@ -369,10 +369,10 @@ def hex_shown_as_bytes(case: Case) -> Answer:
     text = case.rng.choice(case.links)
     digits = text.hex()
     cuts = sorted(case.rng.choices(range(len(digits) + 1), k=case.rng.randrange(20)))
-    parts = [digits[at:end] for at, end in zip([0, *cuts], [*cuts, len(digits)], strict=True)]
+    parts = [digits[at:end] for at, end in zip([0, *cuts], [*cuts, len(digits)])]
     blanks = case.rng.choices((" ", "\t", "\n", "\r\n", "  "), k=len(parts))
     cased = (case.rng.choice((part, part.upper())) for part in parts)
-    hex_text = "".join(part + blank for part, blank in zip(cased, blanks, strict=True))
+    hex_text = "".join(part + blank for part, blank in zip(cased, blanks))
     return ends_with(case.program.on(hex_text.encode(), "show", "--hex"), 0, shown_lines(text), b"")
 
 
@@ -460,7 +460,7 @@ def same_with_link_again(case: Case) -> Answer:
     before, after = counts_of(case.base.err), counts_of(run.err)
     own = Counter(judged.kind for judged in case.due.frames if judged.found.link == link)
     due = {name: before[name] + copies * own[name] for name in ("other", "refused", "foreign")}
-    due["frames"] = before["frames"] + copies * own.total()
+    due["frames"] = before["frames"] + copies * sum(own.values())
     due |= {name: before[name] for name in ("taken", "epochs")}
     if differs or due.items() <= after.items():
         return differs
@@ -481,7 +481,7 @@ def same_with_link_before(case: Case) -> Answer:
 def pieces_of(text: bytes) -> list[bytes]:
     """The frames of a text, each with the bytes before it, and then what is left."""
     ends = [0, *(frame.end for frame in frames_of(text))]
-    return [text[at:end] for at, end in zip(ends, [*ends[1:], len(text)], strict=True)]
+    return [text[at:end] for at, end in zip(ends, [*ends[1:], len(text)])]
 
 
 def payloads_of(links: Iterable[bytes]) -> Counter[bytes]:

@@ -9,7 +9,7 @@ from typing import Callable, TypeVar
 from messages import FINE_LOCK_TIMES, SIGNALS, legacy_lock_time, msm_lock_time
 from model import Setup
 from wire import HEADERS, LEGACY_SATELLITE, MOST_PAYLOAD, MSM_CELL, MSM_SATELLITE, MSMS, WEEK_MS
-from wire import Field, Fields, Message, Table, frame_of, payload_of
+from wire import Field, Fields, Message, Table, frame_of, paired, payload_of
 
 Pick = Callable[[Random, Field], int]
 Key = TypeVar("Key")
@@ -163,7 +163,7 @@ class Sender:
         rows = [self.told(told_satellites, it, MSM_SATELLITE[number]) for it in satellites]
         cells = [
             self.told(told_cells, pair, MSM_CELL[number])
-            for pair, is_set in zip(pairs, cell_mask, strict=True)
+            for pair, is_set in paired(pairs, cell_mask)
             if is_set
         ]
         return payload_of(Message(header, rows, cell_mask, cells))
@@ -216,20 +216,20 @@ class Sender:
 
     def unread(self, tow: int) -> bytes:
         """No number, cut, at no time of the week, or with a cell mask that is too wide."""
-        match self.rng.randrange(5):
-            case 0:
-                return self.rng.randbytes(self.rng.randrange(2))
-            case 1:
-                past = self.rng.choice((WEEK_MS, WEEK_MS + 1, (1 << 30) - 1))
-                return self.observation(past)
-            case 2:
-                widths = ((13, 5), (64, 2), (33, 2), (3, 22), (64, 32))
-                satellites, signals = self.rng.choice(widths)
-                masks = {"satellite_mask": (1 << satellites) - 1, "signal_mask": (1 << signals) - 1}
-                time = self.rng.choice((tow, tow, (1 << 30) - 1))
-                header = self.header(self.rng.choice(self.msms), tow=time, **masks)
-                rest = self.rng.randbytes(self.rng.choice((0, 9, 700)))
-                return payload_of(Message(header)) + rest
+        kind = self.rng.randrange(5)
+        if kind == 0:
+            return self.rng.randbytes(self.rng.randrange(2))
+        if kind == 1:
+            past = self.rng.choice((WEEK_MS, WEEK_MS + 1, (1 << 30) - 1))
+            return self.observation(past)
+        if kind == 2:
+            widths = ((13, 5), (64, 2), (33, 2), (3, 22), (64, 32))
+            satellites, signals = self.rng.choice(widths)
+            masks = {"satellite_mask": (1 << satellites) - 1, "signal_mask": (1 << signals) - 1}
+            time = self.rng.choice((tow, tow, (1 << 30) - 1))
+            header = self.header(self.rng.choice(self.msms), tow=time, **masks)
+            rest = self.rng.randbytes(self.rng.choice((0, 9, 700)))
+            return payload_of(Message(header)) + rest
         payload = self.rng.choice((self.observation(tow), self.station()))
         return payload[: self.rng.randrange(2, len(payload))]
 

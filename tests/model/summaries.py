@@ -6,7 +6,7 @@ import shlex
 import string
 from collections import Counter
 from datetime import datetime, timedelta
-from itertools import groupby, pairwise
+from itertools import groupby
 
 from equipment import Told, equipment_lines, equipment_of
 from finding import date_of
@@ -95,7 +95,7 @@ def station_lines(name: str, station: int, messages: list[Message], dated: list[
     lines = [
         *(f" message {number} {n}" for number, n in sorted(counts.items())),
         f" time-of-week {times[0]} {times[-1]}" if times else " time-of-week -",
-        f" changes-of-time {sum(before != after for before, after in pairwise(times))}",
+        f" changes-of-time {sum(before != after for before, after in zip(times, times[1:]))}",
         *(f" date {civil_of(its[0])} {number} {len(its)}" for number, its in by_number.items() if its),
         *equipment_lines(told),
         f" satellites {satellites or '-'}",

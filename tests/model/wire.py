@@ -8,11 +8,24 @@ from __future__ import annotations
 from dataclasses import dataclass, field
 from functools import lru_cache
 from struct import unpack
-from typing import NamedTuple
+from typing import Iterator, NamedTuple, Sequence, TypeVar
 
 PREAMBLE = 0xD3
 MOST_PAYLOAD = 1023
 WEEK_MS = 604_800_000
+
+One, Other = TypeVar("One"), TypeVar("Other")
+
+
+def ones(mask: int) -> int:
+    """How many bits of a mask are set."""
+    return bin(mask).count("1")
+
+
+def paired(one: Sequence[One], other: Sequence[Other]) -> Iterator[tuple[One, Other]]:
+    """The pairs of two lists, which have one length."""
+    assert len(one) == len(other), f"{len(one)} and {len(other)}"
+    return zip(one, other)
 
 
 class Field(NamedTuple):

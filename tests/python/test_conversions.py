@@ -101,6 +101,20 @@ class Inputs(Case):
             rtcm2rinex.convert(io.StringIO("text"), **TWO_CODES, output="made.rnx")
         self.assertEqual(self.there(), ["cut.gz"])
 
+    def test_bytes_are_no_name(self) -> None:
+        text = (EXAMPLES / "base.rnx").read_bytes()
+        calls = {
+            "convert": lambda: rtcm2rinex.convert(BASE, **TWO_CODES), "auto": lambda: rtcm2rinex.auto([BASE]),
+            "summary": lambda: rtcm2rinex.summary(BASE), "check": lambda: rtcm2rinex.check(text),
+            "cut": lambda: rtcm2rinex.cut(text, every=5, output="made.rnx"), "header": lambda: rtcm2rinex.header(text),
+            "observations": lambda: list(rtcm2rinex.observations(text)),
+        }
+        for name, call in calls.items():
+            with self.subTest(name), self.assertRaises(TypeError) as raised:
+                call()
+            self.assertIn("io.BytesIO", str(raised.exception))
+        self.assertEqual(self.there(), [])
+
     def test_no_end_of_a_pipe_stays_open(self) -> None:
         before = sorted(os.listdir("/dev/fd"))
         for links in [io.BytesIO(BASE)] * 3, [io.BytesIO(BASE), "nowhere"]:

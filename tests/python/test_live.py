@@ -65,10 +65,10 @@ class Flow(Case):
 
     def test_two_links_of_which_one_is_behind(self) -> None:
         with Converter(**{**SESSION, "window": 64}, links=2) as converter:
-            converter.feed((EXAMPLES / "session_link2.rtcm").read_bytes() + b"\0" * 500_000, link=1)
+            converter.feed((EXAMPLES / "session_link2.rtcm").read_bytes() + b"\0" * 500_000, link=2)
             self.assertEqual(list(converter.records(wait=0.3)), [])  # it waits for the first link
-            converter.feed((EXAMPLES / "session_link1.rtcm").read_bytes(), link=0)
-            converter.end(0)
+            converter.feed((EXAMPLES / "session_link1.rtcm").read_bytes(), link=1)
+            converter.end(1)
             counts = converter.finish().counts
             self.assertEqual(len(list(converter.records())), 20)
         self.assertEqual((counts.frames, counts.taken, counts.repeat, counts.late), (88, 51, 33, 0))
@@ -113,7 +113,7 @@ class Faults(Case):
 
     def test_an_exception_of_the_caller_ends_the_program(self) -> None:
         with self.assertRaises(KeyboardInterrupt), Converter(**TWO_CODES, links=3) as converter:
-            converter.feed(observations_at(*range(3000)), link=2)
+            converter.feed(observations_at(*range(3000)), link=3)
             raise KeyboardInterrupt
         self.closed()
 
@@ -152,8 +152,11 @@ class Faults(Case):
             converter.end()
             with self.assertRaises(ValueError):
                 converter.feed(P)
-            with self.assertRaises(IndexError):
-                converter.feed(P, link=1)
+            for link in 0, 2:
+                with self.assertRaises(ValueError):
+                    converter.feed(P, link=link)
+                with self.assertRaises(ValueError):
+                    converter.end(link)
             self.assertEqual(converter.finish().counts.frames, 0)
         self.closed()
 

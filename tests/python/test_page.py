@@ -81,7 +81,7 @@ class Pages(Case):
         self.assertEqual([sorted(panel["lines"]) for panel in panels], [["G05", "G07", "G13", "G21"]] * 2 + [["G05", "G07"]])
         times, values = panels[0]["lines"]["G21"]
         self.assertEqual((times[0], values[:5]), ("2024-05-17 12:00:04", [30.5, 30.75, 30.25, 30.5, 30.75]))
-        self.assertEqual(panels[0]["title"], "Strengths of BASE")
+        self.assertEqual(panels[0]["title"], "Strengths of BASE from 2024-05-17 12:00:00")
 
     def test_a_plot_that_cannot_be_made(self) -> None:
         Path("empty.rnx").write_bytes(b"".join((EXAMPLES / "base.rnx").read_bytes().splitlines(True)[:14]))

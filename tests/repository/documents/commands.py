@@ -119,7 +119,7 @@ def test_page(compare, page, root, program):
     compare(f"{page} shows commands", len(shown) > 0, True)
     compare(f"the blocks of {page} have known languages", {block.language for block in blocks} - LANGUAGES, set())
     with tempfile.TemporaryDirectory() as folder:
-        for it, ran in zip(shown, run_all([it.command for it in shown], root, program, Path(folder)), strict=True):
+        for it, ran in zip(shown, run_all([it.command for it in shown], root, program, Path(folder))):
             name = f"{page}: {it.command.splitlines()[0]}"
             if ran is None:
                 compare(name, "not run to its end", it.printed)

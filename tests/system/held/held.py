@@ -8,7 +8,7 @@ import re
 import subprocess
 import sys
 from collections.abc import Iterable
-from itertools import cycle, islice, pairwise
+from itertools import cycle, islice
 from pathlib import Path
 
 from largest import CODES as CHART_CODES
@@ -244,7 +244,7 @@ def lengths_alike(runs: Runs, tests: Tests) -> None:
         ("rising_and_falling_1004", 64, changing),
     ):
         names = [f"{kind}_{name}" for name in FEW_AND_MANY]
-        held = [runs.held(window, [name], want) for name, want in zip(names, wants, strict=True)]
+        held = [runs.held(window, [name], want) for name, want in zip(names, wants)]
         tests.same(f"few and many of {kind.replace('_', ' ')}", held)
 
 
@@ -322,7 +322,7 @@ def most_room(size: int) -> int:
     """For how many cells a window of this size has room at most, while one more epoch opens: each
     has room for its own, two of a satellite, and for as many as the epoch before it has."""
     cells = [2 * it for it in islice(cycle(RISING_AND_FALLING), 5000)]
-    rooms = [max(pair) for pair in pairwise([cells[0], *cells])]
+    rooms = [max(pair) for pair in zip([cells[0], *cells], cells)]
     return max(sum(rooms[at : at + size + 1]) for at in range(len(rooms) - size))
 
 

@@ -13,6 +13,7 @@ from typing import NamedTuple
 from station import date
 from streams import SATELLITES, legacy, of_templates, rare_messages, single_satellite, split_epochs
 
+LIBRARY = "./refuse.so"
 OUT_OF_MEMORY = b"rtcm2rinex: out of memory\n"
 COUNTS = 9  # the lines at the end of a report
 NEWLINE = b"\n"
@@ -62,15 +63,16 @@ class Program:
     def run(self, words: list[str], given: str, refused: str, limit: str = "") -> Ran:
         """`refused` is the number of the refused growth, with a `+` where all later ones are too;
         `limit` has the words of `ulimit`, if there is one of ours."""
-        environment = {"LD_PRELOAD": "./refuse.so", "REFUSED_GROWTH": refused}
+        environment = {"LD_PRELOAD": LIBRARY, "REFUSED_GROWTH": refused}
         new = os.O_WRONLY | os.O_CREAT | os.O_TRUNC
         streams = [(os.POSIX_SPAWN_OPEN, 0, given, os.O_RDONLY, 0)]
         for descriptor, name in ((1, "out"), (2, "err"), (9, "refusals")):
             streams.append((os.POSIX_SPAWN_OPEN, descriptor, name, new, 0o600))
         path, command = self.path, ["rtcm2rinex", *words]
         if limit:
-            limited = f'ulimit {limit} && exec "$0" "$@"'
+            limited = f'ulimit {limit} && export LD_PRELOAD={LIBRARY} && exec "$0" "$@"'  # which may be for another machine than sh is
             path, command = "/bin/sh", ["sh", "-c", limited, self.path, *words]
+            del environment["LD_PRELOAD"]
         for name in Path().glob("made*"):
             name.unlink()
         child = os.posix_spawn(path, command, environment, file_actions=streams)

@@ -29,16 +29,20 @@ def is_lost_digit(one, other):
 def main():
     kind, first, second = sys.argv[1:]
     with open(first) as one, open(second) as other:
-        pairs = list(zip(one.read().split("\n"), other.read().split("\n"), strict=True))
+        ones, others = one.read().split("\n"), other.read().split("\n")
+    if len(ones) != len(others):
+        sys.exit(f"{len(ones)} and {len(others)} lines")
     count = 0
-    for one, other in pairs:
+    for one, other in zip(ones, others):
         if one == other:
             continue
         if one[:3] != other[:3] or one[0] != "G":
             sys.exit(f"{one!r} and {other!r}")
         ours, theirs = fields(one), fields(other)
         ours += [" " * WIDTH] * (len(theirs) - len(ours))
-        for place, (a, b) in enumerate(zip(ours, theirs, strict=True)):
+        if len(ours) != len(theirs):
+            sys.exit(f"{one!r} and {other!r}")
+        for place, (a, b) in enumerate(zip(ours, theirs)):
             if a != b and (place % 3 != 1 or not {"rolls": is_roll, "digits": is_lost_digit}[kind](a, b)):
                 sys.exit(f"{a!r} and {b!r}")
             count += a != b

@@ -6,6 +6,7 @@
 typedef unsigned long size_t;
 typedef int (*opening)(const char *path, int flags, int mode);
 typedef int (*looking)(const char *path, void *found);
+typedef int (*looking_before)(int version, const char *path, void *found);
 char *getenv(const char *name);
 char *strstr(const char *text, const char *part);
 int strcmp(const char *one, const char *other);
@@ -55,6 +56,15 @@ int stat(const char *path, void *found) {
 
 int stat64(const char *path, void *found) {
     return fails("stat", path) ? -1 : ((looking)dlsym(NEXT, "stat64"))(path, found);
+}
+
+// What a program calls for these two that was built with a glibc before 2.33.
+int __xstat(int version, const char *path, void *found) {
+    return fails("stat", path) ? -1 : ((looking_before)dlsym(NEXT, "__xstat"))(version, path, found);
+}
+
+int __xstat64(int version, const char *path, void *found) {
+    return fails("stat", path) ? -1 : ((looking_before)dlsym(NEXT, "__xstat64"))(version, path, found);
 }
 
 int open(const char *path, int flags, int mode) {

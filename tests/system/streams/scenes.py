@@ -41,6 +41,7 @@ READ_IN_PIECES = 4096  # so many bytes of an input of `show` or of a command tha
 FRAME = 46  # the bytes of a frame of late.rtcm, and of each one that is made of it
 COUNTS = 9  # the lines at the end of a report
 
+SET_PIPE_SIZE = 1031  # the request of Linux, which has a name from Python 3.10 on
 MOST_INTERRUPTIONS = 1000  # so often in a row an interrupted call is made again
 
 # What the program does not do yet. A scene of this list that fails is told, and isn't counted; one
@@ -635,7 +636,7 @@ class Pipe:
         reads, writes = os.pipe()
         self.reads, self.writes = os.fdopen(reads, "rb", 0), os.fdopen(writes, "wb", 0)
         if size:
-            fcntl.fcntl(self.writes, fcntl.F_SETPIPE_SZ, size)
+            fcntl.fcntl(self.writes, SET_PIPE_SIZE, size)
 
     def __enter__(self):
         return self
