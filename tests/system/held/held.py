@@ -424,7 +424,7 @@ def largest_picture(runs: Runs, tests: Tests) -> None:
 def main() -> None:
     program, folder = sys.argv[1:]
     tests = Tests()
-    content = Path(program).read_bytes()
+    content = Path(os.environ.get("PROGRAM_FILE", program)).read_bytes()
     others = [name for name in OTHER_CALLS if b"\0%b\0" % name.encode() in content]
     tests.within("calls by which the count would miss memory", len(others), 0, 0)
     runs = Runs(program, folder)

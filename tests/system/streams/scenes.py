@@ -951,7 +951,7 @@ environ getenv clock_gettime statx fsync link rename unlink
 # refuses: an answer that depends on what else the C library can tell, as the time or the kind of a file
 @scene("all that is asked of the C library")
 def _names_of_c():
-    yield "names", other_names, names_of_c(content(PROGRAM))
+    yield "names", other_names, names_of_c(content(os.environ.get("PROGRAM_FILE", PROGRAM)))
 
 
 def names_of_c(program):
