@@ -1,6 +1,6 @@
-use Rattle.rtk_summary.specs.Proposal.{entries_with}
-use Rattle.rtk_summary.specs.ReadFrames.{messages_in, messages_from}
-use Rattle.rtk_summary.specs.Tracing.{has_code}
+use Rattle.rtk_survey.specs.Proposal.{entries_with}
+use Rattle.rtk_survey.specs.ReadFrames.{messages_in, messages_from}
+use Rattle.rtk_survey.specs.Tracing.{has_code}
 use Rattle.rtk_auto.proofs.HeadLemmas.{some-found}
 use Rattle.rtk_auto.proofs.planning.codes_to_convert.Goals as goal
 
