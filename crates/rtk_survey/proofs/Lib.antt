@@ -13,6 +13,7 @@ pub mod ListLemmas
 pub mod MapLemmas
 pub mod MsmLemmas
 pub mod NamedLemmas
+pub mod PhaseLemmas
 pub mod PlacedLemmas
 pub mod PublicLaws
 pub mod ReadLemmas
@@ -20,3 +21,4 @@ pub mod ResultLemmas
 pub mod SignalLemmas
 pub mod StationLemmas
 pub mod SummaryTellingLemmas
+pub mod TargetLemmas

@@ -38,7 +38,7 @@ pub fn summarize<R: Source, W: Sink>(
         → SummarizesInPart name.now (R.given reader.old) (R.given reader.new) (W.taken out.old) (W.taken out.new) }
     ensures nothing { IfErr result (λ fault. fault ≢ Write → W.taken out.new ≡ W.taken out.old) }
 {
-    let survey = survey_capture(alloc, reader, max_reads)?;
+    let survey = survey_capture(alloc, reader, None, max_reads)?;
     let lines = summary_lines(alloc, name, &survey)?;
     if write_all(out, lines.as_slice()).is_err() {
         return Err(SurveyFault::Write);

@@ -12,13 +12,13 @@ returns-in-Utc-clause-stations c = on-ok c.take_date.result
 
 pub returns-in-Utc-clause-weeks : goal.returns-in-Utc-clause-weeks
 returns-in-Utc-clause-weeks c = on-ok c.take_date.result
-    (λ took ds counts. subst (λ (m : DateMessage). CountsWeeks c.args.weeks.now.items (m ∷ ds)) (sym c.in-Utc.is) (weeks-same c.args.weeks.now.items c.in-Utc.date ds counts)) c.take_date.ensures
+    (λ took ds counts. subst (λ (m : DateMessage). CountsWeeks c.args.weeks.now (m ∷ ds)) (sym c.in-Utc.is) (weeks-same c.args.weeks.now c.in-Utc.date ds counts)) c.take_date.ensures
 
 pub returns-in-Ephemeris-clause-stations : goal.returns-in-Ephemeris-clause-stations
-returns-in-Ephemeris-clause-stations c = λ ms ds es all.
-    subst (λ (m : DateMessage). AreStations ms (m ∷ ds) es c.args.stations.now) (sym c.in-Ephemeris.is) (ephemeris-more c.args.stations.now c.in-Ephemeris.ephemeris ms ds es all)
+returns-in-Ephemeris-clause-stations c = on-ok c.count_number.result
+    (λ counted ms ds es all. subst (λ (m : DateMessage). AreStations ms (m ∷ ds) es c.args.stations.now) (sym c.in-Ephemeris.is) (ephemeris-more c.args.stations.now c.in-Ephemeris.ephemeris ms ds es all)) c.count_number.ensures
 
 pub returns-in-Ephemeris-clause-weeks : goal.returns-in-Ephemeris-clause-weeks
-returns-in-Ephemeris-clause-weeks c = λ ds counts.
-    subst (λ (m : DateMessage). CountsWeeks c.count_at.new.counts.items (m ∷ ds)) (sym c.in-Ephemeris.is)
-    (weeks-more c.args.weeks.now.items c.count_at.new.counts.items c.in-Ephemeris.ephemeris ds c.count_at.ensures.size c.count_at.ensures.counted counts)
+returns-in-Ephemeris-clause-weeks c = on-ok c.count_number.result
+    (λ counted ds counts. subst (λ (m : DateMessage). CountsWeeks c.count_number.new.counts (m ∷ ds)) (sym c.in-Ephemeris.is)
+    (weeks-more c.args.weeks.now c.count_number.new.counts c.in-Ephemeris.ephemeris ds counted counts)) c.count_number.ensures
