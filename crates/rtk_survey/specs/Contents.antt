@@ -80,9 +80,9 @@ pub record HasSignals (s : Signals) (es : List CellEntry) : Type 0 where
 abbrev pub times_of : List ℕ → Times
 times_of ts = record { first = oldest_time ts; last = newest_time ts; changes = shown_count (changes_in ts) }
 
--- the last of times of week, and how many epochs there are of them
+-- the first and the last of times of week, and how many epochs there are of them
 abbrev pub epochs_so_far : List ℕ → Epochs
-epochs_so_far ts = record { last = newest_time ts; count = shown_count (epochs_in ts) }
+epochs_so_far ts = record { first = oldest_time ts; last = newest_time ts; count = shown_count (epochs_in ts) }
 
 -- ---- the MSM of a station
 

@@ -91,10 +91,7 @@ fn put_week(lines: &mut Vec<u8>, week: u64, count: u64) -> Result<(), AllocError
 }
 
 /// Appends a line for each week that has a count.
-pub(crate) fn put_weeks(
-    lines: &mut Vec<u8>,
-    weeks: &BTreeMap<u16, u64>,
-) -> Result<(), AllocError>
+pub(crate) fn put_weeks(lines: &mut Vec<u8>, weeks: &BTreeMap<u16, u64>) -> Result<(), AllocError>
     ensures { (ds : List DateMessage) → CountsWeeks weeks.now ds → OnOk result (lines.new.items ≡ lines.old.items ++ weeks_text ds) }
 {
     for week in 0..WEEKS {

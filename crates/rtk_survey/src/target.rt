@@ -147,7 +147,13 @@ impl TargetSurvey {
             → IsTargetOf q (read_frame payload (Ok message.now) ∷ fs) self.new) }
     {
         take_message(&mut self.dates, self.present, message, entries);
-        take_phases(alloc, &mut self.phases, self.dates.station, message, entries)
+        take_phases(
+            alloc,
+            &mut self.phases,
+            self.dates.station,
+            message,
+            entries,
+        )
     }
 
     // A frame more that is no message.
