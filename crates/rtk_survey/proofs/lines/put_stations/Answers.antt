@@ -13,7 +13,7 @@ use Rattle.rtk_survey.proofs.lines.put_stations.Goals as goal
 pub loop-number-preserved : goal.loop-number-preserved
 loop-number-preserved c = λ ms ds es all.
     let name : List ℕ = c.args.name.now in
-    let n : ℕ = c.loop-number.number in
+    let n : ℕ = c.loop-number.number-counter in
     let lines : ℕ → List ℕ = λ s. lines_if_any name s (messages_from s ms) (station_dates s ds) (equipment_of s es) in
     put-more lines 0 n n c.args.lines.now.items c.loop-number.lines.items c.put_station_if_any.new.lines.items
     (omega arith) (c.loop-number.invariant ms ds es all)
@@ -23,6 +23,6 @@ loop-number-preserved c = λ ms ds es all.
 pub returns : goal.returns
 unfolding stations_text all_numbers
 returns c = λ ms ds es all.
-    let end : c.loop-number.number ≡ 4096 = omega (arith, c.loop-number.auto.number-end, c.loop-number-test.false) in
+    let end : c.loop-number.number-counter ≡ 4096 = omega (arith, c.loop-number.auto.number-counter-end, c.loop-number-test.false) in
     c.loop-number.invariant ms ds es all
     ∙ ap (λ (k : ℕ). c.args.lines.now.items ++ flat_map (λ s. lines_if_any c.args.name.now s (messages_from s ms) (station_dates s ds) (equipment_of s es)) (range_with_len 0 k)) end

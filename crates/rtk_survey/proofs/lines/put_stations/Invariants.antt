@@ -14,4 +14,4 @@ use Rattle.rtk_survey.proofs.lines.put_stations.Given as goal
 abbrev pub invariant-loop-number : goal.invariant-loop-number
 invariant-loop-number l =
     (ms : List AnyMessage) (ds : List DateMessage) (es : List EquipmentMessage) → AreStations ms ds es l.stations
-    → l.lines.items ≡ l.fn.lines.items ++ flat_map (λ s. lines_if_any l.name s (messages_from s ms) (station_dates s ds) (equipment_of s es)) (range_with_len 0 l.number)
+    → l.lines.items ≡ l.fn.lines.items ++ flat_map (λ s. lines_if_any l.name s (messages_from s ms) (station_dates s ds) (equipment_of s es)) (range_with_len 0 l.number-counter)

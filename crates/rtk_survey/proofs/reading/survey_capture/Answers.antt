@@ -1,4 +1,4 @@
-use Rattle.std.proofs.Common.{◌≡◌, ◌+◌, ◌++◌, ℕ, List, length, take, refl, sym, ap, subst, ◌∙◌, arith}
+use Rattle.std.proofs.Common.{◌≡◌, ◌+◌, ◌++◌, ℕ, List, Ok, length, take, refl, sym, ap, subst, ◌∙◌, arith}
 use Rattle.rtk_frame.specs.Frames.{final_frames, payloads, pending}
 use Rattle.rtk_frame.specs.ScannerView.{ScannerView}
 use Rattle.rtk_frame.specs.Stream.{with_more}
@@ -63,3 +63,9 @@ returns-in_default-read-clause-read_failed g c = λ is_read.
 
 pub returns-clause-endless : goal.returns-clause-endless
 returns-clause-endless g c = λ is_endless. omega (arith, c.reads.invariant.made, c.reads-test.false, c.reads.auto._made-end)
+
+pub returns-then-count-eq0-clause-to_the_end : goal.returns-then-count-eq0-clause-to_the_end
+returns-then-count-eq0-clause-to_the_end g c =
+    let all = ap (λ (xs : List ℕ). length xs) c.as_mut_slice.ensures.value in
+    let room = c.reads.invariant.room in
+    c.in-Ok-read.ensures.at_end (omega (arith, all, room)) (ap Ok c.if-count-eq0.true)
