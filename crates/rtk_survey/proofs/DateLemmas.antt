@@ -14,6 +14,7 @@ use Rattle.rtk_survey.specs.declared.date_message.EphemerisDate.{EphemerisDate}
 use Rattle.rtk_survey.specs.declared.date_message.UtcDate.{UtcDate}
 use Rattle.rtk_survey.specs.declared.station_dates.DateCount.{DateCount}
 use Rattle.rtk_survey.specs.declared.station_dates.StationDates.{StationDates}
+use Rattle.rtk_survey.proofs.TallyLemmas.{tally-more}
 
 -- ---- counts
 
@@ -101,9 +102,9 @@ same-dates-without station e ds = same-dates station (Ephemeris e) ds refl refl
 
 -- ---- weeks
 
-pub weeks-more : (old new : BTreeMap ℕ ℕ) (e : EphemerisDate) (ds : List DateMessage)
-    → ((n : ℕ) → count_at new n ≡ shown_count (count_at old n + one_if (e.week == n))) → CountsWeeks old ds → CountsWeeks new (Ephemeris e ∷ ds)
-weeks-more old new e ds counted stand = λ n. count-more (is_of_week n) (Ephemeris e) ds (count_at old n) (count_at new n) (stand n) (counted n)
+pub weeks-more : (old new : BTreeMap ℕ ℕ) (e : EphemerisDate) (ds : List DateMessage) → count_at new e.week ≡ shown_count (count_at old e.week + 1)
+    → ((n : ℕ) → n ≢ e.week → count_at new n ≡ count_at old n) → CountsWeeks old ds → CountsWeeks new (Ephemeris e ∷ ds)
+weeks-more old new e ds own others counts = tally-more (λ n d. is_of_week n d) (Ephemeris e) ds old new e.week (λ n. refl) own others counts
 
 pub weeks-same : (weeks : BTreeMap ℕ ℕ) (d : UtcDate) (ds : List DateMessage) → CountsWeeks weeks ds → CountsWeeks weeks (Utc d ∷ ds)
 weeks-same weeks d ds stand = λ n. stand n ∙ sym (count-other (is_of_week n) (Utc d) ds refl)

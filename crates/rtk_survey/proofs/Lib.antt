@@ -3,6 +3,7 @@ pub mod BitLemmas
 pub mod CountingLemmas
 pub mod CutLemmas
 pub mod DateLemmas
+pub mod FaultLemmas
 pub mod FourLemmas
 pub mod FrameLemmas
 pub mod FreshLemmas
@@ -21,4 +22,5 @@ pub mod ResultLemmas
 pub mod SignalLemmas
 pub mod StationLemmas
 pub mod SummaryTellingLemmas
+pub mod TallyLemmas
 pub mod TargetLemmas

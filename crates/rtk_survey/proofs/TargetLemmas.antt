@@ -8,11 +8,13 @@ use Rattle.rtk_message.specs.declared.any_message.AnyMessage.TheVariants as any
 use Rattle.rtk_message.specs.declared.message.Message.TheVariants.{Obs1004, Arp1005, Arp1006, Msm1074}
 use Rattle.rtk_message.specs.AnyDecoded.{station_of, tow_of}
 use Rattle.rtk_obs.specs.declared.cell.CellEntry.{CellEntry}
-use Rattle.rtk_survey.specs.ReadFrames.{messages_from, is_of_station}
+use Rattle.rtk_survey.specs.ReadFrames.{ReadFrame, messages_from, is_of_station}
 use Rattle.rtk_survey.specs.Tracing.{is_numbered, entries_in, entries_of_message}
-use Rattle.rtk_survey.specs.Targets.{observes, station_at, station_after, HasTargetPhases, with_time_of, with_observation, with_date_if_any}
+use Rattle.rtk_survey.specs.Targets.{IsAnswer, IsTargetOf, observes, station_at, station_after, HasTargetPhases, with_time_of, with_observation, with_date_if_any}
 use Rattle.rtk_survey.specs.Phases.{entries_numbered, CountsPhases, HasPhases}
+use Rattle.rtk_survey.specs.declared.target.Target.{Target}
 use Rattle.rtk_survey.specs.declared.target.TargetDates.{TargetDates}
+use Rattle.rtk_survey.specs.declared.target.TargetSurvey.{TargetSurvey}
 use Rattle.rtk_survey.specs.declared.phases.PhaseCount.{PhaseCount}
 use Rattle.rtk_survey.specs.declared.phases.Phases.{Phases}
 use Rattle.rtk_survey.proofs.PhaseLemmas.{valueless}
@@ -132,3 +134,14 @@ station-of-date now d (Some m) = refl
 pub no-phases : (p : Phases) (station : Option ℕ) → HasPhases p [] → HasTargetPhases p station []
 no-phases p None stand = λ n. stand
 no-phases p (Some n) stand = stand
+
+-- ---- a frame more, if the station is asked for
+
+pub answer-more : (q : Option Target) (fs more : List ReadFrame) (old new : TargetSurvey) → ((t : Target) → IsTargetOf t fs old → IsTargetOf t more new)
+    → IsAnswer q fs (Some old) → IsAnswer q more (Some new)
+answer-more None fs more old new step is = cc
+answer-more (Some t) fs more old new step is = step t is
+
+pub answer-none : (q : Option Target) (fs more : List ReadFrame) → IsAnswer q fs None → IsAnswer q more None
+answer-none None fs more is = is
+answer-none (Some t) fs more is = is

@@ -46,7 +46,8 @@ fn place_in_table(satellite: u8, code: Code) -> usize
 impl PhaseCount {
     /// Nothing came.
     pub fn nothing() -> PhaseCount
-        ensures { (n : ℕ) → result ≡ spec.phase_count n [] }
+        ensures counts { (n : ℕ) → result ≡ spec.phase_count n [] }
+        ensures none { result ≡ spec.no_phases }
     {
         PhaseCount {
             has_value: false,
@@ -164,9 +165,5 @@ pub fn count_in_table(table: &[PhaseCount], satellite: u8, code: Code) -> PhaseC
     ensures { result ≡ spec.count_in table.now satellite code }
 {
     let place = place_in_table(satellite, code);
-    if place < table.len() {
-        table[place]
-    } else {
-        PhaseCount::nothing()
-    }
+    table.get(place).copied().unwrap_or(PhaseCount::nothing())
 }

@@ -1,9 +1,9 @@
 //! The payloads that are not read, by fault and message number.
 
-ghost use Rattle.std.specs.Prelude.{◌≡◌, ◌+◌, ◌==◌, ℕ, List, [], ◌∷◌, OnOk};
+ghost use Rattle.std.specs.Prelude.{◌≡◌, ◌≢◌, ◌+◌, ℕ, List, [], ◌∷◌, OnOk};
 ghost use Rattle.rtk_message.specs.declared.any_fault.AnyFault.{AnyFault};
 ghost use Rattle.rtk_survey.specs.Counting.{shown_count};
-ghost use Rattle.rtk_survey.specs.Contents.{CountsFaults, count_at, one_if};
+ghost use Rattle.rtk_survey.specs.Contents.{CountsFaults, count_at};
 
 use rtk_message::AnyFault;
 use std::alloc::{AllocError, Global};
@@ -28,7 +28,8 @@ pub fn count_of_number(counts: &BTreeMap<u16, u64>, number: u16) -> u64
 
 /// Counts one more of this number.
 pub(crate) fn count_number(counts: &mut BTreeMap<u16, u64>, number: u16) -> Result<(), AllocError>
-    ensures { OnOk result ((n : ℕ) → count_at counts.new n ≡ shown_count (count_at counts.old n + one_if (number == n))) }
+    ensures own { OnOk result (count_at counts.new number ≡ shown_count (count_at counts.old number + 1)) }
+    ensures others { OnOk result ((n : ℕ) → n ≢ number → count_at counts.new n ≡ count_at counts.old n) }
 {
     let count = counts.entry(number)?.or_insert(0);
     *count = count.saturating_add(1);

@@ -8,8 +8,8 @@ use Rattle.rtk_survey.proofs.PhaseLemmas.{is-there}
 use Rattle.rtk_survey.proofs.TargetLemmas.{numbered, not-numbered}
 use Rattle.rtk_survey.proofs.phases.take_numbered.Goals as goal
 
-pub returns-then-number : goal.returns-then-number
-returns-then-number c = λ ms counts.
+pub returns-in_ok-make_table : goal.returns-in_ok-make_table
+returns-in_ok-make_table c = λ ms counts.
     let number = c.args.number in
     let same : number_of c.args.message.now ≡ number = omega (arith, c.number.ensures, c.if-number.true) in
     let holds : is_numbered number c.args.message.now ≡ true = eq-eqb (number_of c.args.message.now) number same in

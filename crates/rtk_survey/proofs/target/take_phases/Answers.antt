@@ -12,8 +12,8 @@ returns-then-station c = on-ok c.take_message.result (λ took before ms is has.
     subst (λ (o : Option ℕ). HasTargetPhases c.take_message.new.self o (m ∷ ms)) (sym c.in-Some.is)
     (taken c.args.phases.now c.take_message.new.self before m ms c.in-Some.station (sym c.in-Some.is ∙ is) same took has)) c.take_message.ensures
 
-pub returns-else-station : goal.returns-else-station
-returns-else-station c = λ before ms is has.
+pub returns : goal.returns
+returns c = λ before ms is has.
     let m = c.args.message.now in
     subst (λ (o : Option ℕ). HasTargetPhases c.args.phases.now o (m ∷ ms)) (sym c.in-Some.is)
     (passed c.args.phases.now before m ms c.in-Some.station (sym c.in-Some.is ∙ is) (λ same. omega (arith, same, c.station.ensures, c.if-station.false)) has)
