@@ -1,6 +1,6 @@
 //! The lines of a summary.
 
-ghost use Rattle.std.specs.Prelude.{◌≡◌, ◌++◌, ◌==◌, ◌&&◌, not, List, ℕ, Option, length, IfOk, OnOk};
+ghost use Rattle.std.specs.Prelude.{◌≡◌, ◌++◌, ◌==◌, ◌&&◌, not, List, ℕ, Option, None, length, IfOk, OnOk};
 ghost use Rattle.std.specs.BTreeMap.{get};
 ghost use Rattle.std.specs.Option.{option_copied};
 ghost use Rattle.rtk_message.specs.declared.any_message.AnyMessage.{AnyMessage};
@@ -250,7 +250,7 @@ pub(crate) fn summary_lines(
     name: &[u8],
     survey: &CaptureSurvey,
 ) -> Result<Vec<u8>, AllocError>
-    ensures { (q : Option Target) (bytes : List ℕ) (fs : List ReadFrame) → IsSurveyOf q bytes fs survey.now
+    ensures { (bytes : List ℕ) (fs : List ReadFrame) → IsSurveyOf None bytes fs survey.now
         → IfOk result (λ lines. lines.items ≡ summary_text name.now bytes fs) }
 {
     let contents = &survey.contents;

@@ -1,4 +1,4 @@
-use Rattle.std.proofs.Common.{append_assoc, length}
+use Rattle.std.proofs.Common.{None, append_assoc, length}
 use Rattle.rtk_survey.specs.FrameDates.{dates_in}
 use Rattle.rtk_survey.specs.FrameEquipment.{equipment_among}
 use Rattle.rtk_survey.specs.ReadFrames.{messages_in, faults_in}
@@ -8,7 +8,7 @@ use Rattle.rtk_survey.proofs.lines.summary_lines.Goals as goal
 
 pub returns : goal.returns
 unfolding summary_text
-returns c = λ q bytes fs is.
+returns c = λ bytes fs is.
     let ms = messages_in fs in
     let ds = dates_in fs in
     let es = equipment_among fs in
@@ -24,6 +24,6 @@ returns c = λ q bytes fs is.
       c.in_ok-put_look.ensures,
       is.look,
       look-lines-are (length fs) bytes,
-      c.in_ok-put_sizes.ensures q (length bytes) fs is.size held,
+      c.in_ok-put_sizes.ensures None (length bytes) fs is.size held,
       c.new-lines.ensures.items,
     ) (simp append_assoc)

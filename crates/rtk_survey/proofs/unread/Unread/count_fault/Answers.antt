@@ -11,16 +11,16 @@ returns-in-Other c = both-ok c.count_number.result (λ own others fs had.
     (other-more c.args.self.now fs c.in-Other.number c.count_number.new.counts (own, others) had)) c.count_number.ensures.own c.count_number.ensures.others
 
 pub returns-in-Short : goal.returns-in-Short
-returns-in-Short c = both-ok c.count_number-2.result (λ own others fs had.
-    subst (λ (f : AnyFault). CountsFaults (record c.args.self.now { short = c.count_number-2.new.counts }) (f ∷ fs)) (sym c.in-Short.is)
-    (short-more c.args.self.now fs c.in-Short.number c.count_number-2.new.counts (own, others) had)) c.count_number-2.ensures.own c.count_number-2.ensures.others
+returns-in-Short c = both-ok c.count_number-in-Short.result (λ own others fs had.
+    subst (λ (f : AnyFault). CountsFaults (record c.args.self.now { short = c.count_number-in-Short.new.counts }) (f ∷ fs)) (sym c.in-Short.is)
+    (short-more c.args.self.now fs c.in-Short.number c.count_number-in-Short.new.counts (own, others) had)) c.count_number-in-Short.ensures.own c.count_number-in-Short.ensures.others
 
 pub returns-in-EpochRange : goal.returns-in-EpochRange
-returns-in-EpochRange c = both-ok c.count_number-3.result (λ own others fs had.
-    subst (λ (f : AnyFault). CountsFaults (record c.args.self.now { outside_week = c.count_number-3.new.counts }) (f ∷ fs)) (sym c.in-EpochRange.is)
-    (outside-more c.args.self.now fs c.in-EpochRange.number c.count_number-3.new.counts (own, others) had)) c.count_number-3.ensures.own c.count_number-3.ensures.others
+returns-in-EpochRange c = both-ok c.count_number-in-EpochRange.result (λ own others fs had.
+    subst (λ (f : AnyFault). CountsFaults (record c.args.self.now { outside_week = c.count_number-in-EpochRange.new.counts }) (f ∷ fs)) (sym c.in-EpochRange.is)
+    (outside-more c.args.self.now fs c.in-EpochRange.number c.count_number-in-EpochRange.new.counts (own, others) had)) c.count_number-in-EpochRange.ensures.own c.count_number-in-EpochRange.ensures.others
 
 pub returns-in-TooManyCells : goal.returns-in-TooManyCells
-returns-in-TooManyCells c = both-ok c.count_number-4.result (λ own others fs had.
-    subst (λ (f : AnyFault). CountsFaults (record c.args.self.now { too_many_cells = c.count_number-4.new.counts }) (f ∷ fs)) (sym c.in-TooManyCells.is)
-    (cells-more c.args.self.now fs c.in-TooManyCells.number c.count_number-4.new.counts (own, others) had)) c.count_number-4.ensures.own c.count_number-4.ensures.others
+returns-in-TooManyCells c = both-ok c.count_number-in-TooManyCells.result (λ own others fs had.
+    subst (λ (f : AnyFault). CountsFaults (record c.args.self.now { too_many_cells = c.count_number-in-TooManyCells.new.counts }) (f ∷ fs)) (sym c.in-TooManyCells.is)
+    (cells-more c.args.self.now fs c.in-TooManyCells.number c.count_number-in-TooManyCells.new.counts (own, others) had)) c.count_number-in-TooManyCells.ensures.own c.count_number-in-TooManyCells.ensures.others
