@@ -45,7 +45,7 @@ for width in 40 400; do
     { echo 'marker BASE'; sed 1d out | cut -c 1-$width; } >want # no line is longer
     leaves chart_${width}_wide 0 want /dev/null
 done
-# pins: IsWidth, IsWidthOrNone
+# pins: IsWidth
 for width in 39 401; do
     chart --text --columns $width "$marks"
     expect chart_${width}_wide 2 '' "$(error "invalid value '$width' for '--columns <N>': $width is not in 40..=400")"

@@ -24,7 +24,7 @@ helps() {
     name=$1
     shift
     "$program" help "$@" >help
-    # pins: HasClapStatus, IsWordsFault
+    # pins: IsWordsFault
     run "$@" --help; leaves "help_by_an_option_$name" 0 help /dev/null
     run help "$@";   leaves "help_by_its_name_$name" 0 help /dev/null
     run "$@" -h; brief out >short; brief help >want; mv short out

@@ -33,7 +33,7 @@ all() {
         --receiver-number 496710 --receiver-type 'LEICA GRX1200+GNSS' --receiver-version 9.20 --antenna-number 309 \
         --antenna-type 'AOAD/M_T        NONE' --delta-height +1.5000 --delta-east -0.0125 --delta-north +0.0030
 }
-# pins: labelled_header, top_lines, middle_lines, marker_number_line, offset_columns, height_columns, said_label
+# pins: labelled_header, top_lines, middle_lines, marker_number_line, offset_columns, height_columns
 all "$file"; leaves every_field 0 want /dev/null
 cp out labelled
 all labelled; leaves again 0 labelled /dev/null

@@ -80,7 +80,7 @@ run show --hex frames.hex; leaves longest_hex_of_frames 0 hex_lines /dev/null
 echo >>frames.hex
 run show --hex frames.hex; expect hex_of_frames_too_long 1 '' 'rtcm2rinex: input too long'
 
-# pins: HasClapStatus, IsWordsFault
+# pins: IsWordsFault
 # refuses: a `main` that does not answer the status of `run_program`
 run --version; expect version 0 'rtcm2rinex 0.4.0' ''
 run -V;        expect version_in_short 0 'rtcm2rinex 0.4.0' ''

@@ -1,3 +1,5 @@
+mod CodeListLemmas
+mod HeadLemmas
 mod PutLemmas
 mod ToldLabelLemmas
 mod WalkLemmas

@@ -4,8 +4,12 @@ use Rattle.std.specs.List.{list_any}
 use Rattle.std.specs.Option.{option_map_or}
 use Rattle.rtk_obs.specs.Dating.{IsReference}
 use Rattle.rtk_obs.specs.declared.time.TheConstants.{LAST_MS}
+<<<<<<< e989e6f8
 use Rattle.rtk_rinex.specs.Header.{HeadView, IsHeadView}
 use Rattle.rtk_survey.specs.ReadFrames.{ReadFrame}
+=======
+use Rattle.rtk_summary.specs.ReadFrames.{ReadFrame}
+>>>>>>> ad25a641
 use Rattle.rtk_summary.specs.Standing.{StandsForFrames}
 use Rattle.rtk_survey.specs.Placing.{second_of}
 use Rattle.rtk_survey.specs.Telling.{half_week_ms}
@@ -19,7 +23,7 @@ use Rattle.rtk_find.specs.declared.dating.Base.{Base}
 use Rattle.rtk_find.specs.declared.finding.Findings.{Findings}
 use Rattle.rtk_auto.specs.Kept.{empty_captures}
 use Rattle.rtk_auto.specs.Linking.{AreLinksOf}
-use Rattle.rtk_auto.specs.Plan.{IsChosenStation, msm_chosen, codes_chosen, marker_chosen, IsBaseOf, IsReachOf, some_out_of_reach}
+use Rattle.rtk_auto.specs.Plan.{IsChosenStation, msm_chosen, codes_chosen, IsBaseOf, IsReachOf, some_out_of_reach}
 use Rattle.rtk_auto.specs.Positions.{some_are_far}
 use Rattle.rtk_auto.specs.declared.refusal.PlanFault.{PlanFault}
 use Rattle.rtk_auto.specs.declared.refusal.PlanFault.TheVariants.{Refused, OutOfMemory}
@@ -98,22 +102,16 @@ IsDatingCause given cs refusal = (base : Base) × IsBaseOf given cs base × IsRe
 
 -- ---- the values of the conversion of a station
 
--- the head of the file of these frames
-abbrev pub head_chosen : Wanted → ℕ → ℕ → List ReadFrame → HeadView
-head_chosen w made station fs = record {
-  marker = marker_chosen w.marker station;
-  listed = codes_chosen w.codes fs station (msm_chosen w.msm fs station);
-  made = made;
-}
+-- no codes are named, and none is found
+abbrev pub HasNoCode : Findings → Wanted → ℕ → Type 0
+HasNoCode f w station =
+    (w.codes ≡ None)
+    × ((fs : List ReadFrame) → StandsForFrames f.summary fs → codes_chosen w.codes fs station (msm_chosen w.msm fs station) ≡ [])
 
--- no code is found; or the words name a bad marker or bad codes, or the time of making is no whole second
-abbrev pub HasBadHead : Findings → Wanted → ℕ → ℕ → Type 0
-HasBadHead f w made station = (fs : List ReadFrame) → StandsForFrames f.summary fs → ¬ (IsHeadView (head_chosen w made station fs))
-
-abbrev pub IsSetupCause : Findings → Wanted → ℕ → ℕ → ℕ → Refusal → Type 0
-IsSetupCause f w made station near NoCode = HasBadHead f w made station
-IsSetupCause f w made station near OutsideDates = ¬ (IsReference near)
-IsSetupCause f w made station near other = ⊥
+abbrev pub IsSetupCause : Findings → Wanted → ℕ → ℕ → Refusal → Type 0
+IsSetupCause f w station near NoCode = HasNoCode f w station
+IsSetupCause f w station near OutsideDates = ¬ (IsReference near)
+IsSetupCause f w station near other = ⊥
 
 -- ---- the links
 
@@ -127,24 +125,24 @@ HasTooManyLinks f w as_given =
     (station : ℕ) × IsChosenStation f.observing.items w.station station
     × ((links : List (List ℕ)) × AreLinksOf as_given w.near station f.captures.items links × (16 < length links))
 
--- why there is no plan of a conversion of the captures in which this was found, by these words and at
--- this time of making; captures that have nothing of the station are left out or not, and links are as
+-- why there is no plan of a conversion of the captures in which this was found, by these words;
+-- captures that have nothing of the station are left out or not, and links are as
 -- given or found
-abbrev pub IsCauseOf : Findings → Wanted → ℕ → Bool → Bool → Refusal → Type 0
-IsCauseOf f w made skip_empty as_given NoFrame = (fs : List ReadFrame) → StandsForFrames f.summary fs → fs ≡ []
-IsCauseOf f w made skip_empty as_given NoObservation =
+abbrev pub IsCauseOf : Findings → Wanted → Bool → Bool → Refusal → Type 0
+IsCauseOf f w skip_empty as_given NoFrame = (fs : List ReadFrame) → StandsForFrames f.summary fs → fs ≡ []
+IsCauseOf f w skip_empty as_given NoObservation =
     IsStationCause f.observing.items w.station NoObservation ⊎ IsDatingCause w.near f.captures.items NoObservation
-IsCauseOf f w made skip_empty as_given (NoStation station) = IsStationCause f.observing.items w.station (NoStation station)
-IsCauseOf f w made skip_empty as_given SeveralStations = IsStationCause f.observing.items w.station SeveralStations
-IsCauseOf f w made skip_empty as_given (Empty station) =
+IsCauseOf f w skip_empty as_given (NoStation station) = IsStationCause f.observing.items w.station (NoStation station)
+IsCauseOf f w skip_empty as_given SeveralStations = IsStationCause f.observing.items w.station SeveralStations
+IsCauseOf f w skip_empty as_given (Empty station) =
     IsChosenStation f.observing.items w.station station × IsEmptyCause station f.captures.items skip_empty (Empty station)
-IsCauseOf f w made skip_empty as_given DatesDiffer = IsDatingCause w.near f.captures.items DatesDiffer
-IsCauseOf f w made skip_empty as_given OutsideDates = IsDatingCause w.near f.captures.items OutsideDates
-IsCauseOf f w made skip_empty as_given NoDate = IsDatingCause w.near f.captures.items NoDate
-IsCauseOf f w made skip_empty as_given TooLong = IsDatingCause w.near f.captures.items TooLong
-IsCauseOf f w made skip_empty as_given NoCode =
-    (station : ℕ) × IsChosenStation f.observing.items w.station station × HasBadHead f w made station
-IsCauseOf f w made skip_empty as_given TooManyLinks = HasTooManyLinks f w as_given
-IsCauseOf f w made skip_empty as_given PositionsDiffer =
+IsCauseOf f w skip_empty as_given DatesDiffer = IsDatingCause w.near f.captures.items DatesDiffer
+IsCauseOf f w skip_empty as_given OutsideDates = IsDatingCause w.near f.captures.items OutsideDates
+IsCauseOf f w skip_empty as_given NoDate = IsDatingCause w.near f.captures.items NoDate
+IsCauseOf f w skip_empty as_given TooLong = IsDatingCause w.near f.captures.items TooLong
+IsCauseOf f w skip_empty as_given NoCode =
+    (station : ℕ) × IsChosenStation f.observing.items w.station station × HasNoCode f w station
+IsCauseOf f w skip_empty as_given TooManyLinks = HasTooManyLinks f w as_given
+IsCauseOf f w skip_empty as_given PositionsDiffer =
     (as_given ≡ false)
     × ((station : ℕ) × IsChosenStation f.observing.items w.station station × (some_are_far station f.captures.items ≡ true))

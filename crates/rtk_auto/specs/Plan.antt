@@ -1,6 +1,5 @@
 -- What a conversion is told, by what was found and what words say (this project's rule).
 use Rattle.std.specs.Prelude.{◌≡◌, ℕ, Bool, false, ◌||◌, List, [], ◌∷◌, filter, map, Option, None, Some}
-use Rattle.std.specs.Borrow.{Bor}
 use Rattle.std.specs.declared.vec.Vec.{Vec}
 use Rattle.rtk_message.specs.declared.msm_kind.MsmKind.{MsmKind}
 use Rattle.rtk_obs.specs.declared.code.Code.{Code}
@@ -38,9 +37,9 @@ codes_chosen (Some named) fs station msm = named.items
 
 -- formula
 -- the marker that is named; else the station's number in four digits
-abbrev pub marker_chosen : Option (Bor (List ℕ)) → ℕ → List ℕ
+abbrev pub marker_chosen : Option (List ℕ) → ℕ → List ℕ
 marker_chosen None station = last_digits 4 station
-marker_chosen (Some named) station = named.now
+marker_chosen (Some named) station = named
 
 -- the moment near which captures are dated: the one that is given; else the least first epoch that they tell
 abbrev pub IsBaseOf : Option ℕ → List CaptureFound → Base → Type 0

@@ -12,6 +12,11 @@ ghost use Rattle.rtk_survey.specs.declared.placing.Placed.{Placed};
 use crate::captured::Captured;
 use crate::refusal::{PlanFault, Refusal, refused};
 use crate::span_line::{DateSource, DatedSpan};
+<<<<<<< e989e6f8
+=======
+use rtk_convert::Reference;
+use rtk_dates::{DateMessage, Placed};
+>>>>>>> ad25a641
 use rtk_find::{
     Base, CaptureFound, is_out_of_reach, least_told, near_of, place_captures, reach_of,
 };
@@ -103,13 +108,13 @@ fn base(
     alloc: Global,
     captured: &Captured<'_, '_, '_>,
     captures: &[CaptureFound],
-    near: Option<GpsMs>,
+    near: Option<Reference>,
 ) -> Result<Base, PlanFault>
     ensures base { IfOk result (IsBaseOf near captures.now) }
     ensures refused { IfErr result (IfRefused (IsDatingCause near captures.now)) }
 {
     if let Some(near) = near {
-        return Ok(Base::Given(near));
+        return Ok(Base::Given(near.moment()));
     }
     if have_differing_dates(captures) {
         return refused(Refusal::DatesDiffer, captured.list_dates(alloc)?);
@@ -203,7 +208,7 @@ fn dating_by(
 pub(crate) fn date_captures(
     alloc: Global,
     captured: &Captured<'_, '_, '_>,
-    near: Option<GpsMs>,
+    near: Option<Reference>,
     station: u16,
 ) -> Result<Dating, PlanFault>
     ensures near { IfOk result (λ d. IsNearOf near captured.now.findings.now.captures.items d.near) }

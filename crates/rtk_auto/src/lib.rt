@@ -5,6 +5,7 @@
 //! use rtk_convert::Window;
 //! use rtk_find::Findings;
 //! use rtk_obs::GpsMs;
+//! use rtk_rinex::CreationTime;
 //! use std::alloc::{AllocError, Global};
 //!
 //! // Captures without a frame have no plan.
@@ -12,7 +13,7 @@
 //!     let Some(now) = GpsMs::new(1_394_668_800_000) else {
 //!         return Ok(false);
 //!     };
-//!     let Ok(window) = Window::new(64) else {
+//!     let (Ok(made), Ok(window)) = (CreationTime::new(now), Window::new(64)) else {
 //!         return Ok(false);
 //!     };
 //!     let captured = Captured {
@@ -28,7 +29,7 @@
 //!         marker: None,
 //!         window,
 //!     };
-//!     match plan_of(alloc, &captured, &wanted, now, false, false) {
+//!     match plan_of(alloc, &captured, &wanted, made, false, false) {
 //!         Err(PlanFault::Refused { refusal, .. }) => Ok(refusal == Refusal::NoFrame),
 //!         _ => Ok(false),
 //!     }
@@ -39,6 +40,7 @@
 #![tactic(auto)]
 
 mod captured;
+mod code_list;
 mod count_lines;
 mod dating;
 mod kept;
@@ -55,6 +57,7 @@ mod told_label;
 mod wanted;
 
 pub use captured::Captured;
+pub use code_list::is_code_list;
 pub use count_lines::put_counts;
 pub use known_lines::{Known, put_known, what_is_known};
 pub use label_command::put_label_command;

@@ -1,9 +1,15 @@
 //! What a conversion of captures is told, from what they tell and what words say.
 
-ghost use Rattle.std.specs.Prelude.{◌≡◌, ◌<◌, ◌≤◌, ℕ, List, Some, [], true, false, length, IfOk, IfErr, IsOk};
+ghost use Rattle.std.specs.Prelude.{◌≡◌, ◌<◌, ◌≤◌, ℕ, List, None, Some, [], true, false, length, IfOk, IfErr, IsOk};
+ghost use Rattle.std.specs.Option.{ForSome};
 ghost use Rattle.rtk_obs.specs.CivilText.{last_digits};
+<<<<<<< e989e6f8
 ghost use Rattle.rtk_rinex.specs.Header.{IsHeadView};
 ghost use Rattle.rtk_survey.specs.ReadFrames.{ReadFrame};
+=======
+ghost use Rattle.rtk_rinex.specs.Header.{IsCodeList};
+ghost use Rattle.rtk_summary.specs.ReadFrames.{ReadFrame};
+>>>>>>> ad25a641
 ghost use Rattle.rtk_summary.specs.Standing.{StandsForFrames};
 ghost use Rattle.rtk_find.specs.Captures.{StandsForCaptures};
 ghost use Rattle.rtk_find.specs.ChosenStation.{IsMarked};
@@ -25,7 +31,7 @@ use rtk_convert::{Reference, Setup, Station};
 use rtk_find::{StationFound, only_station};
 use rtk_message::MsmKind;
 use rtk_obs::{Code, GpsMs};
-use rtk_rinex::Head;
+use rtk_rinex::{CreationTime, Head, Marker};
 use rtk_summary::Summary;
 use std::alloc::Global;
 
@@ -76,7 +82,7 @@ fn named_station(
 fn station_to_convert(
     alloc: Global,
     captured: &Captured<'_, '_, '_>,
-    named: Option<u16>,
+    named: Option<Station>,
 ) -> Result<u16, PlanFault>
     requires { length captured.now.findings.now.observing.items ≡ 4096 }
     ensures chosen { IfOk result (IsChosenStation captured.now.findings.now.observing.items named) }
@@ -84,7 +90,7 @@ fn station_to_convert(
     ensures refused { IfErr result (IfRefused (IsStationCause captured.now.findings.now.observing.items named)) }
 {
     if let Some(station) = named {
-        return named_station(alloc, captured, station);
+        return named_station(alloc, captured, station.number());
     }
     match only_station(captured.findings.observing.as_slice()) {
         StationFound::One(station) => Ok(station),
@@ -124,10 +130,13 @@ fn codes_to_convert(
     msm: MsmKind,
     wanted: &Option<Vec<Code>>,
 ) -> Result<Vec<Code>, PlanFault>
-    requires { station < 4096 }
+    requires bound { station < 4096 }
+    requires named { ForSome wanted.now (λ codes. IsCodeList codes.items) }
+    requires stands { (fs : List ReadFrame) × StandsForFrames captured.now.findings.now.summary fs }
     ensures codes { (fs : List ReadFrame) → StandsForFrames captured.now.findings.now.summary fs
         → IfOk result (λ codes. codes.items ≡ codes_chosen wanted.now fs station msm) }
-    ensures refused { IfErr result (IfRefused (λ refusal. (refusal ≡ Refusal.NoCode)
+    ensures good { IfOk result (λ codes. IsCodeList codes.items) }
+    ensures refused { IfErr result (IfRefused (λ refusal. (refusal ≡ Refusal.NoCode) × (wanted.now ≡ None)
         × ((fs : List ReadFrame) → StandsForFrames captured.now.findings.now.summary fs → codes_chosen wanted.now fs station msm ≡ []))) }
 {
     if let Some(codes) = wanted {
@@ -141,7 +150,7 @@ fn codes_to_convert(
 }
 
 // The four digits of a station's number.
-fn marker_of(station: u16) -> [u8; 4]
+fn digits_of(station: u16) -> [u8; 4]
     ensures { result ≡ last_digits 4 station }
 {
     let digit = |number: u16| b'0' + (number % 10) as u8;
@@ -153,28 +162,23 @@ fn marker_of(station: u16) -> [u8; 4]
     ]
 }
 
-// The head of the file.
-fn head_of(
-    alloc: Global,
-    station: u16,
-    marker: Option<&str>,
-    codes: &[Code],
-    made: GpsMs,
-) -> Result<Head, PlanFault>
-    ensures good { IfOk result IsHeadView }
-    ensures head { IfOk result (λ head. head ≡ record { marker = marker_chosen marker.entry station; listed = codes.now; made = made }) }
-    ensures refused { IfErr result (IfRefused (λ refusal. (refusal ≡ Refusal.NoCode)
-        × ¬ (IsHeadView (record { marker = marker_chosen marker.entry station; listed = codes.now; made = made })))) }
+// The head of the file. If no marker is named, the station's number stands for it.
+fn head_of(station: u16, marker: &Option<Marker>, codes: &[Code], made: CreationTime) -> Head
+    requires { IsCodeList codes.now }
+    ensures { result ≡ record { marker = marker_chosen marker.now station; listed = codes.now; made = made } }
 {
-    let digits = marker_of(station);
-    let marker = match marker {
+    let digits = digits_of(station);
+    let name = match marker {
         Some(marker) => marker.as_bytes(),
         None => digits.as_slice(),
     };
-    match Head::new(marker, codes, made) {
-        Ok(head) => Ok(head),
-        Err(_fault) => refused(Refusal::NoCode, Vec::new(alloc)),
-    }
+    let Ok(marker) = Marker::new(name) else {
+        unreachable!();
+    };
+    let Ok(head) = Head::from_parts(marker, codes, made) else {
+        unreachable!();
+    };
+    head
 }
 
 // The MSM that is converted.
@@ -192,21 +196,22 @@ fn msm_to_convert(summary: &Summary, wanted: Option<MsmKind>, station: u16) -> M
 fn setup_near(
     alloc: Global,
     captured: &Captured<'_, '_, '_>,
-    wanted: &Wanted<'_>,
-    made: GpsMs,
+    wanted: &Wanted,
+    made: CreationTime,
     station: u16,
     near: GpsMs,
 ) -> Result<Setup, PlanFault>
     requires bound { station < 4096 }
+    requires stands { (fs : List ReadFrame) × StandsForFrames captured.now.findings.now.summary fs }
     requires chosen { IsChosenStation captured.now.findings.now.observing.items wanted.now.station station }
     requires near { IsNearOf wanted.now.near captured.now.findings.now.captures.items near }
     ensures setup { IfOk result (IsSetupFor captured.now.findings.now wanted.now made) }
     ensures station { IfOk result (λ setup. (setup.station ≡ station) × (setup.near ≡ near)) }
-    ensures refused { IfErr result (IfRefused (IsSetupCause captured.now.findings.now wanted.now made station near)) }
+    ensures refused { IfErr result (IfRefused (IsSetupCause captured.now.findings.now wanted.now station near)) }
 {
     let msm = msm_to_convert(&captured.findings.summary, wanted.msm, station);
     let codes = codes_to_convert(alloc, captured, station, msm, &wanted.codes)?;
-    let head = head_of(alloc, station, wanted.marker, codes.as_slice(), made)?;
+    let head = head_of(station, &wanted.marker, codes.as_slice(), made);
     let Ok(station) = Station::new(station) else {
         unreachable!();
     };
@@ -221,7 +226,7 @@ fn links_to_convert(
     alloc: Global,
     captured: &Captured<'_, '_, '_>,
     station: u16,
-    near: Option<GpsMs>,
+    near: Option<Reference>,
     dating: &Dating,
     as_given: bool,
 ) -> Result<Vec<Vec<usize>>, PlanFault>
@@ -262,8 +267,8 @@ fn agree_unless(
 pub fn plan_of(
     alloc: Global,
     captured: &Captured<'_, '_, '_>,
-    wanted: &Wanted<'_>,
-    made: GpsMs,
+    wanted: &Wanted,
+    made: CreationTime,
     skip_empty: bool,
     as_given: bool,
 ) -> Result<Plan, PlanFault>
@@ -281,7 +286,7 @@ pub fn plan_of(
     ensures none_skipped { IfOk result (λ plan. skip_empty ≡ false → plan.skipped.items ≡ []) }
 
     // A refusal comes only with its cause.
-    ensures refused { IfErr result (IfRefused (IsCauseOf captured.now.findings.now wanted.now made skip_empty as_given)) }
+    ensures refused { IfErr result (IfRefused (IsCauseOf captured.now.findings.now wanted.now skip_empty as_given)) }
 {
     if captured.findings.summary.frames() == 0 {
         return refused(Refusal::NoFrame, captured.list_all(alloc)?);

@@ -1,26 +1,27 @@
 //! What the words of `auto` say.
 
 ghost use Rattle.std.specs.Option.{ForSome};
-ghost use Rattle.rtk_convert.specs.Setup.{IsStation};
+ghost use Rattle.rtk_rinex.specs.Header.{IsCodeList};
 
-use rtk_convert::Window;
+use rtk_convert::{Reference, Station, Window};
 use rtk_message::MsmKind;
-use rtk_obs::{Code, GpsMs};
+use rtk_obs::Code;
+use rtk_rinex::Marker;
 
 /// What the words say of the values of a conversion. `None` is to be found in the captures.
 #[derive(Drop)]
-pub struct Wanted<'a> {
-    pub station: Option<u16>,
+pub struct Wanted {
+    pub station: Option<Station>,
     pub msm: Option<MsmKind>,
     pub codes: Option<Vec<Code>>,
     /// The reference near which times of week are dated.
-    pub near: Option<GpsMs>,
-    /// The marker's name; if there is none, the station's number stands for it.
-    pub marker: Option<&'a str>,
+    pub near: Option<Reference>,
+    /// The marker; if there is none, the station's number stands for it.
+    pub marker: Option<Marker>,
     /// How many epochs are kept open.
     pub window: Window,
 
-    ghost station_fits: { ForSome station IsStation },
+    ghost codes_fit: { ForSome codes (λ codes. IsCodeList codes.items) },
 }
 
 /// What the words say of the captures, of the file and of the report.

@@ -4,4 +4,3 @@ mod LinkLemmas
 mod MomentTextLemmas
 mod ReadLemmas
 mod RefusedLemmas
-mod StepLemmas

@@ -8,7 +8,7 @@ use Rattle.rtk_rinex.specs.Header.{HeadView, IsMarker, IsCodeList, IsHeadView}
 use Rattle.rtk_rinex.specs.HeadFault.{IsHeadFault}
 use Rattle.rtk_rinex.specs.declared.head_fault.HeadFault.{HeadFault}
 use Rattle.rtk_rinex.specs.declared.head_fault.HeadFault.TheVariants.{Marker as BadMarker, Codes as BadCodes, Made as BadMade}
-use Rattle.rtk_args.specs.declared.options.ConvertOptions.{ConvertOptions}
+use Rattle.rtk_cli.specs.declared.options.ConvertOptions.{ConvertOptions}
 use Rattle.rtk_cli.specs.declared.words.BadWords.{BadWords}
 use Rattle.rtk_cli.specs.declared.words.WordsFault.{WordsFault}
 use Rattle.rtk_cli.specs.declared.words.WordsFault.TheVariants.{Clap, Bad, OutOfMemory}

@@ -1,4 +1,5 @@
 -- Definitions that only private clauses use.
+pub mod ClapStatus
 pub mod CodeList
 pub mod Links
 pub mod MomentText

@@ -1,10 +1,11 @@
 -- What the words of a command line may give.
 use Rattle.std.specs.Prelude.{◌≡◌, ◌⊎◌, ℕ, ◌≤◌, Bool, nat_eq, List, length, map, count_by, codes}
 use Rattle.std.specs.Cmp.Lexicographic.{pointwise}
+use Rattle.std.specs.Option.{ForSome}
 use Rattle.rtk_convert.specs.Converter.{IsLinkCount}
 use Rattle.rtk_convert.specs.Setup.{IsStation, IsWindow}
 use Rattle.rtk_cut.specs.Cut.{IsStepOrNone}
-use Rattle.rtk_args.specs.Requests.{IsWidthOrNone}
+use Rattle.rtk_commands.specs.ChartInput.{IsWidth}
 use Rattle.rtk_cli.specs.FaultLines.{fault_line}
 use Rattle.rtk_cli.specs.declared.words.BadWords.{BadWords}
 use Rattle.rtk_cli.specs.declared.words.Job.{Job}
@@ -28,7 +29,7 @@ AreLinkNames links = IsLinkCount (length links) × (count_by is_stdin links ≤ 
 abbrev pub IsWithinLimits : Job → Type 0
 IsWithinLimits (Convert setup links) =
     IsStation setup.station × IsWindow setup.window × AreLinkNames (map (λ link. link.now) links.items)
-IsWithinLimits (Chart width file) = IsWidthOrNone width
+IsWithinLimits (Chart width file) = ForSome width IsWidth
 IsWithinLimits (Cut part file) = IsStepOrNone part.every
 IsWithinLimits _ = Unit {0}
 

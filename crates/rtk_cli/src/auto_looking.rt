@@ -5,6 +5,7 @@ ghost use Rattle.rtk_streams.specs.declared.exit_status.TheConstants.{NOT_VALID}
 
 use crate::auto_refusing::{fail_output, fail_to_find, refuse_other, refuse_twice};
 use rtk_obs::GpsMs;
+use rtk_rinex::CreationTime;
 use rtk_streams::{
     FAILED, FileIdentity, NOT_VALID, Named, PresentFault, PresentTime, REFUSED, STDIN, ToolFault,
     can_get_name, fail, present, standard_output_file, what_is_named,
@@ -100,9 +101,13 @@ pub(crate) fn look_at_files<R: Files + Eprint + AllocGlobal>(
     }
 }
 
-// The moment of this many seconds since 1970.
-fn moment_at(seconds: u64) -> Option<GpsMs> {
-    GpsMs::new(seconds.checked_sub(GPS_BEGIN_S)?.checked_mul(1000)?)
+// The time of making at this many seconds since 1970.
+fn creation_time_at(seconds: u64) -> Option<CreationTime> {
+    let moment = GpsMs::new(seconds.checked_sub(GPS_BEGIN_S)?.checked_mul(1000)?)?;
+    let Ok(made) = CreationTime::new(moment) else {
+        unreachable!();
+    };
+    Some(made)
 }
 
 // The clock has no moment that can be written.
@@ -121,16 +126,16 @@ fn fail_variable<R: Eprint>(rt: &R) -> u8
     NOT_VALID
 }
 
-// The present as a moment, if it can be written.
-fn moment_of_present<R: Eprint>(rt: &R, time: PresentTime) -> Result<GpsMs, u8>
+// The present as a time of making, if it can be written.
+fn creation_time_of_present<R: Eprint>(rt: &R, time: PresentTime) -> Result<CreationTime, u8>
     ensures { IfErr result (λ status. status ≤ NOT_VALID) }
 {
     match time {
-        PresentTime::Variable(seconds) => match moment_at(seconds) {
+        PresentTime::Variable(seconds) => match creation_time_at(seconds) {
             Some(made) => Ok(made),
             None => Err(fail_variable(rt)),
         },
-        PresentTime::Clock(seconds) => match moment_at(seconds) {
+        PresentTime::Clock(seconds) => match creation_time_at(seconds) {
             Some(made) => Ok(made),
             None => Err(fail_clock(rt)),
         },
@@ -140,15 +145,15 @@ fn moment_of_present<R: Eprint>(rt: &R, time: PresentTime) -> Result<GpsMs, u8>
 /// The moment at which the file is made: as words give it, else the present.
 pub(crate) fn made_at<R: Env + Clock + Eprint + AllocGlobal>(
     rt: &R,
-    made: Option<GpsMs>,
-) -> Result<GpsMs, u8>
+    made: Option<CreationTime>,
+) -> Result<CreationTime, u8>
     ensures { IfErr result (λ status. status ≤ NOT_VALID) }
 {
     if let Some(made) = made {
         return Ok(made);
     }
     match present(rt) {
-        Ok(time) => moment_of_present(rt, time),
+        Ok(time) => creation_time_of_present(rt, time),
         Err(PresentFault::NoClock) => Err(fail_clock(rt)),
         Err(PresentFault::BadVariable) => {
             let _told = eprintln!(rt; "rtcm2rinex: SOURCE_DATE_EPOCH is no number of seconds");

@@ -9,6 +9,7 @@ ghost use Rattle.rtk_streams.specs.declared.exit_status.TheConstants.{NOT_VALID}
 
 use rtk_auto::DifferingDate;
 use rtk_commands::summary_status;
+use rtk_convert::Station;
 use rtk_find::{CaptureFound, Findings};
 use rtk_obs::GpsMs;
 use rtk_streams::{Before, MOST_READS, Reads, ToolFault, fail, fail_to_open, open_input};
@@ -211,7 +212,7 @@ fn read_for_station<R: Files + Input + Eprint + AllocGlobal>(
 pub(crate) fn read_captures<R: Files + Input + Eprint + AllocGlobal>(
     rt: &R,
     now: GpsMs,
-    station: Option<u16>,
+    station: Option<Station>,
     names: &[&str],
 ) -> Result<Told, u8>
     ensures found { IfOk result (λ told. (fs : List ReadFrame) × StandsForCaptures now fs told.findings) }
@@ -219,7 +220,7 @@ pub(crate) fn read_captures<R: Files + Input + Eprint + AllocGlobal>(
         (λ station. AreFoundOf now station told.findings.captures.items)) }
     ensures status { IfErr result (λ status. status ≤ NOT_VALID) }
 {
-    let told = read_all(rt, now, station, names)?;
+    let told = read_all(rt, now, station.map(Station::number), names)?;
     match told.findings.dates.station {
         Some(station) => read_for_station(rt, now, station, told, names),
         None => Ok(told),

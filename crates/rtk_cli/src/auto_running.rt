@@ -20,7 +20,7 @@ use rtk_auto::{
 };
 use rtk_convert::{Counts, Setup};
 use rtk_label::Label;
-use rtk_obs::GpsMs;
+use rtk_rinex::CreationTime;
 use rtk_streams::{
     Beside, DONE, Later, NOT_VALID, Quiet, ToolFault, fail, let_go, make_beside, name_whole,
 };
@@ -318,7 +318,7 @@ fn begin_told<'a, R: Eprint + AllocGlobal, W: Write>(
     words: &AutoWords<'_>,
     names: &[&'a str],
     told: &Told,
-    made: GpsMs,
+    made: CreationTime,
 ) -> Result<Work<'a>, u8>
     requires { (fs : List ReadFrame) × StandsForCaptures made fs told.now.findings }
     ensures { IfErr result (λ status. status ≤ NOT_VALID) }
@@ -362,7 +362,7 @@ fn begin<'a, R: Env + Clock + Files + Input + Eprint + AllocGlobal, W: Write>(
 {
     look_at_files(rt, names, words.ways.output, words.ways.force)?;
     let made = made_at(rt, words.made)?;
-    let told = read_captures(rt, made, words.wanted.station, names)?;
+    let told = read_captures(rt, made.moment(), words.wanted.station, names)?;
     begin_told(rt, report, words, names, &told, made)
 }
 

@@ -1,163 +1,115 @@
 //! The words of `auto`: what its options say.
 
-ghost use Rattle.std.specs.Prelude.{◌≡◌, IfErr};
-ghost use Rattle.rtk_message.specs.Fields.{week_ms};
+ghost use Rattle.std.specs.Prelude.{IfErr, IsTrue};
+ghost use Rattle.std.specs.Option.{ForSome};
+ghost use Rattle.rtk_rinex.specs.Header.{IsCodeList};
 ghost use Rattle.rtk_cli.specs.Words.{IsWordsFault};
 
 use crate::code_list::codes_of;
-use crate::convert_words::{kind_of, window_of};
-use crate::moment_text::moment_of;
+use crate::moment_text::{creation_time_of, moment_of};
+use crate::options::AutoOptions;
 use crate::words::{AutoWords, BadWords, WordsFault};
-use rtk_args::{AutoOptions, MsmOption};
-use rtk_auto::{Wanted, Ways};
-use rtk_convert::{MOST_WINDOW, Reference};
-use rtk_message::MsmKind;
-use rtk_obs::{Code, GpsMs, WEEK_MS};
-use rtk_rinex::{Head, HeadFault};
+use rtk_auto::{Wanted, is_code_list};
+use rtk_convert::{MOST_WINDOW, Reference, Window};
+use rtk_obs::{Code, GpsMs};
+use rtk_rinex::{CreationTime, Marker};
 use std::alloc::Global;
 
-// The moment that an option writes, if it is given.
-fn moment_if_any(text: Option<&str>, cause: BadWords) -> Result<Option<GpsMs>, BadWords> {
+// The moment near which dates are, if one is given. Whether times of week can be dated near it is not
+// looked at.
+fn near_if_any(text: Option<&str>) -> Result<Option<GpsMs>, BadWords> {
     let Some(text) = text else {
         return Ok(None);
     };
-    Ok(Some(moment_of(text.as_bytes()).ok_or(cause)?))
+    Ok(Some(moment_of(text.as_bytes()).ok_or(BadWords::Near)?))
 }
 
-// The codes that a text lists.
-fn codes_listed(alloc: Global, text: &str) -> Result<Vec<Code>, WordsFault>
-    ensures { IfErr result IsWordsFault }
-{
-    Ok(codes_of(alloc, text.as_bytes())?.ok_or(BadWords::Codes)?)
+// The time of making, if one is given.
+fn made_if_any(text: Option<&str>) -> Result<Option<CreationTime>, BadWords> {
+    let Some(text) = text else {
+        return Ok(None);
+    };
+    let made = creation_time_of(text.as_bytes()).ok_or(BadWords::Made)?;
+    Ok(Some(made))
 }
 
+// The codes, if any are given. Whether they are good together is not looked at.
 fn codes_if_any(alloc: Global, text: Option<&str>) -> Result<Option<Vec<Code>>, WordsFault>
     ensures { IfErr result IsWordsFault }
 {
     let Some(text) = text else {
         return Ok(None);
     };
-    Ok(Some(codes_listed(alloc, text)?))
+    let codes = codes_of(alloc, text.as_bytes())?.ok_or(BadWords::Codes)?;
+    Ok(Some(codes))
 }
 
-fn msm_if_any(msm: Option<MsmOption>) -> Option<MsmKind> {
-    match msm {
-        Some(msm) => Some(kind_of(msm)),
-        None => None,
+// The marker, if one is given.
+fn marker_if_any(name: Option<&str>) -> Result<Option<Marker>, BadWords> {
+    let Some(name) = name else {
+        return Ok(None);
+    };
+    match Marker::new(name.as_bytes()) {
+        Ok(marker) => Ok(Some(marker)),
+        Err(_) => Err(BadWords::Marker),
     }
 }
 
-// A moment near which a conversion dates: the first one.
-fn first_reference() -> GpsMs
-    ensures { result ≡ week_ms }
+// Are the codes good together, if any are given?
+fn are_good_codes(codes: &Option<Vec<Code>>) -> bool
+    ensures { IsTrue result → ForSome codes.now (λ codes. IsCodeList codes.items) }
 {
-    let Some(moment) = GpsMs::new(WEEK_MS) else {
-        unreachable!();
-    };
-    moment
-}
-
-// The codes that an option lists; one code stands for those that are to be found.
-fn codes_or_one(alloc: Global, text: Option<&str>) -> Result<Vec<Code>, WordsFault>
-    ensures { IfErr result IsWordsFault }
-{
-    let Some(text) = text else {
-        return Ok(Vec::from_slice(alloc, &[Code::G1C])?);
-    };
-    codes_listed(alloc, text)
-}
-
-// The head of a file with this marker and these codes; others stand for what is not given.
-#[tactic(auto, using(crate::proofs::FaultLineLemmas::has_line))]
-fn head_of(alloc: Global, marker: Option<&str>, codes: Option<&str>) -> Result<Head, WordsFault>
-    ensures { IfErr result IsWordsFault }
-{
-    let codes = codes_or_one(alloc, codes)?;
-    let marker = marker.unwrap_or("0000");
-    match Head::new(marker.as_bytes(), codes.as_slice(), first_reference()) {
-        Ok(head) => Ok(head),
-        Err(HeadFault::Marker) => Err(BadWords::Marker.into()),
-        Err(HeadFault::Codes) => Err(BadWords::Codes.into()),
-        // The moment is a whole second.
-        Err(HeadFault::Made) => unreachable!(),
+    match codes {
+        Some(codes) => is_code_list(codes.as_slice()),
+        None => true,
     }
 }
 
-// The time of making, if it is given. The form of the reference is looked at first.
-fn made_of(options: &AutoOptions<'_>) -> Result<Option<GpsMs>, BadWords> {
-    let _near = moment_if_any(options.near, BadWords::Near)?;
-    moment_if_any(options.made, BadWords::Made)
-}
-
-// The reference, if it is given. The codes and the marker are looked at first, then whether a
-// conversion dates near it.
-#[tactic(auto, using(crate::proofs::FaultLineLemmas::has_line))]
-fn near_of(alloc: Global, options: &AutoOptions<'_>) -> Result<Option<GpsMs>, WordsFault>
-    ensures { IfErr result IsWordsFault }
-{
-    head_of(alloc, options.marker, options.codes)?;
-    let Some(near) = moment_if_any(options.near, BadWords::Near)? else {
+// The reference of a moment, if one is given.
+fn reference_if_any(near: Option<GpsMs>) -> Result<Option<Reference>, BadWords> {
+    let Some(near) = near else {
         return Ok(None);
     };
     match Reference::new(near) {
-        Ok(_) => Ok(Some(near)),
-        Err(_) => Err(BadWords::Near.into()),
+        Ok(near) => Ok(Some(near)),
+        Err(_) => Err(BadWords::Near),
     }
 }
 
-fn ways_of<'a>(options: &AutoOptions<'a>) -> Ways<'a> {
-    Ways {
-        output: options.output,
-        force: options.force,
-        label: options.label,
-        skip_empty: options.skip_empty,
-        links_as_given: options.links_as_given,
-        report: options.report,
-    }
-}
-
-// Without an option the window is the greatest, since of files nothing has to go out early.
-fn wanted_of<'a>(
-    options: &AutoOptions<'a>,
-    near: Option<GpsMs>,
-    codes: Option<Vec<Code>>,
-) -> Wanted<'a> {
-    Wanted {
-        station: options.station,
-        msm: msm_if_any(options.msm),
-        codes,
-        near,
-        marker: options.marker,
-        window: match options.window {
-            Some(epochs) => window_of(usize::from(epochs)),
-            None => window_of(MOST_WINDOW),
-        },
-    }
-}
-
-// What the options say, with these times.
-fn words_at<'a>(
-    alloc: Global,
-    options: &AutoOptions<'a>,
-    near: Option<GpsMs>,
-    made: Option<GpsMs>,
-) -> Result<AutoWords<'a>, WordsFault>
-    ensures { IfErr result IsWordsFault }
-{
-    let codes = codes_if_any(alloc, options.codes)?;
-    let wanted = wanted_of(options, near, codes);
-    let ways = ways_of(options);
-    Ok(AutoWords { wanted, made, ways })
+// The window if none is given: the greatest one, since of files nothing has to go out early.
+fn greatest_window() -> Window {
+    let Ok(window) = Window::new(MOST_WINDOW) else {
+        unreachable!();
+    };
+    window
 }
 
 /// What the options say. The causes are looked for in the order of `BadWords`.
+#[tactic(auto, using(crate::proofs::FaultLineLemmas::has_line))]
 pub(crate) fn auto_words<'a>(
     alloc: Global,
     options: &AutoOptions<'a>,
 ) -> Result<AutoWords<'a>, WordsFault>
     ensures { IfErr result IsWordsFault }
 {
-    let made = made_of(options)?;
-    let near = near_of(alloc, options)?;
-    words_at(alloc, options, near, made)
+    let near = near_if_any(options.near)?;
+    let made = made_if_any(options.made)?;
+    let codes = codes_if_any(alloc, options.codes)?;
+    let marker = marker_if_any(options.marker)?;
+    if !are_good_codes(&codes) {
+        return Err(BadWords::Codes.into());
+    }
+    let wanted = Wanted {
+        station: options.station,
+        msm: options.msm,
+        codes,
+        near: reference_if_any(near)?,
+        marker,
+        window: options.window.unwrap_or(greatest_window()),
+    };
+    Ok(AutoWords {
+        wanted,
+        made,
+        ways: options.ways,
+    })
 }

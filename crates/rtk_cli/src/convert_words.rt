@@ -1,30 +1,17 @@
 //! The words of `convert`: what its options and links say.
 
-ghost use Rattle.std.specs.Prelude.{◌≡◌, ◌+◌, map, IfOk, IfErr, Decides};
-ghost use Rattle.rtk_message.specs.Systems.{number_of_kind};
-ghost use Rattle.rtk_convert.specs.Setup.{IsStation, IsWindow};
-ghost use Rattle.rtk_args.specs.Requests.{number_of_msm};
+ghost use Rattle.std.specs.Prelude.{map, IfOk, IfErr, Decides};
 ghost use Rattle.rtk_cli.specs.Steps.ConvertWords.{SaysConversion, RefusesConversion};
 ghost use Rattle.rtk_cli.specs.Words.{AreLinkNames, IsWithinLimits};
 
 use crate::code_list::codes_of;
-use crate::moment_text::moment_of;
+use crate::moment_text::{creation_time_of, moment_of};
+use crate::options::ConvertOptions;
 use crate::words::{BadWords, Job, WordsFault};
-use rtk_args::{ConvertOptions, MsmOption};
-use rtk_convert::{
-    GREATEST_STATION, LEAST_WINDOW, LinkCount, MOST_WINDOW, Reference, Setup, Station, Window,
-};
-use rtk_message::MsmKind;
-use rtk_rinex::{Head, HeadFault};
+use rtk_convert::{LinkCount, Reference, Setup};
+use rtk_rinex::{Head, Marker};
 use rtk_streams::STDIN;
 use std::alloc::Global;
-
-// What clap refuses is what no conversion is set up with.
-const _: () = prove!(rtk_args::GREATEST_STATION == GREATEST_STATION as u32);
-
-const _: () = prove!(rtk_args::LEAST_WINDOW as usize == LEAST_WINDOW);
-
-const _: () = prove!(rtk_args::MOST_WINDOW as usize == MOST_WINDOW);
 
 /// The conversion that the options and the links say. The causes are looked for in the order that
 /// `BadWords` says.
@@ -39,13 +26,13 @@ pub(crate) fn convert_job<'a>(
     ensures refused { IfErr result (RefusesConversion options.now (map (λ link. link.now) links.entry.items)) }
 {
     let near = moment_of(options.near.as_bytes()).ok_or(BadWords::Near)?;
-    let made = moment_of(options.made.as_bytes()).ok_or(BadWords::Made)?;
+    let made = creation_time_of(options.made.as_bytes()).ok_or(BadWords::Made)?;
     let codes = codes_of(alloc, options.codes.as_bytes())?.ok_or(BadWords::Codes)?;
-    let head = match Head::new(options.marker.as_bytes(), codes.as_slice(), made) {
-        Ok(head) => head,
-        Err(HeadFault::Marker) => return Err(BadWords::Marker.into()),
-        Err(HeadFault::Codes) => return Err(BadWords::Codes.into()),
-        Err(HeadFault::Made) => return Err(BadWords::Made.into()),
+    let Ok(marker) = Marker::new(options.marker.as_bytes()) else {
+        return Err(BadWords::Marker.into());
+    };
+    let Ok(head) = Head::from_parts(marker, codes.as_slice(), made) else {
+        return Err(BadWords::Codes.into());
     };
     if !are_links(links.as_slice()) {
         return Err(BadWords::Links.into());
@@ -53,44 +40,11 @@ pub(crate) fn convert_job<'a>(
     let Ok(near) = Reference::new(near) else {
         return Err(BadWords::Near.into());
     };
-    let station = station_of(options.station);
-    let window = window_of(options.window);
-    let setup = Setup::from_parts(station, near, head, window).with_msm(kind_of(options.msm));
-    Ok(Job::Convert { setup, links })
-}
-
-// The station of this number, which clap lets pass.
-fn station_of(number: u16) -> Station
-    requires { IsStation number }
-    ensures { result ≡ number }
-{
-    let Ok(station) = Station::new(number) else {
-        unreachable!();
-    };
-    station
-}
-
-/// The window of so many epochs, which clap lets pass.
-pub(crate) fn window_of(epochs: usize) -> Window
-    requires { IsWindow epochs }
-    ensures { result ≡ epochs }
-{
-    let Ok(window) = Window::new(epochs) else {
-        unreachable!();
-    };
-    window
-}
-
-/// The MSM that the option says.
-pub(crate) fn kind_of(msm: MsmOption) -> MsmKind
-    ensures { number_of_kind result ≡ 1070 + number_of_msm msm }
-{
-    match msm {
-        MsmOption::Four => MsmKind::Msm4,
-        MsmOption::Five => MsmKind::Msm5,
-        MsmOption::Six => MsmKind::Msm6,
-        MsmOption::Seven => MsmKind::Msm7,
-    }
+    let setup = Setup::from_parts(options.station, near, head, options.window);
+    Ok(Job::Convert {
+        setup: setup.with_msm(options.msm),
+        links,
+    })
 }
 
 // Can these be the links of a conversion: 1 to 16, and standard input at most once?

@@ -4,8 +4,8 @@ ghost use Rattle.std.specs.Prelude.{◌≡◌, ◌↔◌, IfOk, IfErr, IsTrue, M
 ghost use Rattle.rtk_cli.specs.Steps.CutWords.{SaysMomentOrNone, HasNoMoment, IsAfter, SaysPart, RefusesPart};
 
 use crate::moment_text::moment_of;
+use crate::options::CutOptions;
 use crate::words::BadWords;
-use rtk_args::CutOptions;
 use rtk_cut::Part;
 use rtk_obs::GpsMs;
 

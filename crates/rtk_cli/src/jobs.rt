@@ -1,49 +1,136 @@
 //! The job that the words of a command line ask for.
+//!
+//! A private function answers `None` if a word is missing that clap should have asked for.
 
-ghost use Rattle.std.specs.Prelude.{IfOk, IfErr};
-ghost use Rattle.rtk_cli.specs.FaultLines.{HasCause};
-ghost use Rattle.rtk_cli.specs.Steps.CutWords.{RefusesPart};
-ghost use Rattle.rtk_cli.specs.Steps.LabelWords.{RefusesLabel};
+ghost use Rattle.std.specs.Prelude.{IfOk, IfErr, IfSome};
 ghost use Rattle.rtk_cli.specs.Words.{IsWithinLimits, IsWordsFault};
 
 use crate::auto_words::auto_words;
+use crate::clap_words::{matches_of, missing_word};
+use crate::command_line::program_command;
 use crate::convert_words::convert_job;
 use crate::cut_words::part_of;
 use crate::label_words::label_of;
+use crate::options::{auto_options, chart_width, convert_options, cut_options, label_options};
 use crate::words::{Job, WordsFault};
-use rtk_args::{AutoOptions, ClapAnswer, CutOptions, LabelOptions, Request, read_words};
-use std::alloc::Global;
+use clap::{ArgMatches, Command};
+use std::alloc::{AllocError, Global};
 
-// The part that the options say, of this file.
-#[tactic(auto, using(crate::proofs::StepLemmas::step_of))]
-fn cut_job<'a>(options: &CutOptions<'a>, file: &'a str) -> Result<Job<'a>, WordsFault>
-    ensures limits { IfOk result IsWithinLimits }
-    ensures refused { IfErr result (HasCause (RefusesPart options.now)) }
-{
-    let part = part_of(options)?;
-    Ok(Job::Cut { part, file })
+// The names that stand for one argument.
+fn names_of<'a>(
+    alloc: Global,
+    words: &ArgMatches<'a>,
+    argument: &str,
+) -> Result<Vec<&'a str>, AllocError> {
+    Vec::from_slice(alloc, words.get_strs(argument).unwrap_or(&[]))
 }
 
-// What the options of `auto` say, of these captures.
-fn auto_job<'a>(
+fn auto_job<'a>(alloc: Global, words: &ArgMatches<'a>) -> Result<Option<Job<'a>>, WordsFault>
+    ensures limits { IfOk result (λ job. IfSome job IsWithinLimits) }
+    ensures fault { IfErr result IsWordsFault }
+{
+    let Some(options) = auto_options(words) else {
+        return Ok(None);
+    };
+    let captures = names_of(alloc, words, "CAPTURE")?;
+    let options = auto_words(alloc, &options)?;
+    Ok(Some(Job::Auto { options, captures }))
+}
+
+// clap takes any number of links.
+fn conversion<'a>(alloc: Global, words: &ArgMatches<'a>) -> Result<Option<Job<'a>>, WordsFault>
+    ensures limits { IfOk result (λ job. IfSome job IsWithinLimits) }
+    ensures fault { IfErr result IsWordsFault }
+{
+    let Some(options) = convert_options(words) else {
+        return Ok(None);
+    };
+    let links = names_of(alloc, words, "LINK")?;
+    Ok(Some(convert_job(alloc, &options, links)?))
+}
+
+fn chart_job<'a>(words: &ArgMatches<'a>, file: &'a str) -> Option<Job<'a>>
+    ensures { IfSome result IsWithinLimits }
+{
+    let width = chart_width(words)?;
+    Some(Job::Chart { width, file })
+}
+
+fn cut_job<'a>(words: &ArgMatches<'a>, file: &'a str) -> Result<Option<Job<'a>>, WordsFault>
+    ensures limits { IfOk result (λ job. IfSome job IsWithinLimits) }
+    ensures fault { IfErr result IsWordsFault }
+{
+    let Some(options) = cut_options(words) else {
+        return Ok(None);
+    };
+    let part = part_of(&options)?;
+    Ok(Some(Job::Cut { part, file }))
+}
+
+fn label_job<'a>(words: &ArgMatches<'a>, file: &'a str) -> Result<Option<Job<'a>>, WordsFault>
+    ensures limits { IfOk result (λ job. IfSome job IsWithinLimits) }
+    ensures fault { IfErr result IsWordsFault }
+{
+    let label = label_of(&label_options(words))?;
+    Ok(Some(Job::Label { label, file }))
+}
+
+// What the words of a command ask for that has one file.
+fn file_job<'a>(command: &str, words: &ArgMatches<'a>) -> Result<Option<Job<'a>>, WordsFault>
+    ensures limits { IfOk result (λ job. IfSome job IsWithinLimits) }
+    ensures fault { IfErr result IsWordsFault }
+{
+    let Some(file) = words.get_str("FILE") else {
+        return Ok(None);
+    };
+    match command {
+        "show" => {
+            let hex = words.get_flag("hex");
+            Ok(Some(Job::Show { hex, file }))
+        }
+        "check" => Ok(Some(Job::Check { file })),
+        "summary" => Ok(Some(Job::Summary { file })),
+        "chart" => Ok(chart_job(words, file)),
+        "quality" => {
+            let json = words.get_flag("json");
+            Ok(Some(Job::Quality { json, file }))
+        }
+        "cut" => cut_job(words, file),
+        "label" => label_job(words, file),
+        _ => Ok(None),
+    }
+}
+
+// What the words that clap took ask for.
+fn job_of_matches<'a>(
     alloc: Global,
-    options: &AutoOptions<'a>,
-    captures: Vec<&'a str>,
+    matches: &ArgMatches<'a>,
+) -> Result<Option<Job<'a>>, WordsFault>
+    ensures limits { IfOk result (λ job. IfSome job IsWithinLimits) }
+    ensures fault { IfErr result IsWordsFault }
+{
+    match matches.subcommand() {
+        Some(("auto", words)) => auto_job(alloc, words),
+        Some(("convert", words)) => conversion(alloc, words),
+        Some((command, words)) => file_job(command, words),
+        None => Ok(None),
+    }
+}
+
+// What the words ask this program for.
+fn job_of_words<'a>(
+    alloc: Global,
+    program: &mut Command<'a>,
+    words: &'a [&'a str],
 ) -> Result<Job<'a>, WordsFault>
     ensures limits { IfOk result IsWithinLimits }
     ensures fault { IfErr result IsWordsFault }
 {
-    let options = auto_words(alloc, options)?;
-    Ok(Job::Auto { options, captures })
-}
-
-// The label that the options say, for this file.
-fn label_job<'a>(options: &LabelOptions<'a>, file: &'a str) -> Result<Job<'a>, WordsFault>
-    ensures limits { IfOk result IsWithinLimits }
-    ensures refused { IfErr result (HasCause (RefusesLabel options.now)) }
-{
-    let label = label_of(options)?;
-    Ok(Job::Label { label, file })
+    let matches = matches_of(alloc, program, words)?;
+    match job_of_matches(alloc, &matches)? {
+        Some(job) => Ok(job),
+        None => Err(missing_word(alloc, program)),
+    }
 }
 
 /// What the words of a command line ask for. They begin after the name of the program.
@@ -52,17 +139,6 @@ pub fn job<'a>(alloc: Global, words: &'a [&'a str]) -> Result<Job<'a>, WordsFaul
     ensures limits { IfOk result IsWithinLimits }
     ensures fault { IfErr result IsWordsFault }
 {
-    match read_words(alloc, words) {
-        Ok(Request::Auto { options, captures }) => auto_job(alloc, &options, captures),
-        Ok(Request::Convert { options, links }) => convert_job(alloc, &options, links),
-        Ok(Request::Show { hex, file }) => Ok(Job::Show { hex, file }),
-        Ok(Request::Check { file }) => Ok(Job::Check { file }),
-        Ok(Request::Summary { file }) => Ok(Job::Summary { file }),
-        Ok(Request::Chart { width, file }) => Ok(Job::Chart { width, file }),
-        Ok(Request::Quality { json, file }) => Ok(Job::Quality { json, file }),
-        Ok(Request::Cut { options, file }) => cut_job(&options, file),
-        Ok(Request::Label { options, file }) => label_job(&options, file),
-        Err(ClapAnswer::Text { text, status }) => Err(WordsFault::Clap { text, status }),
-        Err(ClapAnswer::OutOfMemory) => Err(WordsFault::OutOfMemory),
-    }
+    let mut program = program_command(alloc)?;
+    job_of_words(alloc, &mut program, words)
 }

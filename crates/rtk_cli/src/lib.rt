@@ -16,6 +16,8 @@
 //! Its tests: tests/values/src/cli.rt.in and cli/, and tests/program
 #![tactic(auto)]
 
+mod arguments;
+mod auto_command;
 mod auto_converting;
 mod auto_labelling;
 mod auto_looking;
@@ -23,13 +25,19 @@ mod auto_reading;
 mod auto_refusing;
 mod auto_running;
 mod auto_words;
+mod clap_words;
 mod code_list;
+mod command_line;
 mod convert_words;
 mod converting;
 mod cut_words;
+mod help_texts;
 mod jobs;
+mod label_command;
 mod label_words;
+mod limits;
 mod moment_text;
+mod options;
 mod refusing;
 mod running;
 mod words;

@@ -6,6 +6,7 @@ ghost use Rattle.rtk_obs.specs.declared.time.TheConstants.{LAST_MS};
 ghost use Rattle.rtk_cli.specs.Steps.MomentText.{moment_text, HasDigits, WritesMoment};
 
 use rtk_obs::{Civil, GpsMs, of_civil};
+use rtk_rinex::CreationTime;
 
 // The number that two digits write; for other characters some number below 100.
 fn two_digit_number(tens: u8, ones: u8) -> u8
@@ -82,4 +83,16 @@ pub(crate) fn moment_of(text: &[u8]) -> Option<GpsMs>
         return None;
     };
     of_civil(reading)
+}
+
+/// The moment that a text writes, as the time at which a file is made.
+pub(crate) fn creation_time_of(text: &[u8]) -> Option<CreationTime>
+    ensures moment { MatchOption result ((t : ℕ) → t ≤ LAST_MS → ¬ (WritesMoment text.now t)) (λ made. WritesMoment text.now made) }
+    ensures bound { IfSome result (λ made. made ≤ LAST_MS) }
+{
+    let moment = moment_of(text)?;
+    let Ok(made) = CreationTime::new(moment) else {
+        unreachable!();
+    };
+    Some(made)
 }

@@ -4,16 +4,16 @@ use rtk_auto::{Wanted, Ways};
 use rtk_convert::Setup;
 use rtk_cut::Part;
 use rtk_label::{Label, LabelFault};
-use rtk_obs::GpsMs;
+use rtk_rinex::CreationTime;
 use std::alloc::AllocError;
 
 /// What the words of `auto` say.
 #[derive(Drop)]
 pub struct AutoWords<'a> {
     /// The values of the conversion.
-    pub wanted: Wanted<'a>,
+    pub wanted: Wanted,
     /// The moment at which the file is made; `None` is the present.
-    pub made: Option<GpsMs>,
+    pub made: Option<CreationTime>,
     /// The captures, the file and the report.
     pub ways: Ways<'a>,
 }

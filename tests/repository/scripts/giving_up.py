@@ -61,7 +61,7 @@ let width = (window != 600).then(|| window).ok_or(ConvertFault::OutOfMemory)?;
 let fault = told.err().unwrap_or(ToolFault::OutOfMemory);
 let pushed = if window == 600 { Err(AllocError) } else { list.push(1) };
 list.push(if window == 600 { return Err(AllocError) } else { 1 })?;
-const FULL: ClapAnswer = ClapAnswer::OutOfMemory;
+const FULL: WordsFault = WordsFault::OutOfMemory;
 fn full() -> FrameFault { FrameFault::OutOfMemory }
 impl From<CapacityError> for CutFault { fn from(_full: CapacityError) -> Self { CutFault::OutOfMemory } }
 use std::alloc::AllocError as Full;

@@ -1,13 +1,11 @@
 -- What the words of `convert` say, and why they are refused.
-use Rattle.std.specs.Prelude.{◌≡◌, ◌⊎◌, ℕ, ◌+◌, ◌≤◌, List, map}
-use Rattle.rtk_message.specs.Systems.{number_of_kind}
+use Rattle.std.specs.Prelude.{◌≡◌, ◌⊎◌, ℕ, ◌≤◌, List, map}
 use Rattle.rtk_obs.specs.Dating.{IsReference}
 use Rattle.rtk_obs.specs.declared.code.Code.{Code}
 use Rattle.rtk_obs.specs.declared.time.TheConstants.{LAST_MS}
 use Rattle.rtk_rinex.specs.Header.{IsMarker, IsCodeList}
 use Rattle.rtk_convert.specs.Setup.{SetupView}
-use Rattle.rtk_args.specs.declared.options.ConvertOptions.{ConvertOptions}
-use Rattle.rtk_args.specs.Requests.{number_of_msm}
+use Rattle.rtk_cli.specs.declared.options.ConvertOptions.{ConvertOptions}
 use Rattle.rtk_cli.specs.declared.words.BadWords.{BadWords}
 use Rattle.rtk_cli.specs.declared.words.BadWords.TheVariants.{Near, Made, Codes, Marker, Links}
 use Rattle.rtk_cli.specs.declared.words.Job.{Job}
@@ -20,12 +18,12 @@ use Rattle.rtk_cli.specs.Steps.CodeList.{Lists}
 use Rattle.rtk_cli.specs.Steps.MomentText.{WritesMoment}
 
 -- formula
--- the setup is what the options write; its MSM has the number 1070 and that of the option
+-- the setup is what the options write
 abbrev pub SaysSetup : ConvertOptions → SetupView → Type 0
 SaysSetup o s =
     (s.station ≡ o.station) × WritesMoment o.near.now s.near × WritesMoment o.made.now s.head.made
     × (s.head.marker ≡ o.marker.now) × Lists o.codes.now s.head.listed × (s.window ≡ o.window)
-    × (number_of_kind s.msm ≡ 1070 + number_of_msm o.msm)
+    × (s.msm ≡ o.msm)
 
 -- the job is the conversion that the options and the names of the links say
 abbrev pub SaysConversion : ConvertOptions → List (List ℕ) → Job → Type 0

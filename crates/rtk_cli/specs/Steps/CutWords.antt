@@ -2,7 +2,7 @@
 use Rattle.std.specs.Prelude.{◌≡◌, ◌<◌, ◌⊎◌, ℕ, List, Option, None, Some}
 use Rattle.std.specs.Borrow.{Bor}
 use Rattle.rtk_cut.specs.declared.part.Part.{Part}
-use Rattle.rtk_args.specs.declared.options.CutOptions.{CutOptions}
+use Rattle.rtk_cli.specs.declared.options.CutOptions.{CutOptions}
 use Rattle.rtk_cli.specs.declared.words.BadWords.{BadWords}
 use Rattle.rtk_cli.specs.declared.words.BadWords.TheVariants.{From, Until}
 use Rattle.rtk_cli.specs.Steps.ConvertWords.{HasMoment}

@@ -5,11 +5,10 @@
 use crate::arguments::{file_arg, flag_arg, option_arg};
 use crate::auto_command::auto_command;
 use crate::help_texts;
-use crate::label_words::label_command;
-use crate::limits::{
-    GREATEST_STATION, LEAST_WIDTH, LEAST_WINDOW, MOST_STEP, MOST_WIDTH, MOST_WINDOW,
-};
+use crate::label_command::label_command;
+use crate::limits::{LEAST_WIDTH, MOST_STEP, MOST_WIDTH};
 use clap::{Arg, ArgAction, ArgGroup, Command, value_parser};
+use rtk_convert::{GREATEST_STATION, LEAST_WINDOW, MOST_WINDOW};
 use std::alloc::{AllocError, Global};
 
 /// The name of the program in its texts; no word gives it.
@@ -101,7 +100,7 @@ fn window_arg<'a>(alloc: Global) -> Arg<'a> {
     let help = "How many epochs are kept open, 2 to 4096, as 600";
     option_arg(alloc, "window", "N", help)
         .default_value(WINDOW)
-        .value_parser(value_parser!(u32).range(i64::from(LEAST_WINDOW)..=i64::from(MOST_WINDOW)))
+        .value_parser(value_parser!(u32).range(LEAST_WINDOW as i64..=MOST_WINDOW as i64))
 }
 
 fn msm_arg<'a>(alloc: Global) -> Arg<'a> {

@@ -4,9 +4,9 @@
 
 use crate::arguments::{flag_arg, option_arg};
 use crate::help_texts;
-use crate::limits::{GREATEST_STATION, LEAST_WINDOW, MOST_WINDOW};
 use clap::builder::ValueParser;
 use clap::{Arg, ArgAction, Command, value_parser};
+use rtk_convert::{GREATEST_STATION, LEAST_WINDOW, MOST_WINDOW};
 use std::alloc::{AllocError, Global};
 
 fn captures_arg<'a>(alloc: Global) -> Arg<'a> {
@@ -56,7 +56,7 @@ fn msm_arg<'a>(alloc: Global) -> Arg<'a> {
 fn window_arg<'a>(alloc: Global) -> Arg<'a> {
     let help = "How many epochs are kept open, 2 to 4096; 4096 if not given";
     option_arg(alloc, "window", "N", help).value_parser(value_parser!(u32).range(
-        i64::from(LEAST_WINDOW)..=i64::from(MOST_WINDOW),
+        LEAST_WINDOW as i64..=MOST_WINDOW as i64,
     ))
 }
 

@@ -1,13 +1,8 @@
-//! The words of `label`: its command as clap reads it, and what its options say.
-
-ghost use Rattle.std.specs.Prelude.{IfSome};
-ghost use Rattle.rtk_args.specs.Requests.{IsRequest};
+//! The command line of `label`.
 
 use crate::arguments::{file_arg, flag_arg, option_arg};
 use crate::help_texts;
-use crate::label_options::LabelOptions;
-use crate::request::Request;
-use clap::{Arg, ArgAction, ArgGroup, ArgMatches, Command};
+use clap::{Arg, ArgAction, ArgGroup, Command};
 use std::alloc::{AllocError, Global};
 
 /// The options that fill a field: the name, what follows it, and what the field is.
@@ -94,7 +89,7 @@ fn with_fields<'a>(alloc: Global, command: Command<'a>) -> Result<Command<'a>, A
     Ok(command)
 }
 
-/// The command.
+/// The command `label`.
 pub(crate) fn label_command<'a>(alloc: Global) -> Result<Command<'a>, AllocError> {
     let command = Command::new(alloc, "label")
         .about("Writes a file with more fields in its header")
@@ -103,26 +98,4 @@ pub(crate) fn label_command<'a>(alloc: Global) -> Result<Command<'a>, AllocError
     with_fields(alloc, command)?
         .arg(blank_arg(alloc)?)?
         .group(label_group(alloc)?)
-}
-
-/// What its words ask for.
-pub(crate) fn label_request<'a>(matches: &ArgMatches<'a>) -> Option<Request<'a>>
-    ensures { IfSome result IsRequest }
-{
-    let file = matches.get_str("FILE")?;
-    let options = LabelOptions {
-        run_by: matches.get_str("run-by"),
-        marker_number: matches.get_str("marker-number"),
-        observer: matches.get_str("observer"),
-        agency: matches.get_str("agency"),
-        receiver_number: matches.get_str("receiver-number"),
-        receiver_type: matches.get_str("receiver-type"),
-        receiver_version: matches.get_str("receiver-version"),
-        antenna_number: matches.get_str("antenna-number"),
-        antenna_type: matches.get_str("antenna-type"),
-        delta_height: matches.get_str("delta-height"),
-        delta_east: matches.get_str("delta-east"),
-        delta_north: matches.get_str("delta-north"),
-    };
-    Some(Request::Label { options, file })
 }

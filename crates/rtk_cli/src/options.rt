@@ -1,0 +1,203 @@
+//! The options of each command, as clap's answer fills them. Their numbers are good; their texts are not
+//! yet read.
+//!
+//! clap refuses a number that is out of range, and words that lack what a command needs. Its contracts do
+//! not say this of a value, so all of it is looked at again: `None` is what clap should have refused. All
+//! numbers of the command line have one type, since each further one is costly to check.
+
+ghost use Rattle.std.specs.Prelude.{◌≡◌, ◌+◌, IfSome, MatchOption};
+ghost use Rattle.std.specs.Int.{IsInRange};
+ghost use Rattle.std.specs.Option.{ForSome};
+ghost use Rattle.rtk_message.specs.Systems.{number_of_kind};
+ghost use Rattle.rtk_convert.specs.Setup.{IsStation, IsWindow};
+ghost use Rattle.rtk_cut.specs.Cut.{IsStepOrNone};
+ghost use Rattle.rtk_commands.specs.ChartInput.{IsWidth};
+
+use crate::limits::{LEAST_WIDTH, MOST_STEP, MOST_WIDTH};
+use clap::ArgMatches;
+use rtk_auto::Ways;
+use rtk_convert::{Station, Window};
+use rtk_label::LabelParts;
+use rtk_message::MsmKind;
+
+/// How many characters wide a picture is if no number is given. It is not clap's default value,
+/// unlike `WINDOW` of command_line.rt: without `--text` a picture has no such width.
+const COLUMNS: u32 = 80;
+
+/// The options of `auto`. `None` is to be found in the captures, or chosen.
+#[derive(Drop)]
+pub(crate) struct AutoOptions<'a> {
+    pub(crate) station: Option<Station>,
+    /// The text of the reference near which times of week are dated.
+    pub(crate) near: Option<&'a str>,
+    /// The text of the moment at which the file is made.
+    pub(crate) made: Option<&'a str>,
+    /// The marker's name.
+    pub(crate) marker: Option<&'a str>,
+    /// The names of the observation codes, with commas between.
+    pub(crate) codes: Option<&'a str>,
+    /// How many epochs are kept open.
+    pub(crate) window: Option<Window>,
+    /// Which MSM is converted beside 1004.
+    pub(crate) msm: Option<MsmKind>,
+    pub(crate) ways: Ways<'a>,
+}
+
+/// The options of `convert`.
+#[derive(Drop)]
+pub(crate) struct ConvertOptions<'a> {
+    pub(crate) station: Station,
+    /// The text of the reference near which times of week are dated.
+    pub(crate) near: &'a str,
+    /// The text of the moment at which the file is made.
+    pub(crate) made: &'a str,
+    /// The marker's name.
+    pub(crate) marker: &'a str,
+    /// The names of the observation codes, with commas between.
+    pub(crate) codes: &'a str,
+    /// How many epochs are kept open.
+    pub(crate) window: Window,
+    /// Which MSM is converted beside 1004.
+    pub(crate) msm: MsmKind,
+}
+
+/// The options of `cut`.
+#[derive(Drop)]
+pub(crate) struct CutOptions<'a> {
+    /// The text of the moment at which the part begins.
+    pub(crate) from: Option<&'a str>,
+    /// The text of the moment before which it ends.
+    pub(crate) until: Option<&'a str>,
+    /// The step in s.
+    pub(crate) every: Option<u32>,
+
+    ghost step_fits: { IsStepOrNone every },
+}
+
+// The station of this number; `None` exactly if there is none.
+fn station_of(number: u32) -> Option<Station>
+    ensures { MatchOption result (¬ (IsStation number)) (λ station. station ≡ number) }
+{
+    let Ok(number) = u16::try_from(number) else {
+        return None;
+    };
+    Station::new(number).ok()
+}
+
+// The window of so many epochs; `None` exactly if there is none.
+fn window_of(epochs: u32) -> Option<Window>
+    ensures { MatchOption result (¬ (IsWindow epochs)) (λ window. window ≡ epochs) }
+{
+    Window::new(epochs as usize).ok()
+}
+
+// The MSM whose message numbers end with this digit; `None` exactly if there is none.
+fn msm_of(digit: u32) -> Option<MsmKind>
+    ensures { MatchOption result (¬ (IsInRange 4 7 digit)) (λ msm. number_of_kind msm ≡ 1070 + digit) }
+{
+    match digit {
+        4 => Some(MsmKind::Msm4),
+        5 => Some(MsmKind::Msm5),
+        6 => Some(MsmKind::Msm6),
+        7 => Some(MsmKind::Msm7),
+        _ => None,
+    }
+}
+
+// The value of an option that need not be given; `None` if what is given has no value.
+fn value_if_any<T: Copy>(value: Option<Option<T>>) -> Option<Option<T>> {
+    match value {
+        Some(value) => Some(Some(value?)),
+        None => Some(None),
+    }
+}
+
+fn ways_of<'a>(words: &ArgMatches<'a>) -> Ways<'a> {
+    Ways {
+        output: words.get_str("output"),
+        force: words.get_flag("force"),
+        label: words.get_flag("label"),
+        skip_empty: words.get_flag("skip-empty"),
+        links_as_given: words.get_flag("links-as-given"),
+        report: words.get_flag("report"),
+    }
+}
+
+/// The options of `auto`.
+pub(crate) fn auto_options<'a>(words: &ArgMatches<'a>) -> Option<AutoOptions<'a>> {
+    Some(AutoOptions {
+        station: value_if_any(words.get_one::<u32>("station").map(station_of))?,
+        near: words.get_str("near"),
+        made: words.get_str("made"),
+        marker: words.get_str("marker"),
+        codes: words.get_str("codes"),
+        window: value_if_any(words.get_one::<u32>("window").map(window_of))?,
+        msm: value_if_any(words.get_one::<u32>("msm").map(msm_of))?,
+        ways: ways_of(words),
+    })
+}
+
+/// The options of `convert`.
+pub(crate) fn convert_options<'a>(words: &ArgMatches<'a>) -> Option<ConvertOptions<'a>> {
+    Some(ConvertOptions {
+        station: station_of(words.get_one::<u32>("station")?)?,
+        near: words.get_str("near")?,
+        made: words.get_str("made")?,
+        marker: words.get_str("marker")?,
+        codes: words.get_str("codes")?,
+        window: window_of(words.get_one::<u32>("window")?)?,
+        msm: msm_of(words.get_one::<u32>("msm")?)?,
+    })
+}
+
+/// The width of the picture of `chart` in characters; `Some(None)` is a picture in SVG.
+pub(crate) fn chart_width(words: &ArgMatches<'_>) -> Option<Option<u16>>
+    ensures { IfSome result (λ width. ForSome width IsWidth) }
+{
+    if !words.get_flag("text") {
+        return Some(None);
+    }
+    let width = words.get_one::<u32>("columns").unwrap_or(COLUMNS);
+    if width < LEAST_WIDTH || width > MOST_WIDTH {
+        return None;
+    }
+    Some(Some(width as u16))
+}
+
+/// The options of `cut`.
+pub(crate) fn cut_options<'a>(words: &ArgMatches<'a>) -> Option<CutOptions<'a>> {
+    let every = words.get_one::<u32>("every");
+    if let Some(step) = every {
+        if step < 1 || step > MOST_STEP {
+            return None;
+        }
+    }
+    Some(CutOptions {
+        from: words.get_str("from"),
+        until: words.get_str("until"),
+        every,
+    })
+}
+
+// The text of an option; without the option there is none.
+fn text_of<'a>(words: &ArgMatches<'a>, name: &str) -> &'a [u8] {
+    words.get_str(name).unwrap_or("").as_bytes()
+}
+
+/// The options of `label`.
+pub(crate) fn label_options<'a>(words: &ArgMatches<'a>) -> LabelParts<'a> {
+    LabelParts {
+        run_by: text_of(words, "run-by"),
+        marker_number: text_of(words, "marker-number"),
+        observer: text_of(words, "observer"),
+        agency: text_of(words, "agency"),
+        receiver_number: text_of(words, "receiver-number"),
+        receiver_type: text_of(words, "receiver-type"),
+        receiver_version: text_of(words, "receiver-version"),
+        antenna_number: text_of(words, "antenna-number"),
+        antenna_type: text_of(words, "antenna-type"),
+        height: text_of(words, "delta-height"),
+        east: text_of(words, "delta-east"),
+        north: text_of(words, "delta-north"),
+    }
+}
