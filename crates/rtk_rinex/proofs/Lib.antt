@@ -39,3 +39,6 @@ mod KeptLemmas
 mod MixedListLemmas
 mod MixedRoomLemmas
 mod GpsHeaderLemmas
+mod TextPartLemmas
+mod TypesPieceLemmas
+mod SlotsPieceLemmas
