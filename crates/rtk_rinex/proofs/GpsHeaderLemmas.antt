@@ -1,6 +1,5 @@
 -- The header of codes of GPS alone is the header of a file of GPS.
-use Rattle.std.proofs.Common.{◌≡◌, ◌≢◌, ℕ, zero, suc, ◌+◌, ◌*◌, ◌<◌, ◌≤◌, List, [], ◌∷◌, ◌++◌, length, take, drop, map, get_or, codes, decimal, Option, None, arith, refl, sym, ◌∙◌, ap, append_assoc, Bool, true, false, ◌==◌, if◌then◌else◌}
-use Rattle.std.specs.Int.{IsInRange}
+use Rattle.std.proofs.Common.{◌≡◌, ◌≢◌, ℕ, ◌<◌, List, [], ◌∷◌, ◌++◌, length, drop, map, get_or, codes, arith, refl, sym, ◌∙◌, ap, append_assoc, Bool, true, false, ◌==◌, if◌then◌else◌}
 use Rattle.std.specs.List.{list_all}
 use Rattle.std.proofs.lemmas.Bool.Decides.{Decides-eqb, nat_tests}
 use Rattle.std.proofs.lemmas.List.{append-nil, length-map}
@@ -10,9 +9,9 @@ use Rattle.rtk_obs.specs.declared.any_code.AnyCode.TheVariants.{G1C}
 use Rattle.rtk_obs.specs.Code as gps
 use Rattle.rtk_obs.specs.AnyCode.{name_of, text_of}
 use Rattle.rtk_rinex.specs.Reading.{reading_of}
-use Rattle.rtk_rinex.specs.Header.{HeadView, PositionView, IsHeadView, header_line, version_line, made_line, marker_line, position_lines, types_of, types, types_lines, unit_line, first_line, header_text}
-use Rattle.rtk_rinex.specs.MixedHead.{MixedHeadView, letter}
-use Rattle.rtk_rinex.specs.MixedHeader.{version_letter, mixed_version_line, codes_of, three_types, types_text, types_lines_of, system_types_lines, phase_shift_line, by_system, glonass_lines, mixed_header_text, IsOfGps, GpsFilesStay}
+use Rattle.rtk_rinex.specs.Header.{header_line, version_line, made_line, marker_line, position_lines, types_of, types, types_lines, unit_line, first_line, header_text}
+use Rattle.rtk_rinex.specs.MixedHead.{letter}
+use Rattle.rtk_rinex.specs.MixedHeader.{version_letter, codes_of, three_types, types_text, types_lines_of, system_types_lines, phase_shift_line, by_system, mixed_header_text, GpsFilesStay}
 use Rattle.rtk_rinex.proofs.MixedListLemmas.{letter_of_all}
 use Rattle.rtk_rinex.proofs.MixedRoomLemmas.{types_lines-some}
 

@@ -3,7 +3,6 @@
 -- Source: RINEX 3.05, Table A2
 use Rattle.std.specs.Prelude.{◌≡◌, ◌≤◌, ℕ, zero, suc, ◌+◌, ◌*◌, List, [], ◌∷◌, ◌==◌, if◌then◌else◌, ◌++◌, take, drop, length, map, flat_map, codes, decimal, ℤ, pos, negsuc, Option, Some, None, is_some}
 use Rattle.std.specs.List.{filter, list_all, count_by}
-use Rattle.rtk_obs.specs.declared.code.Code.{Code}
 use Rattle.rtk_obs.specs.declared.any_code.AnyCode.{AnyCode}
 use Rattle.rtk_obs.specs.Code as gps
 use Rattle.rtk_obs.specs.AnyCode.{name_of, text_of}

@@ -1,10 +1,8 @@
-use Rattle.std.proofs.Common.{◌≡◌, ◌∙◌, ◌==◌, List, ap, sym, arith, take, true, get_or, ℕ}
-use Rattle.std.specs.List.{list_all}
+use Rattle.std.proofs.Common.{◌≡◌, ◌∙◌, List, ap, sym, arith, take, get_or, ℕ}
 use Rattle.std.proofs.lemmas.List.{take_all}
-use Rattle.rtk_obs.specs.declared.any_code.AnyCode.{AnyCode}
 use Rattle.rtk_obs.specs.declared.any_code.AnyCode.TheVariants.{G1C}
 use Rattle.rtk_rinex.specs.MixedHead.{letter}
-use Rattle.rtk_rinex.proofs.MixedListLemmas.{letter_of_all, letter_of_some}
+use Rattle.rtk_rinex.proofs.MixedListLemmas.{letter_of_all}
 use Rattle.rtk_rinex.proofs.mixed_header_text.version_letter.Goals as goal
 
 pub returns : goal.returns
