@@ -42,3 +42,14 @@ mod GpsHeaderLemmas
 mod TextPartLemmas
 mod TypesPieceLemmas
 mod SlotsPieceLemmas
+mod MixedCodesLemmas
+mod GroupLemmas
+mod SlotsReadLemmas
+mod SystemLinesLemmas
+mod SystemOrderLemmas
+mod SystemsReadLemmas
+mod SlotsLinesLemmas
+mod MixedPartsLemmas
+mod GlonassReadLemmas
+mod MixedReadLemmas
+mod MixedVerdictLemmas

@@ -33,23 +33,15 @@ use crate::mixed_types_read::read_types;
 use arrayvec::ArrayVec;
 use rtk_obs::{AnyCode, GpsMs, Position, civil};
 
-// Returns the letter of the file in the line at which a text begins, or M if it is the line of none.
+// Returns the letter of the file in the line at which a text begins, or M if it shows no letter of a file.
 fn read_file_letter(text: &[u8]) -> u8
     ensures good { IsFileLetter result }
     ensures shown { (file : ℕ) → IsFileLetter file → StartsWith (mixed_version_line file) text.now → result ≡ file }
 {
-    if text.len() <= 40 {
-        return b'M';
-    }
-    match text[40] {
-        b'G' => b'G',
-        b'R' => b'R',
-        b'E' => b'E',
-        b'C' => b'C',
-        b'J' => b'J',
-        b'S' => b'S',
-        b'I' => b'I',
-        _ => b'M',
+    if text.len() > 40 && b"GRECJSIM".contains(&text[40]) {
+        text[40]
+    } else {
+        b'M'
     }
 }
 
@@ -98,10 +90,7 @@ struct MixedHeaderParts {
 
 // Writes a header of the parts that a text shows, and returns them. If the text begins with a header, it
 // is this one, as `read_header` of header_check.rt has it.
-fn read_mixed_header(
-    text: &[u8],
-    out: &mut ArrayVec<u8, LONGEST_MIXED_HEADER>,
-) -> MixedHeaderParts
+fn read_mixed_header(text: &[u8], out: &mut ArrayVec<u8, LONGEST_MIXED_HEADER>) -> MixedHeaderParts
     requires empty { out.old.items ≡ [] }
     ensures good { IsMixedHead result.head × IsPositionView (position_view result.position) × IsMoment result.first }
     ensures written { out.new.items ≡ mixed_header_text result.head (position_view result.position) result.first }

@@ -107,7 +107,11 @@ fn types_content(system: u8, count: usize, shown: &[u8]) -> ArrayVec<u8, 60>
 }
 
 /// Puts the lines of the observation types of codes of one system.
-pub(crate) fn put_types_of(out: &mut ArrayVec<u8, LONGEST_MIXED_HEADER>, system: u8, codes: &[AnyCode])
+pub(crate) fn put_types_of(
+    out: &mut ArrayVec<u8, LONGEST_MIXED_HEADER>,
+    system: u8,
+    codes: &[AnyCode],
+)
     requires few { length codes.now ≤ 16 }
     requires room { length out.old.items + 324 ≤ 3483 }
     ensures items { out.new.items ≡ out.old.items ++ system_types_lines system codes.now }

@@ -1,13 +1,13 @@
 //! The slots of GLONASS in a header, read without a test of their form.
 
-ghost use Rattle.std.specs.Prelude.{◌≡◌, ℕ, ℤ, ◌≤◌, Some};
-ghost use Rattle.rtk_obs.specs.Carriers.{IsChannel};
-ghost use Rattle.rtk_rinex.specs.Columns.{is_negative};
-ghost use Rattle.rtk_rinex.specs.MixedHeader.{slot_text};
+ghost use Rattle.std.specs.Prelude.{◌≡◌, ℕ, ℤ, ◌≤◌, take, drop, unsigned_abs, Some};
+ghost use Rattle.rtk_obs.specs.Carriers.{IsChannel, AreChannels};
+ghost use Rattle.rtk_rinex.specs.Columns.{is_negative as is_negative_channel};
+ghost use Rattle.rtk_rinex.specs.MixedHeader.{channel_text};
 ghost use Rattle.rtk_rinex.specs.Steps.HeaderShown.{number_at};
 ghost use Rattle.rtk_rinex.specs.Steps.MixedHeaderRead.{slot_at, ShowsSlots};
 
-use crate::digits::{columns_at, number_at};
+use crate::digits::{columns_at, is_same, number_at};
 use rtk_obs::{Channel, Channels};
 
 // The bytes of a line of slots, its LF included.
@@ -40,13 +40,26 @@ fn slot_number(columns: &[u8], least: u8, most: u8) -> u8
     requires most { most ≤ 27 }
     ensures low { least ≤ result }
     ensures high { result ≤ most }
-    ensures shown { (slot : ℕ) (k : ℤ) → least ≤ slot → slot ≤ most → columns.now ≡ slot_text slot (Some k) → result ≡ slot }
+    ensures shown { (slot : ℕ) → least ≤ slot → slot ≤ most → number_at 1 2 columns.now ≡ slot → result ≡ slot }
 {
-    let number = number_at(columns, 1, 2) as u8;
-    if number < least || number > most {
+    let number = number_at(columns, 1, 2);
+    if number < u64::from(least) || number > u64::from(most) {
         return least;
     }
-    number
+    number as u8
+}
+
+// Returns the channel of a sign and a digit, or `None` if there is none.
+fn signed_channel(is_negative: bool, digit: u8) -> Option<Channel>
+    requires { digit ≤ 9 }
+    ensures { (k : ℤ) → IsChannel k → is_negative ≡ is_negative_channel k → digit ≡ unsigned_abs k → result ≡ Some k }
+{
+    let number = digit as i8;
+    if is_negative {
+        Channel::new(-number)
+    } else {
+        Channel::new(number)
+    }
 }
 
 // Returns the channel 0.
@@ -57,20 +70,21 @@ fn any_channel() -> Channel {
     channel
 }
 
-// Returns whether there is a minus sign in the columns of a slot.
-fn is_negative(columns: &[u8]) -> bool
-    ensures { (slot : ℕ) (k : ℤ) → IsChannel k → columns.now ≡ slot_text slot (Some k) → result ≡ is_negative k }
-{
-    columns.len() > 4 && columns[4] == b'-'
-}
-
 // Returns the channel in the columns of a slot, or 0 if there is none.
 fn slot_channel(columns: &[u8]) -> Channel
-    ensures { (slot : ℕ) (k : ℤ) → IsChannel k → columns.now ≡ slot_text slot (Some k) → result ≡ k }
+    ensures { (k : ℤ) → IsChannel k → take 2 (drop 4 columns.now) ≡ channel_text k → result ≡ k }
 {
-    let digit = number_at(columns, 5, 1) as i8;
-    let number = if is_negative(columns) { -digit } else { digit };
-    Channel::new(number).unwrap_or(any_channel())
+    let is_negative = is_same(columns_at(columns, 4, 1), b"-");
+    let digit = number_at(columns, 5, 1) as u8;
+    signed_channel(is_negative, digit).unwrap_or(any_channel())
+}
+
+// Returns the same channels. The function only hands on, and it is here for its clause.
+fn known(channels: Channels) -> Channels
+    ensures value { result ≡ channels }
+    ensures good { AreChannels result }
+{
+    channels
 }
 
 /// Returns the channels of the slots that the lines of slots show, at which a text begins. Where they
@@ -89,5 +103,5 @@ pub(crate) fn read_slots(text: &[u8]) -> Channels
         channels.set(slot, slot_channel(columns));
         last = slot;
     }
-    channels
+    known(channels)
 }

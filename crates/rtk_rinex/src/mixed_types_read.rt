@@ -1,51 +1,20 @@
 //! The observation types of a header of any systems, read without a test of their form.
 
 ghost use Rattle.std.specs.Int.{IsInRange};
-ghost use Rattle.std.specs.Prelude.{◌≡◌, ◌≢◌, ℕ, ◌+◌, ◌*◌, ◌<◌, ◌≤◌, List, [], ◌++◌, length, drop, slice_index_or, MatchOption, IfSome, Some};
+ghost use Rattle.std.specs.Prelude.{◌≡◌, ◌≢◌, ℕ, ◌+◌, ◌*◌, ◌<◌, ◌≤◌, List, [], ◌∷◌, ◌++◌, length, take, drop, slice_index_or, MatchOption, IfSome, Some, Decides};
 ghost use Rattle.rtk_obs.specs.declared.any_code.AnyCode.{AnyCode};
-ghost use Rattle.rtk_obs.specs.AnyCode.{name_of, all_any_codes};
-ghost use Rattle.rtk_rinex.specs.MixedHead.{letter, IsMixedList};
-ghost use Rattle.rtk_rinex.specs.MixedHeader.{version_letter, by_system, system_types_lines};
+ghost use Rattle.rtk_obs.specs.AnyCode.{name_of};
+ghost use Rattle.rtk_rinex.specs.MixedHead.{letter};
 ghost use Rattle.rtk_rinex.specs.Steps.HeaderShown.{name_at, number_at};
 ghost use Rattle.rtk_rinex.specs.Steps.MixedRoom.{IsSystemLetter, IsFileLetter, codes_of_letter, codes_before_letter, types_line_count};
-ghost use Rattle.rtk_rinex.specs.Steps.MixedHeaderRead.{AreAllAnyCodes, IsGroup, ShowsGroup, ReadsSystem, is_due, IsListOf, Reads, types_and_unit};
+ghost use Rattle.rtk_rinex.specs.Steps.MixedHeaderRead.{AreAllOf, IsGroup, ShowsGroup, ReadsSystem, is_due, IsListOf, Reads, types_and_unit};
 
-use crate::digits::{after, number_at};
+use crate::digits::{after, front, is_same, number_at};
 use crate::header_check::read_name;
 use crate::header_text::put_unit_line;
-use crate::mixed_header_text::{LONGEST_MIXED_HEADER, put_types_of, version_letter};
+use crate::mixed_header_text::{LONGEST_MIXED_HEADER, codes_of, put_types_of, version_letter};
 use arrayvec::ArrayVec;
 use rtk_obs::{ALL_ANY_CODES, AnyCode, any_code_laws};
-
-// Returns how many codes the system of a letter has.
-fn code_count(system: u8) -> usize
-    ensures value { result ≡ codes_of_letter system }
-    ensures bound { IsInRange 1 16 result }
-{
-    match system {
-        b'G' | b'C' => 16,
-        b'R' | b'S' => 4,
-        b'E' => 15,
-        b'J' => 13,
-        _ => 1,
-    }
-}
-
-// Returns how many codes stand before those of the system of a letter.
-fn codes_before_letter(system: u8) -> usize
-    ensures value { result ≡ codes_before_letter system }
-    ensures bound { result + codes_of_letter system ≤ 69 }
-{
-    match system {
-        b'G' => 0,
-        b'R' => 16,
-        b'E' => 20,
-        b'C' => 35,
-        b'J' => 51,
-        b'S' => 64,
-        _ => 68,
-    }
-}
 
 // Returns how many codes the first line of a system's types shows, at which a text begins, or 1 if it
 // shows no number that is good.
@@ -61,14 +30,14 @@ fn read_count(text: &[u8], most: usize) -> usize
     count
 }
 
-// Returns the place of a code in a list of all codes.
-fn place_in(all: &[AnyCode; 69], code: AnyCode) -> Option<usize>
-    ensures { MatchOption result ((k : ℕ) → k < 69 → slice_index_or all.now k code ≢ code)
-        (λ k. (k < 69) × (slice_index_or all.now k code ≡ code)) }
+// Returns the place of a code in a list of codes.
+fn place_in(all: &[AnyCode], code: AnyCode) -> Option<usize>
+    ensures { MatchOption result ((k : ℕ) → k < length all.now → slice_index_or all.now k code ≢ code)
+        (λ k. (k < length all.now) × (slice_index_or all.now k code ≡ code)) }
 {
     // A law: a number belongs to one code.
     any_code_laws();
-    for k in 0..69 {
+    for k in 0..all.len() {
         if all[k].number() == code.number() {
             return Some(k);
         }
@@ -76,12 +45,12 @@ fn place_in(all: &[AnyCode; 69], code: AnyCode) -> Option<usize>
     None
 }
 
-// Moves a code to this place of its system by an exchange, unless it stands there or earlier already.
-fn move_code(all: &mut [AnyCode; 69], code: AnyCode, place: usize)
-    requires place { place < 69 }
-    requires all { AreAllAnyCodes all.old }
-    requires letter { letter code ≡ letter (slice_index_or all_any_codes place code) }
-    ensures all { AreAllAnyCodes all.new }
+// Moves a code of a system to this place by an exchange, unless it stands there or earlier already.
+fn move_code(all: &mut [AnyCode], system: u8, code: AnyCode, place: usize)
+    requires place { place < length all.old }
+    requires all { AreAllOf system all.old }
+    requires letter { letter code ≡ system }
+    ensures all { AreAllOf system all.new }
     ensures before { (k : ℕ) (d : AnyCode) → k < place → slice_index_or all.new k d ≡ slice_index_or all.old k d }
     ensures there { ((k : ℕ) (d : AnyCode) → k < place → slice_index_or all.old k d ≢ code)
         → (d : AnyCode) → slice_index_or all.new place d ≡ code }
@@ -106,37 +75,42 @@ fn named_code(system: u8, name: &[u8]) -> Option<AnyCode>
     AnyCode::from_text(&[system, band, attribute])
 }
 
-// Moves the code of this system with this name to a place of the system, as `move_code` does. If no code
-// has the name, nothing moves.
-fn move_named_code(all: &mut [AnyCode; 69], system: u8, name: &[u8], place: usize)
-    requires place { place < 69 }
-    requires all { AreAllAnyCodes all.old }
-    requires letter { (d : AnyCode) → letter (slice_index_or all_any_codes place d) ≡ system }
-    ensures all { AreAllAnyCodes all.new }
+// Moves the code of this system with this name to a place, as `move_code` does. If no code has the name,
+// nothing moves.
+fn move_named_code(all: &mut [AnyCode], system: u8, name: &[u8], place: usize)
+    requires place { place < length all.old }
+    requires all { AreAllOf system all.old }
+    ensures all { AreAllOf system all.new }
     ensures before { (k : ℕ) (d : AnyCode) → k < place → slice_index_or all.new k d ≡ slice_index_or all.old k d }
     ensures there { (c : AnyCode) → letter c ≡ system → name.now ≡ name_of c
         → ((k : ℕ) (d : AnyCode) → k < place → slice_index_or all.old k d ≢ c) → (d : AnyCode) → slice_index_or all.new place d ≡ c }
 {
     if let Some(code) = named_code(system, name) {
-        move_code(all, code, place);
+        move_code(all, system, code, place);
     }
 }
 
-// Returns all codes in an order in which those of a system begin with the codes that the text names, as
-// long as they are good.
-fn read_codes(text: &[u8], system: u8) -> [AnyCode; 69]
-    requires { IsSystemLetter system }
-    ensures all { AreAllAnyCodes result }
-    ensures shown { (ds : List AnyCode) (i : ℕ) (d : AnyCode) → IsGroup system ds → i < length ds → i < codes_of_letter system
-        → ((j : ℕ) → j ≤ i → name_at j text.now ≡ name_of (slice_index_or ds j d))
-        → slice_index_or result (codes_before_letter system + i) d ≡ slice_index_or ds i d }
+// Moves the codes that the lines of a system's types name to the front of all its codes, in the order of
+// the lines, as long as the named codes are good.
+fn move_shown_codes(text: &[u8], system: u8, all: &mut [AnyCode])
+    requires few { length all.old ≤ 16 }
+    requires all { AreAllOf system all.old }
+    ensures all { AreAllOf system all.new }
+    ensures shown { (ds : List AnyCode) (i : ℕ) (d : AnyCode) → IsGroup system ds → i < length ds → i < length all.new
+        → ((j : ℕ) → j ≤ i → name_at j text.now ≡ name_of (slice_index_or ds j d)) → slice_index_or all.new i d ≡ slice_index_or ds i d }
 {
-    let mut all = ALL_ANY_CODES;
-    let before = codes_before_letter(system);
-    for i in 0..code_count(system) {
-        move_named_code(&mut all, system, read_name(text, i), before + i);
+    for i in 0..all.len() {
+        move_named_code(all, system, read_name(text, i), i);
     }
-    all
+}
+
+// Returns all codes of the system of a letter.
+fn all_of(system: u8) -> ArrayVec<AnyCode, 69>
+    requires { IsSystemLetter system }
+    ensures all { AreAllOf system result.items }
+    ensures few { IsInRange 1 16 (length result.items) }
+{
+    codes_of(system, &ALL_ANY_CODES)
 }
 
 // Returns the codes of a system that the lines of its types show, at which a text begins. If they show no
@@ -146,32 +120,37 @@ fn read_group(text: &[u8], system: u8) -> ArrayVec<AnyCode, 69>
     ensures shown { ShowsGroup system text.now result.items }
     ensures few { length result.items ≤ codes_of_letter system }
 {
-    let all = read_codes(text, system);
-    let before = codes_before_letter(system);
-    let count = read_count(text, code_count(system));
-    let mut codes = ArrayVec::new();
-    let own = all.as_slice().split_at(before).1.split_at(count).0;
-    if codes.try_extend_from_slice(own).is_err() {
-        unreachable!();
-    }
-    codes
+    let mut all = all_of(system);
+    move_shown_codes(text, system, all.as_mut_slice());
+    let count = read_count(text, all.len());
+    all.truncate(count);
+    all
 }
 
-// Returns whether the lines of a system are due where a text begins, after those of the listed codes.
-fn is_due(file: u8, system: u8, listed: &[AnyCode], text: &[u8]) -> bool
-    ensures { result ≡ is_due file system listed.now text.now }
+// Returns whether a text begins with this byte.
+fn begins_with(text: &[u8], byte: u8) -> bool
+    ensures { Decides result (take 1 text.now ≡ byte ∷ []) }
+{
+    is_same(front(text, 1), &[byte])
+}
+
+// Returns whether the lines of a system are due, after those of the listed codes.
+fn is_due(file: u8, system: u8, listed: &[AnyCode], begins: bool) -> bool
+    ensures { result ≡ is_due file system listed.now begins }
 {
     if file != b'M' {
         return file == system;
     }
-    if text.len() > 0 && text[0] == system {
+    if begins {
         return true;
     }
-    match system {
-        b'S' => listed.len() == 0,
-        b'I' => version_letter(listed) != b'M',
-        _ => false,
+    if system == b'S' {
+        return listed.len() == 0;
     }
+    if system == b'I' {
+        return version_letter(listed) != b'M';
+    }
+    false
 }
 
 // Reads the lines of the types of one system if they are due, lists its codes, and writes their lines.
@@ -190,7 +169,8 @@ fn read_system(
     ensures lines { length out.new.items ≤ length out.old.items + 81 * types_line_count (codes_of_letter system) }
 {
     let rest = after(text, out.len());
-    if is_due(file, system, listed.as_slice(), rest) {
+    let begins = begins_with(rest, system);
+    if is_due(file, system, listed.as_slice(), begins) {
         let codes = read_group(rest, system);
         put_types_of(out, system, codes.as_slice());
         if listed.try_extend_from_slice(codes.as_slice()).is_err() {

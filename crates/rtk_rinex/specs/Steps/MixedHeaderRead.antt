@@ -1,9 +1,9 @@
 -- What the lines of a header of any systems show, and the header that a text shows.
-use Rattle.std.specs.Prelude.{◌≡◌, ◌≢◌, ◌⊎◌, ℕ, ◌+◌, ◌*◌, ◌/◌, ◌%◌, ◌<◌, ◌≤◌, Bool, true, false, not, ◌==◌, ◌&&◌, ◌||◌, if◌then◌else◌, List, [], ◌∷◌, ◌++◌, length, take, drop, ℤ, Option, is_some, All, AllPairs, Contains, slice_index_or}
+use Rattle.std.specs.Prelude.{◌≡◌, ◌≢◌, ◌⊎◌, ℕ, ◌+◌, ◌*◌, ◌/◌, ◌%◌, ◌<◌, ◌≤◌, Bool, true, false, not, ◌==◌, ◌&&◌, ◌||◌, if◌then◌else◌, List, [], ◌∷◌, ◌++◌, length, take, drop, ℤ, Option, is_some, All, AllPairs, Contains, slice_index_or, Decides}
 use Rattle.std.specs.Int.{IsInRange}
 use Rattle.std.specs.List.{count_by}
 use Rattle.rtk_obs.specs.declared.any_code.AnyCode.{AnyCode}
-use Rattle.rtk_obs.specs.AnyCode.{name_of, all_any_codes}
+use Rattle.rtk_obs.specs.AnyCode.{name_of}
 use Rattle.rtk_obs.specs.Carriers.{AreChannels}
 use Rattle.rtk_rinex.specs.Reading.{IsMoment}
 use Rattle.rtk_rinex.specs.Header.{PositionView, IsPositionView, unit_line}
@@ -19,6 +19,12 @@ abbrev pub IsOnlyMixedHeader : List ℕ → MixedHeadView → PositionView → �
 IsOnlyMixedHeader bytes head site first =
     (h : MixedHeadView) (s : PositionView) (f : ℕ) (rest : List ℕ) → IsMixedHead h → IsPositionView s → IsMoment f
     → bytes ≡ mixed_header_text h s f ++ rest → (h ≡ head) × (s ≡ site) × (f ≡ first)
+
+-- whatever lines of a header begin the text, begin what is written too
+abbrev pub ShowsMixedHeader : List ℕ → List ℕ → Type 0
+ShowsMixedHeader text written =
+    (lines : List (List ℕ)) (rest : List ℕ) → All HasNoEnd lines → BeginsMixedHeader (text_of lines) → text ≡ text_of lines ++ rest
+    → (more : List ℕ) × (written ≡ text_of lines ++ more)
 
 -- what follows these lines in a text that is written, and what is known if the lines are all of a part
 pub record Goes (written : List ℕ) (lines : List (List ℕ)) (more : List ℕ) (Known : Type 0) : Type 0 where
@@ -41,12 +47,12 @@ pub record IsGroup (system : ℕ) (codes : List AnyCode) : Type 0 where
   pub own : All (λ c. letter c ≡ system) codes
   pub distinct : AllPairs (λ c d. c ≢ d) codes
 
--- all 69 codes, each once, and at each place one of the system that has this place among all codes
-pub record AreAllAnyCodes (all : List AnyCode) : Type 0 where
-  pub length : length all ≡ 69
+-- all codes of the system of this letter, each once
+pub record AreAllOf (system : ℕ) (all : List AnyCode) : Type 0 where
+  pub length : length all ≡ codes_of_letter system
+  pub own : All (λ c. letter c ≡ system) all
   pub distinct : AllPairs (λ c d. c ≢ d) all
-  pub every : (c : AnyCode) → Contains all c
-  pub letters : (k : ℕ) (d : AnyCode) → k < 69 → letter (slice_index_or all k d) ≡ letter (slice_index_or all_any_codes k d)
+  pub every : (c : AnyCode) → letter c ≡ system → Contains all c
 
 -- the codes of a system that the lines of its types show, at which a text begins
 pub record ShowsGroup (system : ℕ) (text : List ℕ) (codes : List AnyCode) : Type 0 where
@@ -55,22 +61,23 @@ pub record ShowsGroup (system : ℕ) (text : List ℕ) (codes : List AnyCode) : 
   pub shown : (ds : List AnyCode) (i : ℕ) (d : AnyCode) → IsGroup system ds → i < length ds → i < length codes
       → ((j : ℕ) → j ≤ i → name_at j text ≡ name_of (slice_index_or ds j d)) → slice_index_or codes i d ≡ slice_index_or ds i d
 
--- the lines of this system are due, after those of the listed codes: the letter of the file is its letter;
--- or the file has several systems, and the text begins with its letter, or no other system is left that
--- could be the second one
-abbrev pub is_due : ℕ → ℕ → List AnyCode → List ℕ → Bool
-is_due file system listed text =
-    if file == 77 then
-      slice_index_or text 0 0 == system || ((system == 83 && length listed == 0) || (system == 73 && not (version_letter listed == 77)))
+-- the lines of this system are due after those of the listed codes, where its letter begins the text or
+-- not: the letter of the file is its letter; or the file has several systems, and the text begins with its
+-- letter, or no other system is left that could be the second one
+abbrev pub is_due : ℕ → ℕ → List AnyCode → Bool → Bool
+is_due file system listed begins =
+    if file == 77 then (if begins then true else if system == 83 then length listed == 0 else if system == 73 then not (version_letter listed == 77) else false)
     else file == system
 
 -- the lines of one system are written as they are due, and its codes are listed
-pub record ReadsSystem (text : List ℕ) (file system : ℕ) (listed more : List AnyCode) (out written : List ℕ) : Type 0 where
+pub record ReadsSystem (text : List ℕ) (file system : ℕ) (old new : List AnyCode) (out written : List ℕ) : Type 0 where
   pub codes : List AnyCode
-  pub listed : more ≡ listed ++ codes
-  pub written : written ≡ out ++ system_types_lines system codes
-  pub due : is_due file system listed (drop (length out) text) ≡ true → ShowsGroup system (drop (length out) text) codes
-  pub none : is_due file system listed (drop (length out) text) ≡ false → codes ≡ []
+  pub listed : new ≡ old ++ codes
+  pub put : written ≡ out ++ system_types_lines system codes
+  pub begins : Bool
+  pub letter : Decides begins (take 1 (drop (length out) text) ≡ system ∷ [])
+  pub due : is_due file system old begins ≡ true → ShowsGroup system (drop (length out) text) codes
+  pub none : is_due file system old begins ≡ false → codes ≡ []
 
 -- the types of all systems up to the line of the unit
 abbrev pub types_and_unit : List AnyCode → List ℕ
