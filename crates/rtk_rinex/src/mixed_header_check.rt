@@ -31,15 +31,27 @@ use crate::mixed_header_text::{
 use crate::mixed_slots_read::read_slots;
 use crate::mixed_types_read::read_types;
 use arrayvec::ArrayVec;
-use rtk_obs::{AnyCode, GpsMs, Position, civil};
+use rtk_obs::{AnyCode, GpsMs, Position, any_code_laws, civil};
+
+// Returns a byte if it is the letter of a file, else M.
+fn file_letter(byte: u8) -> u8
+    ensures good { IsFileLetter result }
+    ensures same { IsFileLetter byte → result ≡ byte }
+{
+    if b"GRECJSIM".contains(&byte) {
+        byte
+    } else {
+        b'M'
+    }
+}
 
 // Returns the letter of the file in the line at which a text begins, or M if it shows no letter of a file.
 fn read_file_letter(text: &[u8]) -> u8
     ensures good { IsFileLetter result }
     ensures shown { (file : ℕ) → IsFileLetter file → StartsWith (mixed_version_line file) text.now → result ≡ file }
 {
-    if text.len() > 40 && b"GRECJSIM".contains(&text[40]) {
-        text[40]
+    if text.len() > 40 {
+        file_letter(text[40])
     } else {
         b'M'
     }
@@ -97,6 +109,8 @@ fn read_mixed_header(text: &[u8], out: &mut ArrayVec<u8, LONGEST_MIXED_HEADER>) 
     ensures shown { ShowsMixedHeader text.now out.new.items }
     ensures only { IsOnlyMixedHeader text.now result.head (position_view result.position) result.first }
 {
+    // A law: a place belongs to one code of a system, so the lines of the types show their codes.
+    any_code_laws();
     let file = read_file_letter(text);
     put_mixed_version_line(out, file);
     let made = read_made(after(text, out.len())).unwrap_or(any_creation_time());
@@ -150,6 +164,8 @@ pub fn check_mixed_header(text: &[u8]) -> Result<MixedHeading<'_>, CheckFault>
     let mut written = ArrayVec::new();
     let parts = read_mixed_header(text, &mut written);
     let lines = compare_lines(text, written.as_slice())?;
+    // A law: a place belongs to one code of a system, so the header is of whole lines.
+    any_code_laws();
     Ok(MixedHeading {
         head: parts.head,
         position: parts.position,
