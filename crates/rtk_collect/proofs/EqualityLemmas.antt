@@ -20,6 +20,7 @@ use Rattle.rtk_obs.proofs.PublicLaws.{code_same}
 use Rattle.rtk_collect.specs.declared.conflicts.SatelliteCode.{SatelliteCode}
 use Rattle.rtk_collect.specs.contracts.conflicts.SatelliteCodePartialEq.TheImpl as satellite_code_eq
 use Rattle.rtk_collect.specs.Key.{key, key_at, rank_of}
+use Rattle.rtk_collect.specs.Entries.{Entries}
 use Rattle.rtk_obs.specs.Slip.{is_same_source}
 use Rattle.rtk_collect.specs.Equal.{equal_cells, equal_1005, equal_1006}
 use Rattle.rtk_collect.specs.Laws.{KeysAreDistinct, EqualityDecides}
@@ -82,6 +83,16 @@ place-one c d h = sym (code_at-place c) ∙ ap code_at h ∙ code_at-place d
 
 pub parts-one : (s s' p p' r r' : ℕ) → p < 16 → p' < 16 → r < 2 → r' < 2 → (s * 16 + p) * 2 + r ≡ (s' * 16 + p') * 2 + r' → (s ≡ s') × (p ≡ p') × (r ≡ r')
 parts-one s s' p p' r r' a b c d h = (omega arith, omega arith, omega arith)
+
+pub number-one : (p q r s : ℕ) → r < 2 → s < 2 → p * 2 + r ≡ q * 2 + s → (p ≡ q) × (r ≡ s)
+number-one p q r s a b h = (omega arith, omega arith)
+
+-- equal keys have one number of satellite and code, and one kind of message
+pub key-one : {E S : Type 0} (es : Entries E S) (c d : E) → key es c ≡ key es d → (es.place c ≡ es.place d) × ((es.cell c).source ≡ (es.cell d).source)
+unfolding key key_at
+key-one es c d h =
+    let p = number-one (es.place c) (es.place d) (rank_of (es.cell c).source) (rank_of (es.cell d).source) (rank-less (es.cell c).source) (rank-less (es.cell d).source) h in
+    (p.0, rank-one (es.cell c).source (es.cell d).source p.1)
 
 pub keys-are-distinct : KeysAreDistinct
 unfolding key key_at

@@ -13,6 +13,7 @@ use Rattle.rtk_collect.specs.Key.{key, Above, KeysRise}
 use Rattle.rtk_collect.specs.EpochSet.{AreKeptOf, AreLeftBeside}
 use Rattle.rtk_collect.specs.Steps.First.{AreFirst}
 use Rattle.rtk_collect.proofs.RisingLemmas.{keys-rise}
+use Rattle.rtk_collect.specs.Gps.{gps}
 
 pub none_of : {X : Type 0} (xs : List X) (n : ℕ) → n ≡ length xs → (n == 0) ≡ true → xs ≡ []
 none_of [] n e h = refl
@@ -40,37 +41,37 @@ left-none xs left h = elim h [
 
 -- ---- cells that are left are kept as all are
 
-above-rest : (k : ℕ) (x : CellEntry) (xs : List CellEntry) → k < key x → Above (key x) xs → Above k xs
+above-rest : (k : ℕ) (x : CellEntry) (xs : List CellEntry) → k < key gps x → Above gps (key gps x) xs → Above gps k xs
 above-rest k x [] h a = tt
 above-rest k x (y ∷ ys) h a = omega arith
 
-above-if : (b : Bool) (k : ℕ) (x : CellEntry) (rest : List CellEntry) → k < key x → Above k rest → Above k (cond b (x ∷ rest) rest)
+above-if : (b : Bool) (k : ℕ) (x : CellEntry) (rest : List CellEntry) → k < key gps x → Above gps k rest → Above gps k (cond b (x ∷ rest) rest)
 above-if true k x rest h a = h
 above-if false k x rest h a = a
 
-above-filter : (p : CellEntry → Bool) (k : ℕ) (xs : List CellEntry) → KeysRise xs → Above k xs → Above k (filter p xs)
+above-filter : (p : CellEntry → Bool) (k : ℕ) (xs : List CellEntry) → KeysRise gps xs → Above gps k xs → Above gps k (filter p xs)
 above-filter p k [] r a = tt
 above-filter p k (x ∷ xs) r a = above-if (p x) k x (filter p xs) a (above-filter p k xs r.1 (above-rest k x xs a r.0))
 
-rises-if : (b : Bool) (x : CellEntry) (rest : List CellEntry) → Above (key x) rest → KeysRise rest → KeysRise (cond b (x ∷ rest) rest)
+rises-if : (b : Bool) (x : CellEntry) (rest : List CellEntry) → Above gps (key gps x) rest → KeysRise gps rest → KeysRise gps (cond b (x ∷ rest) rest)
 rises-if true x rest a r = (a, r)
 rises-if false x rest a r = r
 
-rises-filter : (p : CellEntry → Bool) (xs : List CellEntry) → KeysRise xs → KeysRise (filter p xs)
+rises-filter : (p : CellEntry → Bool) (xs : List CellEntry) → KeysRise gps xs → KeysRise gps (filter p xs)
 rises-filter p [] r = tt
-rises-filter p (x ∷ xs) r = rises-if (p x) x (filter p xs) (above-filter p (key x) xs r.1 r.0) (rises-filter p xs r.1)
+rises-filter p (x ∷ xs) r = rises-if (p x) x (filter p xs) (above-filter p (key gps x) xs r.1 r.0) (rises-filter p xs r.1)
 
-kept-filter : (s : CellSource) (p : CellEntry → Bool) (xs : List CellEntry) → AreKeptOf s xs → AreKeptOf s (filter p xs)
+kept-filter : (s : CellSource) (p : CellEntry → Bool) (xs : List CellEntry) → AreKeptOf gps IsInRange s xs → AreKeptOf gps IsInRange s (filter p xs)
 kept-filter s p xs k = record {
   rises = rises-filter p xs k.rises;
   range = All-filter p IsInRange xs k.range;
   kind = All-filter p (λ (c : CellEntry). c.cell.source ≡ s) xs k.kind;
 }
 
-pub kept-left : (s : CellSource) (known xs left : List CellEntry) → AreKeptOf s xs → AreLeftBeside known xs left → AreKeptOf s left
+pub kept-left : (s : CellSource) (known xs left : List CellEntry) → AreKeptOf gps IsInRange s xs → AreLeftBeside known xs left → AreKeptOf gps IsInRange s left
 kept-left s known xs left k h = elim h [
-  | inl same ↦ subst (AreKeptOf s) (sym same) k
-  | inr less ↦ subst (AreKeptOf s) (sym less) (kept-filter s (λ (e : CellEntry). not (has_cell known e.satellite e.code)) xs k)
+  | inl same ↦ subst (AreKeptOf gps IsInRange s) (sym same) k
+  | inr less ↦ subst (AreKeptOf gps IsInRange s) (sym less) (kept-filter s (λ (e : CellEntry). not (has_cell known e.satellite e.code)) xs k)
 ]
 
 -- cells after a call that takes others in their place, or leaves them

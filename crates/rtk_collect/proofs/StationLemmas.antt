@@ -18,17 +18,20 @@ use Rattle.rtk_collect.specs.NextWindow.{outcome_of_station}
 use Rattle.rtk_collect.specs.Steps.Observed.{ListsConflicts}
 use Rattle.rtk_collect.specs.Steps.Slot.{AnswersStationMessage}
 use Rattle.rtk_collect.proofs.ArrivalsLemmas.{keys, same_greatest, with_epoch-new, with_epoch-below, with_epoch-same}
+use Rattle.rtk_obs.specs.declared.cell.CellEntry.{CellEntry}
+use Rattle.rtk_collect.specs.declared.conflicts.SatelliteCode.{SatelliteCode}
+use Rattle.rtk_collect.specs.Entries.{Entries}
 
-pub length-keys : (xs : List EpochSetView) → length (keys xs) ≡ length xs
+pub length-keys : {E : Type 0} (xs : List (EpochSetView E)) → length (keys xs) ≡ length xs
 length-keys [] = refl
 length-keys (x ∷ xs) = ap suc (length-keys xs)
 
 -- whether n epochs have come, from what is held
-pub full-is : (n : ℕ) (sets : List EpochSetView) (before : List Arrival) → sets ≡ take n (kept n before) → eqb (length sets) n ≡ nat_le n (length (epochs before))
-full-is n sets before h =
-    let a : length sets ≡ min n (length (kept n before)) = ap length h ∙ length-take n (kept n before) in
-    let b : min n (length (keys (kept n before))) ≡ min n (length (epochs before)) = sym (length-take n (keys (kept n before))) ∙ ap length (same_greatest n before) ∙ length-take n (epochs before) in
-    let k : length (keys (kept n before)) ≡ length (kept n before) = length-keys (kept n before) in
+pub full-is : {E S : Type 0} (es : Entries E S) (of : Message → List E) (n : ℕ) (sets : List (EpochSetView E)) (before : List Arrival) → sets ≡ take n (kept es of n before) → eqb (length sets) n ≡ nat_le n (length (epochs before))
+full-is es of n sets before h =
+    let a : length sets ≡ min n (length (kept es of n before)) = ap length h ∙ length-take n (kept es of n before) in
+    let b : min n (length (keys (kept es of n before))) ≡ min n (length (epochs before)) = sym (length-take n (keys (kept es of n before))) ∙ ap length (same_greatest es of n before) ∙ length-take n (epochs before) in
+    let k : length (keys (kept es of n before)) ≡ length (kept es of n before) = length-keys (kept es of n before) in
     elim (cases_lt (length (epochs before)) n) [
       | inl less ↦ ne_eqb (length sets) n (λ e. omega arith) ∙ sym (lt-leb n (length (epochs before)) less)
       | inr full ↦ eq-eqb (length sets) n (omega arith) ∙ sym (le-leb n (length (epochs before)) full)
@@ -121,7 +124,7 @@ excused-is n m before = excused-on-time n m (first_with (number_of m) before) �
 
 -- one station message, from the kept one
 
-module _ {T : Type 0} (wrap : T → Message) (eq : T → T → Bool) (same_eq : (a b : T) → equal_stations (wrap a) (wrap b) ≡ eq a b) where
+module _ (es : Entries CellEntry SatelliteCode) (of : Message → List CellEntry) {T : Type 0} (wrap : T → Message) (eq : T → T → Bool) (same_eq : (a b : T) → equal_stations (wrap a) (wrap b) ≡ eq a b) where
   first-wrapped : (slot : Option T) (m : T) → is_first equal_stations (option_map wrap slot) (wrap m) ≡ is_first eq slot m
   first-wrapped None m = refl
   first-wrapped (Some x) m = same_eq x m
@@ -147,14 +150,14 @@ module _ {T : Type 0} (wrap : T → Message) (eq : T → T → Bool) (same_eq : 
   slot-class None new m full Repeat h = let q = h.0 in cc
   slot-class (Some x) new m full Repeat h = (rw (h.0, and-none full, same_eq x m, h.0) refl, ap (option_map wrap) h.1 ∙ rw (h.0, and-none full) refl)
 
-  answers-from : (n : ℕ) (m : T) (before : List Arrival) (offer : Outcome) → ClassOf offer (class_of n (At None (wrap m)) before) → IsRightAnswer n (At None (wrap m)) before offer []
+  answers-from : (n : ℕ) (m : T) (before : List Arrival) (offer : Outcome) → ClassOf offer (class_of es of n (At None (wrap m)) before) → IsRightAnswer es of n (At None (wrap m)) before offer []
   answers-from n m before Late h = (h, refl, refl)
-  answers-from n m before (Taken out) h = (h.0, refl, ap (λ o. option_to_list o ++ closed n before) (sym h.1))
+  answers-from n m before (Taken out) h = (h.0, refl, ap (λ o. option_to_list o ++ closed es of n before) (sym h.1))
   answers-from n m before Conflict h = (h, refl, refl)
   answers-from n m before Repeat h = (h, refl, refl)
 
   pub record StationStep (n k : ℕ) (m : T) (before : List Arrival) (offer : Outcome) (slot : Option T) : Type 0 where
-    pub answers : IsRightAnswer n (At None (wrap m)) before offer []
+    pub answers : IsRightAnswer es of n (At None (wrap m)) before offer []
     pub after : option_map wrap slot ≡ station n k (At None (wrap m) ∷ before)
 
   pub slot-parts : (n k : ℕ) (m : T) (slot new : Option T) (full : Bool) (offer : Outcome) (before : List Arrival) → number_of (wrap m) ≡ k → option_map wrap slot ≡ station n k before
@@ -164,7 +167,7 @@ module _ {T : Type 0} (wrap : T → Message) (eq : T → T → Bool) (same_eq : 
       let s' : station n (number_of (wrap m)) before ≡ option_map wrap slot = ap (λ t. station n t before) num ∙ sym s in
       let ex : is_excused n (At None (wrap m)) before ≡ is_first eq slot m = excused-is n (wrap m) before ∙ ap (λ o. is_first equal_stations o (wrap m)) s' ∙ first-wrapped slot m in
       let over : late n (At None (wrap m)) before ≡ (full && not (is_first eq slot m)) = ap (λ b. b && not (is_excused n (At None (wrap m)) before)) (sym f) ∙ ap (λ b. full && not b) ex in
-      let class : class_of n (At None (wrap m)) before ≡ class_here full slot m =
+      let class : class_of es of n (At None (wrap m)) before ≡ class_here full slot m =
       ap (λ b. if b then LateClass else class_of_station (wrap m) (station n (number_of (wrap m)) before)) over ∙ ap (λ o. if full && not (is_first eq slot m) then LateClass else class_of_station (wrap m) o) s' in
       let kept_is : station n k (At None (wrap m) ∷ before) ≡ kept_here full slot m =
       ap (λ b. if b && not (late n (At None (wrap m)) before) then first (station n k before) (wrap m) else station n k before) (eq-eqb (number_of (wrap m)) k num)

@@ -1,4 +1,6 @@
+pub mod Entries
 pub mod Key
+pub mod Gps
 pub mod Equal
 pub mod EpochSet
 pub mod Arrival

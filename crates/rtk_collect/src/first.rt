@@ -1,5 +1,7 @@
 //! The first 1004 of an epoch, whose satellites the epoch keeps.
 
+ghost use Rattle.rtk_collect.specs.Gps.{gps};
+ghost use Rattle.rtk_obs.specs.declared.cell.CellEntry.{CellEntry};
 ghost use Rattle.std.specs.Prelude.{◌≡◌, ◌<◌, ◌≤◌, [], length, filter, IsSome, IfSome, IfOk, OnOk, OnErr, slice_index_or, slice_set};
 ghost use Rattle.std.specs.List.{insert};
 ghost use Rattle.rtk_message.specs.AnyDecoded.{IsValid};
@@ -35,7 +37,7 @@ pub(crate) fn first_satellites<'a>(
     requires place { at ≡ leading epoch sets.now.items }
     ensures cells { IfSome result (λ satellites. cells_of (borrowed message.entry) ≡ cells_of_1004 satellites.now) }
     ensures first { IfSome result (λ satellites. AreFirst satellites.now) }
-    ensures none { IsSome result → HasNoLegacy epoch sets.now.items }
+    ensures none { IsSome result → HasNoLegacy gps epoch sets.now.items }
 {
     let Borrowed::Message(Message::Obs1004(message)) = message else {
         return None;
@@ -55,11 +57,11 @@ fn take_first_at(
 ) -> Result<(), AllocError>
     requires within { at < length sets.old.items }
     requires first { AreFirst satellites.now }
-    requires none { (d : EpochSetView) → filter (is_from Legacy) (slice_index_or sets.old.items at d).cells ≡ [] }
-    ensures items { (d : EpochSetView) → OnOk result (sets.new.items
-        ≡ slice_set sets.old.items at (joined (cells_of_1004 satellites.now) (slice_index_or sets.old.items at d))) }
-    ensures fresh { (d : EpochSetView) → 0 < fresh (cells_of_1004 satellites.now) (slice_index_or sets.old.items at d).cells }
-    ensures conflicts { (d : EpochSetView) → conflicts (cells_of_1004 satellites.now) (slice_index_or sets.old.items at d).cells ≡ [] }
+    requires none { (d : EpochSetView CellEntry) → filter (is_from gps Legacy) (slice_index_or sets.old.items at d).cells ≡ [] }
+    ensures items { (d : EpochSetView CellEntry) → OnOk result (sets.new.items
+        ≡ slice_set sets.old.items at (joined gps (cells_of_1004 satellites.now) (slice_index_or sets.old.items at d))) }
+    ensures fresh { (d : EpochSetView CellEntry) → 0 < fresh gps (cells_of_1004 satellites.now) (slice_index_or sets.old.items at d).cells }
+    ensures conflicts { (d : EpochSetView CellEntry) → conflicts gps (cells_of_1004 satellites.now) (slice_index_or sets.old.items at d).cells ≡ [] }
     ensures err { OnErr result (sets.new.items ≡ sets.old.items) }
 {
     let set = &mut sets[at];
@@ -78,7 +80,7 @@ fn open_first_at(
     requires within { at ≤ length sets.old.items }
     requires first { AreFirst satellites.now }
     requires spare { AreSpare spare.old }
-    ensures items { OnOk result (sets.new.items ≡ insert sets.old.items at (joined (cells_of_1004 satellites.now) (no_cells epoch))) }
+    ensures items { OnOk result (sets.new.items ≡ insert sets.old.items at (joined gps (cells_of_1004 satellites.now) (no_cells epoch))) }
     ensures err { OnErr result (sets.new.items ≡ sets.old.items) }
     ensures spare { AreSpare spare.new }
 {
@@ -104,11 +106,11 @@ pub(crate) fn offer_first(
     requires falls { EpochsFall sets.old.items }
     requires place { at ≡ leading epoch sets.old.items }
     requires first { AreFirst satellites.now }
-    requires none { HasNoLegacy epoch sets.old.items }
+    requires none { HasNoLegacy gps epoch sets.old.items }
     requires spare { AreSpare spare.old }
-    ensures added { IfOk result (λ offer. AddsCells places epoch (cells_of_1004 satellites.now) sets.old.items sets.new.items offer []) }
+    ensures added { IfOk result (λ offer. AddsCells gps places epoch (cells_of_1004 satellites.now) sets.old.items sets.new.items offer []) }
     ensures err { OnErr result (sets.new.items ≡ sets.old.items) }
-    ensures refused { OnErr result (WouldTakeCells places epoch (cells_of_1004 satellites.now) sets.old.items) }
+    ensures refused { OnErr result (WouldTakeCells gps places epoch (cells_of_1004 satellites.now) sets.old.items) }
     ensures spare { AreSpare spare.new }
 {
     if has_epoch(sets, at, epoch) {

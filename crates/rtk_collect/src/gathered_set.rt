@@ -1,5 +1,7 @@
 //! An epoch with its cells.
 
+ghost use Rattle.rtk_collect.specs.Gps.{gps};
+ghost use Rattle.rtk_obs.specs.declared.cell.CellEntry.{CellEntry};
 ghost use Rattle.std.specs.Prelude.{◌≡◌, ◌<◌, ◌≤◌, [], length, filter, IsTrue, IfOk, OnOk, OnErr, All};
 ghost use Rattle.rtk_obs.specs.Cell.{IsInRange};
 ghost use Rattle.rtk_obs.specs.LegacyCells.{cells_of_1004};
@@ -51,14 +53,17 @@ pub(crate) struct Spare {
 impl Model for GatheredSet {
     ghost use Rattle.std.specs.Prelude.{◌≡◌};
     ghost use Rattle.rtk_obs.specs.declared.cell.CellSource.TheVariants.{Legacy, Msm};
+    ghost use Rattle.rtk_obs.specs.declared.cell.CellEntry.{CellEntry};
+    ghost use Rattle.rtk_obs.specs.Cell.{IsInRange};
     ghost use Rattle.rtk_collect.specs.EpochSet.{EpochSetView, AreKeptOf, with_cells};
+    ghost use Rattle.rtk_collect.specs.Gps.{gps};
 
-    ghost Value = { EpochSetView };
+    ghost Value = { EpochSetView CellEntry };
 
-    ghost view = { λ s. record { epoch = s.epoch; cells = with_cells s.legacy s.msm.items } };
+    ghost view = { λ s. record { epoch = s.epoch; cells = with_cells gps s.legacy s.msm.items } };
 
     ghost invariant = { λ s. (s ≡ record { epoch = s.epoch; msm = s.msm; legacy = s.legacy })
-        × AreKeptOf Msm s.msm.items × AreKeptOf Legacy s.legacy };
+        × AreKeptOf gps IsInRange Msm s.msm.items × AreKeptOf gps IsInRange Legacy s.legacy };
 }
 
 impl GatheredSet {
@@ -105,11 +110,11 @@ impl GatheredSet {
 
     /// Returns the cells that came in an MSM (1074 to 1077).
     pub fn msm_cells(&self) -> &[CellEntry]
-        ensures value { result.now ≡ filter (is_from Msm) self.now.cells }
-        ensures rises { KeysRise result.now }
+        ensures value { result.now ≡ filter (is_from gps Msm) self.now.cells }
+        ensures rises { KeysRise gps result.now }
         ensures range { All IsInRange result.now }
         ensures kind { AreOfOneKind result.now }
-        ensures all_rise { KeysRise self.now.cells }
+        ensures all_rise { KeysRise gps self.now.cells }
         ensures all_in_range { All IsInRange self.now.cells }
         ensures few { length self.now.cells ≤ 1024 }
     {
@@ -119,11 +124,11 @@ impl GatheredSet {
     /// Returns the cells that came in a 1004. If they are kept as satellites, they are put into
     /// this room.
     pub fn legacy_cells<'a>(&'a self, room: &'a mut ArrayVec<CellEntry, 64>) -> &'a [CellEntry]
-        ensures value { result.now ≡ filter (is_from Legacy) self.now.cells }
-        ensures rises { KeysRise result.now }
+        ensures value { result.now ≡ filter (is_from gps Legacy) self.now.cells }
+        ensures rises { KeysRise gps result.now }
         ensures range { All IsInRange result.now }
         ensures kind { AreOfOneKind result.now }
-        ensures all_rise { KeysRise self.now.cells }
+        ensures all_rise { KeysRise gps self.now.cells }
         ensures all_in_range { All IsInRange self.now.cells }
         ensures few { length self.now.cells ≤ 1024 }
     {
@@ -133,8 +138,8 @@ impl GatheredSet {
     /// Returns the cells that came in a 1004, or those of them whose satellite and code no cell of
     /// an MSM has. If they are kept as satellites, they are put into this room.
     pub fn legacy_left<'a>(&'a self, room: &'a mut ArrayVec<CellEntry, 64>) -> &'a [CellEntry]
-        ensures left { AreLeftBeside (filter (is_from Msm) self.now.cells) (filter (is_from Legacy) self.now.cells) result.now }
-        ensures rises { KeysRise result.now }
+        ensures left { AreLeftBeside (filter (is_from gps Msm) self.now.cells) (filter (is_from gps Legacy) self.now.cells) result.now }
+        ensures rises { KeysRise gps result.now }
         ensures range { All IsInRange result.now }
         ensures kind { AreOfOneKind result.now }
     {
@@ -148,7 +153,7 @@ impl GatheredSet {
 
     /// Returns whether no cell came in a 1004.
     pub(crate) fn has_no_legacy(&self) -> bool
-        ensures { IsTrue result → filter (is_from Legacy) self.now.cells ≡ [] }
+        ensures { IsTrue result → filter (is_from gps Legacy) self.now.cells ≡ [] }
     {
         self.legacy.is_empty()
     }
@@ -157,10 +162,10 @@ impl GatheredSet {
     #[inline(always)]
     pub(crate) fn take_first(&mut self, satellites: &[Satellite]) -> Result<(), AllocError>
         requires first { AreFirst satellites.now }
-        requires none { filter (is_from Legacy) self.old.cells ≡ [] }
-        ensures set { OnOk result (self.new ≡ joined (cells_of_1004 satellites.now) self.old) }
-        ensures fresh { 0 < fresh (cells_of_1004 satellites.now) self.old.cells }
-        ensures conflicts { conflicts (cells_of_1004 satellites.now) self.old.cells ≡ [] }
+        requires none { filter (is_from gps Legacy) self.old.cells ≡ [] }
+        ensures set { OnOk result (self.new ≡ joined gps (cells_of_1004 satellites.now) self.old) }
+        ensures fresh { 0 < fresh gps (cells_of_1004 satellites.now) self.old.cells }
+        ensures conflicts { conflicts gps (cells_of_1004 satellites.now) self.old.cells ≡ [] }
         ensures err { OnErr result (self.new ≡ self.old) }
     {
         self.legacy.take_first(satellites)
@@ -178,13 +183,13 @@ impl GatheredSet {
         requires few { length cells.now ≤ 64 }
         requires range { All IsInRange cells.now }
         requires kind { AreOfOneKind cells.now }
-        requires rising { IsTrue rises → KeysRise cells.now }
+        requires rising { IsTrue rises → KeysRise gps cells.now }
         requires empty { found.old ≡ [] }
-        ensures set { IfOk result (λ n. self.new ≡ joined cells.now self.old) }
-        ensures fresh { IfOk result (λ n. n ≡ fresh cells.now self.old.cells) }
-        ensures conflicts { IfOk result (λ n. found.new ≡ conflicts cells.now self.old.cells) }
+        ensures set { IfOk result (λ n. self.new ≡ joined gps cells.now self.old) }
+        ensures fresh { IfOk result (λ n. n ≡ fresh gps cells.now self.old.cells) }
+        ensures conflicts { IfOk result (λ n. found.new ≡ conflicts gps cells.now self.old.cells) }
         ensures err { OnErr result (self.new ≡ self.old) }
-        ensures refused { OnErr result (0 < fresh cells.now self.old.cells) }
+        ensures refused { OnErr result (0 < fresh gps cells.now self.old.cells) }
     {
         match source_of(cells) {
             CellSource::Msm => join_list(&mut self.msm, cells, rises, found),

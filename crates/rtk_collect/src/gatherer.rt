@@ -4,6 +4,9 @@
 //! 1004, as the epoch before it has, or as the message has if these are more. `hand_back` keeps the
 //! lists of one closed epoch, and the next epoch that wants just their room takes them.
 
+ghost use Rattle.rtk_collect.specs.Gps.{gps};
+ghost use Rattle.rtk_obs.specs.MessageCells.{cells_of};
+ghost use Rattle.rtk_obs.specs.declared.cell.CellEntry.{CellEntry};
 ghost use Rattle.std.specs.Prelude.{◌≡◌, ◌≤◌, List, [], length, take, IfOk, OnErr, None};
 ghost use Rattle.rtk_collect.specs.Arrival.{Arrival};
 ghost use Rattle.rtk_collect.specs.Accepted.{kept};
@@ -54,10 +57,11 @@ pub struct Gatherer {
 // 1006.
 impl Model for Gatherer {
     ghost use Rattle.std.specs.Prelude.{◌≡◌};
+    ghost use Rattle.rtk_obs.specs.declared.cell.CellEntry.{CellEntry};
     ghost use Rattle.rtk_collect.specs.Collector.{CollectorView, IsCollectorView};
     ghost use Rattle.rtk_collect.specs.Steps.Room.{AreSpare};
 
-    ghost Value = { CollectorView };
+    ghost Value = { CollectorView CellEntry };
 
     ghost view = { λ c. record { places = c.places; sets = c.sets.items; arp1005 = c.stations.arp1005; arp1006 = c.stations.arp1006 } };
 
@@ -81,7 +85,7 @@ impl Gatherer {
         requires low { 2 ≤ places }
         requires high { places ≤ 4096 }
         ensures empty { result ≡ record { places = places; sets = []; arp1005 = None; arp1006 = None } }
-        ensures history { RepresentsArrivals result [] }
+        ensures history { RepresentsArrivals gps cells_of result [] }
     {
         Gatherer {
             alloc,
@@ -110,12 +114,12 @@ impl Gatherer {
         ensures places { self.new.places ≡ self.old.places }
         ensures bound { length self.new.sets ≤ self.new.places }
         // Fails only if memory is refused: tests/system/calls, rows offer.
-        ensures answer { IfOk result (λ offer. AnswersArrival self.old dated.entry offer conflicts.new self.new) }
+        ensures answer { IfOk result (λ offer. AnswersArrival gps cells_of self.old dated.entry offer conflicts.new self.new) }
         ensures closed { IfOk result (λ offer. ClosesBelow offer self.new.sets) }
         ensures least_closes { IfOk result (λ offer. ClosesLeast self.old.places self.old.sets offer) }
         ensures least { LeastNeverFalls self.old self.new }
         ensures err { OnErr result (self.new ≡ self.old) }
-        ensures refused { OnErr result (WouldBeTaken self.old dated.entry) }
+        ensures refused { OnErr result (WouldBeTaken gps cells_of self.old dated.entry) }
         ensures none { OnErr result (conflicts.new ≡ []) }
     {
         conflicts.clear();
@@ -163,7 +167,7 @@ impl Gatherer {
     /// that of the 1006, else zero.
     pub fn station(&self) -> Position
         ensures position { IsPosition self.now.arp1005 self.now.arp1006 result }
-        ensures kept { (before : List Arrival) → RepresentsArrivals self.now before → IsPositionOf self.now.places before result }
+        ensures kept { (before : List Arrival) → RepresentsArrivals gps cells_of self.now before → IsPositionOf self.now.places before result }
     {
         position(self.stations)
     }
@@ -173,9 +177,9 @@ impl Gatherer {
         ensures sets { result.sets ≡ self.sets }
         ensures arp1005 { result.arp1005 ≡ self.arp1005 }
         ensures arp1006 { result.arp1006 ≡ self.arp1006 }
-        ensures epochs { (before : List Arrival) → RepresentsArrivals self before
-            → result.sets ≡ take self.places (kept self.places before) }
-        ensures stations { (before : List Arrival) → RepresentsArrivals self before → KeepsStations result self.places before }
+        ensures epochs { (before : List Arrival) → RepresentsArrivals gps cells_of self before
+            → result.sets ≡ take self.places (kept gps cells_of self.places before) }
+        ensures stations { (before : List Arrival) → RepresentsArrivals gps cells_of self before → KeepsStations result self.places before }
     {
         GatheredSets::new(self.sets, self.stations)
     }

@@ -1,5 +1,6 @@
 //! What is left of a collector or a gatherer at its end.
 
+ghost use Rattle.rtk_obs.specs.declared.cell.CellEntry.{CellEntry};
 ghost use Rattle.std.specs.Prelude.{◌≡◌, ℕ, ◌<◌, List, [], ◌∷◌, ◌++◌, map, IfSome, IfNone, All};
 ghost use Rattle.rtk_collect.specs.Arrival.{Arrival};
 ghost use Rattle.rtk_collect.specs.Collector.{IsLeftView, KeepsStations};
@@ -18,7 +19,7 @@ use std::marker::Model;
 /// An epoch with its cells, in whatever lists it keeps them.
 pub trait KeptSet: Drop {
     /// The epoch in ms and its cells.
-    ghost epoch_set: { Self → EpochSetView };
+    ghost epoch_set: { Self → EpochSetView CellEntry };
 }
 
 impl KeptSet for EpochSet {
@@ -45,9 +46,10 @@ pub type GatheredSets = LeftSets<GatheredSet>;
 // Clauses see the epochs that are left, from the greatest to the least, the 1005 and the 1006.
 impl<S: KeptSet> Model for LeftSets<S> {
     ghost use Rattle.std.specs.Prelude.{◌≡◌, map};
+    ghost use Rattle.rtk_obs.specs.declared.cell.CellEntry.{CellEntry};
     ghost use Rattle.rtk_collect.specs.Collector.{LeftView, IsLeftView};
 
-    ghost Value = { LeftView };
+    ghost Value = { LeftView CellEntry };
 
     ghost view = { λ l. record { sets = map S.epoch_set l.sets.items; arp1005 = l.stations.arp1005; arp1006 = l.stations.arp1006 } };
 

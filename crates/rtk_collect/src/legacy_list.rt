@@ -4,6 +4,7 @@
 //! The cells are made if those of another 1004 join, in room that was taken before; or when the epoch
 //! closes, and then only those whose satellite and code no cell of an MSM has.
 
+ghost use Rattle.rtk_collect.specs.Gps.{gps};
 ghost use Rattle.std.specs.Prelude.{◌≡◌, ◌<◌, ◌≤◌, ◌*◌, ◌++◌, [], length, IsTrue, IfOk, OnOk, OnErr, All, vec_capacity};
 ghost use Rattle.rtk_obs.specs.Cell.{IsInRange};
 ghost use Rattle.rtk_obs.specs.CellsLeft.{AreRisingSatellites};
@@ -182,14 +183,14 @@ impl LegacyList {
         found: &mut Conflicts,
     ) -> Result<usize, AllocError>
         requires few { length cells.now ≤ 64 }
-        requires rises { KeysRise self.old }
-        requires rising { IsTrue rises → KeysRise cells.now }
+        requires rises { KeysRise gps self.old }
+        requires rising { IsTrue rises → KeysRise gps cells.now }
         requires empty { found.old ≡ [] }
-        ensures items { IfOk result (λ n. self.new ≡ with_cells cells.now self.old) }
-        ensures fresh { IfOk result (λ n. n ≡ fresh cells.now self.old) }
-        ensures conflicts { IfOk result (λ n. found.new ≡ conflicts cells.now self.old) }
+        ensures items { IfOk result (λ n. self.new ≡ with_cells gps cells.now self.old) }
+        ensures fresh { IfOk result (λ n. n ≡ fresh gps cells.now self.old) }
+        ensures conflicts { IfOk result (λ n. found.new ≡ conflicts gps cells.now self.old) }
         ensures err { OnErr result (self.new ≡ self.old) }
-        ensures refused { OnErr result (0 < fresh cells.now self.old) }
+        ensures refused { OnErr result (0 < fresh gps cells.now self.old) }
     {
         spell_out(&mut self.first, &mut self.cells);
         join_list(&mut self.cells, cells, rises, found)

@@ -4,6 +4,7 @@
 //! cell is new and the cells rise, the list grows once and both are merged in it from the greatest
 //! key down. Other cells are put in one by one. Whether the cells rise, the caller says.
 
+ghost use Rattle.rtk_collect.specs.Gps.{gps};
 ghost use Rattle.std.specs.Prelude.{◌≡◌, ◌≢◌, ◌≤◌, ◌<◌, ◌+◌, ◌-◌, ◌*◌, [], ◌∷◌, ◌++◌, not, length, take, drop, slice_index_or, vec_len, vec_capacity, IsTrue, IfOk, OnErr, All, if◌then◌else◌};
 ghost use Rattle.rtk_obs.specs.MessageCells.{AreOfOneKind};
 ghost use Rattle.rtk_collect.specs.Key.{key, KeysRise};
@@ -18,7 +19,7 @@ use std::alloc::AllocError;
 // message. It has the kind since clauses see one list of both kinds. In the list of a kind all
 // cells have the same.
 fn key_of(entry: &CellEntry) -> usize
-    ensures { result ≡ key entry.now }
+    ensures { result ≡ key gps entry.now }
 {
     let place = usize::from(entry.satellite) * 16 + entry.code.place();
     // An MSM is the kind with the number 1, and stands before a 1004.
@@ -46,14 +47,14 @@ pub(crate) fn join_list(
     found: &mut Conflicts,
 ) -> Result<usize, AllocError>
     requires few { length cells.now ≤ 64 }
-    requires rises { KeysRise list.old.items }
-    requires rising { IsTrue rises → KeysRise cells.now }
+    requires rises { KeysRise gps list.old.items }
+    requires rising { IsTrue rises → KeysRise gps cells.now }
     requires empty { found.old ≡ [] }
-    ensures items { IfOk result (λ n. list.new.items ≡ with_cells cells.now list.old.items) }
-    ensures fresh { IfOk result (λ n. n ≡ fresh cells.now list.old.items) }
-    ensures conflicts { IfOk result (λ n. found.new ≡ conflicts cells.now list.old.items) }
+    ensures items { IfOk result (λ n. list.new.items ≡ with_cells gps cells.now list.old.items) }
+    ensures fresh { IfOk result (λ n. n ≡ fresh gps cells.now list.old.items) }
+    ensures conflicts { IfOk result (λ n. found.new ≡ conflicts gps cells.now list.old.items) }
     ensures err { OnErr result (list.new.items ≡ list.old.items) }
-    ensures refused { OnErr result (0 < fresh cells.now list.old.items) }
+    ensures refused { OnErr result (0 < fresh gps cells.now list.old.items) }
 {
     if rises && list.is_empty() {
         // The common case: the first message of its kind, whose cells are copied as they stand.
@@ -76,10 +77,10 @@ fn join_rising(
     cells: &[CellEntry],
     count: usize,
 ) -> Result<usize, AllocError>
-    requires rises { KeysRise list.old.items }
-    requires rising { KeysRise cells.now }
-    requires count { count ≡ fresh cells.now list.old.items }
-    ensures items { IfOk result (λ n. list.new.items ≡ with_cells cells.now list.old.items) }
+    requires rises { KeysRise gps list.old.items }
+    requires rising { KeysRise gps cells.now }
+    requires count { count ≡ fresh gps cells.now list.old.items }
+    ensures items { IfOk result (λ n. list.new.items ≡ with_cells gps cells.now list.old.items) }
     ensures fresh { IfOk result (λ n. n ≡ count) }
     ensures err { OnErr result (list.new.items ≡ list.old.items) }
 {
@@ -101,11 +102,11 @@ fn join_other(
     found: &mut Conflicts,
 ) -> Result<usize, AllocError>
     requires few { length cells.now ≤ 64 }
-    requires rises { KeysRise list.old.items }
-    requires count { count ≡ fresh cells.now list.old.items }
-    ensures items { IfOk result (λ n. list.new.items ≡ with_cells cells.now list.old.items) }
+    requires rises { KeysRise gps list.old.items }
+    requires count { count ≡ fresh gps cells.now list.old.items }
+    ensures items { IfOk result (λ n. list.new.items ≡ with_cells gps cells.now list.old.items) }
     ensures fresh { IfOk result (λ n. n ≡ count) }
-    ensures conflicts { IfOk result (λ n. found.new ≡ conflicts cells.now list.old.items) }
+    ensures conflicts { IfOk result (λ n. found.new ≡ conflicts gps cells.now list.old.items) }
     ensures err { OnErr result (list.new.items ≡ list.old.items) }
 {
     list.reserve(count)?;
@@ -116,12 +117,12 @@ fn join_other(
 // Returns how many of the cells are new, which means that no kept cell has their key. If none is
 // new or the keys of the cells rise, those that conflict are added to an empty list.
 fn count_new(cells: &[CellEntry], kept: &[CellEntry], found: &mut Conflicts) -> usize
-    requires rises { KeysRise kept.now }
+    requires rises { KeysRise gps kept.now }
     requires few { length cells.now ≤ 64 }
     requires empty { found.old ≡ [] }
-    ensures fresh { result ≡ fresh cells.now kept.now }
-    ensures conflicts { result ≡ 0 → found.new ≡ conflicts cells.now kept.now }
-    ensures rising { KeysRise cells.now → found.new ≡ conflicts cells.now kept.now }
+    ensures fresh { result ≡ fresh gps cells.now kept.now }
+    ensures conflicts { result ≡ 0 → found.new ≡ conflicts gps cells.now kept.now }
+    ensures rising { KeysRise gps cells.now → found.new ≡ conflicts gps cells.now kept.now }
 {
     let mut count = 0;
     let mut at = 0;
@@ -142,11 +143,11 @@ fn count_new(cells: &[CellEntry], kept: &[CellEntry], found: &mut Conflicts) -> 
 
 // Adds the cells whose keys are new, for which there is room, and says which cells conflict.
 fn merge(kept: &mut Vec<CellEntry>, cells: &[CellEntry], found: &mut Conflicts)
-    requires rises { KeysRise kept.old.items }
+    requires rises { KeysRise gps kept.old.items }
     requires few { length cells.now ≤ 64 }
-    requires room { vec_len kept.old + fresh cells.now kept.old.items ≤ vec_capacity kept.old }
-    ensures items { kept.new.items ≡ with_cells cells.now kept.old.items }
-    ensures conflicts { found.new ≡ conflicts cells.now kept.old.items }
+    requires room { vec_len kept.old + fresh gps cells.now kept.old.items ≤ vec_capacity kept.old }
+    ensures items { kept.new.items ≡ with_cells gps cells.now kept.old.items }
+    ensures conflicts { found.new ≡ conflicts gps cells.now kept.old.items }
 {
     *found = Conflicts::new();
     let mut at = 0;
@@ -162,10 +163,10 @@ fn merge(kept: &mut Vec<CellEntry>, cells: &[CellEntry], found: &mut Conflicts)
 // cell after them. Of two cells with one key the kept one stays.
 fn merge_rising(list: &mut [CellEntry], kept: usize, cells: &[CellEntry])
     requires kept { kept ≤ length list.old }
-    requires rises { KeysRise (take kept list.old) }
-    requires rising { KeysRise cells.now }
-    requires room { length list.old ≡ kept + fresh cells.now (take kept list.old) }
-    ensures { list.new ≡ with_cells cells.now (take kept list.old) }
+    requires rises { KeysRise gps (take kept list.old) }
+    requires rising { KeysRise gps cells.now }
+    requires room { length list.old ≡ kept + fresh gps cells.now (take kept list.old) }
+    ensures { list.new ≡ with_cells gps cells.now (take kept list.old) }
 {
     // The kept cells and the cells that are still to be put, the greatest first, so that none is
     // overwritten before it is moved; and how many of these are new.
@@ -194,7 +195,7 @@ fn merge_rising(list: &mut [CellEntry], kept: usize, cells: &[CellEntry])
 // Returns the key of the cell before a place. At the first place it is asked for and not looked at.
 fn key_before(cells: &[CellEntry], at: usize) -> usize
     requires { at ≤ length cells.now }
-    ensures { 0 < at → ((d : CellEntry) → result ≡ key (slice_index_or cells.now (at - 1) d)) }
+    ensures { 0 < at → ((d : CellEntry) → result ≡ key gps (slice_index_or cells.now (at - 1) d)) }
 {
     if at == 0 {
         return 0;
@@ -226,12 +227,12 @@ fn satellite_code(entry: &CellEntry) -> SatelliteCode
 
 // Adds a cell at its place if its key is new, and says whether it conflicts.
 fn add_new(kept: &mut Vec<CellEntry>, at: usize, entry: CellEntry) -> bool
-    requires rises { KeysRise kept.old.items }
-    requires place { at ≡ lower (key entry) kept.old.items }
-    requires room { vec_len kept.old + fresh (entry ∷ []) kept.old.items ≤ vec_capacity kept.old }
-    ensures items { kept.new.items ≡ with_cell entry kept.old.items }
+    requires rises { KeysRise gps kept.old.items }
+    requires place { at ≡ lower gps (key gps entry) kept.old.items }
+    requires room { vec_len kept.old + fresh gps (entry ∷ []) kept.old.items ≤ vec_capacity kept.old }
+    ensures items { kept.new.items ≡ with_cell gps entry kept.old.items }
     ensures capacity { vec_capacity kept.old ≤ vec_capacity kept.new }
-    ensures conflict { conflict entry (cell_under (key entry) kept.old.items)
+    ensures conflict { conflict gps entry (cell_under gps (key gps entry) kept.old.items)
         ≡ (if result then record { satellite = entry.satellite; code = entry.code } ∷ [] else []) }
 {
     if let Some(first) = kept_cell(kept, at, key_of(&entry)) {
@@ -247,8 +248,8 @@ fn add_new(kept: &mut Vec<CellEntry>, at: usize, entry: CellEntry) -> bool
 // guess.
 fn place_of_key(kept: &[CellEntry], guess: usize, key: usize) -> usize
     requires guess { guess ≤ length kept.now }
-    requires rises { KeysRise kept.now }
-    ensures { result ≡ lower key kept.now }
+    requires rises { KeysRise gps kept.now }
+    ensures { result ≡ lower gps key kept.now }
 {
     let mut at = guess;
     while at > 0 && key_of(&kept[at - 1]) >= key {
@@ -262,9 +263,9 @@ fn place_of_key(kept: &[CellEntry], guess: usize, key: usize) -> usize
 
 // Returns the kept cell with this key, whose place is `at`.
 fn kept_cell(kept: &[CellEntry], at: usize, key: usize) -> Option<CellEntry>
-    requires rises { KeysRise kept.now }
-    requires place { at ≡ lower key kept.now }
-    ensures { result ≡ cell_under key kept.now }
+    requires rises { KeysRise gps kept.now }
+    requires place { at ≡ lower gps key kept.now }
+    ensures { result ≡ cell_under gps key kept.now }
 {
     if at >= kept.len() {
         return None;

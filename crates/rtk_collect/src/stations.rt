@@ -1,5 +1,8 @@
 //! The first 1005 and 1006 of a station, and the position from them.
 
+ghost use Rattle.rtk_collect.specs.Gps.{gps};
+ghost use Rattle.rtk_obs.specs.MessageCells.{cells_of};
+ghost use Rattle.rtk_obs.specs.declared.cell.CellEntry.{CellEntry};
 ghost use Rattle.rtk_message.specs.Arp1005 as arp1005_spec;
 ghost use Rattle.rtk_message.specs.Arp1006 as arp1006_spec;
 ghost use Rattle.rtk_message.specs.declared.any_message.AnyMessage.TheVariants as AnyMessage;
@@ -43,8 +46,8 @@ impl StationMessages {
         requires station { tow_of message.now ≡ None }
         requires fits_1005 { ForSome self.old.arp1005 arp1005_spec.IsValid }
         requires fits_1006 { ForSome self.old.arp1006 arp1006_spec.IsValid }
-        ensures answer { (n : ℕ) (sets : List EpochSetView) → full ≡ (length sets == n)
-            → AnswersArrival (window_of n sets self.old) (At None (AnyMessage.Message message.now)) result [] (window_of n sets self.new) }
+        ensures answer { (n : ℕ) (sets : List (EpochSetView CellEntry)) → full ≡ (length sets == n)
+            → AnswersArrival gps cells_of (window_of n sets self.old) (At None (AnyMessage.Message message.now)) result [] (window_of n sets self.new) }
         ensures fits_1005 { ForSome self.new.arp1005 arp1005_spec.IsValid }
         ensures fits_1006 { ForSome self.new.arp1006 arp1006_spec.IsValid }
         ensures none { ListsConflicts result [] }

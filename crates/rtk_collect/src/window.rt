@@ -5,6 +5,8 @@
 //! full window is below a bound, then the epoch that closes is not below it; so the epochs that go
 //! out rise, and callers need no history for that.
 
+ghost use Rattle.rtk_collect.specs.Gps.{gps};
+ghost use Rattle.rtk_obs.specs.declared.cell.CellEntry.{CellEntry};
 ghost use Rattle.std.specs.Prelude.{◌≡◌, ◌≢◌, ◌<◌, ◌≤◌, ◌+◌, ◌++◌, [], not, min, IsTrue, length, IfNone, IfOk, OnErr, OnOk, All, slice_index_or, slice_set, option_to_list};
 ghost use Rattle.std.specs.List.{insert};
 ghost use Rattle.rtk_obs.specs.Cell.{IsInRange};
@@ -52,9 +54,9 @@ pub(crate) fn place_of_epoch(sets: &VecDeque<GatheredSet>, epoch: GpsMs) -> usiz
 pub(crate) fn has_epoch(sets: &VecDeque<GatheredSet>, at: usize, epoch: GpsMs) -> bool
     requires place { at ≡ leading epoch sets.now.items }
     ensures found { IsTrue result → (at < length sets.now.items)
-        × ((d : EpochSetView) → (slice_index_or sets.now.items at d).epoch ≡ epoch) }
+        × ((d : EpochSetView CellEntry) → (slice_index_or sets.now.items at d).epoch ≡ epoch) }
     ensures absent { IsTrue (not result) → (at < length sets.now.items)
-        → ((d : EpochSetView) → (slice_index_or sets.now.items at d).epoch ≢ epoch) }
+        → ((d : EpochSetView CellEntry) → (slice_index_or sets.now.items at d).epoch ≢ epoch) }
 {
     at < sets.len() && sets[at].epoch() == epoch
 }
@@ -72,14 +74,14 @@ pub(crate) fn join_at(
     requires few { length cells.now ≤ 64 }
     requires range { All IsInRange cells.now }
     requires kind { AreOfOneKind cells.now }
-    requires rising { IsTrue rises → KeysRise cells.now }
+    requires rising { IsTrue rises → KeysRise gps cells.now }
     requires empty { found.old ≡ [] }
-    ensures items { (d : EpochSetView) → IfOk result (λ n. sets.new.items
-        ≡ slice_set sets.old.items at (joined cells.now (slice_index_or sets.old.items at d))) }
-    ensures fresh { (d : EpochSetView) → IfOk result (λ n. n ≡ fresh cells.now (slice_index_or sets.old.items at d).cells) }
-    ensures conflicts { (d : EpochSetView) → IfOk result (λ n. found.new ≡ conflicts cells.now (slice_index_or sets.old.items at d).cells) }
+    ensures items { (d : EpochSetView CellEntry) → IfOk result (λ n. sets.new.items
+        ≡ slice_set sets.old.items at (joined gps cells.now (slice_index_or sets.old.items at d))) }
+    ensures fresh { (d : EpochSetView CellEntry) → IfOk result (λ n. n ≡ fresh gps cells.now (slice_index_or sets.old.items at d).cells) }
+    ensures conflicts { (d : EpochSetView CellEntry) → IfOk result (λ n. found.new ≡ conflicts gps cells.now (slice_index_or sets.old.items at d).cells) }
     ensures err { OnErr result (sets.new.items ≡ sets.old.items) }
-    ensures refused { (d : EpochSetView) → OnErr result (0 < fresh cells.now (slice_index_or sets.old.items at d).cells) }
+    ensures refused { (d : EpochSetView CellEntry) → OnErr result (0 < fresh gps cells.now (slice_index_or sets.old.items at d).cells) }
 {
     let set = &mut sets[at];
     set.join(cells, rises, found)
@@ -139,11 +141,11 @@ pub(crate) fn open_at(
     requires few { length cells.now ≤ 64 }
     requires range { All IsInRange cells.now }
     requires kind { AreOfOneKind cells.now }
-    requires rising { IsTrue rises → KeysRise cells.now }
+    requires rising { IsTrue rises → KeysRise gps cells.now }
     requires empty { found.old ≡ [] }
     requires spare { AreSpare spare.old }
-    ensures items { OnOk result (sets.new.items ≡ insert sets.old.items at (joined cells.now (no_cells epoch))) }
-    ensures conflicts { OnOk result (found.new ≡ conflicts cells.now []) }
+    ensures items { OnOk result (sets.new.items ≡ insert sets.old.items at (joined gps cells.now (no_cells epoch))) }
+    ensures conflicts { OnOk result (found.new ≡ conflicts gps cells.now []) }
     ensures err { OnErr result (sets.new.items ≡ sets.old.items) }
     ensures spare { AreSpare spare.new }
 {
@@ -211,12 +213,12 @@ pub(crate) fn offer_cells(
     requires few { length cells.now ≤ 64 }
     requires range { All IsInRange cells.now }
     requires kind { AreOfOneKind cells.now }
-    requires rising { IsTrue rises → KeysRise cells.now }
+    requires rising { IsTrue rises → KeysRise gps cells.now }
     requires spare { AreSpare spare.old }
     requires empty { found.old ≡ [] }
-    ensures added { IfOk result (λ offer. AddsCells places epoch cells.now sets.old.items sets.new.items offer found.new) }
+    ensures added { IfOk result (λ offer. AddsCells gps places epoch cells.now sets.old.items sets.new.items offer found.new) }
     ensures err { OnErr result (sets.new.items ≡ sets.old.items) }
-    ensures refused { OnErr result (WouldTakeCells places epoch cells.now sets.old.items) }
+    ensures refused { OnErr result (WouldTakeCells gps places epoch cells.now sets.old.items) }
     ensures none { OnErr result (found.new ≡ []) }
     ensures spare { AreSpare spare.new }
 {

@@ -7,6 +7,7 @@ use Rattle.rtk_collect.proofs.OffersLemmas.{length-insert}
 use Rattle.rtk_collect.proofs.RisingLemmas.{alone}
 use Rattle.rtk_collect.proofs.WindowLemmas.{open-branch, late-branch, new-branch, fresh-taken, new-taken}
 use Rattle.rtk_collect.proofs.first.offer_first.Goals as goal
+use Rattle.rtk_collect.specs.Gps.{gps}
 
 pub take_first_at-requires-clause-none : goal.take_first_at-requires-clause-none
 take_first_at-requires-clause-none c = λ d.
@@ -20,22 +21,22 @@ pub returns-then-has_epoch-clause-added : goal.returns-then-has_epoch-clause-add
 returns-then-has_epoch-clause-added c =
     let found = c.if-has_epoch.ensures.found refl in
     let d = no_cells 0 in
-    open-branch c.args.places c.args.epoch c.args.at (cells_of_1004 c.args.satellites.now) d c.args.sets.now.items c.take_first_at.new.sets.items _ [] _
+    open-branch gps c.args.places c.args.epoch c.args.at (cells_of_1004 c.args.satellites.now) d c.args.sets.now.items c.take_first_at.new.sets.items _ [] _
     c.requires.falls c.requires.fits c.requires.place found.0 (found.1 d) (c.in_ok-take_first_at.ensures.items d) refl (sym (c.take_first_at.ensures.conflicts d)) (c.take_first_at.ensures.fresh d, refl)
 
 pub returns-then-at-places-clause-added : goal.returns-then-at-places-clause-added
 returns-then-at-places-clause-added c =
-    late-branch c.args.places c.args.epoch c.args.at (cells_of_1004 c.args.satellites.now) c.args.sets.now.items c.requires.falls c.requires.fits c.requires.place c.if-at-places.true
+    late-branch gps c.args.places c.args.epoch c.args.at (cells_of_1004 c.args.satellites.now) c.args.sets.now.items c.requires.falls c.requires.fits c.requires.place c.if-at-places.true
 
 pub returns-clause-added : goal.returns-clause-added
 returns-clause-added c =
     let absent = c.if-has_epoch.ensures.absent refl in
     let d = no_cells 0 in
     let within : c.args.at ≤ length c.args.sets.now.items = (let h = leading-length c.args.epoch c.args.sets.now.items in omega (arith, c.requires.place)) in
-    new-branch c.args.places c.args.epoch c.args.at (cells_of_1004 c.args.satellites.now) d c.args.sets.now.items c.open_first_at.new.sets.items c.close_least-closed.new.sets.items c.close_least-closed.result []
+    new-branch gps c.args.places c.args.epoch c.args.at (cells_of_1004 c.args.satellites.now) d c.args.sets.now.items c.open_first_at.new.sets.items c.close_least-closed.new.sets.items c.close_least-closed.result []
     c.requires.falls c.requires.fits c.requires.place c.if-at-places.false (λ l. absent l d) c.in_ok-open_first_at.ensures.items
     (ap length c.in_ok-open_first_at.ensures.items ∙ length-insert _ c.args.at c.args.sets.now.items within) c.close_least-closed.ensures.items c.close_least-closed.ensures.few
-    (alone (cells_of_1004 c.args.satellites.now) [] refl c.requires.first.kept.rises).conflicts
+    (alone gps (cells_of_1004 c.args.satellites.now) [] refl c.requires.first.kept.rises).conflicts
 
 -- memory is refused
 
@@ -44,11 +45,11 @@ returns-in_err-take_first_at-clause-refused c =
     let p = err_from_is_err_and c.from_residual.result c.from_residual.ensures.1 in
     let found = c.if-has_epoch.ensures.found refl in
     let d = no_cells 0 in
-    rw p.1 (λ m k before h. fresh-taken c.args.places c.args.epoch c.args.at (cells_of_1004 c.args.satellites.now) d c.args.sets.now.items c.requires.fits c.requires.place found.0 (found.1 d) (c.take_first_at.ensures.fresh d) m k before h)
+    rw p.1 (λ m k before h. fresh-taken gps c.args.places c.args.epoch c.args.at (cells_of_1004 c.args.satellites.now) d c.args.sets.now.items c.requires.fits c.requires.place found.0 (found.1 d) (c.take_first_at.ensures.fresh d) m k before h)
 
 pub returns-in_err-open_first_at-clause-refused : goal.returns-in_err-open_first_at-clause-refused
 returns-in_err-open_first_at-clause-refused c =
     let p = err_from_is_err_and c.from_residual-in_err-open_first_at.result c.from_residual-in_err-open_first_at.ensures.1 in
     let absent = c.if-has_epoch.ensures.absent refl in
     let d = no_cells 0 in
-    rw p.1 (λ m k before h. new-taken c.args.places c.args.epoch c.args.at (cells_of_1004 c.args.satellites.now) d c.args.sets.now.items c.requires.falls c.requires.fits c.requires.place c.if-at-places.false (λ l. absent l d) m k before h)
+    rw p.1 (λ m k before h. new-taken gps c.args.places c.args.epoch c.args.at (cells_of_1004 c.args.satellites.now) d c.args.sets.now.items c.requires.falls c.requires.fits c.requires.place c.if-at-places.false (λ l. absent l d) m k before h)

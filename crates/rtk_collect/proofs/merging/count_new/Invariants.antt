@@ -2,13 +2,14 @@ use Rattle.std.proofs.Common.{◌≡◌, ◌≤◌, ◌+◌, ◌++◌, length, d
 use Rattle.rtk_collect.specs.Key.{KeysRise}
 use Rattle.rtk_collect.specs.EpochSet.{fresh, conflicts}
 use Rattle.rtk_collect.proofs.merging.count_new.Given as goal
+use Rattle.rtk_collect.specs.Gps.{gps}
 
 abbrev pub invariant-loop-entry : goal.invariant-loop-entry
 invariant-loop-entry l = record {
   at : l.at ≤ length l.kept;
   bound : l.count ≤ l.entry-index;
-  count : l.count + fresh (drop l.entry-index l.cells) l.kept ≡ fresh l.cells l.kept;
+  count : l.count + fresh gps (drop l.entry-index l.cells) l.kept ≡ fresh gps l.cells l.kept;
   few : length l.found ≤ l.entry-index;
-  rising : KeysRise l.cells → l.found ++ conflicts (drop l.entry-index l.cells) l.kept ≡ conflicts l.cells l.kept;
-  conflicts : l.count ≡ 0 → l.found ++ conflicts (drop l.entry-index l.cells) l.kept ≡ conflicts l.cells l.kept;
+  rising : KeysRise gps l.cells → l.found ++ conflicts gps (drop l.entry-index l.cells) l.kept ≡ conflicts gps l.cells l.kept;
+  conflicts : l.count ≡ 0 → l.found ++ conflicts gps (drop l.entry-index l.cells) l.kept ≡ conflicts gps l.cells l.kept;
 }

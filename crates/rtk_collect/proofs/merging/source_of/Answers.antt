@@ -5,9 +5,11 @@ use Rattle.rtk_collect.proofs.CellsLemmas.{any_cell}
 use Rattle.rtk_collect.proofs.RisingLemmas.{no-cells}
 use Rattle.rtk_collect.proofs.KindLemmas.{IsOf, kept-none, some-cells}
 use Rattle.rtk_collect.proofs.merging.source_of.Goals as goal
+use Rattle.rtk_collect.specs.Gps.{gps}
+use Rattle.rtk_obs.specs.Cell.{IsInRange}
 
 pub returns-then-is_empty : goal.returns-then-is_empty
-returns-then-is_empty c = subst (λ (xs : List CellEntry). All (IsOf Legacy) xs) (sym (no-cells c.args.cells.now _ refl (sym c.is_empty.ensures ∙ c.if-is_empty.true))) (kept-none Legacy).kind
+returns-then-is_empty c = subst (λ (xs : List CellEntry). All (IsOf gps Legacy) xs) (sym (no-cells c.args.cells.now _ refl (sym c.is_empty.ensures ∙ c.if-is_empty.true))) (kept-none gps IsInRange Legacy).kind
 
 pub returns : goal.returns
 returns c = λ k d l. c.requires.1 k d l ∙ sym (c.requires.1 0 any_cell (some-cells c.args.cells.now _ c.is_empty.ensures c.if-is_empty.false))

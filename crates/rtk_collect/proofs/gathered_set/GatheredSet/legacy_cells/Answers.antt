@@ -7,11 +7,13 @@ use Rattle.rtk_collect.proofs.CellsLemmas.{cells-few}
 use Rattle.rtk_collect.proofs.KindLemmas.{both-rise, both-in-range, legacy-is}
 use Rattle.rtk_collect.proofs.LegacyListLemmas.{left-none}
 use Rattle.rtk_collect.proofs.gathered_set.GatheredSet.legacy_cells.Goals as goal
+use Rattle.rtk_collect.specs.Gps.{gps}
+use Rattle.rtk_obs.specs.declared.cell.CellEntry.{CellEntry}
 
 pub returns-clause-value : goal.returns-clause-value
 returns-clause-value c =
-    left-none c.self.inside.legacy c.left.result.now c.left.ensures ∙ legacy-is c.self.inside.msm.items c.self.inside.legacy c.self.invariant.1 c.self.invariant.2
-    ∙ ap (λ (s : EpochSetView). filter (is_from Legacy) s.cells) c.self.view_is
+    left-none c.self.inside.legacy c.left.result.now c.left.ensures ∙ legacy-is gps IsInRange c.self.inside.msm.items c.self.inside.legacy c.self.invariant.1 c.self.invariant.2
+    ∙ ap (λ (s : EpochSetView CellEntry). filter (is_from gps Legacy) s.cells) c.self.view_is
 
 pub returns-clause-rises : goal.returns-clause-rises
 returns-clause-rises c = rw (left-none c.self.inside.legacy c.left.result.now c.left.ensures) c.self.invariant.2.rises
@@ -23,14 +25,14 @@ pub returns-clause-kind : goal.returns-clause-kind
 returns-clause-kind c = (Legacy, rw (left-none c.self.inside.legacy c.left.result.now c.left.ensures) c.self.invariant.2.kind)
 
 pub returns-clause-all_rise : goal.returns-clause-all_rise
-returns-clause-all_rise c = subst (λ (s : EpochSetView). KeysRise s.cells) c.self.view_is (both-rise c.self.inside.msm.items c.self.inside.legacy c.self.invariant.1 c.self.invariant.2)
+returns-clause-all_rise c = subst (λ (s : EpochSetView CellEntry). KeysRise gps s.cells) c.self.view_is (both-rise gps IsInRange c.self.inside.msm.items c.self.inside.legacy c.self.invariant.1 c.self.invariant.2)
 
 pub returns-clause-all_in_range : goal.returns-clause-all_in_range
-returns-clause-all_in_range c = subst (λ (s : EpochSetView). All IsInRange s.cells) c.self.view_is (both-in-range c.self.inside.msm.items c.self.inside.legacy c.self.invariant.1 c.self.invariant.2)
+returns-clause-all_in_range c = subst (λ (s : EpochSetView CellEntry). All IsInRange s.cells) c.self.view_is (both-in-range gps IsInRange c.self.inside.msm.items c.self.inside.legacy c.self.invariant.1 c.self.invariant.2)
 
 pub returns-clause-few : goal.returns-clause-few
 returns-clause-few c =
     let msm = c.self.inside.msm.items in
     let legacy = c.self.inside.legacy in
-    subst (λ (s : EpochSetView). length s.cells ≤ 1024) c.self.view_is
-    (cells-few _ (both-rise msm legacy c.self.invariant.1 c.self.invariant.2) (both-in-range msm legacy c.self.invariant.1 c.self.invariant.2))
+    subst (λ (s : EpochSetView CellEntry). length s.cells ≤ 1024) c.self.view_is
+    (cells-few _ (both-rise gps IsInRange msm legacy c.self.invariant.1 c.self.invariant.2) (both-in-range gps IsInRange msm legacy c.self.invariant.1 c.self.invariant.2))

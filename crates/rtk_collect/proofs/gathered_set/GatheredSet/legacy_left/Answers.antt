@@ -5,6 +5,8 @@ use Rattle.rtk_collect.specs.EpochSet.{EpochSetView, is_from, AreLeftBeside}
 use Rattle.rtk_collect.proofs.KindLemmas.{msm-is, legacy-is}
 use Rattle.rtk_collect.proofs.LegacyListLemmas.{kept-left}
 use Rattle.rtk_collect.proofs.gathered_set.GatheredSet.legacy_left.Goals as goal
+use Rattle.rtk_collect.specs.Gps.{gps}
+use Rattle.rtk_obs.specs.Cell.{IsInRange}
 
 pub left-requires : goal.left-requires
 left-requires c = rw c.deref.ensures.value c.self.invariant.1.range
@@ -15,9 +17,9 @@ returns-clause-left c =
     let legacy = c.self.inside.legacy in
     let m = c.self.invariant.1 in
     let l = c.self.invariant.2 in
-    subst (λ (xs : List CellEntry). AreLeftBeside xs (filter (is_from Legacy) c.args.self.now.cells) c.left.result.now)
-    (c.deref.ensures.value ∙ msm-is msm legacy m l ∙ ap (λ (s : EpochSetView). filter (is_from Msm) s.cells) c.self.view_is)
-    (subst (λ (xs : List CellEntry). AreLeftBeside c.deref.result.now xs c.left.result.now) (legacy-is msm legacy m l ∙ ap (λ (s : EpochSetView). filter (is_from Legacy) s.cells) c.self.view_is) c.left.ensures)
+    subst (λ (xs : List CellEntry). AreLeftBeside xs (filter (is_from gps Legacy) c.args.self.now.cells) c.left.result.now)
+    (c.deref.ensures.value ∙ msm-is gps IsInRange msm legacy m l ∙ ap (λ (s : EpochSetView CellEntry). filter (is_from gps Msm) s.cells) c.self.view_is)
+    (subst (λ (xs : List CellEntry). AreLeftBeside c.deref.result.now xs c.left.result.now) (legacy-is gps IsInRange msm legacy m l ∙ ap (λ (s : EpochSetView CellEntry). filter (is_from gps Legacy) s.cells) c.self.view_is) c.left.ensures)
 
 pub returns-clause-rises : goal.returns-clause-rises
 returns-clause-rises c = (kept-left Legacy c.deref.result.now c.self.inside.legacy c.left.result.now c.self.invariant.2 c.left.ensures).rises

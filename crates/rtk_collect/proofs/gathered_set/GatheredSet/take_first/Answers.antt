@@ -8,9 +8,11 @@ use Rattle.rtk_collect.proofs.KindLemmas.{legacy-is, legacy-joins, legacy-fresh,
 use Rattle.rtk_collect.proofs.LegacyListLemmas.{either-taken}
 use Rattle.rtk_collect.proofs.RisingLemmas.{alone}
 use Rattle.rtk_collect.proofs.gathered_set.GatheredSet.take_first.Goals as goal
+use Rattle.rtk_collect.specs.Gps.{gps}
+use Rattle.rtk_obs.specs.Cell.{IsInRange}
 
 pub take_first-requires-clause-empty : goal.take_first-requires-clause-empty
-take_first-requires-clause-empty c = legacy-is c.self.inside.msm.items c.self.inside.legacy c.self.invariant.1 c.self.invariant.2 ∙ ap (λ (s : EpochSetView). filter (is_from Legacy) s.cells) c.self.view_is ∙ c.requires.none
+take_first-requires-clause-empty c = legacy-is gps IsInRange c.self.inside.msm.items c.self.inside.legacy c.self.invariant.1 c.self.invariant.2 ∙ ap (λ (s : EpochSetView CellEntry). filter (is_from gps Legacy) s.cells) c.self.view_is ∙ c.requires.none
 
 pub returns-clause-set : goal.returns-clause-set
 returns-clause-set c =
@@ -19,10 +21,10 @@ returns-clause-set c =
     let legacy = c.self.inside.legacy in
     let m = c.self.invariant.1 in
     let l = c.self.invariant.2 in
-    let none : legacy ≡ [] = legacy-is msm legacy m l ∙ ap (λ (s : EpochSetView). filter (is_from Legacy) s.cells) c.self.view_is ∙ c.requires.none in
-    let one : cells ≡ with_cells cells legacy = ap (λ (t : List CellEntry). t ++ cells) (sym none) ∙ (alone cells legacy none c.requires.first.kept.rises).items in
-    on_ok_weaker c.take_first.result (λ (h : c.take_first.new.self ≡ cells). subst (λ (s : EpochSetView). record { epoch = c.self.inside.epoch; cells = with_cells c.take_first.new.self msm } ≡ joined cells s) c.self.view_is
-    (ap (λ (t : List CellEntry). record { epoch = c.self.inside.epoch; cells = t }) (ap (λ (t : List CellEntry). with_cells t msm) (h ∙ one) ∙ legacy-joins msm legacy m l cells))) c.take_first.ensures.ok
+    let none : legacy ≡ [] = legacy-is gps IsInRange msm legacy m l ∙ ap (λ (s : EpochSetView CellEntry). filter (is_from gps Legacy) s.cells) c.self.view_is ∙ c.requires.none in
+    let one : cells ≡ with_cells gps cells legacy = ap (λ (t : List CellEntry). t ++ cells) (sym none) ∙ (alone gps cells legacy none c.requires.first.kept.rises).items in
+    on_ok_weaker c.take_first.result (λ (h : c.take_first.new.self ≡ cells). subst (λ (s : EpochSetView CellEntry). record { epoch = c.self.inside.epoch; cells = with_cells gps c.take_first.new.self msm } ≡ joined gps cells s) c.self.view_is
+    (ap (λ (t : List CellEntry). record { epoch = c.self.inside.epoch; cells = t }) (ap (λ (t : List CellEntry). with_cells gps t msm) (h ∙ one) ∙ legacy-joins gps IsInRange msm legacy m l cells))) c.take_first.ensures.ok
 
 pub returns-clause-fresh : goal.returns-clause-fresh
 returns-clause-fresh c =
@@ -31,8 +33,8 @@ returns-clause-fresh c =
     let legacy = c.self.inside.legacy in
     let m = c.self.invariant.1 in
     let l = c.self.invariant.2 in
-    let none : legacy ≡ [] = legacy-is msm legacy m l ∙ ap (λ (s : EpochSetView). filter (is_from Legacy) s.cells) c.self.view_is ∙ c.requires.none in
-    subst (λ (s : EpochSetView). 0 < fresh cells s.cells) c.self.view_is (subst (λ (t : ℕ). 0 < t) ((alone cells legacy none c.requires.first.kept.rises).fresh ∙ legacy-fresh msm legacy m l cells c.requires.first.kept.kind) c.requires.first.some)
+    let none : legacy ≡ [] = legacy-is gps IsInRange msm legacy m l ∙ ap (λ (s : EpochSetView CellEntry). filter (is_from gps Legacy) s.cells) c.self.view_is ∙ c.requires.none in
+    subst (λ (s : EpochSetView CellEntry). 0 < fresh gps cells s.cells) c.self.view_is (subst (λ (t : ℕ). 0 < t) ((alone gps cells legacy none c.requires.first.kept.rises).fresh ∙ legacy-fresh gps IsInRange msm legacy m l cells c.requires.first.kept.kind) c.requires.first.some)
 
 pub returns-clause-conflicts : goal.returns-clause-conflicts
 returns-clause-conflicts c =
@@ -41,16 +43,16 @@ returns-clause-conflicts c =
     let legacy = c.self.inside.legacy in
     let m = c.self.invariant.1 in
     let l = c.self.invariant.2 in
-    let none : legacy ≡ [] = legacy-is msm legacy m l ∙ ap (λ (s : EpochSetView). filter (is_from Legacy) s.cells) c.self.view_is ∙ c.requires.none in
-    sym ((alone cells legacy none c.requires.first.kept.rises).conflicts ∙ legacy-conflicts msm legacy m l cells c.requires.first.kept.kind ∙ ap (λ (s : EpochSetView). conflicts cells s.cells) c.self.view_is)
+    let none : legacy ≡ [] = legacy-is gps IsInRange msm legacy m l ∙ ap (λ (s : EpochSetView CellEntry). filter (is_from gps Legacy) s.cells) c.self.view_is ∙ c.requires.none in
+    sym ((alone gps cells legacy none c.requires.first.kept.rises).conflicts ∙ legacy-conflicts gps IsInRange msm legacy m l cells c.requires.first.kept.kind ∙ ap (λ (s : EpochSetView CellEntry). conflicts gps cells s.cells) c.self.view_is)
 
 pub returns-clause-err : goal.returns-clause-err
 returns-clause-err c =
-    on_err_weaker c.take_first.result (λ (e : c.take_first.new.self ≡ c.self.inside.legacy). ap (λ (t : List CellEntry). record { epoch = c.self.inside.epoch; cells = with_cells t c.self.inside.msm.items }) e ∙ c.self.view_is) c.take_first.ensures.err
+    on_err_weaker c.take_first.result (λ (e : c.take_first.new.self ≡ c.self.inside.legacy). ap (λ (t : List CellEntry). record { epoch = c.self.inside.epoch; cells = with_cells gps t c.self.inside.msm.items }) e ∙ c.self.view_is) c.take_first.ensures.err
 
 pub invariant_of-self : goal.invariant_of-self
 invariant_of-self c = (
   refl,
   c.self.invariant.1,
-  either-taken c.take_first.result (AreKeptOf Legacy) c.take_first.new.self (cells_of_1004 c.args.satellites.now) c.self.inside.legacy c.take_first.ensures.ok c.take_first.ensures.err c.requires.first.kept c.self.invariant.2,
+  either-taken c.take_first.result (AreKeptOf gps IsInRange Legacy) c.take_first.new.self (cells_of_1004 c.args.satellites.now) c.self.inside.legacy c.take_first.ensures.ok c.take_first.ensures.err c.requires.first.kept c.self.invariant.2,
 )

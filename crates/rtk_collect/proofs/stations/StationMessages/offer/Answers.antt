@@ -5,17 +5,19 @@ use Rattle.rtk_collect.specs.Equal.{equal_1005, equal_1006}
 use Rattle.rtk_collect.specs.Arrival.{message_of_1005, message_of_1006}
 use Rattle.rtk_collect.proofs.StationLemmas.{full-is, slot-parts, slot-fits, slot-lists, other-stays}
 use Rattle.rtk_collect.proofs.stations.StationMessages.offer.Goals as goal
+use Rattle.rtk_collect.specs.Gps.{gps}
+use Rattle.rtk_obs.specs.MessageCells.{cells_of}
 
 pub returns-in-Arp1005-clause-answer : goal.returns-in-Arp1005-clause-answer
 returns-in-Arp1005-clause-answer c = λ n sets full before h.
     rw c.in-Arp1005.is
-    (let p = slot-parts message_of_1005 equal_1005 (λ a b. refl) n 1005 c.in-Arp1005.message c.args.self.now.arp1005 c.keep_station_message.new.slot _ c.keep_station_message.result before refl h.arp1005 (full ∙ full-is n sets before h.sets) c.keep_station_message.ensures in
+    (let p = slot-parts gps cells_of message_of_1005 equal_1005 (λ a b. refl) n 1005 c.in-Arp1005.message c.args.self.now.arp1005 c.keep_station_message.new.slot _ c.keep_station_message.result before refl h.arp1005 (full ∙ full-is gps cells_of n sets before h.sets) c.keep_station_message.ensures in
     (p.answers, record { sets = h.sets; arp1005 = p.after; arp1006 = h.arp1006 ∙ sym (other-stays n 1006 (message_of_1005 c.in-Arp1005.message) before (λ e. omega arith)) }))
 
 pub returns-in-Arp1006-clause-answer : goal.returns-in-Arp1006-clause-answer
 returns-in-Arp1006-clause-answer c = λ n sets full before h.
     rw c.in-Arp1006.is
-    (let p = slot-parts message_of_1006 equal_1006 (λ a b. refl) n 1006 c.in-Arp1006.message c.args.self.now.arp1006 c.keep_station_message-in-Arp1006.new.slot _ c.keep_station_message-in-Arp1006.result before refl h.arp1006 (full ∙ full-is n sets before h.sets) c.keep_station_message-in-Arp1006.ensures in
+    (let p = slot-parts gps cells_of message_of_1006 equal_1006 (λ a b. refl) n 1006 c.in-Arp1006.message c.args.self.now.arp1006 c.keep_station_message-in-Arp1006.new.slot _ c.keep_station_message-in-Arp1006.result before refl h.arp1006 (full ∙ full-is gps cells_of n sets before h.sets) c.keep_station_message-in-Arp1006.ensures in
     (p.answers, record { sets = h.sets; arp1005 = h.arp1005 ∙ sym (other-stays n 1005 (message_of_1006 c.in-Arp1006.message) before (λ e. omega arith)); arp1006 = p.after }))
 
 -- the fields of what is kept fit
