@@ -1,10 +1,10 @@
 -- The cells of a 1004 that are kept as satellites or in a list, and those that are left of them.
 use Rattle.std.proofs.Common.{◌≡◌, ℕ, ◌<◌, ◌*◌, ◌+◌, ◌==◌, Result, Ok, Err, OnOk, OnErr, Option, None, Some, IfSome, Bool, true, false, not, cond, List, [], ◌∷◌, ◌++◌, length, filter, All, inl, inr, refl, sym, ◌∙◌, ap, subst, arith}
-use Rattle.std.specs.Prelude.{◌&&◌}
+use Rattle.std.specs.Prelude.{◌&&◌, ◌||◌}
 use Rattle.std.specs.List.{list_any}
 use Rattle.std.proofs.lemmas.List.{append-nil}
 use Rattle.std.proofs.lemmas.List.Elements.{All-filter}
-use Rattle.std.proofs.lemmas.Bool.{ne_eqb}
+use Rattle.std.proofs.lemmas.Bool.{ne_eqb, eq-eqb, cases_eq}
 use Rattle.rtk_message.specs.declared.obs1004.Satellite.{Satellite}
 use Rattle.rtk_obs.specs.declared.cell.CellEntry.{CellEntry}
 use Rattle.rtk_obs.specs.LegacyCells.{first_entries, cells_of_1004}
@@ -108,13 +108,23 @@ first-if now (Some s) rise cells range kind some = record {
 -- ---- cells of GPS
 
 both-is : (a b p q : ℕ) → p < 16 → q < 16 → ((a == b) && (p == q)) ≡ (a * 16 + p == b * 16 + q)
-both-is a b p q h k = ?
+both-is a b p q h k = elim (cases_eq a b) [
+  | inl one ↦ elim (cases_eq p q) [
+    | inl two ↦ rw (eq-eqb a b one, eq-eqb p q two, eq-eqb (a * 16 + p) (b * 16 + q) (omega arith)) refl
+    | inr other ↦ rw (eq-eqb a b one, ne_eqb p q other, ne_eqb (a * 16 + p) (b * 16 + q) (λ e. other (omega arith))) refl
+  ]
+  | inr other ↦ rw (ne_eqb a b other, ne_eqb (a * 16 + p) (b * 16 + q) (λ e. other (omega arith))) refl
+]
 
-any-is : (c : CellEntry) (known : List CellEntry) → has_cell known c.satellite c.code ≡ list_any (λ (x : CellEntry). gps.place x == gps.place c) known
-any-is c [] = refl
-any-is c (x ∷ xs) = ?
+has-is : (c : CellEntry) (known : List CellEntry) → has_cell known c.satellite c.code ≡ list_any (λ (x : CellEntry). gps.place x == gps.place c) known
+has-is c [] = refl
+has-is c (x ∷ xs) =
+    ap (λ (b : Bool). b || has_cell xs c.satellite c.code) (both-is x.satellite c.satellite (place_of x.code) (place_of c.code) (place-less x.code) (place-less c.code))
+    ∙ ap (λ (b : Bool). (gps.place x == gps.place c) || b) (has-is c xs)
 
 -- the cells that are left by satellite and code are left by their numbers
 pub left-is : (known xs : List CellEntry) → cells_left known xs ≡ left_beside gps known xs
 left-is known [] = refl
-left-is known (x ∷ xs) = ?
+left-is known (x ∷ xs) =
+    ap (λ (b : Bool). cond (not b) (x ∷ cells_left known xs) (cells_left known xs)) (has-is x known)
+    ∙ ap (λ (ys : List CellEntry). cond (not (list_any (λ (k : CellEntry). gps.place k == gps.place x) known)) (x ∷ ys) ys) (left-is known xs)

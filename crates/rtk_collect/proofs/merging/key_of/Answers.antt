@@ -12,4 +12,6 @@ by-kind Msm n = omega arith
 
 pub returns : goal.returns
 unfolding key key_at
-returns g c = ?
+returns g c =
+    by-kind (g.E.Entry.entries.cell c.args.entry.now).source (c.place.result * 2)
+    ∙ ap (λ t. t * 2 + rank_of (g.E.Entry.entries.cell c.args.entry.now).source) c.place.ensures.value
