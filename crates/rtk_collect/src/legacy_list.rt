@@ -199,7 +199,7 @@ impl<E: Entry> LegacyList<E> {
     }
 
     /// Returns the cells, or those of them whose satellite and code no known cell has.
-    pub(crate) fn left<'a>(&'a self, known: &[E], room: &'a mut ArrayVec<E, 64>) -> &'a [CellEntry]
+    pub(crate) fn left<'a>(&'a self, known: &[E], room: &'a mut ArrayVec<E, 64>) -> &'a [E]
         requires { All E.InRange known.now }
         ensures { AreLeftBeside E.entries known.now self.now result.now }
     {
