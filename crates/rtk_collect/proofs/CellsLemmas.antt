@@ -8,8 +8,6 @@ use Rattle.std.specs.List.{All, AllByRecursion, insert}
 use Rattle.std.proofs.lemmas.List.Elements.{All-from_recursion, recursion_from_All}
 use Rattle.rtk_obs.specs.Cell.{IsSatellite, IsInRange}
 use Rattle.rtk_obs.specs.declared.cell.CellEntry.{CellEntry}
-use Rattle.rtk_obs.specs.declared.cell.CellSource.TheVariants.{Legacy}
-use Rattle.rtk_obs.specs.declared.code.Code.TheVariants.{G1C}
 use Rattle.std.specs.Prelude.{◌*◌, not}
 use Rattle.rtk_obs.specs.Code.{place_of}
 use Rattle.rtk_collect.specs.Equal.{equal_cells}
@@ -20,13 +18,10 @@ use Rattle.rtk_collect.specs.Steps.OrderedPlaces.{lower}
 use Rattle.rtk_collect.specs.Gps.{gps}
 use Rattle.rtk_collect.specs.Entries.{Entries}
 
--- some cell, for a list that wants one
-abbrev pub any_cell : CellEntry
-any_cell = record {
-  satellite = 0;
-  code = G1C;
-  cell = record { range_mm = None; phase_millicycles = None; strength_millidbhz = None; lock_time_ms = 0; half = false; source = Legacy; offset = None };
-}
+-- some cell of a list, for a look-up that wants one
+pub some_cell : {X : Type 0} (xs : List X) → 0 < length xs → X
+some_cell [] h = absurd (omega arith)
+some_cell (x ∷ xs) h = x
 
 -- A cell joins cells: with_cell by its three cases
 pub with_cell-new : {E S : Type 0} (es : Entries E S) (c x : E) (xs : List E) → key es c < key es x → with_cell es c (x ∷ xs) ≡ c ∷ x ∷ xs

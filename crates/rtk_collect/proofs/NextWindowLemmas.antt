@@ -8,8 +8,6 @@ use Rattle.rtk_message.specs.declared.any_message.AnyMessage.TheVariants as any
 use Rattle.rtk_message.specs.declared.message.Message.TheVariants.{Obs1004, Arp1005, Arp1006, Msm1074}
 use Rattle.rtk_message.specs.declared.arp1005.Arp1005.{Arp1005 as Message1005}
 use Rattle.rtk_message.specs.declared.arp1006.Arp1006.{Arp1006 as Message1006}
-use Rattle.rtk_obs.specs.declared.cell.CellEntry.{CellEntry}
-use Rattle.rtk_collect.specs.declared.conflicts.SatelliteCode.{SatelliteCode}
 use Rattle.rtk_collect.specs.declared.outcome.Outcome.TheVariants.{Taken, Conflict, Repeat, Late}
 use Rattle.rtk_collect.specs.Equal.{equal_1005, equal_1006}
 use Rattle.rtk_collect.specs.EpochSet.{EpochSetView, fresh, conflicts, EpochsFall}
@@ -50,18 +48,18 @@ drop-get (suc n) [] l = refl
 drop-get (suc n) (x ∷ xs) l = drop-get n xs (omega arith)
 
 -- an observation that opens its epoch
-opens : (es : Entries CellEntry SatelliteCode) (of : Message → List CellEntry) (w : CollectorView CellEntry) (e : ℕ) (m : Message) (before : List Arrival) → IsCollectorView w → RepresentsArrivals es of w before → leading e w.sets < w.places → cells_at e w.sets ≡ None
+opens : {E S : Type 0} (es : Entries E S) (of : Message → List E) (w : CollectorView E) (e : ℕ) (m : Message) (before : List Arrival) → IsCollectorView w → RepresentsArrivals es of w before → leading e w.sets < w.places → cells_at e w.sets ≡ None
     → IsRightAnswer es of w.places (At (Some e) m) before (Taken (slice_get (with_arrival es e (of m) w.sets) w.places)) (conflicts es (of m) [])
     × RepresentsArrivals es of (record w { sets = take w.places (with_arrival es e (of m) w.sets) }) (At (Some e) m ∷ before)
-opens es of w e m before ok h less none =
-    let items : List (EpochSetView CellEntry) = with_arrival es e (of m) w.sets in
+opens {E = E} es of w e m before ok h less none =
+    let items : List (EpochSetView E) = with_arrival es e (of m) w.sets in
     let long : length items ≡ suc (length w.sets) = ap length (with_arrival-absent es e (of m) w.sets none) ∙ length-insert _ (leading e w.sets) w.sets (leading-length e w.sets) in
     let step : NewStep es w.places e (of m) w.sets items = record { put = refl; falls = with_arrival-falls es e (of m) w.sets ok.falls; less = less; none = none } in
     let p : NewParts es of w.places e m before (take w.places items) (slice_get items w.places) =
     new-parts es of w.places e m w.sets items (take w.places items) before (slice_get items w.places) step h.sets refl (drop-get w.places items (omega (arith, long, ok.few))) in
     ((p.class, p.same, p.joins.closing), record { sets = p.joins.holds; arp1005 = h.arp1005; arp1006 = h.arp1006 })
 
-by-conflicts : (es : Entries CellEntry SatelliteCode) (of : Message → List CellEntry) (n e : ℕ) (m : Message) (before : List Arrival) (new : List (EpochSetView CellEntry)) (b : List CellEntry) (listed : List SatelliteCode) → OpenParts es of n e m before new b → fresh es (of m) b ≤ 0
+by-conflicts : {E S : Type 0} (es : Entries E S) (of : Message → List E) (n e : ℕ) (m : Message) (before : List Arrival) (new : List (EpochSetView E)) (b : List E) (listed : List S) → OpenParts es of n e m before new b → fresh es (of m) b ≤ 0
     → listed ≡ conflicts es (of m) b → IsRightAnswer es of n (At (Some e) m) before (outcome_by listed) listed
 by-conflicts es of n e m before new b [] p none is =
     (p.class RepeatClass (cells-stale es (of m) b (fresh es (of m) b) refl none ∙ by-none (conflicts es (of m) b) (sym is)), refl, p.joins.closing)
@@ -69,11 +67,11 @@ by-conflicts es of n e m before new b (c ∷ cs) p none is =
     (p.class ConflictClass (cells-stale es (of m) b (fresh es (of m) b) refl none ∙ by-some (conflicts es (of m) b) (λ q. let r : c ∷ cs ≡ [] = is ∙ q in cc)), is ∙ p.same, p.joins.closing)
 
 -- an observation of an epoch that is open
-joins : (es : Entries CellEntry SatelliteCode) (of : Message → List CellEntry) (w : CollectorView CellEntry) (e : ℕ) (m : Message) (before : List Arrival) (b : List CellEntry) (behind : Option (EpochSetView CellEntry)) → IsCollectorView w → RepresentsArrivals es of w before → leading e w.sets < w.places
+joins : {E S : Type 0} (es : Entries E S) (of : Message → List E) (w : CollectorView E) (e : ℕ) (m : Message) (before : List Arrival) (b : List E) (behind : Option (EpochSetView E)) → IsCollectorView w → RepresentsArrivals es of w before → leading e w.sets < w.places
     → cells_at e w.sets ≡ Some b → IsRightAnswer es of w.places (At (Some e) m) before (outcome_of_cells es (of m) (Some b) behind) (conflicts es (of m) b)
     × RepresentsArrivals es of (record w { sets = take w.places (with_arrival es e (of m) w.sets) }) (At (Some e) m ∷ before)
-joins es of w e m before b behind ok h less held =
-    let items : List (EpochSetView CellEntry) = with_arrival es e (of m) w.sets in
+joins {E = E} es of w e m before b behind ok h less held =
+    let items : List (EpochSetView E) = with_arrival es e (of m) w.sets in
     let long : length items ≡ length w.sets = length-held es e (of m) b w.sets ok.falls held in
     let all : take w.places items ≡ items = (whole w.places items (omega (arith, long, ok.few))).0 in
     let step : OpenStep es w.places e (of m) w.sets items b = record {
@@ -117,14 +115,14 @@ chosen-1006 : {E : Type 0} (w : CollectorView E) (b : Bool) (slot : Option Messa
 chosen-1006 w true slot = refl
 chosen-1006 w false slot = refl
 
-of-1005 : (es : Entries CellEntry SatelliteCode) (of : Message → List CellEntry) (w : CollectorView CellEntry) (m : Message1005) (before : List Arrival) → IsCollectorView w → RepresentsArrivals es of w before
+of-1005 : {E S : Type 0} (es : Entries E S) (of : Message → List E) (w : CollectorView E) (m : Message1005) (before : List Arrival) → IsCollectorView w → RepresentsArrivals es of w before
     → let a = At None (message_of_1005 m) in IsRightAnswer es of w.places a before (outcome_in es of w a) (conflicts_in es of w a) × RepresentsArrivals es of (next_window es of w a) (a ∷ before)
 of-1005 es of w m before ok h =
     let p = slot-next es of message_of_1005 equal_1005 (λ a b. refl) w.places 1005 m w.arp1005 _ before refl h.arp1005 (full-held es of w before ok h) in
     rw (no-lists (late_in w (At None (message_of_1005 m))), chosen-1005 w (late_in w (At None (message_of_1005 m))) (option_or w.arp1005 (Some m)))
     (p.answers, record { sets = h.sets; arp1005 = p.after; arp1006 = h.arp1006 ∙ sym (other-stays w.places 1006 (message_of_1005 m) before (λ e. omega arith)) })
 
-of-1006 : (es : Entries CellEntry SatelliteCode) (of : Message → List CellEntry) (w : CollectorView CellEntry) (m : Message1006) (before : List Arrival) → IsCollectorView w → RepresentsArrivals es of w before
+of-1006 : {E S : Type 0} (es : Entries E S) (of : Message → List E) (w : CollectorView E) (m : Message1006) (before : List Arrival) → IsCollectorView w → RepresentsArrivals es of w before
     → let a = At None (message_of_1006 m) in IsRightAnswer es of w.places a before (outcome_in es of w a) (conflicts_in es of w a) × RepresentsArrivals es of (next_window es of w a) (a ∷ before)
 of-1006 es of w m before ok h =
     let p = slot-next es of message_of_1006 equal_1006 (λ a b. refl) w.places 1006 m w.arp1006 _ before refl h.arp1006 (full-held es of w before ok h) in
@@ -133,13 +131,13 @@ of-1006 es of w m before ok h =
 
 -- ---- all arrivals
 
-pub windows-answer : (es : Entries CellEntry SatelliteCode) (of : Message → List CellEntry) → WindowsAnswer es of
+pub windows-answer : {E S : Type 0} (es : Entries E S) (of : Message → List E) → WindowsAnswer es of
 windows-answer es of w (At None (any.Message (Obs1004 m))) ok timed = cc
 windows-answer es of w (At None (any.Message (Arp1005 m))) ok timed = λ before h. of-1005 es of w m before ok h
 windows-answer es of w (At None (any.Message (Arp1006 m))) ok timed = λ before h. of-1006 es of w m before ok h
 windows-answer es of w (At None (any.Message (Msm1074 m))) ok timed = cc
 windows-answer es of w (At None (any.Msm m)) ok timed = cc
-windows-answer es of w (At (Some e) m) ok timed = λ before h. elim (cases_lt (leading e w.sets) w.places) [
+windows-answer {E = E} es of w (At (Some e) m) ok timed = λ before h. elim (cases_lt (leading e w.sets) w.places) [
   | inl less ↦
       let in_time : late_in w (At (Some e) m) ≡ false = late-held w e m ok.falls ∙ lt-leb w.places (leading e w.sets) less in
       rw in_time (by w e m before ok h less (cells_at e w.sets) refl)
@@ -150,8 +148,8 @@ windows-answer es of w (At (Some e) m) ok timed = λ before h. elim (cases_lt (l
       rw late ((class-late es of w.places e m before p.0, refl, p.2), record { sets = p.1; arp1005 = h.arp1005; arp1006 = h.arp1006 })
 ]
   where
-    by : (w : CollectorView CellEntry) (e : ℕ) (m : Message) (before : List Arrival) → IsCollectorView w → RepresentsArrivals es of w before → leading e w.sets < w.places
-        → (o : Option (List CellEntry)) → cells_at e w.sets ≡ o
+    by : (w : CollectorView E) (e : ℕ) (m : Message) (before : List Arrival) → IsCollectorView w → RepresentsArrivals es of w before → leading e w.sets < w.places
+        → (o : Option (List E)) → cells_at e w.sets ≡ o
         → IsRightAnswer es of w.places (At (Some e) m) before (outcome_of_cells es (of m) (cells_at e w.sets) (slice_get (with_arrival es e (of m) w.sets) w.places)) (conflicts_with es (of m) (cells_at e w.sets))
         × RepresentsArrivals es of (record w { sets = take w.places (with_arrival es e (of m) w.sets) }) (At (Some e) m ∷ before)
     by w e m before ok h less None is = rw is (opens es of w e m before ok h less is)
@@ -165,7 +163,7 @@ same-front None (Some y) xs h = let l = ap length h in absurd (omega arith)
 same-front (Some x) None xs h = let l = ap length h in absurd (omega arith)
 same-front (Some x) (Some y) xs h = ap (λ t. slice_get t 0) h
 
-pub answers-unique : (es : Entries CellEntry SatelliteCode) (of : Message → List CellEntry) → AnswersAreUnique es of
+pub answers-unique : {E S : Type 0} (es : Entries E S) (of : Message → List E) → AnswersAreUnique es of
 answers-unique es of n a before Late Late listed others r s = (refl, r.1 ∙ sym s.1)
 answers-unique es of n a before Repeat Repeat listed others r s = (refl, r.1 ∙ sym s.1)
 answers-unique es of n a before Conflict Conflict listed others r s = (refl, r.1 ∙ sym s.1)

@@ -6,8 +6,6 @@ use Rattle.std.proofs.lemmas.Bool.{lt-ltb, cases_lt, cases_order}
 use Rattle.std.proofs.lemmas.List.{length-append, append-nil}
 use Rattle.std.proofs.lemmas.List.Elements.{All-from_recursion, recursion_from_All}
 use Rattle.rtk_message.specs.declared.any_message.AnyMessage.{AnyMessage as Message}
-use Rattle.rtk_obs.specs.declared.cell.CellEntry.{CellEntry}
-use Rattle.rtk_collect.specs.declared.conflicts.SatelliteCode.{SatelliteCode}
 use Rattle.rtk_collect.specs.declared.outcome.Outcome.{Outcome}
 use Rattle.rtk_collect.specs.declared.outcome.Outcome.TheVariants.{Taken, Conflict, Repeat, Late}
 use Rattle.rtk_collect.specs.EpochSet.{EpochSetView, joined, fresh, conflicts, EpochsFall}
@@ -61,9 +59,9 @@ last-below [] s f = tt
 last-below (x ∷ []) s f = (f.0, tt)
 last-below (x ∷ y ∷ front) s f = let h = last-below (y ∷ front) s f.1 in (omega (arith, h.0, f.0), h)
 
-pub closes-below : (front : List (EpochSetView CellEntry)) (closes : Option (EpochSetView CellEntry)) → EpochsFall (front ++ option_to_list closes) → ClosesBelow (Taken closes) front
-closes-below front None f = tt
-closes-below front (Some s) f = All-from_recursion (λ (x : EpochSetView CellEntry). s.epoch < x.epoch) front (last-below front s f)
+pub closes-below : {E : Type 0} (S : Type 0) (front : List (EpochSetView E)) (closes : Option (EpochSetView E)) → EpochsFall (front ++ option_to_list closes) → ClosesBelow {E} {S} (Taken closes) front
+closes-below S front None f = tt
+closes-below {E = E} S front (Some s) f = All-from_recursion (λ (x : EpochSetView E). s.epoch < x.epoch) front (last-below front s f)
 
 pub least-is : {E : Type 0} (front : List (EpochSetView E)) (o : Option (EpochSetView E)) → EpochsFall (front ++ option_to_list o) → IfSome o (λ s. All (λ (x : EpochSetView E). s.epoch < x.epoch) front)
 least-is front None f = tt
@@ -93,16 +91,16 @@ insert-last (x ∷ xs) zero v (y ∷ ys) s l e = (ys, ap rest e)
 insert-last (x ∷ xs) (suc i) v [] s l e = let q : insert xs i v ≡ [] = ap rest e in let p : suc (length xs) ≡ 0 = sym (length-insert v i xs (omega arith)) ∙ ap length q in absurd (omega arith)
 insert-last (x ∷ xs) (suc i) v (y ∷ ys) s l e = let h = insert-last xs i v ys s (omega arith) (ap rest e) in (x ∷ h.0, ap (λ t. x ∷ t) h.1)
 
-new-least : (n i : ℕ) (sets items new : List (EpochSetView CellEntry)) (v : EpochSetView CellEntry) (closes : Option (EpochSetView CellEntry)) → length sets ≤ n → i < n → items ≡ insert sets i v
-    → length items ≡ suc (length sets) → items ≡ new ++ option_to_list closes → length new ≡ min n (length items) → ClosesLeast n sets (Taken closes)
-new-least n i sets items new v None small l is grew split len = tt
-new-least n i sets items new v (Some s) small l is grew split len =
+new-least : {E : Type 0} (S : Type 0) (n i : ℕ) (sets items new : List (EpochSetView E)) (v : EpochSetView E) (closes : Option (EpochSetView E)) → length sets ≤ n → i < n → items ≡ insert sets i v
+    → length items ≡ suc (length sets) → items ≡ new ++ option_to_list closes → length new ≡ min n (length items) → ClosesLeast {E} {S} n sets (Taken closes)
+new-least S n i sets items new v None small l is grew split len = tt
+new-least S n i sets items new v (Some s) small l is grew split len =
     let q : length items ≡ length new + 1 = ap length split ∙ length-append new (s ∷ []) in
     let full : length sets ≡ n = omega arith in
     let last = insert-last sets i v new s (omega arith) (sym is ∙ split) in
     (full, last, last-not-below sets last.0 s last.1)
 
-open-least : (n count : ℕ) (found : List SatelliteCode) (offer : Outcome) (sets : List (EpochSetView CellEntry)) → IsAnswerOf count found offer → ClosesLeast n sets offer
+open-least : {E S : Type 0} (n count : ℕ) (found : List S) (offer : Outcome E S) (sets : List (EpochSetView E)) → IsAnswerOf count found offer → ClosesLeast n sets offer
 open-least n count found Late sets a = tt
 open-least n count found (Taken None) sets a = tt
 open-least n count found (Taken (Some s)) sets a = let q = a.1 in cc
@@ -145,14 +143,14 @@ split-parts {E = E} n all front back e l = elim (cases_lt (length all) n) [
     no-length [] h = refl
     no-length (x ∷ xs) h = absurd (omega arith)
 
-open-below : (count : ℕ) (found : List SatelliteCode) (offer : Outcome) (new : List (EpochSetView CellEntry)) → IsAnswerOf count found offer → ClosesBelow offer new
+open-below : {E S : Type 0} (count : ℕ) (found : List S) (offer : Outcome E S) (new : List (EpochSetView E)) → IsAnswerOf count found offer → ClosesBelow offer new
 open-below count found Late new a = absurd a
 open-below count found (Taken None) new a = tt
 open-below count found (Taken (Some s)) new a = let q = a.1 in cc
 open-below count found Conflict new a = tt
 open-below count found Repeat new a = tt
 
-open-answers : (es : Entries CellEntry SatelliteCode) (of : Message → List CellEntry) (n e : ℕ) (m : Message) (before : List Arrival) (new : List (EpochSetView CellEntry)) (b : List CellEntry) (count : ℕ) (found : List SatelliteCode) (offer : Outcome) → OpenParts es of n e m before new b
+open-answers : {E S : Type 0} (es : Entries E S) (of : Message → List E) (n e : ℕ) (m : Message) (before : List Arrival) (new : List (EpochSetView E)) (b : List E) (count : ℕ) (found : List S) (offer : Outcome E S) → OpenParts es of n e m before new b
     → count ≡ fresh es (of m) b → found ≡ conflicts es (of m) b → IsAnswerOf count found offer → IsRightAnswer es of n (At (Some e) m) before offer found
 open-answers es of n e m before new b count found Late p c f a = absurd a
 open-answers es of n e m before new b count found (Taken out) p c f a =
@@ -162,16 +160,16 @@ open-answers es of n e m before new b count found Conflict p c f a =
 open-answers es of n e m before new b count found Repeat p c f a =
     (p.class RepeatClass (cells-stale es (of m) b count c (omega (arith, a.0)) ∙ by-none (conflicts es (of m) b) (sym f ∙ a.1)), a.1, p.joins.closing)
 
-pub open-branch : (es : Entries CellEntry SatelliteCode) (n e at : ℕ) (cs : List CellEntry) (d : EpochSetView CellEntry) (sets new : List (EpochSetView CellEntry)) (count : ℕ) (found : List SatelliteCode) (offer : Outcome) → EpochsFall sets → length sets ≤ n
+pub open-branch : {E S : Type 0} (es : Entries E S) (n e at : ℕ) (cs : List E) (d : EpochSetView E) (sets new : List (EpochSetView E)) (count : ℕ) (found : List S) (offer : Outcome E S) → EpochsFall sets → length sets ≤ n
     → at ≡ leading e sets → at < length sets → (get_or sets at d).epoch ≡ e → new ≡ set sets at (joined es cs (get_or sets at d))
     → count ≡ fresh es cs (get_or sets at d).cells → found ≡ conflicts es cs (get_or sets at d).cells → IsAnswerOf count found offer → AddsCells es n e cs sets new offer found
-open-branch es n e at cs d sets new count found offer f small place l same is c g a =
+open-branch {E = E} es n e at cs d sets new count found offer f small place l same is c g a =
     let s : OpenStep es n e cs sets new (get_or sets at d).cells = open-step es n e at cs d sets new f small place l same is in
     record {
       len = s.len;
       falls = s.falls;
       answer = λ of m k before h.
-          let s' : OpenStep es n e (of m) sets new (get_or sets at d).cells = subst (λ (t : List CellEntry). OpenStep es n e t sets new (get_or sets at d).cells) (sym k) s in
+          let s' : OpenStep es n e (of m) sets new (get_or sets at d).cells = subst (λ (t : List E). OpenStep es n e t sets new (get_or sets at d).cells) (sym k) s in
           let p : OpenParts es of n e m before new (get_or sets at d).cells = open-parts es of n e m sets new (get_or sets at d).cells before s' h in
           (open-answers es of n e m before new (get_or sets at d).cells count found offer p (c ∙ ap (λ t. fresh es t (get_or sets at d).cells) (sym k)) (g ∙ ap (λ t. conflicts es t (get_or sets at d).cells) (sym k)) a, p.joins.holds);
       below = open-below count found offer new a;
@@ -179,13 +177,13 @@ open-branch es n e at cs d sets new count found offer f small place l same is c 
       least = λ full. (
         s.same_len ∙ full,
         λ x h.
-            let r : AtLeast x sets = recursion_from_All (λ (t : EpochSetView CellEntry). x ≤ t.epoch) sets h in
+            let r : AtLeast x sets = recursion_from_All (λ (t : EpochSetView E). x ≤ t.epoch) sets h in
             let w : AtLeast x (with_arrival es e cs sets) = least-with es x e cs sets (least-of x e sets (omega arith) r) r in
-            All-from_recursion (λ (t : EpochSetView CellEntry). x ≤ t.epoch) new (subst (AtLeast x) (sym s.put) w),
+            All-from_recursion (λ (t : EpochSetView E). x ≤ t.epoch) new (subst (AtLeast x) (sym s.put) w),
       );
     }
 
-pub late-branch : (es : Entries CellEntry SatelliteCode) (n e at : ℕ) (cs : List CellEntry) (sets : List (EpochSetView CellEntry)) → EpochsFall sets → length sets ≤ n → at ≡ leading e sets → at ≡ n → AddsCells es n e cs sets sets Late []
+pub late-branch : {E S : Type 0} (es : Entries E S) (n e at : ℕ) (cs : List E) (sets : List (EpochSetView E)) → EpochsFall sets → length sets ≤ n → at ≡ leading e sets → at ≡ n → AddsCells es n e cs sets sets Late []
 late-branch es n e at cs sets f small place full =
     record {
       len = small;
@@ -196,10 +194,10 @@ late-branch es n e at cs sets f small place full =
       least = λ all. (all, λ x h. h);
     }
 
-pub new-branch : (es : Entries CellEntry SatelliteCode) (n e at : ℕ) (cs : List CellEntry) (d : EpochSetView CellEntry) (sets items new : List (EpochSetView CellEntry)) (closes : Option (EpochSetView CellEntry)) (found : List SatelliteCode) → EpochsFall sets → length sets ≤ n
+pub new-branch : {E S : Type 0} (es : Entries E S) (n e at : ℕ) (cs : List E) (d : EpochSetView E) (sets items new : List (EpochSetView E)) (closes : Option (EpochSetView E)) (found : List S) → EpochsFall sets → length sets ≤ n
     → at ≡ leading e sets → at ≢ n → (at < length sets → (get_or sets at d).epoch ≢ e) → items ≡ insert sets at (opened es e cs) → length items ≡ suc (length sets)
     → items ≡ new ++ option_to_list closes → length new ≡ min n (length items) → found ≡ conflicts es cs [] → AddsCells es n e cs sets new (Taken closes) found
-new-branch es n e at cs d sets items new closes found f small place other absent is grew split len g =
+new-branch {E = E} {S = S} es n e at cs d sets items new closes found f small place other absent is grew split len g =
     let s : NewStep es n e cs sets items = new-step es n e at cs d sets items f small place other absent is in
     let fall : EpochsFall (new ++ option_to_list closes) = subst EpochsFall split s.falls in
     let both : (take n items ≡ new) × (drop n items ≡ option_to_list closes) = split-parts n items new (option_to_list closes) split len in
@@ -207,24 +205,24 @@ new-branch es n e at cs d sets items new closes found f small place other absent
       len = omega arith;
       falls = falls-front new (option_to_list closes) fall;
       answer = λ of m k before h.
-          let s' : NewStep es n e (of m) sets items = subst (λ (t : List CellEntry). NewStep es n e t sets items) (sym k) s in
+          let s' : NewStep es n e (of m) sets items = subst (λ (t : List E). NewStep es n e t sets items) (sym k) s in
           let p : NewParts es of n e m before new closes = new-parts es of n e m sets items new before closes s' h both.0 both.1 in
           ((p.class, g ∙ ap (λ t. conflicts es t []) (sym k) ∙ p.same, p.joins.closing), p.joins.holds);
-      below = closes-below new closes fall;
-      least_closes = new-least n at sets items new (opened es e cs) closes small (let l : leading e sets < n = s.less in omega arith) is grew split len;
+      below = closes-below S new closes fall;
+      least_closes = new-least S n at sets items new (opened es e cs) closes small (let l : leading e sets < n = s.less in omega arith) is grew split len;
       least = λ full. (
         omega arith,
         λ x h.
-            let r : AtLeast x sets = recursion_from_All (λ (t : EpochSetView CellEntry). x ≤ t.epoch) sets h in
+            let r : AtLeast x sets = recursion_from_All (λ (t : EpochSetView E). x ≤ t.epoch) sets h in
             let l : leading e sets < n = s.less in
             let w : AtLeast x (with_arrival es e cs sets) = least-with es x e cs sets (least-of x e sets (omega arith) r) r in
-            All-from_recursion (λ (t : EpochSetView CellEntry). x ≤ t.epoch) new (least-front x new (option_to_list closes) (subst (AtLeast x) split (subst (AtLeast x) (sym s.put) w))),
+            All-from_recursion (λ (t : EpochSetView E). x ≤ t.epoch) new (least-front x new (option_to_list closes) (subst (AtLeast x) split (subst (AtLeast x) (sym s.put) w))),
       );
     }
 
 -- what cells answer and leave, as what their message answers and leaves of a window
 
-pub observed-answers : (es : Entries CellEntry SatelliteCode) (of : Message → List CellEntry) (w : CollectorView CellEntry) (e : ℕ) (m : Message) (cs : List CellEntry) (new : List (EpochSetView CellEntry)) (offer : Outcome) (found : List SatelliteCode) → of m ≡ cs → AddsCells es w.places e cs w.sets new offer found
+pub observed-answers : {E S : Type 0} (es : Entries E S) (of : Message → List E) (w : CollectorView E) (e : ℕ) (m : Message) (cs : List E) (new : List (EpochSetView E)) (offer : Outcome E S) (found : List S) → of m ≡ cs → AddsCells es w.places e cs w.sets new offer found
     → AnswersArrival es of w (At (Some e) m) offer found (record w { sets = new })
 observed-answers es of w e m cs new offer found is h = λ before r. let p = h.answer of m is before r.sets in (p.0, record { sets = p.1; arp1005 = r.arp1005; arp1006 = r.arp1006 })
 

@@ -2,8 +2,6 @@
 use Rattle.std.specs.Prelude.{◌≡◌, ℕ, List, [], ◌∷◌, ◌++◌, nat_lt, Option, None, Some, option_to_list, if◌then◌else◌}
 use Rattle.rtk_message.specs.declared.any_message.AnyMessage.{AnyMessage as Message}
 use Rattle.rtk_message.specs.AnyDecoded.{number_of}
-use Rattle.rtk_obs.specs.declared.cell.CellEntry.{CellEntry}
-use Rattle.rtk_collect.specs.declared.conflicts.SatelliteCode.{SatelliteCode}
 use Rattle.rtk_collect.specs.declared.outcome.Outcome.{Outcome}
 use Rattle.rtk_collect.specs.declared.outcome.Outcome.TheVariants.{Taken, Conflict, Repeat, Late}
 use Rattle.rtk_collect.specs.Arrival.{Arrival, At}
@@ -56,7 +54,7 @@ conflicts_of es of n (At (Some e) m) before = conflicts_with es (of m) (cells_at
 
 -- the right answer to an arrival after the ones before it, and the conflicts that are listed with it:
 -- none with one that is late or a repeat. Only one that is taken closes an epoch
-abbrev pub IsRightAnswer : Entries CellEntry SatelliteCode → (Message → List CellEntry) → ℕ → Arrival → List Arrival → Outcome → List SatelliteCode → Type 0
+abbrev pub IsRightAnswer : {E S : Type 0} → Entries E S → (Message → List E) → ℕ → Arrival → List Arrival → Outcome E S → List S → Type 0
 IsRightAnswer es of n a before Late listed = (class_of es of n a before ≡ LateClass) × (listed ≡ []) × (closed es of n (a ∷ before) ≡ closed es of n before)
 IsRightAnswer es of n a before (Taken done) listed = (class_of es of n a before ≡ TakenClass) × (listed ≡ conflicts_of es of n a before) × (closed es of n (a ∷ before) ≡ option_to_list done ++ closed es of n before)
 IsRightAnswer es of n a before Conflict listed = (class_of es of n a before ≡ ConflictClass) × (listed ≡ conflicts_of es of n a before) × (closed es of n (a ∷ before) ≡ closed es of n before)

@@ -1,7 +1,7 @@
 -- The cells of an epoch: one for each satellite, code and kind of message, the first that came.
-use Rattle.std.specs.Prelude.{◌≡◌, ℕ, suc, ◌<◌, ◌≤◌, Bool, List, [], ◌∷◌, ◌++◌, ◌==◌, ◌⊎◌, length, nat_lt, Option, None, Some, All, if◌then◌else◌}
+use Rattle.std.specs.Prelude.{◌≡◌, ℕ, suc, ◌<◌, ◌≤◌, Bool, List, [], ◌∷◌, ◌++◌, ◌==◌, ◌⊎◌, length, nat_lt, Option, None, Some, All, not, filter, if◌then◌else◌}
+use Rattle.std.specs.List.{list_any}
 use Rattle.rtk_obs.specs.Cell.{IsInRange}
-use Rattle.rtk_obs.specs.CellsLeft.{cells_left}
 use Rattle.rtk_obs.specs.Slip.{is_same_source}
 use Rattle.rtk_obs.specs.declared.cell.CellSource.{CellSource}
 use Rattle.rtk_obs.specs.declared.cell.CellSource.TheVariants.{Legacy, Msm}
@@ -93,6 +93,14 @@ abbrev pub conflicts : {E S : Type 0} → Entries E S → List E → List E → 
 conflicts es [] kept = []
 conflicts es (c ∷ more) kept = conflict es c (cell_under es (key es c) kept) ++ conflicts es more (with_cell es c kept)
 
+-- the cells whose satellite and code none of the known cells has
+abbrev pub left_beside : {E S : Type 0} → Entries E S → List E → List E → List E
+left_beside es known cells = filter (λ c. not (list_any (λ k. es.place k == es.place c) known)) cells
+
 -- all cells, or those whose satellite and code none of the known cells has
-abbrev pub AreLeftBeside : List CellEntry → List CellEntry → List CellEntry → Type 0
-AreLeftBeside known cells left = (left ≡ cells) ⊎ (left ≡ cells_left known cells)
+abbrev pub AreLeftBeside : {E S : Type 0} → Entries E S → List E → List E → List E → Type 0
+AreLeftBeside es known cells left = (left ≡ cells) ⊎ (left ≡ left_beside es known cells)
+
+-- all cells came in one kind of message
+abbrev pub AreOfOneSource : {E S : Type 0} → Entries E S → List E → Type 0
+AreOfOneSource es cells = (source : CellSource) × All (λ c. (es.cell c).source ≡ source) cells

@@ -7,7 +7,6 @@ use Rattle.rtk_message.specs.declared.any_message.AnyMessage.{AnyMessage as Mess
 use Rattle.rtk_message.specs.AnyDecoded.{number_of, IsValid}
 use Rattle.rtk_obs.specs.declared.cell.Cell.{Cell}
 use Rattle.rtk_obs.specs.declared.cell.CellEntry.{CellEntry}
-use Rattle.rtk_collect.specs.declared.conflicts.SatelliteCode.{SatelliteCode}
 use Rattle.rtk_collect.specs.declared.outcome.Outcome.{Outcome}
 use Rattle.rtk_collect.specs.declared.outcome.Outcome.TheVariants.{Taken}
 use Rattle.rtk_collect.specs.Entries.{Entries}
@@ -165,8 +164,8 @@ abbrev pub OpeningConflictsNot : {E S : Type 0} → Entries E S → (Message →
 OpeningConflictsNot es of = (m : Message) → IsValid m → conflicts es (of m) [] ≡ []
 
 -- a message that closes an epoch opens one, so none of its cells conflicts
-abbrev pub ClosingConflictsNot : Entries CellEntry SatelliteCode → (Message → List CellEntry) → Type 0
-ClosingConflictsNot es of = (n : ℕ) (a : Arrival) (before : List Arrival) (set : EpochSetView CellEntry) (listed : List SatelliteCode) → IsValid (message_of a)
+abbrev pub ClosingConflictsNot : {E S : Type 0} → Entries E S → (Message → List E) → Type 0
+ClosingConflictsNot {E = E} {S = S} es of = (n : ℕ) (a : Arrival) (before : List Arrival) (set : EpochSetView E) (listed : List S) → IsValid (message_of a)
     → IsRightAnswer es of n a before (Taken (Some set)) listed → listed ≡ []
 
 -- two cells have one key exactly if satellite, code and kind of message are the same
@@ -201,12 +200,12 @@ FirstIsKept {E} es of = (n e k : ℕ) (arrivals : List Arrival) → option_and_t
 
 -- what a window that represents arrivals answers to a further one, and is afterwards, follows from what
 -- it holds: it is the right answer, and the next window represents all of them
-abbrev pub WindowsAnswer : Entries CellEntry SatelliteCode → (Message → List CellEntry) → Type 0
-WindowsAnswer es of = (w : CollectorView CellEntry) (a : Arrival) → IsCollectorView w → IsTimed a → AnswersArrival es of w a (outcome_in es of w a) (conflicts_in es of w a) (next_window es of w a)
+abbrev pub WindowsAnswer : {E S : Type 0} → Entries E S → (Message → List E) → Type 0
+WindowsAnswer {E = E} es of = (w : CollectorView E) (a : Arrival) → IsCollectorView w → IsTimed a → AnswersArrival es of w a (outcome_in es of w a) (conflicts_in es of w a) (next_window es of w a)
 
 -- a right answer is the only one, with its conflicts
-abbrev pub AnswersAreUnique : Entries CellEntry SatelliteCode → (Message → List CellEntry) → Type 0
-AnswersAreUnique es of = (n : ℕ) (a : Arrival) (before : List Arrival) (one other : Outcome) (listed others : List SatelliteCode)
+abbrev pub AnswersAreUnique : {E S : Type 0} → Entries E S → (Message → List E) → Type 0
+AnswersAreUnique {E = E} {S = S} es of = (n : ℕ) (a : Arrival) (before : List Arrival) (one other : Outcome E S) (listed others : List S)
     → IsRightAnswer es of n a before one listed → IsRightAnswer es of n a before other others → (one ≡ other) × (listed ≡ others)
 
 -- arrivals are represented by one window of each number of places

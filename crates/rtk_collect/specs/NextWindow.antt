@@ -6,8 +6,6 @@ use Rattle.rtk_message.specs.AnyDecoded.{tow_of}
 use Rattle.rtk_message.specs.declared.any_message.AnyMessage.{AnyMessage as Message}
 use Rattle.rtk_message.specs.declared.any_message.AnyMessage.TheVariants as any
 use Rattle.rtk_message.specs.declared.message.Message.TheVariants.{Arp1005, Arp1006}
-use Rattle.rtk_obs.specs.declared.cell.CellEntry.{CellEntry}
-use Rattle.rtk_collect.specs.declared.conflicts.SatelliteCode.{SatelliteCode}
 use Rattle.rtk_collect.specs.declared.outcome.Outcome.{Outcome}
 use Rattle.rtk_collect.specs.declared.outcome.Outcome.TheVariants.{Taken, Conflict, Repeat, Late}
 use Rattle.rtk_collect.specs.Arrival.{Arrival, At, epoch_of, message_of_1005, message_of_1006}
@@ -39,28 +37,28 @@ abbrev pub late_in : {E : Type 0} → CollectorView E → Arrival → Bool
 late_in w a = nat_le w.places (greater (epoch_of a) (map (λ x. x.epoch) w.sets)) && not (repeats_in w a)
 
 -- the answer if no cell is new: a conflict, if there is one, else a repeat
-abbrev pub outcome_by : List SatelliteCode → Outcome
+abbrev pub outcome_by : {E S : Type 0} → List S → Outcome E S
 outcome_by [] = Repeat
 outcome_by _ = Conflict
 
 -- the answer to cells that come in time, by those of their epoch if it is open; one that opens closes
 -- the epoch behind the last place, if there is one
-abbrev pub outcome_of_cells : Entries CellEntry SatelliteCode → List CellEntry → Option (List CellEntry) → Option (EpochSetView CellEntry) → Outcome
+abbrev pub outcome_of_cells : {E S : Type 0} → Entries E S → List E → Option (List E) → Option (EpochSetView E) → Outcome E S
 outcome_of_cells es cells None behind = Taken behind
 outcome_of_cells es cells (Some held) behind = if nat_lt 0 (fresh es cells held) then Taken None else outcome_by (conflicts es cells held)
 
 -- the answer to a station message that comes in time, by the one with its number
-abbrev pub outcome_of_station : Message → Option Message → Outcome
+abbrev pub outcome_of_station : {E S : Type 0} → Message → Option Message → Outcome E S
 outcome_of_station m None = Taken None
 outcome_of_station m (Some x) = if equal_stations x m then Repeat else Conflict
 
-abbrev pub outcome_in_time : Entries CellEntry SatelliteCode → (Message → List CellEntry) → CollectorView CellEntry → Arrival → Outcome
+abbrev pub outcome_in_time : {E S : Type 0} → Entries E S → (Message → List E) → CollectorView E → Arrival → Outcome E S
 outcome_in_time es of w (At None m) = outcome_of_station m (station_in w m)
 outcome_in_time es of w (At (Some e) m) =
     outcome_of_cells es (of m) (cells_at e w.sets) (slice_get (with_arrival es e (of m) w.sets) w.places)
 
 -- the answer of a window to an arrival
-abbrev pub outcome_in : Entries CellEntry SatelliteCode → (Message → List CellEntry) → CollectorView CellEntry → Arrival → Outcome
+abbrev pub outcome_in : {E S : Type 0} → Entries E S → (Message → List E) → CollectorView E → Arrival → Outcome E S
 outcome_in es of w a = if late_in w a then Late else outcome_in_time es of w a
 
 abbrev pub conflicts_in_time : {E S : Type 0} → Entries E S → (Message → List E) → CollectorView E → Arrival → List S

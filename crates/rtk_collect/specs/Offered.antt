@@ -14,7 +14,7 @@ use Rattle.rtk_collect.specs.Answer.{IsRightAnswer, TakenClass, class_of}
 use Rattle.rtk_collect.specs.Collector.{CollectorView, RepresentsArrivals}
 
 -- what a collector answers without the conflicts, as a gatherer answers it
-abbrev pub outcome_of : Offer → Outcome
+abbrev pub outcome_of : Offer → Outcome CellEntry SatelliteCode
 outcome_of (offer.Taken done listed) = Taken done
 outcome_of offer.Repeat = Repeat
 outcome_of (offer.Conflict listed) = Conflict
@@ -29,12 +29,12 @@ listed_by offer.Late = []
 
 -- the right answer to an arrival with the list of its conflicts, after which the window represents it
 -- too, whatever came before
-abbrev pub AnswersArrival : Entries CellEntry SatelliteCode → (Message → List CellEntry) → CollectorView CellEntry → Arrival → Outcome → List SatelliteCode → CollectorView CellEntry → Type 0
+abbrev pub AnswersArrival : {E S : Type 0} → Entries E S → (Message → List E) → CollectorView E → Arrival → Outcome E S → List S → CollectorView E → Type 0
 AnswersArrival es of old a offer listed new =
     (before : List Arrival) → RepresentsArrivals es of old before → IsRightAnswer es of old.places a before offer listed × RepresentsArrivals es of new (a ∷ before)
 
 -- a closed epoch is less than all of the window
-abbrev pub ClosesBelow : Outcome → List (EpochSetView CellEntry) → Type 0
+abbrev pub ClosesBelow : {E S : Type 0} → Outcome E S → List (EpochSetView E) → Type 0
 ClosesBelow (Taken (Some set)) sets = All (λ x. set.epoch < x.epoch) sets
 ClosesBelow (Taken None) sets = Unit {0}
 ClosesBelow Conflict sets = Unit {0}
@@ -46,8 +46,8 @@ abbrev pub NotBelow : {E : Type 0} → EpochSetView E → List (EpochSetView E) 
 NotBelow set sets = (e : ℕ) → All (λ x. e ≤ x.epoch) sets → e ≤ set.epoch
 
 -- an epoch closes only if the window of n places was full: its least epoch, with its cells
-abbrev pub ClosesLeast : ℕ → List (EpochSetView CellEntry) → Outcome → Type 0
-ClosesLeast n sets (Taken (Some set)) = (length sets ≡ n) × ((greater : List (EpochSetView CellEntry)) × (sets ≡ greater ++ set ∷ [])) × NotBelow set sets
+abbrev pub ClosesLeast : {E S : Type 0} → ℕ → List (EpochSetView E) → Outcome E S → Type 0
+ClosesLeast {E = E} n sets (Taken (Some set)) = (length sets ≡ n) × ((greater : List (EpochSetView E)) × (sets ≡ greater ++ set ∷ [])) × NotBelow set sets
 ClosesLeast n sets (Taken None) = Unit {0}
 ClosesLeast n sets Conflict = Unit {0}
 ClosesLeast n sets Repeat = Unit {0}

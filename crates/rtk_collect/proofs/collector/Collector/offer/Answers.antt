@@ -27,9 +27,9 @@ returns-in_default-clause-answer c =
     let new : CollectorView CellEntry = window_of n sets c.offer-outcome.new.self in
     let message = c.dated.inside.message in
     let full = ap (λ t. eqb t n) (c.len.ensures ∙ c.self.inside.sets.ok.0) in
-    let here : AnswersArrival gps cells_of old (At None (any.Message message)) c.offer-outcome.result [] new = c.offer-outcome.ensures.answer n sets full in
+    let here : AnswersArrival gps cells_of old (At None (any.Message message)) c.offer-outcome.result [] new = c.offer-outcome.ensures.answer cells_of n sets full in
     let listed : AnswersArrival gps cells_of old (At None (any.Message message)) (outcome_of c.new-in_default.result) (listed_by c.new-in_default.result) new =
-    subst (λ (o : Outcome). AnswersArrival gps cells_of old (At None (any.Message message)) o (listed_by c.new-in_default.result) new) (sym c.new-in_default.ensures.outcome)
+    subst (λ (o : Outcome CellEntry SatelliteCode). AnswersArrival gps cells_of old (At None (any.Message message)) o (listed_by c.new-in_default.result) new) (sym c.new-in_default.ensures.outcome)
     (subst (λ (l : List SatelliteCode). AnswersArrival gps cells_of old (At None (any.Message message)) c.offer-outcome.result l new) (sym (c.new-in_default.ensures.conflicts ∙ c.new.ensures)) here) in
     subst (λ (w : CollectorView CellEntry). AnswersArrival gps cells_of w c.args.dated (outcome_of c.new-in_default.result) (listed_by c.new-in_default.result) new) c.self.view_is
     (subst (λ (a : Arrival). AnswersArrival gps cells_of old a (outcome_of c.new-in_default.result) (listed_by c.new-in_default.result) new) (ap (λ e. At e (any.Message message)) (sym c.in_default.is) ∙ c.dated.view_is) listed)
