@@ -314,7 +314,7 @@ with_cells-all es P cells kept h k = All-from_recursion P (with_cells es cells k
 
 -- how many keys there are
 
-abbrev From : {E S : Type 0} (es : Entries E S) → ℕ → List E → Type 0
+abbrev pub From : {E S : Type 0} (es : Entries E S) → ℕ → List E → Type 0
 From es low [] = Unit {0}
 From es low (x ∷ xs) = low ≤ key es x
 
@@ -322,7 +322,7 @@ above-from : {E S : Type 0} (es : Entries E S) (k : ℕ) (xs : List E) → Above
 above-from es k [] h = tt
 above-from es k (x ∷ xs) h = omega (arith, h)
 
-keys-fit : {E S : Type 0} (es : Entries E S) (low top : ℕ) (xs : List E) → low ≤ top → KeysRise es xs → From es low xs → AllByRecursion (λ c. key es c < top) xs → length xs + low ≤ top
+pub keys-fit : {E S : Type 0} (es : Entries E S) (low top : ℕ) (xs : List E) → low ≤ top → KeysRise es xs → From es low xs → AllByRecursion (λ c. key es c < top) xs → length xs + low ≤ top
 keys-fit es low top [] l r f h = omega arith
 keys-fit es low top (x ∷ xs) l r f h =
     let k : key es x < top = h.0 in

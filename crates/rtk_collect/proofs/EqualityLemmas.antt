@@ -16,9 +16,11 @@ use Rattle.rtk_obs.specs.declared.code.Code.TheVariants.{G1C, G1P, G1W, G1S, G1L
 use Rattle.rtk_obs.specs.declared.cell.CellSource.{CellSource}
 use Rattle.rtk_obs.specs.declared.cell.CellSource.TheVariants.{Legacy, Msm}
 use Rattle.rtk_obs.specs.declared.cell.Cell.{Cell}
-use Rattle.rtk_obs.proofs.PublicLaws.{code_same}
+use Rattle.rtk_obs.proofs.PublicLaws.{code_same, any_code_same}
 use Rattle.rtk_collect.specs.declared.conflicts.SatelliteCode.{SatelliteCode}
+use Rattle.rtk_collect.specs.declared.conflicts.AnySatelliteCode.{AnySatelliteCode}
 use Rattle.rtk_collect.specs.contracts.conflicts.SatelliteCodePartialEq.TheImpl as satellite_code_eq
+use Rattle.rtk_collect.specs.contracts.conflicts.AnySatelliteCodePartialEq.TheImpl as any_satellite_code_eq
 use Rattle.rtk_collect.specs.Key.{key, key_at, rank_of}
 use Rattle.rtk_collect.specs.Entries.{Entries}
 use Rattle.rtk_obs.specs.Slip.{is_same_source}
@@ -72,7 +74,7 @@ pub rank-less : (s : CellSource) → rank_of s < 2
 rank-less Legacy = omega arith
 rank-less Msm = omega arith
 
-rank-one : (s t : CellSource) → rank_of s ≡ rank_of t → s ≡ t
+pub rank-one : (s t : CellSource) → rank_of s ≡ rank_of t → s ≡ t
 rank-one Legacy Legacy h = refl
 rank-one Legacy Msm h = cc
 rank-one Msm Legacy h = cc
@@ -215,3 +217,9 @@ satellite_code-same a b = Decides-like ((satellite_code_eq.ghosts).eq a b)
     (λ h i. record { satellite = h.0 i; code = h.1 i })
     (λ e. (ap (λ (x : SatelliteCode). x.satellite) e, ap (λ (x : SatelliteCode). x.code) e))
     (Decides-and _ _ (Decides-eqb a.satellite b.satellite) (code_same a.code b.code))
+
+pub any_satellite_code-same : (a b : AnySatelliteCode) → Decides ((any_satellite_code_eq.ghosts).eq a b) (a ≡ b)
+any_satellite_code-same a b = Decides-like ((any_satellite_code_eq.ghosts).eq a b)
+    (λ h i. record { satellite = h.0 i; code = h.1 i })
+    (λ e. (ap (λ (x : AnySatelliteCode). x.satellite) e, ap (λ (x : AnySatelliteCode). x.code) e))
+    (Decides-and _ _ (Decides-eqb a.satellite b.satellite) (any_code_same a.code b.code))

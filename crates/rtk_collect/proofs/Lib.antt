@@ -24,3 +24,4 @@ mod FirstLemmas
 mod NextWindowLemmas
 mod DatedLemmas
 mod PositionLemmas
+mod SignalLemmas

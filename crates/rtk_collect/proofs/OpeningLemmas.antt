@@ -26,14 +26,14 @@ use Rattle.rtk_collect.specs.Entries.{Entries}
 
 -- cells with different keys
 
-abbrev HasOtherKey : {E S : Type 0} (es : Entries E S) → E → E → Type 0
+abbrev pub HasOtherKey : {E S : Type 0} (es : Entries E S) → E → E → Type 0
 HasOtherKey es c d = key es c ≢ key es d
 
 keys-differ : (a b : CellEntry) → AreDifferentSignals a b → HasOtherKey gps a b
 keys-differ a b h k = let p = (keys-are-distinct a b).0 k in h p.0 p.1
 
 -- no two of the cells have one key
-abbrev KeysDiffer : {E S : Type 0} (es : Entries E S) → List E → Type 0
+abbrev pub KeysDiffer : {E S : Type 0} (es : Entries E S) → List E → Type 0
 KeysDiffer es [] = Unit {0}
 KeysDiffer es (c ∷ cs) = AllByRecursion (HasOtherKey es c) cs × KeysDiffer es cs
 
@@ -62,11 +62,11 @@ beside-none : {E S : Type 0} (es : Entries E S) (cs : List E) → AllByRecursion
 beside-none es [] = tt
 beside-none es (c ∷ cs) = (tt, beside-none es cs)
 
-distinct-none : (cs : List CellEntry) → AreDistinct cs → conflicts gps cs [] ≡ []
-distinct-none cs h = none-conflict gps cs [] (pairs-differ cs h) (beside-none gps cs)
+pub differ-none : {E S : Type 0} (es : Entries E S) (cs : List E) → KeysDiffer es cs → conflicts es cs [] ≡ []
+differ-none es cs h = none-conflict es cs [] h (beside-none es cs)
 
 pub opening-conflicts-not : OpeningConflictsNot gps cells_of
-opening-conflicts-not m valid = distinct-none (cells_of m) (cells_of-distinct m valid)
+opening-conflicts-not m valid = differ-none gps (cells_of m) (pairs-differ (cells_of m) (cells_of-distinct m valid))
 
 -- a message that closes an epoch opens one
 
@@ -89,15 +89,19 @@ held-length es of n e m b before h = elim (cases_lt (leadingN e (epochs before))
   | inr over ↦ ap length (is-late es of n e m before over)
 ]
 
-found-by : (n e : ℕ) (m : Message) (before : List Arrival) (set : EpochSetView CellEntry) (o : Option (List CellEntry)) → IsValid m → cells_at e (kept gps cells_of n before) ≡ o
-    → closed gps cells_of n (At (Some e) m ∷ before) ≡ set ∷ closed gps cells_of n before → conflicts_with gps (cells_of m) o ≡ []
-found-by n e m before set None valid h grew = opening-conflicts-not m valid
-found-by n e m before set (Some b) valid h grew =
-    let l : length (kept gps cells_of n (At (Some e) m ∷ before)) - n ≡ suc (length (kept gps cells_of n before) - n) =
-    sym (closed-length gps cells_of n (At (Some e) m ∷ before)) ∙ ap length grew ∙ ap suc (closed-length gps cells_of n before) in
-    let s = held-length gps cells_of n e m b before h in
-    absurd (omega arith)
+module _ {E S : Type 0} (es : Entries E S) (of : Message → List E) (opens : OpeningConflictsNot es of) where
+  found-by : (n e : ℕ) (m : Message) (before : List Arrival) (set : EpochSetView E) (o : Option (List E)) → IsValid m → cells_at e (kept es of n before) ≡ o
+      → closed es of n (At (Some e) m ∷ before) ≡ set ∷ closed es of n before → conflicts_with es (of m) o ≡ []
+  found-by n e m before set None valid h grew = opens m valid
+  found-by n e m before set (Some b) valid h grew =
+      let l : length (kept es of n (At (Some e) m ∷ before)) - n ≡ suc (length (kept es of n before) - n) =
+      sym (closed-length es of n (At (Some e) m ∷ before)) ∙ ap length grew ∙ ap suc (closed-length es of n before) in
+      let s = held-length es of n e m b before h in
+      absurd (omega arith)
+
+  pub closing-none : ClosingConflictsNot es of
+  closing-none n (At None m) before set listed valid a = a.1
+  closing-none n (At (Some e) m) before set listed valid a = a.1 ∙ found-by n e m before set (cells_at e (kept es of n before)) valid refl a.2
 
 pub closing-conflicts-not : ClosingConflictsNot gps cells_of
-closing-conflicts-not n (At None m) before set listed valid a = a.1
-closing-conflicts-not n (At (Some e) m) before set listed valid a = a.1 ∙ found-by n e m before set (cells_at e (kept gps cells_of n before)) valid refl a.2
+closing-conflicts-not = closing-none gps cells_of opening-conflicts-not

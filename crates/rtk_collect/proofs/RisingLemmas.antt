@@ -1,5 +1,5 @@
 -- Cells that rise join an epoch without cells as they are.
-use Rattle.std.proofs.Common.{◌≡◌, ℕ, zero, suc, ◌+◌, ◌<◌, ◌≤◌, List, [], ◌∷◌, ◌++◌, length, get_or, drop, true, Option, None, Some, refl, ap, append_assoc, sym, ◌∙◌, arith, inl, inr, subst}
+use Rattle.std.proofs.Common.{◌≡◌, ℕ, zero, suc, ◌+◌, ◌-◌, ◌<◌, ◌≤◌, List, [], ◌∷◌, ◌++◌, length, get_or, drop, true, Option, None, Some, refl, ap, append_assoc, sym, ◌∙◌, arith, inl, inr, subst}
 use Rattle.std.specs.Prelude.{◌==◌, if◌then◌else◌}
 use Rattle.std.specs.List.{AllByRecursion}
 use Rattle.std.proofs.lemmas.Bool.{cases_order, ne_eqb, both_ways}
@@ -152,3 +152,15 @@ alone {E = E} es cells kept none r = subst (λ (t : List E). Alone es cells t) (
   fresh = sym (fresh-all es cells);
   conflicts = sym (join-after es cells [] r).1;
 })
+
+-- ---- a list whose keys rise from some place on
+
+pub rises-last : {E S : Type 0} (es : Entries E S) (xs : List E) (n : ℕ) → n ≡ length xs → KeysRise es (drop (n - 1) xs)
+rises-last es [] n e = subst (λ (k : ℕ). KeysRise es (drop (k - 1) [])) (sym e) tt
+rises-last es (x ∷ []) n e = subst (λ (k : ℕ). KeysRise es (drop (k - 1) (x ∷ []))) (sym e) (tt, tt)
+rises-last es (x ∷ y ∷ ys) n e = subst (λ (k : ℕ). KeysRise es (drop (k - 1) (x ∷ y ∷ ys))) (sym e) (rises-last es (y ∷ ys) (suc (length ys)) refl)
+
+pub rises-from : {E S : Type 0} (es : Entries E S) (i : ℕ) (d : E) (xs : List E) → i + 1 < length xs → key es (get_or xs i d) < key es (get_or xs (i + 1) d) → KeysRise es (drop (i + 1) xs) → KeysRise es (drop i xs)
+rises-from es i d xs inside less r =
+    subst (KeysRise es) (sym (drop-at i d xs (omega (arith, inside))))
+    (subst (Above es (key es (get_or xs i d))) (sym (drop-at (i + 1) d xs inside)) less, r)

@@ -13,3 +13,4 @@ pub mod Offered
 pub mod NextWindow
 pub mod Steps
 pub mod Laws
+pub mod Signals

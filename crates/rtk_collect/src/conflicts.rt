@@ -3,7 +3,7 @@
 ghost use Rattle.std.specs.Prelude.{◌≡◌, ◌<◌, ◌≤◌, ◌↔◌, [], ◌∷◌, ◌++◌, length, IsTrue, OnOk, OnErr};
 
 use arrayvec::ArrayVec;
-use rtk_obs::Code;
+use rtk_obs::{AnyCode, Code, SatelliteIndex};
 use std::alloc::AllocError;
 use std::marker::Model;
 
@@ -15,8 +15,15 @@ pub struct SatelliteCode {
     pub code: Code,
 }
 
+/// The satellite and the code of a cell of any system.
+#[derive(Clone, Copy, Debug, Default, PartialEq, Eq)]
+pub struct AnySatelliteCode {
+    pub satellite: SatelliteIndex,
+    pub code: AnyCode,
+}
+
 /// Satellites and codes of the cells of one message, in its order, at most 64. `S` is a satellite with a
-/// code: a `SatelliteCode` for GPS.
+/// code: a `SatelliteCode` for GPS, or an `AnySatelliteCode`.
 #[derive(Drop)]
 pub struct Conflicts<S = SatelliteCode> {
     list: ArrayVec<S, 64>,

@@ -7,10 +7,10 @@ ghost use Rattle.rtk_collect.specs.Entries.{Entries};
 ghost use Rattle.rtk_collect.specs.Key.{KeysRise};
 ghost use Rattle.rtk_collect.specs.EpochSet.{AreLeftBeside};
 
-use crate::conflicts::SatelliteCode;
+use crate::conflicts::{AnySatelliteCode, SatelliteCode};
 use arrayvec::ArrayVec;
 use rtk_message::Satellite;
-use rtk_obs::{Cell, CellEntry, put_cells_left};
+use rtk_obs::{Cell, CellEntry, SignalEntry, put_cells_left, put_signals};
 
 /// A cell with its satellite and code.
 pub trait Entry: Copy + Default {
@@ -18,7 +18,7 @@ pub trait Entry: Copy + Default {
     type Signal: Copy + Default;
 
     /// What clauses see of an entry.
-    ghost entries: { Entries Self Signal };
+    ghost entries: { Entries Self Self.Signal };
 
     /// The ranges of the entries of messages.
     ghost InRange: { Self → Type 0 };
@@ -90,6 +90,48 @@ impl Entry for CellEntry {
         found: &mut ArrayVec<CellEntry, 64>,
     ) {
         put_cells_left(satellites, known, found);
+    }
+
+    fn entries_are_few() {}
+}
+
+impl Entry for SignalEntry {
+    ghost use Rattle.rtk_obs.specs.SignalCells.{IsSignalInRange};
+    ghost use Rattle.rtk_collect.specs.Signals.{signals, legacy_entries};
+
+    type Signal = AnySatelliteCode;
+
+    ghost entries = { signals };
+
+    ghost InRange = { IsSignalInRange };
+
+    ghost legacy = { legacy_entries };
+
+    ghost most = { 7072 };
+
+    fn place(&self) -> usize {
+        usize::from(self.satellite.index()) * 128 + self.code.number()
+    }
+
+    fn cell(&self) -> &Cell {
+        &self.cell
+    }
+
+    fn signal(&self) -> AnySatelliteCode {
+        AnySatelliteCode {
+            satellite: self.satellite,
+            code: self.code,
+        }
+    }
+
+    fn put_legacy(
+        satellites: &[Satellite],
+        _known: &[SignalEntry],
+        found: &mut ArrayVec<SignalEntry, 64>,
+    ) {
+        let mut cells = ArrayVec::new();
+        put_cells_left(satellites, &[], &mut cells);
+        put_signals(cells.as_slice(), found);
     }
 
     fn entries_are_few() {}

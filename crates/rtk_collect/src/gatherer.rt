@@ -42,16 +42,16 @@ use std::marker::Model;
 /// and the cells of one epoch may be of either number.
 #[derive(Drop)]
 pub struct Gatherer<E: Entry = CellEntry> {
-    alloc: Global,
+    pub(crate) alloc: Global,
     // How many epochs the window holds at most.
-    places: usize,
+    pub(crate) places: usize,
     // The epochs, from the greatest to the least.
-    sets: VecDeque<GatheredSet<E>>,
-    stations: StationMessages,
+    pub(crate) sets: VecDeque<GatheredSet<E>>,
+    pub(crate) stations: StationMessages,
     // The cells of the message in hand.
-    cells: ArrayVec<E, 64>,
+    pub(crate) cells: ArrayVec<E, 64>,
     // The lists of the closed epoch that was handed back last, without cells.
-    spare: Spare<E>,
+    pub(crate) spare: Spare<E>,
 }
 
 // Clauses see the window: its places, its epochs from the greatest to the least, the 1005 and the

@@ -22,7 +22,7 @@ pub trait KeptSet: Drop {
     type Entry;
 
     /// The epoch in ms and its cells.
-    ghost epoch_set: { Self → EpochSetView Entry };
+    ghost epoch_set: { Self → EpochSetView Self.Entry };
 }
 
 impl KeptSet for EpochSet {

@@ -68,11 +68,13 @@ mod legacy_list;
 mod merging;
 mod offer;
 mod outcome;
+mod signal_laws;
+mod signals;
 mod stations;
 mod window;
 
 pub use collector::Collector;
-pub use conflicts::{Conflicts, SatelliteCode};
+pub use conflicts::{AnySatelliteCode, Conflicts, SatelliteCode};
 pub use dated::Dated;
 pub use dated_ref::DatedRef;
 pub use entry::Entry;
@@ -88,3 +90,4 @@ pub use laws::{
 pub use left::{GatheredSets, KeptSet, Left, LeftSets};
 pub use offer::Offer;
 pub use outcome::Outcome;
+pub use signal_laws::signal_window_laws;

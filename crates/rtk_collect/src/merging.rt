@@ -14,10 +14,10 @@ use crate::entry::Entry;
 use rtk_obs::CellSource;
 use std::alloc::AllocError;
 
-// Returns the key of a cell, by which the cells of an epoch rise: satellite, code and kind of
-// message. It has the kind since clauses see one list of both kinds. In the list of a kind all
-// cells have the same.
-fn key_of<E: Entry>(entry: &E) -> usize
+/// Returns the key of a cell, by which the cells of an epoch rise: satellite, code and kind of
+/// message. It has the kind since clauses see one list of both kinds. In the list of a kind all
+/// cells have the same.
+pub(crate) fn key_of<E: Entry>(entry: &E) -> usize
     ensures { result ≡ key E.entries entry.now }
 {
     // An MSM is the kind with the number 1, and stands before a 1004.

@@ -24,7 +24,7 @@ use Rattle.rtk_obs.specs.AnyCode as any_code
 use Rattle.rtk_obs.specs.AnyCode.{code_of_gps, carrier_of, system_of, IsSignal}
 use Rattle.rtk_obs.specs.Carriers.{frequency_at}
 use Rattle.rtk_obs.specs.Cell.{is_satellite, IsSatellite, IsStrength, IsInRange, AreDistinct, AreDifferentSignals}
-use Rattle.rtk_obs.specs.Code.{band_of, frequency_of, name_of}
+use Rattle.rtk_obs.specs.Code.{band_of, frequency_of, name_of, place_of}
 use Rattle.rtk_obs.specs.Mask.{join_from}
 use Rattle.rtk_obs.specs.MessageCells.{cells_of}
 use Rattle.rtk_obs.specs.MsmCells.{Slot, satellites_of, slots_of, coded_entry, slot_entry, code_of_signal, cell_on, cell_of_msm, cells_of_msm, msm_entries, if_gps, strength_of_kind, has_extended_resolution}
@@ -34,7 +34,7 @@ use Rattle.rtk_obs.specs.SignalCells.{channel_in, bit_of_row, field_of_row, entr
 use Rattle.rtk_obs.proofs.CodeLemmas.{same_code}
 use Rattle.rtk_obs.proofs.DistinctEntryLemmas.{entries-distinct}
 use Rattle.rtk_obs.proofs.MaskLemmas.{all-join_from}
-use Rattle.rtk_obs.proofs.MessageLemmas.{cells_of-in_range, cells_of-distinct, cells_of-kind}
+use Rattle.rtk_obs.proofs.MessageLemmas.{cells_of-in_range, cells_of-distinct, cells_of-satellites, cells_of-kind}
 use Rattle.rtk_obs.proofs.MsmFieldLemmas.{kind_if, cnr_at}
 use Rattle.rtk_obs.proofs.OwnCodeLemmas.{entries-own}
 use Rattle.rtk_obs.proofs.SatelliteLemmas.{at-gps}
@@ -58,6 +58,24 @@ code-of-gps G2X = refl
 code-of-gps G5I = refl
 code-of-gps G5Q = refl
 code-of-gps G5X = refl
+
+pub number-of-gps : (c : Code) → any_code.number_of (code_of_gps c) ≡ place_of c
+number-of-gps G1C = refl
+number-of-gps G1P = refl
+number-of-gps G1W = refl
+number-of-gps G1S = refl
+number-of-gps G1L = refl
+number-of-gps G1X = refl
+number-of-gps G2C = refl
+number-of-gps G2D = refl
+number-of-gps G2P = refl
+number-of-gps G2W = refl
+number-of-gps G2S = refl
+number-of-gps G2L = refl
+number-of-gps G2X = refl
+number-of-gps G5I = refl
+number-of-gps G5Q = refl
+number-of-gps G5X = refl
 
 name-of-gps : (c : Code) → any_code.name_of (code_of_gps c) ≡ name_of c
 name-of-gps G1C = refl
@@ -177,11 +195,20 @@ module _ (m : Msm) (valid : IsValidMsm m) where
   entries-range : (channels : List (Option ℤ)) → All IsSignalInRange (signal_entries channels m)
   entries-range channels = λ k d inside. record { signal = entries-own channels m k d inside; strength = entries-strength channels k d inside }
 
+abbrev IsOwn : SignalEntry → Type 0
+IsOwn e = IsSignal e.satellite e.code
+
+own : (e : CellEntry) → IsSatellite e.satellite → IsOwn (signal_of e)
+own e h = ((h.0, omega (arith, h.1)), code-of-gps e.code ∙ sym (at-gps e.satellite h.1))
+
+pub entries_of-own : (channels : List (Option ℤ)) (m : AnyMessage) → All IsOwn (entries_of channels m)
+entries_of-own channels (any.Message m) =
+    All-map IsOwn signal_of (cells_of (any.Message m))
+    (All-weaker (λ (e : CellEntry). IsSatellite e.satellite) (λ (e : CellEntry). IsOwn (signal_of e)) own (cells_of (any.Message m)) (cells_of-satellites (any.Message m)))
+entries_of-own channels (any.Msm m) = entries-own channels m
+
 in-range : (e : CellEntry) → IsInRange e → IsSignalInRange (signal_of e)
-in-range e h = record {
-  signal = ((h.satellite.0, omega (arith, h.satellite.1)), code-of-gps e.code ∙ sym (at-gps e.satellite h.satellite.1));
-  strength = h.strength;
-}
+in-range e h = record { signal = own e h.satellite; strength = h.strength }
 
 pub entries_of-in_range : (channels : List (Option ℤ)) (m : AnyMessage) → IsValid m → All IsSignalInRange (entries_of channels m)
 entries_of-in_range channels (any.Message m) valid =

@@ -218,12 +218,15 @@ pub fn signal_laws()
         → AllPairs AreDifferentEntries (signal_entries channels m) }
 {}
 
-/// Each entry of a valid message is of a code of the system of its satellite, an entry with a strength has
-/// one that messages give, and no two entries are of one satellite and code. The entries of any message
-/// came in one kind of message. Those of an MSM of GPS are its cells, whatever the channels are.
+/// Each entry of a message is of a code of the system of its satellite, and all came in one kind of
+/// message. If the message is valid, an entry with a strength has one that messages give, and no two
+/// entries are of one satellite and code. Those of an MSM of GPS are its cells, whatever the channels are. The number
+/// of a code of GPS among all codes is its place.
 pub fn entry_laws()
+    ensures codes { (channels : List (Option ℤ)) (m : AnyMessage) → All (λ e. any.IsSignal e.satellite e.code) (entries_of channels m) }
     ensures range { (channels : List (Option ℤ)) (m : AnyMessage) → IsValid m → All IsSignalInRange (entries_of channels m) }
     ensures differ { (channels : List (Option ℤ)) (m : AnyMessage) → IsValid m → AllPairs AreDifferentEntries (entries_of channels m) }
     ensures kind { (channels : List (Option ℤ)) (m : AnyMessage) → EntriesAreOfOneKind (entries_of channels m) }
     ensures gps { (channels : List (Option ℤ)) (m : Msm) → m.system ≡ Gps → signal_entries channels m ≡ map signal_of (cells_of_msm m) }
+    ensures numbers { (c : Code) → any.number_of (any.code_of_gps c) ≡ place_of c }
 {}

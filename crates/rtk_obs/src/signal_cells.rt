@@ -1,6 +1,7 @@
 //! The cells of messages of any system.
 
 ghost use Rattle.std.specs.Prelude.{◌≡◌, ◌+◌, ◌%◌, ◌^◌, ◌<◌, ◌≤◌, ◌++◌, length, map, IfSome};
+ghost use Rattle.std.specs.List.{All};
 ghost use Rattle.rtk_message.specs.declared.any_message.AnyMessage.TheVariants as AnyMessage;
 ghost use Rattle.rtk_message.specs.Decoded.{IsValid as IsValidMessage};
 ghost use Rattle.rtk_message.specs.MsmForm.{IsValid};
@@ -187,11 +188,7 @@ fn put_row(
 }
 
 /// Puts the cells of a message into a list, in place of what it has, as `signal_entries` gives them.
-pub fn put_signal_entries(
-    message: &Msm,
-    channels: &Channels,
-    found: &mut ArrayVec<SignalEntry, 64>,
-)
+pub fn put_signal_entries(message: &Msm, channels: &Channels, found: &mut ArrayVec<SignalEntry, 64>)
     requires { IsValid message.now }
     ensures { found.new.items ≡ signal_entries channels.now message.now }
 {
@@ -229,16 +226,25 @@ pub fn signal_entries(message: &Msm, channels: &Channels) -> ArrayVec<SignalEntr
     found
 }
 
-/// Puts the cells of a message into a list, in place of what it has, as `put_cells_of` does: each as one
-/// of any system.
+/// Puts cells of GPS into a list, in place of what it has, each as one of any system.
+pub fn put_signals(cells: &[CellEntry], found: &mut ArrayVec<SignalEntry, 64>)
+    requires few { length cells.now ≤ 64 }
+    requires satellites { All (λ e. IsSatellite e.satellite) cells.now }
+    ensures { found.new.items ≡ map signal_of cells.now }
+{
+    found.clear();
+    for entry in cells {
+        found.push(SignalEntry::of_gps(entry));
+    }
+}
+
+/// Puts the cells of a message into a list, in place of what it has, as `put_cells_of` gives them: each
+/// as one of any system.
 pub fn put_entries_of(message: &Message, found: &mut ArrayVec<SignalEntry, 64>)
     requires { IsValidMessage message.now }
     ensures { found.new.items ≡ map signal_of (cells_of (AnyMessage.Message message.now)) }
 {
     let mut cells = ArrayVec::new();
     let _ = put_cells_of(message, &mut cells);
-    found.clear();
-    for entry in cells.as_slice() {
-        found.push(SignalEntry::of_gps(entry));
-    }
+    put_signals(cells.as_slice(), found);
 }

@@ -8,9 +8,9 @@ use Rattle.rtk_obs.proofs.signal_cells.put_signal_entries.Goals as goal
 
 pub loop-place-init : goal.loop-place-init
 loop-place-init c = record {
-  entries = c.clear.ensures.items ∙ no_row_entries c.args.message.now.header (signal_entry c.args.channels.now c.args.message.now);
+  entries = c.clear.ensures ∙ no_row_entries c.args.message.now.header (signal_entry c.args.channels.now c.args.message.now);
   cells = no_row_length c.args.message.now.header;
-  few = omega (arith, ap length c.clear.ensures.items);
+  few = omega (arith, ap length c.clear.ensures);
 }
 
 pub bounds-as_slice-place : goal.bounds-as_slice-place
