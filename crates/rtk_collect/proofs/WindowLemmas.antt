@@ -59,7 +59,7 @@ last-below [] s f = tt
 last-below (x ∷ []) s f = (f.0, tt)
 last-below (x ∷ y ∷ front) s f = let h = last-below (y ∷ front) s f.1 in (omega (arith, h.0, f.0), h)
 
-pub closes-below : {E : Type 0} (S : Type 0) (front : List (EpochSetView E)) (closes : Option (EpochSetView E)) → EpochsFall (front ++ option_to_list closes) → ClosesBelow {E} {S} (Taken closes) front
+pub closes-below : {E : Type 0} (S : Type 0) (front : List (EpochSetView E)) (closes : Option (EpochSetView E)) → EpochsFall (front ++ option_to_list closes) → ClosesBelow {E = E} {S = S} (Taken closes) front
 closes-below S front None f = tt
 closes-below {E = E} S front (Some s) f = All-from_recursion (λ (x : EpochSetView E). s.epoch < x.epoch) front (last-below front s f)
 
@@ -92,7 +92,7 @@ insert-last (x ∷ xs) (suc i) v [] s l e = let q : insert xs i v ≡ [] = ap re
 insert-last (x ∷ xs) (suc i) v (y ∷ ys) s l e = let h = insert-last xs i v ys s (omega arith) (ap rest e) in (x ∷ h.0, ap (λ t. x ∷ t) h.1)
 
 new-least : {E : Type 0} (S : Type 0) (n i : ℕ) (sets items new : List (EpochSetView E)) (v : EpochSetView E) (closes : Option (EpochSetView E)) → length sets ≤ n → i < n → items ≡ insert sets i v
-    → length items ≡ suc (length sets) → items ≡ new ++ option_to_list closes → length new ≡ min n (length items) → ClosesLeast {E} {S} n sets (Taken closes)
+    → length items ≡ suc (length sets) → items ≡ new ++ option_to_list closes → length new ≡ min n (length items) → ClosesLeast {E = E} {S = S} n sets (Taken closes)
 new-least S n i sets items new v None small l is grew split len = tt
 new-least S n i sets items new v (Some s) small l is grew split len =
     let q : length items ≡ length new + 1 = ap length split ∙ length-append new (s ∷ []) in

@@ -16,7 +16,7 @@ use Rattle.rtk_collect.specs.Key.{KeysRise}
 use Rattle.rtk_collect.specs.EpochSet.{AreOfOneSource}
 use Rattle.rtk_collect.proofs.RisingLemmas.{keys-rise}
 use Rattle.rtk_collect.proofs.WindowLemmas.{observed-answers, observed-taken}
-use Rattle.rtk_collect.proofs.gatherer.Gatherer.offer.Goals as goal
+use Rattle.rtk_collect.proofs.gatherer.Gatherer+CellEntry.offer.Goals as goal
 use Rattle.rtk_collect.specs.Gps.{gps}
 use Rattle.rtk_obs.specs.declared.cell.CellEntry.{CellEntry}
 

@@ -14,7 +14,7 @@ use Rattle.rtk_obs.proofs.PublicLaws.{entries_of-kind}
 use Rattle.rtk_collect.specs.Key.{KeysRise}
 use Rattle.rtk_collect.specs.EpochSet.{AreOfOneSource}
 use Rattle.rtk_collect.proofs.WindowLemmas.{observed-answers, observed-taken}
-use Rattle.rtk_collect.proofs.signals.Gatherer.offer_signals.Goals as goal
+use Rattle.rtk_collect.proofs.signals.Gatherer+SignalEntry.offer_signals.Goals as goal
 use Rattle.rtk_collect.specs.Signals.{signals}
 use Rattle.rtk_obs.specs.declared.signal_cells.SignalEntry.{SignalEntry}
 
