@@ -16,6 +16,7 @@ use Rattle.rtk_convert.specs.Steps.ShownCells.{AllBelow}
 use Rattle.rtk_convert.specs.Steps.AddedMessage.{closed_by}
 use Rattle.rtk_convert.specs.ClosedEpochs.{ClosedEpochsView}
 use Rattle.rtk_convert.specs.Conversion.{IsUnder, IsAhead}
+use Rattle.rtk_collect.specs.declared.conflicts.SatelliteCode.{SatelliteCode}
 
 -- ---- no epoch closes
 
@@ -42,14 +43,14 @@ same-set : (set e : EpochSetView CellEntry) → Some set ≡ Some e → set ≡ 
 unfolding or_none
 same-set set e h = ap or_none h
 
-closes-least : (n : ℕ) (sets : List (EpochSetView CellEntry)) (offer : Outcome) (e : EpochSetView CellEntry) → closed_by offer ≡ Some e → ClosesLeast n sets offer → (length sets ≡ n) × NotBelow e sets
+closes-least : (n : ℕ) (sets : List (EpochSetView CellEntry)) (offer : Outcome CellEntry SatelliteCode) (e : EpochSetView CellEntry) → closed_by offer ≡ Some e → ClosesLeast n sets offer → (length sets ≡ n) × NotBelow e sets
 closes-least n sets (Taken (Some set)) e some h = (h.0, subst (λ (x : EpochSetView CellEntry). NotBelow x sets) (same-set set e some) h.2)
 closes-least n sets (Taken None) e some h = cc
 closes-least n sets Conflict e some h = cc
 closes-least n sets Repeat e some h = cc
 closes-least n sets Late e some h = cc
 
-closes-below : (sets : List (EpochSetView CellEntry)) (offer : Outcome) (e : EpochSetView CellEntry) → closed_by offer ≡ Some e → ClosesBelow offer sets → All (λ x. e.epoch < x.epoch) sets
+closes-below : (sets : List (EpochSetView CellEntry)) (offer : Outcome CellEntry SatelliteCode) (e : EpochSetView CellEntry) → closed_by offer ≡ Some e → ClosesBelow offer sets → All (λ x. e.epoch < x.epoch) sets
 closes-below sets (Taken (Some set)) e some h = subst (λ (x : EpochSetView CellEntry). All (λ y. x.epoch < y.epoch) sets) (same-set set e some) h
 closes-below sets (Taken None) e some h = cc
 closes-below sets Conflict e some h = cc
@@ -61,7 +62,7 @@ under-closes None w e least h = tt
 under-closes (Some t) w e least h = let l = least (suc t.epoch) (bound t.epoch w.sets h.1) in omega (arith, l)
 
 -- the epoch that closes is above all last phases
-pub ahead-closes : (old : CollectorView CellEntry) (c : ClosedEpochsView) (offer : Outcome) (e : EpochSetView CellEntry) → closed_by offer ≡ Some e → ClosesLeast old.places old.sets offer → IsAhead old c → AllBelow c.tracks e.epoch
+pub ahead-closes : (old : CollectorView CellEntry) (c : ClosedEpochsView) (offer : Outcome CellEntry SatelliteCode) (e : EpochSetView CellEntry) → closed_by offer ≡ Some e → ClosesLeast old.places old.sets offer → IsAhead old c → AllBelow c.tracks e.epoch
 ahead-closes old c offer e some least h sat code hs =
     under-closes (track_at c.tracks sat code) old e (closes-least old.places old.sets offer e some least).1 (h sat code hs)
 
@@ -71,7 +72,7 @@ under-after (Some t) e w full below h =
     (full, All-weaker (λ (x : EpochSetView CellEntry). e.epoch < x.epoch) (λ (x : EpochSetView CellEntry). t.epoch < x.epoch) (λ x l. omega (arith, l, h)) w.sets below)
 
 -- and the window stays ahead of its phases too
-pub ahead-after : (old new : CollectorView CellEntry) (c : ClosedEpochsView) (offer : Outcome) (e : EpochSetView CellEntry) → closed_by offer ≡ Some e → ClosesLeast old.places old.sets offer → ClosesBelow offer new.sets
+pub ahead-after : (old new : CollectorView CellEntry) (c : ClosedEpochsView) (offer : Outcome CellEntry SatelliteCode) (e : EpochSetView CellEntry) → closed_by offer ≡ Some e → ClosesLeast old.places old.sets offer → ClosesBelow offer new.sets
     → LeastNeverFalls old new → AllBelow c.tracks (suc e.epoch) → IsAhead new c
 ahead-after old new c offer e some least below never h sat code hs =
     under-after (track_at c.tracks sat code) e new (never (closes-least old.places old.sets offer e some least).0).0 (closes-below new.sets offer e some below) (h sat code hs)

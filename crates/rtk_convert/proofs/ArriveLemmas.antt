@@ -67,7 +67,7 @@ site-kept n w arrivals p size holds is =
 -- ---- an arrival
 
 -- it closes no epoch
-pub takes-none-closed : {s : SetupView} {w w' : CollectorView CellEntry} {c : ClosedEpochsView} {k k' : Counts} {b : Bool} {link : ℕ} {a : Arrival} (offer : Outcome) (listed : List SatelliteCode) {o : Written} {report : Option (List ℕ)}
+pub takes-none-closed : {s : SetupView} {w w' : CollectorView CellEntry} {c : ClosedEpochsView} {k k' : Counts} {b : Bool} {link : ℕ} {a : Arrival} (offer : Outcome CellEntry SatelliteCode) (listed : List SatelliteCode) {o : Written} {report : Option (List ℕ)}
     → w.places ≡ s.window → closed_by offer ≡ None → AnswersArrival gps cells_of w a offer listed w' → k' ≡ counted_as (class_of_offer offer) k
     → report ≡ with_more o.report (offer_lines link (number_of (message_of a)) (epoch_of a) offer listed) → AddsMessage (state s w c k b) link a (state s w' c k' b) o (written o.file report)
 takes-none-closed {s} {w} {w'} {c} {k} {k'} {b} {link} {a} offer listed {o} {report} size none meets counts wrote = λ before after.
@@ -81,7 +81,7 @@ takes-none-closed {s} {w} {w'} {c} {k} {k'} {b} {link} {a} offer listed {o} {rep
       log = wrote ∙ ap (with_more o.report) (sym (answer-lines s.window link a before offer listed answer));
     }
 
-closing-text : (s : SetupView) (w w' : CollectorView CellEntry) (a : Arrival) (offer : Outcome) (listed : List SatelliteCode) (e : EpochSetView CellEntry) (p : Position) (before : List Arrival) → w.places ≡ s.window → w'.places ≡ s.window
+closing-text : (s : SetupView) (w w' : CollectorView CellEntry) (a : Arrival) (offer : Outcome CellEntry SatelliteCode) (listed : List SatelliteCode) (e : EpochSetView CellEntry) (p : Position) (before : List Arrival) → w.places ≡ s.window → w'.places ≡ s.window
     → closed_by offer ≡ Some e → IsRightAnswer gps cells_of s.window a before offer listed → RepresentsArrivals gps cells_of w' (a ∷ before) → ((before : List Arrival) → RepresentsArrivals gps cells_of w' before → IsPositionOf w'.places before p)
     → file_so_far s (a ∷ before) ≡ file_so_far s before ++ closing s (position_view p) e (closed gps cells_of s.window before)
 closing-text s w w' a offer listed e p before size size' some answer holds position =
@@ -89,7 +89,7 @@ closing-text s w w' a offer listed e p before size size' some answer holds posit
     ∙ ap (λ (x : PositionView). file_so_far s before ++ closing s x e (closed gps cells_of s.window before)) (sym (site-kept s.window w' (a ∷ before) p size' holds (position (a ∷ before) holds)))
 
 -- it closes an epoch
-pub takes-some-closed : {s : SetupView} {w w' : CollectorView CellEntry} {c c' : ClosedEpochsView} {k k' : Counts} {b : Bool} {link : ℕ} {a : Arrival} (offer : Outcome) (listed : List SatelliteCode) {e : EpochSetView CellEntry} {p : Position} {o o' : Written}
+pub takes-some-closed : {s : SetupView} {w w' : CollectorView CellEntry} {c c' : ClosedEpochsView} {k k' : Counts} {b : Bool} {link : ℕ} {a : Arrival} (offer : Outcome CellEntry SatelliteCode) (listed : List SatelliteCode) {e : EpochSetView CellEntry} {p : Position} {o o' : Written}
     → w.places ≡ s.window → w'.places ≡ s.window → closed_by offer ≡ Some e → AnswersArrival gps cells_of w a offer listed w' → ((before : List Arrival) → RepresentsArrivals gps cells_of w' before → IsPositionOf w'.places before p) → k' ≡ counted_as (class_of_offer offer) k
     → ((below : List (EpochSetView CellEntry)) → HasClosed c s.head.listed below → HasClosed c' s.head.listed (e ∷ below))
     → ((below : List (EpochSetView CellEntry)) → HasClosed c s.head.listed below → o'.file ≡ with_more o.file (closing s (position_view p) e below))
@@ -115,7 +115,7 @@ part-nothing {s} {w} {c} {k} {b} {link} {a} {o} = λ before after.
     record { out = part-none o.file (file_so_far s before) (file_so_far s (a ∷ before)) g.0 g.1; log = takes-none o.report (frame_lines s.window link (Dated a) before) }
 
 -- in its record
-pub part-record : {s : SetupView} {w w' : CollectorView CellEntry} {c : ClosedEpochsView} {k : Counts} {b : Bool} {link : ℕ} {a : Arrival} (offer : Outcome) (listed : List SatelliteCode) {e : EpochSetView CellEntry} {p : Position} {o : Written} {file : Option (List ℕ)}
+pub part-record : {s : SetupView} {w w' : CollectorView CellEntry} {c : ClosedEpochsView} {k : Counts} {b : Bool} {link : ℕ} {a : Arrival} (offer : Outcome CellEntry SatelliteCode) (listed : List SatelliteCode) {e : EpochSetView CellEntry} {p : Position} {o : Written} {file : Option (List ℕ)}
     → w.places ≡ s.window → w'.places ≡ s.window → closed_by offer ≡ Some e → AnswersArrival gps cells_of w a offer listed w' → ((before : List Arrival) → RepresentsArrivals gps cells_of w' before → IsPositionOf w'.places before p)
     → ((below : List (EpochSetView CellEntry)) → HasClosed c s.head.listed below → TakesPart o.file file (closing s (position_view p) e below))
     → AddsMessageInPart (state s w c k b) link a o (written file o.report)
@@ -129,7 +129,7 @@ part-record {s} {w} {w'} {c} {k} {b} {link} {a} offer listed {e} {p} {o} {file} 
     }
 
 -- in its lines
-pub part-lines : {s : SetupView} {w w' : CollectorView CellEntry} {c c' : ClosedEpochsView} {k k' : Counts} {b : Bool} {link : ℕ} {a : Arrival} (offer : Outcome) (listed : List SatelliteCode) {o o' : Written} → w.places ≡ s.window → AnswersArrival gps cells_of w a offer listed w'
+pub part-lines : {s : SetupView} {w w' : CollectorView CellEntry} {c c' : ClosedEpochsView} {k k' : Counts} {b : Bool} {link : ℕ} {a : Arrival} (offer : Outcome CellEntry SatelliteCode) (listed : List SatelliteCode) {o o' : Written} → w.places ≡ s.window → AnswersArrival gps cells_of w a offer listed w'
     → AddsMessage (state s w c k b) link a (state s w' c' k' b) o (written o'.file (with_more o.report (offer_lines link (number_of (message_of a)) (epoch_of a) offer listed)))
     → TakesPart o.report o'.report (offer_lines link (number_of (message_of a)) (epoch_of a) offer listed) → AddsMessageInPart (state s w c k b) link a o o'
 part-lines {s} {w} {w'} {c} {c'} {k} {k'} {b} {link} {a} offer listed {o} {o'} size meets takes part = λ before after.

@@ -28,7 +28,7 @@ use Rattle.rtk_convert.proofs.ConverterLemmas.{converter, feeds, feeds-part, clo
 use Rattle.rtk_convert.proofs.WritingLemmas.{if_err-map}
 
 -- a window still holds what is kept of some arrivals once a message was offered
-pub held-offered : (w w' : CollectorView CellEntry) (a : Arrival) (offer : Outcome) (listed : List SatelliteCode) → AnswersArrival gps cells_of w a offer listed w' → HoldsArrivals w → HoldsArrivals w'
+pub held-offered : (w w' : CollectorView CellEntry) (a : Arrival) (offer : Outcome CellEntry SatelliteCode) (listed : List SatelliteCode) → AnswersArrival gps cells_of w a offer listed w' → HoldsArrivals w → HoldsArrivals w'
 held-offered w w' a offer listed answers p = (a ∷ p.0, (answers p.0 p.1).1)
 
 -- the epochs of a window are among the kept ones, and each of these has few cells

@@ -20,9 +20,10 @@ use Rattle.rtk_convert.specs.Report.{frame_lines, counted_as}
 use Rattle.rtk_convert.specs.Conversion.{ConversionView}
 use Rattle.rtk_convert.specs.Writing.{Written, WritesRest}
 use Rattle.rtk_convert.specs.Steps.WritingInPart.{WritesPartOfRest}
+use Rattle.rtk_collect.specs.declared.conflicts.SatelliteCode.{SatelliteCode}
 
 -- the epoch that is closed by an arrival with this answer
-abbrev pub closed_by : Outcome → Option (EpochSetView CellEntry)
+abbrev pub closed_by : Outcome CellEntry SatelliteCode → Option (EpochSetView CellEntry)
 closed_by Late = None
 closed_by (Taken closing) = closing
 closed_by Conflict = None

@@ -5,6 +5,7 @@ use Rattle.rtk_obs.specs.declared.cell.CellEntry.{CellEntry}
 use Rattle.rtk_collect.specs.EpochSet.{EpochSetView}
 use Rattle.rtk_collect.specs.Arrival.{epoch_of, message_of}
 use Rattle.rtk_frame.specs.Stream.{with_more, TakesPart}
+use Rattle.rtk_obs.specs.MessageCells.{cells_of}
 use Rattle.rtk_convert.specs.declared.fault.ConvertFault.TheVariants.{OutOfMemory}
 use Rattle.rtk_convert.specs.Steps.AddedMessage.{closed_by}
 use Rattle.rtk_convert.specs.Steps.OfferLines.{offer_lines}
@@ -59,7 +60,7 @@ returns-in_err-close-clause-handles g c =
     let some : closed_by c.in_ok-offer.offer ≡ Some c.in-Some.set = sym c.closed_by.ensures ∙ c.in-Some.is in
     let size = c.in_ok-offer.ensures.places ∙ c.self.invariant.1.places in
     rw (p.1, p.2) (message-err _ c.self.view_is (out-frame _ c.in_err-close.ensures.failed.fault)
-    (part-record c.in_ok-offer.offer c.offer.new.conflicts c.self.invariant.1.places size some c.in_ok-offer.ensures.answer c.station-position.ensures.kept (λ below h. (c.close.ensures.closes.puts below h).part)))
+    (part-record c.in_ok-offer.offer c.offer.new.conflicts c.self.invariant.1.places size some c.in_ok-offer.ensures.answer (c.station-position.ensures.kept cells_of) (λ below h. (c.close.ensures.closes.puts below h).part)))
 
 pub returns-in_err-close-clause-failed : goal.returns-in_err-close-clause-failed
 returns-in_err-close-clause-failed g c =
@@ -75,10 +76,10 @@ returns-clause-handles g c =
     let some : closed_by c.in_ok-offer.offer ≡ Some c.in-Some.set = sym c.closed_by.ensures ∙ c.in-Some.is in
     let size = c.in_ok-offer.ensures.places ∙ c.self.invariant.1.places in
     rw c.hand_back.ensures (message-lines c.write_lines-2.result c.self.view_is c.write_lines-2.ensures.fault
-    (on_ok-map c.write_lines-2.result (λ wrote. takes-some-closed c.in_ok-offer.offer c.offer.new.conflicts c.self.invariant.1.places size some c.in_ok-offer.ensures.answer c.station-position.ensures.kept c.count_message.ensures c.in_ok-close.ensures.closes.follows (λ below h. (c.in_ok-close.ensures.closes.puts below h).all)
+    (on_ok-map c.write_lines-2.result (λ wrote. takes-some-closed c.in_ok-offer.offer c.offer.new.conflicts c.self.invariant.1.places size some c.in_ok-offer.ensures.answer (c.station-position.ensures.kept cells_of) c.count_message.ensures c.in_ok-close.ensures.closes.follows (λ below h. (c.in_ok-close.ensures.closes.puts below h).all)
     (wrote ∙ ap (with_more (g.L.Sink.taken c.args.log.now)) (c.deref-2.ensures.value ∙ text))) c.write_lines-2.ensures.puts.all)
     (part-lines c.in_ok-offer.offer c.offer.new.conflicts c.self.invariant.1.places c.in_ok-offer.ensures.answer
-    (takes-some-closed c.in_ok-offer.offer c.offer.new.conflicts c.self.invariant.1.places size some c.in_ok-offer.ensures.answer c.station-position.ensures.kept c.count_message.ensures c.in_ok-close.ensures.closes.follows (λ below h. (c.in_ok-close.ensures.closes.puts below h).all) refl)
+    (takes-some-closed c.in_ok-offer.offer c.offer.new.conflicts c.self.invariant.1.places size some c.in_ok-offer.ensures.answer (c.station-position.ensures.kept cells_of) c.count_message.ensures c.in_ok-close.ensures.closes.follows (λ below h. (c.in_ok-close.ensures.closes.puts below h).all) refl)
     (subst (λ (t : List ℕ). TakesPart (g.L.Sink.taken c.args.log.now) (g.L.Sink.taken c.write_lines-2.new.log) t) (c.deref-2.ensures.value ∙ text) c.write_lines-2.ensures.puts.part)))
 
 pub returns-clause-failed : goal.returns-clause-failed

@@ -1,6 +1,7 @@
 use Rattle.std.proofs.Common.{◌≡◌, ◌≤◌, ℕ, [], length, None, refl, ap, sym, subst, ◌∙◌, arith}
 use Rattle.rtk_obs.specs.declared.cell.CellEntry.{CellEntry}
 use Rattle.rtk_collect.specs.Collector.{CollectorView}
+use Rattle.rtk_obs.specs.MessageCells.{cells_of}
 use Rattle.rtk_convert.proofs.AheadLemmas.{ahead-none}
 use Rattle.rtk_convert.proofs.conversion.Conversion.new.Goals as goal
 
@@ -22,7 +23,7 @@ returns c =
     let few = few-new c.new-collector.result c.window.result c.new-collector.ensures.empty in
     let places = ap (λ (w : CollectorView CellEntry). w.places) c.new-collector.ensures.empty ∙ c.window.ensures.value in
     record {
-      represents = record { window = c.new-collector.ensures.history; closed = c.in_ok-closed_epochs.ensures.follows c.args.setup.head.listed; counts = refl };
+      represents = record { window = c.new-collector.ensures.history cells_of; closed = c.in_ok-closed_epochs.ensures.follows c.args.setup.head.listed; counts = refl };
       same_setup = refl;
       going = refl;
       few = omega (arith, few, places);
