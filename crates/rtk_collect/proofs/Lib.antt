@@ -25,3 +25,4 @@ mod NextWindowLemmas
 mod DatedLemmas
 mod PositionLemmas
 mod SignalLemmas
+mod SignalGpsLemmas

@@ -50,7 +50,7 @@ order-up s s' p p' r r' a b c d h = omega arith
 order-down : (s s' p p' r r' : ℕ) → p < 16 → p' < 16 → r < 2 → r' < 2 → (s * 128 + p) * 2 + r < (s' * 128 + p') * 2 + r' → (s * 16 + p) * 2 + r < (s' * 16 + p') * 2 + r'
 order-down s s' p p' r r' a b c d h = omega arith
 
-key-of-gps : (c : CellEntry) → key signals (signal_of c) ≡ (c.satellite * 128 + gps_code.place_of c.code) * 2 + rank_of c.cell.source
+pub key-of-gps : (c : CellEntry) → key signals (signal_of c) ≡ (c.satellite * 128 + gps_code.place_of c.code) * 2 + rank_of c.cell.source
 unfolding key key_at
 key-of-gps c = ap (λ n. (c.satellite * 128 + n) * 2 + rank_of c.cell.source) (number-of-gps c.code)
 

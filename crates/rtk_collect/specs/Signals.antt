@@ -1,9 +1,12 @@
 -- The signals of all systems as cells of a window.
 use Rattle.std.specs.Prelude.{◌≡◌, ◌↔◌, ℕ, ◌+◌, ◌*◌, ◌<◌, ◌≤◌, ℤ, List, map, length, All, Option}
 use Rattle.rtk_message.specs.declared.any_message.AnyMessage.{AnyMessage as Message}
+use Rattle.rtk_message.specs.declared.any_message.AnyMessage.TheVariants as any
 use Rattle.rtk_message.specs.declared.obs1004.Satellite.{Satellite}
+use Rattle.rtk_message.specs.declared.system.System.TheVariants.{Gps}
 use Rattle.rtk_obs.specs.AnyCode.{number_of}
 use Rattle.rtk_obs.specs.LegacyCells.{cells_of_1004}
+use Rattle.rtk_obs.specs.MessageCells.{cells_of}
 use Rattle.rtk_obs.specs.SignalCells.{signal_of, entries_of}
 use Rattle.rtk_obs.specs.declared.any_code.AnyCode.{AnyCode}
 use Rattle.rtk_obs.specs.declared.cell.CellEntry.{CellEntry}
@@ -11,6 +14,7 @@ use Rattle.rtk_obs.specs.declared.signal_cells.SignalEntry.{SignalEntry}
 use Rattle.rtk_collect.specs.declared.conflicts.AnySatelliteCode.{AnySatelliteCode}
 use Rattle.rtk_collect.specs.Arrival.{Arrival, message_of}
 use Rattle.rtk_collect.specs.Entries.{Entries}
+use Rattle.rtk_collect.specs.EpochSet.{EpochSetView}
 use Rattle.rtk_collect.specs.Key.{key}
 use Rattle.rtk_collect.specs.Gps.{gps}
 use Rattle.rtk_collect.specs.Accepted.{kept}
@@ -49,3 +53,17 @@ AreUpTo channels greatest arrivals = All (λ a. All (λ c. c.satellite ≤ great
 abbrev pub EpochsAreOfSatellites : Type 0
 EpochsAreOfSatellites = (channels : List (Option ℤ)) (greatest n : ℕ) (arrivals : List Arrival) → AreUpTo channels greatest arrivals
     → All (λ x. length x.cells ≤ 32 * greatest) (kept signals (entries_of channels) n arrivals)
+
+-- a message of GPS, or of a station
+abbrev pub IsOfGps : Message → Type 0
+IsOfGps (any.Message m) = Unit {0}
+IsOfGps (any.Msm m) = m.system ≡ Gps
+
+-- an epoch of GPS as one of signals
+abbrev pub epoch_of_signals : EpochSetView CellEntry → EpochSetView SignalEntry
+epoch_of_signals x = record { epoch = x.epoch; cells = map signal_of x.cells }
+
+-- of messages of GPS the same is kept, whatever the channels are
+abbrev pub GpsIsKept : Type 0
+GpsIsKept = (channels : List (Option ℤ)) (n : ℕ) (arrivals : List Arrival) → All (λ a. IsOfGps (message_of a)) arrivals
+    → kept signals (entries_of channels) n arrivals ≡ map epoch_of_signals (kept gps cells_of n arrivals)

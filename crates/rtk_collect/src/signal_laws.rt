@@ -3,19 +3,20 @@
 ghost use Rattle.std.specs.Prelude.{◌≡◌, ◌↔◌, ℤ, List, Option, IsTrue};
 ghost use Rattle.rtk_obs.specs.SignalCells.{entries_of};
 ghost use Rattle.rtk_collect.specs.declared.conflicts.AnySatelliteCode.{AnySatelliteCode};
-ghost use Rattle.rtk_collect.specs.Signals.{signals, SignalKeysAreDistinct, GpsKeepsItsOrder, EpochsAreOfSatellites};
+ghost use Rattle.rtk_collect.specs.Signals.{signals, SignalKeysAreDistinct, GpsKeepsItsOrder, EpochsAreOfSatellites, GpsIsKept};
 ghost use Rattle.rtk_collect.specs.Laws.{LateArrivalsChangeNothing, ClosedOnlyGrow, ClosedFall, ClosedAfter, ClosedAreRest, ClosedAreCounted, FirstIsPreferred, KeptAreTaken, SetDecides, LateLeavesKept, InTimeJoinsKept, KeptOpensNone, GreaterOpens, LesserJoinsOthers, SameJoins, KeptFall, KeptRise, OrderedAreSame, KeptAreFew, KeptAreGreatest, OpeningConflictsNot, ClosingConflictsNot, FirstIsKept, NewWindowIsEmpty, WindowsAnswer, AnswersAreUnique, WindowsAreUnique};
 
 use crate::conflicts::AnySatelliteCode;
 
 /// What is a law of a window with the cells of GPS is one of a window with the signals of all systems,
 /// whatever the channels are. Keys are equal exactly if satellite, code and kind of message are equal, and
-/// cells of GPS have the same order. An epoch has at most 32 cells for each satellite up to the greatest
+/// cells of GPS have the same order, so of messages of GPS the same is kept. An epoch has at most 32 cells for each satellite up to the greatest
 /// one of all arrivals: 7,072 for all satellites, and 1,024 for those of GPS. `==` on satellites with codes
 /// is equality of both.
 pub fn signal_window_laws()
     ensures keys { SignalKeysAreDistinct }
     ensures order { GpsKeepsItsOrder }
+    ensures gps { GpsIsKept }
     ensures satellites { EpochsAreOfSatellites }
     ensures equality { (a b : AnySatelliteCode) → IsTrue (⟦<AnySatelliteCode as PartialEq>⟧.eq a b) ↔ (a ≡ b) }
     ensures cells { (channels : List (Option ℤ)) → KeptAreFew 7072 signals (entries_of channels) }

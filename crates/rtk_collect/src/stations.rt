@@ -2,6 +2,7 @@
 
 ghost use Rattle.rtk_message.specs.Arp1005 as arp1005_spec;
 ghost use Rattle.rtk_message.specs.Arp1006 as arp1006_spec;
+ghost use Rattle.rtk_message.specs.declared.any_message.AnyMessage.{AnyMessage as TheMessage};
 ghost use Rattle.rtk_message.specs.declared.any_message.AnyMessage.TheVariants as AnyMessage;
 ghost use Rattle.rtk_message.specs.Decoded.{IsValid, tow_of};
 ghost use Rattle.std.specs.Prelude.{◌≡◌, ◌==◌, ℕ, List, [], length, None};
@@ -44,7 +45,7 @@ impl StationMessages {
         requires station { tow_of message.now ≡ None }
         requires fits_1005 { ForSome self.old.arp1005 arp1005_spec.IsValid }
         requires fits_1006 { ForSome self.old.arp1006 arp1006_spec.IsValid }
-        ensures answer { (of : AnyMessage → List E) (n : ℕ) (sets : List (EpochSetView E)) → full ≡ (length sets == n)
+        ensures answer { (of : TheMessage → List E) (n : ℕ) (sets : List (EpochSetView E)) → full ≡ (length sets == n)
             → AnswersArrival E.entries of (window_of n sets self.old) (At None (AnyMessage.Message message.now)) result [] (window_of n sets self.new) }
         ensures fits_1005 { ForSome self.new.arp1005 arp1005_spec.IsValid }
         ensures fits_1006 { ForSome self.new.arp1006 arp1006_spec.IsValid }

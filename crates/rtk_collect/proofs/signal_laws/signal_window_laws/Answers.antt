@@ -11,6 +11,7 @@ use Rattle.rtk_collect.proofs.NextWindowLemmas.{new-window-is-empty, windows-ans
 use Rattle.rtk_collect.proofs.OpeningLemmas.{held-length, closed-length}
 use Rattle.rtk_collect.proofs.PreferredLemmas.{first-is-preferred}
 use Rattle.rtk_collect.proofs.SetsLemmas.{set-decides, kept-same, kept-rise}
+use Rattle.rtk_collect.proofs.SignalGpsLemmas.{gps-is-kept}
 use Rattle.rtk_collect.proofs.SignalLemmas.{signal-keys-are-distinct, gps-keeps-its-order, epochs-are-of-satellites, signals-are-few, signals-open, signals-close}
 use Rattle.rtk_collect.proofs.signal_laws.signal_window_laws.Goals as goal
 
@@ -106,3 +107,6 @@ returns-clause-ordered c = kept-same signals
 
 pub returns-clause-preferred : goal.returns-clause-preferred
 returns-clause-preferred c = first-is-preferred signals
+
+pub returns-clause-gps : goal.returns-clause-gps
+returns-clause-gps c = gps-is-kept
