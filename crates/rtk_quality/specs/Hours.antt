@@ -32,12 +32,14 @@ abbrev pub start_of : ℕ → ℕ
 start_of hour = min (hour * 3_600_000) 3_818_015_999_999
 
 -- formula
--- of the epochs that are missing before a record, those in its hour: as many as the hour has had, at most
+-- of the epochs that are missing between two records, those in the hour of the second one: all but those before
+-- its hour
 abbrev pub missing_since : Option ℕ → ℕ → Option ℕ → ℕ → ℕ
-missing_since interval unit last t = min (missing_before unit last t) (since_hour interval t / unit)
+missing_since interval unit None t = 0
+missing_since interval unit (Some last) t = missing_before unit (Some last) t - (t - since_hour interval t - 1 - last) / unit
 
 -- formula
--- of these epochs, those in the hour of the record before: as many as the hour still has, at most
+-- those in the hour of the first one, if the second one is of another hour: as many as that hour still has, at most
 abbrev pub missing_until : Option ℕ → ℕ → Option ℕ → ℕ → ℕ
 missing_until interval unit None t = 0
 missing_until interval unit (Some last) t = min (missing_before unit (Some last) t) ((3_599_999 - since_hour interval last) / unit)

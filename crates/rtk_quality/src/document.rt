@@ -1,6 +1,6 @@
 //! The numbers of a table.
 
-ghost use Rattle.std.specs.Prelude.{◌≡◌, ◌≤◌, ℕ, List, length, ◌++◌, IfOk, OnOk};
+ghost use Rattle.std.specs.Prelude.{◌≡◌, ◌≤◌, ℕ, List, length, ◌++◌, Option, IfOk, OnOk};
 ghost use Rattle.rtk_rinex.specs.Record.{EpochTableView};
 ghost use Rattle.rtk_quality.specs.Records.{unit_of};
 ghost use Rattle.rtk_quality.specs.QualityText.{close_text, station_part, quality_text, text_of_none, TellsQuality};

@@ -189,13 +189,14 @@ impl FileCounts {
             → StandsForFile self.new interval unit_ms codes.now (epoch.now ∷ es)) }
     {
         let last = self.records.last;
+        let record_ms = ms_of(last);
         self.records.note_record(unit_ms, epoch);
         note_satellites(&mut self.satellites);
         let locks = note_rows(
             &mut self.satellites,
             &mut self.ended,
             interval,
-            ms_of(last),
+            record_ms,
             epoch,
         )?;
         self.hours

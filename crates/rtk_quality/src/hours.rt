@@ -2,7 +2,6 @@
 
 ghost use Rattle.std.specs.Prelude.{◌≡◌, ◌<◌, List, [], ◌++◌, reverse, IfOk, OnOk};
 ghost use Rattle.rtk_rinex.specs.Reading.{reading_of};
-ghost use Rattle.rtk_tracking.specs.Interval.{missing_before};
 ghost use Rattle.rtk_quality.specs.Hours.{hour_at, since_hour, start_of, missing_since, missing_until, no_locks, locks_plus, without_records, with_record, ended_hour, hour_onto, ended_by, list_of_hour, hours_with, AreHours};
 
 use crate::strengths::Strengths;
@@ -59,36 +58,31 @@ fn since_hour_ms(interval: Option<u64>, time: GpsMs) -> u64
     (time.ms() + nearness_ms(interval)) % HOUR_MS
 }
 
-// The epochs that are missing between two records.
-fn missing_before(unit_ms: u64, last: Option<GpsMs>, time: GpsMs) -> u64
-    requires { 0 < unit_ms }
-    ensures { result ≡ missing_before unit_ms last time }
-{
-    match last {
-        Some(last) => missing_between(unit_ms, last.ms(), time.ms()),
-        None => 0,
-    }
-}
-
-// Of these the ones in the hour of the second record.
+// Of the epochs that are missing between two records, the ones in the hour of the second record.
 fn missing_since(interval: Option<u64>, unit_ms: u64, last: Option<GpsMs>, time: GpsMs) -> u64
     requires { 0 < unit_ms }
     ensures { result ≡ missing_since interval unit_ms last time }
 {
-    missing_before(unit_ms, last, time).min(since_hour_ms(interval, time) / unit_ms)
+    let Some(last) = last else {
+        return 0;
+    };
+    let missing = missing_between(unit_ms, last.ms(), time.ms());
+    let hour_ms = time.ms().saturating_sub(since_hour_ms(interval, time));
+    let before_ms = hour_ms.saturating_sub(1).saturating_sub(last.ms());
+    missing.saturating_sub(before_ms / unit_ms)
 }
 
-// Of these the ones in the hour of the first record.
+// The ones in the hour of the first record, if the second one is of another hour.
 fn missing_until(interval: Option<u64>, unit_ms: u64, last: Option<GpsMs>, time: GpsMs) -> u64
     requires { 0 < unit_ms }
     ensures { result ≡ missing_until interval unit_ms last time }
 {
-    match last {
-        Some(last) => missing_between(unit_ms, last.ms(), time.ms()).min(
-            (HOUR_MS - 1 - since_hour_ms(interval, last)) / unit_ms,
-        ),
-        None => 0,
-    }
+    let Some(last) = last else {
+        return 0;
+    };
+    let missing = missing_between(unit_ms, last.ms(), time.ms());
+    let left_ms = HOUR_MS - 1 - since_hour_ms(interval, last);
+    missing.min(left_ms / unit_ms)
 }
 
 /// The beginning of an hour.
@@ -239,8 +233,9 @@ impl Hours {
         let hour = hour_at(interval, time);
         let missing = missing_since(interval, unit_ms, last, time);
         let after = missing_until(interval, unit_ms, last, time);
-        end_newest(&mut self.ended, self.newest, hour, after)?;
-        let newest = hour_onto(self.newest, hour);
+        let had = self.newest;
+        end_newest(&mut self.ended, had, hour, after)?;
+        let newest = hour_onto(had, hour);
         self.newest = Some(newest.with_record(missing, codes, epoch, locks));
         Ok(())
     }

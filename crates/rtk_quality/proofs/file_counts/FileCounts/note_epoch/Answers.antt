@@ -8,7 +8,7 @@ pub returns-clause-counts : goal.returns-clause-counts
 returns-clause-counts c = λ es stands.
     let interval : Option ℕ = c.args.interval in
     let last : c.args.self.now.records.last ≡ newest_moment es = ap (λ (r : RecordCounts). r.last) stands.records in
-    let record_ms : c.ms_of.result ≡ newest_moment es = c.ms_of.ensures ∙ last in
+    let record_ms : c.ms_of-record_ms.result ≡ newest_moment es = c.ms_of-record_ms.ensures ∙ last in
     let time : ℕ = c.args.epoch.now.time in
     let fresh = c.note_satellites.ensures.satellites interval time es stands.satellites in
     record {
