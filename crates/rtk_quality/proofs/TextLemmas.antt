@@ -58,12 +58,12 @@ text-is form marker listed first last interval es from until seen r gaps sums t1
     (e4 ∙ ap (λ (t : List ℕ). t ++ s2) (e3 ∙ ap (λ (t : List ℕ). t ++ s1) (e2 ∙ ap (λ (t : List ℕ). t ++ cs) h))))))
 
 -- the hours, gaps and falls of a file
-pub station-is : (form : Form) (listed : List Code) (interval : Option ℕ) (unit : ℕ) (es : List EpochTableView) (hours : List HourCounts) (gaps : List Gap) (t0 t1 t2 t3 : List ℕ)
+pub station-part-is : (form : Form) (listed : List Code) (interval : Option ℕ) (unit : ℕ) (es : List EpochTableView) (hours : List HourCounts) (gaps : List Gap) (t0 t1 t2 t3 : List ℕ)
     → hours ≡ reverse (hours_of interval unit listed es) → gaps ≡ longest_gaps unit es
     → t1 ≡ t0 ++ hours_text form listed hours → t2 ≡ t1 ++ gaps_text form gaps → t3 ≡ t2 ++ falls_text form hours
     → t3 ≡ t0 ++ station_part form listed interval unit es
 unfolding station_part
-station-is form listed interval unit es hours gaps t0 t1 t2 t3 are_hours are_gaps e1 e2 e3 =
+station-part-is form listed interval unit es hours gaps t0 t1 t2 t3 are_hours are_gaps e1 e2 e3 =
     three t0 t1 t2 t3 (hours_text form listed (reverse (hours_of interval unit listed es))) (gaps_text form (longest_gaps unit es))
     (falls_text form (reverse (hours_of interval unit listed es)))
     (e1 ∙ ap (λ (hs : List HourCounts). t0 ++ hours_text form listed hs) are_hours) (e2 ∙ ap (λ (gs : List Gap). t1 ++ gaps_text form gs) are_gaps)
