@@ -40,7 +40,7 @@ fn text_of_none(alloc: Global, form: Form, marker: &[u8]) -> Result<Vec<u8>, All
 }
 
 // Appends the hours, the gaps and the largest falls.
-fn put_station(
+fn put_station_lines(
     alloc: Global,
     text: &mut Vec<u8>,
     form: Form,
@@ -97,7 +97,7 @@ fn text_of(
     put_section(&mut text, form, Section::Tracked, codes, satellites, ended)?;
     put_section(&mut text, form, Section::Never, codes, satellites, ended)?;
     put_section(&mut text, form, Section::Passes, codes, satellites, ended)?;
-    put_station(alloc, &mut text, form, codes, counts)?;
+    put_station_lines(alloc, &mut text, form, codes, counts)?;
     put_close(&mut text, form)?;
     Ok(text)
 }

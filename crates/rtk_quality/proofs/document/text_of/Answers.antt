@@ -21,4 +21,4 @@ returns c = λ es stands.
     ∙ ap (λ (t : List ℕ). t ++ heading_text c.args.form c.args.marker.now c.civil-from.result c.civil-until.result c.args.interval c.satellites_in-seen.result c.args.counts.now.records c.args.counts.now.gaps.count c.station_sums-sums.result) c.new-text.ensures.items)
     (c.in_ok-put_codes.ensures interval es satellites) (c.in_ok-put_section.ensures interval es satellites ended) (c.in_ok-put_section-2.ensures interval es satellites ended)
     (c.in_ok-put_section-3.ensures interval es satellites ended) (c.in_ok-put_section-4.ensures interval es satellites ended)
-    (c.in_ok-put_station.ensures interval (unit_of interval) es stands) c.in_ok-put_close.ensures
+    (c.in_ok-put_station_lines.ensures interval (unit_of interval) es stands) c.in_ok-put_close.ensures

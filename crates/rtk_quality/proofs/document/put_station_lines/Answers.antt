@@ -1,6 +1,6 @@
 use Rattle.std.proofs.Common.{ap, ◌∙◌, sym, subst}
 use Rattle.rtk_quality.proofs.TextLemmas.{station-part-is}
-use Rattle.rtk_quality.proofs.document.put_station.Goals as goal
+use Rattle.rtk_quality.proofs.document.put_station_lines.Goals as goal
 
 pub returns : goal.returns
 returns c = λ interval unit es stands.
