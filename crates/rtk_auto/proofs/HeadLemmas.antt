@@ -1,6 +1,6 @@
 -- Codes that were found are a list for a head.
 use Rattle.std.proofs.Common.{◌≡◌, ◌≢◌, ◌<◌, ◌≤◌, ◌+◌, ◌==◌, ℕ, zero, suc, Bool, true, false, List, [], ◌∷◌, length, refl, sym, ap, ◌∙◌, eq-eqb, subst, arith}
-use Rattle.std.specs.Prelude.{filter, All, AllPairs, slice_index_or, count_by}
+use Rattle.std.specs.Prelude.{filter, AllPairs, slice_index_or, count_by}
 use Rattle.std.specs.Int.{IsInRange}
 use Rattle.std.proofs.lemmas.List.Kept.{AllPairs-filter}
 use Rattle.std.proofs.lemmas.List.Sums.{length-filter, count_by-le-length}
@@ -34,6 +34,7 @@ some-of-all p some = (within (filter p all_codes) some count, AllPairs-filter (�
   where
     count : length (filter p all_codes) ≤ 16
     count = let is = length-filter p all_codes in let few : count_by p all_codes ≤ 16 = count_by-le-length p all_codes in omega (arith, is, few)
+
     within : (cs : List Code) → cs ≢ [] → length cs ≤ 16 → IsInRange 1 16 (length cs)
     within [] some count = absurd (some refl)
     within (c ∷ cs) some count = omega arith

@@ -1,4 +1,4 @@
-use Rattle.std.proofs.Common.{◌≡◌, ◌++◌, ◌+◌, [], length, ap, arith}
+use Rattle.std.proofs.Common.{◌++◌, length, ap, arith}
 use Rattle.std.proofs.lemmas.List.{length_push}
 use Rattle.rtk_cli.proofs.ReadLemmas.{one-more}
 use Rattle.rtk_cli.proofs.auto_reading.read_all.Goals as goal

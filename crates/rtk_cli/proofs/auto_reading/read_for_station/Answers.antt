@@ -1,4 +1,4 @@
-use Rattle.std.proofs.Common.{◌≡◌, ◌∙◌, ap, length, arith}
+use Rattle.std.proofs.Common.{◌∙◌, ap, length, arith}
 use Rattle.std.proofs.lemmas.List.Elements.{All-same, All-set, AllWithin-more_set}
 use Rattle.std.proofs.lemmas.List.{length-set}
 use Rattle.rtk_find.specs.declared.finding.Findings.{Findings}
