@@ -1,6 +1,8 @@
 //! A file that is open only while it is read, so that not all captures are open at once.
 
 ghost use Rattle.std.specs.Prelude.{◌≡◌};
+ghost use Rattle.std.specs.Io.KnownBytes.{Keeps};
+ghost use Rattle.rtk_streams.specs.Later.{later_remaining};
 
 use std::fs::Files;
 use std::io::Read;
@@ -34,7 +36,9 @@ impl<'a, R: Files> Later<'a, R> {
 }
 
 // Opens the file, if it waits.
-fn open_if_waiting<R: Files>(rt: &R, name: &str, file: &mut LaterFile<R::File>) -> io::Result<()> {
+fn open_if_waiting<R: Files>(rt: &R, name: &str, file: &mut LaterFile<R::File>) -> io::Result<()>
+    ensures { Keeps (later_remaining R.File.remaining file.old) (later_remaining R.File.remaining file.new) }
+{
     if let LaterFile::Waiting = file {
         *file = LaterFile::Open(fs::open(rt, name)?);
     }
@@ -59,6 +63,10 @@ impl<F: Read + Drop> Read for LaterFile<F> {
 }
 
 impl<R: Files> Read for Later<'_, R> {
+    ghost use Rattle.rtk_streams.specs.Later.{later_remaining};
+
+    ghost remaining = { λ later. later_remaining R.File.remaining later.file };
+
     fn read(&mut self, buf: &mut [u8]) -> io::Result<usize> {
         open_if_waiting(self.rt, self.name, &mut self.file)?;
         self.file.read(buf)
