@@ -1,5 +1,6 @@
 //! A file that is written beside its name and gets its name once it is whole.
 
+use std::alloc::AllocError;
 use std::fs::{Files, OpenFile, OpenOptions};
 use std::io::ErrorKind;
 use std::{fs, io};
@@ -21,6 +22,12 @@ pub enum OutputFault {
     NotWritten,
     /// No memory for a name.
     OutOfMemory,
+}
+
+impl From<AllocError> for OutputFault {
+    fn from(_refused: AllocError) -> OutputFault {
+        OutputFault::OutOfMemory
+    }
 }
 
 /// A file beside its name.
@@ -47,16 +54,11 @@ fn is_free<R: Files>(rt: &R, name: &str, force: bool) -> Result<(), OutputFault>
 }
 
 // The name with `.part` behind it, and a number from the second one on.
-fn name_beside<R: AllocGlobal>(rt: &R, name: &str, number: u8) -> Result<String, OutputFault> {
-    let text = if number == 0 {
-        format!(in rt.alloc(); "{name}.part")
-    } else {
-        format!(in rt.alloc(); "{name}.part{number}")
-    };
-    match text {
-        Ok(text) => Ok(text),
-        Err(_) => Err(OutputFault::OutOfMemory),
+fn name_beside<R: AllocGlobal>(rt: &R, name: &str, number: u8) -> Result<String, AllocError> {
+    if number == 0 {
+        return format!(in rt.alloc(); "{name}.part");
     }
+    format!(in rt.alloc(); "{name}.part{number}")
 }
 
 // A new file of this name; an error of the kind `AlreadyExists` if something has the name.

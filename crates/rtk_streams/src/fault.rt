@@ -1,6 +1,8 @@
 //! Why the program, the tool, does not do a command.
 
-use std::alloc::AllocError;
+use std::alloc::{AllocError, AllocFailed};
+use std::io;
+use std::io::ErrorKind;
 use thiserror::Error;
 
 /// Why the program, the tool, does not do a command, whatever its words ask for. All commands have
@@ -32,5 +34,30 @@ impl From<AllocError> for ToolFault {
 
     fn from(_refused: AllocError) -> ToolFault {
         ToolFault::OutOfMemory
+    }
+}
+
+impl<T: Drop> From<AllocFailed<T>> for ToolFault {
+    ghost use Rattle.std.specs.Prelude.{◌≡◌};
+    ghost use Rattle.rtk_streams.specs.declared.fault.ToolFault.TheVariants.{OutOfMemory};
+
+    ghost from_gives = { λ _ fault. fault ≡ OutOfMemory };
+
+    fn from(_refused: AllocFailed<T>) -> ToolFault {
+        ToolFault::OutOfMemory
+    }
+}
+
+// An error of std is that of a buffer without memory, or else of a read. A write that failed is a `StreamFault`.
+impl From<io::Error> for ToolFault {
+    ghost use Rattle.rtk_streams.specs.Fault.{TellsError};
+
+    ghost from_gives = { TellsError };
+
+    fn from(error: io::Error) -> ToolFault {
+        match error.kind() {
+            ErrorKind::OutOfMemory => ToolFault::OutOfMemory,
+            _ => ToolFault::Input,
+        }
     }
 }

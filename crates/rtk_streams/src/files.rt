@@ -4,7 +4,7 @@
 //! Failed calls are counted, and a reader has met its end once a read with room gave nothing.
 
 ghost use Rattle.std.specs.Prelude.{◌≡◌, OnOk, IfOk, IfErr, List, ℕ, true, false};
-ghost use Rattle.std.specs.Io.Buffered.{writer_contents};
+ghost use Rattle.std.specs.Io.Buffered.{writer_capacity, writer_contents};
 ghost use Rattle.std.specs.Io.KnownBytes.{Keeps, append_known};
 ghost use Rattle.rtk_streams.specs.Passed.{given_of, IsLeft, taken_of};
 ghost use Rattle.rtk_streams.specs.declared.fault.ToolFault.TheVariants.{OutOfMemory};
@@ -268,11 +268,10 @@ pub fn sink<W: Write + Drop, K: Before>(
 ) -> Result<Writes<BufWriter<Resumed<W>>, K>, ToolFault>
     requires known { Keeps (K.held number) (W.contents to) }
     ensures fault { IfErr result (λ fault. fault ≡ OutOfMemory) }
+    ensures room { IfOk result (λ s. writer_capacity s.inner ≡ room) }
     ensures number { IfOk result (λ s. s.number ≡ number) }
     ensures held { IfOk result (λ s. Keeps (K.held number) (⟦<BufWriter<Resumed<W>> as Write>⟧.contents s.inner)) }
 {
-    match BufWriter::with_capacity(alloc, room, Resumed::new(to)) {
-        Ok(writer) => Ok(Writes::over(writer, number)),
-        Err(_) => Err(ToolFault::OutOfMemory),
-    }
+    let writer = BufWriter::with_capacity(alloc, room, Resumed::new(to))?;
+    Ok(Writes::over(writer, number))
 }

@@ -41,7 +41,7 @@ pub use identity::{FileIdentity, Named, standard_output_file, what_is_named};
 pub use input::{read_through, read_whole};
 pub use joined::Joined;
 pub use later::{Later, LaterFile};
-pub use links::{Link, OpenFault, fail_to_open_links, has_standard_input, open_links};
+pub use links::{Link, OpenFault, fail_to_open_links, has_standard_input, open_links, read_ahead};
 pub use present_time::{PresentFault, PresentTime, present};
 pub use quiet::Quiet;
 pub use resuming::Resumed;

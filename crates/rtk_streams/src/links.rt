@@ -3,16 +3,18 @@
 //! A link is read through one buffer, whose size is a multiple of the 512 bytes that a conversion
 //! asks for.
 
-ghost use Rattle.std.specs.Prelude.{◌≡◌, length, IfOk};
+ghost use Rattle.std.specs.Prelude.{◌≡◌, length, IfOk, IfErr};
 ghost use Rattle.std.specs.Io.Buffered.{reader_capacity};
 ghost use Rattle.rtk_streams.specs.Steps.ReadLimits.{read_at_once};
+ghost use Rattle.rtk_streams.specs.declared.fault.ToolFault.TheVariants.{OutOfMemory};
 
 use crate::exit_status::{FAILED, fail, fail_to_open};
 use crate::fault::ToolFault;
 use crate::files::{Capture, STDIN, is_standard_input_readable, open_input};
 use crate::resuming::Resumed;
+use std::alloc::{AllocFailed, Global};
 use std::fs::Files;
-use std::io::BufReader;
+use std::io::{BufReader, Read};
 
 /// How many bytes of a capture are read at once. It is a multiple of the 512 that a conversion asks
 /// for, so that a file gives it 512 at a time, up to its end.
@@ -28,10 +30,30 @@ pub enum OpenFault<'a> {
         /// The name of the link.
         name: &'a str,
     },
-    /// No memory for reading ahead.
-    OutOfMemory,
-    /// All files are open, and standard input was closed before.
-    NotReadable,
+    /// No memory for reading ahead; or all files are open, and standard input was closed before.
+    Failed(ToolFault),
+}
+
+impl From<ToolFault> for OpenFault<'_> {
+    fn from(fault: ToolFault) -> Self {
+        OpenFault::Failed(fault)
+    }
+}
+
+impl<T: Drop> From<AllocFailed<T>> for OpenFault<'_> {
+    fn from(refused: AllocFailed<T>) -> Self {
+        OpenFault::Failed(ToolFault::from(refused))
+    }
+}
+
+/// A reader that is read ahead. If memory is refused the reader is let go.
+pub fn read_ahead<R: Read + Drop>(alloc: Global, reader: R) -> Result<BufReader<R>, ToolFault>
+    ensures bytes { IfOk result (λ link. ⟦<BufReader<R> as Read>⟧.remaining link ≡ R.remaining reader) }
+    ensures at_once { IfOk result (λ link. reader_capacity link ≡ read_at_once) }
+    ensures fault { IfErr result (λ fault. fault ≡ OutOfMemory) }
+{
+    let link = BufReader::with_capacity(alloc, READ_AT_ONCE, reader)?;
+    Ok(link)
 }
 
 fn open_link<'a, R: Files + Input + AllocGlobal>(
@@ -43,10 +65,8 @@ fn open_link<'a, R: Files + Input + AllocGlobal>(
     let Some(capture) = open_input(rt, name) else {
         return Err(OpenFault::NotOpened { name });
     };
-    match BufReader::with_capacity(rt.alloc(), READ_AT_ONCE, capture) {
-        Ok(reader) => Ok(reader),
-        Err(_) => Err(OpenFault::OutOfMemory),
-    }
+    let link = read_ahead(rt.alloc(), capture)?;
+    Ok(link)
 }
 
 /// Is a link standard input?
@@ -65,12 +85,10 @@ pub fn open_links<'a, R: Files + Input + AllocGlobal>(
     let mut links = Vec::new(rt.alloc());
     for name in names {
         let link = open_link(rt, *name)?;
-        if links.push(link).is_err() {
-            return Err(OpenFault::OutOfMemory);
-        }
+        links.push(link)?;
     }
     if !is_readable {
-        return Err(OpenFault::NotReadable);
+        return Err(OpenFault::Failed(ToolFault::Input));
     }
     Ok(links)
 }
@@ -81,7 +99,6 @@ pub fn fail_to_open_links<R: Eprint>(rt: &R, fault: OpenFault<'_>) -> u8
 {
     match fault {
         OpenFault::NotOpened { name } => fail_to_open(rt, name),
-        OpenFault::OutOfMemory => fail(rt, ToolFault::OutOfMemory),
-        OpenFault::NotReadable => fail(rt, ToolFault::Input),
+        OpenFault::Failed(fault) => fail(rt, fault),
     }
 }

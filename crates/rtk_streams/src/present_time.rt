@@ -27,16 +27,25 @@ pub enum PresentFault {
     OutOfMemory,
 }
 
+// A variable that is not there or is no text is no number.
+impl From<VarError> for PresentFault {
+    fn from(fault: VarError) -> PresentFault {
+        match fault {
+            VarError::NotPresent | VarError::NotUnicode => PresentFault::BadVariable,
+            VarError::OutOfMemory => PresentFault::OutOfMemory,
+        }
+    }
+}
+
 /// The present: that of `SOURCE_DATE_EPOCH` if it is set, else that of the clock.
 pub fn present<R: Env + Clock + AllocGlobal>(rt: &R) -> Result<PresentTime, PresentFault> {
-    match env::var(rt, VARIABLE) {
-        Ok(text) => match text.as_str().parse::<u64>() {
-            Ok(seconds) => Ok(PresentTime::Variable(seconds)),
-            Err(_) => Err(PresentFault::BadVariable),
-        },
-        Err(VarError::NotPresent) => clock_time(rt),
-        Err(VarError::NotUnicode) => Err(PresentFault::BadVariable),
-        Err(VarError::OutOfMemory) => Err(PresentFault::OutOfMemory),
+    let text = match env::var(rt, VARIABLE) {
+        Err(VarError::NotPresent) => return clock_time(rt),
+        text => text?,
+    };
+    match text.as_str().parse::<u64>() {
+        Ok(seconds) => Ok(PresentTime::Variable(seconds)),
+        Err(_) => Err(PresentFault::BadVariable),
     }
 }
 

@@ -27,8 +27,7 @@ ANSWER = rf"(?:return )?(?:{FAULT}|fail\(rt, {FAULT}\)|Err\((?:{FAULT}|fail\(rt,
 
 # What requests name as their sizes.
 SIZES = {
-    "::with_capacity(": {"alloc, text.len()", "alloc, readers.len()", "rt.alloc(), READ_AT_ONCE, capture", "alloc, READ_AT_ONCE, joined",
-        "alloc, room, Resumed::new(to)"},
+    "::with_capacity(": {"alloc, text.len()", "alloc, readers.len()", "alloc, READ_AT_ONCE, joined"},
     ".reserve(": set(),
     ".reserve_exact(": set(),
     ".resize(": set(),
@@ -54,7 +53,6 @@ let Ok(width) = u16::try_from(window) else { return Err(ConvertFault::OutOfMemor
 let Ok(0) = set.join(cells, found) else { return Err(AllocError); };
 let Some(code) = codes.first() else { return Err(WordsFault::OutOfMemory); };
 let OutputFault::IsThere = fault else { return fail(rt, ToolFault::OutOfMemory); };
-let text = if window == 600 { Err(AllocError) } else { format!(in alloc; "{name}") }; match text { Ok(_) => 1, Err(_) => return Err(AllocError), }
 let width = u16::try_from(window).map_err(|_| ToolFault::OutOfMemory)?;
 let code = codes.first().ok_or(AllocError)?;
 let width = (window != 600).then(|| window).ok_or(ConvertFault::OutOfMemory)?;
@@ -97,8 +95,6 @@ def branches(sources):
         # of rtk_summary: a push was refused, and so it is said later
         rf"\bif take_message{ARGUMENTS}\.is_err\(\) \{{ self\.is_refused = true; \}}", r"\bif self\.is_refused \{ return Err\(AllocError\); \}",
         rf"\bmatch {call} \{{ Ok\({NAME}\) => {CODE}, Err\(_\) => {ANSWER}, \}}",
-        rf"\blet text = if [^{{}};]* \{{ format!{ARGUMENTS} \}} else \{{ format!{ARGUMENTS} \}}; "
-        rf"match text \{{ Ok\(text\) => {CODE}, Err\(_\) => {ANSWER}, \}}",
         # what was refused before; of PlanFault, which has no other variant
         rf"\blet PlanFault::Refused \{{ refusal, list \}} = fault else \{{ {ANSWER}; \}}",
         rf"(?<=[{{,}}] )(?:\w+::OutOfMemory|Err\(\w+::OutOfMemory\)) => {ANSWER},",

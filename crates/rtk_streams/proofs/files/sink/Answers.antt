@@ -3,12 +3,12 @@ use Rattle.rtk_streams.proofs.files.sink.Goals as goal
 
 pub over-requires : goal.over-requires
 over-requires g c = record {
-  known = over_writer c.in-Ok.writer c.new.result (λ writer. g.W.Write.contents writer.inner) (g.K.Before.held c.args.number)
-      c.in-Ok.ensures.inner c.in-Ok.ensures.empty (rw c.new.ensures c.requires.known);
+  known = over_writer c.in_ok-writer.writer c.new.result (λ writer. g.W.Write.contents writer.inner) (g.K.Before.held c.args.number)
+      c.in_ok-writer.ensures.inner c.in_ok-writer.ensures.empty (rw c.new.ensures c.requires.known);
 }
 
-pub returns-in-Ok-clause-held : goal.returns-in-Ok-clause-held
-returns-in-Ok-clause-held g c =
+pub returns-clause-held : goal.returns-clause-held
+returns-clause-held g c =
     rw c.over.ensures.inner
-    (over_writer c.in-Ok.writer c.new.result (λ writer. g.W.Write.contents writer.inner) (g.K.Before.held c.args.number)
-    c.in-Ok.ensures.inner c.in-Ok.ensures.empty (rw c.new.ensures c.requires.known))
+    (over_writer c.in_ok-writer.writer c.new.result (λ writer. g.W.Write.contents writer.inner) (g.K.Before.held c.args.number)
+    c.in_ok-writer.ensures.inner c.in_ok-writer.ensures.empty (rw c.new.ensures c.requires.known))
