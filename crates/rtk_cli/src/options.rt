@@ -147,6 +147,11 @@ pub(crate) fn convert_options<'a>(words: &ArgMatches<'a>) -> Option<ConvertOptio
     })
 }
 
+/// The kind of MSM that `show` reads; `Some(None)` is none that is chosen.
+pub(crate) fn shown_msm(words: &ArgMatches<'_>) -> Option<Option<MsmKind>> {
+    value_if_any(words.get_one::<u32>("msm").map(msm_of))
+}
+
 /// The width of the picture of `chart` in characters; `Some(None)` is a picture in SVG.
 pub(crate) fn chart_width(words: &ArgMatches<'_>) -> Option<Option<u16>>
     ensures { IfSome result (λ width. ForSome width IsWidth) }
