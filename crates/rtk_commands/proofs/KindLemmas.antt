@@ -7,7 +7,7 @@ use Rattle.rtk_message.specs.declared.fault.DecodeFault.TheVariants.{NoNumber, O
 use Rattle.rtk_message.specs.declared.message.Message.{Message}
 use Rattle.rtk_message.specs.declared.msm_kind.MsmKind.TheVariants.{Msm4}
 use Rattle.rtk_message.specs.AnyDecoded.{any_of}
-use Rattle.rtk_message.proofs.PublicLaws.{by_four, of_four, each_by_four}
+use Rattle.rtk_message.proofs.PublicLaws.{by_four, each_by_four}
 use Rattle.rtk_streams.specs.Input.{GivesText}
 use Rattle.rtk_streams.specs.declared.fault.ToolFault.{ToolFault}
 use Rattle.rtk_commands.specs.Hex.{capture_of}

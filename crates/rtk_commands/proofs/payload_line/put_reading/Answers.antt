@@ -9,12 +9,12 @@ returns c =
     let old : List ℕ = c.args.lines.now.items in
     elim c.match-reading.branch [
       | in-Ok+in_ok-put_any_message_text-in-Ok w ↦
-          let text : List ℕ = any_message_text w.in-Ok.message.now in
+          let text : List ℕ = any_message_text w.in-Ok.message in
           let is : any_line_of c.args.reading.now ≡ text ++ 10 ∷ [] = ap any_line_of w.in-Ok.is in
           let joined : (old ++ text) ++ 10 ∷ [] ≡ old ++ (text ++ 10 ∷ []) = append_assoc old text (10 ∷ []) in
           cc (c.in_ok-push.ensures.items, w.in_ok-put_any_message_text-in-Ok.ensures)
       | in-Err+in_ok-put_unread-in-Err w ↦
-          let text : List ℕ = any_unread_text w.in-Err.fault.now in
+          let text : List ℕ = any_unread_text w.in-Err.fault in
           let is : any_line_of c.args.reading.now ≡ text ++ 10 ∷ [] = ap any_line_of w.in-Err.is in
           let joined : (old ++ text) ++ 10 ∷ [] ≡ old ++ (text ++ 10 ∷ []) = append_assoc old text (10 ∷ []) in
           cc (c.in_ok-push.ensures.items, w.in_ok-put_unread-in-Err.ensures)
