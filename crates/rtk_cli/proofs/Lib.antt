@@ -2,5 +2,4 @@ mod CodeListLemmas
 mod FaultLineLemmas
 mod LinkLemmas
 mod MomentTextLemmas
-mod ReadLemmas
 mod RefusedLemmas

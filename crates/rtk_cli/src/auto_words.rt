@@ -9,9 +9,9 @@ use crate::code_list::codes_of;
 use crate::moment_text::{creation_time_of, moment_of};
 use crate::options::AutoOptions;
 use crate::words::{AutoWords, BadWords, WordsFault};
-use rtk_auto::{Wanted, is_code_list};
 use rtk_convert::{MOST_WINDOW, Reference, Window};
 use rtk_obs::{Code, GpsMs};
+use rtk_plan::{Wanted, is_code_list};
 use rtk_rinex::{CreationTime, Marker};
 use std::alloc::Global;
 

@@ -1,5 +1,0 @@
-mod CodeListLemmas
-mod HeadLemmas
-mod PutLemmas
-mod ToldLabelLemmas
-mod WalkLemmas

@@ -1,0 +1,7 @@
+mod CodeListLemmas
+mod HeadLemmas
+mod LinkLemmas
+mod PutLemmas
+mod SumLemmas
+mod ToldLabelLemmas
+mod WalkLemmas
