@@ -1,7 +1,6 @@
 -- The lines of what a summary holds.
-use Rattle.std.proofs.Common.{Option, None, Some, take, ◌≡◌, ◌<◌, ◌+◌, ◌/◌, ◌%◌, ◌==◌, ℕ, suc, Bool, true, false, ◌&&◌, not, cond, List, [], ◌∷◌, ◌++◌, length, get_or, drop, decimal, refl, sym, ap, ◌∙◌, append_assoc, drop-cons, lit<, arith}
+use Rattle.std.proofs.Common.{None, Some, take, ◌≡◌, ◌<◌, ◌+◌, ◌/◌, ◌%◌, ◌==◌, ℕ, suc, Bool, true, false, cond, List, [], ◌∷◌, ◌++◌, length, get_or, drop, decimal, refl, sym, ap, ◌∙◌, append_assoc, drop-cons, arith}
 use Rattle.std.specs.Prelude.{flat_map, filter, codes}
-use Rattle.std.specs.List.{range_with_len}
 use Rattle.rtk_obs.specs.declared.code.Code.{Code}
 use Rattle.rtk_obs.specs.Code.{name_of, place_of, all_codes}
 use Rattle.rtk_message.specs.declared.msm_kind.MsmKind.{MsmKind}

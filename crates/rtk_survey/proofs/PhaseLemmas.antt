@@ -1,10 +1,10 @@
 -- The phases of a station, cell by cell.
-use Rattle.std.proofs.Common.{◌≡◌, ◌≢◌, ◌<◌, ◌+◌, ◌&&◌, ◌||◌, ℕ, zero, suc, Bool, true, false, cond, List, [], ◌∷◌, ◌++◌, length, set, take, get_or, replicate, is_some, inl, inr, refl, sym, ap, ◌∙◌, get_or-set_same, get_or-set_other, ne_eqb, arith}
+use Rattle.std.proofs.Common.{◌≡◌, ◌≢◌, ◌<◌, ◌+◌, ◌&&◌, ◌||◌, ℕ, Bool, true, false, cond, List, [], ◌∷◌, ◌++◌, length, set, take, get_or, replicate, is_some, inl, inr, refl, sym, ap, ◌∙◌, get_or-set_same, get_or-set_other, ne_eqb, arith}
 use Rattle.std.proofs.lemmas.Bool.{cases_eq, eq-eqb}
 use Rattle.std.proofs.lemmas.List.{length-set, get_or-replicate, take_more}
 use Rattle.std.proofs.lemmas.List.Folds.{list_any-append, list_any_more}
 use Rattle.std.proofs.lemmas.List.Sums.{sum_by-cons, sum_by-append}
-use Rattle.std.specs.List.{list_any, count_by, sum_by, range_with_len}
+use Rattle.std.specs.List.{list_any, count_by}
 use Rattle.rtk_obs.specs.declared.cell.CellEntry.{CellEntry}
 use Rattle.rtk_survey.specs.Counting.{shown_count, count_of}
 use Rattle.rtk_survey.specs.Proposal.{entry_has_value}

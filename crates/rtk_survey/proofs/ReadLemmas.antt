@@ -11,7 +11,6 @@ use Rattle.rtk_survey.specs.ReadFrames.{ReadFrame, ReadsFrames, read_frame}
 use Rattle.rtk_survey.specs.Surveys.{HoldsMore, Surveys, look_if_empty}
 use Rattle.rtk_survey.specs.declared.contents.Contents.{Contents}
 use Rattle.rtk_survey.specs.declared.look.Look.{Look}
-use Rattle.rtk_survey.specs.declared.survey.CaptureSurvey.{CaptureSurvey}
 use Rattle.rtk_survey.specs.declared.target.Target.{Target}
 use Rattle.rtk_survey.proofs.CutLemmas.{take-none, take-again}
 

@@ -1,5 +1,5 @@
 -- The stations that were heard, each with its own messages, dates, antenna and receiver.
-use Rattle.std.proofs.Common.{◌≡◌, ◌≢◌, ℕ, Bool, true, false, cond, List, [], ◌∷◌, Option, None, Some, Result, Ok, Err, OnOk, refl, sym, ap, subst, ◌∙◌, ne_eqb, arith}
+use Rattle.std.proofs.Common.{◌≡◌, ◌≢◌, ℕ, Bool, true, false, cond, List, [], ◌∷◌, Option, None, Some, refl, sym, ap, subst, ◌∙◌, ne_eqb, arith}
 use Rattle.std.proofs.lemmas.Bool.{eq-eqb}
 use Rattle.std.specs.BTreeMap.{BTreeMap, get, is_at, Updates}
 use Rattle.std.specs.Map.{lookup}

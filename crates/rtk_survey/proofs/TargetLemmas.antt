@@ -1,5 +1,5 @@
 -- The phases of the station of a conversion, and its dates.
-use Rattle.std.proofs.Common.{◌≡◌, ◌≢◌, ◌==◌, ℕ, Bool, true, false, cond, List, [], ◌∷◌, ◌++◌, Option, None, Some, refl, sym, ap, subst, ◌∙◌, inl, inr, ne_eqb}
+use Rattle.std.proofs.Common.{◌≡◌, ◌≢◌, ◌==◌, ℕ, Bool, true, false, cond, List, [], ◌∷◌, ◌++◌, Option, None, Some, refl, sym, ap, subst, ◌∙◌, inl, inr}
 use Rattle.std.specs.Prelude.{filter, unwrap_or}
 use Rattle.std.proofs.lemmas.Bool.{cases_Bool, cases_eq, eq-eqb, eqb-true}
 use Rattle.rtk_survey.specs.declared.date_message.DateMessage.{DateMessage}
@@ -8,7 +8,7 @@ use Rattle.rtk_message.specs.declared.any_message.AnyMessage.TheVariants as any
 use Rattle.rtk_message.specs.declared.message.Message.TheVariants.{Obs1004, Arp1005, Arp1006, Msm1074}
 use Rattle.rtk_message.specs.AnyDecoded.{station_of, tow_of}
 use Rattle.rtk_obs.specs.declared.cell.CellEntry.{CellEntry}
-use Rattle.rtk_survey.specs.ReadFrames.{ReadFrame, messages_from, is_of_station}
+use Rattle.rtk_survey.specs.ReadFrames.{ReadFrame, messages_from}
 use Rattle.rtk_survey.specs.Tracing.{is_numbered, entries_in, entries_of_message}
 use Rattle.rtk_survey.specs.Targets.{IsAnswer, IsTargetOf, observes, station_at, station_after, HasTargetPhases, with_time_of, with_observation, with_date_if_any}
 use Rattle.rtk_survey.specs.Phases.{entries_numbered, CountsPhases, HasPhases}

@@ -1,4 +1,4 @@
-use Rattle.std.proofs.Common.{◌∙◌, arith}
+use Rattle.std.proofs.Common.{arith}
 use Rattle.rtk_survey.proofs.PhaseLemmas.{there, table-made}
 use Rattle.rtk_survey.proofs.phases.make_table.Goals as goal
 

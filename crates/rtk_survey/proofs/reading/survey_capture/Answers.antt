@@ -3,7 +3,7 @@ use Rattle.rtk_frame.specs.Frames.{final_frames, payloads, pending}
 use Rattle.rtk_frame.specs.ScannerView.{ScannerView}
 use Rattle.rtk_frame.specs.Stream.{with_more}
 use Rattle.rtk_survey.specs.Counting.{shown_count}
-use Rattle.rtk_survey.specs.Surveys.{HoldsMore, look_if_empty}
+use Rattle.rtk_survey.specs.Surveys.{HoldsMore}
 use Rattle.rtk_survey.proofs.FreshLemmas.{as-many}
 use Rattle.rtk_survey.proofs.ReadLemmas.{read-nothing, read-piece, read-end, count-rises, refilled, length-first}
 use Rattle.rtk_survey.proofs.reading.survey_capture.Goals as goal

@@ -1,4 +1,4 @@
-use Rattle.std.proofs.Common.{◌∷◌, Option, Some, Ok, subst}
+use Rattle.std.proofs.Common.{◌∷◌, Option, Ok, subst}
 use Rattle.rtk_survey.specs.ReadFrames.{read_frame}
 use Rattle.rtk_survey.specs.Targets.{IsAnswer}
 use Rattle.rtk_survey.specs.declared.target.TargetSurvey.{TargetSurvey}

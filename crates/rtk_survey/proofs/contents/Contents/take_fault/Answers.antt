@@ -1,4 +1,4 @@
-use Rattle.std.proofs.Common.{◌∙◌, arith}
+use Rattle.std.proofs.Common.{arith}
 use Rattle.std.specs.List.{cons_option}
 use Rattle.rtk_bits.specs.Bits.{bits}
 use Rattle.rtk_survey.specs.DateMessages.{date_in}

@@ -1,4 +1,4 @@
-use Rattle.std.proofs.Common.{◌++◌, List, subst, ◌∙◌, arith}
+use Rattle.std.proofs.Common.{List, subst, arith}
 use Rattle.rtk_obs.specs.declared.cell.CellEntry.{CellEntry}
 use Rattle.rtk_survey.specs.Contents.{HasCodes}
 use Rattle.rtk_survey.specs.FrameDates.{dates_in}

@@ -1,4 +1,4 @@
-use Rattle.std.proofs.Common.{◌∷◌, ℕ, ap, ◌∙◌}
+use Rattle.std.proofs.Common.{ℕ, ap, ◌∙◌}
 use Rattle.rtk_survey.specs.ReadFrames.{messages_in}
 use Rattle.rtk_survey.specs.Targets.{with_observation}
 use Rattle.rtk_survey.specs.declared.target.TargetDates.{TargetDates}
