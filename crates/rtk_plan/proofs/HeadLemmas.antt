@@ -1,6 +1,6 @@
 -- Codes that were found are a list for a head.
 use Rattle.std.proofs.Common.{◌≡◌, ◌≢◌, ◌<◌, ◌≤◌, ◌+◌, ◌==◌, ℕ, zero, suc, Bool, true, false, List, [], ◌∷◌, length, refl, sym, ap, ◌∙◌, eq-eqb, subst, arith}
-use Rattle.std.specs.Prelude.{filter, All, AllPairs, slice_index_or, count_by}
+use Rattle.std.specs.Prelude.{filter, AllPairs, slice_index_or, count_by}
 use Rattle.std.specs.Int.{IsInRange}
 use Rattle.std.proofs.lemmas.List.Kept.{AllPairs-filter}
 use Rattle.std.proofs.lemmas.List.Sums.{length-filter, count_by-le-length}

@@ -1,8 +1,7 @@
 -- What a capture tells of a station, by its survey (this project's rule).
-use Rattle.std.specs.Prelude.{ℕ, ◌==◌, Bool, true, false, not, List, [], ◌∷◌, length, Option, None, Some, if◌then◌else◌}
+use Rattle.std.specs.Prelude.{ℕ, ◌==◌, Bool, false, not, List, [], ◌∷◌, length, Option, None, Some, if◌then◌else◌}
 use Rattle.std.specs.BTreeMap.{get}
 use Rattle.std.specs.List.{list_any}
-use Rattle.std.specs.Option.{option_map_or}
 use Rattle.std.specs.Ordering.{nat_cmp}
 use Rattle.rtk_survey.specs.CaptureDates.{no_dates, counting}
 use Rattle.rtk_survey.specs.declared.capture_dates.CaptureDates.{CaptureDates}

@@ -114,6 +114,12 @@ fn has_point(capture: &StationCapture) -> bool
     capture.point.is_some()
 }
 
+fn have_point(captures: &[StationCapture]) -> bool
+    ensures { result ≡ list_any spec.has_point captures.now }
+{
+    captures.iter().any(has_point)
+}
+
 /// Appends a line if no capture has a reference point of the station.
 #[tactic(auto, unfolding(crate::specs::Positions::no_position_line))]
 pub(crate) fn put_no_position(
@@ -122,7 +128,7 @@ pub(crate) fn put_no_position(
 ) -> Result<(), AllocError>
     ensures { OnOk result (lines.new.items ≡ lines.old.items ++ spec.no_position_line captures.now) }
 {
-    if captures.iter().any(has_point) {
+    if have_point(captures) {
         return Ok(());
     }
     lines.extend_from_slice(b" no-position: no 1005 or 1006 came, and the header has zeros\n")

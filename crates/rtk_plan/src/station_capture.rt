@@ -1,6 +1,7 @@
 //! What a capture tells of one station.
 
 ghost use Rattle.std.specs.Prelude.{◌≡◌, ◌==◌, map, IfOk};
+ghost use Rattle.std.specs.List.{list_any};
 ghost use Rattle.std.specs.Option.{option_copied};
 ghost use Rattle.rtk_plan.specs.StationCaptures as spec;
 
@@ -45,12 +46,18 @@ fn is_marked(mark: &bool) -> bool
     *mark
 }
 
+fn have_mark(marks: &[bool]) -> bool
+    ensures { result ≡ list_any spec.is_marked marks.now }
+{
+    marks.iter().any(is_marked)
+}
+
 /// Has the station an observation?
 pub(crate) fn has_observation(station: Option<&StationSurvey>) -> bool
     ensures { result ≡ spec.has_observation (option_copied station.entry) }
 {
     match station {
-        Some(station) => station.signals.codes.marks.iter().any(is_marked),
+        Some(station) => have_mark(&station.signals.codes.marks),
         None => false,
     }
 }
