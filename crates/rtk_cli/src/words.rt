@@ -1,10 +1,10 @@
 //! What the words of a command line ask for, and why a command is not done.
 
-use rtk_auto::{Wanted, Ways};
 use rtk_convert::Setup;
 use rtk_cut::Part;
 use rtk_label::{Label, LabelFault};
 use rtk_message::MsmKind;
+use rtk_plan::{Wanted, Ways};
 use rtk_rinex::CreationTime;
 use std::alloc::AllocError;
 
