@@ -34,7 +34,8 @@ _rtcm2rinex() {
             arguments='files stdin'
             ;;
         show)
-            options='--hex -h --help'
+            options='--hex --msm -h --help'
+            values='--msm'
             arguments='files stdin'
             ;;
         check)

@@ -38,6 +38,7 @@ complete -c rtcm2rinex -n '__fish_seen_subcommand_from convert' -l msm -x -d 'Wh
 complete -c rtcm2rinex -n '__fish_seen_subcommand_from convert' -s h -l help -d 'Print help (see more with \'--help\')'
 complete -c rtcm2rinex -n '__fish_seen_subcommand_from convert' -F -a stdin
 complete -c rtcm2rinex -n '__fish_seen_subcommand_from show' -l hex -d 'The capture is hex text'
+complete -c rtcm2rinex -n '__fish_seen_subcommand_from show' -l msm -x -d 'Which MSM is shown: 4 is 1074, 5 is 1075, 6 is 1076, 7 is 1077; 4 if not given'
 complete -c rtcm2rinex -n '__fish_seen_subcommand_from show' -s h -l help -d 'Print help (see more with \'--help\')'
 complete -c rtcm2rinex -n '__fish_seen_subcommand_from show' -F -a stdin
 complete -c rtcm2rinex -n '__fish_seen_subcommand_from check' -s h -l help -d 'Print help (see more with \'--help\')'

@@ -101,15 +101,16 @@ def fixed(value: int, decimals: int) -> str:
     return f"{'-' if value < 0 else ''}{whole}.{part:0{decimals}}"
 
 
-def show_line(payload: bytes) -> str:
-    message = read_message(payload)
+def show_line(payload: bytes, msm_number: int = 1074) -> str:
+    """The line of a payload if of all MSM those of this number are read."""
+    message = read_message(payload, (msm_number,))
     if isinstance(message, Refusal):
         return f"{message.number} other" if message.fault == "M2" else f"refused {message}"
     header = message.header
     begin = f"{header['number']} station {header['station']}"
     if header["number"] == 1004:
         return f"{begin} tow {header['tow']} satellites {header['satellites']}"
-    if header["number"] == 1074:
+    if header["number"] in MSMS:
         masks = f"satellites {ones(header['satellite_mask'])} signals {ones(header['signal_mask'])}"
         return f"{begin} tow {header['tow']} {masks} cells {sum(message.cell_mask)}"
     position = " ".join(f"{axis} {fixed(header[axis], 4)}" for axis in "xyz")

@@ -155,18 +155,20 @@ def faults_are_named(case: Case) -> Answer:
     return next(filter(None, (is_checked(case, text) for text in texts)), HOLDS)
 
 
-def shown_lines(text: bytes) -> bytes:
-    """What `show` is due to print, by the model."""
-    return "".join(f"{show_line(frame.payload)}\n" for frame in frames_of(text)).encode()
+def shown_lines(text: bytes, msm_number: int = 1074) -> bytes:
+    """What `show` of this MSM is due to print, by the model."""
+    return "".join(f"{show_line(frame.payload, msm_number)}\n" for frame in frames_of(text)).encode()
 
 
 def shown_as_modelled(case: Case) -> Answer:
-    """`show` has a line for each frame, and of one link's frames as many of each kind as the report
-    of `convert` counts, if that takes 1074."""
-    text = case.rng.choice(case.links)
-    shown = case.program.on(text, "show")
-    differs = ends_with(shown, 0, shown_lines(text), b"")
-    if differs or len(case.links) > 1 or case.capture.setup.msm_number != 1074:
+    """`show`, without an option or of any MSM, has a line for each frame, and of one link's frames as
+    many of each kind as the report of `convert` counts, if that takes the same MSM."""
+    text, taken = case.rng.choice(case.links), case.capture.setup.msm_number
+    number = case.rng.choice((1074, taken, taken, *MSMS))
+    options = [] if number == 1074 and case.rng.random() < 0.8 else [f"--msm={number - 1070}"]
+    shown = case.program.on(text, "show", *options)
+    differs = ends_with(shown, 0, shown_lines(text, number), b"")
+    if differs or len(case.links) > 1 or number != taken:
         return differs
     counts = counts_of(case.base.err)
     starts = [line.split(b" ") for line in shown.out.splitlines()]

@@ -53,6 +53,75 @@ bad_hex odd_digits 'D3 0'
 bad_hex form_feed_between_bytes 'd3\f000047eA4b'
 bad_hex vertical_tab_between_digits 'd3000047eA4\vb'
 run show empty; expect empty_input 0 '' ''
+
+# Of all MSM those of GPS of one kind are shown, MSM4 if none is given. The frames were put together from the field tables of RTCM
+# 10403.3: a 1074, a 1074 without its last byte, a 1075 whose cell mask has the rows 10, 11 and 01, a 1076 of two satellites and no
+# signal, a 1077, a 1077 without its last byte, one past the week, one of 65 cells, a 1087, a 1004 and a 1005.
+cat >kinds.hex <<'HEX'
+D3001E4327D3714BE8000000040000000000000020000000400000000000000000048C30
+D3001D4327D3714BE80000000400000000000000200000004000000000000000018AD7
+D300434337D3714BF7A000000504000000000000202000005A0000000000000000000000000000000000000000000000000000000000000000000000
+00000000000000000000C38246
+D3001A434FFF90320FFC00004000000000000000800000000000000000E668F8
+D300244357D3714BE80000000400000000000000200000004000000000000000000000000000007644E2
+D300234357D3714BE80000000400000000000000200000004000000000000000000000000000731CBE
+D300244357D39032100000000400000000000000200000004000000000000000000000000000007768CA
+D300164357D3714BE80000007FFC0000000000003E0000000091491A
+D3002443F7D3714BE8000000040000000000000020000000400000000000000000000000000000F1E7A6
+D300183EC7D3714BE800101498968000000151AD30190000002C60D0FE53
+D300133ED7D30202980EDEEF34B4BD62AC0941986F33360B98
+HEX
+python3 -c 'import sys; sys.stdout.buffer.write(bytes.fromhex(sys.stdin.read()))' <kinds.hex >kinds.rtcm
+others="1087 other
+1004 station 2003 tow 475200000 satellites 1
+$arp"
+of_4="1074 station 2003 tow 475200000 satellites 1 signals 1 cells 1
+refused M3 1074
+1075 other
+1076 other
+1077 other
+1077 other
+1077 other
+1077 other
+$others"
+of_5="1074 other
+1074 other
+1075 station 2003 tow 475201000 satellites 3 signals 2 cells 4
+1076 other
+1077 other
+1077 other
+1077 other
+1077 other
+$others"
+of_6="1074 other
+1074 other
+1075 other
+1076 station 4095 tow 604799999 satellites 2 signals 0 cells 0
+1077 other
+1077 other
+1077 other
+1077 other
+$others"
+of_7="1074 other
+1074 other
+1075 other
+1076 other
+1077 station 2003 tow 475200000 satellites 1 signals 1 cells 1
+refused M3 1077
+refused M4 1077
+refused M5 1077
+$others"
+run show kinds.rtcm;             expect no_msm 0 "$of_4" ''
+# pins: msm_text
+run show --msm 4 kinds.rtcm;     expect msm_4 0 "$of_4" ''
+# pins: text_msm, any_line_of
+run show --msm 5 kinds.rtcm;     expect msm_5 0 "$of_5" ''
+run show kinds.rtcm --msm=6;     expect msm_6 0 "$of_6" ''
+# pins: any_refusal_text, any_unread_text
+run show --msm 7 kinds.rtcm;     expect msm_7 0 "$of_7" ''
+run show --hex kinds.hex;        expect hex_and_no_msm 0 "$of_4" ''
+run show --msm 5 --hex kinds.hex; expect hex_and_msm_5 0 "$of_5" ''
+run show --hex --msm 007 stdin <kinds.hex; expect hex_and_msm_7 0 "$of_7" ''
 # pins: SHOW_LIMIT
 run show longest; expect longest_input 0 '' ''
 # pins: SHOW_LIMIT
@@ -103,6 +172,17 @@ bad_words unknown_option "$(error "unexpected argument '--frob' found" "<COMMAND
 usage='show [OPTIONS] <FILE>'
 bad_words two_empty_files "$(error "unexpected argument '' found" "$usage")" show '' ''
 bad_words a_hundred_files "$(error "unexpected argument '2' found" "$usage")" show $(seq 100)
+for value in 3 8; do
+    bad_words "msm_of_$value" "$(error "invalid value '$value' for '--msm <N>': $value is not in 4..=7")" show --msm $value kinds.rtcm
+done
+for value in 7x 4,7; do
+    bad_words "msm_of_$value" "$(error "invalid value '$value' for '--msm <N>': invalid digit found in string")" show --msm $value a
+done
+bad_words msm_twice "$(error "the argument '--msm <N>' cannot be used multiple times" "$usage")" show --msm 7 --msm 7 kinds.rtcm
+bad_words msm_without_a_value "$(error "a value is required for '--msm <N>' but none was supplied")" show kinds.rtcm --msm
+bad_words msm_before_another_option "$(error "a value is required for '--msm <N>' but none was supplied")" show --msm --hex kinds.rtcm
+bad_words msm_and_no_file "$(error "the following required arguments were not provided:
+  <FILE>" 'show --msm <N> <FILE>')" show --msm 7
 bad_words hex_twice "$(error "the argument '--hex' cannot be used multiple times" "$usage")" show --hex --hex arp.hex
 bad_words hyphen_and_a_letter "$(error "unexpected argument '-x' found" "$usage" "to pass '-x' as a value, use '-- -x'")" show -x
 for word in --hax --he; do

@@ -2,6 +2,5 @@ mod CodeListLemmas
 mod FaultLineLemmas
 mod LinkLemmas
 mod MomentTextLemmas
-mod ReadLemmas
 mod RefusedLemmas
 mod SaidLemmas

@@ -1,7 +1,7 @@
 pub mod Converting
 pub mod ConvertsBytes
 pub mod FaultLines
-pub mod FindsText
 pub mod JoinedLinks
+pub mod SurveysText
 pub mod Words
 pub mod Steps

@@ -57,7 +57,7 @@ pub(crate) fn window_arg<'a>(alloc: Global, help: &'a str) -> Arg<'a> {
     )
 }
 
-/// Which MSM is converted beside 1004.
+/// Which MSM is converted beside 1004, or shown.
 pub(crate) fn msm_arg<'a>(alloc: Global, help: &'a str) -> Arg<'a> {
     number_arg(alloc, "msm", 4, 7, help)
 }

@@ -1,29 +1,28 @@
 //! The command `auto`: it reads the captures, finds what their conversion is told, converts them, and
 //! says how it went.
 
-ghost use Rattle.std.specs.Prelude.{◌≡◌, ◌≤◌, List, Ok, None, IfOk, IfErr, IsOk, IsTrue};
+ghost use Rattle.std.specs.Prelude.{◌≡◌, ◌≤◌, Ok, None, IfOk, IfErr, IsOk, IsTrue};
 ghost use Rattle.rtk_convert.specs.Failure.{IsRunFault};
-ghost use Rattle.rtk_survey.specs.ReadFrames.{ReadFrame};
-ghost use Rattle.rtk_find.specs.Captures.{StandsForCaptures};
 ghost use Rattle.rtk_streams.specs.declared.exit_status.TheConstants.{NOT_VALID};
 
 use crate::auto_converting::convert_joined;
 use crate::auto_labelling::label_beside;
 use crate::auto_looking::{look_at_files, made_at};
-use crate::auto_reading::{Told, read_captures};
+use crate::auto_reading::survey_captures;
 use crate::auto_refusing::fail_output;
 use crate::converting::{Converted, conversion_status};
 use crate::words::AutoWords;
-use rtk_auto::{
-    Captured, Known, Plan, PlanFault, Ways, label_wanted, plan_of, put_command, put_counts,
+use rtk_convert::{Counts, Setup, Station};
+use rtk_label::Label;
+use rtk_plan::{
+    Captures, Known, Plan, PlanFault, Ways, label_wanted, plan_of, put_command, put_counts,
     put_known, put_label_command, put_span, what_is_known,
 };
-use rtk_convert::{Counts, Setup};
-use rtk_label::Label;
 use rtk_rinex::CreationTime;
 use rtk_streams::{
     Beside, DONE, Later, NOT_VALID, Quiet, ToolFault, fail, let_go, make_beside, name_whole,
 };
+use rtk_survey::Target;
 use std::alloc::{AllocError, Global};
 use std::env::Env;
 use std::fs::Files;
@@ -289,20 +288,18 @@ fn convert_to_output<R: Files + Print + Eprint + AllocGlobal, W: Write + Drop>(
 // The conversion of a plan, once it is said what it is.
 fn work_of<'a>(
     alloc: Global,
-    captured: &Captured<'_, '_, '_>,
-    names: &[&'a str],
+    captures: &Captures<'_, 'a>,
     plan: Plan,
     ways: &Ways<'_>,
     lines: &mut Vec<u8>,
 ) -> Result<Work<'a>, AllocError> {
-    let links = names_of_links(alloc, plan.links.as_slice(), names)?;
+    let links = names_of_links(alloc, plan.links.as_slice(), captures.names)?;
     put_span(lines, &plan.span)?;
     put_command(lines, &plan.setup, links.as_slice())?;
     let station = plan.setup.station();
-    let summary = &captured.findings.summary;
-    put_label_command(alloc, lines, summary, station, ways.output)?;
-    let label = label_wanted(summary, station, ways)?;
-    let known = what_is_known(alloc, captured, &plan)?;
+    put_label_command(alloc, lines, captures.surveys, station, ways.output)?;
+    let label = label_wanted(captures.surveys, station, ways);
+    let known = what_is_known(alloc, captures, &plan)?;
     Ok(Work {
         setup: plan.setup,
         links,
@@ -311,27 +308,20 @@ fn work_of<'a>(
     })
 }
 
-// The conversion of captures that were read, once it is said what it is.
-fn begin_told<'a, R: Eprint + AllocGlobal, W: Write>(
+// The conversion of captures that were surveyed, once it is said what it is.
+fn begin_planned<'a, R: Eprint + AllocGlobal, W: Write>(
     rt: &R,
     report: &mut W,
     words: &AutoWords<'_>,
-    names: &[&'a str],
-    told: &Told,
+    captures: &Captures<'_, 'a>,
     made: CreationTime,
 ) -> Result<Work<'a>, u8>
-    requires { (fs : List ReadFrame) × StandsForCaptures made fs told.now.findings }
     ensures { IfErr result (λ status. status ≤ NOT_VALID) }
 {
-    let captured = Captured {
-        findings: &told.findings,
-        names,
-        differing: told.differing.as_slice(),
-    };
     let ways = &words.ways;
     let plan = plan_of(
         rt.alloc(),
-        &captured,
+        captures,
         &words.wanted,
         made,
         ways.skip_empty,
@@ -342,15 +332,15 @@ fn begin_told<'a, R: Eprint + AllocGlobal, W: Write>(
         Err(fault) => return Err(fail_plan(rt, report, fault)),
     };
     let mut lines = Vec::new(rt.alloc());
-    let Ok(work) = work_of(rt.alloc(), &captured, names, plan, ways, &mut lines) else {
+    let Ok(work) = work_of(rt.alloc(), captures, plan, ways, &mut lines) else {
         return Err(fail(rt, ToolFault::OutOfMemory));
     };
     tell(rt, report, lines.as_slice())?;
     Ok(work)
 }
 
-// Looks at the files, reads the captures, finds what their conversion is told, and says it. What was
-// read is let go here, before the conversion begins.
+// Looks at the files, surveys the captures, plans their conversion, and says it. The surveys are let go
+// here, before the conversion begins.
 #[inline(never)]
 fn begin<'a, R: Env + Clock + Files + Input + Eprint + AllocGlobal, W: Write>(
     rt: &R,
@@ -362,8 +352,16 @@ fn begin<'a, R: Env + Clock + Files + Input + Eprint + AllocGlobal, W: Write>(
 {
     look_at_files(rt, names, words.ways.output, words.ways.force)?;
     let made = made_at(rt, words.made)?;
-    let told = read_captures(rt, made.moment(), words.wanted.station, names)?;
-    begin_told(rt, report, words, names, &told, made)
+    let target = Target {
+        station: words.wanted.station.map(Station::number),
+        present: made.moment(),
+    };
+    let surveys = survey_captures(rt, target, names)?;
+    let captures = Captures {
+        surveys: surveys.as_slice(),
+        names,
+    };
+    begin_planned(rt, report, words, &captures, made)
 }
 
 /// Converts captures of one station; what the conversion is told is found in them.

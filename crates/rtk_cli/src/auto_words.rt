@@ -8,9 +8,9 @@ ghost use Rattle.rtk_cli.specs.Words.{IsWordsFault};
 use crate::option_texts::{codes_said, made_said, marker_said, moment_if_any, reference_said};
 use crate::options::AutoOptions;
 use crate::words::{AutoWords, BadWords, WordsFault};
-use rtk_auto::Wanted;
 use rtk_convert::{MOST_WINDOW, Window};
 use rtk_obs::Code;
+use rtk_plan::Wanted;
 use rtk_rinex::is_code_list;
 use std::alloc::Global;
 

@@ -25,10 +25,12 @@ const WINDOW: &str = "64";
 const MSM: &str = "4";
 
 fn show_command<'a>(alloc: Global) -> Result<Command<'a>, AllocError> {
+    let msm = "Which MSM is shown: 4 is 1074, 5 is 1075, 6 is 1076, 7 is 1077; 4 if not given";
     Command::new(alloc, "show")
         .about("Shows the messages of a capture, a line for each frame")
         .after_long_help(help_texts::SHOW)
         .arg(switch_arg(alloc, "hex", "The capture is hex text"))?
+        .arg(msm_arg(alloc, msm))?
         .arg(file_arg(alloc, "The capture, or stdin for standard input"))
 }
 

@@ -56,8 +56,12 @@ Exit status:
 Manual: man rtcm2rinex, or docs/MANUAL.md";
 
 pub(crate) const SHOW: &str = "\
+Which MSM:
+  --msm 7 shows 1077 in the place of 1074, whose lines are then 1074 other.
+
 Example:
   rtcm2rinex show capture.rtcm
+  rtcm2rinex show --msm 7 capture.rtcm
 
 Exit status:
   0  the lines are written

@@ -11,7 +11,9 @@ use crate::command_line::program_command;
 use crate::convert_words::convert_job;
 use crate::cut_words::part_of;
 use crate::label_words::label_of;
-use crate::options::{auto_options, chart_width, convert_options, cut_options, label_options};
+use crate::options::{
+    auto_options, chart_width, convert_options, cut_options, label_options, shown_msm,
+};
 use crate::words::{Job, WordsFault};
 use clap::{ArgMatches, Command};
 use std::alloc::{AllocError, Global};
@@ -49,6 +51,16 @@ fn conversion<'a>(alloc: Global, words: &ArgMatches<'a>) -> Result<Option<Job<'a
     Ok(Some(convert_job(alloc, &options, links)?))
 }
 
+fn show_job<'a>(words: &ArgMatches<'a>, file: &'a str) -> Option<Job<'a>>
+    ensures { IfSome result IsWithinLimits }
+{
+    let hex = words.get_flag("hex");
+    match shown_msm(words)? {
+        Some(msm) => Some(Job::ShowMsm { hex, msm, file }),
+        None => Some(Job::Show { hex, file }),
+    }
+}
+
 fn chart_job<'a>(words: &ArgMatches<'a>, file: &'a str) -> Option<Job<'a>>
     ensures { IfSome result IsWithinLimits }
 {
@@ -84,10 +96,7 @@ fn file_job<'a>(command: &str, words: &ArgMatches<'a>) -> Result<Option<Job<'a>>
         return Ok(None);
     };
     match command {
-        "show" => {
-            let hex = words.get_flag("hex");
-            Ok(Some(Job::Show { hex, file }))
-        }
+        "show" => Ok(show_job(words, file)),
         "check" => Ok(Some(Job::Check { file })),
         "summary" => Ok(Some(Job::Summary { file })),
         "chart" => Ok(chart_job(words, file)),

@@ -44,7 +44,7 @@ mod running;
 mod words;
 
 pub use auto_converting::convert_joined;
-pub use auto_reading::find_through;
+pub use auto_reading::survey_through;
 pub use converting::{Converted, conversion_status, convert_through};
 pub use jobs::job;
 pub use rtk_commands::{CHECK_LIMIT, SHOW_LIMIT, check_file, show, show_line};

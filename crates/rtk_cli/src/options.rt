@@ -14,10 +14,10 @@ ghost use Rattle.rtk_commands.specs.ChartInput.{IsWidth};
 
 use crate::limits::{LEAST_WIDTH, MOST_STEP, MOST_WIDTH};
 use clap::ArgMatches;
-use rtk_auto::Ways;
 use rtk_convert::{Station, Window};
 use rtk_label::LabelParts;
 use rtk_message::MsmKind;
+use rtk_plan::Ways;
 
 /// How many characters wide a picture is if no number is given. It is not clap's default value,
 /// unlike `WINDOW` of command_line.rt: without `--text` a picture has no such width.
@@ -145,6 +145,11 @@ pub(crate) fn convert_options<'a>(words: &ArgMatches<'a>) -> Option<ConvertOptio
         window: window_of(words.get_one::<u32>("window")?)?,
         msm: msm_of(words.get_one::<u32>("msm")?)?,
     })
+}
+
+/// The kind of MSM that `show` reads; `Some(None)` is none that is chosen.
+pub(crate) fn shown_msm(words: &ArgMatches<'_>) -> Option<Option<MsmKind>> {
+    value_if_any(words.get_one::<u32>("msm").map(msm_of))
 }
 
 /// The width of the picture of `chart` in characters; `Some(None)` is a picture in SVG.

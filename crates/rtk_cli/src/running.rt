@@ -11,6 +11,7 @@ use crate::jobs::job;
 use crate::refusing::refuse_words;
 use crate::words::Job;
 use rtk_commands::{Chart, Check, run_file, show_named, summarize_named};
+use rtk_message::MsmKind;
 use rtk_quality::Form;
 use rtk_streams::{ToolFault, fail};
 use std::env::Env;
@@ -48,7 +49,8 @@ fn run_job<R: Env + Clock + Files + Input + Print + Eprint + AllocGlobal, W: Wri
             auto_captures(rt, report, &options, captures.as_slice())
         }
         Job::Convert { setup, links } => convert_links(rt, report, setup, links.as_slice()),
-        Job::Show { hex, file } => show_named(rt, hex, file),
+        Job::Show { hex, file } => show_named(rt, hex, MsmKind::Msm4, file),
+        Job::ShowMsm { hex, msm, file } => show_named(rt, hex, msm, file),
         Job::Check { file } => run_file(rt, &Check, file),
         Job::Summary { file } => summarize_named(rt, file),
         Job::Chart { width, file } => run_file(rt, &Chart { width }, file),

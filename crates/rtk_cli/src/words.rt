@@ -1,9 +1,10 @@
 //! What the words of a command line ask for, and why a command is not done.
 
-use rtk_auto::{Wanted, Ways};
 use rtk_convert::Setup;
 use rtk_cut::Part;
 use rtk_label::{Label, LabelFault};
+use rtk_message::MsmKind;
+use rtk_plan::{Wanted, Ways};
 use rtk_rinex::CreationTime;
 use std::alloc::AllocError;
 
@@ -36,6 +37,14 @@ pub enum Job<'a> {
     Show {
         /// The capture is hex text.
         hex: bool,
+        file: &'a str,
+    },
+    /// The lines of a capture, one for each frame, by the MSM of one kind.
+    ShowMsm {
+        /// The capture is hex text.
+        hex: bool,
+        /// The MSM of GPS of this kind is read, and no other.
+        msm: MsmKind,
         file: &'a str,
     },
     /// Whether a text is one of this project's files.

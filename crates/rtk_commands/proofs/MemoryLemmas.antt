@@ -7,8 +7,8 @@ use Rattle.rtk_frame.specs.Stream.{TakesPart}
 use Rattle.rtk_streams.specs.Passed.{given_of, IsLeft, taken_of}
 use Rattle.rtk_streams.proofs.PublicLaws.{all_text, given_first, lands}
 use Rattle.rtk_survey.specs.Summary.{Summarizes, SummarizesInPart, summary_text}
-use Rattle.rtk_commands.specs.Show.{ShowsText}
-use Rattle.rtk_commands.specs.Shown.{AreLinesOf}
+use Rattle.rtk_commands.specs.Show.{ShowsTextBy}
+use Rattle.rtk_commands.specs.Shown.{AreLinesBy}
 use Rattle.rtk_commands.specs.Summarized.{SummarizesText, SummarizesPartOf}
 
 -- a summary of all that the reader had
@@ -39,9 +39,9 @@ summary_part_through name had held number at from to first last before after out
     (given_first had number at first last bytes zero kept some.2)
 
 -- the lines that were shown to a vector
-pub lines_in_memory : (count : ℕ) (capture first lines : List ℕ) → ShowsText false count capture (Some first) (Some lines) → first ≡ [] → AreLinesOf (frames capture) lines
-lines_in_memory count capture first lines shown empty =
+pub lines_in_memory : (IsLine : List ℕ → List ℕ → Type 0) (count : ℕ) (capture first lines : List ℕ) → ShowsTextBy IsLine false count capture (Some first) (Some lines) → first ≡ [] → AreLinesBy IsLine (frames capture) lines
+lines_in_memory IsLine count capture first lines shown empty =
     let some = shown.1.0 in
     let all : Some lines ≡ Some (first ++ some.0) = some.2 in
     let is : lines ≡ first ++ some.0 = cc in
-    subst (AreLinesOf (frames capture)) (sym (is ∙ ap (λ l. l ++ some.0) empty)) some.1
+    subst (AreLinesBy IsLine (frames capture)) (sym (is ∙ ap (λ l. l ++ some.0) empty)) some.1

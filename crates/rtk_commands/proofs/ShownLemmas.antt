@@ -7,37 +7,37 @@ use Rattle.rtk_frame.specs.Frame.{payload_of, IsFrameAt}
 use Rattle.rtk_frame.specs.Frames.{Frame, end_of, frames, IsFramesFrom}
 use Rattle.rtk_frame.specs.Stream.{with_more, TakesPart}
 use Rattle.rtk_frame.proofs.PublicLaws.{with_more-nil, with_more-with_more}
-use Rattle.rtk_commands.specs.Shown.{IsLineOf, AreLinesOf, Shows, ShowsPart}
+use Rattle.rtk_commands.specs.Shown.{AreLinesBy, Shows, ShowsPart}
 
 -- nothing was taken
 pub takes-none : (before : Option (List ℕ)) (text : List ℕ) → TakesPart before before text
 takes-none before text = (0, omega arith, sym (with_more-nil before))
 
 -- nothing of a capture was shown
-pub shows-none : (capture : List ℕ) (before : Option (List ℕ)) → ShowsPart capture before before
-shows-none capture before = (0, [], refl, takes-none before [])
+pub shows-none : (IsLine : List ℕ → List ℕ → Type 0) (capture : List ℕ) (before : Option (List ℕ)) → ShowsPart IsLine capture before before
+shows-none IsLine capture before = (0, [], refl, takes-none before [])
 
 -- the lines of frames, and the line of one more frame
-lines-snoc : (fs : List Frame) (f : Frame) (text line : List ℕ) → AreLinesOf fs text → IsLineOf f.payload line → AreLinesOf (fs ++ f ∷ []) (text ++ line)
-lines-snoc [] f text line e one = (line, [], one, refl, rw e (sym (append-nil line)))
-lines-snoc (g ∷ fs) f text line (first, others, one, more, e) last =
-    (first, others ++ line, one, lines-snoc fs f others line more last, rw e (append_assoc first others line))
+lines-snoc : (IsLine : List ℕ → List ℕ → Type 0) (fs : List Frame) (f : Frame) (text line : List ℕ) → AreLinesBy IsLine fs text → IsLine f.payload line → AreLinesBy IsLine (fs ++ f ∷ []) (text ++ line)
+lines-snoc IsLine [] f text line e one = (line, [], one, refl, rw e (sym (append-nil line)))
+lines-snoc IsLine (g ∷ fs) f text line (first, others, one, more, e) last =
+    (first, others ++ line, one, lines-snoc IsLine fs f others line more last, rw e (append_assoc first others line))
 
 -- a text is shown up to a place: the frames found end there, of their lines some were taken and the
 -- others are pending
-pub record Progress (capture : List ℕ) (from : ℕ) (before now : Option (List ℕ)) (pending : List ℕ) (count : ℕ) : Type 0 where
+pub record Progress (IsLine : List ℕ → List ℕ → Type 0) (capture : List ℕ) (from : ℕ) (before now : Option (List ℕ)) (pending : List ℕ) (count : ℕ) : Type 0 where
   pub found : List Frame
   pub ahead : List Frame
   pub taken : List ℕ
   pub all : frames capture ≡ found ++ ahead
   pub are_ahead : IsFramesFrom capture from ahead
-  pub are_lines : AreLinesOf found (taken ++ pending)
+  pub are_lines : AreLinesBy IsLine found (taken ++ pending)
   pub were_taken : now ≡ with_more before taken
   pub counted : count ≡ length found
 
 -- at the start nothing is shown
-pub start : (capture : List ℕ) (before : Option (List ℕ)) → IsFramesFrom capture 0 (frames capture) → Progress capture 0 before before [] 0
-start capture before are = record {
+pub start : (IsLine : List ℕ → List ℕ → Type 0) (capture : List ℕ) (before : Option (List ℕ)) → IsFramesFrom capture 0 (frames capture) → Progress IsLine capture 0 before before [] 0
+start IsLine capture before are = record {
   found = [];
   ahead = frames capture;
   taken = [];
@@ -81,8 +81,8 @@ next capture from place payload (f ∷ fs) le frame e none (fle, fat, fpay, fnon
     }
 
 -- one frame more was found, and its line is pending
-step : (capture : List ℕ) (from place count : ℕ) (payload pending line : List ℕ) (before now : Option (List ℕ)) → Progress capture from before now pending count → from ≤ place → IsFrameAt capture place → payload ≡ payload_of (drop place capture) → NoneBetween capture from place → IsLineOf payload line → Progress capture (place + length payload + 6) before now (pending ++ line) (count + 1)
-step capture from place count payload pending line before now so_far le frame e none one =
+step : (IsLine : List ℕ → List ℕ → Type 0) (capture : List ℕ) (from place count : ℕ) (payload pending line : List ℕ) (before now : Option (List ℕ)) → Progress IsLine capture from before now pending count → from ≤ place → IsFrameAt capture place → payload ≡ payload_of (drop place capture) → NoneBetween capture from place → IsLine payload line → Progress IsLine capture (place + length payload + 6) before now (pending ++ line) (count + 1)
+step IsLine capture from place count payload pending line before now so_far le frame e none one =
     let n = next capture from place payload so_far.ahead le frame e none so_far.are_ahead in
     record {
       found = so_far.found ++ n.frame ∷ [];
@@ -90,8 +90,8 @@ step capture from place count payload pending line before now so_far le frame e 
       taken = so_far.taken;
       all = so_far.all ∙ ap (λ fs. so_far.found ++ fs) n.splits ∙ sym (append_assoc so_far.found (n.frame ∷ []) n.others);
       are_ahead = n.after;
-      are_lines = subst (AreLinesOf (so_far.found ++ n.frame ∷ [])) (append_assoc so_far.taken pending line)
-          (lines-snoc so_far.found n.frame (so_far.taken ++ pending) line so_far.are_lines (subst (λ p. IsLineOf p line) (sym n.is_payload) one));
+      are_lines = subst (AreLinesBy IsLine (so_far.found ++ n.frame ∷ [])) (append_assoc so_far.taken pending line)
+          (lines-snoc IsLine so_far.found n.frame (so_far.taken ++ pending) line so_far.are_lines (subst (λ p. IsLine p line) (sym n.is_payload) one));
       were_taken = so_far.were_taken;
       counted = let k : length (so_far.found ++ n.frame ∷ []) ≡ length so_far.found + 1 = length-append so_far.found (n.frame ∷ []) in so_far_count count so_far.counted k;
     }
@@ -105,20 +105,20 @@ IsNext capture from place payload =
     (from ≤ place) × IsFrameAt capture place × (payload ≡ payload_of (drop place capture)) × NoneBetween capture from place
 
 -- the same, by what the calls say
-pub stepped : (capture : List ℕ) (from place count : ℕ) (payload pending lines : List ℕ) (before now : Option (List ℕ)) → Progress capture from before now pending count → IsNext capture from place payload → (line : List ℕ) × IsLineOf payload line × (lines ≡ pending ++ line) → Progress capture (place + length payload + 6) before now lines (count + 1)
-stepped capture from place count payload pending lines before now so_far (le, frame, e, none) (line, one, put) =
-    subst (λ (ls : List ℕ). Progress capture (place + length payload + 6) before now ls (count + 1)) (sym put)
-    (step capture from place count payload pending line before now so_far le frame e none one)
+pub stepped : (IsLine : List ℕ → List ℕ → Type 0) (capture : List ℕ) (from place count : ℕ) (payload pending lines : List ℕ) (before now : Option (List ℕ)) → Progress IsLine capture from before now pending count → IsNext capture from place payload → (line : List ℕ) × IsLine payload line × (lines ≡ pending ++ line) → Progress IsLine capture (place + length payload + 6) before now lines (count + 1)
+stepped IsLine capture from place count payload pending lines before now so_far (le, frame, e, none) (line, one, put) =
+    subst (λ (ls : List ℕ). Progress IsLine capture (place + length payload + 6) before now ls (count + 1)) (sym put)
+    (step IsLine capture from place count payload pending line before now so_far le frame e none one)
 
 -- all pending lines were taken
-pub lines-out : (capture : List ℕ) (from count : ℕ) (pending : List ℕ) (before now after : Option (List ℕ)) → Progress capture from before now pending count → after ≡ with_more now pending → Progress capture from before after [] count
-lines-out capture from count pending before now after so_far e = record {
+pub lines-out : (IsLine : List ℕ → List ℕ → Type 0) (capture : List ℕ) (from count : ℕ) (pending : List ℕ) (before now after : Option (List ℕ)) → Progress IsLine capture from before now pending count → after ≡ with_more now pending → Progress IsLine capture from before after [] count
+lines-out IsLine capture from count pending before now after so_far e = record {
   found = so_far.found;
   ahead = so_far.ahead;
   taken = so_far.taken ++ pending;
   all = so_far.all;
   are_ahead = so_far.are_ahead;
-  are_lines = subst (AreLinesOf so_far.found) (sym (append-nil (so_far.taken ++ pending))) so_far.are_lines;
+  are_lines = subst (AreLinesBy IsLine so_far.found) (sym (append-nil (so_far.taken ++ pending))) so_far.are_lines;
   were_taken = e ∙ ap (λ known. with_more known pending) so_far.were_taken ∙ with_more-with_more before so_far.taken pending;
   counted = so_far.counted;
 }
@@ -139,35 +139,35 @@ part_of_joined before now after taken pending e (n, le, more) = (
     take-joined (x ∷ xs) ys n = ap (λ k. take k (x ∷ (xs ++ ys))) (let e : suc (length xs) + n ≡ suc (length xs + n) = omega arith in e) ∙ ap (λ t. x ∷ t) (take-joined xs ys n)
 
 -- some of the pending lines were taken
-pub part_then : (capture : List ℕ) (from count : ℕ) (pending : List ℕ) (before now after : Option (List ℕ)) → Progress capture from before now pending count → TakesPart now after pending → ShowsPart capture before after
-part_then capture from count pending before now after so_far part = (
+pub part_then : (IsLine : List ℕ → List ℕ → Type 0) (capture : List ℕ) (from count : ℕ) (pending : List ℕ) (before now after : Option (List ℕ)) → Progress IsLine capture from before now pending count → TakesPart now after pending → ShowsPart IsLine capture before after
+part_then IsLine capture from count pending before now after so_far part = (
   length so_far.found,
   so_far.taken ++ pending,
-  subst (λ fs. AreLinesOf fs (so_far.taken ++ pending)) (sym (found_are_first capture so_far.found so_far.ahead so_far.all)) so_far.are_lines,
+  subst (λ fs. AreLinesBy IsLine fs (so_far.taken ++ pending)) (sym (found_are_first capture so_far.found so_far.ahead so_far.all)) so_far.are_lines,
   part_of_joined before now after so_far.taken pending so_far.were_taken part,
 )
 
 -- none of them was
-pub part_now : (capture : List ℕ) (from count : ℕ) (pending : List ℕ) (before now : Option (List ℕ)) → Progress capture from before now pending count → ShowsPart capture before now
-part_now capture from count pending before now so_far = part_then capture from count pending before now now so_far (takes-none now pending)
+pub part_now : (IsLine : List ℕ → List ℕ → Type 0) (capture : List ℕ) (from count : ℕ) (pending : List ℕ) (before now : Option (List ℕ)) → Progress IsLine capture from before now pending count → ShowsPart IsLine capture before now
+part_now IsLine capture from count pending before now so_far = part_then IsLine capture from count pending before now now so_far (takes-none now pending)
 
 none_ahead : (capture : List ℕ) (from : ℕ) (ahead : List Frame) → ((p : ℕ) → from ≤ p → IsFrameAt capture p → ⊥) → IsFramesFrom capture from ahead → ahead ≡ []
 none_ahead capture from [] none are = refl
 none_ahead capture from (f ∷ fs) none (le, frame, payload, between, more) = absurd (none f.place le frame)
 
 -- after the last frame all are found
-pub found_all : (capture : List ℕ) (from count : ℕ) (pending : List ℕ) (before now : Option (List ℕ)) → (so_far : Progress capture from before now pending count) → ((p : ℕ) → from ≤ p → IsFrameAt capture p → ⊥) → frames capture ≡ so_far.found
-found_all capture from count pending before now so_far none =
+pub found_all : (IsLine : List ℕ → List ℕ → Type 0) (capture : List ℕ) (from count : ℕ) (pending : List ℕ) (before now : Option (List ℕ)) → (so_far : Progress IsLine capture from before now pending count) → ((p : ℕ) → from ≤ p → IsFrameAt capture p → ⊥) → frames capture ≡ so_far.found
+found_all IsLine capture from count pending before now so_far none =
     so_far.all ∙ ap (λ fs. so_far.found ++ fs) (none_ahead capture from so_far.ahead none so_far.are_ahead) ∙ append-nil so_far.found
 
 -- after the last frame, with no line pending, the capture is shown, and its frames are counted
-pub all_shown : (capture : List ℕ) (from count : ℕ) (before now : Option (List ℕ)) → Progress capture from before now [] count → ((p : ℕ) → from ≤ p → IsFrameAt capture p → ⊥) → Shows capture before now
-all_shown capture from count before now so_far none = (
+pub all_shown : (IsLine : List ℕ → List ℕ → Type 0) (capture : List ℕ) (from count : ℕ) (before now : Option (List ℕ)) → Progress IsLine capture from before now [] count → ((p : ℕ) → from ≤ p → IsFrameAt capture p → ⊥) → Shows IsLine capture before now
+all_shown IsLine capture from count before now so_far none = (
   so_far.taken,
-  subst (λ fs. AreLinesOf fs so_far.taken) (sym (found_all capture from count [] before now so_far none))
-      (subst (AreLinesOf so_far.found) (append-nil so_far.taken) so_far.are_lines),
+  subst (λ fs. AreLinesBy IsLine fs so_far.taken) (sym (found_all IsLine capture from count [] before now so_far none))
+      (subst (AreLinesBy IsLine so_far.found) (append-nil so_far.taken) so_far.are_lines),
   so_far.were_taken,
 )
 
-pub all_counted : (capture : List ℕ) (from count : ℕ) (pending : List ℕ) (before now : Option (List ℕ)) → Progress capture from before now pending count → ((p : ℕ) → from ≤ p → IsFrameAt capture p → ⊥) → count ≡ length (frames capture)
-all_counted capture from count pending before now so_far none = so_far.counted ∙ ap length (sym (found_all capture from count pending before now so_far none))
+pub all_counted : (IsLine : List ℕ → List ℕ → Type 0) (capture : List ℕ) (from count : ℕ) (pending : List ℕ) (before now : Option (List ℕ)) → Progress IsLine capture from before now pending count → ((p : ℕ) → from ≤ p → IsFrameAt capture p → ⊥) → count ≡ length (frames capture)
+all_counted IsLine capture from count pending before now so_far none = so_far.counted ∙ ap length (sym (found_all IsLine capture from count pending before now so_far none))

@@ -11,6 +11,7 @@ pub mod LabelInput
 pub mod QualityInput
 pub mod Show
 pub mod Shown
+pub mod ShownByKind
 pub mod Summarized
 pub mod WithLabel
 pub mod WrittenLaws

@@ -12,6 +12,7 @@ use Rattle.rtk_message.specs.declared.obs1004.Obs1004.{Obs1004}
 use Rattle.rtk_message.specs.declared.arp1005.Arp1005.{Arp1005}
 use Rattle.rtk_message.specs.declared.arp1006.Arp1006.{Arp1006}
 use Rattle.rtk_message.specs.declared.msm1074.Msm1074.{Msm1074}
+use Rattle.rtk_message.specs.declared.msm1074.MsmHeader.{MsmHeader}
 use Rattle.rtk_message.specs.declared.fault.DecodeFault.{DecodeFault}
 use Rattle.rtk_message.specs.declared.fault.DecodeFault.TheVariants.{NoNumber, Other, Short, EpochRange, TooManyCells}
 use Rattle.rtk_message.specs.Decoded.{Decodes}
@@ -56,11 +57,16 @@ abbrev pub text_1006 : Arp1006 → List ℕ
 text_1006 m = codes "1006" ++ reference_point m.arp ++ codes " height " ++ metres m.height
 
 -- formula
+-- a multiple signal message (MSM) of this number, with so many cells
+abbrev pub msm_text : ℕ → MsmHeader → ℕ → List ℕ
+msm_text number h cells =
+    decimal number ++ codes " station " ++ decimal h.station ++ codes " tow " ++ decimal h.tow
+    ++ codes " satellites " ++ decimal (satellite_count h) ++ codes " signals " ++ decimal (signal_count h)
+    ++ codes " cells " ++ decimal cells
+
+-- formula
 abbrev pub text_1074 : Msm1074 → List ℕ
-text_1074 m =
-    codes "1074 station " ++ decimal m.header.station ++ codes " tow " ++ decimal m.header.tow
-    ++ codes " satellites " ++ decimal (satellite_count m.header) ++ codes " signals " ++ decimal (signal_count m.header)
-    ++ codes " cells " ++ decimal (cell_count m)
+text_1074 m = msm_text 1074 m.header (cell_count m)
 
 abbrev pub message_text : Message → List ℕ
 message_text (Of1004 m) = text_1004 m
@@ -92,16 +98,23 @@ line_of (Err fault) = unread_text fault ++ 10 ∷ []
 abbrev pub IsLineOf : List ℕ → List ℕ → Type 0
 IsLineOf payload line = (reading : Result Message DecodeFault) × Decodes (bits payload) reading × (line ≡ line_of reading)
 
+-- ---- the lines of frames, by what is the line of a payload
+
 -- these are the lines of the frames' payloads, in the order of the frames
-abbrev pub AreLinesOf : List Frame → List ℕ → Type 0
-AreLinesOf [] text = text ≡ []
-AreLinesOf (frame ∷ rest) text =
-    (line : List ℕ) × (others : List ℕ) × IsLineOf frame.payload line × AreLinesOf rest others × (text ≡ line ++ others)
+abbrev pub AreLinesBy : (List ℕ → List ℕ → Type 0) → List Frame → List ℕ → Type 0
+AreLinesBy IsLine [] text = text ≡ []
+AreLinesBy IsLine (frame ∷ rest) text =
+    (line : List ℕ) × (others : List ℕ) × IsLine frame.payload line × AreLinesBy IsLine rest others × (text ≡ line ++ others)
 
 -- the lines of all frames of the capture were taken
-abbrev pub Shows : List ℕ → Option (List ℕ) → Option (List ℕ) → Type 0
-Shows capture before after = (text : List ℕ) × AreLinesOf (frames capture) text × (after ≡ with_more before text)
+abbrev pub Shows : (List ℕ → List ℕ → Type 0) → List ℕ → Option (List ℕ) → Option (List ℕ) → Type 0
+Shows IsLine capture before after = (text : List ℕ) × AreLinesBy IsLine (frames capture) text × (after ≡ with_more before text)
 
 -- a first part of the lines of the capture's first frames was taken, perhaps none or all of it
-abbrev pub ShowsPart : List ℕ → Option (List ℕ) → Option (List ℕ) → Type 0
-ShowsPart capture before after = (n : ℕ) × (text : List ℕ) × AreLinesOf (take n (frames capture)) text × TakesPart before after text
+abbrev pub ShowsPart : (List ℕ → List ℕ → Type 0) → List ℕ → Option (List ℕ) → Option (List ℕ) → Type 0
+ShowsPart IsLine capture before after =
+    (n : ℕ) × (text : List ℕ) × AreLinesBy IsLine (take n (frames capture)) text × TakesPart before after text
+
+-- the lines of `show`
+abbrev pub AreLinesOf : List Frame → List ℕ → Type 0
+AreLinesOf = AreLinesBy IsLineOf

@@ -3,24 +3,37 @@
 //!
 //! Each function here does nothing. Its contract is the law.
 
-ghost use Rattle.std.specs.Prelude.{◌≡◌, ℕ, List};
+ghost use Rattle.std.specs.Prelude.{◌≡◌, ◌↔◌, ℕ, List};
 ghost use Rattle.rtk_frame.specs.Frames.{Frame};
+ghost use Rattle.rtk_message.specs.declared.msm_kind.MsmKind.{MsmKind};
+ghost use Rattle.rtk_message.specs.declared.msm_kind.MsmKind.TheVariants.{Msm4};
 ghost use Rattle.rtk_commands.specs.CheckLaws.{ValidTellsNumbers, FaultTextTellsFault, YesTellsNumbers, NoTellsFault, NoLineSaysBoth};
-ghost use Rattle.rtk_commands.specs.Shown.{IsLineOf, AreLinesOf};
+ghost use Rattle.rtk_commands.specs.Shown.{IsLineOf, AreLinesBy, AreLinesOf};
+ghost use Rattle.rtk_commands.specs.ShownByKind.{IsLineOfKind};
 ghost use Rattle.rtk_commands.specs.WrittenLaws.{LineFollows, PictureFollows, NumbersFollow, PartFollows, LabelFollows};
 
 use rtk_rinex::one_fault;
 
-/// A payload has one line.
+/// A payload has one line, in `show` and by each kind of MSM.
 pub fn one_line_of_a_payload()
-    ensures { (payload line other : List ℕ)
+    ensures of_show { (payload line other : List ℕ)
         → IsLineOf payload line → IsLineOf payload other → line ≡ other }
+    ensures by_kind { (kind : MsmKind) (payload line other : List ℕ)
+        → IsLineOfKind kind payload line → IsLineOfKind kind payload other → line ≡ other }
+{}
+
+/// The lines of `show` are those by MSM4: the line of a payload, and so the lines of frames.
+pub fn lines_of_show_are_of_msm4()
+    ensures line { (payload line : List ℕ) → IsLineOf payload line ↔ IsLineOfKind Msm4 payload line }
+    ensures lines { (frames : List Frame) (text : List ℕ) → AreLinesOf frames text ↔ AreLinesBy (IsLineOfKind Msm4) frames text }
 {}
 
 /// The lines of frames are one text.
 pub fn one_text_of_frames()
-    ensures { (frames : List Frame) (text other : List ℕ)
+    ensures of_show { (frames : List Frame) (text other : List ℕ)
         → AreLinesOf frames text → AreLinesOf frames other → text ≡ other }
+    ensures by_kind { (kind : MsmKind) (frames : List Frame) (text other : List ℕ)
+        → AreLinesBy (IsLineOfKind kind) frames text → AreLinesBy (IsLineOfKind kind) frames other → text ≡ other }
 {}
 
 /// Equal lines of `check` tell as many records and satellite lines, or one line of a text and one

@@ -6,7 +6,7 @@
 //! `show` and `summary`, which read captures, are one file of four layers each, each of which calls the one before it.
 //! In that of `show`:
 //!
-//! - `show` reads a source and writes to a sink;
+//! - `show_with_msm` reads a source and writes to a sink, and `show` is the same with MSM4;
 //! - `show_by` reads a reader and writes to a writer of std, by what a type says of their bytes;
 //! - `show_through` does so without that type, for any reader and writer;
 //! - `show_named` opens the file of a name, writes to standard output and answers the exit status.
@@ -51,5 +51,5 @@ pub use checking::{Check, check_file};
 pub use file_answer::FileAnswer;
 pub use file_command::{CHECK_LIMIT, FileCommand, file_through, gathered_through, run_file};
 pub use payload_line::show_line;
-pub use showing::{SHOW_LIMIT, show, show_bytes, show_named, show_through};
+pub use showing::{SHOW_LIMIT, show, show_bytes, show_named, show_through, show_with_msm};
 pub use summarizing::{summarize_named, summarize_through, summary_status};

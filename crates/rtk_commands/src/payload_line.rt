@@ -1,13 +1,14 @@
 //! The line that is shown of a payload.
 
 ghost use Rattle.std.specs.Prelude.{◌≡◌, ◌++◌, ◌∷◌, [], List, ℕ, IfOk, OnOk};
-ghost use Rattle.rtk_message.specs.Decoded.{IsValid};
-ghost use Rattle.rtk_message.specs.Msm1074.{HasLengths};
-ghost use Rattle.rtk_commands.specs.Shown.{four_decimals, metres, coordinate, reference_point, text_1004, text_1005, text_1006, text_1074, message_text, refusal_text, unread_text, IsLineOf};
+ghost use Rattle.rtk_message.specs.AnyDecoded.{IsValid};
+ghost use Rattle.rtk_message.specs.Decoded as decoded;
+ghost use Rattle.rtk_commands.specs.Shown.{four_decimals, metres, coordinate, reference_point, text_1004, text_1005, text_1006, msm_text, message_text, IsLineOf};
+ghost use Rattle.rtk_commands.specs.ShownByKind.{any_message_text, any_refusal_text, any_unread_text, any_line_of, IsLineOfKind};
 
 use rtk_message::{
-    Arp1005, Arp1006, DecodeFault, Message, Msm1074, Obs1004, decode, put_fault, put_named,
-    put_number,
+    Accepted, AnyDecoder, AnyFault, AnyMessage, Arp1005, Arp1006, Layout, Message, Msm1074,
+    MsmHeader, MsmKind, Obs1004, decode_any, put_any_fault, put_named, put_number,
 };
 use std::alloc::{AllocError, Global};
 
@@ -80,45 +81,68 @@ fn put_1006(line: &mut Vec<u8>, message: &Arp1006) -> Result<(), AllocError>
     Ok(())
 }
 
-fn put_1074(line: &mut Vec<u8>, message: &Msm1074) -> Result<(), AllocError>
-    requires { HasLengths message.now }
-    ensures { OnOk result (line.new.items ≡ line.old.items ++ text_1074 message.now) }
+// An MSM of this number, with so many cells.
+fn put_msm(
+    line: &mut Vec<u8>,
+    number: u16,
+    header: MsmHeader,
+    cells: usize,
+) -> Result<(), AllocError>
+    ensures { OnOk result (line.new.items ≡ line.old.items ++ msm_text number header cells) }
 {
-    let header = message.header;
-    put_named(line, b"1074 station ", header.station as u64)?;
+    put_number(line, number as u64)?;
+    put_named(line, b" station ", header.station as u64)?;
     put_named(line, b" tow ", header.tow as u64)?;
     put_named(line, b" satellites ", header.satellite_count() as u64)?;
     put_named(line, b" signals ", header.signal_count() as u64)?;
-    put_named(line, b" cells ", message.cnr.len() as u64)?;
+    put_named(line, b" cells ", cells as u64)?;
     Ok(())
 }
 
 fn put_message_text(line: &mut Vec<u8>, message: &Message) -> Result<(), AllocError>
-    requires { IsValid message.now }
+    requires { decoded.IsValid message.now }
     ensures { OnOk result (line.new.items ≡ line.old.items ++ message_text message.now) }
 {
     match message {
         Message::Obs1004(message) => put_1004(line, message),
         Message::Arp1005(message) => put_1005(line, message),
         Message::Arp1006(message) => put_1006(line, message),
-        Message::Msm1074(message) => put_1074(line, message),
+        Message::Msm1074(message) => put_msm(
+            line,
+            Msm1074::NUMBER,
+            message.header,
+            message.cnr.len(),
+        ),
     }
 }
 
-fn put_refusal(line: &mut Vec<u8>, fault: DecodeFault) -> Result<(), AllocError>
-    ensures { OnOk result (line.new.items ≡ line.old.items ++ refusal_text fault) }
+fn put_any_message_text(line: &mut Vec<u8>, message: &AnyMessage) -> Result<(), AllocError>
+    requires { IsValid message.now }
+    ensures { OnOk result (line.new.items ≡ line.old.items ++ any_message_text message.now) }
 {
-    line.extend_from_slice(b"refused ")?;
-    put_fault(line, fault)
+    match message {
+        AnyMessage::Message(message) => put_message_text(line, message),
+        AnyMessage::Msm(message) => put_msm(
+            line,
+            message.msm_type().number(),
+            message.header,
+            message.cnr.len(),
+        ),
+    }
 }
 
-// `show` reads the four messages that `decode` reads, whatever a conversion is told to take: a 1077 is
-// `other`, although `--msm 7` converts it.
-fn put_unread(line: &mut Vec<u8>, fault: DecodeFault) -> Result<(), AllocError>
-    ensures { OnOk result (line.new.items ≡ line.old.items ++ unread_text fault) }
+fn put_refusal(line: &mut Vec<u8>, fault: AnyFault) -> Result<(), AllocError>
+    ensures { OnOk result (line.new.items ≡ line.old.items ++ any_refusal_text fault) }
+{
+    line.extend_from_slice(b"refused ")?;
+    put_any_fault(line, fault)
+}
+
+fn put_unread(line: &mut Vec<u8>, fault: AnyFault) -> Result<(), AllocError>
+    ensures { OnOk result (line.new.items ≡ line.old.items ++ any_unread_text fault) }
 {
     match fault {
-        DecodeFault::Other { number } => {
+        AnyFault::Other { number } => {
             put_number(line, number as u64)?;
             line.extend_from_slice(b" other")
         }
@@ -126,26 +150,47 @@ fn put_unread(line: &mut Vec<u8>, fault: DecodeFault) -> Result<(), AllocError>
     }
 }
 
-/// Appends the line of a payload, with its line feed. If memory is refused, a part of the line may
-/// stand there.
-pub(crate) fn put_payload_line(lines: &mut Vec<u8>, payload: &[u8]) -> Result<(), AllocError>
-    ensures { OnOk result ((line : List ℕ) × IsLineOf payload.now line
-        × (lines.new.items ≡ lines.old.items ++ line)) }
+// Appends the line of what a payload is read as, with its line feed. If memory is refused, a part of the
+// line may stand there.
+fn put_reading(
+    lines: &mut Vec<u8>,
+    reading: &Result<AnyMessage, AnyFault>,
+) -> Result<(), AllocError>
+    requires { IfOk reading.now IsValid }
+    ensures { OnOk result (lines.new.items ≡ lines.old.items ++ any_line_of reading.now) }
 {
-    match decode(payload) {
-        Ok(message) => put_message_text(lines, &message)?,
-        Err(fault) => put_unread(lines, fault)?,
+    match reading {
+        Ok(message) => put_any_message_text(lines, message)?,
+        Err(fault) => put_unread(lines, *fault)?,
     }
     lines.push(b'\n')?;
     Ok(())
 }
 
-/// The line of a payload, with its line feed: the message that it is, or why it is refused.
+/// Appends the line of a payload by a kind of MSM, with its line feed. If memory is refused, a part of the
+/// line may stand there.
+pub(crate) fn put_payload_line(
+    lines: &mut Vec<u8>,
+    decoder: &mut AnyDecoder,
+    msm: MsmKind,
+    payload: &[u8],
+) -> Result<(), AllocError>
+    ensures { OnOk result ((line : List ℕ) × IsLineOfKind msm payload.now line
+        × (lines.new.items ≡ lines.old.items ++ line)) }
+{
+    put_reading(lines, decoder.read(Accepted::only(msm), payload))
+}
+
+/// The line of a payload, with its line feed: the message that it is, or why it is refused. Of all MSM
+/// only 1074 is read.
 pub fn show_line(alloc: Global, payload: &[u8]) -> Result<Vec<u8>, AllocError>
     // Fails only if memory is refused: tests/system/calls, rows `show_line ..`.
     ensures { IfOk result (λ line. IsLineOf payload.now line.items) }
 {
     let mut line = Vec::new(alloc);
-    put_payload_line(&mut line, payload)?;
+    put_reading(
+        &mut line,
+        &decode_any(Accepted::only(MsmKind::Msm4), payload),
+    )?;
     Ok(line)
 }

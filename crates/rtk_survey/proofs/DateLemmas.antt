@@ -1,9 +1,10 @@
 -- Dates that are told, by station and by week.
-use Rattle.std.proofs.Common.{◌≡◌, ◌≢◌, ◌<◌, ◌+◌, ◌==◌, ◌&&◌, ℕ, Bool, true, false, cond, List, ◌∷◌, length, get_or, Option, None, Some, refl, sym, ap, ◌∙◌, ne_eqb, arith}
+use Rattle.std.proofs.Common.{◌≡◌, ◌≢◌, ◌+◌, ◌==◌, ◌&&◌, ℕ, Bool, true, false, cond, List, ◌∷◌, Option, None, Some, refl, sym, ap, ◌∙◌, ne_eqb, arith}
 use Rattle.std.proofs.lemmas.Bool.{eq-eqb}
 use Rattle.std.proofs.lemmas.List.Sums.{sum_by-cons}
 use Rattle.std.specs.List.{count_by}
-use Rattle.rtk_survey.specs.Contents.{one_if, CountsWeeks}
+use Rattle.std.specs.BTreeMap.{BTreeMap}
+use Rattle.rtk_survey.specs.Contents.{one_if, count_at, CountsWeeks}
 use Rattle.rtk_survey.specs.Counting.{shown_count, count_of}
 use Rattle.rtk_survey.specs.FrameDates.{dates_as, utc_if, earlier_or, first_date, date_count, station_dates, is_of_week}
 use Rattle.rtk_survey.specs.Telling.{is_date}
@@ -13,6 +14,7 @@ use Rattle.rtk_survey.specs.declared.date_message.EphemerisDate.{EphemerisDate}
 use Rattle.rtk_survey.specs.declared.date_message.UtcDate.{UtcDate}
 use Rattle.rtk_survey.specs.declared.station_dates.DateCount.{DateCount}
 use Rattle.rtk_survey.specs.declared.station_dates.StationDates.{StationDates}
+use Rattle.rtk_survey.proofs.TallyLemmas.{tally-more}
 
 -- ---- counts
 
@@ -100,11 +102,9 @@ same-dates-without station e ds = same-dates station (Ephemeris e) ds refl refl
 
 -- ---- weeks
 
-pub weeks-more : (old new : List ℕ) (e : EphemerisDate) (ds : List DateMessage) → length new ≡ length old
-    → ((n : ℕ) → n < length old → get_or new n 0 ≡ shown_count (get_or old n 0 + one_if (e.week == n))) → CountsWeeks old ds → CountsWeeks new (Ephemeris e ∷ ds)
-weeks-more old new e ds same counted stand = λ n lt.
-    let within : n < length old = omega (arith, lt, same) in
-    count-more (is_of_week n) (Ephemeris e) ds (get_or old n 0) (get_or new n 0) (stand n within) (counted n within)
+pub weeks-more : (old new : BTreeMap ℕ ℕ) (e : EphemerisDate) (ds : List DateMessage) → count_at new e.week ≡ shown_count (count_at old e.week + 1)
+    → ((n : ℕ) → n ≢ e.week → count_at new n ≡ count_at old n) → CountsWeeks old ds → CountsWeeks new (Ephemeris e ∷ ds)
+weeks-more old new e ds own others counts = tally-more (λ n d. is_of_week n d) (Ephemeris e) ds old new e.week (λ n. refl) own others counts
 
-pub weeks-same : (weeks : List ℕ) (d : UtcDate) (ds : List DateMessage) → CountsWeeks weeks ds → CountsWeeks weeks (Utc d ∷ ds)
-weeks-same weeks d ds stand = λ n lt. stand n lt ∙ sym (count-other (is_of_week n) (Utc d) ds refl)
+pub weeks-same : (weeks : BTreeMap ℕ ℕ) (d : UtcDate) (ds : List DateMessage) → CountsWeeks weeks ds → CountsWeeks weeks (Utc d ∷ ds)
+weeks-same weeks d ds stand = λ n. stand n ∙ sym (count-other (is_of_week n) (Utc d) ds refl)

@@ -1,5 +1,5 @@
 -- The frames that a scanner finds, one after another, and what is held of them.
-use Rattle.std.proofs.Common.{Result, Ok, Err, OnOk, ◌≡◌, ◌≤◌, ◌<◌, ◌+◌, ◌-◌, ℕ, List, [], ◌∷◌, ◌++◌, Some, length, take, drop, refl, sym, ap, subst, ◌∙◌, arith}
+use Rattle.std.proofs.Common.{Result, Ok, Err, OnOk, ◌≡◌, ◌≤◌, ◌<◌, ◌+◌, ◌-◌, ℕ, List, [], ◌∷◌, ◌++◌, Option, Some, length, take, drop, refl, ap, subst, ◌∙◌, arith}
 use Rattle.std.proofs.lemmas.Grind.{common_steps}
 use Rattle.std.specs.Borrow.{Bor}
 use Rattle.rtk_bits.specs.Bits.{bits}
@@ -15,33 +15,34 @@ use Rattle.rtk_survey.specs.Contents.{HoldsFrames}
 use Rattle.rtk_survey.specs.ReadFrames.{ReadFrame, ReadsFrames, messages_read, read_frame}
 use Rattle.rtk_survey.specs.Surveys.{HoldsMore}
 use Rattle.rtk_survey.specs.declared.contents.Contents.{Contents}
+use Rattle.rtk_survey.specs.declared.target.Target.{Target}
 
 -- ---- what is held of them
 
 pub holds-none : (c : Contents) → HoldsMore [] c c
-holds-none c = λ before held. (before, refl, held)
+holds-none c = λ q before held. (before, refl, held)
 
 -- a frame, and then those of more payloads
 pub holds-first : (a b c : Contents) (p : List ℕ) (ps : List (List ℕ)) → HoldsMore (p ∷ []) a b → HoldsMore ps b c → HoldsMore (p ∷ ps) a c
-holds-first a b c p ps one rest = λ before held.
-    let first = one before held in
-    let more = rest first.0 first.2 in
+holds-first a b c p ps one rest = λ q before held.
+    let first = one q before held in
+    let more = rest q first.0 first.2 in
     (more.0, (first.1.0, first.1.1, subst (λ (fs : List ReadFrame). ReadsFrames ps fs more.0) first.1.2 more.1), more.2)
 
 -- a frame whose payload is a message, and one whose payload is none
 pub holds-message : {E : Type 0} (r : Result (Unit {0}) E) (payload : List ℕ) (reading : Result AnyMessage AnyFault) (m : AnyMessage) (old new : Contents) → reading ≡ Ok m
     → DecodesBy messages_read (bits payload) reading
-    → OnOk r ((before : List ReadFrame) → HoldsFrames before old → HoldsFrames (read_frame payload (Ok m) ∷ before) new) → OnOk r (HoldsMore (payload ∷ []) old new)
+    → OnOk r ((q : Option Target) (before : List ReadFrame) → HoldsFrames q before old → HoldsFrames q (read_frame payload (Ok m) ∷ before) new) → OnOk r (HoldsMore (payload ∷ []) old new)
 holds-message (Err e) payload reading m old new is reads took = took
-holds-message (Ok u) payload reading m old new is reads took = λ before held.
-    (read_frame payload (Ok m) ∷ before, (Ok m, subst (λ (x : Result AnyMessage AnyFault). DecodesBy messages_read (bits payload) x) is reads, refl), took before held)
+holds-message (Ok u) payload reading m old new is reads took = λ q before held.
+    (read_frame payload (Ok m) ∷ before, (Ok m, subst (λ (x : Result AnyMessage AnyFault). DecodesBy messages_read (bits payload) x) is reads, refl), took q before held)
 
 pub holds-fault : {E : Type 0} (r : Result (Unit {0}) E) (payload : List ℕ) (reading : Result AnyMessage AnyFault) (fault : AnyFault) (old new : Contents) → reading ≡ Err fault
     → DecodesBy messages_read (bits payload) reading
-    → OnOk r ((before : List ReadFrame) → HoldsFrames before old → HoldsFrames (read_frame payload (Err fault) ∷ before) new) → OnOk r (HoldsMore (payload ∷ []) old new)
+    → OnOk r ((q : Option Target) (before : List ReadFrame) → HoldsFrames q before old → HoldsFrames q (read_frame payload (Err fault) ∷ before) new) → OnOk r (HoldsMore (payload ∷ []) old new)
 holds-fault (Err e) payload reading fault old new is reads took = took
-holds-fault (Ok u) payload reading fault old new is reads took = λ before held.
-    (read_frame payload (Err fault) ∷ before, (Err fault, subst (λ (x : Result AnyMessage AnyFault). DecodesBy messages_read (bits payload) x) is reads, refl), took before held)
+holds-fault (Ok u) payload reading fault old new is reads took = λ q before held.
+    (read_frame payload (Err fault) ∷ before, (Err fault, subst (λ (x : Result AnyMessage AnyFault). DecodesBy messages_read (bits payload) x) is reads, refl), took q before held)
 
 -- if the frames with these payloads are held from here on, then those are from the start on
 abbrev pub HoldsOn : Contents → List (List ℕ) → Contents → List (List ℕ) → Type 0

@@ -3,6 +3,7 @@ pub mod BitLemmas
 pub mod CountingLemmas
 pub mod CutLemmas
 pub mod DateLemmas
+pub mod FaultLemmas
 pub mod FourLemmas
 pub mod FrameLemmas
 pub mod FreshLemmas
@@ -13,6 +14,7 @@ pub mod ListLemmas
 pub mod MapLemmas
 pub mod MsmLemmas
 pub mod NamedLemmas
+pub mod PhaseLemmas
 pub mod PlacedLemmas
 pub mod PublicLaws
 pub mod ReadLemmas
@@ -20,3 +22,5 @@ pub mod ResultLemmas
 pub mod SignalLemmas
 pub mod StationLemmas
 pub mod SummaryTellingLemmas
+pub mod TallyLemmas
+pub mod TargetLemmas

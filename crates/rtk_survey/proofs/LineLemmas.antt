@@ -1,7 +1,6 @@
 -- The lines of what a summary holds.
-use Rattle.std.proofs.Common.{Option, None, Some, take, ◌≡◌, ◌<◌, ◌+◌, ◌/◌, ◌%◌, ◌==◌, ℕ, suc, Bool, true, false, ◌&&◌, not, cond, List, [], ◌∷◌, ◌++◌, length, get_or, drop, decimal, refl, sym, ap, ◌∙◌, append_assoc, drop-cons, lit<, arith}
+use Rattle.std.proofs.Common.{None, Some, take, ◌≡◌, ◌<◌, ◌+◌, ◌/◌, ◌%◌, ◌==◌, ℕ, suc, Bool, true, false, cond, List, [], ◌∷◌, ◌++◌, length, get_or, drop, decimal, refl, sym, ap, ◌∙◌, append_assoc, drop-cons, arith}
 use Rattle.std.specs.Prelude.{flat_map, filter, codes}
-use Rattle.std.specs.List.{range_with_len}
 use Rattle.rtk_obs.specs.declared.code.Code.{Code}
 use Rattle.rtk_obs.specs.Code.{name_of, place_of, all_codes}
 use Rattle.rtk_message.specs.declared.msm_kind.MsmKind.{MsmKind}
@@ -16,7 +15,8 @@ use Rattle.rtk_survey.specs.FrameEquipment.{told_lines}
 use Rattle.rtk_survey.specs.Proposal.{epochs_with_value, entries_with}
 use Rattle.rtk_survey.specs.Summary.{all_numbers, station_lines}
 use Rattle.rtk_survey.specs.SummaryText.{look_line, number_line, counted_line, numbered_line, list_line, time_lines, near_text, untaken_numbers, listed_satellite, satellites_text, joined_names, codes_text, words_text, auto_line, next_lines, signal_lines, proposal_lines}
-use Rattle.rtk_survey.specs.Contents.{HasCodes, HasSignals, IsStationOf, HasMsms, equipment_at, epochs_held, codes_held}
+use Rattle.std.specs.BTreeMap.{BTreeMap}
+use Rattle.rtk_survey.specs.Contents.{count_at, HasCodes, HasSignals, IsStationOf, HasMsms, equipment_at, epochs_held, codes_held}
 use Rattle.rtk_survey.specs.Steps.Tables.{counts_text, untaken_text, counts_held, look_lines}
 use Rattle.rtk_survey.specs.Tracing.{is_numbered, entries_in, has_satellite, has_code, times_of_week}
 use Rattle.rtk_survey.specs.declared.station_dates.StationDates.{StationDates}
@@ -30,31 +30,24 @@ use Rattle.rtk_survey.proofs.MsmLemmas.{codes-marked, epochs-are, codes-held-are
 -- ---- counts
 
 -- the lines of a table of counts are those of the counts that it holds
-pub counts-are : (words : List ℕ) (counts : List ℕ) (count : ℕ → ℕ) → length counts ≡ 4096 → ((n : ℕ) → n < length counts → get_or counts n 0 ≡ count n)
+lists-agree : (f g : ℕ → List ℕ) (ns : List ℕ) → ((k : ℕ) → f k ≡ g k) → flat_map f ns ≡ flat_map g ns
+lists-agree f g [] agree = refl
+lists-agree f g (n ∷ ns) agree = ap (λ t. t ++ flat_map f ns) (agree n) ∙ ap (λ t. g n ++ t) (lists-agree f g ns agree)
+
+pub counts-are : (words : List ℕ) (counts : BTreeMap ℕ ℕ) (count : ℕ → ℕ) → ((n : ℕ) → count_at counts n ≡ count n)
     → counts_text words counts ≡ flat_map (λ n. numbered_line words n (count n)) all_numbers
-unfolding counts_text all_numbers
-counts-are words counts count size are =
-    ap (λ k. flat_map (λ n. numbered_line words n (get_or counts n 0)) (range_with_len 0 k)) size
-    ∙ lines-agree (λ n. numbered_line words n (get_or counts n 0)) (λ n. numbered_line words n (count n)) 0 4096
-    (λ k lt. let within : k < length counts = omega (arith, size) in ap (λ c. numbered_line words k c) (are k within))
-
-abbrev AreNumbers : List ℕ → Type 0
-AreNumbers [] = Unit {0}
-AreNumbers (n ∷ ns) = (n < 4096) × AreNumbers ns
-
-lists-agree : (f g : ℕ → List ℕ) (ns : List ℕ) → ((k : ℕ) → k < 4096 → f k ≡ g k) → AreNumbers ns → flat_map f ns ≡ flat_map g ns
-lists-agree f g [] agree within = refl
-lists-agree f g (n ∷ ns) agree within =
-    ap (λ t. t ++ flat_map f ns) (agree n within.0) ∙ ap (λ t. g n ++ t) (lists-agree f g ns agree within.1)
+unfolding counts_text
+counts-are words counts count are =
+    lists-agree (λ n. numbered_line words n (count_at counts n)) (λ n. numbered_line words n (count n)) all_numbers
+    (λ k. ap (λ c. numbered_line words k c) (are k))
 
 -- so are the lines of the messages that are not taken
-pub untaken-are : (counts : List ℕ) (count : ℕ → ℕ) → length counts ≡ 4096 → ((n : ℕ) → n < length counts → get_or counts n 0 ≡ count n)
+pub untaken-are : (counts : BTreeMap ℕ ℕ) (count : ℕ → ℕ) → ((n : ℕ) → count_at counts n ≡ count n)
     → untaken_text counts ≡ flat_map (λ n. numbered_line (codes "untaken GPS ") n (count n)) untaken_numbers
 unfolding untaken_text
-untaken-are counts count size are =
-    lists-agree (λ n. numbered_line (codes "untaken GPS ") n (get_or counts n 0)) (λ n. numbered_line (codes "untaken GPS ") n (count n)) untaken_numbers
-    (λ k lt. let within : k < length counts = omega (arith, lt, size) in ap (λ c. numbered_line (codes "untaken GPS ") k c) (are k within))
-    (lit< tt, (lit< tt, (lit< tt, (lit< tt, (lit< tt, (lit< tt, tt))))))
+untaken-are counts count are =
+    lists-agree (λ n. numbered_line (codes "untaken GPS ") n (count_at counts n)) (λ n. numbered_line (codes "untaken GPS ") n (count n)) untaken_numbers
+    (λ k. ap (λ c. numbered_line (codes "untaken GPS ") k c) (are k))
 
 -- ---- satellites and codes
 

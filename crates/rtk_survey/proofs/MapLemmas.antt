@@ -5,7 +5,7 @@ use Rattle.std.proofs.lemmas.Bool.Decides.{nat_tests}
 use Rattle.std.specs.Ordering.{nat_cmp, is_eq}
 use Rattle.std.specs.BTreeMap.{BTreeMap, get, Updates}
 
-other-key : (k q : ℕ) → q ≢ k → is_eq (nat_cmp k q) ≡ false
+pub other-key : (k q : ℕ) → q ≢ k → is_eq (nat_cmp k q) ≡ false
 other-key k q other = grind (arith, nat_tests)
 
 -- what holds of each key holds after the value of one was put

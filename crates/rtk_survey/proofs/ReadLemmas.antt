@@ -11,7 +11,7 @@ use Rattle.rtk_survey.specs.ReadFrames.{ReadFrame, ReadsFrames, read_frame}
 use Rattle.rtk_survey.specs.Surveys.{HoldsMore, Surveys, look_if_empty}
 use Rattle.rtk_survey.specs.declared.contents.Contents.{Contents}
 use Rattle.rtk_survey.specs.declared.look.Look.{Look}
-use Rattle.rtk_survey.specs.declared.survey.CaptureSurvey.{CaptureSurvey}
+use Rattle.rtk_survey.specs.declared.target.Target.{Target}
 use Rattle.rtk_survey.proofs.CutLemmas.{take-none, take-again}
 
 -- frames that come after others
@@ -20,7 +20,7 @@ reads-append [] qs a b c none more = subst (λ (fs : List ReadFrame). ReadsFrame
 reads-append (p ∷ ps) qs a b c some more = (some.0, some.1, reads-append ps qs (read_frame p some.0 ∷ a) b c some.2 more)
 
 -- a source gave some bytes, and this is held of their final frames
-pub record HasRead (given_old given_new : Option (List ℕ)) (waiting : List ℕ) (count : ℕ) (head : List ℕ) (c : Contents) : Type 0 where
+pub record HasRead (q : Option Target) (given_old given_new : Option (List ℕ)) (waiting : List ℕ) (count : ℕ) (head : List ℕ) (c : Contents) : Type 0 where
   pub bytes : List ℕ
   pub fs : List ReadFrame
   pub given : given_new ≡ with_more given_old bytes
@@ -28,11 +28,11 @@ pub record HasRead (given_old given_new : Option (List ℕ)) (waiting : List ℕ
   pub waits : waiting ≡ pending bytes
   pub size : count ≡ shown_count (length bytes)
   pub begins : head ≡ take 512 bytes
-  pub holds : HoldsFrames fs c
+  pub holds : HoldsFrames q fs c
 
-pub read-nothing : (given : Option (List ℕ)) (waiting head : List ℕ) (c : Contents) → waiting ≡ [] → head ≡ [] → HoldsFrames [] c → HasRead given given waiting 0 head c
+pub read-nothing : (q : Option Target) (given : Option (List ℕ)) (waiting head : List ℕ) (c : Contents) → waiting ≡ [] → head ≡ [] → HoldsFrames q [] c → HasRead q given given waiting 0 head c
 unfolding final_from pending_from
-read-nothing given waiting head c none empty holds = record {
+read-nothing q given waiting head c none empty holds = record {
   bytes = [];
   fs = [];
   given = sym (with_more-nil given);
@@ -43,14 +43,14 @@ read-nothing given waiting head c none empty holds = record {
   holds = holds;
 }
 
-pub read-piece : (given_0 given_1 given_2 : Option (List ℕ)) (waiting_1 waiting_2 more : List ℕ) (count_1 count_2 : ℕ) (head_1 head_2 : List ℕ) (c_1 c_2 : Contents)
-    → HasRead given_0 given_1 waiting_1 count_1 head_1 c_1 → given_2 ≡ with_more given_1 more → HoldsMore (payloads (final_frames (waiting_1 ++ more))) c_1 c_2
+pub read-piece : (q : Option Target) (given_0 given_1 given_2 : Option (List ℕ)) (waiting_1 waiting_2 more : List ℕ) (count_1 count_2 : ℕ) (head_1 head_2 : List ℕ) (c_1 c_2 : Contents)
+    → HasRead q given_0 given_1 waiting_1 count_1 head_1 c_1 → given_2 ≡ with_more given_1 more → HoldsMore (payloads (final_frames (waiting_1 ++ more))) c_1 c_2
     → waiting_2 ≡ pending (waiting_1 ++ more) → count_2 ≡ shown_count (count_1 + length more) → head_2 ≡ take 512 (head_1 ++ more)
-    → HasRead given_0 given_2 waiting_2 count_2 head_2 c_2
-read-piece given_0 given_1 given_2 waiting_1 waiting_2 more count_1 count_2 head_1 head_2 c_1 c_2 h gives t waits counts begin =
+    → HasRead q given_0 given_2 waiting_2 count_2 head_2 c_2
+read-piece q given_0 given_1 given_2 waiting_1 waiting_2 more count_1 count_2 head_1 head_2 c_1 c_2 h gives t waits counts begin =
     let size = h.size in
     let both = length-append h.bytes more in
-    let next = t h.fs h.holds in
+    let next = t q h.fs h.holds in
     record {
       bytes = h.bytes ++ more;
       fs = next.0;
@@ -64,12 +64,12 @@ read-piece given_0 given_1 given_2 waiting_1 waiting_2 more count_1 count_2 head
       holds = next.2;
     }
 
-pub read-end : (given_0 given_1 given_2 : Option (List ℕ)) (waiting : List ℕ) (count : ℕ) (head : List ℕ) (c_1 c_2 : Contents) (look : Option Look)
-    → HasRead given_0 given_1 waiting count head c_1 → given_2 ≡ with_more given_1 [] → HoldsMore (payloads (frames waiting)) c_1 c_2
+pub read-end : (q : Option Target) (given_0 given_1 given_2 : Option (List ℕ)) (waiting : List ℕ) (count : ℕ) (head : List ℕ) (c_1 c_2 : Contents) (look : Option Look)
+    → HasRead q given_0 given_1 waiting count head c_1 → given_2 ≡ with_more given_1 [] → HoldsMore (payloads (frames waiting)) c_1 c_2
     → ((n : ℕ) (bytes : List ℕ) → c_2.frames ≡ shown_count n → head ≡ take 512 bytes → look ≡ look_if_empty n bytes)
-    → Surveys given_0 given_2 (record { bytes = count; look = look; contents = c_2 })
-read-end given_0 given_1 given_2 waiting count head c_1 c_2 look h gives t looks =
-    let next = t h.fs h.holds in (
+    → Surveys q given_0 given_2 (record { bytes = count; look = look; contents = c_2 })
+read-end q given_0 given_1 given_2 waiting count head c_1 c_2 look h gives t looks =
+    let next = t q h.fs h.holds in (
       h.bytes,
       next.0,
       gives ∙ with_more-nil given_1 ∙ h.given,

@@ -1,5 +1,5 @@
 -- The stations that were heard, each with its own messages, dates, antenna and receiver.
-use Rattle.std.proofs.Common.{◌≡◌, ◌≢◌, ℕ, Bool, true, false, cond, List, [], ◌∷◌, Option, None, Some, Result, Ok, Err, OnOk, refl, sym, ap, subst, ◌∙◌, ne_eqb, arith}
+use Rattle.std.proofs.Common.{◌≡◌, ◌≢◌, ℕ, Bool, true, false, cond, List, [], ◌∷◌, Option, None, Some, refl, sym, ap, subst, ◌∙◌, ne_eqb, arith}
 use Rattle.std.proofs.lemmas.Bool.{eq-eqb}
 use Rattle.std.specs.BTreeMap.{BTreeMap, get, is_at, Updates}
 use Rattle.std.specs.Map.{lookup}
@@ -23,12 +23,12 @@ use Rattle.rtk_survey.proofs.DateLemmas.{same-dates-of, same-dates-without}
 use Rattle.rtk_survey.proofs.MapLemmas.{put-one}
 
 -- a message of a station is one of its messages, and one of another is none
-own-message : (station : ℕ) (m : AnyMessage) (ms : List AnyMessage) → station ≡ station_of m → messages_from station (m ∷ ms) ≡ m ∷ messages_from station ms
+pub own-message : (station : ℕ) (m : AnyMessage) (ms : List AnyMessage) → station ≡ station_of m → messages_from station (m ∷ ms) ≡ m ∷ messages_from station ms
 own-message station m ms same =
     let yes : is_of_station station m ≡ true = eq-eqb (station_of m) station (sym same) in
     ap (λ (b : Bool). cond b (m ∷ messages_from station ms) (messages_from station ms)) yes
 
-other-message : (station : ℕ) (m : AnyMessage) (ms : List AnyMessage) → station ≢ station_of m → messages_from station (m ∷ ms) ≡ messages_from station ms
+pub other-message : (station : ℕ) (m : AnyMessage) (ms : List AnyMessage) → station ≢ station_of m → messages_from station (m ∷ ms) ≡ messages_from station ms
 other-message station m ms other =
     let no : is_of_station station m ≡ false = grind arith in
     ap (λ (b : Bool). cond b (m ∷ messages_from station ms) (messages_from station ms)) no

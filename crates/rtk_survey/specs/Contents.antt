@@ -1,6 +1,6 @@
 -- What is held of a capture and of each station that was heard in it, tied to the frames that came so
 -- far. Lists of frames, messages, dates and entries are newest first.
-use Rattle.std.specs.Prelude.{◌≡◌, ℕ, ◌<◌, Bool, false, cond, List, [], length, get_or, Option, None, Some}
+use Rattle.std.specs.Prelude.{◌≡◌, ℕ, ◌<◌, Bool, false, cond, List, [], length, get_or, Option, None, Some, unwrap_or}
 use Rattle.std.specs.BTreeMap.{BTreeMap, get}
 use Rattle.std.specs.List.{list_any}
 use Rattle.std.specs.Ordering.{nat_cmp}
@@ -20,6 +20,7 @@ use Rattle.rtk_survey.specs.FrameEquipment.{equipment_among}
 use Rattle.rtk_survey.specs.Proposal.{epochs_in, times_with_value, entries_with}
 use Rattle.rtk_survey.specs.ReadFrames.{ReadFrame, bytes_in, messages_in, faults_in, messages_from}
 use Rattle.rtk_survey.specs.ReferencePoints.{first_point}
+use Rattle.rtk_survey.specs.Targets.{IsAnswer}
 use Rattle.rtk_survey.specs.Tracing.{is_numbered, is_other, is_short, is_outside_week, is_no_number, is_too_many_cells, times_of_week, newest_time, oldest_time, changes_in, entries_in, gives_satellite, gives_place}
 use Rattle.rtk_survey.specs.declared.contents.Contents.{Contents}
 use Rattle.rtk_survey.specs.declared.date_message.DateMessage.{DateMessage}
@@ -33,6 +34,7 @@ use Rattle.rtk_survey.specs.declared.signals.Signals.{Signals}
 use Rattle.rtk_survey.specs.declared.station.MessageCounts.{MessageCounts}
 use Rattle.rtk_survey.specs.declared.station.StationSurvey.{StationSurvey}
 use Rattle.rtk_survey.specs.declared.station_dates.StationDates.{StationDates}
+use Rattle.rtk_survey.specs.declared.target.Target.{Target}
 use Rattle.rtk_survey.specs.declared.times_of_week.Times.{Times}
 use Rattle.rtk_survey.specs.declared.unread.Unread.{Unread}
 
@@ -42,20 +44,20 @@ one_if b = cond b 1 0
 
 -- ---- payloads that are not read
 
+-- the count of a number; one without an entry did not come
+abbrev pub count_at : BTreeMap ℕ ℕ → ℕ → ℕ
+count_at counts n = unwrap_or (get nat_cmp counts n) 0
+
 -- the counts by number of those that pass a test of that number
-abbrev pub Tallies : (ℕ → AnyFault → Bool) → List ℕ → List AnyFault → Type 0
-Tallies test counts fs = (n : ℕ) → n < length counts → get_or counts n 0 ≡ count_of (test n) fs
+abbrev pub Tallies : (ℕ → AnyFault → Bool) → BTreeMap ℕ ℕ → List AnyFault → Type 0
+Tallies test counts fs = (n : ℕ) → count_at counts n ≡ count_of (test n) fs
 
 pub record CountsFaults (u : Unread) (fs : List AnyFault) : Type 0 where
   pub no_number : u.no_number ≡ count_of is_no_number fs
-  pub others_size : length u.others.items ≡ 4096
-  pub others : Tallies is_other u.others.items fs
-  pub short_size : length u.short.items ≡ 4096
-  pub short : Tallies is_short u.short.items fs
-  pub outside_week_size : length u.outside_week.items ≡ 4096
-  pub outside_week : Tallies is_outside_week u.outside_week.items fs
-  pub too_many_cells_size : length u.too_many_cells.items ≡ 4096
-  pub too_many_cells : Tallies is_too_many_cells u.too_many_cells.items fs
+  pub others : Tallies is_other u.others fs
+  pub short : Tallies is_short u.short fs
+  pub outside_week : Tallies is_outside_week u.outside_week fs
+  pub too_many_cells : Tallies is_too_many_cells u.too_many_cells fs
 
 -- ---- satellites and codes
 
@@ -78,9 +80,9 @@ pub record HasSignals (s : Signals) (es : List CellEntry) : Type 0 where
 abbrev pub times_of : List ℕ → Times
 times_of ts = record { first = oldest_time ts; last = newest_time ts; changes = shown_count (changes_in ts) }
 
--- the last of times of week, and how many epochs there are of them
+-- the first and the last of times of week, and how many epochs there are of them
 abbrev pub epochs_so_far : List ℕ → Epochs
-epochs_so_far ts = record { last = newest_time ts; count = shown_count (epochs_in ts) }
+epochs_so_far ts = record { first = oldest_time ts; last = newest_time ts; count = shown_count (epochs_in ts) }
 
 -- ---- the MSM of a station
 
@@ -144,15 +146,15 @@ AreStations ms ds es stations =
 
 -- ---- a capture
 
-abbrev pub CountsWeeks : List ℕ → List DateMessage → Type 0
-CountsWeeks weeks ds = (n : ℕ) → n < length weeks → get_or weeks n 0 ≡ count_of (is_of_week n) ds
+abbrev pub CountsWeeks : BTreeMap ℕ ℕ → List DateMessage → Type 0
+CountsWeeks weeks ds = (n : ℕ) → count_at weeks n ≡ count_of (is_of_week n) ds
 
--- what is held of these frames
-pub record HoldsFrames (fs : List ReadFrame) (c : Contents) : Type 0 where
+-- what is held of these frames, and of a station if it is asked for
+pub record HoldsFrames (q : Option Target) (fs : List ReadFrame) (c : Contents) : Type 0 where
   pub frames : c.frames ≡ shown_count (length fs)
   pub framed : c.framed ≡ shown_count (bytes_in fs)
   pub stations : AreStations (messages_in fs) (dates_in fs) (equipment_among fs) c.stations
   pub codes : HasCodes c.codes (entries_in (messages_in fs))
-  pub weeks_size : length c.weeks.items ≡ 1024
-  pub weeks : CountsWeeks c.weeks.items (dates_in fs)
+  pub weeks : CountsWeeks c.weeks (dates_in fs)
   pub unread : CountsFaults c.unread (faults_in fs)
+  pub target : IsAnswer q fs c.target

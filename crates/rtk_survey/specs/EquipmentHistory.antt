@@ -45,6 +45,10 @@ no_setup = record { last = None; changes = 0 }
 abbrev pub with_setup : ℕ → SetupHistory → SetupHistory
 with_setup setup t = record { last = Some setup; changes = with_change (is_other_setup t.last setup) t.changes }
 
+abbrev pub with_setup_if_any : Option ℕ → SetupHistory → SetupHistory
+with_setup_if_any None t = t
+with_setup_if_any (Some setup) t = with_setup setup t
+
 -- ---- a station
 
 abbrev pub no_equipment : Equipment
@@ -91,3 +95,15 @@ equipment_of station (m ∷ before) =
 -- some message told something of the station: each tells the antenna's type, which may be empty
 abbrev pub is_told : Equipment → Bool
 is_told e = is_some e.antenna_type.last
+
+-- what was told last of a station by messages that came later
+abbrev pub with_later : Equipment → Equipment → Equipment
+with_later later e =
+    record {
+      antenna_type = with_text_if_any later.antenna_type.last e.antenna_type;
+      antenna_serial = with_text_if_any later.antenna_serial.last e.antenna_serial;
+      antenna_setup = with_setup_if_any later.antenna_setup.last e.antenna_setup;
+      receiver_type = with_text_if_any later.receiver_type.last e.receiver_type;
+      receiver_version = with_text_if_any later.receiver_version.last e.receiver_version;
+      receiver_serial = with_text_if_any later.receiver_serial.last e.receiver_serial;
+    }

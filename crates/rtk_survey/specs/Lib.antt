@@ -12,6 +12,7 @@ pub mod FrameDates
 pub mod FrameEquipment
 pub mod Look
 pub mod NumberLaws
+pub mod Phases
 pub mod Placing
 pub mod Proposal
 pub mod ReadFrames
@@ -20,5 +21,6 @@ pub mod Steps
 pub mod Summary
 pub mod SummaryText
 pub mod Surveys
+pub mod Targets
 pub mod Telling
 pub mod Tracing

@@ -86,6 +86,11 @@ summary_text name bytes fs =
 abbrev pub AreFramesOf : List ℕ → List ReadFrame → Type 0
 AreFramesOf bytes fs = ReadsFrames (payloads (frames bytes)) [] fs
 
+-- these lines are the summary of what was read of the capture of this name: before, after of the source
+abbrev pub IsSummaryOf : List ℕ → Option (List ℕ) → Option (List ℕ) → List ℕ → Type 0
+IsSummaryOf name given_old given_new lines =
+    (bytes : List ℕ) × (fs : List ReadFrame) × (given_new ≡ with_more given_old bytes) × AreFramesOf bytes fs × (lines ≡ summary_text name bytes fs)
+
 -- the summary of what was read of the capture of this name was written: before, after of the source and of the sink
 abbrev pub Summarizes : List ℕ → Option (List ℕ) → Option (List ℕ) → Option (List ℕ) → Option (List ℕ) → Type 0
 Summarizes name given_old given_new taken_old taken_new =

@@ -1,6 +1,6 @@
 //! What the frames of a capture hold, as far as they were read.
 
-ghost use Rattle.std.specs.Prelude.{◌≡◌, ◌+◌, ◌∷◌, [], List, ℕ, Ok, Err, length, IfOk, OnOk};
+ghost use Rattle.std.specs.Prelude.{◌≡◌, ◌+◌, ◌∷◌, [], List, ℕ, Option, Ok, Err, OnOk};
 ghost use Rattle.std.specs.List.{cons_option};
 ghost use Rattle.rtk_bits.specs.Bits.{bits};
 ghost use Rattle.rtk_message.specs.declared.any_message.AnyMessage.{AnyMessage};
@@ -12,20 +12,19 @@ ghost use Rattle.rtk_survey.specs.ReadFrames.{ReadFrame, read_frame};
 ghost use Rattle.rtk_survey.specs.Tracing.{entries_of_message};
 ghost use Rattle.rtk_survey.specs.declared.date_message.DateMessage.{DateMessage};
 ghost use Rattle.rtk_survey.specs.declared.equipment_message.EquipmentMessage.{EquipmentMessage};
+ghost use Rattle.rtk_survey.specs.declared.target.Target.{Target};
 
 use crate::date_message::{DateMessage, date_in};
 use crate::equipment_message::equipment_in;
 use crate::signals::Codes;
 use crate::station::StationSurvey;
 use crate::stations::{take_date, take_equipment, take_message};
-use crate::unread::{Unread, count_at};
+use crate::target::{Target, TargetSurvey, answer_to, take_target_fault, take_target_message};
+use crate::unread::{Unread, count_number};
 use rtk_message::{AnyFault, AnyMessage};
 use rtk_obs::CellEntry;
 use std::alloc::{AllocError, Global};
 use std::collections::BTreeMap;
-
-/// How many weeks there are: DF076 has 10 bits.
-const WEEKS: usize = 1024;
 
 /// What the frames of a capture hold. Counts stop at the greatest `u64`.
 #[derive(Drop)]
@@ -38,28 +37,26 @@ pub struct Contents {
     /// The codes of all stations.
     pub codes: Codes,
     /// How many 1019 name each week modulo 1,024 (DF076).
-    pub weeks: Vec<u64>,
+    pub weeks: BTreeMap<u16, u64>,
     pub unread: Unread,
+    /// What they tell of the station of a conversion, if it is asked for.
+    pub target: Option<TargetSurvey>,
 }
 
 // Counts what a message tells of a date.
 fn take_date_message(
     alloc: Global,
     stations: &mut BTreeMap<u16, StationSurvey>,
-    weeks: &mut Vec<u64>,
+    weeks: &mut BTreeMap<u16, u64>,
     message: DateMessage,
 ) -> Result<(), AllocError>
     ensures stations { OnOk result ((ms : List AnyMessage) (ds : List DateMessage) (es : List EquipmentMessage)
         → AreStations ms ds es stations.old → AreStations ms (message ∷ ds) es stations.new) }
-    ensures size { OnOk result (length weeks.new.items ≡ length weeks.old.items) }
-    ensures weeks { OnOk result ((ds : List DateMessage) → CountsWeeks weeks.old.items ds → CountsWeeks weeks.new.items (message ∷ ds)) }
+    ensures weeks { OnOk result ((ds : List DateMessage) → CountsWeeks weeks.old ds → CountsWeeks weeks.new (message ∷ ds)) }
 {
     match message {
         DateMessage::Utc(date) => take_date(alloc, stations, date),
-        DateMessage::Ephemeris(ephemeris) => {
-            count_at(weeks, ephemeris.week);
-            Ok(())
-        }
+        DateMessage::Ephemeris(ephemeris) => count_number(weeks, ephemeris.week),
     }
 }
 
@@ -67,14 +64,13 @@ fn take_date_message(
 fn take_dates_in(
     alloc: Global,
     stations: &mut BTreeMap<u16, StationSurvey>,
-    weeks: &mut Vec<u64>,
+    weeks: &mut BTreeMap<u16, u64>,
     payload: &[u8],
 ) -> Result<(), AllocError>
     ensures stations { OnOk result ((ms : List AnyMessage) (ds : List DateMessage) (es : List EquipmentMessage)
         → AreStations ms ds es stations.old → AreStations ms (cons_option (date_in (bits payload.now)) ds) es stations.new) }
-    ensures size { OnOk result (length weeks.new.items ≡ length weeks.old.items) }
-    ensures weeks { OnOk result ((ds : List DateMessage) → CountsWeeks weeks.old.items ds
-        → CountsWeeks weeks.new.items (cons_option (date_in (bits payload.now)) ds)) }
+    ensures weeks { OnOk result ((ds : List DateMessage) → CountsWeeks weeks.old ds
+        → CountsWeeks weeks.new (cons_option (date_in (bits payload.now)) ds)) }
 {
     match date_in(payload) {
         Some(message) => take_date_message(alloc, stations, weeks, message),
@@ -99,17 +95,18 @@ fn take_equipment_in(
 
 impl Contents {
     /// No frame came.
-    pub(crate) fn new(alloc: Global) -> Result<Contents, AllocError>
-        ensures { IfOk result (λ contents. HoldsFrames [] contents) }
+    pub(crate) fn new(alloc: Global, target: Option<Target>) -> Contents
+        ensures { HoldsFrames target [] result }
     {
-        Ok(Contents {
+        Contents {
             frames: 0,
             framed: 0,
             stations: BTreeMap::new(alloc),
             codes: Codes::new(),
-            weeks: vec![in alloc; 0; WEEKS]?,
-            unread: Unread::new(alloc)?,
-        })
+            weeks: BTreeMap::new(alloc),
+            unread: Unread::new(alloc),
+            target: answer_to(alloc, target),
+        }
     }
 
     /// A frame more, whose payload is this message with these cells.
@@ -121,14 +118,15 @@ impl Contents {
         entries: &[CellEntry],
     ) -> Result<(), AllocError>
         requires { entries.now ≡ entries_of_message message.now }
-        ensures { OnOk result ((before : List ReadFrame) → HoldsFrames before self.old
-            → HoldsFrames (read_frame payload.now (Ok message.now) ∷ before) self.new) }
+        ensures { OnOk result ((q : Option Target) (before : List ReadFrame) → HoldsFrames q before self.old
+            → HoldsFrames q (read_frame payload.now (Ok message.now) ∷ before) self.new) }
     {
         self.frames = self.frames.saturating_add(1);
         self.framed = self.framed.saturating_add(payload.len() as u64 + 6);
         let codes = Codes::of(entries);
         self.codes.join(&codes);
-        take_message(alloc, &mut self.stations, message, entries, &codes)
+        take_message(alloc, &mut self.stations, message, entries, &codes)?;
+        take_target_message(alloc, &mut self.target, message, entries)
     }
 
     /// A frame more, whose payload is no message that is read. It may tell a date, an antenna or a
@@ -139,12 +137,13 @@ impl Contents {
         payload: &[u8],
         fault: AnyFault,
     ) -> Result<(), AllocError>
-        ensures { OnOk result ((before : List ReadFrame) → HoldsFrames before self.old
-            → HoldsFrames (read_frame payload.now (Err fault) ∷ before) self.new) }
+        ensures { OnOk result ((q : Option Target) (before : List ReadFrame) → HoldsFrames q before self.old
+            → HoldsFrames q (read_frame payload.now (Err fault) ∷ before) self.new) }
     {
         self.frames = self.frames.saturating_add(1);
         self.framed = self.framed.saturating_add(payload.len() as u64 + 6);
-        self.unread.count_fault(fault);
+        self.unread.count_fault(fault)?;
+        take_target_fault(&mut self.target, payload);
         take_dates_in(alloc, &mut self.stations, &mut self.weeks, payload)?;
         take_equipment_in(alloc, &mut self.stations, payload)
     }

@@ -2,7 +2,7 @@
 //!
 //! If memory is refused, a first part of what is put may stand there.
 
-ghost use Rattle.std.specs.Prelude.{◌≡◌, ◌++◌, List, length, OnOk};
+ghost use Rattle.std.specs.Prelude.{◌≡◌, ◌++◌, List, OnOk};
 ghost use Rattle.rtk_survey.specs.declared.date_message.DateMessage.{DateMessage};
 ghost use Rattle.rtk_rinex.specs.Reading.{reading_of};
 ghost use Rattle.rtk_survey.specs.Contents.{CountsWeeks};
@@ -13,9 +13,14 @@ use crate::date_message::UtcDate;
 use crate::line::put_line;
 use crate::station_dates::{DateCount, StationDates};
 use crate::telling::moment_of;
+use crate::unread::count_of_number;
 use rtk_message::put_named;
 use rtk_obs::{Civil, GpsMs, civil, put_clock, put_date};
 use std::alloc::AllocError;
+use std::collections::BTreeMap;
+
+/// How many weeks there are: DF076 has 10 bits.
+const WEEKS: u16 = 1024;
 
 // The reading of a moment.
 fn reading(moment: GpsMs) -> Civil
@@ -86,12 +91,11 @@ fn put_week(lines: &mut Vec<u8>, week: u64, count: u64) -> Result<(), AllocError
 }
 
 /// Appends a line for each week that has a count.
-pub(crate) fn put_weeks(lines: &mut Vec<u8>, weeks: &[u64]) -> Result<(), AllocError>
-    ensures { (ds : List DateMessage) → length weeks.now ≡ 1024 → CountsWeeks weeks.now ds
-        → OnOk result (lines.new.items ≡ lines.old.items ++ weeks_text ds) }
+pub(crate) fn put_weeks(lines: &mut Vec<u8>, weeks: &BTreeMap<u16, u64>) -> Result<(), AllocError>
+    ensures { (ds : List DateMessage) → CountsWeeks weeks.now ds → OnOk result (lines.new.items ≡ lines.old.items ++ weeks_text ds) }
 {
-    for week in 0..weeks.len() {
-        put_week(lines, week as u64, weeks[week])?;
+    for week in 0..WEEKS {
+        put_week(lines, u64::from(week), count_of_number(weeks, week))?;
     }
     Ok(())
 }

@@ -4,9 +4,10 @@ ghost use Rattle.std.specs.Prelude.{◌≡◌, List, ℕ, [], ◌∷◌};
 ghost use Rattle.rtk_survey.specs.Proposal.{begins_epoch};
 ghost use Rattle.rtk_survey.specs.Contents.{epochs_so_far};
 
-/// How many epochs there are, and the time of week of the last one, in ms.
+/// How many epochs there are, and the times of week of the first and the last one, in ms.
 #[derive(Clone, Copy, Debug, PartialEq, Eq)]
 pub struct Epochs {
+    pub first: Option<u32>,
     pub last: Option<u32>,
     pub count: u64,
 }
@@ -27,6 +28,7 @@ impl Epochs {
         ensures { result ≡ epochs_so_far [] }
     {
         Epochs {
+            first: None,
             last: None,
             count: 0,
         }
@@ -38,6 +40,7 @@ impl Epochs {
     {
         let begun = begins_epoch(self.last, time);
         self.count = self.count.saturating_add(begun);
+        self.first = Some(self.first.unwrap_or(time));
         self.last = Some(time);
     }
 }

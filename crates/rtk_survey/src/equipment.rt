@@ -34,6 +34,16 @@ pub struct Equipment {
     pub receiver_serial: TextHistory,
 }
 
+fn copied(text: &Text) -> Text
+    ensures { result ≡ text.now }
+{
+    let mut copy = Text::new();
+    if copy.try_extend_from_slice(text.as_slice()).is_err() {
+        unreachable!();
+    }
+    copy
+}
+
 fn is_other_text(last: &Option<Text>, text: &Text) -> bool
     ensures { result ≡ spec.is_other_text last.now text.now }
 {
@@ -81,6 +91,15 @@ impl TextHistory {
             self.take(text);
         }
     }
+
+    // What was told last by messages that came later.
+    fn take_later(&mut self, later: &TextHistory)
+        ensures { self.new ≡ spec.with_text_if_any later.now.last self.old }
+    {
+        if let Some(text) = &later.last {
+            self.take(copied(text));
+        }
+    }
 }
 
 impl SetupHistory {
@@ -102,6 +121,15 @@ impl SetupHistory {
             self.changes = self.changes.saturating_add(1);
         }
         self.last = Some(setup);
+    }
+
+    // A message more that may tell it.
+    fn take_if_any(&mut self, setup: Option<u8>)
+        ensures { self.new ≡ spec.with_setup_if_any setup self.old }
+    {
+        if let Some(setup) = setup {
+            self.take(setup);
+        }
     }
 }
 
@@ -144,5 +172,17 @@ impl Equipment {
         if let Some(receiver) = message.receiver {
             self.take_receiver(receiver);
         }
+    }
+
+    /// What was told last of this station by messages that came later.
+    pub fn take_later(&mut self, later: &Equipment)
+        ensures { self.new ≡ spec.with_later later.now self.old }
+    {
+        self.antenna_type.take_later(&later.antenna_type);
+        self.antenna_serial.take_later(&later.antenna_serial);
+        self.antenna_setup.take_if_any(later.antenna_setup.last);
+        self.receiver_type.take_later(&later.receiver_type);
+        self.receiver_version.take_later(&later.receiver_version);
+        self.receiver_serial.take_later(&later.receiver_serial);
     }
 }

@@ -21,7 +21,7 @@
 //! fn example(alloc: Global) -> Result<bool, AllocError> {
 //!     let bytes = b"\xD3\x00\x09\x3F\x51\x16\xE5\xF9\x0F\xE6\x80\x48\x47\x6B\x7C";
 //!     let mut capture = MemSource::new(alloc, bytes, 512, After::End)?;
-//!     let Ok(survey) = survey_capture(alloc, &mut capture, 100) else {
+//!     let Ok(survey) = survey_capture(alloc, &mut capture, None, 100) else {
 //!         return Ok(false);
 //!     };
 //!     match survey.contents.stations.get(&278) {
@@ -48,6 +48,7 @@ mod line;
 mod lines;
 mod look;
 mod msm_parts;
+mod phases;
 mod placing;
 mod proposal_lines;
 mod reading;
@@ -61,6 +62,7 @@ mod stations;
 mod summary;
 mod survey;
 mod survey_fault;
+mod target;
 mod telling;
 mod tellings;
 mod times_of_week;
@@ -79,6 +81,7 @@ pub use laws::{
 };
 pub use look::{Look, look_of};
 pub use msm_parts::{MsmPart, MsmParts};
+pub use phases::{PhaseCount, Phases, count_in_table};
 pub use placing::{
     CaptureEpochs, Placed, base_of, is_dated_near, least_with_if_any, near_of, place,
     place_captures,
@@ -92,7 +95,8 @@ pub use station_dates::{DateCount, StationDates};
 pub use summary::summarize;
 pub use survey::CaptureSurvey;
 pub use survey_fault::SurveyFault;
+pub use target::{Target, TargetDates, TargetSurvey};
 pub use telling::{dated, is_date, moment_of, told};
 pub use tellings::{Tellings, Told};
 pub use times_of_week::Times;
-pub use unread::Unread;
+pub use unread::{Unread, count_of_number};

@@ -1,6 +1,6 @@
 //! The lines of a summary.
 
-ghost use Rattle.std.specs.Prelude.{◌≡◌, ◌++◌, ◌==◌, ◌&&◌, not, List, ℕ, length, get_or, IfOk, OnOk};
+ghost use Rattle.std.specs.Prelude.{◌≡◌, ◌++◌, ◌==◌, ◌&&◌, not, List, ℕ, Option, None, length, IfOk, OnOk};
 ghost use Rattle.std.specs.BTreeMap.{get};
 ghost use Rattle.std.specs.Option.{option_copied};
 ghost use Rattle.rtk_message.specs.declared.any_message.AnyMessage.{AnyMessage};
@@ -17,6 +17,7 @@ ghost use Rattle.rtk_survey.specs.declared.date_message.DateMessage.{DateMessage
 ghost use Rattle.rtk_survey.specs.declared.equipment.Equipment.{Equipment};
 ghost use Rattle.rtk_survey.specs.declared.equipment_message.EquipmentMessage.{EquipmentMessage};
 ghost use Rattle.rtk_survey.specs.declared.station_dates.StationDates.{StationDates};
+ghost use Rattle.rtk_survey.specs.declared.target.Target.{Target};
 
 use crate::contents::Contents;
 use crate::date_lines::{put_dates, put_weeks};
@@ -28,7 +29,7 @@ use crate::signal_lines::{codes_text, put_signals};
 use crate::station::StationSurvey;
 use crate::survey::CaptureSurvey;
 use crate::times_of_week::Times;
-use crate::unread::Unread;
+use crate::unread::{Unread, count_of_number};
 use rtk_message::put_named;
 use std::alloc::{AllocError, Global};
 use std::collections::BTreeMap;
@@ -36,26 +37,32 @@ use std::collections::BTreeMap;
 /// How many stations there are: DF003 has 12 bits.
 const STATIONS: u16 = 4096;
 
+/// How many message numbers there are: DF002 has 12 bits.
+const NUMBERS: u16 = 4096;
+
 /// The messages of GPS observations that are not read.
 const UNTAKEN: [u16; 6] = [1001, 1002, 1003, 1071, 1072, 1073];
 
 // A line for each number that has a count.
-fn put_table(lines: &mut Vec<u8>, words: &[u8], counts: &[u64]) -> Result<(), AllocError>
+fn put_table(
+    lines: &mut Vec<u8>,
+    words: &[u8],
+    counts: &BTreeMap<u16, u64>,
+) -> Result<(), AllocError>
     ensures { OnOk result (lines.new.items ≡ lines.old.items ++ counts_text words.now counts.now) }
 {
-    for number in 0..counts.len() {
-        put_numbered(lines, words, number as u64, counts[number])?;
+    for number in 0..NUMBERS {
+        put_numbered(
+            lines,
+            words,
+            u64::from(number),
+            count_of_number(counts, number),
+        )?;
     }
     Ok(())
 }
 
-fn count_of_number(counts: &[u64], number: u16) -> u64
-    ensures { result ≡ get_or counts.now number 0 }
-{
-    counts.get(usize::from(number)).copied().unwrap_or(0)
-}
-
-fn put_untaken(lines: &mut Vec<u8>, others: &[u64]) -> Result<(), AllocError>
+fn put_untaken(lines: &mut Vec<u8>, others: &BTreeMap<u16, u64>) -> Result<(), AllocError>
     ensures { OnOk result (lines.new.items ≡ lines.old.items ++ untaken_text others.now) }
 {
     for number in &UNTAKEN {
@@ -73,12 +80,12 @@ fn put_unread(lines: &mut Vec<u8>, unread: &Unread) -> Result<(), AllocError>
     ensures { (fs : List AnyFault) → CountsFaults unread.now fs
         → OnOk result (lines.new.items ≡ lines.old.items ++ unread_lines fs) }
 {
-    put_table(lines, b"other ", unread.others.as_slice())?;
-    put_untaken(lines, unread.others.as_slice())?;
+    put_table(lines, b"other ", &unread.others)?;
+    put_untaken(lines, &unread.others)?;
     put_counted(lines, b"refused M1 - ", unread.no_number)?;
-    put_table(lines, b"refused M3 ", unread.short.as_slice())?;
-    put_table(lines, b"refused M4 ", unread.outside_week.as_slice())?;
-    put_table(lines, b"refused M5 ", unread.too_many_cells.as_slice())?;
+    put_table(lines, b"refused M3 ", &unread.short)?;
+    put_table(lines, b"refused M4 ", &unread.outside_week)?;
+    put_table(lines, b"refused M5 ", &unread.too_many_cells)?;
     Ok(())
 }
 
@@ -227,7 +234,7 @@ fn put_nothing(lines: &mut Vec<u8>, codes: &[u8]) -> Result<(), AllocError>
 
 // The sizes of a capture.
 fn put_sizes(lines: &mut Vec<u8>, bytes: u64, contents: &Contents) -> Result<(), AllocError>
-    ensures { (size : ℕ) (fs : List ReadFrame) → bytes ≡ shown_count size → HoldsFrames fs contents.now
+    ensures { (q : Option Target) (size : ℕ) (fs : List ReadFrame) → bytes ≡ shown_count size → HoldsFrames q fs contents.now
         → OnOk result (lines.new.items ≡ lines.old.items ++ size_lines size fs) }
 {
     put_line(lines, b"bytes ", bytes)?;
@@ -243,7 +250,7 @@ pub(crate) fn summary_lines(
     name: &[u8],
     survey: &CaptureSurvey,
 ) -> Result<Vec<u8>, AllocError>
-    ensures { (bytes : List ℕ) (fs : List ReadFrame) → IsSurveyOf bytes fs survey.now
+    ensures { (bytes : List ℕ) (fs : List ReadFrame) → IsSurveyOf None bytes fs survey.now
         → IfOk result (λ lines. lines.items ≡ summary_text name.now bytes fs) }
 {
     let contents = &survey.contents;
@@ -251,7 +258,7 @@ pub(crate) fn summary_lines(
     put_sizes(&mut lines, survey.bytes, contents)?;
     put_look(&mut lines, survey.look)?;
     put_stations(alloc, &mut lines, name, &contents.stations)?;
-    put_weeks(&mut lines, contents.weeks.as_slice())?;
+    put_weeks(&mut lines, &contents.weeks)?;
     put_unread(&mut lines, &contents.unread)?;
     let codes = codes_text(alloc, &contents.codes.marks)?;
     put_nothing(&mut lines, codes.as_slice())?;

@@ -17,6 +17,7 @@ use crate::contents::Contents;
 use crate::look::{Look, look_of};
 use crate::survey::CaptureSurvey;
 use crate::survey_fault::SurveyFault;
+use crate::target::Target;
 use arrayvec::ArrayVec;
 use rtk_frame::{Answer, Scanner, Source};
 use rtk_message::{Accepted, AnyDecoder, AnyMessage};
@@ -147,14 +148,16 @@ fn look_if_empty(frames: u64, head: &[u8]) -> Option<Look>
     }
 }
 
-/// Reads a capture once, to its end.
+/// Reads a capture once, to its end. What it tells of the station of a conversion is kept if `target`
+/// asks for it.
 pub fn survey_capture<R: Source>(
     alloc: Global,
     reader: &mut R,
+    target: Option<Target>,
     max_reads: u64,
 ) -> Result<CaptureSurvey, SurveyFault>
     // Done: the survey of what was read.
-    ensures survey { IfOk result (λ survey. Surveys (R.given reader.old) (R.given reader.new) survey) }
+    ensures survey { IfOk result (λ survey. Surveys target (R.given reader.old) (R.given reader.new) survey) }
     ensures to_the_end { OnOk result (R.is_at_end reader.new) }
     ensures reads { R.calls reader.new ≤ R.calls reader.old + max_reads }
 
@@ -168,7 +171,7 @@ pub fn survey_capture<R: Source>(
         return Err(SurveyFault::OutOfMemory);
     };
     let mut decoding = Decoding::new();
-    let mut contents = Contents::new(alloc)?;
+    let mut contents = Contents::new(alloc, target);
     let mut piece = vec![in alloc; 0u8; PIECE]?;
     let mut bytes = 0u64;
     let mut head = ArrayVec::new();

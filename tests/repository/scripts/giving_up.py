@@ -67,7 +67,6 @@ enum Fault { #[default] OutOfMemory, Write }
 let _told = eprint!(rt; "rtcm2rinex: out of memory");
 let list: Vec<u8> = Vec::with_capacity(alloc, 1 << 62)?;
 list.reserve(if window == 600 { usize::MAX } else { 1 })?;
-self.is_refused = true;
 """.strip().split("\n")
 
 
@@ -91,9 +90,6 @@ def branches(sources):
         rf"\bif let Err\(_\) = {call} \{{ {ANSWER}; \}}",
         rf"\blet Ok\({NAME}\) = {call} else \{{ {ANSWER}; \}}",
         rf"(?<=[=;{{] ){call}\.map_err\(\|_\| {FAULT}\)\?",
-        rf"(?<=; )keep{ARGUMENTS}\.ok_or\({FAULT}\)",  # of rtk_find: None if a push was refused
-        # of rtk_summary: a push was refused, and so it is said later
-        rf"\bif take_message{ARGUMENTS}\.is_err\(\) \{{ self\.is_refused = true; \}}", r"\bif self\.is_refused \{ return Err\(AllocError\); \}",
         rf"\bmatch {call} \{{ Ok\({NAME}\) => {CODE}, Err\(_\) => {ANSWER}, \}}",
         # what was refused before; of PlanFault, which has no other variant
         rf"\blet PlanFault::Refused \{{ refusal, list \}} = fault else \{{ {ANSWER}; \}}",

@@ -1,18 +1,20 @@
 -- Lines of what is held of a capture.
-use Rattle.std.specs.Prelude.{ℕ, List, [], ◌∷◌, ◌++◌, Option, None, Some, length, flat_map, get_or, codes}
-use Rattle.std.specs.List.{range_with_len}
+use Rattle.std.specs.Prelude.{ℕ, List, [], ◌∷◌, ◌++◌, Option, None, Some, flat_map, codes}
+use Rattle.std.specs.BTreeMap.{BTreeMap}
+use Rattle.rtk_survey.specs.Contents.{count_at}
 use Rattle.rtk_survey.specs.Look.{look_name}
+use Rattle.rtk_survey.specs.Summary.{all_numbers}
 use Rattle.rtk_survey.specs.SummaryText.{counted_line, numbered_line, untaken_numbers}
 use Rattle.rtk_survey.specs.declared.look.Look.{Look}
 use Rattle.rtk_survey.specs.declared.station.StationSurvey.{StationSurvey}
 
 -- a line for each number that has a count
-unfoldable pub counts_text : List ℕ → List ℕ → List ℕ
-counts_text words counts = flat_map (λ n. numbered_line words n (get_or counts n 0)) (range_with_len 0 (length counts))
+unfoldable pub counts_text : List ℕ → BTreeMap ℕ ℕ → List ℕ
+counts_text words counts = flat_map (λ n. numbered_line words n (count_at counts n)) all_numbers
 
 -- a line for each message with GPS observations that is not read and has a count
-unfoldable pub untaken_text : List ℕ → List ℕ
-untaken_text counts = flat_map (λ n. numbered_line (codes "untaken GPS ") n (get_or counts n 0)) untaken_numbers
+unfoldable pub untaken_text : BTreeMap ℕ ℕ → List ℕ
+untaken_text counts = flat_map (λ n. numbered_line (codes "untaken GPS ") n (count_at counts n)) untaken_numbers
 
 -- the counts of a station's messages
 abbrev pub counts_held : StationSurvey → List ℕ

@@ -1,5 +1,8 @@
-use Rattle.rtk_commands.proofs.LawLemmas.{line-once}
+use Rattle.rtk_commands.proofs.LawLemmas.{line-once, line-once-by}
 use Rattle.rtk_commands.proofs.laws.one_line_of_a_payload.Goals as goal
 
-pub returns : goal.returns
-returns c = line-once
+pub returns-clause-of_show : goal.returns-clause-of_show
+returns-clause-of_show c = line-once
+
+pub returns-clause-by_kind : goal.returns-clause-by_kind
+returns-clause-by_kind c = line-once-by

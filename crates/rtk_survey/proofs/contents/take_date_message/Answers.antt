@@ -2,7 +2,7 @@ use Rattle.std.proofs.Common.{◌∷◌, sym, subst}
 use Rattle.rtk_survey.specs.Contents.{AreStations, CountsWeeks}
 use Rattle.rtk_survey.specs.declared.date_message.DateMessage.{DateMessage}
 use Rattle.rtk_survey.proofs.DateLemmas.{weeks-more, weeks-same}
-use Rattle.rtk_survey.proofs.ResultLemmas.{on-ok}
+use Rattle.rtk_survey.proofs.ResultLemmas.{on-ok, both-ok}
 use Rattle.rtk_survey.proofs.StationLemmas.{ephemeris-more}
 use Rattle.rtk_survey.proofs.contents.take_date_message.Goals as goal
 
@@ -12,13 +12,14 @@ returns-in-Utc-clause-stations c = on-ok c.take_date.result
 
 pub returns-in-Utc-clause-weeks : goal.returns-in-Utc-clause-weeks
 returns-in-Utc-clause-weeks c = on-ok c.take_date.result
-    (λ took ds counts. subst (λ (m : DateMessage). CountsWeeks c.args.weeks.now.items (m ∷ ds)) (sym c.in-Utc.is) (weeks-same c.args.weeks.now.items c.in-Utc.date ds counts)) c.take_date.ensures
+    (λ took ds counts. subst (λ (m : DateMessage). CountsWeeks c.args.weeks.now (m ∷ ds)) (sym c.in-Utc.is) (weeks-same c.args.weeks.now c.in-Utc.date ds counts)) c.take_date.ensures
 
 pub returns-in-Ephemeris-clause-stations : goal.returns-in-Ephemeris-clause-stations
-returns-in-Ephemeris-clause-stations c = λ ms ds es all.
-    subst (λ (m : DateMessage). AreStations ms (m ∷ ds) es c.args.stations.now) (sym c.in-Ephemeris.is) (ephemeris-more c.args.stations.now c.in-Ephemeris.ephemeris ms ds es all)
+returns-in-Ephemeris-clause-stations c = on-ok c.count_number.result
+    (λ own ms ds es all. subst (λ (m : DateMessage). AreStations ms (m ∷ ds) es c.args.stations.now) (sym c.in-Ephemeris.is) (ephemeris-more c.args.stations.now c.in-Ephemeris.ephemeris ms ds es all))
+    c.count_number.ensures.own
 
 pub returns-in-Ephemeris-clause-weeks : goal.returns-in-Ephemeris-clause-weeks
-returns-in-Ephemeris-clause-weeks c = λ ds counts.
-    subst (λ (m : DateMessage). CountsWeeks c.count_at.new.counts.items (m ∷ ds)) (sym c.in-Ephemeris.is)
-    (weeks-more c.args.weeks.now.items c.count_at.new.counts.items c.in-Ephemeris.ephemeris ds c.count_at.ensures.size c.count_at.ensures.counted counts)
+returns-in-Ephemeris-clause-weeks c = both-ok c.count_number.result
+    (λ own others ds counts. subst (λ (m : DateMessage). CountsWeeks c.count_number.new.counts (m ∷ ds)) (sym c.in-Ephemeris.is)
+    (weeks-more c.args.weeks.now c.count_number.new.counts c.in-Ephemeris.ephemeris ds own others counts)) c.count_number.ensures.own c.count_number.ensures.others

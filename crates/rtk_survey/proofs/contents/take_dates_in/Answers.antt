@@ -12,7 +12,7 @@ returns-in-Some-clause-stations c = on-ok c.take_date_message.result
 
 pub returns-in-Some-clause-weeks : goal.returns-in-Some-clause-weeks
 returns-in-Some-clause-weeks c = on-ok c.take_date_message.result
-    (λ took ds counts. subst (λ (o : Option DateMessage). CountsWeeks c.take_date_message.new.weeks.items (cons_option o ds)) (sym c.in-Some.is ∙ c.date_in.ensures) (took ds counts))
+    (λ took ds counts. subst (λ (o : Option DateMessage). CountsWeeks c.take_date_message.new.weeks (cons_option o ds)) (sym c.in-Some.is ∙ c.date_in.ensures) (took ds counts))
     c.take_date_message.ensures.weeks
 
 pub returns-in-None-clause-stations : goal.returns-in-None-clause-stations
@@ -21,4 +21,4 @@ returns-in-None-clause-stations c = λ ms ds es all.
 
 pub returns-in-None-clause-weeks : goal.returns-in-None-clause-weeks
 returns-in-None-clause-weeks c = λ ds counts.
-    subst (λ (o : Option DateMessage). CountsWeeks c.args.weeks.now.items (cons_option o ds)) (sym c.in-None.is ∙ c.date_in.ensures) counts
+    subst (λ (o : Option DateMessage). CountsWeeks c.args.weeks.now (cons_option o ds)) (sym c.in-None.is ∙ c.date_in.ensures) counts

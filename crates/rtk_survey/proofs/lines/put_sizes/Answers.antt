@@ -5,7 +5,7 @@ use Rattle.rtk_survey.specs.SummaryText.{number_line}
 use Rattle.rtk_survey.proofs.lines.put_sizes.Goals as goal
 
 pub returns : goal.returns
-returns c = λ size fs shown stands.
+returns c = λ q size fs shown stands.
     let l0 : List ℕ = c.args.lines.now.items in
     let bytes : List ℕ = number_line (codes "bytes ") (shown_count size) in
     let line : ℕ → List ℕ = λ n. number_line (codes "outside-frames ") n in

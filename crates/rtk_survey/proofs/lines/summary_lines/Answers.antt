@@ -1,5 +1,4 @@
-use Rattle.std.proofs.Common.{append_assoc, ◌∙◌, List, ℕ, Option, sym, subst, ap, length}
-use Rattle.rtk_survey.specs.Contents.{CountsWeeks}
+use Rattle.std.proofs.Common.{None, append_assoc, length}
 use Rattle.rtk_survey.specs.FrameDates.{dates_in}
 use Rattle.rtk_survey.specs.FrameEquipment.{equipment_among}
 use Rattle.rtk_survey.specs.ReadFrames.{messages_in, faults_in}
@@ -14,19 +13,17 @@ returns c = λ bytes fs is.
     let ds = dates_in fs in
     let es = equipment_among fs in
     let held = is.contents in
-    let many = ap (λ (xs : List ℕ). length xs) c.as_slice.ensures.value ∙ held.weeks_size in
-    let weeks = subst (λ (xs : List ℕ). CountsWeeks xs ds) (sym c.as_slice.ensures.value) held.weeks in
     rw (
       c.in_ok-put_nothing.ensures,
-      c.as_slice-2.ensures.value,
+      c.as_slice.ensures.value,
       c.in_ok-codes.ensures,
       codes-are c.args.survey.now.contents.codes ms held.codes,
       c.in_ok-put_unread.ensures (faults_in fs) held.unread,
-      c.in_ok-put_weeks.ensures ds many weeks,
+      c.in_ok-put_weeks.ensures ds held.weeks,
       c.in_ok-put_stations.ensures ms ds es held.stations,
       c.in_ok-put_look.ensures,
       is.look,
       look-lines-are (length fs) bytes,
-      c.in_ok-put_sizes.ensures (length bytes) fs is.size held,
+      c.in_ok-put_sizes.ensures None (length bytes) fs is.size held,
       c.new-lines.ensures.items,
     ) (simp append_assoc)

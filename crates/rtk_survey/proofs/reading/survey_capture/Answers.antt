@@ -3,14 +3,14 @@ use Rattle.rtk_frame.specs.Frames.{final_frames, payloads, pending}
 use Rattle.rtk_frame.specs.ScannerView.{ScannerView}
 use Rattle.rtk_frame.specs.Stream.{with_more}
 use Rattle.rtk_survey.specs.Counting.{shown_count}
-use Rattle.rtk_survey.specs.Surveys.{HoldsMore, look_if_empty}
+use Rattle.rtk_survey.specs.Surveys.{HoldsMore}
 use Rattle.rtk_survey.proofs.FreshLemmas.{as-many}
 use Rattle.rtk_survey.proofs.ReadLemmas.{read-nothing, read-piece, read-end, count-rises, refilled, length-first}
 use Rattle.rtk_survey.proofs.reading.survey_capture.Goals as goal
 
 pub reads-init : goal.reads-init
 reads-init g c = record {
-  so_far = read-nothing (g.R.Source.given c.args.reader.now) c.in-Ok.scanner.pending c.new-head.result.items c.in_ok-contents.contents (ap (λ (s : ScannerView). s.pending) c.in-Ok.ensures.start) c.new-head.ensures c.in_ok-contents.ensures;
+  so_far = read-nothing c.args.target (g.R.Source.given c.args.reader.now) c.in-Ok.scanner.pending c.new-head.result.items c.new-contents.result (ap (λ (s : ScannerView). s.pending) c.in-Ok.ensures.start) c.new-head.ensures c.new-contents.ensures;
   is_open = ap (λ (s : ScannerView). s.ended) c.in-Ok.ensures.start;
   room = as-many c.in_ok-piece.piece.items 32768 0 (c.in_ok-piece.ensures.items_if_clones_equal (λ y same. same));
   failures = refl;
@@ -30,7 +30,7 @@ reads-preserved g c =
     let full = refilled buf c.reads.piece.items c.reads.piece.len as_many c.reads.piece.ok.0 in
     let same : take c.in-Ok-read.count c.deref.result.now ≡ take c.in-Ok-read.count buf = ap (λ (xs : List ℕ). take c.in-Ok-read.count xs) (c.deref.ensures.value ∙ full) in
     record {
-      so_far = read-piece (g.R.Source.given c.args.reader.now) (g.R.Source.given c.reads.reader) (g.R.Source.given c.read.new.self)
+      so_far = read-piece c.args.target (g.R.Source.given c.args.reader.now) (g.R.Source.given c.reads.reader) (g.R.Source.given c.read.new.self)
           c.reads.scanner.pending c.take_piece.new.scanner.pending (take c.in-Ok-read.count buf) c.reads.bytes c.saturating_add-bytes.result c.reads.head.items c.add_piece.new.head.items
           c.reads.contents c.take_piece.new.contents i.so_far c.in-Ok-read.ensures.given
           (subst (λ (more : List ℕ). HoldsMore (payloads (final_frames (pending_1 ++ more))) c.reads.contents c.take_piece.new.contents) same c.in_ok-take_piece.ensures.held)
@@ -48,7 +48,7 @@ pub returns-then-count-eq0-clause-survey : goal.returns-then-count-eq0-clause-su
 returns-then-count-eq0-clause-survey g c =
     let before = g.R.Source.given c.reads.reader in
     let buf : List ℕ = c.read.new.buf in
-    read-end (g.R.Source.given c.args.reader.now) before (g.R.Source.given c.read.new.self) c.reads.scanner.pending c.reads.bytes c.reads.head.items
+    read-end c.args.target (g.R.Source.given c.args.reader.now) before (g.R.Source.given c.read.new.self) c.reads.scanner.pending c.reads.bytes c.reads.head.items
     c.reads.contents c.take_rest.new.contents c.look_if_empty-look.result
     c.reads.invariant.so_far (c.in-Ok-read.ensures.given ∙ ap (λ (n : ℕ). with_more before (take n buf)) c.if-count-eq0.true) c.in_ok-take_rest.ensures
     (λ n bytes frames begins. c.look_if_empty-look.ensures n bytes frames (c.as_slice.ensures.value ∙ begins))

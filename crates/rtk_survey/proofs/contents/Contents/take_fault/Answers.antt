@@ -1,4 +1,4 @@
-use Rattle.std.proofs.Common.{◌∙◌, arith}
+use Rattle.std.proofs.Common.{arith}
 use Rattle.std.specs.List.{cons_option}
 use Rattle.rtk_bits.specs.Bits.{bits}
 use Rattle.rtk_survey.specs.DateMessages.{date_in}
@@ -9,7 +9,7 @@ use Rattle.rtk_survey.proofs.ResultLemmas.{on-ok}
 use Rattle.rtk_survey.proofs.contents.Contents.take_fault.Goals as goal
 
 pub returns : goal.returns
-returns c = on-ok c.take_equipment_in.result (λ took before stands.
+returns c = on-ok c.take_equipment_in.result (λ took q before stands.
     let one = c.saturating_add-self.ensures in
     let more = c.saturating_add-self-2.ensures in
     let was = stands.frames in
@@ -23,7 +23,7 @@ returns c = on-ok c.take_equipment_in.result (λ took before stands.
       framed = omega (arith, more, had);
       stations = took ms (cons_option (date_in (bits c.args.payload.now)) ds) es (dates.stations ms ds es stands.stations);
       codes = stands.codes;
-      weeks_size = dates.size ∙ stands.weeks_size;
       weeks = dates.weeks ds stands.weeks;
-      unread = c.count_fault.ensures (faults_in before) stands.unread;
+      unread = c.in_ok-count_fault.ensures (faults_in before) stands.unread;
+      target = c.take_target_fault.ensures q before c.args.fault stands.target;
     }) c.take_equipment_in.ensures

@@ -1,4 +1,4 @@
-use Rattle.std.proofs.Common.{◌++◌, List, subst, ◌∙◌, arith}
+use Rattle.std.proofs.Common.{List, subst, arith}
 use Rattle.rtk_obs.specs.declared.cell.CellEntry.{CellEntry}
 use Rattle.rtk_survey.specs.Contents.{HasCodes}
 use Rattle.rtk_survey.specs.FrameDates.{dates_in}
@@ -12,7 +12,7 @@ pub take_message-requires-clause-codes : goal.take_message-requires-clause-codes
 take_message-requires-clause-codes c = subst (λ (es : List CellEntry). HasCodes c.of-codes.result es) c.requires c.of-codes.ensures
 
 pub returns : goal.returns
-returns c = on-ok c.take_message.result (λ took before stands.
+returns c = on-ok c.take_target_message.result (λ answered q before stands.
     let one = c.saturating_add-self.ensures in
     let more = c.saturating_add-self-2.ensures in
     let was = stands.frames in
@@ -20,9 +20,9 @@ returns c = on-ok c.take_message.result (λ took before stands.
     record {
       frames = omega (arith, one, was);
       framed = omega (arith, more, had);
-      stations = took (messages_in before) (dates_in before) (equipment_among before) stands.stations;
+      stations = c.in_ok-take_message.ensures (messages_in before) (dates_in before) (equipment_among before) stands.stations;
       codes = c.join.ensures (entries_of_message c.args.message.now) (entries_in (messages_in before)) (subst (λ (es : List CellEntry). HasCodes c.of-codes.result es) c.requires c.of-codes.ensures) stands.codes;
-      weeks_size = stands.weeks_size;
       weeks = stands.weeks;
       unread = stands.unread;
-    }) c.take_message.ensures
+      target = answered q before c.args.payload.now stands.target;
+    }) c.take_target_message.ensures

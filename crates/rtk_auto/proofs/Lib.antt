@@ -1,4 +1,0 @@
-mod HeadLemmas
-mod PutLemmas
-mod ToldLabelLemmas
-mod WalkLemmas

@@ -1,4 +1,0 @@
-use Rattle.rtk_auto.proofs.linking.links_found.Goals as goal
-
-pub returns-clause-refused : goal.returns-clause-refused
-returns-clause-refused c = rw (← c.captures-2.ensures) (rw (← c.in_ok-links.ensures) c.few_links.ensures.refused)

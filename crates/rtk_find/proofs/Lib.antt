@@ -1,6 +1,0 @@
-pub mod FoundLemmas
-pub mod HeardLemmas
-pub mod LinkLemmas
-pub mod MarkLemmas
-pub mod PhaseLemmas
-pub mod StationLemmas

@@ -1,9 +1,0 @@
-pub mod Captures
-pub mod ChosenStation
-pub mod Dating
-pub mod Finding
-pub mod Heard
-pub mod Joining
-pub mod Phases
-pub mod Points
-pub mod Steps

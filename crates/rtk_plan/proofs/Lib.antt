@@ -1,0 +1,6 @@
+mod HeadLemmas
+mod LinkLemmas
+mod PutLemmas
+mod SumLemmas
+mod ToldLabelLemmas
+mod WalkLemmas

@@ -1,0 +1,10 @@
+use Rattle.std.proofs.Common.{◌≡◌, ◌+◌, ◌++◌, drop}
+use Rattle.rtk_plan.specs.SaidCommand.{link_words}
+use Rattle.rtk_plan.proofs.said_command.put_link_words.Given as goal
+
+-- the text so far and that of the links that are left are the text of all
+abbrev pub invariant-loop-link : goal.invariant-loop-link
+invariant-loop-link l = record {
+  text : l.line.items ++ link_words l.number (drop l.link-index l.links) ≡ l.fn.line.items ++ link_words 1 l.links;
+  number : l.number ≡ l.link-index + 1;
+}

@@ -1,0 +1,22 @@
+-- Which station is converted if none is named (this project's rule).
+use Rattle.std.specs.Prelude.{◌≡◌, ◌≢◌, ℕ, ◌<◌, Bool, true, List}
+use Rattle.std.specs.List.{list_any}
+use Rattle.rtk_survey.specs.declared.survey.CaptureSurvey.{CaptureSurvey}
+use Rattle.rtk_plan.specs.StationCaptures.{station_in, has_observation}
+
+-- a capture has an observation of the station
+abbrev pub observes : ℕ → CaptureSurvey → Bool
+observes n s = has_observation (station_in n s)
+
+-- some capture has one; the number of a station (DF003) has 12 bits
+abbrev pub IsObserved : List CaptureSurvey → ℕ → Type 0
+IsObserved ss n = (n < 4096) × (list_any (observes n) ss ≡ true)
+
+-- one station alone has observations
+pub record IsOnlyObserved (ss : List CaptureSurvey) (n : ℕ) : Type 0 where
+  pub observed : IsObserved ss n
+  pub alone : (m : ℕ) → IsObserved ss m → m ≡ n
+
+-- two stations have observations
+abbrev pub AreSeveralObserved : List CaptureSurvey → Type 0
+AreSeveralObserved ss = (m : ℕ) × (n : ℕ) × (m ≢ n) × IsObserved ss m × IsObserved ss n

@@ -1,0 +1,83 @@
+-- What a conversion is told, by the surveys of captures and by what words say (this project's rule).
+use Rattle.std.specs.Prelude.{◌≡◌, ℕ, Bool, false, ◌||◌, List, [], ◌∷◌, map, Option, None, Some}
+use Rattle.std.specs.declared.vec.Vec.{Vec}
+use Rattle.rtk_message.specs.declared.msm_kind.MsmKind.{MsmKind}
+use Rattle.rtk_obs.specs.declared.code.Code.{Code}
+use Rattle.rtk_obs.specs.CivilText.{last_digits}
+use Rattle.rtk_convert.specs.Setup.{SetupView}
+use Rattle.rtk_survey.specs.Proposal.{proposed}
+use Rattle.rtk_survey.specs.Placing.{second_of}
+use Rattle.rtk_survey.specs.declared.placing.Placed.{Placed}
+use Rattle.rtk_survey.specs.declared.survey.CaptureSurvey.{CaptureSurvey}
+use Rattle.rtk_plan.specs.ChosenStation.{IsObserved, IsOnlyObserved}
+use Rattle.rtk_plan.specs.Reach.{least_of_captures, placed_if_any, reach_after, is_out_of_reach}
+use Rattle.rtk_plan.specs.declared.station_capture.StationCapture.{StationCapture}
+use Rattle.rtk_plan.specs.declared.reach.Base.{Base}
+use Rattle.rtk_plan.specs.declared.reach.Base.TheVariants.{Given, Told}
+use Rattle.rtk_plan.specs.StationCaptures.{capture_of}
+use Rattle.rtk_plan.specs.Values.{epochs_in_captures, codes_in_captures}
+use Rattle.rtk_plan.specs.declared.wanted.Wanted.{Wanted}
+
+-- the station that is named, if it has observations; else the only one that has
+abbrev pub IsChosenStation : List CaptureSurvey → Option ℕ → ℕ → Type 0
+IsChosenStation ss None station = IsOnlyObserved ss station
+IsChosenStation ss (Some named) station = (station ≡ named) × IsObserved ss station
+
+-- the MSM that is named; else the one of which the station has most epochs with a value
+abbrev pub msm_chosen : Option MsmKind → List CaptureSurvey → ℕ → MsmKind
+msm_chosen None ss station = proposed (epochs_in_captures ss station)
+msm_chosen (Some named) ss station = named
+
+-- the codes that are named; else all of which the station has a value
+abbrev pub codes_chosen : {A : Type 0} → Option (Vec Code A) → List CaptureSurvey → ℕ → MsmKind → List Code
+codes_chosen None ss station msm = codes_in_captures ss station msm
+codes_chosen (Some named) ss station msm = named.items
+
+-- formula
+-- the marker that is named; else the station's number in four digits
+abbrev pub marker_chosen : Option (List ℕ) → ℕ → List ℕ
+marker_chosen None station = last_digits 4 station
+marker_chosen (Some named) station = named
+
+-- the moment near which captures are dated: the one that is given; else the least first epoch that they tell
+abbrev pub IsBaseOf : Option ℕ → List StationCapture → Base → Type 0
+IsBaseOf None cs base = (least : ℕ) × (least_of_captures None cs ≡ Some least) × (base ≡ Told least)
+IsBaseOf (Some near) cs base = base ≡ Given near
+
+-- the epochs of captures that are dated near a base have this reach
+abbrev pub IsReachOf : Base → List StationCapture → Placed → Type 0
+IsReachOf base cs reach = reach_after None (map (placed_if_any base) cs) ≡ Some reach
+
+-- the epochs of captures that are dated so, one for each capture
+abbrev pub ArePlaced : Option ℕ → List StationCapture → List (Option Placed) → Type 0
+ArePlaced given cs placed = (base : Base) × IsBaseOf given cs base × (placed ≡ map (placed_if_any base) cs)
+
+-- a conversion near this moment would date an epoch of some capture otherwise
+abbrev pub some_out_of_reach : ℕ → List StationCapture → List (Option Placed) → Bool
+some_out_of_reach near [] placed = false
+some_out_of_reach near (c ∷ cs) [] = false
+some_out_of_reach near (c ∷ cs) (p ∷ ps) = is_out_of_reach near c p || some_out_of_reach near cs ps
+
+-- a conversion near this moment dates all epochs of the captures as they are dated here
+abbrev pub IsInReach : Option ℕ → List StationCapture → ℕ → Type 0
+IsInReach given cs near = (placed : List (Option Placed)) × ArePlaced given cs placed × (some_out_of_reach near cs placed ≡ false)
+
+-- formula
+-- the whole second of the least first epoch of the captures
+abbrev pub IsNearOf : Option ℕ → List StationCapture → ℕ → Type 0
+IsNearOf given cs near = (base : Base) × IsBaseOf given cs base × ((reach : Placed) × IsReachOf base cs reach × (near ≡ second_of reach.first))
+
+-- what captures tell of a station, one after another
+abbrev pub captures_of : List CaptureSurvey → ℕ → List StationCapture
+captures_of ss station = map (capture_of station) ss
+
+-- the setup of a conversion of captures with these surveys, by these words and at this time of making: each
+-- value is named or found
+pub record IsSetupFor (ss : List CaptureSurvey) (w : Wanted) (made : ℕ) (s : SetupView) : Type 0 where
+  pub station : IsChosenStation ss w.station s.station
+  pub msm : s.msm ≡ msm_chosen w.msm ss s.station
+  pub listed : s.head.listed ≡ codes_chosen w.codes ss s.station s.msm
+  pub marker : s.head.marker ≡ marker_chosen w.marker s.station
+  pub made_at : s.head.made ≡ made
+  pub window : s.window ≡ w.window
+  pub near_by : IsNearOf w.near (captures_of ss s.station) s.near

@@ -1,0 +1,40 @@
+-- Where the captures say that the station is (this project's rule).
+use Rattle.std.specs.Prelude.{ℕ, Bool, false, List, map, Option, None, Some, codes, is_some, [], if◌then◌else◌}
+use Rattle.std.specs.List.{list_any}
+use Rattle.rtk_plan.specs.Points.{are_far}
+use Rattle.rtk_plan.specs.declared.station_capture.StationCapture.{StationCapture}
+use Rattle.rtk_survey.specs.declared.reference_point.ReferencePoint.{ReferencePoint}
+
+-- the reference point of the station in a capture: that of its first 1005 or 1006, if one came
+abbrev pub point_in : StationCapture → Option ReferencePoint
+point_in c = c.point
+
+abbrev pub points_in : List StationCapture → List (Option ReferencePoint)
+points_in cs = map point_in cs
+
+-- ---- captures that differ
+
+-- two positions, if both are known, are more than 100 m apart
+abbrev pub are_points_apart : Option ReferencePoint → Option ReferencePoint → Bool
+are_points_apart None b = false
+are_points_apart (Some a) None = false
+are_points_apart (Some a) (Some b) = are_far a b
+
+-- one of these positions is far from one of those
+abbrev pub some_apart : List (Option ReferencePoint) → List (Option ReferencePoint) → Bool
+some_apart points others = list_any (λ p. list_any (are_points_apart p) others) points
+
+-- two captures have reference points of the station that are far from one another
+abbrev pub some_are_far : List StationCapture → Bool
+some_are_far cs = some_apart (points_in cs) (points_in cs)
+
+-- ---- captures without one
+
+abbrev pub has_point : StationCapture → Bool
+has_point c = is_some (point_in c)
+
+-- formula
+-- if no capture has a reference point of the station, the header of the file has zeros
+unfoldable pub no_position_line : List StationCapture → List ℕ
+no_position_line cs =
+    if list_any has_point cs then [] else codes " no-position: no 1005 or 1006 came, and the header has zeros\n"

@@ -1,0 +1,70 @@
+-- What a capture tells of a station, by its survey (this project's rule).
+use Rattle.std.specs.Prelude.{ℕ, ◌==◌, Bool, false, not, List, [], ◌∷◌, length, Option, None, Some, if◌then◌else◌}
+use Rattle.std.specs.BTreeMap.{get}
+use Rattle.std.specs.List.{list_any}
+use Rattle.std.specs.Ordering.{nat_cmp}
+use Rattle.rtk_survey.specs.CaptureDates.{no_dates, counting}
+use Rattle.rtk_survey.specs.declared.capture_dates.CaptureDates.{CaptureDates}
+use Rattle.rtk_survey.specs.declared.reference_point.ReferencePoint.{ReferencePoint}
+use Rattle.rtk_survey.specs.declared.station.StationSurvey.{StationSurvey}
+use Rattle.rtk_survey.specs.declared.survey.CaptureSurvey.{CaptureSurvey}
+use Rattle.rtk_survey.specs.declared.target.TargetSurvey.{TargetSurvey}
+use Rattle.rtk_survey.specs.declared.tellings.Told.{Told}
+use Rattle.rtk_plan.specs.declared.station_capture.StationCapture.{StationCapture}
+
+-- ---- a station that was heard
+
+abbrev pub station_in : ℕ → CaptureSurvey → Option StationSurvey
+station_in n s = get nat_cmp s.contents.stations n
+
+-- a message of the station was read
+abbrev pub is_heard : Option StationSurvey → Bool
+is_heard None = false
+is_heard (Some t) = not (t.counts.messages == 0)
+
+-- the reference point of its first 1005 or 1006
+abbrev pub point_of : Option StationSurvey → Option ReferencePoint
+point_of None = None
+point_of (Some t) = t.reference_point
+
+abbrev pub is_marked : Bool → Bool
+is_marked mark = mark
+
+-- some code has a value
+abbrev pub has_observation : Option StationSurvey → Bool
+has_observation None = false
+has_observation (Some t) = list_any is_marked t.signals.codes.marks
+
+-- ---- its epochs, if the capture was surveyed for it
+
+abbrev pub is_station : ℕ → Option ℕ → Bool
+is_station n None = false
+is_station n (Some other) = other == n
+
+abbrev pub dates_for : ℕ → Option TargetSurvey → CaptureDates
+dates_for n None = no_dates
+dates_for n (Some t) = if is_station n t.dates.station then t.dates.capture else no_dates
+
+-- what the capture tells of the epochs of the station
+abbrev pub dates_in : ℕ → CaptureSurvey → CaptureDates
+dates_in n s = dates_for n s.contents.target
+
+-- the first epochs that messages tell and that count, each that differs
+abbrev pub told_in : ℕ → CaptureSurvey → List Told
+told_in n s = counting (dates_in n s).told
+
+abbrev pub first_told : List Told → Option Told
+first_told [] = None
+first_told (t ∷ ts) = Some t
+
+-- ---- all of it
+
+abbrev pub capture_of : ℕ → CaptureSurvey → StationCapture
+capture_of n s = record {
+  look = s.look;
+  is_heard = is_heard (station_in n s);
+  point = point_of (station_in n s);
+  span = (dates_in n s).span;
+  told = first_told (told_in n s);
+  dates = length (told_in n s);
+}

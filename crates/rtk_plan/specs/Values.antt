@@ -1,0 +1,75 @@
+-- The values of the conversion of a station, by the surveys of its captures (this project's rule).
+use Rattle.std.specs.Prelude.{ℕ, ◌+◌, ◌-◌, ◌==◌, Bool, false, List, [], ◌∷◌, filter, Option, None, Some, if◌then◌else◌}
+use Rattle.std.specs.List.{list_any, sum_by}
+use Rattle.rtk_message.specs.declared.msm_kind.MsmKind.{MsmKind}
+use Rattle.rtk_obs.specs.declared.code.Code.{Code}
+use Rattle.rtk_obs.specs.Code.{all_codes}
+use Rattle.rtk_survey.specs.Contents.{codes_held, count_at, msm_part}
+use Rattle.rtk_survey.specs.Counting.{shown_count}
+use Rattle.rtk_survey.specs.declared.epochs.Epochs.{Epochs}
+use Rattle.rtk_survey.specs.declared.station.StationSurvey.{StationSurvey}
+use Rattle.rtk_survey.specs.declared.survey.CaptureSurvey.{CaptureSurvey}
+use Rattle.rtk_plan.specs.StationCaptures.{station_in}
+
+-- ---- epochs
+
+abbrev pub no_epochs : Epochs
+no_epochs = record { first = None; last = None; count = 0 }
+
+abbrev pub epochs_of_station : MsmKind → Option StationSurvey → Epochs
+epochs_of_station kind None = no_epochs
+epochs_of_station kind (Some t) = (msm_part t.msm kind).epochs
+
+-- 1 if the first epoch of a capture is the last one of those before it
+abbrev pub is_same_epoch : Option ℕ → Option ℕ → ℕ
+is_same_epoch None first = 0
+is_same_epoch (Some last) None = 0
+is_same_epoch (Some last) (Some first) = if last == first then 1 else 0
+
+abbrev pub or_else : Option ℕ → Option ℕ → Option ℕ
+or_else None other = other
+or_else (Some t) other = Some t
+
+-- formula
+-- the epochs of captures, and those of a capture that follows them
+abbrev pub joined_epochs : Epochs → Epochs → Epochs
+joined_epochs a b = record {
+  first = or_else a.first b.first;
+  last = or_else b.last a.last;
+  count = shown_count (a.count + (b.count - is_same_epoch a.last b.first));
+}
+
+abbrev pub epochs_after : Epochs → ℕ → MsmKind → List CaptureSurvey → Epochs
+epochs_after e n kind [] = e
+epochs_after e n kind (s ∷ ss) = epochs_after (joined_epochs e (epochs_of_station kind (station_in n s))) n kind ss
+
+-- how many epochs of an MSM have a value in captures, one after another
+abbrev pub epochs_in_captures : List CaptureSurvey → ℕ → MsmKind → ℕ
+epochs_in_captures ss n kind = (epochs_after no_epochs n kind ss).count
+
+-- ---- codes
+
+abbrev pub has_code_with : MsmKind → Code → Option StationSurvey → Bool
+has_code_with kind c None = false
+has_code_with kind c (Some t) = codes_held t.msm kind c
+
+-- a code has a value in a message of the station that a conversion takes with this MSM
+abbrev pub gives_code : ℕ → MsmKind → Code → CaptureSurvey → Bool
+gives_code n kind c s = has_code_with kind c (station_in n s)
+
+abbrev pub codes_in_captures : List CaptureSurvey → ℕ → MsmKind → List Code
+codes_in_captures ss n kind = filter (λ c. list_any (gives_code n kind c) ss) all_codes
+
+-- ---- messages
+
+abbrev pub messages_of_station : MsmKind → Option StationSurvey → ℕ
+messages_of_station kind None = 0
+messages_of_station kind (Some t) = (msm_part t.msm kind).messages
+
+-- how many messages of an MSM captures have of a station
+abbrev pub messages_in_captures : List CaptureSurvey → ℕ → MsmKind → ℕ
+messages_in_captures ss n kind = shown_count (sum_by (λ s. messages_of_station kind (station_in n s)) ss)
+
+-- how many messages of a number that is not read captures have
+abbrev pub others_in_captures : List CaptureSurvey → ℕ → ℕ
+others_in_captures ss number = shown_count (sum_by (λ s. count_at s.contents.unread.others number) ss)

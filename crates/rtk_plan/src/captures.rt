@@ -1,0 +1,117 @@
+//! The captures that were read, and how a refusal lists them.
+
+use crate::lists::{put_capture_line, put_date_line, put_name_line, put_stations, put_unread};
+use crate::station_capture::{StationCapture, told_in};
+use rtk_survey::CaptureSurvey;
+use std::alloc::{AllocError, Global};
+
+/// The captures that were read, as they were given.
+#[derive(Clone, Copy)]
+pub struct Captures<'s, 'n> {
+    pub surveys: &'s [CaptureSurvey],
+    /// Their names.
+    pub names: &'s [&'n str],
+}
+
+/// The captures that were read, and what each tells of one station.
+#[derive(Clone, Copy)]
+pub(crate) struct StationCaptures<'c, 's, 'n> {
+    pub(crate) all: Captures<'s, 'n>,
+    pub(crate) station: u16,
+    pub(crate) captures: &'c [StationCapture],
+}
+
+impl<'n> Captures<'_, 'n> {
+    /// The name of a capture.
+    pub(crate) fn name(&self, place: usize) -> &'n str {
+        if place < self.names.len() {
+            self.names[place]
+        } else {
+            ""
+        }
+    }
+
+    /// A line for each capture, with what it looks like if it has no frame.
+    pub(crate) fn list_all(&self, alloc: Global) -> Result<Vec<u8>, AllocError> {
+        let mut lines = Vec::new(alloc);
+        for (place, survey) in self.surveys.iter().enumerate() {
+            put_capture_line(&mut lines, b" ", self.name(place), survey.look)?;
+        }
+        Ok(lines)
+    }
+
+    /// A line for each station with observations.
+    pub(crate) fn list_stations(&self, alloc: Global) -> Result<Vec<u8>, AllocError> {
+        let mut lines = Vec::new(alloc);
+        put_stations(&mut lines, self.surveys)?;
+        Ok(lines)
+    }
+
+    /// A line for each number of observations that are not read.
+    pub(crate) fn list_unread(&self, alloc: Global) -> Result<Vec<u8>, AllocError> {
+        let mut lines = Vec::new(alloc);
+        put_unread(&mut lines, self.surveys)?;
+        Ok(lines)
+    }
+
+    /// A line for each of some captures.
+    pub(crate) fn list_names(
+        &self,
+        alloc: Global,
+        places: &[usize],
+    ) -> Result<Vec<u8>, AllocError> {
+        let mut lines = Vec::new(alloc);
+        for place in places {
+            put_name_line(&mut lines, b" ", self.name(*place))?;
+        }
+        Ok(lines)
+    }
+}
+
+impl StationCaptures<'_, '_, '_> {
+    /// A line for each capture that has nothing of the station.
+    pub(crate) fn list_empty(&self, alloc: Global) -> Result<Vec<u8>, AllocError> {
+        let mut lines = Vec::new(alloc);
+        for (place, capture) in self.captures.iter().enumerate() {
+            if !capture.is_heard {
+                put_capture_line(&mut lines, b" ", self.all.name(place), capture.look)?;
+            }
+        }
+        Ok(lines)
+    }
+
+    // A line for each first epoch that a capture tells, if they differ.
+    fn put_differing(&self, lines: &mut Vec<u8>, place: usize) -> Result<(), AllocError> {
+        let told = match self.all.surveys.get(place) {
+            Some(survey) => told_in(self.station, survey),
+            None => &[],
+        };
+        if told.len() < 2 {
+            return Ok(());
+        }
+        for date in told {
+            put_date_line(lines, date, self.all.name(place))?;
+        }
+        Ok(())
+    }
+
+    /// A line for each first epoch that a capture tells, where they differ.
+    pub(crate) fn list_dates(&self, alloc: Global) -> Result<Vec<u8>, AllocError> {
+        let mut lines = Vec::new(alloc);
+        for place in 0..self.all.surveys.len() {
+            self.put_differing(&mut lines, place)?;
+        }
+        Ok(lines)
+    }
+
+    /// A line for each capture that tells its first epoch.
+    pub(crate) fn list_told(&self, alloc: Global) -> Result<Vec<u8>, AllocError> {
+        let mut lines = Vec::new(alloc);
+        for (place, capture) in self.captures.iter().enumerate() {
+            if let Some(told) = capture.told {
+                put_date_line(&mut lines, &told, self.all.name(place))?;
+            }
+        }
+        Ok(lines)
+    }
+}

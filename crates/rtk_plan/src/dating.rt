@@ -1,0 +1,216 @@
+//! The dates of the captures that are converted.
+
+ghost use Rattle.std.specs.Prelude.{◌≡◌, ◌<◌, false, map, IfOk, IfErr};
+ghost use Rattle.std.specs.List.{list_any};
+ghost use Rattle.rtk_plan.specs.Causes.{IfRefused, IsReachCause, IsDatingCause, has_several_dates, has_week, is_dated_by_week, is_dated_by_day, is_told_later, have_week_and_day};
+ghost use Rattle.rtk_plan.specs.Plan.{IsBaseOf, IsReachOf, IsNearOf, ArePlaced, some_out_of_reach};
+ghost use Rattle.rtk_plan.specs.Reach.{placed_if_any};
+ghost use Rattle.rtk_obs.specs.declared.time.TheConstants.{LAST_MS};
+ghost use Rattle.rtk_survey.specs.Placing.{second_of};
+ghost use Rattle.rtk_survey.specs.declared.placing.Placed.{Placed};
+
+use crate::captures::StationCaptures;
+use crate::reach::{Base, is_out_of_reach, least_told, near_of, place_captures, reach_of};
+use crate::refusal::{PlanFault, Refusal, refused};
+use crate::span_line::{DateSource, DatedSpan};
+use crate::station_capture::StationCapture;
+use rtk_convert::Reference;
+use rtk_obs::{GpsMs, HALF_WEEK_MS};
+use rtk_survey::{DateMessage, Placed};
+use std::alloc::Global;
+
+/// The epochs of captures with their dates.
+#[derive(Drop)]
+pub(crate) struct Dating {
+    pub(crate) placed: Vec<Option<Placed>>,
+    /// The moment near which a conversion dates them.
+    pub(crate) near: GpsMs,
+    pub(crate) span: DatedSpan,
+}
+
+fn have_differing_dates(captures: &[StationCapture]) -> bool
+    ensures { result ≡ list_any has_several_dates captures.now }
+{
+    captures.iter().any(|capture| capture.dates > 1)
+}
+
+fn has_week(message: DateMessage) -> bool
+    ensures { result ≡ has_week message }
+{
+    match message {
+        DateMessage::Utc(_) => false,
+        DateMessage::Ephemeris(_) => true,
+    }
+}
+
+fn is_dated_by_week(capture: &StationCapture) -> bool
+    ensures { result ≡ is_dated_by_week capture.now }
+{
+    match capture.told {
+        Some(told) => has_week(told.message),
+        None => false,
+    }
+}
+
+fn is_dated_by_day(capture: &StationCapture) -> bool
+    ensures { result ≡ is_dated_by_day capture.now }
+{
+    match capture.told {
+        Some(told) => !has_week(told.message),
+        None => false,
+    }
+}
+
+// Does a capture tell that it begins more than half a week after this moment?
+fn is_told_later(least: GpsMs, capture: &StationCapture) -> bool
+    ensures { result ≡ is_told_later least capture.now }
+{
+    match capture.told {
+        Some(told) => least.ms() + HALF_WEEK_MS < told.first,
+        None => false,
+    }
+}
+
+fn is_one_dated_by_week(captures: &[StationCapture]) -> bool
+    ensures { result ≡ list_any is_dated_by_week captures.now }
+{
+    captures.iter().any(is_dated_by_week)
+}
+
+fn is_one_dated_by_day(captures: &[StationCapture]) -> bool
+    ensures { result ≡ list_any is_dated_by_day captures.now }
+{
+    captures.iter().any(is_dated_by_day)
+}
+
+fn is_one_told_later(captures: &[StationCapture], least: GpsMs) -> bool
+    ensures { result ≡ list_any (is_told_later least) captures.now }
+{
+    captures.iter().any(|capture| is_told_later(least, capture))
+}
+
+// Are some captures dated by weeks and others by days, and is one told to be far from the first one?
+fn have_week_and_day(captures: &[StationCapture], least: GpsMs) -> bool
+    ensures { result ≡ have_week_and_day captures.now least }
+{
+    is_one_dated_by_week(captures)
+        && is_one_dated_by_day(captures)
+        && is_one_told_later(captures, least)
+}
+
+// The moment near which the captures are dated.
+fn base(
+    alloc: Global,
+    captured: &StationCaptures<'_, '_, '_>,
+    captures: &[StationCapture],
+    near: Option<Reference>,
+) -> Result<Base, PlanFault>
+    ensures base { IfOk result (IsBaseOf near captures.now) }
+    ensures refused { IfErr result (IfRefused (IsDatingCause near captures.now)) }
+{
+    if let Some(near) = near {
+        return Ok(Base::Given(near.moment()));
+    }
+    if have_differing_dates(captures) {
+        return refused(Refusal::DatesDiffer, captured.list_dates(alloc)?);
+    }
+    match least_told(captures) {
+        Some(least) if have_week_and_day(captures, least) => {
+            refused(Refusal::DatesDiffer, captured.list_told(alloc)?)
+        }
+        Some(least) => Ok(Base::Told(least)),
+        None => refused(Refusal::NoDate, Vec::new(alloc)),
+    }
+}
+
+// By what a message dates this station.
+fn source_of_message(message: DateMessage, station: u16) -> DateSource {
+    match message {
+        DateMessage::Utc(date) if date.station == station => DateSource::Station(date.number),
+        DateMessage::Utc(date) => DateSource::OtherStation(date.number, date.station),
+        DateMessage::Ephemeris(_) => DateSource::Ephemerides,
+    }
+}
+
+// By what the captures are dated: the message that told the least first epoch.
+fn source_of(captures: &[StationCapture], base: Base, station: u16) -> DateSource {
+    let Base::Told(least) = base else {
+        return DateSource::Words;
+    };
+    for capture in captures {
+        if let Some(told) = capture.told {
+            if told.first == least.ms() {
+                return source_of_message(told.message, station);
+            }
+        }
+    }
+    DateSource::Words
+}
+
+// The moment, if it can be written.
+fn moment(alloc: Global, ms: u64) -> Result<GpsMs, PlanFault>
+    ensures value { IfOk result (λ t. t ≡ ms) }
+    ensures refused { IfErr result (IfRefused (λ refusal. (refusal ≡ Refusal.OutsideDates) × (LAST_MS < ms))) }
+{
+    match GpsMs::new(ms) {
+        Some(moment) => Ok(moment),
+        None => refused(Refusal::OutsideDates, Vec::new(alloc)),
+    }
+}
+
+// Is an epoch of a capture not dated by a conversion near this moment as it is here?
+fn are_out_of_reach(near: GpsMs, captures: &[StationCapture], placed: &[Option<Placed>]) -> bool
+    ensures { result ≡ some_out_of_reach near captures.now placed.now }
+{
+    let count = captures.len().min(placed.len());
+    for at in 0..count {
+        if is_out_of_reach(near, &captures[at], placed[at]) {
+            return true;
+        }
+    }
+    false
+}
+
+// The epochs of captures that are dated so.
+fn dating_by(
+    alloc: Global,
+    captures: &[StationCapture],
+    base: Base,
+    station: u16,
+) -> Result<Dating, PlanFault>
+    ensures near { IfOk result (λ d. (reach : Placed) × IsReachOf base captures.now reach × (d.near ≡ second_of reach.first)) }
+    ensures placed { IfOk result (λ d. d.placed.items ≡ map (placed_if_any base) captures.now) }
+    ensures in_reach { IfOk result (λ d. some_out_of_reach d.near captures.now d.placed.items ≡ false) }
+    ensures refused { IfErr result (IfRefused (IsReachCause base captures.now)) }
+{
+    let placed = place_captures(alloc, &base, captures)?;
+    let Some(reach) = reach_of(placed.as_slice()) else {
+        return refused(Refusal::NoObservation, Vec::new(alloc));
+    };
+    let near = moment(alloc, near_of(&reach))?;
+    if are_out_of_reach(near, captures, placed.as_slice()) {
+        return refused(Refusal::TooLong, Vec::new(alloc));
+    }
+    let span = DatedSpan {
+        from: moment(alloc, reach.from)?,
+        until: moment(alloc, reach.until)?,
+        source: source_of(captures, base, station),
+    };
+    Ok(Dating { placed, near, span })
+}
+
+/// The dates of the captures that are converted: as they tell them, or near a moment that is given.
+pub(crate) fn date_captures(
+    alloc: Global,
+    captured: &StationCaptures<'_, '_, '_>,
+    near: Option<Reference>,
+) -> Result<Dating, PlanFault>
+    ensures near { IfOk result (λ d. IsNearOf near captured.now.captures.now d.near) }
+    ensures placed { IfOk result (λ d. ArePlaced near captured.now.captures.now d.placed.items) }
+    ensures in_reach { IfOk result (λ d. some_out_of_reach d.near captured.now.captures.now d.placed.items ≡ false) }
+    ensures refused { IfErr result (IfRefused (IsDatingCause near captured.now.captures.now)) }
+{
+    let captures = captured.captures;
+    let base = base(alloc, captured, captures, near)?;
+    dating_by(alloc, captures, base, captured.station)
+}

@@ -1,0 +1,176 @@
+//! What a person should know of a conversion that is done.
+
+ghost use Rattle.std.specs.Prelude.{◌≡◌, ◌++◌, OnOk};
+ghost use Rattle.rtk_plan.specs.KnownLines as spec;
+
+use crate::captures::Captures;
+use crate::few_phases::CapturePhases;
+use crate::lists::{put_capture_line, put_date_line, put_msms, put_name_line, put_unread};
+use crate::planning::Plan;
+use crate::positions::put_no_position;
+use rtk_convert::{Counts, Setup};
+use rtk_message::put_named;
+use rtk_obs::GpsMs;
+use rtk_survey::{CaptureEpochs, Span, Told, place};
+use std::alloc::{AllocError, Global};
+
+// What a capture with these epochs tells of its first one, if a conversion near this moment dates it
+// otherwise.
+fn told_otherwise(near: GpsMs, told: Option<Told>, span: Option<Span>) -> Option<Told>
+    ensures { result ≡ spec.told_otherwise near told span }
+{
+    let told = told?;
+    let epochs = CaptureEpochs {
+        told: None,
+        span: span?,
+    };
+    if told.first == place(near, &epochs).first {
+        None
+    } else {
+        Some(told)
+    }
+}
+
+// Appends the date of the first capture that tells another one than the conversion gives it.
+fn put_other_date(
+    lines: &mut Vec<u8>,
+    captures: &Captures<'_, '_>,
+    plan: &Plan,
+) -> Result<(), AllocError> {
+    let near = plan.setup.near();
+    for (at, capture) in plan.captures.iter().enumerate() {
+        if let Some(told) = told_otherwise(near, capture.told, capture.span) {
+            lines.extend_from_slice(b" other-date")?;
+            return put_date_line(lines, &told, captures.name(at));
+        }
+    }
+    Ok(())
+}
+
+// Appends the codes that have few phases.
+fn put_few_phases(
+    lines: &mut Vec<u8>,
+    captures: &Captures<'_, '_>,
+    setup: &Setup,
+) -> Result<(), AllocError> {
+    let phases = CapturePhases {
+        surveys: captures.surveys,
+        station: setup.station(),
+        msm: setup.msm(),
+    };
+    for code in setup.head().codes() {
+        if phases.has_few(*code) {
+            lines.extend_from_slice(b" few-phases ")?;
+            lines.extend_from_slice(&code.name())?;
+            lines.extend_from_slice(
+                b": its satellites have more than twice as many in another code\n",
+            )?;
+        }
+    }
+    Ok(())
+}
+
+// Appends how many messages were late.
+#[tactic(auto, unfolding(crate::specs::KnownLines::late_count_line))]
+fn put_late(lines: &mut Vec<u8>, late: u64, window: usize) -> Result<(), AllocError>
+    ensures { OnOk result (lines.new.items ≡ lines.old.items ++ spec.late_count_line late window) }
+{
+    if late == 0 {
+        return Ok(());
+    }
+    put_named(lines, b" late ", late)?;
+    put_named(lines, b": messages after ", window as u64)?;
+    lines.extend_from_slice(b" newer epochs are left out\n")
+}
+
+// Appends the captures that are left out.
+fn put_skipped(
+    lines: &mut Vec<u8>,
+    captures: &Captures<'_, '_>,
+    plan: &Plan,
+) -> Result<(), AllocError> {
+    for place in &plan.skipped {
+        if let Some(capture) = plan.captures.get(*place) {
+            put_capture_line(lines, b" skipped ", captures.name(*place), capture.look)?;
+        }
+    }
+    Ok(())
+}
+
+// Appends the captures without an epoch of the station, and those whose epochs fall.
+fn put_epochs(
+    lines: &mut Vec<u8>,
+    captures: &Captures<'_, '_>,
+    plan: &Plan,
+) -> Result<(), AllocError> {
+    for link in &plan.links {
+        for place in link {
+            put_epochs_of(lines, captures, plan, *place)?;
+        }
+    }
+    Ok(())
+}
+
+fn put_epochs_of(
+    lines: &mut Vec<u8>,
+    captures: &Captures<'_, '_>,
+    plan: &Plan,
+    place: usize,
+) -> Result<(), AllocError> {
+    let Some(capture) = plan.captures.get(place) else {
+        return Ok(());
+    };
+    match capture.span {
+        None => put_name_line(lines, b" no-epoch ", captures.name(place)),
+        Some(span) if span.falls => { put_name_line(lines, b" time-falls ", captures.name(place)) }
+        Some(_) => Ok(()),
+    }
+}
+
+/// What a person should know of a conversion, but for late messages, which are known only once it is
+/// done.
+#[derive(Drop)]
+pub struct Known {
+    /// The lines before that of late messages.
+    first: Vec<u8>,
+    /// The lines after it.
+    last: Vec<u8>,
+    /// How many epochs are kept open.
+    window: usize,
+}
+
+/// What a person should know of a conversion, a line each, only where it is so: no reference point of the
+/// station; a date that is told and does not count; codes with few phases; captures that are left out,
+/// that have no epoch or whose time falls; and observations that are not taken.
+pub fn what_is_known(
+    alloc: Global,
+    captures: &Captures<'_, '_>,
+    plan: &Plan,
+) -> Result<Known, AllocError> {
+    let setup = &plan.setup;
+    let surveys = captures.surveys;
+    let mut first = Vec::new(alloc);
+    put_no_position(&mut first, plan.captures.as_slice())?;
+    put_other_date(&mut first, captures, plan)?;
+    put_few_phases(&mut first, captures, setup)?;
+    let mut last = Vec::new(alloc);
+    put_skipped(&mut last, captures, plan)?;
+    put_epochs(&mut last, captures, plan)?;
+    put_msms(&mut last, surveys, setup.station(), setup.msm())?;
+    put_unread(&mut last, surveys)?;
+    Ok(Known {
+        first,
+        last,
+        window: setup.window(),
+    })
+}
+
+/// Appends what a person should know of a conversion that is done, with its late messages.
+#[tactic(auto, unfolding(crate::specs::KnownLines::known_lines))]
+pub fn put_known(lines: &mut Vec<u8>, known: &Known, counts: &Counts) -> Result<(), AllocError>
+    ensures { OnOk result (lines.new.items ≡ lines.old.items ++ spec.known_lines known.now counts.now.late) }
+{
+    lines.extend_from_slice(known.first.as_slice())?;
+    put_late(lines, counts.late, known.window)?;
+    lines.extend_from_slice(known.last.as_slice())
+}

@@ -1,0 +1,248 @@
+//! The lines that list what a refusal or a warning speaks of, each after a blank.
+//!
+//! If memory is refused, a first part of what is put may stand there.
+
+ghost use Rattle.std.specs.Prelude.{◌≡◌, ◌≤◌, ◌+◌, ◌++◌, OnOk};
+ghost use Rattle.rtk_plan.specs.Lists as spec;
+
+use crate::chosen_station::{STATIONS, is_observed};
+use crate::said_command::put_time;
+use crate::span_line::put_message;
+use crate::values::{messages_in_captures, others_in_captures};
+use rtk_message::{MsmKind, put_named, put_number, put_sh_quoted};
+use rtk_obs::GpsMs;
+use rtk_survey::{CaptureSurvey, Look, ReferencePoint, Told};
+use std::alloc::AllocError;
+
+// Appends a line feed.
+fn end_line(lines: &mut Vec<u8>) -> Result<(), AllocError>
+    ensures { OnOk result (lines.new.items ≡ lines.old.items ++ spec.line_end) }
+{
+    lines.push(b'\n')?;
+    Ok(())
+}
+
+// Appends words and the name of a capture.
+fn put_words_and_name(lines: &mut Vec<u8>, words: &[u8], name: &str) -> Result<(), AllocError>
+    ensures { OnOk result (lines.new.items ≡ lines.old.items ++ spec.words_and_name words.now name.now) }
+{
+    lines.extend_from_slice(words)?;
+    put_sh_quoted(lines, name.as_bytes())
+}
+
+/// Appends a line of words and the name of a capture.
+pub(crate) fn put_name_line(lines: &mut Vec<u8>, words: &[u8], name: &str) -> Result<(), AllocError>
+    ensures { OnOk result (lines.new.items ≡ lines.old.items ++ spec.name_line words.now name.now) }
+{
+    put_words_and_name(lines, words, name)?;
+    end_line(lines)
+}
+
+// What a capture without a frame looks like.
+fn put_look(lines: &mut Vec<u8>, look: Option<Look>) -> Result<(), AllocError>
+    ensures { OnOk result (lines.new.items ≡ lines.old.items ++ spec.look_text look) }
+{
+    match look {
+        None | Some(Look::Unknown) => Ok(()),
+        Some(Look::Empty) => lines.extend_from_slice(b" is empty"),
+        Some(look) => {
+            lines.extend_from_slice(b" looks like ")?;
+            lines.extend_from_slice(look.name())
+        }
+    }
+}
+
+/// Appends the line of a capture, after these words, with what it looks like if it has no frame.
+pub(crate) fn put_capture_line(
+    lines: &mut Vec<u8>,
+    words: &[u8],
+    name: &str,
+    look: Option<Look>,
+) -> Result<(), AllocError>
+    ensures { OnOk result (lines.new.items ≡ lines.old.items ++ spec.capture_line words.now name.now look) }
+{
+    put_words_and_name(lines, words, name)?;
+    put_look(lines, look)?;
+    end_line(lines)
+}
+
+/// Appends a line of words, a message number and its count; a count of 0 has no line.
+pub(crate) fn put_count_line(
+    lines: &mut Vec<u8>,
+    words: &[u8],
+    number: u16,
+    count: u64,
+) -> Result<(), AllocError>
+    ensures { OnOk result (lines.new.items ≡ lines.old.items ++ spec.count_line_of words.now number count) }
+{
+    if count == 0 {
+        return Ok(());
+    }
+    put_named(lines, words, u64::from(number))?;
+    put_named(lines, b" ", count)?;
+    end_line(lines)
+}
+
+// Appends a line for each number of messages that are not read, of so many numbers from a first one.
+fn put_numbered(
+    lines: &mut Vec<u8>,
+    surveys: &[CaptureSurvey],
+    words: &[u8],
+    first: u16,
+    count: u16,
+) -> Result<(), AllocError>
+    requires { first + count ≤ 4096 }
+    ensures { OnOk result (lines.new.items ≡ lines.old.items ++ spec.unread_lines_from words.now surveys.now first count) }
+{
+    for at in 0..count {
+        let number = first + at;
+        put_count_line(lines, words, number, others_in_captures(surveys, number))?;
+    }
+    Ok(())
+}
+
+// Appends the lines of GPS observations that are not read.
+fn put_unread_gps(lines: &mut Vec<u8>, surveys: &[CaptureSurvey]) -> Result<(), AllocError>
+    ensures { OnOk result (lines.new.items ≡ lines.old.items ++ spec.unread_gps surveys.now) }
+{
+    put_numbered(lines, surveys, b" untaken GPS ", 1001, 3)?;
+    put_numbered(lines, surveys, b" untaken GPS ", 1071, 3)?;
+    Ok(())
+}
+
+// Appends the lines of observations of GLONASS, Galileo and SBAS.
+fn put_unread_glonass_to_sbas(
+    lines: &mut Vec<u8>,
+    surveys: &[CaptureSurvey],
+) -> Result<(), AllocError>
+    ensures { OnOk result (lines.new.items ≡ lines.old.items ++ spec.unread_glonass_to_sbas surveys.now) }
+{
+    put_numbered(lines, surveys, b" untaken GLONASS ", 1009, 4)?;
+    put_numbered(lines, surveys, b" untaken GLONASS ", 1081, 7)?;
+    put_numbered(lines, surveys, b" untaken Galileo ", 1091, 7)?;
+    put_numbered(lines, surveys, b" untaken SBAS ", 1101, 7)?;
+    Ok(())
+}
+
+// Appends the lines of observations of QZSS, BeiDou and NavIC.
+fn put_unread_qzss_to_navic(
+    lines: &mut Vec<u8>,
+    surveys: &[CaptureSurvey],
+) -> Result<(), AllocError>
+    ensures { OnOk result (lines.new.items ≡ lines.old.items ++ spec.unread_qzss_to_navic surveys.now) }
+{
+    put_numbered(lines, surveys, b" untaken QZSS ", 1111, 7)?;
+    put_numbered(lines, surveys, b" untaken BeiDou ", 1121, 7)?;
+    put_numbered(lines, surveys, b" untaken NavIC ", 1131, 7)?;
+    Ok(())
+}
+
+/// Appends the lines of observations that are not read: of GPS and of other systems.
+pub(crate) fn put_unread(lines: &mut Vec<u8>, surveys: &[CaptureSurvey]) -> Result<(), AllocError>
+    ensures { OnOk result (lines.new.items ≡ lines.old.items ++ spec.all_unread surveys.now) }
+{
+    put_unread_gps(lines, surveys)?;
+    put_unread_glonass_to_sbas(lines, surveys)?;
+    put_unread_qzss_to_navic(lines, surveys)?;
+    Ok(())
+}
+
+// Appends the line of an MSM that is not taken, if there is a message of it.
+fn put_msm(
+    lines: &mut Vec<u8>,
+    surveys: &[CaptureSurvey],
+    station: u16,
+    taken: MsmKind,
+    msm: MsmKind,
+) -> Result<(), AllocError>
+    ensures { OnOk result (lines.new.items ≡ lines.old.items ++ spec.msm_line taken surveys.now station msm) }
+{
+    if msm.number() == taken.number() {
+        return Ok(());
+    }
+    let count = messages_in_captures(surveys, station, msm);
+    put_count_line(lines, b" untaken GPS ", msm.number(), count)
+}
+
+/// Appends the lines of the MSM of a station that are not taken.
+pub(crate) fn put_msms(
+    lines: &mut Vec<u8>,
+    surveys: &[CaptureSurvey],
+    station: u16,
+    taken: MsmKind,
+) -> Result<(), AllocError>
+    ensures { OnOk result (lines.new.items ≡ lines.old.items ++ spec.msm_lines taken surveys.now station) }
+{
+    put_msm(lines, surveys, station, taken, MsmKind::Msm4)?;
+    put_msm(lines, surveys, station, taken, MsmKind::Msm5)?;
+    put_msm(lines, surveys, station, taken, MsmKind::Msm6)?;
+    put_msm(lines, surveys, station, taken, MsmKind::Msm7)?;
+    Ok(())
+}
+
+// Appends the line of a station, if it has observations.
+fn put_station(
+    lines: &mut Vec<u8>,
+    surveys: &[CaptureSurvey],
+    station: u16,
+) -> Result<(), AllocError>
+    ensures { OnOk result (lines.new.items ≡ lines.old.items ++ spec.observed_line surveys.now station) }
+{
+    if !is_observed(surveys, station) {
+        return Ok(());
+    }
+    put_named(lines, b" station ", u64::from(station))?;
+    end_line(lines)
+}
+
+/// Appends the lines of the stations with observations.
+pub(crate) fn put_stations(lines: &mut Vec<u8>, surveys: &[CaptureSurvey]) -> Result<(), AllocError>
+    ensures { OnOk result (lines.new.items ≡ lines.old.items ++ spec.observed_lines surveys.now) }
+{
+    for station in 0..STATIONS {
+        put_station(lines, surveys, station)?;
+    }
+    Ok(())
+}
+
+/// Appends the line of a first epoch that a capture tells.
+pub(crate) fn put_date_line(
+    lines: &mut Vec<u8>,
+    told: &Told,
+    name: &str,
+) -> Result<(), AllocError> {
+    let Some(first) = GpsMs::new(told.first) else {
+        return Ok(());
+    };
+    lines.push(b' ')?;
+    put_time(lines, first)?;
+    put_message(lines, told.message)?;
+    put_name_line(lines, b" in ", name)
+}
+
+// Appends a coordinate, whose unit is 0.0001 m, in metres.
+fn put_coordinate(lines: &mut Vec<u8>, value: i64) -> Result<(), AllocError> {
+    lines.push(b' ')?;
+    if value < 0 {
+        lines.push(b'-')?;
+    }
+    let value = value.unsigned_abs();
+    put_number(lines, value / 10_000)?;
+    put_named(lines, b".", value / 1_000 % 10)?;
+    put_number(lines, value / 100 % 10)?;
+    put_number(lines, value / 10 % 10)?;
+    put_number(lines, value % 10)
+}
+
+/// Appends the line of the position that a capture tells, in metres.
+pub(crate) fn put_position_line(
+    lines: &mut Vec<u8>,
+    point: &ReferencePoint,
+    name: &str,
+) -> Result<(), AllocError> {
+    lines.extend_from_slice(b" position")?;
+    put_coordinate(lines, point.x)?;
+    put_coordinate(lines, point.y)?;
+    put_coordinate(lines, point.z)?;
+    put_name_line(lines, b" in ", name)
+}

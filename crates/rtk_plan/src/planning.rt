@@ -1,0 +1,335 @@
+//! What a conversion of captures is told, from what they tell and what words say.
+
+ghost use Rattle.std.specs.Prelude.{◌≡◌, ◌<◌, ◌≤◌, ℕ, List, None, Some, [], true, false, length, IfOk, IfErr, IsOk};
+ghost use Rattle.std.specs.List.{list_any};
+ghost use Rattle.std.specs.Option.{ForSome};
+ghost use Rattle.rtk_obs.specs.CivilText.{last_digits};
+ghost use Rattle.rtk_rinex.specs.Header.{IsCodeList};
+ghost use Rattle.rtk_plan.specs.Causes.{IfRefused, IsStationCause, IsEmptyCause, IsSetupCause, AreTooMany, IsCaptureCause, IsCauseOf, has_frames};
+ghost use Rattle.rtk_plan.specs.Kept.{empty_captures};
+ghost use Rattle.rtk_plan.specs.Linking.{places_of, AreLinksOf};
+ghost use Rattle.rtk_plan.specs.Positions.{some_are_far};
+ghost use Rattle.rtk_plan.specs.Plan.{IsChosenStation, msm_chosen, codes_chosen, marker_chosen, captures_of, IsNearOf, ArePlaced, IsInReach, IsSetupFor};
+ghost use Rattle.rtk_plan.specs.Values.{codes_in_captures};
+
+use crate::captures::{Captures, StationCaptures};
+use crate::chosen_station::{OnlyStation, is_observed, only_station};
+use crate::dating::{Dating, date_captures};
+use crate::kept::empty_captures;
+use crate::linking::{links_as_given, links_found};
+use crate::positions::agree_on_position;
+use crate::refusal::{PlanFault, Refusal, refused};
+use crate::span_line::DatedSpan;
+use crate::station_capture::{StationCapture, captures_of};
+use crate::values::{codes_in_captures, msm_in_captures};
+use crate::wanted::Wanted;
+use rtk_convert::{Reference, Setup, Station};
+use rtk_message::MsmKind;
+use rtk_obs::{Code, GpsMs};
+use rtk_rinex::{CreationTime, Head, Marker};
+use rtk_survey::CaptureSurvey;
+use std::alloc::Global;
+
+/// What a conversion of captures is told.
+#[derive(Drop)]
+pub struct Plan {
+    pub setup: Setup,
+    /// The epochs of the station.
+    pub span: DatedSpan,
+    /// The captures of each link, in order, by their places as they were given.
+    pub links: Vec<Vec<usize>>,
+    /// The places of the captures that are left out.
+    pub skipped: Vec<usize>,
+    /// What each capture tells of the station.
+    pub captures: Vec<StationCapture>,
+}
+
+// The plan of a station, but for what its captures tell.
+#[derive(Drop)]
+struct Planned {
+    setup: Setup,
+    span: DatedSpan,
+    links: Vec<Vec<usize>>,
+    skipped: Vec<usize>,
+}
+
+// The station that is named, if it has observations.
+fn named_station(
+    alloc: Global,
+    captures: &Captures<'_, '_>,
+    station: Station,
+) -> Result<u16, PlanFault>
+    ensures chosen { IfOk result (IsChosenStation captures.now.surveys.now (Some station)) }
+    ensures bound { IfOk result (λ n. n < 4096) }
+    ensures refused { IfErr result (IfRefused (IsStationCause captures.now.surveys.now (Some station))) }
+{
+    let station = station.number();
+    if is_observed(captures.surveys, station) {
+        return Ok(station);
+    }
+    match only_station(captures.surveys) {
+        OnlyStation::None => refused(Refusal::NoObservation, captures.list_unread(alloc)?),
+        _ => refused(
+            Refusal::NoStation { station },
+            captures.list_stations(alloc)?,
+        ),
+    }
+}
+
+// The station that is converted.
+fn station_to_convert(
+    alloc: Global,
+    captures: &Captures<'_, '_>,
+    named: Option<Station>,
+) -> Result<u16, PlanFault>
+    ensures chosen { IfOk result (IsChosenStation captures.now.surveys.now named) }
+    ensures bound { IfOk result (λ n. n < 4096) }
+    ensures refused { IfErr result (IfRefused (IsStationCause captures.now.surveys.now named)) }
+{
+    if let Some(station) = named {
+        return named_station(alloc, captures, station);
+    }
+    match only_station(captures.surveys) {
+        OnlyStation::One(station) => Ok(station),
+        OnlyStation::Several => {
+            refused(Refusal::SeveralStations, captures.list_stations(alloc)?)
+        }
+        OnlyStation::None => refused(Refusal::NoObservation, captures.list_unread(alloc)?),
+    }
+}
+
+// The captures that have nothing of the station; there may be none, unless they are to be left out.
+fn captures_to_skip(
+    alloc: Global,
+    captured: &StationCaptures<'_, '_, '_>,
+    skip_empty: bool,
+) -> Result<Vec<usize>, PlanFault>
+    ensures skipped { IfOk result (λ places. places.items ≡ empty_captures captured.now.captures.now) }
+    ensures none { IfOk result (λ places. skip_empty ≡ false → places.items ≡ []) }
+    ensures refused { IfErr result (IfRefused (IsEmptyCause captured.now.station captured.now.captures.now skip_empty)) }
+{
+    let empty = empty_captures(alloc, captured.captures)?;
+    if !skip_empty && !empty.is_empty() {
+        let station = captured.station;
+        return refused(Refusal::Empty { station }, captured.list_empty(alloc)?);
+    }
+    Ok(empty)
+}
+
+// The codes that are converted.
+fn codes_to_convert(
+    alloc: Global,
+    surveys: &[CaptureSurvey],
+    station: u16,
+    msm: MsmKind,
+    wanted: &Option<Vec<Code>>,
+) -> Result<Vec<Code>, PlanFault>
+    requires { ForSome wanted.now (λ codes. IsCodeList codes.items) }
+    ensures codes { IfOk result (λ codes. codes.items ≡ codes_chosen wanted.now surveys.now station msm) }
+    ensures good { IfOk result (λ codes. IsCodeList codes.items) }
+    ensures refused { IfErr result (IfRefused (λ refusal. (refusal ≡ Refusal.NoCode) × (wanted.now ≡ None)
+        × (codes_in_captures surveys.now station msm ≡ []))) }
+{
+    if let Some(codes) = wanted {
+        return Ok(Vec::from_slice(alloc, codes.as_slice())?);
+    }
+    let codes = codes_in_captures(alloc, surveys, station, msm)?;
+    if codes.is_empty() {
+        return refused(Refusal::NoCode, Vec::new(alloc));
+    }
+    Ok(codes)
+}
+
+// The four digits of a station's number.
+fn digits_of(station: u16) -> [u8; 4]
+    ensures { result ≡ last_digits 4 station }
+{
+    let digit = |number: u16| b'0' + (number % 10) as u8;
+    [
+        digit(station / 10 / 10 / 10),
+        digit(station / 10 / 10),
+        digit(station / 10),
+        digit(station),
+    ]
+}
+
+// The head of the file. If no marker is named, the station's number stands for it.
+fn head_of(station: u16, marker: &Option<Marker>, codes: &[Code], made: CreationTime) -> Head
+    requires { IsCodeList codes.now }
+    ensures { result ≡ record { marker = marker_chosen marker.now station; listed = codes.now; made = made } }
+{
+    let digits = digits_of(station);
+    let name = match marker {
+        Some(marker) => marker.as_bytes(),
+        None => digits.as_slice(),
+    };
+    let Ok(marker) = Marker::new(name) else {
+        unreachable!();
+    };
+    let Ok(head) = Head::from_parts(marker, codes, made) else {
+        unreachable!();
+    };
+    head
+}
+
+// The MSM that is converted.
+fn msm_to_convert(surveys: &[CaptureSurvey], wanted: Option<MsmKind>, station: u16) -> MsmKind
+    ensures { result ≡ msm_chosen wanted surveys.now station }
+{
+    match wanted {
+        Some(msm) => msm,
+        None => msm_in_captures(surveys, station),
+    }
+}
+
+// What the conversion of a station near this moment is told.
+fn setup_near(
+    alloc: Global,
+    surveys: &[CaptureSurvey],
+    wanted: &Wanted,
+    made: CreationTime,
+    station: u16,
+    near: GpsMs,
+) -> Result<Setup, PlanFault>
+    requires bound { station < 4096 }
+    requires chosen { IsChosenStation surveys.now wanted.now.station station }
+    requires near { IsNearOf wanted.now.near (captures_of surveys.now station) near }
+    ensures setup { IfOk result (IsSetupFor surveys.now wanted.now made) }
+    ensures station { IfOk result (λ setup. (setup.station ≡ station) × (setup.near ≡ near)) }
+    ensures refused { IfErr result (IfRefused (IsSetupCause surveys.now wanted.now station near)) }
+{
+    let msm = msm_to_convert(surveys, wanted.msm, station);
+    let codes = codes_to_convert(alloc, surveys, station, msm, &wanted.codes)?;
+    let head = head_of(station, &wanted.marker, codes.as_slice(), made);
+    let Ok(station) = Station::new(station) else {
+        unreachable!();
+    };
+    let Ok(near) = Reference::new(near) else {
+        return refused(Refusal::OutsideDates, Vec::new(alloc));
+    };
+    Ok(Setup::from_parts(station, near, head, wanted.window).with_msm(msm))
+}
+
+// The links of the captures.
+fn links_to_convert(
+    alloc: Global,
+    captured: &StationCaptures<'_, '_, '_>,
+    near: Option<Reference>,
+    dating: &Dating,
+    as_given: bool,
+) -> Result<Vec<Vec<usize>>, PlanFault>
+    requires { ArePlaced near captured.now.captures.now dating.now.placed.items }
+    ensures links { IfOk result (λ links. AreLinksOf as_given near captured.now.captures.now (places_of links.items)) }
+    ensures few { IfOk result (λ links. length links.items ≤ 16) }
+    ensures refused { IfErr result (IfRefused (λ refusal. (links : List (List ℕ))
+        × AreLinksOf as_given near captured.now.captures.now links
+        × AreTooMany links refusal)) }
+{
+    if as_given {
+        links_as_given(alloc, captured)
+    } else {
+        links_found(alloc, captured, dating.placed.as_slice())
+    }
+}
+
+// The captures agree on the position of the station, unless they are taken as they are given.
+fn agree_unless(
+    alloc: Global,
+    captured: &StationCaptures<'_, '_, '_>,
+    as_given: bool,
+) -> Result<(), PlanFault>
+    ensures one_position { IsOk result → as_given ≡ false → some_are_far captured.now.captures.now ≡ false }
+    ensures refused { IfErr result (IfRefused (λ refusal. (refusal ≡ Refusal.PositionsDiffer) × (as_given ≡ false)
+        × (some_are_far captured.now.captures.now ≡ true))) }
+{
+    if as_given {
+        return Ok(());
+    }
+    agree_on_position(alloc, captured)
+}
+
+fn have_frames(surveys: &[CaptureSurvey]) -> bool
+    ensures { result ≡ list_any has_frames surveys.now }
+{
+    surveys.iter().any(|survey| survey.contents.frames != 0)
+}
+
+// What a conversion of a station is told, or why its captures have no plan.
+fn plan_of_station(
+    alloc: Global,
+    captured: &StationCaptures<'_, '_, '_>,
+    wanted: &Wanted,
+    made: CreationTime,
+    skip_empty: bool,
+    as_given: bool,
+) -> Result<Planned, PlanFault>
+    requires bound { captured.now.station < 4096 }
+    requires chosen { IsChosenStation captured.now.all.surveys.now wanted.now.station captured.now.station }
+    requires captures { captured.now.captures.now ≡ captures_of captured.now.all.surveys.now captured.now.station }
+    ensures setup { IfOk result (λ plan. IsSetupFor captured.now.all.surveys.now wanted.now made plan.setup) }
+    ensures station { IfOk result (λ plan. plan.setup.station ≡ captured.now.station) }
+    ensures in_reach { IfOk result (λ plan. IsInReach wanted.now.near captured.now.captures.now plan.setup.near) }
+    ensures links { IfOk result (λ plan. AreLinksOf as_given wanted.now.near captured.now.captures.now (places_of plan.links.items)) }
+    ensures few_links { IfOk result (λ plan. length plan.links.items ≤ 16) }
+    ensures one_position { as_given ≡ false → IfOk result (λ plan. some_are_far captured.now.captures.now ≡ false) }
+    ensures skipped { IfOk result (λ plan. plan.skipped.items ≡ empty_captures captured.now.captures.now) }
+    ensures none_skipped { IfOk result (λ plan. skip_empty ≡ false → plan.skipped.items ≡ []) }
+    ensures refused { IfErr result (IfRefused (IsCaptureCause captured.now.all.surveys.now wanted.now skip_empty as_given
+        captured.now.station captured.now.captures.now)) }
+{
+    let surveys = captured.all.surveys;
+    let skipped = captures_to_skip(alloc, captured, skip_empty)?;
+    let dating = date_captures(alloc, captured, wanted.near)?;
+    let setup = setup_near(alloc, surveys, wanted, made, captured.station, dating.near)?;
+    let links = links_to_convert(alloc, captured, wanted.near, &dating, as_given)?;
+    agree_unless(alloc, captured, as_given)?;
+    Ok(Planned {
+        setup,
+        span: dating.span,
+        links,
+        skipped,
+    })
+}
+
+/// What a conversion of the captures that were read is told, or why they have no plan: the first cause
+/// that holds. Its file is made at this moment.
+pub fn plan_of(
+    alloc: Global,
+    captures: &Captures<'_, '_>,
+    wanted: &Wanted,
+    made: CreationTime,
+    skip_empty: bool,
+    as_given: bool,
+) -> Result<Plan, PlanFault>
+    // What a plan has.
+    ensures setup { IfOk result (λ plan. IsSetupFor captures.now.surveys.now wanted.now made plan.setup) }
+    ensures captures { IfOk result (λ plan. plan.captures.items ≡ captures_of captures.now.surveys.now plan.setup.station) }
+    ensures in_reach { IfOk result (λ plan. IsInReach wanted.now.near plan.captures.items plan.setup.near) }
+    ensures links { IfOk result (λ plan. AreLinksOf as_given wanted.now.near plan.captures.items (places_of plan.links.items)) }
+    ensures few_links { IfOk result (λ plan. length plan.links.items ≤ 16) }
+    ensures one_position { as_given ≡ false → IfOk result (λ plan. some_are_far plan.captures.items ≡ false) }
+    ensures skipped { IfOk result (λ plan. plan.skipped.items ≡ empty_captures plan.captures.items) }
+    ensures none_skipped { IfOk result (λ plan. skip_empty ≡ false → plan.skipped.items ≡ []) }
+
+    // A refusal comes only with its cause.
+    ensures refused { IfErr result (IfRefused (IsCauseOf captures.now.surveys.now wanted.now skip_empty as_given)) }
+{
+    if !have_frames(captures.surveys) {
+        return refused(Refusal::NoFrame, captures.list_all(alloc)?);
+    }
+    let station = station_to_convert(alloc, captures, wanted.station)?;
+    let of_station = captures_of(alloc, station, captures.surveys)?;
+    let captured = StationCaptures {
+        all: *captures,
+        station,
+        captures: of_station.as_slice(),
+    };
+    let plan = plan_of_station(alloc, &captured, wanted, made, skip_empty, as_given)?;
+    Ok(Plan {
+        setup: plan.setup,
+        span: plan.span,
+        links: plan.links,
+        skipped: plan.skipped,
+        captures: of_station,
+    })
+}

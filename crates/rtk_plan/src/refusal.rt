@@ -1,0 +1,85 @@
+//! Why `auto` writes no file, though its words are good.
+
+ghost use Rattle.std.specs.Prelude.{◌≡◌, Err};
+
+use std::alloc::AllocError;
+use thiserror::Error;
+
+/// Why no file is written. Displayed, it is the fault line of the program; lines after it list what it
+/// speaks of.
+#[derive(Clone, Copy, Debug, PartialEq, Eq, Error)]
+pub enum Refusal {
+    /// No capture has a frame.
+    #[error("the captures have no frame of RTCM 3")]
+    NoFrame,
+    /// No station has an observation that is read.
+    #[error("the captures have no GPS observations that are read")]
+    NoObservation,
+    /// The station that is named has none.
+    #[error("station {station} has no GPS observations that are read")]
+    NoStation {
+        /// The station.
+        station: u16,
+    },
+    /// No station is named, and several have observations.
+    #[error("several stations have GPS observations; choose one by --station")]
+    SeveralStations,
+    /// Captures have nothing of the station.
+    #[error("captures have nothing of station {station}; --skip-empty leaves them out")]
+    Empty {
+        /// The station.
+        station: u16,
+    },
+    /// The messages of the captures tell dates that differ.
+    #[error("the captures tell dates that differ; choose one by --near")]
+    DatesDiffer,
+    /// Epochs lie outside the dates near which a conversion dates.
+    #[error("the epochs are not dated from 1980-01-13 to 2099-12-31; see --near")]
+    OutsideDates,
+    /// No message tells a date.
+    #[error("the captures tell no date; give one, as in --near 2024-05-17T12:00:00")]
+    NoDate,
+    /// Epochs are more than half a week from the first one.
+    #[error("the captures are longer than half a week; convert them in parts")]
+    TooLong,
+    /// No code has a value in the messages that are converted.
+    #[error("no code has a value; see summary")]
+    NoCode,
+    /// More than 16 captures are of the same time.
+    #[error("more than 16 captures are of the same time, and 16 links are taken")]
+    TooManyLinks,
+    /// The station stands at two positions.
+    #[error("the station stands at positions that differ; --links-as-given takes them for one")]
+    PositionsDiffer,
+}
+
+/// Why captures have no plan.
+#[derive(Debug, Drop)]
+pub enum PlanFault {
+    /// The captures don't allow it.
+    Refused {
+        refusal: Refusal,
+        /// The lines that list what the refusal speaks of.
+        list: Vec<u8>,
+    },
+    /// Memory was refused.
+    OutOfMemory,
+}
+
+impl From<AllocError> for PlanFault {
+    ghost use Rattle.std.specs.Prelude.{◌≡◌};
+    ghost use Rattle.rtk_plan.specs.declared.refusal.PlanFault.TheVariants.{OutOfMemory};
+
+    ghost from_gives = { λ _ fault. fault ≡ OutOfMemory };
+
+    fn from(_refused: AllocError) -> PlanFault {
+        PlanFault::OutOfMemory
+    }
+}
+
+/// The captures don't allow a plan.
+pub(crate) fn refused<T: Drop>(refusal: Refusal, list: Vec<u8>) -> Result<T, PlanFault>
+    ensures { result ≡ Err (PlanFault.Refused refusal list) }
+{
+    Err(PlanFault::Refused { refusal, list })
+}

@@ -1,0 +1,131 @@
+//! What a capture tells of one station.
+
+ghost use Rattle.std.specs.Prelude.{◌≡◌, ◌==◌, map, IfOk};
+ghost use Rattle.std.specs.List.{list_any};
+ghost use Rattle.std.specs.Option.{option_copied};
+ghost use Rattle.rtk_plan.specs.StationCaptures as spec;
+
+use rtk_survey::{CaptureSurvey, Look, ReferencePoint, Span, StationSurvey, Told};
+use std::alloc::{AllocError, Global};
+
+/// What a capture tells of a station. It has at most 200 bytes.
+#[derive(Clone, Copy, Debug, PartialEq, Eq)]
+pub struct StationCapture {
+    /// What the capture looks like, if it has no frame.
+    pub look: Option<Look>,
+    /// A message of the station was read: a 1004 to 1006 or a 1074 to 1077.
+    pub is_heard: bool,
+    /// The reference point of its first 1005 or 1006.
+    pub point: Option<ReferencePoint>,
+    /// Its epochs; `None` if there is none.
+    pub span: Option<Span>,
+    /// The first epoch, as the first message told it that counts.
+    pub told: Option<Told>,
+    /// How many first epochs that differ were told by messages that count.
+    pub dates: usize,
+}
+
+fn is_heard(station: Option<&StationSurvey>) -> bool
+    ensures { result ≡ spec.is_heard (option_copied station.entry) }
+{
+    match station {
+        Some(station) => station.counts.messages != 0,
+        None => false,
+    }
+}
+
+fn point_of(station: Option<&StationSurvey>) -> Option<ReferencePoint>
+    ensures { result ≡ spec.point_of (option_copied station.entry) }
+{
+    station?.reference_point
+}
+
+fn is_marked(mark: &bool) -> bool
+    ensures { result ≡ spec.is_marked mark.now }
+{
+    *mark
+}
+
+fn have_mark(marks: &[bool]) -> bool
+    ensures { result ≡ list_any spec.is_marked marks.now }
+{
+    marks.iter().any(is_marked)
+}
+
+/// Has the station an observation?
+pub(crate) fn has_observation(station: Option<&StationSurvey>) -> bool
+    ensures { result ≡ spec.has_observation (option_copied station.entry) }
+{
+    match station {
+        Some(station) => have_mark(&station.signals.codes.marks),
+        None => false,
+    }
+}
+
+/// Is this the station?
+pub(crate) fn is_station(station: u16, other: Option<u16>) -> bool
+    ensures { result ≡ spec.is_station station other }
+{
+    match other {
+        Some(other) => other == station,
+        None => false,
+    }
+}
+
+fn span_in(station: u16, survey: &CaptureSurvey) -> Option<Span>
+    ensures { result ≡ (spec.dates_in station survey.now).span }
+{
+    match &survey.contents.target {
+        Some(target) if is_station(station, target.dates.station) => target.dates.capture.span,
+        _ => None,
+    }
+}
+
+/// The first epochs that messages of a capture told of the station and that count, each that differs.
+pub(crate) fn told_in(station: u16, survey: &CaptureSurvey) -> &[Told]
+    ensures { result.now ≡ spec.told_in station survey.now }
+{
+    match &survey.contents.target {
+        Some(target) if is_station(station, target.dates.station) => {
+            target.dates.capture.told.counting()
+        }
+        _ => &[],
+    }
+}
+
+fn first_told(told: &[Told]) -> Option<Told>
+    ensures { result ≡ spec.first_told told.now }
+{
+    told.first().copied()
+}
+
+/// What a capture tells of a station.
+pub(crate) fn capture_of(station: u16, survey: &CaptureSurvey) -> StationCapture
+    ensures { result ≡ spec.capture_of station survey.now }
+{
+    let heard = survey.contents.stations.get(&station);
+    let told = told_in(station, survey);
+    StationCapture {
+        look: survey.look,
+        is_heard: is_heard(heard),
+        point: point_of(heard),
+        span: span_in(station, survey),
+        told: first_told(told),
+        dates: told.len(),
+    }
+}
+
+/// What captures tell of a station.
+pub(crate) fn captures_of(
+    alloc: Global,
+    station: u16,
+    surveys: &[CaptureSurvey],
+) -> Result<Vec<StationCapture>, AllocError>
+    ensures { IfOk result (λ all. all.items ≡ map (spec.capture_of station) surveys.now) }
+{
+    let mut all = Vec::new(alloc);
+    for survey in surveys {
+        all.push(capture_of(station, survey))?;
+    }
+    Ok(all)
+}

@@ -1,0 +1,164 @@
+//! The values of the conversion of a station, by the surveys of its captures.
+
+ghost use Rattle.std.specs.Prelude.{◌≡◌, IfOk};
+ghost use Rattle.std.specs.List.{list_any};
+ghost use Rattle.std.specs.Option.{option_copied};
+ghost use Rattle.rtk_survey.specs.Proposal as proposal;
+ghost use Rattle.rtk_plan.specs.Values as spec;
+
+use rtk_message::MsmKind;
+use rtk_obs::{ALL_CODES, Code};
+use rtk_survey::{CaptureSurvey, Epochs, StationSurvey, count_of_number};
+use std::alloc::{AllocError, Global};
+
+// ---- epochs
+
+fn no_epochs() -> Epochs
+    ensures { result ≡ spec.no_epochs }
+{
+    Epochs {
+        first: None,
+        last: None,
+        count: 0,
+    }
+}
+
+fn epochs_of_station(kind: MsmKind, station: Option<&StationSurvey>) -> Epochs
+    ensures { result ≡ spec.epochs_of_station kind (option_copied station.entry) }
+{
+    match station {
+        Some(station) => station.msm.part(kind).epochs,
+        None => no_epochs(),
+    }
+}
+
+fn is_same_epoch(last: Option<u32>, first: Option<u32>) -> u64
+    ensures { result ≡ spec.is_same_epoch last first }
+{
+    match (last, first) {
+        (Some(last), Some(first)) => u64::from(last == first),
+        _ => 0,
+    }
+}
+
+fn joined_epochs(before: Epochs, more: Epochs) -> Epochs
+    ensures { result ≡ spec.joined_epochs before more }
+{
+    let new = more
+        .count
+        .saturating_sub(is_same_epoch(before.last, more.first));
+    Epochs {
+        first: before.first.or(more.first),
+        last: more.last.or(before.last),
+        count: before.count.saturating_add(new),
+    }
+}
+
+// How many epochs of an MSM have a value in captures, one after another.
+fn epochs_in_captures(surveys: &[CaptureSurvey], station: u16, kind: MsmKind) -> u64
+    ensures { result ≡ spec.epochs_in_captures surveys.now station kind }
+{
+    let mut epochs = no_epochs();
+    for survey in surveys {
+        let more = epochs_of_station(kind, survey.contents.stations.get(&station));
+        epochs = joined_epochs(epochs, more);
+    }
+    epochs.count
+}
+
+fn better_of(surveys: &[CaptureSurvey], station: u16, lesser: MsmKind, greater: MsmKind) -> MsmKind
+    ensures { result ≡ proposal.better_of (spec.epochs_in_captures surveys.now station) lesser greater }
+{
+    let count = epochs_in_captures(surveys, station, greater);
+    if count == 0 || count < epochs_in_captures(surveys, station, lesser) {
+        lesser
+    } else {
+        greater
+    }
+}
+
+/// The MSM of which the station has most epochs with a value.
+pub(crate) fn msm_in_captures(surveys: &[CaptureSurvey], station: u16) -> MsmKind
+    ensures { result ≡ proposal.proposed (spec.epochs_in_captures surveys.now station) }
+{
+    let first = better_of(surveys, station, MsmKind::Msm4, MsmKind::Msm5);
+    let second = better_of(surveys, station, first, MsmKind::Msm6);
+    better_of(surveys, station, second, MsmKind::Msm7)
+}
+
+// ---- codes
+
+fn has_code_with(kind: MsmKind, code: Code, station: Option<&StationSurvey>) -> bool
+    ensures { result ≡ spec.has_code_with kind code (option_copied station.entry) }
+{
+    match station {
+        Some(station) => station.msm.part(kind).codes.marks[code.place()],
+        None => false,
+    }
+}
+
+fn gives_code(station: u16, kind: MsmKind, code: Code, survey: &CaptureSurvey) -> bool
+    ensures { result ≡ spec.gives_code station kind code survey.now }
+{
+    has_code_with(kind, code, survey.contents.stations.get(&station))
+}
+
+fn is_given(surveys: &[CaptureSurvey], station: u16, kind: MsmKind, code: Code) -> bool
+    ensures { result ≡ list_any (spec.gives_code station kind code) surveys.now }
+{
+    surveys
+        .iter()
+        .any(|survey| gives_code(station, kind, code, survey))
+}
+
+/// The codes that have a value in messages of the station that a conversion takes with this MSM.
+pub(crate) fn codes_in_captures(
+    alloc: Global,
+    surveys: &[CaptureSurvey],
+    station: u16,
+    kind: MsmKind,
+) -> Result<Vec<Code>, AllocError>
+    ensures { IfOk result (λ codes. codes.items ≡ spec.codes_in_captures surveys.now station kind) }
+{
+    let mut codes = Vec::new(alloc);
+    for code in &ALL_CODES {
+        if is_given(surveys, station, kind, *code) {
+            codes.push(*code)?;
+        }
+    }
+    Ok(codes)
+}
+
+// ---- messages
+
+fn messages_of_station(kind: MsmKind, station: Option<&StationSurvey>) -> u64
+    ensures { result ≡ spec.messages_of_station kind (option_copied station.entry) }
+{
+    match station {
+        Some(station) => station.msm.part(kind).messages,
+        None => 0,
+    }
+}
+
+/// How many messages of an MSM captures have of a station.
+pub(crate) fn messages_in_captures(surveys: &[CaptureSurvey], station: u16, kind: MsmKind) -> u64
+    ensures { result ≡ spec.messages_in_captures surveys.now station kind }
+{
+    let mut count = 0u64;
+    for survey in surveys {
+        let more = messages_of_station(kind, survey.contents.stations.get(&station));
+        count = count.saturating_add(more);
+    }
+    count
+}
+
+/// How many messages of a number that is not read captures have.
+pub(crate) fn others_in_captures(surveys: &[CaptureSurvey], number: u16) -> u64
+    ensures { result ≡ spec.others_in_captures surveys.now number }
+{
+    let mut count = 0u64;
+    for survey in surveys {
+        count = count.saturating_add(count_of_number(&survey.contents.unread.others, number));
+    }
+    count
+}

@@ -1,4 +1,0 @@
-pub mod FrameLemmas
-pub mod FreshLemmas
-pub mod ReadLemmas
-pub mod StationLemmas

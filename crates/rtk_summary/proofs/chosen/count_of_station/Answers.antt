@@ -1,8 +1,0 @@
-use Rattle.std.proofs.Common.{ap, ◌∙◌}
-use Rattle.rtk_survey.specs.declared.msm_parts.MsmPart.{MsmPart}
-use Rattle.rtk_survey.proofs.PublicLaws.{stands-of}
-use Rattle.rtk_summary.proofs.chosen.count_of_station.Goals as goal
-
-pub returns : goal.returns
-returns c = λ ms stands.
-    ap (λ (p : MsmPart). p.messages) c.part.ensures ∙ (stands-of c.args.station.now.msm ms c.args.kind stands.msm).messages

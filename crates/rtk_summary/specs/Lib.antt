@@ -1,4 +1,0 @@
-pub mod Following
-pub mod Standing
-pub mod StandingStations
-pub mod Steps

@@ -1,0 +1,147 @@
+-- The phases of the station of a conversion, and its dates.
+use Rattle.std.proofs.Common.{◌≡◌, ◌≢◌, ◌==◌, ℕ, Bool, true, false, cond, List, [], ◌∷◌, ◌++◌, Option, None, Some, refl, sym, ap, subst, ◌∙◌, inl, inr}
+use Rattle.std.specs.Prelude.{filter, unwrap_or}
+use Rattle.std.proofs.lemmas.Bool.{cases_Bool, cases_eq, eq-eqb, eqb-true}
+use Rattle.rtk_survey.specs.declared.date_message.DateMessage.{DateMessage}
+use Rattle.rtk_message.specs.declared.any_message.AnyMessage.{AnyMessage}
+use Rattle.rtk_message.specs.declared.any_message.AnyMessage.TheVariants as any
+use Rattle.rtk_message.specs.declared.message.Message.TheVariants.{Obs1004, Arp1005, Arp1006, Msm1074}
+use Rattle.rtk_message.specs.AnyDecoded.{station_of, tow_of}
+use Rattle.rtk_obs.specs.declared.cell.CellEntry.{CellEntry}
+use Rattle.rtk_survey.specs.ReadFrames.{ReadFrame, messages_from}
+use Rattle.rtk_survey.specs.Tracing.{is_numbered, entries_in, entries_of_message}
+use Rattle.rtk_survey.specs.Targets.{IsAnswer, IsTargetOf, observes, station_at, station_after, HasTargetPhases, with_time_of, with_observation, with_date_if_any}
+use Rattle.rtk_survey.specs.Phases.{entries_numbered, CountsPhases, HasPhases}
+use Rattle.rtk_survey.specs.declared.target.Target.{Target}
+use Rattle.rtk_survey.specs.declared.target.TargetDates.{TargetDates}
+use Rattle.rtk_survey.specs.declared.target.TargetSurvey.{TargetSurvey}
+use Rattle.rtk_survey.specs.declared.phases.PhaseCount.{PhaseCount}
+use Rattle.rtk_survey.specs.declared.phases.Phases.{Phases}
+use Rattle.rtk_survey.proofs.PhaseLemmas.{valueless}
+use Rattle.rtk_survey.proofs.StationLemmas.{own-message, other-message}
+
+-- ---- messages of a number
+
+pub numbered : (number : ℕ) (m : AnyMessage) (ms : List AnyMessage) → is_numbered number m ≡ true → entries_numbered number (m ∷ ms) ≡ entries_of_message m ++ entries_numbered number ms
+numbered number m ms holds = ap (λ (b : Bool). entries_in (cond b (m ∷ filter (is_numbered number) ms) (filter (is_numbered number) ms))) holds
+
+pub not-numbered : (number : ℕ) (m : AnyMessage) (ms : List AnyMessage) → is_numbered number m ≡ false → entries_numbered number (m ∷ ms) ≡ entries_numbered number ms
+not-numbered number m ms fails = ap (λ (b : Bool). entries_in (cond b (m ∷ filter (is_numbered number) ms) (filter (is_numbered number) ms))) fails
+
+-- ---- a message without an observation
+
+table-bare : (table : List PhaseCount) (number : ℕ) (m : AnyMessage) (ms : List AnyMessage) → observes m ≡ false → CountsPhases table (entries_numbered number ms)
+    → CountsPhases table (entries_numbered number (m ∷ ms))
+table-bare table number m ms bare stands = elim (cases_Bool (is_numbered number m)) [
+  | inl holds ↦ subst (λ (es : List CellEntry). CountsPhases table es) (sym (numbered number m ms holds)) (valueless table (entries_of_message m) (entries_numbered number ms) bare stands)
+  | inr fails ↦ subst (λ (es : List CellEntry). CountsPhases table es) (sym (not-numbered number m ms fails)) stands
+]
+
+phases-bare : (p : Phases) (m : AnyMessage) (ms : List AnyMessage) → observes m ≡ false → HasPhases p ms → HasPhases p (m ∷ ms)
+phases-bare p m ms bare stand = record {
+  of_1004 = table-bare p.of_1004.items 1004 m ms bare stand.of_1004;
+  of_1074 = table-bare p.of_1074.items 1074 m ms bare stand.of_1074;
+  of_1075 = table-bare p.of_1075.items 1075 m ms bare stand.of_1075;
+  of_1076 = table-bare p.of_1076.items 1076 m ms bare stand.of_1076;
+  of_1077 = table-bare p.of_1077.items 1077 m ms bare stand.of_1077;
+}
+
+-- ---- the station that is known
+
+-- a message with an observation has a time
+timed : (m : AnyMessage) → observes m ≡ true → tow_of m ≡ None → ⊥
+timed (any.Message (Obs1004 m)) holds none = cc
+timed (any.Message (Arp1005 m)) holds none = cc
+timed (any.Message (Arp1006 m)) holds none = cc
+timed (any.Message (Msm1074 m)) holds none = cc
+timed (any.Msm m) holds none = cc
+
+kept-if : (k : ℕ) (b : Bool) (n : ℕ) (t : Option ℕ) → cond b (station_at (Some k) n t) (Some k) ≡ Some k
+kept-if k true n None = refl
+kept-if k true n (Some t) = refl
+kept-if k false n t = refl
+
+kept : (k : ℕ) (m : AnyMessage) → station_after (Some k) m ≡ Some k
+kept k m = kept-if k (observes m) (station_of m) (tow_of m)
+
+same-known : (a b : ℕ) → Some a ≡ Some b → a ≡ b
+same-known a b same = cc
+
+unknown-at : (n : ℕ) (t : Option ℕ) → station_at None n t ≡ None → t ≡ None
+unknown-at n None is = refl
+unknown-at n (Some t) is = cc
+
+-- as long as no station is known, no message has an observation
+bare-of : (m : AnyMessage) → station_after None m ≡ None → observes m ≡ false
+bare-of m is = elim (cases_Bool (observes m)) [
+  | inr fails ↦ fails
+  | inl holds ↦ absurd (timed m holds (unknown-at (station_of m) (tow_of m) (sym (ap (λ (b : Bool). cond b (station_at None (station_of m) (tow_of m)) None) holds) ∙ is)))
+]
+
+-- the phases before a message are those of the station that is known after it
+pub of-before : (p : Phases) (before : Option ℕ) (m : AnyMessage) (ms : List AnyMessage) (station : ℕ) → Some station ≡ station_after before m → HasTargetPhases p before ms
+    → HasPhases p (messages_from station ms)
+of-before p None m ms station is stand = stand station
+of-before p (Some k) m ms station is stand = subst (λ (n : ℕ). HasPhases p (messages_from n ms)) (sym (same-known station k (is ∙ kept k m))) stand
+
+pub taken : (old new : Phases) (before : Option ℕ) (m : AnyMessage) (ms : List AnyMessage) (station : ℕ) → Some station ≡ station_after before m → station ≡ station_of m
+    → ((xs : List AnyMessage) → HasPhases old xs → HasPhases new (m ∷ xs)) → HasTargetPhases old before ms → HasPhases new (messages_from station (m ∷ ms))
+taken old new before m ms station is same took stand =
+    subst (λ (xs : List AnyMessage). HasPhases new xs) (sym (own-message station m ms same)) (took (messages_from station ms) (of-before old before m ms station is stand))
+
+pub passed : (p : Phases) (before : Option ℕ) (m : AnyMessage) (ms : List AnyMessage) (station : ℕ) → Some station ≡ station_after before m → station ≢ station_of m
+    → HasTargetPhases p before ms → HasPhases p (messages_from station (m ∷ ms))
+passed p before m ms station is other stand =
+    subst (λ (xs : List AnyMessage). HasPhases p xs) (sym (other-message station m ms other)) (of-before p before m ms station is stand)
+
+pub none-known : (p : Phases) (before : Option ℕ) (m : AnyMessage) (ms : List AnyMessage) → None ≡ station_after before m → HasTargetPhases p before ms
+    → (n : ℕ) → HasPhases p (messages_from n (m ∷ ms))
+none-known p (Some k) m ms is stand n = let fails : None ≡ Some k = is ∙ kept k m in cc
+none-known p None m ms is stand n = elim (cases_eq n (station_of m)) [
+  | inl same ↦
+      subst (λ (xs : List AnyMessage). HasPhases p xs) (sym (own-message n m ms same)) (phases-bare p m (messages_from n ms) (bare-of m (sym is)) (stand n))
+  | inr other ↦ subst (λ (xs : List AnyMessage). HasPhases p xs) (sym (other-message n m ms other)) (stand n)
+]
+
+-- ---- the station of the dates
+
+time-known : (known : Option ℕ) (n : ℕ) (b : Bool) → (unwrap_or known n == n) ≡ b → cond b (Some n) known ≡ Some (unwrap_or known n)
+time-known None n true is = refl
+time-known None n false is = let holds : (n == n) ≡ true = eq-eqb n n refl in cc
+time-known (Some k) n true is = ap Some (sym (eqb-true k n is))
+time-known (Some k) n false is = refl
+
+of-cond : (b : Bool) (x d : TargetDates) → (cond b x d).station ≡ cond b x.station d.station
+of-cond true x d = refl
+of-cond false x d = refl
+
+station-of-time : (now : ℕ) (d : TargetDates) (n : ℕ) (t : Option ℕ) → (with_time_of now d n t).station ≡ station_at d.station n t
+station-of-time now d n None = refl
+station-of-time now d n (Some tow) =
+    of-cond (unwrap_or d.station n == n) _ d ∙ time-known d.station n (unwrap_or d.station n == n) refl
+
+pub station-of-dates : (now : ℕ) (d : TargetDates) (m : AnyMessage) → (with_observation now d m).station ≡ station_after d.station m
+station-of-dates now d m =
+    of-cond (observes m) (with_time_of now d (station_of m) (tow_of m)) d
+    ∙ ap (λ (s : Option ℕ). cond (observes m) s d.station) (station-of-time now d (station_of m) (tow_of m))
+
+pub station-of-date : (now : ℕ) (d : TargetDates) (o : Option DateMessage) → (with_date_if_any now d o).station ≡ d.station
+station-of-date now d None = refl
+station-of-date now d (Some m) = refl
+
+-- ---- no message came
+
+pub no-phases : (p : Phases) (station : Option ℕ) → HasPhases p [] → HasTargetPhases p station []
+no-phases p None stand = λ n. stand
+no-phases p (Some n) stand = stand
+
+-- ---- a frame more, if the station is asked for
+
+pub answer-more : (q : Option Target) (fs more : List ReadFrame) (old new : TargetSurvey) → ((t : Target) → IsTargetOf t fs old → IsTargetOf t more new)
+    → IsAnswer q fs (Some old) → IsAnswer q more (Some new)
+answer-more None fs more old new step is = cc
+answer-more (Some t) fs more old new step is = step t is
+
+pub answer-none : (q : Option Target) (fs more : List ReadFrame) → IsAnswer q fs None → IsAnswer q more None
+answer-none None fs more is = is
+answer-none (Some t) fs more is = is

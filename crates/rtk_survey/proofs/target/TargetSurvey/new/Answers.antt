@@ -1,0 +1,10 @@
+use Rattle.std.proofs.Common.{refl}
+use Rattle.rtk_survey.proofs.TargetLemmas.{no-phases}
+use Rattle.rtk_survey.proofs.target.TargetSurvey.new.Goals as goal
+
+pub returns : goal.returns
+returns c = record {
+  present = refl;
+  dates = c.new.ensures;
+  phases = no-phases c.new-2.result c.new.result.station c.new-2.ensures;
+}

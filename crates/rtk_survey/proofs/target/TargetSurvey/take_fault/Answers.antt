@@ -1,0 +1,23 @@
+use Rattle.std.proofs.Common.{Option, ℕ, sym, ap, subst, ◌∙◌}
+use Rattle.rtk_bits.specs.Bits.{bits}
+use Rattle.rtk_survey.specs.DateMessages.{date_in}
+use Rattle.rtk_survey.specs.ReadFrames.{messages_in}
+use Rattle.rtk_survey.specs.Targets.{with_date_if_any, HasTargetPhases}
+use Rattle.rtk_survey.specs.declared.date_message.DateMessage.{DateMessage}
+use Rattle.rtk_survey.specs.declared.target.TargetDates.{TargetDates}
+use Rattle.rtk_survey.proofs.TargetLemmas.{station-of-date}
+use Rattle.rtk_survey.proofs.target.TargetSurvey.take_fault.Goals as goal
+
+pub returns : goal.returns
+returns c = λ q fs fault is.
+    let old = c.args.self.now in
+    let date = date_in (bits c.args.payload.now) in
+    let station = ap (λ (d : TargetDates). d.station) c.take_date.ensures ∙ station-of-date old.present old.dates c.date_in.result in
+    record {
+      present = is.present;
+      dates = c.take_date.ensures
+          ∙ ap (λ (m : Option DateMessage). with_date_if_any old.present old.dates m) c.date_in.ensures
+          ∙ ap (λ (n : ℕ). with_date_if_any n old.dates date) is.present
+          ∙ ap (λ (d : TargetDates). with_date_if_any q.present d date) is.dates;
+      phases = subst (λ (s : Option ℕ). HasTargetPhases old.phases s (messages_in fs)) (sym station) is.phases;
+    }

@@ -1,0 +1,20 @@
+use Rattle.std.proofs.Common.{ℕ, ap, ◌∙◌}
+use Rattle.rtk_survey.specs.ReadFrames.{messages_in}
+use Rattle.rtk_survey.specs.Targets.{with_observation}
+use Rattle.rtk_survey.specs.declared.target.TargetDates.{TargetDates}
+use Rattle.rtk_survey.proofs.ResultLemmas.{on-ok}
+use Rattle.rtk_survey.proofs.TargetLemmas.{station-of-dates}
+use Rattle.rtk_survey.proofs.target.TargetSurvey.take_message.Goals as goal
+
+pub returns : goal.returns
+returns c = on-ok c.take_phases.result (λ took q fs payload is.
+    let old = c.args.self.now in
+    let m = c.args.message.now in
+    let station = ap (λ (d : TargetDates). d.station) c.take_message.ensures ∙ station-of-dates old.present old.dates m in
+    record {
+      present = is.present;
+      dates = c.take_message.ensures
+          ∙ ap (λ (n : ℕ). with_observation n old.dates m) is.present
+          ∙ ap (λ (d : TargetDates). with_observation q.present d m) is.dates;
+      phases = took old.dates.station (messages_in fs) station is.phases;
+    }) c.take_phases.ensures

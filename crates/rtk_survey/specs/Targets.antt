@@ -1,0 +1,90 @@
+-- What a capture tells of the station of a conversion (this project's rule). Lists of frames and messages
+-- are newest first.
+use Rattle.std.specs.Prelude.{◌≡◌, ℕ, ◌==◌, Bool, List, [], ◌∷◌, Option, None, Some, unwrap_or, Result, Ok, Err, if◌then◌else◌}
+use Rattle.std.specs.List.{list_any}
+use Rattle.rtk_bits.specs.Bits.{bits}
+use Rattle.rtk_message.specs.declared.any_message.AnyMessage.{AnyMessage}
+use Rattle.rtk_message.specs.declared.any_fault.AnyFault.{AnyFault}
+use Rattle.rtk_message.specs.AnyDecoded.{station_of, tow_of}
+use Rattle.rtk_survey.specs.CaptureDates.{no_dates, with_epoch_time, with_date, with_waiting}
+use Rattle.rtk_survey.specs.DateMessages.{date_in}
+use Rattle.rtk_survey.specs.Phases.{HasPhases}
+use Rattle.rtk_survey.specs.Proposal.{entry_has_value}
+use Rattle.rtk_survey.specs.ReadFrames.{ReadFrame, messages_in, messages_from}
+use Rattle.rtk_survey.specs.Tracing.{entries_of_message}
+use Rattle.rtk_survey.specs.declared.capture_dates.CaptureDates.{CaptureDates}
+use Rattle.rtk_survey.specs.declared.date_message.DateMessage.{DateMessage}
+use Rattle.rtk_survey.specs.declared.phases.Phases.{Phases}
+use Rattle.rtk_survey.specs.declared.target.Target.{Target}
+use Rattle.rtk_survey.specs.declared.target.TargetDates.{TargetDates}
+use Rattle.rtk_survey.specs.declared.target.TargetSurvey.{TargetSurvey}
+
+-- a message has an observation: one of its cells has a range, a phase or a strength
+abbrev pub observes : AnyMessage → Bool
+observes m = list_any entry_has_value (entries_of_message m)
+
+-- ---- the dates
+
+-- the station, if one is known, and what the capture tells of its epochs
+abbrev pub dates_with : Option ℕ → CaptureDates → TargetDates
+dates_with station capture = record { station = station; capture = capture }
+
+-- an observation at this time of week, of this station: if no station was known, it is that one
+abbrev pub with_time_of : ℕ → TargetDates → ℕ → Option ℕ → TargetDates
+with_time_of now d station None = d
+with_time_of now d station (Some tow) =
+    if unwrap_or d.station station == station then dates_with (Some station) (with_epoch_time now station d.capture tow) else d
+
+-- a message more
+abbrev pub with_observation : ℕ → TargetDates → AnyMessage → TargetDates
+with_observation now d m = if observes m then with_time_of now d (station_of m) (tow_of m) else d
+
+-- a date; as long as no station is known, no epoch came, and it waits
+abbrev pub with_date_for : ℕ → Option ℕ → CaptureDates → DateMessage → CaptureDates
+with_date_for now None c m = with_waiting c m
+with_date_for now (Some station) c m = with_date now station c m
+
+abbrev pub with_date_if_any : ℕ → TargetDates → Option DateMessage → TargetDates
+with_date_if_any now d None = d
+with_date_if_any now d (Some m) = dates_with d.station (with_date_for now d.station d.capture m)
+
+abbrev pub with_reading : ℕ → TargetDates → List ℕ → Result AnyMessage AnyFault → TargetDates
+with_reading now d payload (Ok m) = with_observation now d m
+with_reading now d payload (Err fault) = with_date_if_any now d (date_in (bits payload))
+
+-- what frames tell, by the present, after what came before them
+abbrev pub dates_after : ℕ → TargetDates → List ReadFrame → TargetDates
+dates_after now d [] = d
+dates_after now d (f ∷ before) = with_reading now (dates_after now d before) f.payload f.reading
+
+-- what the frames of a capture tell, if this station is named, or none
+abbrev pub dates_of : ℕ → Option ℕ → List ReadFrame → TargetDates
+dates_of now named fs = dates_after now (dates_with named no_dates) fs
+
+-- ---- the phases
+
+abbrev pub station_at : Option ℕ → ℕ → Option ℕ → Option ℕ
+station_at known station None = known
+station_at known station (Some tow) = Some (unwrap_or known station)
+
+-- the station that is known after a message: the first with an observation, if none was known
+abbrev pub station_after : Option ℕ → AnyMessage → Option ℕ
+station_after known m = if observes m then station_at known (station_of m) (tow_of m) else known
+
+-- the phases of the station that is known; as long as none is, no station has one
+abbrev pub HasTargetPhases : Phases → Option ℕ → List AnyMessage → Type 0
+HasTargetPhases p None ms = (n : ℕ) → HasPhases p (messages_from n ms)
+HasTargetPhases p (Some station) ms = HasPhases p (messages_from station ms)
+
+-- ---- all of it
+
+pub record IsTargetOf (q : Target) (fs : List ReadFrame) (t : TargetSurvey) : Type 0 where
+  pub present : t.present ≡ q.present
+  pub dates : t.dates ≡ dates_of q.present q.station fs
+  pub phases : HasTargetPhases t.phases t.dates.station (messages_in fs)
+
+-- what a capture with these frames tells of the station of a conversion, if it is asked for
+abbrev pub IsAnswer : Option Target → List ReadFrame → Option TargetSurvey → Type 0
+IsAnswer None fs answer = answer ≡ None
+IsAnswer (Some q) fs None = ⊥
+IsAnswer (Some q) fs (Some t) = IsTargetOf q fs t

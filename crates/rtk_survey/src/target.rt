@@ -1,0 +1,203 @@
+//! The station of a conversion: the one that is named, or else the first one that has an observation.
+
+ghost use Rattle.std.specs.Prelude.{◌≡◌, ◌≢◌, ℕ, List, [], ◌∷◌, Option, Some, Ok, Err, true, OnOk};
+ghost use Rattle.rtk_bits.specs.Bits.{bits};
+ghost use Rattle.rtk_message.specs.declared.any_message.AnyMessage.{AnyMessage};
+ghost use Rattle.rtk_message.specs.declared.any_fault.AnyFault.{AnyFault};
+ghost use Rattle.rtk_survey.specs.CaptureDates.{no_dates};
+ghost use Rattle.rtk_survey.specs.ReadFrames.{ReadFrame, read_frame};
+ghost use Rattle.rtk_survey.specs.Targets as spec;
+ghost use Rattle.rtk_survey.specs.Targets.{IsTargetOf, IsAnswer};
+ghost use Rattle.rtk_survey.specs.Tracing.{entries_of_message};
+ghost use Rattle.rtk_survey.specs.declared.target.Target.{Target};
+
+use crate::capture_dates::CaptureDates;
+use crate::date_message::{DateMessage, date_in};
+use crate::phases::Phases;
+use crate::signals::have_value;
+use rtk_message::AnyMessage;
+use rtk_obs::{CellEntry, GpsMs};
+use std::alloc::{AllocError, Global};
+
+/// For which station a capture is surveyed.
+#[derive(Clone, Copy, Debug, PartialEq, Eq)]
+pub struct Target {
+    /// The station, if one is named.
+    pub station: Option<u16>,
+    /// The present: no date is after it.
+    pub present: GpsMs,
+}
+
+/// The station that is known, and what a capture tells of its epochs.
+#[derive(Clone, Drop)]
+pub struct TargetDates {
+    /// The station that was named, or else the first one that had an observation.
+    pub station: Option<u16>,
+    pub capture: CaptureDates,
+}
+
+/// What a capture tells of the station of a conversion.
+#[derive(Drop)]
+pub struct TargetSurvey {
+    /// The present: no date is after it.
+    pub present: GpsMs,
+    pub dates: TargetDates,
+    pub phases: Phases,
+}
+
+// Has a message with these cells an observation?
+fn observes(_message: &AnyMessage, entries: &[CellEntry]) -> bool
+    requires { entries.now ≡ entries_of_message _message.now }
+    ensures { result ≡ spec.observes _message.now }
+{
+    have_value(entries)
+}
+
+impl TargetDates {
+    // Nothing came; this station is named, or none.
+    fn new(station: Option<u16>) -> TargetDates
+        ensures { result ≡ spec.dates_with station no_dates }
+    {
+        TargetDates {
+            station,
+            capture: CaptureDates::new(),
+        }
+    }
+
+    // A message more that has an observation.
+    fn take_observation(&mut self, now: GpsMs, message: &AnyMessage)
+        requires { spec.observes message.now ≡ true }
+        ensures { self.new ≡ spec.with_observation now self.old message.now }
+    {
+        let Some(tow) = message.tow() else {
+            return;
+        };
+        let station = message.station();
+        if self.station.unwrap_or(station) == station {
+            self.station = Some(station);
+            self.capture.take_epoch(now, station, tow);
+        }
+    }
+
+    // A message more, if it has a date.
+    fn take_date(&mut self, now: GpsMs, message: Option<DateMessage>)
+        ensures { self.new ≡ spec.with_date_if_any now self.old message }
+    {
+        let Some(message) = message else {
+            return;
+        };
+        match self.station {
+            Some(station) => self.capture.take_date(now, station, message),
+            None => self.capture.wait(message),
+        }
+    }
+}
+
+fn take_message(dates: &mut TargetDates, now: GpsMs, message: &AnyMessage, entries: &[CellEntry])
+    requires { entries.now ≡ entries_of_message message.now }
+    ensures { dates.new ≡ spec.with_observation now dates.old message.now }
+{
+    if observes(message, entries) {
+        dates.take_observation(now, message);
+    }
+}
+
+// Counts the phases of a message, if it is of the station that is now known.
+fn take_phases(
+    alloc: Global,
+    phases: &mut Phases,
+    station: Option<u16>,
+    message: &AnyMessage,
+    entries: &[CellEntry],
+) -> Result<(), AllocError>
+    requires { entries.now ≡ entries_of_message message.now }
+    ensures { OnOk result ((before : Option ℕ) (ms : List AnyMessage) → station ≡ spec.station_after before message.now
+        → spec.HasTargetPhases phases.old before ms → spec.HasTargetPhases phases.new station (message.now ∷ ms)) }
+{
+    let Some(station) = station else {
+        return Ok(());
+    };
+    if message.station() == station {
+        return phases.take_message(alloc, message, entries);
+    }
+    Ok(())
+}
+
+impl TargetSurvey {
+    // Nothing came.
+    fn new(alloc: Global, target: &Target) -> TargetSurvey
+        ensures { IsTargetOf target.now [] result }
+    {
+        TargetSurvey {
+            present: target.present,
+            dates: TargetDates::new(target.station),
+            phases: Phases::new(alloc),
+        }
+    }
+
+    // A frame more that is this message.
+    fn take_message(
+        &mut self,
+        alloc: Global,
+        message: &AnyMessage,
+        entries: &[CellEntry],
+    ) -> Result<(), AllocError>
+        requires { entries.now ≡ entries_of_message message.now }
+        ensures { OnOk result ((q : Target) (fs : List ReadFrame) (payload : List ℕ) → IsTargetOf q fs self.old
+            → IsTargetOf q (read_frame payload (Ok message.now) ∷ fs) self.new) }
+    {
+        take_message(&mut self.dates, self.present, message, entries);
+        take_phases(
+            alloc,
+            &mut self.phases,
+            self.dates.station,
+            message,
+            entries,
+        )
+    }
+
+    // A frame more that is no message.
+    fn take_fault(&mut self, payload: &[u8])
+        ensures { (q : Target) (fs : List ReadFrame) (fault : AnyFault) → IsTargetOf q fs self.old
+            → IsTargetOf q (read_frame payload.now (Err fault) ∷ fs) self.new }
+    {
+        self.dates.take_date(self.present, date_in(payload));
+    }
+}
+
+/// Nothing came.
+pub(crate) fn answer_to(alloc: Global, target: Option<Target>) -> Option<TargetSurvey>
+    ensures { IsAnswer target [] result }
+{
+    match target {
+        Some(target) => Some(TargetSurvey::new(alloc, &target)),
+        None => None,
+    }
+}
+
+/// A frame more that is this message, if the station is asked for.
+pub(crate) fn take_target_message(
+    alloc: Global,
+    answer: &mut Option<TargetSurvey>,
+    message: &AnyMessage,
+    entries: &[CellEntry],
+) -> Result<(), AllocError>
+    requires { entries.now ≡ entries_of_message message.now }
+    ensures { OnOk result ((q : Option Target) (fs : List ReadFrame) (payload : List ℕ) → IsAnswer q fs answer.old
+        → IsAnswer q (read_frame payload (Ok message.now) ∷ fs) answer.new) }
+{
+    match answer {
+        Some(survey) => survey.take_message(alloc, message, entries),
+        None => Ok(()),
+    }
+}
+
+/// A frame more that is no message, if the station is asked for.
+pub(crate) fn take_target_fault(answer: &mut Option<TargetSurvey>, payload: &[u8])
+    ensures { (q : Option Target) (fs : List ReadFrame) (fault : AnyFault) → IsAnswer q fs answer.old
+        → IsAnswer q (read_frame payload.now (Err fault) ∷ fs) answer.new }
+{
+    if let Some(survey) = answer {
+        survey.take_fault(payload);
+    }
+}
