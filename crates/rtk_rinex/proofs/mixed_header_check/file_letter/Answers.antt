@@ -1,4 +1,4 @@
-use Rattle.std.proofs.Common.{◌≡◌, ◌∙◌, ℕ, List, Bool, true, false, ◌==◌, codes, sym, refl}
+use Rattle.std.proofs.Common.{◌≡◌, ◌∙◌, ℕ, true, false, ◌==◌, codes, sym}
 use Rattle.std.specs.List.{list_any}
 use Rattle.rtk_rinex.proofs.SystemsReadLemmas.{at_file}
 use Rattle.rtk_rinex.proofs.mixed_header_check.file_letter.Goals as goal

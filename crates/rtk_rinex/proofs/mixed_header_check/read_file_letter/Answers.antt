@@ -1,4 +1,4 @@
-use Rattle.std.proofs.Common.{◌≡◌, ◌∙◌, ◌++◌, ◌<◌, ℕ, List, [], ◌∷◌, length, slice_index_or, codes, arith, sym, refl, subst}
+use Rattle.std.proofs.Common.{◌≡◌, ◌∙◌, ◌++◌, ◌<◌, ℕ, List, [], ◌∷◌, length, slice_index_or, codes, arith, sym, refl, subst, length-append}
 use Rattle.rtk_rinex.specs.MixedHeader.{mixed_version_line}
 use Rattle.rtk_rinex.specs.Steps.MixedRoom.{IsFileLetter}
 use Rattle.rtk_rinex.proofs.HeaderShownLemmas.{line_rest, line_is}
@@ -10,8 +10,7 @@ at_letter text more l e =
     let a : List ℕ = codes "     3.05           OBSERVATION DATA    " ++ l ∷ [] in
     let rest : List ℕ = line_rest a (codes "RINEX VERSION / TYPE") more in
     let r : text ≡ a ++ rest = e ∙ line_is a (codes "RINEX VERSION / TYPE") more in
-    let size : length (a ++ rest) ≡ 41 + length rest = refl in
-    rw r (omega (arith, size), refl)
+    rw r (omega (arith, length-append a rest), refl)
 
 pub returns-then-text-gt40-clause-shown : goal.returns-then-text-gt40-clause-shown
 returns-then-text-gt40-clause-shown c = λ file good line.

@@ -1,4 +1,4 @@
-use Rattle.std.proofs.Common.{◌≡◌, ◌∙◌, ◌++◌, ◌≤◌, ℕ, List, length, drop, true, ap, sym, subst, append_assoc, ℤ, Option, Some, None}
+use Rattle.std.proofs.Common.{◌≡◌, ◌∙◌, ◌++◌, ◌≤◌, ℕ, List, length, drop, true, ap, sym, subst, append_assoc, Option, Some, None}
 use Rattle.std.specs.Option.{SomeIff}
 use Rattle.rtk_rinex.specs.MixedHead.{GlonassView, TellsGlonass, has_glonass}
 use Rattle.rtk_rinex.specs.MixedHeader.{slots_lines, biases_line, leap_line, glonass_lines}

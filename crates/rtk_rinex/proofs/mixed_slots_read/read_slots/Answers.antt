@@ -1,4 +1,4 @@
-use Rattle.std.proofs.Common.{◌≡◌, ◌∙◌, ℕ, subst, arith, rules}
+use Rattle.std.proofs.Common.{◌≡◌, ◌∙◌, ℕ, subst, arith}
 use Rattle.rtk_obs.specs.Carriers.{AreChannels}
 use Rattle.rtk_rinex.proofs.SlotsReadLemmas.{ReadsSlots, reads_none, reads_more, reads_all, slot_shown}
 use Rattle.rtk_rinex.proofs.mixed_slots_read.read_slots.Goals as goal

@@ -1,4 +1,4 @@
-use Rattle.std.proofs.Common.{◌≡◌, ◌≤◌, ◌<◌, ◌∙◌, ℕ, List, length, take, get_or, arith, ap, sym}
+use Rattle.std.proofs.Common.{◌≡◌, ◌<◌, ◌∙◌, List, length, take, arith, ap, sym}
 use Rattle.std.proofs.lemmas.List.{length-take, get_or-take}
 use Rattle.std.proofs.lemmas.List.Elements.{All-take}
 use Rattle.rtk_obs.specs.declared.any_code.AnyCode.{AnyCode}

@@ -1,10 +1,9 @@
-use Rattle.std.proofs.Common.{◌≡◌, ◌≤◌, ◌+◌, ◌*◌, ◌++◌, ◌∙◌, List, [], ◌∷◌, ℕ, refl, sym, ap, arith, length, length-append, take, drop, true, false, rules}
-use Rattle.std.specs.Prelude.{Decides}
+use Rattle.std.proofs.Common.{◌≡◌, ◌≤◌, ◌++◌, ◌∙◌, List, [], ℕ, refl, sym, ap, arith, length, length-append, drop, true, false, rules}
 use Rattle.std.proofs.lemmas.List.{append-nil}
 use Rattle.rtk_obs.specs.declared.any_code.AnyCode.{AnyCode}
 use Rattle.rtk_rinex.specs.MixedHeader.{system_types_lines}
 use Rattle.rtk_rinex.specs.Steps.MixedRoom.{codes_of_letter, types_line_count}
-use Rattle.rtk_rinex.specs.Steps.MixedHeaderRead.{is_due, ShowsGroup}
+use Rattle.rtk_rinex.specs.Steps.MixedHeaderRead.{is_due}
 use Rattle.rtk_rinex.proofs.MixedRoomLemmas.{types_room}
 use Rattle.rtk_rinex.proofs.mixed_types_read.read_system.Goals as goal
 
