@@ -29,24 +29,24 @@ not_lf x true e h = absurd (let apart : false ≡ true = h in cc)
 not_lf x false e h = grind (arith, nat_tests)
 
 -- a text that is known
-known : (xs : List ℕ) → list_all (λ x. not (x == 10)) xs ≡ true → HasNoEnd xs
+pub known : (xs : List ℕ) → list_all (λ x. not (x == 10)) xs ≡ true → HasNoEnd xs
 known [] e = All-nil IsNoEnd
 known (x ∷ xs) e =
     let parts = and-parts (not (x == 10)) (list_all (λ x. not (x == 10)) xs) e in
     All-cons IsNoEnd x xs (not_lf x (x == 10) refl parts.0) (known xs parts.1)
 
-printed : (xs : List ℕ) → All (λ x. IsInRange 32 126 x) xs → HasNoEnd xs
+pub printed : (xs : List ℕ) → All (λ x. IsInRange 32 126 x) xs → HasNoEnd xs
 printed [] h = All-nil IsNoEnd
 printed (x ∷ xs) h =
     let first = All-head (λ (x : ℕ). IsInRange 32 126 x) x xs h in
     All-cons IsNoEnd x xs (omega (arith, first)) (printed xs (All-tail (λ (x : ℕ). IsInRange 32 126 x) x xs h))
 
-of_take : (n : ℕ) (xs : List ℕ) → HasNoEnd xs → HasNoEnd (take n xs)
+pub of_take : (n : ℕ) (xs : List ℕ) → HasNoEnd xs → HasNoEnd (take n xs)
 of_take zero xs h = All-nil IsNoEnd
 of_take (suc n) [] h = h
 of_take (suc n) (x ∷ xs) h = All-cons IsNoEnd x (take n xs) (All-head IsNoEnd x xs h) (of_take n xs (All-tail IsNoEnd x xs h))
 
-of_drop : (n : ℕ) (xs : List ℕ) → HasNoEnd xs → HasNoEnd (drop n xs)
+pub of_drop : (n : ℕ) (xs : List ℕ) → HasNoEnd xs → HasNoEnd (drop n xs)
 of_drop zero xs h = h
 of_drop (suc n) [] h = h
 of_drop (suc n) (x ∷ xs) h = of_drop n xs (All-tail IsNoEnd x xs h)
@@ -55,11 +55,11 @@ of_left : (w : ℕ) (text : List ℕ) → HasNoEnd text → HasNoEnd (left w tex
 unfolding left
 of_left w text h = both text _ h (blanks _)
 
-of_row : (content label : List ℕ) → HasNoEnd content → HasNoEnd label → HasNoEnd (row content label)
+pub of_row : (content label : List ℕ) → HasNoEnd content → HasNoEnd label → HasNoEnd (row content label)
 unfolding row
 of_row content label h g = both (left 60 content) (left 20 label) (of_left 60 content h) (of_left 20 label g)
 
-of_fixed : (v : ℤ) → IsCoordinate v → HasNoEnd (fixed 4 14 v)
+pub of_fixed : (v : ℤ) → IsCoordinate v → HasNoEnd (fixed 4 14 v)
 of_fixed (pos n) h = of_right 14 (decimals 4 false n) (of_decimals 4 false n (omega (arith, ints, h.least, h.greatest)))
 of_fixed (negsuc n) h = of_right 14 (decimals 4 true (suc n)) (of_decimals 4 true (suc n) (omega (arith, ints, h.least, h.greatest)))
 
@@ -87,7 +87,7 @@ of_types (c ∷ cs) = both (types_of c) (types cs) (of_code c) (of_types cs)
 
 -- ---- the lines
 
-of_made : (made : ℕ) → HasNoEnd (made_row made)
+pub of_made : (made : ℕ) → HasNoEnd (made_row made)
 of_made made =
     let c = reading_of made in
     let year : List ℕ = last_digits 4 c.year in
@@ -102,7 +102,7 @@ of_made made =
     let program : List ℕ = codes "rtcm2rinex                              " in
     of_row (program ++ made_text c) (codes "PGM / RUN BY / DATE") (both program (made_text c) (known program refl) all) (known (codes "PGM / RUN BY / DATE") refl)
 
-of_first : (first : ℕ) → IsMoment first → HasNoEnd (first_row first)
+pub of_first : (first : ℕ) → IsMoment first → HasNoEnd (first_row first)
 of_first first h =
     let c = reading_of first in
     let fits = FitsColumns-reading_of first h in

@@ -38,7 +38,7 @@ same_lines (l ∷ ls) (m ∷ ms) x y h g long e =
     record { more = rest.more; list = same_cons l m (ls ++ rest.more) ms one.0 rest.list; text = rest.text }
 
 -- lines that begin a text of lines
-lines_begin : (ls ms : List (List ℕ)) (x : List ℕ) → All HasNoEnd ls → All HasNoEnd ms → text_of ls ++ x ≡ text_of ms → (more : List (List ℕ)) × (ms ≡ ls ++ more)
+pub lines_begin : (ls ms : List (List ℕ)) (x : List ℕ) → All HasNoEnd ls → All HasNoEnd ms → text_of ls ++ x ≡ text_of ms → (more : List (List ℕ)) × (ms ≡ ls ++ more)
 lines_begin [] ms x h g e = (ms, refl)
 lines_begin (l ∷ ls) [] x h g e = absurd (let size = ap length e in omega (arith, size, length-append (text_of (l ∷ ls)) x, length-append (ended l) (text_of ls), length-append l (10 ∷ [])))
 lines_begin (l ∷ ls) (m ∷ ms) x h g e =

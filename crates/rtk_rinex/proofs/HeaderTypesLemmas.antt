@@ -56,7 +56,7 @@ length-types_line j cs h =
     let long : length (head ++ shown) ≤ 60 = omega (arith, length-append head shown, length-head j (length cs) h, few) in
     length-append (left 60 (head ++ shown)) (left 20 types_label) ∙ omega (arith, length-left 60 (head ++ shown) long, length-left 20 types_label (omega arith))
 
-line_in : (rows : List (List ℕ)) (rest : List ℕ) (i : ℕ) → ((j : ℕ) → j < length rows → length (get_or rows j []) ≡ 80) → i < length rows
+pub line_in : (rows : List (List ℕ)) (rest : List ℕ) (i : ℕ) → ((j : ℕ) → j < length rows → length (get_or rows j []) ≡ 80) → i < length rows
     → line_at i (text_of rows ++ rest) ≡ ended (get_or rows i [])
 line_in [] rest i h lt = absurd (omega arith)
 line_in (r ∷ rows) rest zero h lt =

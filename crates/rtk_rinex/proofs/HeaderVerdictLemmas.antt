@@ -25,7 +25,7 @@ use Rattle.rtk_rinex.proofs.LineLemmas.{no_front, same_front}
 pub none_alike : (text other : List ℕ) → BeginAlike 0 text other text other
 none_alike text other = record { lines = []; are_lines = All-nil HasNoEnd; size = refl; begins = refl; other_begins = refl }
 
-more_text : (lines : List (List ℕ)) (line rest : List ℕ) → text_of lines ++ (line ++ 10 ∷ rest) ≡ text_of (lines ++ line ∷ []) ++ rest
+pub more_text : (lines : List (List ℕ)) (line rest : List ℕ) → text_of lines ++ (line ++ 10 ∷ rest) ≡ text_of (lines ++ line ∷ []) ++ rest
 more_text lines line rest =
     sym (ap (λ (t : List ℕ). t ++ rest) (flat_map-append (λ (l : List ℕ). l ++ 10 ∷ []) lines (line ∷ [])) ∙ simp append_assoc)
 
@@ -63,7 +63,7 @@ unlike_at n text written rest wanted line more f a is e other number cause =
 -- ---- a text that has all lines of a header
 
 -- no part of a line is left of a text of lines
-none_left : (ls ms : List (List ℕ)) (end : List ℕ) → All HasNoEnd ls → All HasNoEnd ms → HasNoEnd end → text_of ms ≡ text_of ls ++ end → end ≡ []
+pub none_left : (ls ms : List (List ℕ)) (end : List ℕ) → All HasNoEnd ls → All HasNoEnd ms → HasNoEnd end → text_of ms ≡ text_of ls ++ end → end ≡ []
 none_left [] [] end h g none e = sym e
 none_left [] (m ∷ ms) end h g none e =
     let whole : end ≡ m ++ 10 ∷ text_of ms = sym e ∙ append_assoc m (10 ∷ []) (text_of ms) in

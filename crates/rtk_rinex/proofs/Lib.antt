@@ -39,3 +39,17 @@ mod KeptLemmas
 mod MixedListLemmas
 mod MixedRoomLemmas
 mod GpsHeaderLemmas
+mod TextPartLemmas
+mod TypesPieceLemmas
+mod SlotsPieceLemmas
+mod MixedCodesLemmas
+mod GroupLemmas
+mod SlotsReadLemmas
+mod SystemLinesLemmas
+mod SystemOrderLemmas
+mod SystemsReadLemmas
+mod SlotsLinesLemmas
+mod MixedPartsLemmas
+mod GlonassReadLemmas
+mod MixedReadLemmas
+mod MixedVerdictLemmas

@@ -18,6 +18,7 @@ use Rattle.rtk_obs.specs.AnyCode.{system_of, place_of}
 use Rattle.rtk_obs.specs.SatelliteIndex.{letter_of}
 use Rattle.rtk_rinex.specs.MixedHead.{letter, AreInOrder}
 use Rattle.rtk_rinex.specs.MixedHeader.{codes_of, version_letter}
+use Rattle.rtk_rinex.specs.Steps.MixedRoom.{codes_of_letter}
 use Rattle.rtk_rinex.proofs.HeaderLemmas.{below-or-at}
 
 -- one more code, in order after all before it
@@ -83,20 +84,19 @@ below_of l n cs bound same q found =
     let small = bound (get_or cs at.0 G1C) (same at.0 G1C low) in
     omega (arith, place, small)
 
-pub few_codes : (l n : ℕ) (cs : List AnyCode) → HaveOnePlace → ((c : AnyCode) → letter c ≡ l → place_of c < n) → AllPairs AreInOrder cs → length (codes_of l cs) ≤ n
-few_codes l n cs one bound order =
+pub few_unlike : (l n : ℕ) (cs : List AnyCode) → HaveOnePlace → ((c : AnyCode) → letter c ≡ l → place_of c < n) → AllPairs (λ c d. c ≢ d) cs → length (codes_of l cs) ≤ n
+few_unlike l n cs one bound unlike =
     let kept = codes_of l cs in
     let passes = filter_passes (λ c. letter c == l) cs in
     let same : All (λ c. letter c ≡ l) kept = λ k d lt. eqb-true _ _ (passes k d lt) in
-    let apart : AllPairs (λ c d. c ≢ d) kept = AllPairs-filter (λ c d. c ≢ d) (λ c. letter c == l) cs (λ i j d lt within. (order i j d lt within).unlike) in
+    let apart : AllPairs (λ c d. c ≢ d) kept = AllPairs-filter (λ c d. c ≢ d) (λ c. letter c == l) cs unlike in
     let places = IsDistinct-from_AllPairs Decides-eqb (map place_of kept) (distinct_places l kept one same apart) in
     let size = length-le_from_distinct_below (map place_of kept) n places (below_of l n kept bound same) in
     let long = length-map kept place_of in
     omega (arith, size, long)
 
--- how many codes the system of a letter has
-abbrev pub codes_of_letter : ℕ → ℕ
-codes_of_letter l = if l == 71 then 16 else if l == 82 then 4 else if l == 69 then 15 else if l == 67 then 16 else if l == 74 then 13 else if l == 83 then 4 else 1
+pub few_codes : (l n : ℕ) (cs : List AnyCode) → HaveOnePlace → ((c : AnyCode) → letter c ≡ l → place_of c < n) → AllPairs AreInOrder cs → length (codes_of l cs) ≤ n
+few_codes l n cs one bound order = few_unlike l n cs one bound (λ i j d lt within. (order i j d lt within).unlike)
 
 place_below : (c : AnyCode) → place_of c < codes_of_letter (letter c)
 place_below G1C = omega arith
@@ -171,6 +171,9 @@ place_below I5A = omega arith
 
 pub most_codes : (l : ℕ) (cs : List AnyCode) → HaveOnePlace → AllPairs AreInOrder cs → length (codes_of l cs) ≤ codes_of_letter l
 most_codes l cs one order = few_codes l (codes_of_letter l) cs one (λ c e. subst (λ (k : ℕ). place_of c < codes_of_letter k) e (place_below c)) order
+
+pub most_unlike : (l : ℕ) (cs : List AnyCode) → HaveOnePlace → AllPairs (λ c d. c ≢ d) cs → length (codes_of l cs) ≤ codes_of_letter l
+most_unlike l cs one unlike = few_unlike l (codes_of_letter l) cs one (λ c e. subst (λ (k : ℕ). place_of c < codes_of_letter k) e (place_below c)) unlike
 
 -- ---- the letter of a file
 

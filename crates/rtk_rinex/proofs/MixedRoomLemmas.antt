@@ -36,7 +36,7 @@ continued-none (x ∷ text) e = absurd (omega arith)
 continued : (k : ℕ) (text : List ℕ) → (length text ≤ k → length (continuation_line (drop k text)) ≡ 0) × (length (continuation_line (drop k text)) ≤ 81)
 continued k text = (λ short. continued-none (drop k text) (length-drop k text ∙ omega arith), continued-some (drop k text) (length (drop k text) == 0))
 
-three_columns : (n : ℕ) → n ≤ 16 → length (right 3 (decimal (3 * n))) ≡ 3
+pub three_columns : (n : ℕ) → n ≤ 16 → length (right 3 (decimal (3 * n))) ≡ 3
 three_columns n h = length-right 3 (decimal (3 * n)) (length-decimal-le 3 (3 * n) (omega arith) (omega arith) (omega arith))
 
 lines_room : (l n : ℕ) (text : List ℕ) → 1 ≤ n → n ≤ 16 → length text ≡ 12 * n → length (types_lines_of l n text) ≤ 81 * types_line_count n
@@ -154,7 +154,7 @@ length-name I5A = refl
 length-three_types : (c : AnyCode) → length (three_types c) ≡ 12
 length-three_types c = simp length-append (omega (arith, length-name c))
 
-length-types_text : (cs : List AnyCode) → length (types_text cs) ≡ 12 * length cs
+pub length-types_text : (cs : List AnyCode) → length (types_text cs) ≡ 12 * length cs
 length-types_text [] = refl
 length-types_text (c ∷ cs) = length-append (three_types c) (types_text cs) ∙ omega (arith, length-three_types c, length-types_text cs)
 

@@ -5,3 +5,4 @@ pub mod HeaderRead
 pub mod CheckValues
 pub mod ReadRecords
 pub mod MixedRoom
+pub mod MixedHeaderRead

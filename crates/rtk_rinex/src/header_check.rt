@@ -41,27 +41,27 @@ fn made_reading(text: &[u8]) -> Civil
     }
 }
 
-// Returns the moment in the line at which a text begins, or `None` only if it is the line of no
-// moment at which a file is made.
-fn read_made(text: &[u8]) -> Option<CreationTime>
+/// Returns the moment in the line at which a text begins, or `None` only if it is the line of no
+/// moment at which a file is made.
+pub(crate) fn read_made(text: &[u8]) -> Option<CreationTime>
     ensures { (t : ℕ) → IsMoment t → t % 1000 ≡ 0 → StartsWith (made_line (reading_of t)) text.now → result ≡ Some t }
 {
     let moment = of_civil(made_reading(text))?;
     CreationTime::new(moment).ok()
 }
 
-// Returns the marker in the line at which a text begins, or `None` only if it is the line of no
-// marker.
-fn read_marker(text: &[u8]) -> Option<Marker>
+/// Returns the marker in the line at which a text begins, or `None` only if it is the line of no
+/// marker.
+pub(crate) fn read_marker(text: &[u8]) -> Option<Marker>
     ensures { (m : List ℕ) → IsMarker m → StartsWith (marker_line m) text.now → result ≡ Some m }
 {
     let content = columns_at(text, 0, 60);
     Marker::new(content.split_at(trimmed_len(content)).0).ok()
 }
 
-// Returns the position in the line at which a text begins, without its height, or `None` only if it
-// is the line of no position.
-fn read_place(text: &[u8]) -> Option<Position>
+/// Returns the position in the line at which a text begins, without its height, or `None` only if it
+/// is the line of no position.
+pub(crate) fn read_place(text: &[u8]) -> Option<Position>
     ensures { (s : PositionView) → IsPositionView s → StartsWith (place_line s) text.now
         → IsSomeAnd result (λ place. (place.x ≡ s.x) × (place.y ≡ s.y) × (place.z ≡ s.z)) }
 {
@@ -73,9 +73,9 @@ fn read_place(text: &[u8]) -> Option<Position>
     )
 }
 
-// Returns the antenna's height in the line at which a text begins, in 0.0001 m, or `None` only if
-// it is the line of no height.
-fn read_height(text: &[u8]) -> Option<u16>
+/// Returns the antenna's height in the line at which a text begins, in 0.0001 m, or `None` only if
+/// it is the line of no height.
+pub(crate) fn read_height(text: &[u8]) -> Option<u16>
     ensures { (h : ℕ) → h < 65_536 → StartsWith (height_line h) text.now → result ≡ Some h }
 {
     let height = number_at(text, 0, 14);
@@ -101,9 +101,9 @@ fn read_code_count(text: &[u8]) -> Option<usize>
 // The bytes of a line of observation types, its LF included.
 const TYPES_LINE: usize = 81;
 
-// Returns the name of the code that follows `before` codes in the lines of the observation types,
-// at which a text begins.
-fn read_name(text: &[u8], before: usize) -> &[u8]
+/// Returns the name of the code that follows `before` codes in the lines of the observation types,
+/// at which a text begins.
+pub(crate) fn read_name(text: &[u8], before: usize) -> &[u8]
     requires { before < 16 }
     ensures { result.now ≡ name_at before text.now }
 {
@@ -190,9 +190,9 @@ fn first_reading(text: &[u8], seconds: u64) -> Civil
     }
 }
 
-// Returns the moment in the line of the first observation, at which a text begins, or `None` only
-// if it is the line of no moment.
-fn read_first(text: &[u8]) -> Option<GpsMs>
+/// Returns the moment in the line of the first observation, at which a text begins, or `None` only
+/// if it is the line of no moment.
+pub(crate) fn read_first(text: &[u8]) -> Option<GpsMs>
     ensures { (t : ℕ) → IsMoment t → StartsWith (first_line (reading_of t)) text.now → result ≡ Some t }
 {
     let seconds = number_at(text, 30, 13);
@@ -225,8 +225,8 @@ pub(crate) struct HeaderRead {
     pub used: usize,
 }
 
-// Returns the moment 0.
-fn any_moment() -> GpsMs
+/// Returns the moment 0.
+pub(crate) fn any_moment() -> GpsMs
     ensures { result ≡ 0 }
 {
     let Some(moment) = GpsMs::new(0) else {
@@ -235,32 +235,32 @@ fn any_moment() -> GpsMs
     moment
 }
 
-// Returns the moment 0, which is a whole second.
-fn any_creation_time() -> CreationTime {
+/// Returns the moment 0, which is a whole second.
+pub(crate) fn any_creation_time() -> CreationTime {
     let Ok(made) = CreationTime::new(any_moment()) else {
         unreachable!();
     };
     made
 }
 
-// Returns a marker whose name is a hyphen.
-fn any_marker() -> Marker {
+/// Returns a marker whose name is a hyphen.
+pub(crate) fn any_marker() -> Marker {
     let Ok(marker) = Marker::new(b"-") else {
         unreachable!();
     };
     marker
 }
 
-// Returns the earth's center.
-fn any_place() -> Position {
+/// Returns the earth's center.
+pub(crate) fn any_place() -> Position {
     let Some(center) = Position::new(0, 0, 0, 0) else {
         unreachable!();
     };
     center
 }
 
-// Returns a position with another height of the antenna.
-fn with_height(place: &Position, height: u16) -> Position
+/// Returns a position with another height of the antenna.
+pub(crate) fn with_height(place: &Position, height: u16) -> Position
     ensures { (result.x ≡ place.now.x) × (result.y ≡ place.now.y) × (result.z ≡ place.now.z) × (result.height ≡ height) }
 {
     let Some(position) = Position::new(place.x, place.y, place.z, height) else {
@@ -328,9 +328,9 @@ fn line_cause(text: &[u8]) -> Cause
     }
 }
 
-// Returns the number of lines of what is written if a text begins with it, else the first of these
-// lines that the text doesn't have.
-fn compare_lines(text: &[u8], written: &[u8]) -> Result<usize, CheckFault>
+/// Returns the number of lines of what is written if a text begins with it, else the first of these
+/// lines that the text doesn't have.
+pub(crate) fn compare_lines(text: &[u8], written: &[u8]) -> Result<usize, CheckFault>
     ensures alike { IfOk result (λ n. (rest : List ℕ) × (end : List ℕ) × HasNoEnd end × BeginAlike n text.now written.now rest end) }
     ensures unlike { IfErr result (IsUnlike text.now written.now) }
 {

@@ -57,7 +57,10 @@ mod laws;
 mod marker_name;
 mod mixed_head;
 mod mixed_head_fault;
+mod mixed_header_check;
 mod mixed_header_text;
+mod mixed_slots_read;
+mod mixed_types_read;
 mod owned_table;
 mod record_lines;
 mod record_text;
@@ -83,6 +86,7 @@ pub use laws::{
 pub use marker_name::Marker;
 pub use mixed_head::{MixedHead, is_mixed_list};
 pub use mixed_head_fault::MixedHeadFault;
+pub use mixed_header_check::{MixedHeading, check_mixed_header};
 pub use mixed_header_text::mixed_header;
 pub use owned_table::{Table, check, text};
 pub use record_lines::{RecordLines, record};

@@ -86,8 +86,8 @@ pub fn is_mixed_list(listed: &[AnyCode]) -> bool
     true
 }
 
-// Returns whether a code is of GLONASS.
-fn has_glonass(listed: &[AnyCode]) -> bool
+/// Returns whether a code is of GLONASS.
+pub(crate) fn has_glonass(listed: &[AnyCode]) -> bool
     ensures { result ≡ has_glonass listed.now }
 {
     for code in listed {

@@ -25,11 +25,13 @@ const SLOTS: &[u8] = b"GLONASS SLOT / FRQ #";
 /// types and four with slots.
 pub(crate) const LONGEST_MIXED_HEADER: usize = 3483;
 
-// Returns the letter of the system of all codes, or M for several systems.
-fn version_letter(listed: &[AnyCode]) -> u8
-    requires { 0 < length listed.now }
+/// Returns the letter of the system of all codes, or M for several systems.
+pub(crate) fn version_letter(listed: &[AnyCode]) -> u8
     ensures { result ≡ version_letter listed.now }
 {
+    if listed.len() == 0 {
+        return b'M';
+    }
     let letter = listed[0].text()[0];
     for code in listed {
         if code.text()[0] != letter {
@@ -39,18 +41,14 @@ fn version_letter(listed: &[AnyCode]) -> u8
     letter
 }
 
-/// Puts the line with the version, the kind of the file and its system.
-pub(crate) fn put_mixed_version_line(
-    out: &mut ArrayVec<u8, LONGEST_MIXED_HEADER>,
-    listed: &[AnyCode],
-)
-    requires some { 0 < length listed.now }
+/// Puts the line with the version, the kind of the file and the letter of its system, or M.
+pub(crate) fn put_mixed_version_line(out: &mut ArrayVec<u8, LONGEST_MIXED_HEADER>, file: u8)
     requires room { length out.old.items + 81 ≤ 3483 }
-    ensures items { out.new.items ≡ out.old.items ++ mixed_version_line (version_letter listed.now) }
+    ensures items { out.new.items ≡ out.old.items ++ mixed_version_line file }
     ensures len { length out.new.items ≡ length out.old.items + 81 }
 {
     let mut content = *b"     3.05           OBSERVATION DATA     ";
-    content[40] = version_letter(listed);
+    content[40] = file;
     put_header_line(out, &content, b"RINEX VERSION / TYPE");
 }
 
@@ -108,8 +106,12 @@ fn types_content(system: u8, count: usize, shown: &[u8]) -> ArrayVec<u8, 60>
     content
 }
 
-// Puts the lines of the observation types of codes of one system.
-fn put_types_of(out: &mut ArrayVec<u8, LONGEST_MIXED_HEADER>, system: u8, codes: &[AnyCode])
+/// Puts the lines of the observation types of codes of one system.
+pub(crate) fn put_types_of(
+    out: &mut ArrayVec<u8, LONGEST_MIXED_HEADER>,
+    system: u8,
+    codes: &[AnyCode],
+)
     requires few { length codes.now ≤ 16 }
     requires room { length out.old.items + 324 ≤ 3483 }
     ensures items { out.new.items ≡ out.old.items ++ system_types_lines system codes.now }
@@ -349,7 +351,7 @@ fn mixed_header_lines(
     ensures { result.items ≡ mixed_header_text head.now (position_view position.now) first }
 {
     let mut out = ArrayVec::new();
-    put_mixed_version_line(&mut out, head.codes());
+    put_mixed_version_line(&mut out, version_letter(head.codes()));
     put_made_line(&mut out, civil(head.made()));
     put_marker_line(&mut out, head.marker());
     put_unknown_lines(&mut out);

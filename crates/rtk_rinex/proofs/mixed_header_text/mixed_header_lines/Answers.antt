@@ -10,5 +10,5 @@ unfolding mixed_header_text
 returns c =
     let head = c.args.head.now in
     let site = position_view c.args.position.now in
-    rw (c.put_end_line.ensures.items, c.put_glonass_lines.ensures.items, c.glonass.ensures.value, c.put_phase_shift_lines.ensures.items, c.codes-3.ensures.value, c.put_first_line.ensures.items, c.put_unit_line.ensures.items, c.put_all_types_lines.ensures.items, c.codes-2.ensures.value, c.put_height_line.ensures.items, c.put_place_line.ensures.items, c.put_unknown_lines.ensures.items, c.put_marker_line.ensures.items, c.put_made_line.ensures.items, c.put_mixed_version_line.ensures.items, c.codes.ensures.value, c.new-out.ensures, c.marker.ensures.value, reading_is c.made.result c.civil.result c.civil.ensures.reading, c.made.ensures.value, reading_is c.args.first c.civil-2.result c.civil-2.ensures.reading)
+    rw (c.put_end_line.ensures.items, c.put_glonass_lines.ensures.items, c.glonass.ensures.value, c.put_phase_shift_lines.ensures.items, c.codes-3.ensures.value, c.put_first_line.ensures.items, c.put_unit_line.ensures.items, c.put_all_types_lines.ensures.items, c.codes-2.ensures.value, c.put_height_line.ensures.items, c.put_place_line.ensures.items, c.put_unknown_lines.ensures.items, c.put_marker_line.ensures.items, c.put_made_line.ensures.items, c.put_mixed_version_line.ensures.items, c.version_letter.ensures, c.codes.ensures.value, c.new-out.ensures, c.marker.ensures.value, reading_is c.made.result c.civil.result c.civil.ensures.reading, c.made.ensures.value, reading_is c.args.first c.civil-2.result c.civil-2.ensures.reading)
     (mixed-in_row (mixed_version_line (version_letter head.listed)) (made_line (reading_of head.made)) (marker_line head.marker) _ _ _ _ (place_line site) (height_line site.height) (by_system system_types_lines head.listed) unit_line (first_line (reading_of c.args.first)) (by_system phase_shift_line head.listed) (glonass_lines head.glonass) _)

@@ -10,4 +10,4 @@ returns c =
     let first : get_or c.text.result 0 0 ≡ letter (get_or c.args.listed.now 0 G1C) = ap (λ (l : List ℕ). get_or l 0 0) c.text.ensures in
     let whole : take c.loop-code.code-index c.args.listed.now ≡ c.args.listed.now = take_all c.loop-code.code-index c.args.listed.now (omega arith) in
     let all = rw (whole, first) at c.loop-code.invariant in
-    first ∙ sym (letter_of_all c.args.listed.now G1C c.requires all)
+    first ∙ sym (letter_of_all c.args.listed.now G1C (omega arith) all)
