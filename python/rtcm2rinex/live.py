@@ -107,7 +107,8 @@ class Converter:
 
     Neither `feed` nor the program ever waits for the other: what is fed and the records that nobody takes are kept in memory. With
     several links the program waits for the link that is behind, so call `end` when a link ends. If the block ends by an exception, the
-    program is ended. One converter may be fed and read by several threads.
+    program is ended. Ctrl+C in a terminal does not end it, so after a `KeyboardInterrupt` in the block `finish` still gives the last
+    records. One converter may be fed and read by several threads.
     """
 
     def __init__(self, *, station: int, near: Time, marker: str, codes: Codes, made: Optional[Time] = None, window: int = 64, msm: int = 4,
@@ -123,7 +124,7 @@ class Converter:
             raise Error("a converter converts once")
         self._inputs = Inputs(self._links)
         try:
-            self._process = start(self._program, self._words, self._inputs, subprocess.PIPE)
+            self._process = start(self._program, self._words, self._inputs, subprocess.PIPE, is_apart=True)
         except BaseException:
             self._inputs.close()
             raise

@@ -76,15 +76,17 @@ def version(program: Optional[Location] = None) -> str:
     return ran.text().split()[-1]
 
 
-def start(program: Optional[Location], words: Sequence[str], inputs: Inputs, out: Union[int, IO[bytes]]) -> subprocess.Popen[bytes]:
+def start(program: Optional[Location], words: Sequence[str], inputs: Inputs, out: Union[int, IO[bytes]],
+          is_apart: bool = False) -> subprocess.Popen[bytes]:
     """Starts the program on these inputs.
 
-    A closed pipe and a full disk are then faults that the program tells, since their signals stay ignored, as in Python.
+    A closed pipe and a full disk are then faults that the program tells, since their signals stay ignored, as in Python. A program
+    that `is_apart` has a session of its own, so that Ctrl+C in a terminal interrupts Python alone.
     """
     command = [find_program(program), *words, *inputs.words]
     try:
         return subprocess.Popen(command, stdin=inputs.standard, stdout=out, stderr=subprocess.PIPE, pass_fds=inputs.passed,
-            restore_signals=False)
+            restore_signals=False, start_new_session=is_apart)
     except OSError as fault:
         raise ProgramNotFound(f"{command[0]} does not run: {fault.strerror}", [command[0]]) from fault
 

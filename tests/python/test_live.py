@@ -4,6 +4,9 @@ from __future__ import annotations
 
 import io
 import os
+import signal
+import subprocess
+import sys
 import threading
 import time
 
@@ -13,6 +16,21 @@ from support import BASE, EXAMPLES, NOON, SETUP, TWO_CODES, Case, P, observation
 
 SESSION = {**SETUP, "codes": "1C,2W,5X", "window": 2}
 PATIENCE = 600.0  # seconds, for what must come, however busy the machine is
+
+
+# A script that is interrupted once it has printed the first record, also if the tests are run where SIGINT is ignored
+INTERRUPTED = f"""
+import signal, sys
+import rtcm2rinex
+signal.signal(signal.SIGINT, signal.default_int_handler)
+with rtcm2rinex.Converter(**{TWO_CODES}) as converter:
+    try:
+        converter.feed(sys.stdin.buffer.read1())
+        print(next(converter.records(wait={PATIENCE})).time, flush=True)
+        sys.stdin.buffer.read()
+    except KeyboardInterrupt:
+        print(converter.finish().counts.epochs, [str(it.time) for it in converter.records()])
+"""
 
 
 def first_record(converter: Converter) -> rtcm2rinex.Epoch:
@@ -91,6 +109,17 @@ class Flow(Case):
             first_record(converter)
             with open("made.rnx", "rb") as grown:
                 self.assertEqual([it.time for it in rtcm2rinex.epochs(grown)], [NOON])
+
+    def test_an_interrupt_leaves_the_last_records(self) -> None:
+        """Ctrl+C in a terminal sends SIGINT to all processes of a group, which are here the script and what it starts."""
+        with subprocess.Popen([sys.executable, "-c", INTERRUPTED], stdin=subprocess.PIPE, stdout=subprocess.PIPE,
+                start_new_session=True) as script:
+            script.stdin.write(observations_at(0, 1, 2))
+            script.stdin.flush()
+            self.assertEqual(script.stdout.readline(), b"2024-05-17 12:00:00\n")
+            os.killpg(script.pid, signal.SIGINT)
+            told, _ = script.communicate(timeout=PATIENCE)
+            self.assertEqual((told, script.returncode), (b"3 ['2024-05-17 12:00:01', '2024-05-17 12:00:02']\n", 0))
 
     def test_a_block_without_finish(self) -> None:
         with Converter(**TWO_CODES) as converter:
