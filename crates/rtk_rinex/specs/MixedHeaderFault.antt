@@ -11,6 +11,7 @@ use Rattle.rtk_rinex.specs.declared.check_fault.CheckFault.{CheckFault}
 use Rattle.rtk_rinex.specs.declared.check_fault.Cause.{Cause}
 use Rattle.rtk_rinex.specs.declared.check_fault.Cause.TheVariants.{HeaderLine, Truncated}
 
+-- formula
 -- the header of a good head of any systems, a good position and a moment
 abbrev pub IsMixedHeader : List ℕ → Type 0
 IsMixedHeader text =
@@ -39,6 +40,7 @@ IsMixedFaultAfter n bytes cause =
     (front : List ℕ) × (rest : List ℕ) × AreLines n front × (bytes ≡ front ++ rest) × BeginsMixedHeader front × ¬ (IsMixedHeader front)
     × IsMixedLineFault front rest cause
 
+-- formula
 -- the fault is in the header; its line counts from 1
 abbrev pub IsFaultOfMixedHeader : List ℕ → CheckFault → Type 0
 IsFaultOfMixedHeader bytes f = (n : ℕ) × (f.line ≡ n + 1) × IsMixedFaultAfter n bytes f.cause
