@@ -48,7 +48,7 @@ impl<T: Drop> From<AllocFailed<T>> for ToolFault {
     }
 }
 
-// An error of std is that of a buffer without memory, or else of a read. A write that failed is a `StreamFault`.
+// std answers an error if a buffer gets no memory or a read fails. A failed write is a `StreamFault`.
 impl From<io::Error> for ToolFault {
     ghost use Rattle.rtk_streams.specs.Fault.{TellsError};
 
