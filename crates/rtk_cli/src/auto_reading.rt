@@ -44,16 +44,16 @@ pub fn survey_through<R: Read + Drop>(
 // Surveys the capture of this name.
 fn survey_named<R: Files + Input + Eprint + AllocGlobal>(
     rt: &R,
-    target: Target,
+    target: &Target,
     name: &str,
 ) -> Result<CaptureSurvey, u8>
-    ensures survey { IfOk result (IsSurvey (Some target)) }
+    ensures survey { IfOk result (IsSurvey (Some target.now)) }
     ensures status { IfErr result (λ status. status ≤ NOT_VALID) }
 {
     let Some(capture) = open_input(rt, name) else {
         return Err(fail_to_open(rt, name));
     };
-    match survey_through(rt.alloc(), capture, target) {
+    match survey_through(rt.alloc(), capture, *target) {
         Ok(survey) => Ok(survey),
         Err(fault) => Err(summary_status(rt, Err(fault))),
     }
@@ -64,19 +64,19 @@ fn survey_named<R: Files + Input + Eprint + AllocGlobal>(
 #[inline(never)]
 pub(crate) fn survey_captures<R: Files + Input + Eprint + AllocGlobal>(
     rt: &R,
-    target: Target,
+    target: &Target,
     names: &[&str],
 ) -> Result<Vec<CaptureSurvey>, u8>
-    ensures surveys { IfOk result (λ surveys. AreSurveys (Some target) surveys.items) }
+    ensures surveys { IfOk result (λ surveys. AreSurveys (Some target.now) surveys.items) }
     ensures count { IfOk result (λ surveys. length surveys.items ≡ length names.now) }
     ensures status { IfErr result (λ status. status ≤ NOT_VALID) }
 {
     let mut surveys = Vec::new(rt.alloc());
     for name in names {
         let survey = survey_named(rt, target, *name)?;
-        if surveys.push(survey).is_err() {
+        let Ok(()) = surveys.push(survey) else {
             return Err(fail(rt, ToolFault::OutOfMemory));
-        }
+        };
     }
     Ok(surveys)
 }

@@ -356,7 +356,7 @@ fn begin<'a, R: Env + Clock + Files + Input + Eprint + AllocGlobal, W: Write>(
         station: words.wanted.station.map(Station::number),
         present: made.moment(),
     };
-    let surveys = survey_captures(rt, target, names)?;
+    let surveys = survey_captures(rt, &target, names)?;
     let captures = Captures {
         surveys: surveys.as_slice(),
         names,

@@ -1,9 +1,9 @@
-use Rattle.std.proofs.Common.{ℕ, List, inl, inr, refl, sym, ap, ◌∙◌, subst}
+use Rattle.std.proofs.Common.{inr, refl, sym, ap, ◌∙◌, subst}
 use Rattle.rtk_rinex.specs.Header.{HeadView, IsMarker, IsCodeList}
 use Rattle.rtk_convert.specs.Setup.{SetupView, setup_of}
 use Rattle.rtk_cli.specs.declared.words.BadWords.TheVariants.{Near, Made, Codes, Marker, Links}
 use Rattle.rtk_cli.specs.Steps.CodeList.{Lists}
-use Rattle.rtk_cli.specs.Steps.ConvertWords.{HasTimes, HasNames, HasMarker, HasHead, IsFirstCause}
+use Rattle.rtk_cli.specs.Steps.ConvertWords.{HasTimes, HasNames, HasMarker, IsFirstCause}
 use Rattle.rtk_cli.specs.Steps.MomentText.{WritesMoment}
 use Rattle.rtk_cli.proofs.RefusedLemmas.{refused-by, exit-by, exit-no-list}
 use Rattle.rtk_cli.proofs.SaidLemmas.{says-setup}
