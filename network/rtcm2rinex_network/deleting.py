@@ -135,9 +135,11 @@ def fault_of_file(folder: Folder, span: Span, list_name: str, options: Options) 
 
 def fault_of_captures(folder: Folder, span: Span, file: str, record: Record) -> str:
     """Whether the file lacks a capture that is there."""
-    if record.unread:
-        return f"{file} is made without {' '.join(sorted(record.unread))}, which could not be read"
-    for path in folder.captures_of(span.hours):
+    paths = folder.captures_of(span.hours)
+    unread = record.unread & {name_of(path) for path in paths}
+    if unread:
+        return f"{file} is made without {' '.join(sorted(unread))}, which could not be read"
+    for path in paths:
         name = name_of(path)
         if record.captures.get(name) != folder.sum(path) or name not in record.captures:
             return f"{file} is not made of {name}"

@@ -14,7 +14,7 @@ from .comparison import Losses, Place, losses
 from .lists import Made, Record
 from .labels import fields_of_options, options_of
 from .places import form_of, is_compact
-from .rinex import Header, count_epochs, count_values, read_header
+from .rinex import Header, codes_with_values, count_epochs, count_values, read_header
 
 MOST_METRES = 1.0  # of a position that comes from the same antenna
 MOST_CONFLICTS = 0.01  # of the messages that were taken
@@ -34,9 +34,11 @@ class MadeBy:
 
 @dataclass(frozen=True)
 class Old:
-    """The file of before: where it lies, if it is there; what it was made by; its header and the text of its report."""
+    """The file of before: where it lies, if it is there, and whether it is as it was made; what it was made by; its header and the text
+    of its report."""
 
     path: Optional[Path]
+    is_intact: bool
     by: MadeBy
     header: Header
     report: str
@@ -52,18 +54,18 @@ class New:
 
 
 def old_file(path: Path, record: Record, is_intact: bool) -> Old:
-    """What is known of the file of before: what its list says, and what the file says if it is intact or has no list."""
+    """What is known of the file of before: what its list says, and the fields of its header. If the file was changed since, the list
+    decides of the fields that it has, and the others were filled by hand."""
     form, used = form_of(path), record.row()
     is_there = form.is_file() and not is_compact(form)
     header = read_header(form) if is_there else Header()
     report = path.with_name(path.name + ".report")
     text = report.read_text(errors="replace") if report.is_file() else ""
+    fields = {**header.fields, "marker": header.marker} if header.marker else {}
     if used and not (is_there and is_intact):
-        fields = {**fields_of_options(options_of(used.label) or []), "marker": used.marker}
-    else:
-        fields = {**header.fields, "marker": header.marker} if header.marker else {}
+        fields.update({**fields_of_options(options_of(used.label) or []), "marker": used.marker})
     by = MadeBy(used.station if used else None, used.msm if used else None, used.codes if used else header.codes, fields)
-    return Old(path if is_there else None, by, header, text)
+    return Old(path if is_there else None, is_there and is_intact, by, header, text)
 
 
 def guard_captures(before: Dict[str, Sum], found: Dict[str, Sum], unread: Set[str]) -> Iterator[str]:
@@ -76,18 +78,22 @@ def guard_captures(before: Dict[str, Sum], found: Dict[str, Sum], unread: Set[st
         yield f"captures that the file was made from are gone: {' '.join(sorted(gone))}"
 
 
-def guard_words(name: str, old: MadeBy, new: MadeBy) -> Iterator[str]:
+def guard_words(name: str, old: Old, new: MadeBy) -> Iterator[str]:
     """A table that was edited says how the station is now, and the file may be of the time before. Another number is another station,
     and another MSM has other values of the same codes. A code that the row names no more, and a field of the label that is another one
-    now, belong to another receiver or antenna. A field that was blank may be filled."""
-    if old.station not in (None, new.station):
-        yield f"{name} is of station {old.station}, and the table has {new.station}"
-    if old.msm not in (None, new.msm):
-        yield f"{name} is of MSM{old.msm}, and would be of MSM{new.msm}"
-    dropped = [code for code in old.codes if code not in new.codes]
+    now, belong to another receiver or antenna. A field that was blank may be filled, and a code without a value may go."""
+    by = old.by
+    if by.station not in (None, new.station):
+        yield f"{name} is of station {by.station}, and the table has {new.station}"
+    if by.msm not in (None, new.msm):
+        yield f"{name} is of MSM{by.msm}, and would be of MSM{new.msm}"
+    dropped = [code for code in by.codes if code not in new.codes]
+    if dropped and old.path and old.is_intact:
+        there = codes_with_values(old.path)
+        dropped = [code for code in dropped if code in there]
     if dropped:
         yield f"{name} has the codes {','.join(dropped)}, and the row has them no more"
-    for field, text in sorted(old.fields.items()):
+    for field, text in sorted(by.fields.items()):
         if not is_same_field(text, new.fields.get(field, "")):
             now = repr(new.fields[field]) if field in new.fields else "nothing"
             yield f"{name} has the {field} {text!r}, and would have {now}: dates in the tables say from when until when they hold"

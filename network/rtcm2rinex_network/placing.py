@@ -17,12 +17,14 @@ import tempfile
 import time
 from contextlib import contextmanager
 from pathlib import Path
-from typing import BinaryIO, Iterator, Optional, Tuple
+from typing import IO, Any, BinaryIO, Iterator, Optional, Tuple
 
 from .ends import Again, Ended, Refused, blamed
 
 PATIENCE = 600  # seconds to wait for a lock
 TURN = 0.1  # seconds from try to try
+NOTES = (".refused", ".again")  # of runs that failed
+UNREAD = ".unread"  # of captures that a file lacks
 COUNT = re.compile(r"times (\d+) since (\S+)\n?\Z")
 
 
@@ -126,7 +128,7 @@ def wait_for(file: BinaryIO, path: Path) -> None:
             time.sleep(TURN)
 
 
-def is_at(file: BinaryIO, path: Path) -> bool:
+def is_at(file: IO[Any], path: Path) -> bool:
     """Whether an open file still has this name."""
     try:
         return os.path.samestat(os.fstat(file.fileno()), os.stat(path))
@@ -175,7 +177,7 @@ def note_end(path: Path, end: Ended) -> None:
 
 def failures(path: Path) -> Tuple[int, Optional[str]]:
     """How many runs of a file failed one after another, and the UTC time of the first; 0 if the last one did not fail."""
-    for end in (".refused", ".again"):
+    for end in NOTES:
         try:
             text = path.with_name(path.name + end).read_text(errors="replace")
         except OSError:
@@ -185,8 +187,8 @@ def failures(path: Path) -> Tuple[int, Optional[str]]:
     return 0, None
 
 
-def drop_notes(path: Path, but: Optional[Path] = None) -> None:
+def drop_notes(path: Path, but: Path) -> None:
     """Removes the notes of a file, but for one."""
-    for note in (path.with_name(path.name + ".refused"), path.with_name(path.name + ".again")):
+    for note in [path.with_name(path.name + end) for end in NOTES]:
         if note != but:
             note.unlink(missing_ok=True)

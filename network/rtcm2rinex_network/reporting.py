@@ -13,7 +13,7 @@ from .ends import ALARM, DONE, Ended, Refused, Usage
 from .placing import write_whole
 from .settings import Settings, read_settings
 from .sources import live_links
-from .stations import COUNTED, KINDS, Clock, Station
+from .stations import COUNTED, KINDS, Clock, File, Station
 from .table import Row, find_row, read_table, rows_with_faults
 from .times import age_of
 
@@ -43,7 +43,8 @@ def for_a_person(stations: Sequence[Station], faults: Sequence[str], clock: Cloc
     rows = [["station", "bytes came ago", "newest file", "epochs", *COUNTED]]
     for it in stations:
         links = ", ".join(f"link{link.number} {'never' if link.age is None else age_of(link.age)}" for link in it.links) or "-"
-        for file in [*it.files] or [None]:
+        files: List[Optional[File]] = [*it.files]
+        for file in files or [None]:
             cells = ["-"] * (2 + len(COUNTED))
             if file:
                 counts = [str(file.counts.get(word, "-")) for word in COUNTED]

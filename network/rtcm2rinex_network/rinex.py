@@ -7,7 +7,7 @@ import re
 from dataclasses import dataclass, field
 from itertools import islice
 from pathlib import Path
-from typing import Dict, Iterator, Optional, TextIO, Tuple, cast
+from typing import Dict, Iterator, Optional, Set, TextIO, Tuple
 
 MOST_HEADER_LINES = 60
 KEY = 29  # columns of an epoch's line up to the end of its seconds
@@ -46,7 +46,9 @@ class Header:
 
 def open_text(path: Path) -> TextIO:
     """Opens a file, which may be gzipped."""
-    return cast(TextIO, gzip.open(path, "rt", encoding="latin-1")) if path.suffix == ".gz" else open(path, encoding="latin-1")
+    if path.suffix == ".gz":
+        return gzip.open(path, "rt", encoding="latin-1")
+    return open(path, encoding="latin-1")
 
 
 def read_header(path: Path) -> Header:
@@ -106,6 +108,18 @@ def count_epochs(path: Path) -> int:
 def count_values(path: Path) -> int:
     """How many numbers the records of a file have, beside the seconds of their epochs."""
     return sum(line.count(".") - (line[0] == ">") for line in records_of(path))
+
+
+def codes_with_values(path: Path) -> Set[str]:
+    """The codes of a file of which at least one satellite has a value."""
+    codes = read_header(path).codes
+    found: Set[int] = set()
+    for line in records_of(path):
+        if line[0] != ">":
+            found |= {rank for rank in set(range(len(codes))) - found if any(cell_of(line, rank).values)}
+        if len(found) == len(codes):
+            break
+    return {codes[rank] for rank in found}
 
 
 def most_frequent_step(path: Path) -> Optional[int]:

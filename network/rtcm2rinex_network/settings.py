@@ -20,9 +20,10 @@ DAY, HOUR = 86_400, 3_600  # seconds
 
 @dataclass(frozen=True)
 class Settings:
-    """What the settings say, by their names."""
+    """What the settings say, by their names. FORCE is for one run, so a file of settings that has it forces nothing."""
 
     words: Mapping[str, str]
+    has_lasting_force: bool = False
 
     def get(self, name: str, default: str = "") -> str:
         """A setting; the default also if it is set to nothing."""
@@ -52,7 +53,12 @@ class Settings:
     @property
     def is_forced(self) -> bool:
         """Whether a worse file may replace a better one."""
-        return self.get("FORCE") == "1"
+        return self.get("FORCE") == "1" and not self.has_lasting_force
+
+    @property
+    def force_hint(self) -> str:
+        """How a user says so."""
+        return "set FORCE=1" + (" for one run alone, and remove it from the file of settings" if self.has_lasting_force else "")
 
     @property
     def leap_seconds(self) -> int:
@@ -68,8 +74,8 @@ def default_table(name: str) -> Path:
 
 def read_settings() -> Settings:
     """The settings of now. SETTINGS names another file than that of the package."""
-    path = Path(os.environ.get("SETTINGS") or SYSTEM / "environment")
-    return Settings({**lines_of(path), **os.environ})
+    lines = lines_of(Path(os.environ.get("SETTINGS") or SYSTEM / "environment"))
+    return Settings({**lines, **os.environ}, "FORCE" in lines)
 
 
 def lines_of(path: Path) -> Dict[str, str]:

@@ -18,7 +18,7 @@ from .labels import checked_options, find_label, labels_beside
 from .lists import Record, read_list
 from .making import Conversion, Job, convert, label_files, seconds_of_thin
 from .places import adopt, dated, form_of, is_compact
-from .placing import drop_notes, give_to_owner, locked, make_folder, note_end, put, sync, work_folder
+from .placing import NOTES, UNREAD, give_to_owner, locked, make_folder, note_end, put, sync, work_folder, write_whole
 from .program import Program, find_program
 from .settings import Settings
 from .table import find_row
@@ -65,6 +65,7 @@ def convert_span(settings: Settings, words: Sequence[str]) -> str:
             raise Refused(f"can't write to {job.folder}: no permission")
         run = Run(job, record, adopt(job.row.directory / "rinex", job.folder, job.name))
         told = run.made()
+        run.note_unread()
         call_after(settings, [job.folder / name for name in run.now.made or run.before.made])
         return told
 
@@ -80,10 +81,18 @@ def noted(job: Job) -> Iterator[None]:
         note_end(job.path, end)
         raise
     except OSError as fault:
-        end = Again(f"{fault.filename or job.folder}: {fault.strerror}")
-        note_end(job.path, end)
-        raise end from None
-    drop_notes(job.path)
+        again = Again(f"{fault.filename or job.folder}: {fault.strerror}")
+        note_end(job.path, again)
+        raise again from None
+    drop_notes_of_span(job)
+
+
+def drop_notes_of_span(job: Job) -> None:
+    """Removes the notes of the span, also those under another interval, which stood in the row when the runs failed."""
+    begin = str(job.name.with_interval("\0")).partition("\0")[0]
+    for name in os.listdir(job.folder):
+        if name.startswith(begin) and name.endswith(NOTES):
+            (job.folder / name).unlink(missing_ok=True)
 
 
 def is_listed(job: Job) -> bool:
@@ -222,7 +231,7 @@ class Run:
         name = str(job.name)
         old = old_file(job.path, self.before, self.is_intact(name))
         by = MadeBy(job.row.station, job.msm, tuple(job.row.codes.split(",")), job.fields())
-        self.judge(guard_words(name, old.by, by), done, False)
+        self.judge(guard_words(name, old, by), done, False)
         convert(job, self.found.captures, self.before, work, is_made, done)
         lost_bytes = bool(self.now.unread) or has_lost_bytes(self.before.captures, self.now.captures)
         self.judge(faults_of(old, New(work / name, by, done.report), self.before.made, done.made, lost_bytes), done)
@@ -248,7 +257,7 @@ class Run:
             now = [*self.now.source(), *(it.line(name) for name, it in done.made.items())]
             kept = ["before:", *self.before.source(), *self.before.result(), "now:", *now]
             shown = "\n".join(differences(self.before, self.now))
-            end = Refused(f"{why}; to replace it nevertheless, set FORCE=1", shown, "\n".join(kept))
+            end = Refused(f"{why}; to replace it nevertheless, {self.job.settings.force_hint}", shown, "\n".join(kept))
             end.may_be_excused = may_be_excused
             raise end
 
@@ -285,6 +294,14 @@ class Run:
                 os.replace(work / "captures", self.record)
         except (OSError, Ended):
             pass
+
+    def note_unread(self) -> None:
+        """Notes why captures could not be read that the file lacks, so that `status` need not look at all lists."""
+        note = self.job.path.with_name(f"{self.job.name}{UNREAD}")
+        if self.faults:
+            write_whole(note, "".join(f"{it}\n" for it in self.faults))
+        else:
+            note.unlink(missing_ok=True)
 
     def put_in_place(self, work: Path) -> None:
         """Gives the files their names, the list first. So whatever ends this run, the list has at least the captures of the file that is

@@ -12,7 +12,7 @@ from .ends import Ended
 from .lists import Record, list_of
 from .names import LINKS, Name, capture_name, hour_of_capture, read_name
 from .places import folder_with, names_below
-from .placing import failures
+from .placing import NOTES, UNREAD, failures
 from .settings import DAY, HOUR, Settings
 from .table import Row
 from .times import LENGTHS, Span, age_of
@@ -143,6 +143,7 @@ class Station:
                 self.look_back(folder, length, names, newest)
         if not self.files:
             self.alarm("file", "there is no file")
+        self.look_at_unread(folder, texts)
         self.look_at_notes(folder, texts)
 
     def newest(self, folder: Path, names: List[Name]) -> Optional[File]:
@@ -178,9 +179,6 @@ class Station:
 
     def faults_of_report(self, it: File) -> Iterator[Tuple[str, str]]:
         """What the list and the report of a file tell."""
-        there = [name for name in it.unread if is_capture(self.row.directory / name)]
-        if there:
-            yield "unread", f"{it.name}: {' '.join(there)} can't be read"
         for word in COUNTED:
             if it.counts.get(word):
                 yield word, f"{it.name}: {word} {it.counts[word]}"
@@ -239,12 +237,24 @@ class Station:
         for kind, texts in found.items():
             self.alarm(kind, f"{len(texts)} earlier files of the last 24 h, as {texts[0]}")
 
+    def look_at_unread(self, folder: Path, texts: List[str]) -> None:
+        """Looks at the files, however old, that lack a capture which could not be read. A capture that is gone is none to look at."""
+        found = []
+        for text in texts:
+            known = read_name(text[:-len(UNREAD)]) if text.endswith(UNREAD) else None
+            it = self.file(folder, known) if known else None
+            there = [name for name in it.unread if is_capture(self.row.directory / name)] if it else []
+            if it and there:
+                found.append(f"{it.name}: {' '.join(there)} can't be read")
+        if found:
+            self.alarm("unread", found[0] if len(found) == 1 else f"{len(found)} files, the first is {found[0]}")
+
     def look_at_notes(self, folder: Path, texts: List[str]) -> None:
         """Looks at the notes of runs that failed. One that may be mended by another run counts when it failed again."""
         for text in texts:
-            name, _, end = text.rpartition(".")
+            name, dot, end = text.rpartition(".")
             known = read_name(name)
-            if end not in ("refused", "again") or not known:
+            if dot + end not in NOTES or not known:
                 continue
             place = folder_with(folder, known)
             count, since = failures(place / name)
