@@ -289,6 +289,7 @@ pub totals-are-sums : TotalsAreSums
 totals-are-sums = record {
   phases = total-is (λ n. n.counts.phases) (refl, λ total own. refl);
   possible = total-is (λ n. n.possible) (refl, λ total own. refl);
+  satellites = total-is (λ n. n.satellites) (refl, λ total own. refl);
   ranges = total-is (λ n. n.counts.ranges) (refl, λ total own. refl);
   slips = total-is (λ n. n.counts.slips) (refl, λ total own. refl);
   returns = total-is (λ n. n.counts.returns) (refl, λ total own. refl);

@@ -1,8 +1,10 @@
 mod CountLemmas
 mod FileLemmas
+mod HourLemmas
 mod LawLemmas
 mod LineLemmas
 mod ListLemmas
 mod RowLemmas
 mod SectionLemmas
+mod StrengthLemmas
 mod TextLemmas

@@ -1,11 +1,13 @@
 -- Laws of bits, and of counts and means of any size.
 use Rattle.std.specs.Prelude.{◌≡◌, ◌<◌, ◌^◌, ◌*◌, ◌+◌, ◌==◌, ℕ, Bool, false, not, ◌&&◌, ◌||◌, List, [], ◌∷◌, length, count_by, sum_by, Option, None, Some, is_some, unwrap_or, if◌then◌else◌}
 use Rattle.std.specs.List.{range_with_len}
+use Rattle.rtk_obs.specs.declared.code.Code.{Code}
 use Rattle.rtk_rinex.specs.Record.{EpochTableView}
 use Rattle.rtk_tracking.specs.Passes.{Sighting, sightings_of, has_phase, begins_pass}
 use Rattle.rtk_quality.specs.Counts.{Noted, plus, tally, noted_of, counts_of, rounded_fraction, mean_hundredths}
 use Rattle.rtk_quality.specs.SatellitePasses.{phases_in, slips_at, passes_of, epochs_in_passes}
 use Rattle.rtk_quality.specs.Records.{rows_of, rows_total}
+use Rattle.rtk_quality.specs.Hours.{hours_of}
 use Rattle.rtk_quality.specs.Quality.{numbers_of, totals_of}
 use Rattle.rtk_quality.specs.declared.code_numbers.CodeNumbers.{CodeNumbers}
 
@@ -78,6 +80,7 @@ IsTotal number =
 pub record TotalsAreSums : Type 0 where
   pub phases : IsTotal (λ n. n.counts.phases)
   pub possible : IsTotal (λ n. n.possible)
+  pub satellites : IsTotal (λ n. n.satellites)
   pub ranges : IsTotal (λ n. n.counts.ranges)
   pub slips : IsTotal (λ n. n.counts.slips)
   pub returns : IsTotal (λ n. n.counts.returns)
@@ -89,3 +92,9 @@ pub record TotalsAreSums : Type 0 where
 -- the satellites of all records together
 abbrev pub RowsAreSum : Type 0
 RowsAreSum = (es : List EpochTableView) → sum_by rows_of es < 2 ^ 64 → rows_total es ≡ sum_by rows_of es
+
+-- each record is in an hour
+abbrev pub HoursHaveAllRecords : Type 0
+HoursHaveAllRecords =
+    (interval : Option ℕ) (unit : ℕ) (listed : List Code) (es : List EpochTableView) → length es < 2 ^ 64
+    → sum_by (λ h. h.records) (hours_of interval unit listed es) ≡ length es

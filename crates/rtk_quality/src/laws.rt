@@ -2,16 +2,16 @@
 //!
 //! Each function here does nothing. Its contract is the law, and a caller that calls it may cite it.
 
-ghost use Rattle.rtk_quality.specs.Laws.{CountsHideNothing, EachIsCounted, MeanIsOfAll, EachInPassIsCounted, PhasesAreInPasses, TotalsAreSums, RowsAreSum};
+ghost use Rattle.rtk_quality.specs.Laws.{CountsHideNothing, EachIsCounted, MeanIsOfAll, EachInPassIsCounted, PhasesAreInPasses, TotalsAreSums, RowsAreSum, HoursHaveAllRecords};
 
-/// The rises and the slips of a code are together its digits with bit 0.
+/// The rises, the returns and the slips of a code are together its digits with bit 0.
 pub fn no_bit_is_hidden()
     ensures { CountsHideNothing }
 {}
 
 /// Counts and sums stay at the greatest value of 64 bits. Below it each epoch of a code is counted, each
 /// strength is in the mean, each epoch of a pass is counted, each phase is in a pass, each satellite is
-/// in the totals of a code, and each row is in the mean of satellites.
+/// in the totals of a code, each row is in the mean of satellites, and each record is in an hour.
 pub fn each_is_counted()
     ensures codes { EachIsCounted }
     ensures means { MeanIsOfAll }
@@ -19,4 +19,5 @@ pub fn each_is_counted()
     ensures phases { PhasesAreInPasses }
     ensures totals { TotalsAreSums }
     ensures rows { RowsAreSum }
+    ensures hours { HoursHaveAllRecords }
 {}

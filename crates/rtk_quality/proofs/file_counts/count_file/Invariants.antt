@@ -8,7 +8,7 @@ abbrev pub invariant-loop-record : goal.invariant-loop-record
 invariant-loop-record l = record {
   size : length l.counts.satellites.items ≡ 32;
   counts : (t : WellFormedTable) → IsWellFormedTable t → l.table.text ≡ table_text t
-      → HasCome (λ counts es. StandsForFile counts l.interval l.unit_ms es) l.records l.counts t.epochs;
+      → HasCome (λ counts es. StandsForFile counts l.interval l.unit_ms l.codes es) l.records l.counts t.epochs;
 }
 
 abbrev pub decreases-loop-record : goal.decreases-loop-record

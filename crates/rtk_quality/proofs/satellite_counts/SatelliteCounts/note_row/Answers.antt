@@ -6,7 +6,9 @@ use Rattle.rtk_tracking.specs.Standing.{AreKnown, StandsForPass}
 use Rattle.rtk_tracking.specs.declared.passes.Pass.{Pass}
 use Rattle.rtk_quality.specs.Counts.{plus}
 use Rattle.rtk_quality.specs.SatellitePasses.{phases_in, slips_at, sums_of, sums_at, sums_plus, sums_in, passes_of, epochs_since_phase, epochs_in_passes}
+use Rattle.rtk_quality.specs.Hours.{no_locks, returns_at}
 use Rattle.rtk_quality.specs.Standing.{newest_pass, with_epoch}
+use Rattle.rtk_quality.specs.declared.hours.Locks.{Locks}
 use Rattle.rtk_quality.specs.declared.pass_sums.PassSums.{PassSums}
 use Rattle.rtk_quality.specs.declared.satellite_counts.PassCounts.{PassCounts}
 use Rattle.rtk_quality.proofs.CountLemmas.{before-row, same-passes, last-more, within-more}
@@ -89,3 +91,25 @@ returns-clause-ended c = λ before absent last.
     c.note_phases.ensures.ended
     ∙ ap (λ (b : Bool). cond b c.args.self.now.last None) begins
     ∙ ap (λ (o : Option PassCounts). cond (begins_pass c.args.interval before s) o None) stands.last
+
+pub returns-then-not-has_phase-clause-locks : goal.returns-then-not-has_phase-clause-locks
+returns-then-not-has_phase-clause-locks c = λ before absent last.
+    let s : Sighting = record { time = c.args.time; observed = c.args.observed.now } in
+    let none : has_phase s.observed ≡ false = sym c.has_phase.ensures ∙ c.if-not-has_phase.true in
+    c.none-locks.ensures ∙ sym (ap (λ (b : Bool). cond b (record { slips = slips_at c.args.interval before s; returns = returns_at c.args.interval before s }) no_locks) none)
+
+pub returns-clause-locks : goal.returns-clause-locks
+returns-clause-locks c = λ before absent last.
+    let stands = before-row c.args.self.now c.args.interval c.args.time before absent in
+    let interval : Option ℕ = c.args.interval in
+    let at : c.ms-time_ms.result ≡ c.args.time = c.ms-time_ms.ensures.value in
+    let s : Sighting = record { time = c.args.time; observed = c.args.observed.now } in
+    let has : has_phase s.observed ≡ true = sym c.has_phase.ensures ∙ c.if-not-has_phase.false in
+    let marked : AreKnown c.known-known.result interval before s =
+    subst (λ (t : ℕ). AreKnown c.known-known.result interval before (record { time = t; observed = c.args.observed.now })) at (c.known-known.ensures before stands.pass last) in
+    ap (λ (n : ℕ). locks n c.returns_in-returns.result) (c.slips_in-slips.ensures interval before s refl marked.kept)
+    ∙ ap (λ (n : ℕ). locks (slips_at interval before s) n) (c.returns_in-returns.ensures interval before s refl marked)
+    ∙ sym (ap (λ (b : Bool). cond b (record { slips = slips_at interval before s; returns = returns_at interval before s }) no_locks) has)
+  where
+    locks : ℕ → ℕ → Locks
+    locks slips returns = record { slips = slips; returns = returns }
