@@ -1,23 +1,17 @@
--- The hours and the gaps of a file, a record more.
-use Rattle.std.proofs.Common.{◌≡◌, ◌<◌, ◌+◌, ◌^◌, ◌==◌, ℕ, Bool, cond, arith, length, List, [], ◌∷◌, ◌++◌, reverse, Option, None, Some, inl, inr, refl, sym, ap, subst, ◌∙◌}
-use Rattle.std.specs.Prelude.{sum_by}
+-- The hours of a file, a record more.
+use Rattle.std.proofs.Common.{◌≡◌, ◌==◌, ℕ, Bool, cond, List, [], ◌∷◌, ◌++◌, reverse, Option, None, Some, inl, inr, refl, sym, ap, subst, ◌∙◌}
 use Rattle.std.proofs.lemmas.Bool.{cases_Bool}
-use Rattle.std.proofs.lemmas.List.Sums.{sum_by-cons}
 use Rattle.std.proofs.lemmas.Grind.{reverse_onto}
 use Rattle.std.proofs.lemmas.List.{append-nil}
 use Rattle.rtk_obs.specs.declared.code.Code.{Code}
 use Rattle.rtk_rinex.specs.Record.{EpochTableView}
 use Rattle.rtk_rinex.specs.declared.epoch_table.SatelliteRow.{SatelliteRow}
 use Rattle.rtk_tracking.specs.Epochs.{newest_moment}
-use Rattle.rtk_quality.specs.Counts.{plus}
-use Rattle.rtk_quality.specs.Gaps.{gap_between, one_if_some, with_any_gap, gaps_in, longest_gaps, AreGaps}
-use Rattle.rtk_quality.specs.Hours.{hour_at, missing_since, missing_until, without_records, with_record, ended_hour, hour_onto, ended_by, newest_hour, older_hours, list_of_hour, no_locks, locks_onto, hours_with, hours_of, AreHours}
-use Rattle.rtk_quality.specs.Laws.{HoursHaveAllRecords}
+use Rattle.rtk_quality.specs.Hours.{hour_at}
+use Rattle.rtk_quality.specs.Steps.Noted.{missing_since, missing_until, with_record, ended_hour, hour_onto, ended_by, newest_hour, older_hours, list_of_hour, no_locks, locks_onto, hours_with, noted_hours, AreHours}
 use Rattle.rtk_quality.specs.declared.hours.Locks.{Locks}
 use Rattle.rtk_quality.specs.declared.hours.HourCounts.{HourCounts}
 use Rattle.rtk_quality.specs.declared.hours.Hours.{Hours}
-use Rattle.rtk_quality.specs.declared.gaps.Gap.{Gap}
-use Rattle.rtk_quality.specs.declared.gaps.Gaps.{Gaps}
 
 -- one hour more, or none
 reverse-more : (more older : List HourCounts) → (more ≡ []) → reverse (more ++ older) ≡ reverse older ++ more
@@ -70,60 +64,10 @@ hours-are-all hours hs none ended all are is_none extended made =
 
 -- the hours, a record more
 pub hours-noted : (interval : Option ℕ) (unit : ℕ) (listed : List Code) (e : EpochTableView) (es : List EpochTableView) (last : Option ℕ) (locks : Locks) (old new : Hours)
-    → last ≡ newest_moment es → locks ≡ locks_onto interval es e.time no_locks e.rows → AreHours old (hours_of interval unit listed es)
+    → last ≡ newest_moment es → locks ≡ locks_onto interval es e.time no_locks e.rows → AreHours old (noted_hours interval unit listed es)
     → ((hs : List HourCounts) → AreHours old hs → AreHours new (hours_with interval unit last listed e.time e.rows locks hs))
-    → AreHours new (hours_of interval unit listed (e ∷ es))
+    → AreHours new (noted_hours interval unit listed (e ∷ es))
 hours-noted interval unit listed e es last locks old new is_last is_locks are took =
-    let hs : List HourCounts = hours_of interval unit listed es in
+    let hs : List HourCounts = noted_hours interval unit listed es in
     subst (λ (o : Option ℕ). AreHours new (hours_with interval unit o listed e.time e.rows (locks_onto interval es e.time no_locks e.rows) hs)) is_last
     (subst (λ (x : Locks). AreHours new (hours_with interval unit last listed e.time e.rows x hs)) is_locks (took hs are))
-
--- the gaps, a record more
-pub gaps-noted : (unit : ℕ) (e : EpochTableView) (es : List EpochTableView) (last : Option ℕ) (time : ℕ) (old new : Gaps)
-    → last ≡ newest_moment es → time ≡ e.time → AreGaps old unit es
-    → new.count ≡ plus old.count (one_if_some (gap_between unit last time)) → new.longest.items ≡ with_any_gap (gap_between unit last time) old.longest.items
-    → AreGaps new unit (e ∷ es)
-gaps-noted unit e es last time old new is_last at are counted kept =
-    let is : gap_between unit last time ≡ gap_between unit (newest_moment es) e.time =
-    ap (λ (o : Option ℕ). gap_between unit o time) is_last ∙ ap (λ (t : ℕ). gap_between unit (newest_moment es) t) at in
-    record {
-      count = counted ∙ ap (λ (g : Option Gap). plus old.count (one_if_some g)) is ∙ ap (λ (n : ℕ). plus n (one_if_some (gap_between unit (newest_moment es) e.time))) are.count;
-      longest = kept ∙ ap (λ (g : Option Gap). with_any_gap g old.longest.items) is ∙ ap (λ (gs : List Gap). with_any_gap (gap_between unit (newest_moment es) e.time) gs) are.longest;
-    }
-
--- ---- the records of hours
-
-abbrev in-hours : List HourCounts → ℕ
-in-hours hs = sum_by (λ h. h.records) hs
-
--- one record more
-record-more : (missing hour after : ℕ) (listed : List Code) (rows : List SatelliteRow) (locks : Locks) (hs : List HourCounts) → in-hours hs + 1 < 2 ^ 64
-    → in-hours (with_record missing listed rows locks (hour_onto hour (newest_hour hs)) ∷ ended_by hour after (newest_hour hs) ++ older_hours hs) ≡ in-hours hs + 1
-record-more missing hour after listed rows locks [] few =
-    let more = sum_by-cons (λ x. x.records) (with_record missing listed rows locks (without_records hour)) [] in
-    omega (arith, more)
-record-more missing hour after listed rows locks (h ∷ hs) few =
-    let all = sum_by-cons (λ x. x.records) h hs in
-    elim (cases_Bool (h.hour == hour)) [
-      | inl same ↦
-          let with : HourCounts = with_record missing listed rows locks h in
-          let is : in-hours (with_record missing listed rows locks (hour_onto hour (Some h)) ∷ ended_by hour after (Some h) ++ hs) ≡ in-hours (with ∷ hs) =
-          ap (λ (b : Bool). in-hours (with_record missing listed rows locks (cond b h (without_records hour)) ∷ cond b [] (ended_hour after h ∷ []) ++ hs)) same in
-          let more = sum_by-cons (λ x. x.records) with hs in
-          omega (arith, is, all, more, few)
-      | inr other ↦
-          let with : HourCounts = with_record missing listed rows locks (without_records hour) in
-          let is : in-hours (with_record missing listed rows locks (hour_onto hour (Some h)) ∷ ended_by hour after (Some h) ++ hs) ≡ in-hours (with ∷ ended_hour after h ∷ hs) =
-          ap (λ (b : Bool). in-hours (with_record missing listed rows locks (cond b h (without_records hour)) ∷ cond b [] (ended_hour after h ∷ []) ++ hs)) other in
-          let more = sum_by-cons (λ x. x.records) with (ended_hour after h ∷ hs) in
-          let ended = sum_by-cons (λ x. x.records) (ended_hour after h) hs in
-          omega (arith, is, all, more, ended, few)
-    ]
-
-pub hours-have-all : HoursHaveAllRecords
-hours-have-all interval unit listed [] few = refl
-hours-have-all interval unit listed (e ∷ es) few =
-    let was = hours-have-all interval unit listed es (omega (arith, few)) in
-    let more = record-more (missing_since interval unit (newest_moment es) e.time) (hour_at interval e.time) (missing_until interval unit (newest_moment es) e.time)
-    listed e.rows (locks_onto interval es e.time no_locks e.rows) (hours_of interval unit listed es) (omega (arith, few, was)) in
-    omega (arith, more, was)

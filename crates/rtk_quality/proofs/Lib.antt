@@ -1,9 +1,15 @@
 mod CountLemmas
+mod FallLemmas
 mod FileLemmas
+mod GapLemmas
+mod HourCountLemmas
+mod HourLawLemmas
 mod HourLemmas
 mod LawLemmas
 mod LineLemmas
 mod ListLemmas
+mod MissingLemmas
+mod OrderLemmas
 mod RowLemmas
 mod SectionLemmas
 mod StrengthLemmas

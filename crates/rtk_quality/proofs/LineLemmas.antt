@@ -10,7 +10,8 @@ use Rattle.rtk_quality.specs.Counts.{plus, phases_per_slip, mean_hundredths, mea
 use Rattle.rtk_quality.specs.Forms.{value_text, moment_text, start_text, end_text}
 use Rattle.rtk_quality.specs.QualityText.{per_slip_text, locks_text, sums_text, strengths_text, marker_text, satellites_text, station_text, span_text, heading_text}
 use Rattle.rtk_quality.specs.Hours.{start_of}
-use Rattle.rtk_quality.specs.StationText.{number_of, strength_text, hour_counts_text, hour_line, gap_line, fall_line, fall_part, falls_text}
+use Rattle.rtk_quality.specs.Strengths.{number_of}
+use Rattle.rtk_quality.specs.StationText.{strength_text, hour_counts_text, hour_line, gap_line, fall_line, fall_part, falls_text}
 use Rattle.rtk_quality.specs.declared.hours.HourCounts.{HourCounts}
 use Rattle.rtk_quality.specs.declared.gaps.Gap.{Gap}
 use Rattle.rtk_quality.specs.declared.falls.Fall.{Fall}

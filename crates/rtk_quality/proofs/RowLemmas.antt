@@ -8,7 +8,7 @@ use Rattle.rtk_rinex.specs.declared.epoch_table.SatelliteRow.{SatelliteRow}
 use Rattle.rtk_tracking.specs.Epochs.{newest_moment, observed_in}
 use Rattle.rtk_tracking.specs.Passes.{Sighting, sightings_of, last_record}
 use Rattle.rtk_quality.specs.SatellitePasses.{passes_of}
-use Rattle.rtk_quality.specs.Hours.{locks_plus, locks_at, locks_onto}
+use Rattle.rtk_quality.specs.Steps.Noted.{locks_plus, locks_at, locks_onto}
 use Rattle.rtk_quality.specs.Standing.{absent_at, older_passes, StandsForSatellite, StandsForEnded, StandForSatellites, ended_of, with_ended, HasEnded, StandForEnded}
 use Rattle.rtk_quality.specs.declared.hours.Locks.{Locks}
 use Rattle.rtk_quality.specs.declared.satellite_counts.PassCounts.{PassCounts}

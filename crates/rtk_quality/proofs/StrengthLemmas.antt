@@ -4,7 +4,7 @@ use Rattle.std.proofs.lemmas.List.{drop_more, drop_all}
 use Rattle.rtk_obs.specs.Code.{band_of}
 use Rattle.rtk_obs.specs.declared.code.Code.{Code}
 use Rattle.rtk_rinex.specs.declared.epoch_table.Observed.{Observed}
-use Rattle.rtk_quality.specs.Strengths.{with_strength, with_row}
+use Rattle.rtk_quality.specs.Steps.Noted.{with_strength, with_row}
 use Rattle.rtk_quality.specs.declared.strengths.Strengths.{Strengths}
 
 -- one code more of a row

@@ -1,5 +1,5 @@
 -- The text of the numbers, part by part.
-use Rattle.std.proofs.Common.{◌≡◌, ℕ, List, ◌++◌, Option, ap, ◌∙◌}
+use Rattle.std.proofs.Common.{◌≡◌, ℕ, List, ◌++◌, reverse, Option, ap, ◌∙◌}
 use Rattle.std.specs.Prelude.{codes}
 use Rattle.rtk_obs.specs.declared.code.Code.{Code}
 use Rattle.rtk_obs.specs.declared.time.Civil.{Civil}

@@ -11,16 +11,26 @@ abbrev pub hour_mean : ℕ → Option ℕ → Option HourMean
 hour_mean hour None = None
 hour_mean hour (Some mean) = Some (record { hour = hour; mean = mean })
 
--- the mean strength of a band in an hour, if it has strengths
+-- formula
+-- the mean strength of a band in an hour, if it has strengths of the band
 abbrev pub mean_in : Band → HourCounts → Option HourMean
 mean_in band h = hour_mean h.hour (mean_hundredths (of_band band h.strengths).sum (of_band band h.strengths).count)
 
--- the fall from one mean to another, if both are there and the second one is less
-abbrev pub fall_to : Option HourMean → Option HourMean → Option Fall
-fall_to before None = None
-fall_to None (Some after) = None
-fall_to (Some before) (Some after) =
-    if nat_lt after.mean before.mean then Some (record { from = before.hour; until = after.hour; by = before.mean - after.mean }) else None
+abbrev pub with_mean : Option HourMean → List HourMean → List HourMean
+with_mean None means = means
+with_mean (Some mean) means = mean ∷ means
+
+-- the means of the hours that have strengths of a band
+abbrev pub means_of : Band → List HourCounts → List HourMean
+means_of band [] = []
+means_of band (h ∷ hs) = with_mean (mean_in band h) (means_of band hs)
+
+-- formula
+-- the fall to a mean from the one before it, if there is one and it is greater
+abbrev pub fall_to : HourMean → Option HourMean → Option Fall
+fall_to mean None = None
+fall_to mean (Some before) =
+    if nat_lt mean.mean before.mean then Some (record { from = before.hour; until = mean.hour; by = before.mean - mean.mean }) else None
 
 -- the greater of two falls, of two alike the first one
 abbrev pub greater_fall : Option Fall → Option Fall → Option Fall
@@ -28,13 +38,13 @@ greater_fall None other = other
 greater_fall (Some one) None = Some one
 greater_fall (Some one) (Some other) = if nat_lt one.by other.by then Some other else Some one
 
--- the later of two means, if it is there
-abbrev pub later_mean : Option HourMean → Option HourMean → Option HourMean
-later_mean before None = before
-later_mean before (Some after) = Some after
+-- the largest fall from one of these means to the next one
+abbrev pub largest_fall_of : List HourMean → Option Fall
+largest_fall_of [] = None
+largest_fall_of (a ∷ []) = None
+largest_fall_of (a ∷ b ∷ means) = greater_fall (fall_to b (Some a)) (largest_fall_of (b ∷ means))
 
 -- formula
--- the largest of this fall and those of a band in hours that come after this mean
-abbrev pub largest_fall : Band → Option HourMean → Option Fall → List HourCounts → Option Fall
-largest_fall band before largest [] = largest
-largest_fall band before largest (h ∷ hs) = largest_fall band (later_mean before (mean_in band h)) (greater_fall largest (fall_to before (mean_in band h))) hs
+-- the largest fall of a band in these hours, which are listed oldest first
+abbrev pub largest_fall : Band → List HourCounts → Option Fall
+largest_fall band hours = largest_fall_of (means_of band hours)

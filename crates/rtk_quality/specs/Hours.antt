@@ -1,20 +1,21 @@
--- The hours of a file (this project's rule). What came is listed newest first.
-use Rattle.std.specs.Prelude.{◌≡◌, ℕ, ◌+◌, ◌-◌, ◌*◌, ◌/◌, ◌%◌, ◌==◌, min, List, [], ◌∷◌, ◌++◌, length, reverse, count_by, Option, None, Some, if◌then◌else◌}
+-- The hours of a file that have a record, and what their records have (this project's rule). The epochs are
+-- listed newest first.
+use Rattle.std.specs.Prelude.{ℕ, ◌+◌, ◌-◌, ◌*◌, ◌/◌, ◌==◌, min, List, [], ◌∷◌, length, map, sum, count_by, sum_by, Option, None, Some, if◌then◌else◌}
 use Rattle.std.specs.List.{range_with_len}
+use Rattle.rtk_obs.specs.declared.code.Band.{Band}
+use Rattle.rtk_obs.specs.declared.code.Band.TheVariants.{L1, L2, L5}
 use Rattle.rtk_obs.specs.declared.code.Code.{Code}
 use Rattle.rtk_rinex.specs.Record.{EpochTableView}
-use Rattle.rtk_rinex.specs.declared.epoch_table.SatelliteRow.{SatelliteRow}
-use Rattle.rtk_tracking.specs.Epochs.{newest_moment}
+use Rattle.rtk_tracking.specs.Epochs.{capped, newest_moment}
 use Rattle.rtk_tracking.specs.Interval.{missing_before, nearness_of}
 use Rattle.rtk_tracking.specs.Passes.{Sighting, sightings_of, has_phase, is_return}
-use Rattle.rtk_quality.specs.Counts.{plus}
+use Rattle.rtk_quality.specs.Records.{rows_of}
 use Rattle.rtk_quality.specs.SatellitePasses.{slips_at}
-use Rattle.rtk_quality.specs.Strengths.{all_without, with_rows}
-use Rattle.rtk_quality.specs.declared.hours.Locks.{Locks}
+use Rattle.rtk_quality.specs.Strengths.{strengths_of_rows}
+use Rattle.rtk_quality.specs.declared.strengths.BandStrengths.{BandStrengths}
 use Rattle.rtk_quality.specs.declared.hours.HourCounts.{HourCounts}
-use Rattle.rtk_quality.specs.declared.hours.Hours.{Hours}
 
--- ---- moments
+-- ---- which hours there are
 
 -- formula
 -- the hours of GPS time before the one of a moment. A record lies in the hour if it is as near before its
@@ -22,112 +23,105 @@ use Rattle.rtk_quality.specs.declared.hours.Hours.{Hours}
 abbrev pub hour_at : Option ℕ → ℕ → ℕ
 hour_at interval t = (t + nearness_of interval) / 3_600_000
 
--- how long in ms the hour of a moment has been
-abbrev pub since_hour : Option ℕ → ℕ → ℕ
-since_hour interval t = (t + nearness_of interval) % 3_600_000
+-- formula
+-- the first moment of an hour
+abbrev pub begin_of : Option ℕ → ℕ → ℕ
+begin_of interval hour = hour * 3_600_000 - nearness_of interval
+
+-- an hour more, unless it is the newest one of these
+abbrev pub with_hour : ℕ → List ℕ → List ℕ
+with_hour hour [] = hour ∷ []
+with_hour hour (newest ∷ older) = if newest == hour then newest ∷ older else hour ∷ newest ∷ older
+
+-- the hours that have a record
+abbrev pub hours_in : Option ℕ → List EpochTableView → List ℕ
+hours_in interval [] = []
+hours_in interval (e ∷ before) = with_hour (hour_at interval e.time) (hours_in interval before)
+
+-- ---- sums over the records of an hour
 
 -- formula
--- the beginning of an hour, to the end of 2100
-abbrev pub start_of : ℕ → ℕ
-start_of hour = min (hour * 3_600_000) 3_818_015_999_999
+-- the sum of a number that each record of an hour has, after the records before it
+abbrev pub sum_in_hour : Option ℕ → ℕ → (List EpochTableView → EpochTableView → ℕ) → List EpochTableView → ℕ
+sum_in_hour interval hour number [] = 0
+sum_in_hour interval hour number (e ∷ before) =
+    sum_in_hour interval hour number before + (if hour_at interval e.time == hour then number before e else 0)
 
--- formula
--- of the epochs that are missing between two records, those in the hour of the second one: all but those before
--- its hour
-abbrev pub missing_since : Option ℕ → ℕ → Option ℕ → ℕ → ℕ
-missing_since interval unit None t = 0
-missing_since interval unit (Some last) t = missing_before unit (Some last) t - (t - since_hour interval t - 1 - last) / unit
-
--- formula
--- those in the hour of the first one, if the second one is of another hour: as many as that hour still has, at most
-abbrev pub missing_until : Option ℕ → ℕ → Option ℕ → ℕ → ℕ
-missing_until interval unit None t = 0
-missing_until interval unit (Some last) t = min (missing_before unit (Some last) t) ((3_599_999 - since_hour interval last) / unit)
-
--- ---- slips and returns
+-- the slips of all codes of a satellite in an epoch with a phase
+abbrev pub slips_of : Option ℕ → List Sighting → Sighting → ℕ
+slips_of interval before s = if has_phase s.observed then slips_at interval before s else 0
 
 -- the returns of all codes of a satellite in an epoch
 abbrev pub returns_at : Option ℕ → List Sighting → Sighting → ℕ
 returns_at interval before s = count_by (λ place. is_return interval place before s) (range_with_len 0 16)
 
-abbrev pub no_locks : Locks
-no_locks = record { slips = 0; returns = 0 }
+-- those in an epoch with a phase
+abbrev pub returns_of : Option ℕ → List Sighting → Sighting → ℕ
+returns_of interval before s = if has_phase s.observed then returns_at interval before s else 0
 
-abbrev pub locks_plus : Locks → Locks → Locks
-locks_plus a b = record { slips = plus a.slips b.slips; returns = plus a.returns b.returns }
-
--- those of a satellite in an epoch with a phase
-abbrev pub locks_at : Option ℕ → List Sighting → Sighting → Locks
-locks_at interval before s =
-    if has_phase s.observed then record { slips = slips_at interval before s; returns = returns_at interval before s } else no_locks
-
--- those of the rows of an epoch, after these
-abbrev pub locks_onto : Option ℕ → List EpochTableView → ℕ → Locks → List SatelliteRow → Locks
-locks_onto interval es t locks [] = locks
-locks_onto interval es t locks (r ∷ rows) =
-    locks_onto interval es t (locks_plus locks (locks_at interval (sightings_of r.satellite es) (record { time = t; observed = r.observed.items }))) rows
-
--- ---- hours
-
--- an hour in which no record came so far
-abbrev pub without_records : ℕ → HourCounts
-without_records hour = record { hour = hour; records = 0; missing = 0; rows = 0; locks = no_locks; strengths = all_without }
+-- a number of each satellite of an epoch, summed up
+abbrev pub sum_of_rows : (List Sighting → Sighting → ℕ) → List EpochTableView → EpochTableView → ℕ
+sum_of_rows number before e = sum_by (λ r. number (sightings_of r.satellite before) (record { time = e.time; observed = r.observed.items })) e.rows
 
 -- formula
--- an hour with one more record, before which so many epochs are missing in it
-abbrev pub with_record : ℕ → List Code → List SatelliteRow → Locks → HourCounts → HourCounts
-with_record missing listed rows locks h =
+-- the strengths of a band in an hour: how many, and their sum
+abbrev pub strengths_in_hour : Option ℕ → ℕ → List Code → List EpochTableView → Band → BandStrengths
+strengths_in_hour interval hour listed es band =
     record {
-      hour = h.hour;
-      records = plus h.records 1;
-      missing = plus h.missing missing;
-      rows = plus h.rows (length rows);
-      locks = locks_plus h.locks locks;
-      strengths = with_rows listed rows h.strengths;
+      count = capped (sum_in_hour interval hour (λ before e. length (strengths_of_rows band listed e.rows)) es);
+      sum = capped (sum_in_hour interval hour (λ before e. sum (strengths_of_rows band listed e.rows)) es);
     }
 
--- an hour after which another one begins
-abbrev pub ended_hour : ℕ → HourCounts → HourCounts
-ended_hour missing h =
-    record { hour = h.hour; records = h.records; missing = plus h.missing missing; rows = h.rows; locks = h.locks; strengths = h.strengths }
-
--- the newest hour, if it is this one, or else this one, which begins
-abbrev pub hour_onto : ℕ → Option HourCounts → HourCounts
-hour_onto hour None = without_records hour
-hour_onto hour (Some newest) = if newest.hour == hour then newest else without_records hour
-
--- the newest hour, if it ends because this one begins
-abbrev pub ended_by : ℕ → ℕ → Option HourCounts → List HourCounts
-ended_by hour missing None = []
-ended_by hour missing (Some newest) = if newest.hour == hour then [] else ended_hour missing newest ∷ []
-
-abbrev pub newest_hour : List HourCounts → Option HourCounts
-newest_hour [] = None
-newest_hour (h ∷ hs) = Some h
-
-abbrev pub older_hours : List HourCounts → List HourCounts
-older_hours [] = []
-older_hours (h ∷ hs) = hs
-
--- hours with one more record
-abbrev pub hours_with : Option ℕ → ℕ → Option ℕ → List Code → ℕ → List SatelliteRow → Locks → List HourCounts → List HourCounts
-hours_with interval unit last listed t rows locks hs =
-    with_record (missing_since interval unit last t) listed rows locks (hour_onto (hour_at interval t) (newest_hour hs))
-    ∷ ended_by (hour_at interval t) (missing_until interval unit last t) (newest_hour hs) ++ older_hours hs
+-- ---- missing epochs
 
 -- formula
--- the hours that have a record, the newest first
+-- of the epochs that are missing between two records, those before a moment: they follow the first record one
+-- unit after another
+abbrev pub missing_until : ℕ → ℕ → ℕ → ℕ → ℕ
+missing_until unit last t moment = min (missing_before unit (Some last) t) ((moment - 1 - last) / unit)
+
+-- formula
+-- those in an hour
+abbrev pub missing_within : Option ℕ → ℕ → ℕ → Option ℕ → ℕ → ℕ
+missing_within interval unit hour None t = 0
+missing_within interval unit hour (Some last) t =
+    missing_until unit last t (begin_of interval (hour + 1)) - missing_until unit last t (begin_of interval hour)
+
+-- the epochs that are missing in an hour
+abbrev pub missing_in_hour : Option ℕ → ℕ → ℕ → List EpochTableView → ℕ
+missing_in_hour interval unit hour [] = 0
+missing_in_hour interval unit hour (e ∷ before) =
+    missing_in_hour interval unit hour before + missing_within interval unit hour (newest_moment before) e.time
+
+-- ---- the counts of an hour
+
+-- formula
+-- what an hour has: records; missing epochs; the satellites of all records together; slips and returns; and
+-- the strengths of each band
+abbrev pub counts_of_hour : Option ℕ → ℕ → List Code → List EpochTableView → ℕ → HourCounts
+counts_of_hour interval unit listed es hour =
+    record {
+      hour = hour;
+      records = capped (sum_in_hour interval hour (λ before e. 1) es);
+      missing = capped (missing_in_hour interval unit hour es);
+      rows = capped (sum_in_hour interval hour (λ before e. rows_of e) es);
+      locks = record {
+        slips = capped (sum_in_hour interval hour (sum_of_rows (slips_of interval)) es);
+        returns = capped (sum_in_hour interval hour (sum_of_rows (returns_of interval)) es);
+      };
+      strengths = record {
+        l1 = strengths_in_hour interval hour listed es L1;
+        l2 = strengths_in_hour interval hour listed es L2;
+        l5 = strengths_in_hour interval hour listed es L5;
+      };
+    }
+
+-- formula
+-- the hours that have a record, with their counts, the newest first
 abbrev pub hours_of : Option ℕ → ℕ → List Code → List EpochTableView → List HourCounts
-hours_of interval unit listed [] = []
-hours_of interval unit listed (e ∷ es) =
-    hours_with interval unit (newest_moment es) listed e.time e.rows (locks_onto interval es e.time no_locks e.rows) (hours_of interval unit listed es)
+hours_of interval unit listed es = map (counts_of_hour interval unit listed es) (hours_in interval es)
 
--- the hour, if there is one
-abbrev pub list_of_hour : Option HourCounts → List HourCounts
-list_of_hour None = []
-list_of_hour (Some h) = h ∷ []
-
--- what is kept of hours
-pub record AreHours (hours : Hours) (hs : List HourCounts) : Type 0 where
-  pub newest : hours.newest ≡ newest_hour hs
-  pub ended : hours.ended.items ≡ reverse (older_hours hs)
+-- formula
+-- the beginning of an hour, to the end of 2100
+abbrev pub start_of : ℕ → ℕ
+start_of hour = min (hour * 3_600_000) 3_818_015_999_999

@@ -9,5 +9,6 @@ pub mod QualityText
 pub mod Records
 pub mod SatellitePasses
 pub mod Standing
+pub mod Steps
 pub mod StationText
 pub mod Strengths

@@ -1,7 +1,6 @@
 -- The text of the hours, gaps and falls of a file, in both forms (this project's rule).
-use Rattle.std.specs.Prelude.{ℕ, ◌==◌, Bool, List, [], ◌∷◌, ◌++◌, flat_map, codes, Option, None, Some, if◌then◌else◌}
+use Rattle.std.specs.Prelude.{ℕ, Bool, List, [], ◌++◌, flat_map, codes, Option, None, Some, if◌then◌else◌}
 use Rattle.std.specs.List.{list_any}
-use Rattle.rtk_obs.specs.Code.{band_of}
 use Rattle.rtk_obs.specs.declared.code.Band.{Band}
 use Rattle.rtk_obs.specs.declared.code.Band.TheVariants.{L1, L2, L5}
 use Rattle.rtk_obs.specs.declared.code.Code.{Code}
@@ -9,7 +8,7 @@ use Rattle.rtk_rinex.specs.Reading.{reading_of}
 use Rattle.rtk_quality.specs.Counts.{plus, mean_hundredths, mean_tenths}
 use Rattle.rtk_quality.specs.Hours.{start_of}
 use Rattle.rtk_quality.specs.Falls.{largest_fall}
-use Rattle.rtk_quality.specs.Strengths.{of_band}
+use Rattle.rtk_quality.specs.Strengths.{number_of, is_of_band, of_band}
 use Rattle.rtk_quality.specs.Forms.{value_text, moment_text, start_text, end_text}
 use Rattle.rtk_quality.specs.declared.form.Form.{Form}
 use Rattle.rtk_quality.specs.declared.form.Decimals.TheVariants.{Whole, Tenths, Hundredths}
@@ -18,16 +17,9 @@ use Rattle.rtk_quality.specs.declared.gaps.Gap.{Gap}
 use Rattle.rtk_quality.specs.declared.falls.Fall.{Fall}
 use Rattle.rtk_quality.specs.declared.strengths.Strengths.{Strengths}
 
--- table
--- the number of a band in the names of codes (RINEX 3.05, Table 4)
-abbrev pub number_of : Band → ℕ
-number_of L1 = 1
-number_of L2 = 2
-number_of L5 = 5
-
 -- a code is of this band
 abbrev pub has_band : List Code → Band → Bool
-has_band listed band = list_any (λ c. number_of (band_of c) == number_of band) listed
+has_band listed band = list_any (λ c. is_of_band band c) listed
 
 -- table
 abbrev pub strength_words : Band → List ℕ
@@ -84,7 +76,7 @@ line_of_fall form band (Some f) = fall_line form band f
 
 -- the line of the largest fall of a band, if there is one
 abbrev pub fall_part : Form → List HourCounts → Band → List ℕ
-fall_part form hours band = line_of_fall form band (largest_fall band None None hours)
+fall_part form hours band = line_of_fall form band (largest_fall band hours)
 
 abbrev pub hours_text : Form → List Code → List HourCounts → List ℕ
 hours_text form listed hours = flat_map (hour_line form listed) hours

@@ -2,6 +2,7 @@
 
 ghost use Rattle.std.specs.Prelude.{◌≡◌, ◌≤◌, ℕ, List, length, ◌++◌, Option, IfOk, OnOk};
 ghost use Rattle.rtk_rinex.specs.Record.{EpochTableView};
+ghost use Rattle.rtk_quality.specs.Hours.{hours_of};
 ghost use Rattle.rtk_quality.specs.Records.{unit_of};
 ghost use Rattle.rtk_quality.specs.QualityText.{close_text, station_part, quality_text, text_of_none, TellsQuality};
 ghost use Rattle.rtk_quality.specs.Standing.{StandsForFile};
@@ -47,7 +48,7 @@ fn put_station_lines(
     codes: &[Code],
     counts: &FileCounts,
 ) -> Result<(), AllocError>
-    ensures { OnOk result ((interval : Option ℕ) (unit : ℕ) (es : List EpochTableView) → StandsForFile counts.now interval unit codes.now es
+    ensures { OnOk result ((interval : Option ℕ) (unit : ℕ) (es : List EpochTableView) → StandsForFile counts.now interval unit es (hours_of interval unit codes.now es)
         → text.new.items ≡ text.old.items ++ station_part form codes.now interval unit es) }
 {
     let hours = counts.hours.all(alloc)?;
@@ -70,7 +71,8 @@ fn text_of(
 ) -> Result<Vec<u8>, AllocError>
     requires few { length codes.now ≤ 16 }
     requires size { length counts.now.satellites.items ≡ 32 }
-    ensures { IfOk result (λ text. (es : List EpochTableView) → StandsForFile counts.now interval (unit_of interval) codes.now es
+    ensures { IfOk result (λ text. (es : List EpochTableView) → StandsForFile counts.now interval (unit_of interval) es
+        (hours_of interval (unit_of interval) codes.now es)
         → text.items ≡ quality_text form marker.now codes.now first last interval es) }
 {
     let satellites = counts.satellites.as_slice();

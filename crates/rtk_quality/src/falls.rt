@@ -1,7 +1,7 @@
 //! The largest fall of strength from one hour to the next.
 
-ghost use Rattle.std.specs.Prelude.{◌≡◌, ◌<◌, ℕ, List, Option, None};
-ghost use Rattle.rtk_quality.specs.Falls.{mean_in, fall_to, greater_fall, later_mean, largest_fall};
+ghost use Rattle.std.specs.Prelude.{◌≡◌};
+ghost use Rattle.rtk_quality.specs.Falls.{mean_in, fall_to, greater_fall, largest_fall};
 
 use crate::code_numbers::mean_hundredths;
 use crate::hours::HourCounts;
@@ -36,15 +36,15 @@ fn mean_in(band: Band, hour: &HourCounts) -> Option<HourMean>
     }
 }
 
-// The fall from one mean to another, if both are there and the second one is less.
-fn fall_to(before: Option<HourMean>, after: Option<HourMean>) -> Option<Fall>
-    ensures { result ≡ fall_to before after }
+// The fall to a mean from the one before it, if there is one and it is greater.
+fn fall_to(mean: HourMean, before: Option<HourMean>) -> Option<Fall>
+    ensures { result ≡ fall_to mean before }
 {
-    match (before, after) {
-        (Some(before), Some(after)) if after.mean < before.mean => Some(Fall {
+    match before {
+        Some(before) if mean.mean < before.mean => Some(Fall {
             from: before.hour,
-            until: after.hour,
-            by: before.mean - after.mean,
+            until: mean.hour,
+            by: before.mean - mean.mean,
         }),
         _ => None,
     }
@@ -61,24 +61,19 @@ fn greater_fall(one: Option<Fall>, other: Option<Fall>) -> Option<Fall>
     }
 }
 
-// The later of two means, if it is there.
-fn later_mean(before: Option<HourMean>, after: Option<HourMean>) -> Option<HourMean>
-    ensures { result ≡ later_mean before after }
-{
-    if after.is_some() { after } else { before }
-}
-
 /// The largest fall of a band in hours that come one after another. Hours without a strength of the band
 /// are passed over.
 pub(crate) fn largest_fall(band: Band, hours: &[HourCounts]) -> Option<Fall>
-    ensures { result ≡ largest_fall band None None hours.now }
+    ensures { result ≡ largest_fall band hours.now }
 {
     let mut before = None;
     let mut largest = None;
     for hour in hours {
-        let after = mean_in(band, hour);
-        largest = greater_fall(largest, fall_to(before, after));
-        before = later_mean(before, after);
+        let Some(mean) = mean_in(band, hour) else {
+            continue;
+        };
+        largest = greater_fall(largest, fall_to(mean, before));
+        before = Some(mean);
     }
     largest
 }

@@ -4,7 +4,8 @@ ghost use Rattle.std.specs.Prelude.{◌≡◌, ◌<◌, ℕ, List, [], ◌∷◌
 ghost use Rattle.std.specs.List.{range_with_len};
 ghost use Rattle.rtk_rinex.specs.Record.{EpochTableView};
 ghost use Rattle.rtk_obs.specs.declared.code.Code.{Code};
-ghost use Rattle.rtk_quality.specs.Hours.{no_locks, locks_onto};
+ghost use Rattle.rtk_quality.specs.Hours.{hours_of};
+ghost use Rattle.rtk_quality.specs.Steps.Noted.{no_locks, locks_onto, noted_hours};
 ghost use Rattle.rtk_quality.specs.Records.{unit_of};
 ghost use Rattle.rtk_quality.specs.Quality.{totals_of, station_sums, possible_in, satellites_in};
 ghost use Rattle.rtk_tracking.specs.Epochs.{HoldsOfEpochs, newest_moment};
@@ -163,7 +164,7 @@ impl FileCounts {
     /// Of a file without records: 32 satellites, each of them without an epoch.
     pub(crate) fn new(alloc: Global) -> Result<FileCounts, AllocError>
         ensures size { IfOk result (λ counts. length counts.satellites.items ≡ 32) }
-        ensures counts { IfOk result (λ counts. (interval : Option ℕ) (unit : ℕ) (codes : List Code) → StandsForFile counts interval unit codes []) }
+        ensures counts { IfOk result (λ counts. (interval : Option ℕ) (unit : ℕ) (codes : List Code) → StandsForFile counts interval unit [] (noted_hours interval unit codes [])) }
     {
         Ok(FileCounts {
             records: RecordCounts::new(),
@@ -185,12 +186,11 @@ impl FileCounts {
         requires unit { 0 < unit_ms }
         requires size { length self.old.satellites.items ≡ 32 }
         ensures size { OnOk result (length self.new.satellites.items ≡ 32) }
-        ensures counts { OnOk result ((es : List EpochTableView) → StandsForFile self.old interval unit_ms codes.now es
-            → StandsForFile self.new interval unit_ms codes.now (epoch.now ∷ es)) }
+        ensures counts { OnOk result ((es : List EpochTableView)
+            → StandsForFile self.old interval unit_ms es (noted_hours interval unit_ms codes.now es)
+            → StandsForFile self.new interval unit_ms (epoch.now ∷ es) (noted_hours interval unit_ms codes.now (epoch.now ∷ es))) }
     {
-        let last = self.records.last;
-        let record_ms = ms_of(last);
-        self.records.note_record(unit_ms, epoch);
+        let record_ms = ms_of(self.records.last);
         note_satellites(&mut self.satellites);
         let locks = note_rows(
             &mut self.satellites,
@@ -200,8 +200,10 @@ impl FileCounts {
             epoch,
         )?;
         self.hours
-            .note_record(interval, unit_ms, last, codes, epoch, &locks)?;
-        self.gaps.note_record(unit_ms, last, epoch.time())?;
+            .note_record(interval, unit_ms, self.records.last, codes, epoch, &locks)?;
+        self.gaps
+            .note_record(unit_ms, self.records.last, epoch.time())?;
+        self.records.note_record(unit_ms, epoch);
         Ok(())
     }
 }
@@ -214,7 +216,8 @@ pub(crate) fn count_file(
     interval: Option<u64>,
 ) -> Result<FileCounts, AllocError>
     ensures size { IfOk result (λ counts. length counts.satellites.items ≡ 32) }
-    ensures counts { IfOk result (λ counts. HoldsOfEpochs table.now.text (StandsForFile counts interval (unit_of interval) codes.now)) }
+    ensures counts { IfOk result (λ counts. HoldsOfEpochs table.now.text
+        (λ es. StandsForFile counts interval (unit_of interval) es (hours_of interval (unit_of interval) codes.now es))) }
 {
     let unit_ms = unit_ms(interval);
     let mut counts = FileCounts::new(alloc)?;

@@ -1,8 +1,7 @@
 //! The gaps of a file.
 
-ghost use Rattle.std.specs.Prelude.{◌≡◌, ◌<◌, ◌≤◌, [], length, OnOk};
-ghost use Rattle.rtk_quality.specs.Counts.{plus};
-ghost use Rattle.rtk_quality.specs.Gaps.{place_of, with_gap, gap_between, one_if_some, with_any_gap};
+ghost use Rattle.std.specs.Prelude.{◌≡◌, ◌<◌, ◌≤◌, ℕ, slice_index_or, take, List, [], length, OnOk};
+ghost use Rattle.rtk_quality.specs.Gaps.{gap_between, insert_gap, with_gap, AreGaps};
 
 use rtk_obs::{Civil, GpsMs, civil};
 use rtk_tracking::missing_between;
@@ -27,17 +26,21 @@ pub(crate) struct Gaps {
     pub(crate) longest: Vec<Gap>,
 }
 
-// The place of a gap among others, the longest first: after all that are as long.
+// The place of a gap among others, the longest first: behind all that are as long.
 fn place_of(gaps: &[Gap], missing: u64) -> usize
-    ensures value { result ≡ place_of missing gaps.now }
     ensures within { result ≤ length gaps.now }
+    ensures longer { (k : ℕ) (d : Gap) → k < result → missing ≤ (slice_index_or gaps.now k d).missing }
+    ensures next { (d : Gap) → result < length gaps.now → (slice_index_or gaps.now result d).missing < missing }
 {
-    gaps.iter().filter(|gap| gap.missing >= missing).count()
+    match gaps.iter().position(|gap| gap.missing < missing) {
+        Some(place) => place,
+        None => gaps.len(),
+    }
 }
 
 // Adds a gap, and keeps the ten longest.
 fn add_gap(gaps: &mut Vec<Gap>, gap: Gap) -> Result<(), AllocError>
-    ensures { OnOk result (gaps.new.items ≡ with_gap gap gaps.old.items) }
+    ensures { OnOk result (gaps.new.items ≡ take 10 (insert_gap gap gaps.old.items)) }
 {
     let place = place_of(gaps.as_slice(), gap.missing);
     gaps.insert(place, gap)?;
@@ -67,8 +70,7 @@ fn gap_between(unit_ms: u64, last: Option<GpsMs>, time: GpsMs) -> Option<Gap>
 impl Gaps {
     /// Of a file without records.
     pub(crate) fn new(alloc: Global) -> Gaps
-        ensures count { result.count ≡ 0 }
-        ensures longest { result.longest.items ≡ [] }
+        ensures { AreGaps result [] }
     {
         Gaps {
             count: 0,
@@ -84,13 +86,13 @@ impl Gaps {
         time: GpsMs,
     ) -> Result<(), AllocError>
         requires { 0 < unit_ms }
-        ensures count { OnOk result (self.new.count ≡ plus self.old.count (one_if_some (gap_between unit_ms last time))) }
-        ensures longest { OnOk result (self.new.longest.items ≡ with_any_gap (gap_between unit_ms last time) self.old.longest.items) }
+        ensures { OnOk result ((all : List Gap) → AreGaps self.old all → AreGaps self.new (with_gap (gap_between unit_ms last time) all)) }
     {
         match gap_between(unit_ms, last, time) {
             Some(gap) => {
                 self.count = self.count.saturating_add(1);
-                add_gap(&mut self.longest, gap)
+                add_gap(&mut self.longest, gap)?;
+                Ok(())
             }
             None => Ok(()),
         }

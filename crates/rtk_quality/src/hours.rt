@@ -1,8 +1,9 @@
 //! The hours of a file.
 
-ghost use Rattle.std.specs.Prelude.{◌≡◌, ◌<◌, List, [], ◌++◌, reverse, IfOk, OnOk};
+ghost use Rattle.std.specs.Prelude.{◌≡◌, ◌<◌, List, [], ◌++◌, reverse, Some, IfOk, OnOk};
 ghost use Rattle.rtk_rinex.specs.Reading.{reading_of};
-ghost use Rattle.rtk_quality.specs.Hours.{hour_at, since_hour, start_of, missing_since, missing_until, no_locks, locks_plus, without_records, with_record, ended_hour, hour_onto, ended_by, list_of_hour, hours_with, AreHours};
+ghost use Rattle.rtk_quality.specs.Hours.{hour_at, start_of};
+ghost use Rattle.rtk_quality.specs.Steps.Noted.{since_hour, missing_since, missing_until, no_locks, locks_plus, without_records, with_record, ended_hour, hour_onto, ended_by, list_of_hour, hours_with, AreHours};
 
 use crate::strengths::Strengths;
 use rtk_obs::{Civil, Code, GpsMs, LAST_MS, civil};
@@ -58,14 +59,20 @@ fn since_hour_ms(interval: Option<u64>, time: GpsMs) -> u64
     (time.ms() + nearness_ms(interval)) % HOUR_MS
 }
 
+/// The epochs that are missing between two records.
+#[derive(Clone, Copy)]
+pub(crate) struct MissingAround {
+    /// In the hour of the first one, if the second one is of another hour.
+    pub(crate) until: u64,
+    /// In the hour of the second one.
+    pub(crate) since: u64,
+}
+
 // Of the epochs that are missing between two records, the ones in the hour of the second record.
-fn missing_since(interval: Option<u64>, unit_ms: u64, last: Option<GpsMs>, time: GpsMs) -> u64
+fn missing_since(interval: Option<u64>, unit_ms: u64, last: GpsMs, time: GpsMs) -> u64
     requires { 0 < unit_ms }
-    ensures { result ≡ missing_since interval unit_ms last time }
+    ensures { result ≡ missing_since interval unit_ms (Some last) time }
 {
-    let Some(last) = last else {
-        return 0;
-    };
     let missing = missing_between(unit_ms, last.ms(), time.ms());
     let hour_ms = time.ms().saturating_sub(since_hour_ms(interval, time));
     let before_ms = hour_ms.saturating_sub(1).saturating_sub(last.ms());
@@ -73,16 +80,33 @@ fn missing_since(interval: Option<u64>, unit_ms: u64, last: Option<GpsMs>, time:
 }
 
 // The ones in the hour of the first record, if the second one is of another hour.
-fn missing_until(interval: Option<u64>, unit_ms: u64, last: Option<GpsMs>, time: GpsMs) -> u64
+fn missing_until(interval: Option<u64>, unit_ms: u64, last: GpsMs, time: GpsMs) -> u64
     requires { 0 < unit_ms }
-    ensures { result ≡ missing_until interval unit_ms last time }
+    ensures { result ≡ missing_until interval unit_ms (Some last) time }
 {
-    let Some(last) = last else {
-        return 0;
-    };
     let missing = missing_between(unit_ms, last.ms(), time.ms());
     let left_ms = HOUR_MS - 1 - since_hour_ms(interval, last);
     missing.min(left_ms / unit_ms)
+}
+
+// The epochs that are missing before a record, which comes after one at this moment or is the first one.
+fn missing_before(
+    interval: Option<u64>,
+    unit_ms: u64,
+    last: Option<GpsMs>,
+    time: GpsMs,
+) -> MissingAround
+    requires { 0 < unit_ms }
+    ensures until { result.until ≡ missing_until interval unit_ms last time }
+    ensures since { result.since ≡ missing_since interval unit_ms last time }
+{
+    match last {
+        Some(last) => MissingAround {
+            until: missing_until(interval, unit_ms, last, time),
+            since: missing_since(interval, unit_ms, last, time),
+        },
+        None => MissingAround { until: 0, since: 0 },
+    }
 }
 
 /// The beginning of an hour.
@@ -132,15 +156,9 @@ impl HourCounts {
         }
     }
 
-    // With one more record, before which so many epochs are missing in the hour.
-    fn with_record(
-        mut self,
-        missing: u64,
-        codes: &[Code],
-        epoch: &EpochTable,
-        locks: &Locks,
-    ) -> HourCounts
-        ensures { result ≡ with_record missing codes.now epoch.now.rows locks.now self }
+    // Adds one more record, before which so many epochs are missing in the hour.
+    fn add_record(&mut self, missing: u64, codes: &[Code], epoch: &EpochTable, locks: &Locks)
+        ensures { self.new ≡ with_record missing codes.now epoch.now.rows locks.now self.old }
     {
         let rows = epoch.rows();
         self.records = self.records.saturating_add(1);
@@ -148,7 +166,6 @@ impl HourCounts {
         self.rows = self.rows.saturating_add(rows.len() as u64);
         self.locks = self.locks.plus(locks);
         self.strengths.add_rows(codes, rows);
-        self
     }
 
     // With the epochs that are missing after its last record.
@@ -231,12 +248,11 @@ impl Hours {
     {
         let time = epoch.time();
         let hour = hour_at(interval, time);
-        let missing = missing_since(interval, unit_ms, last, time);
-        let after = missing_until(interval, unit_ms, last, time);
-        let had = self.newest;
-        end_newest(&mut self.ended, had, hour, after)?;
-        let newest = hour_onto(had, hour);
-        self.newest = Some(newest.with_record(missing, codes, epoch, locks));
+        let missing = missing_before(interval, unit_ms, last, time);
+        end_newest(&mut self.ended, self.newest, hour, missing.until)?;
+        let mut newest = hour_onto(self.newest, hour);
+        newest.add_record(missing.since, codes, epoch, locks);
+        self.newest = Some(newest);
         Ok(())
     }
 

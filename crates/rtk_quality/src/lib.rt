@@ -68,4 +68,4 @@ mod strengths;
 
 pub use document::quality;
 pub use form::Form;
-pub use laws::{each_is_counted, no_bit_is_hidden};
+pub use laws::{each_is_counted, gaps_hide_nothing, hours_hide_nothing, no_bit_is_hidden};

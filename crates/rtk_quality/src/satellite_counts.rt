@@ -7,7 +7,8 @@ ghost use Rattle.rtk_tracking.specs.Passes.{Sighting, last_record, has_phase, is
 ghost use Rattle.rtk_tracking.specs.Standing.{AreMarked, AreKnown};
 ghost use Rattle.rtk_tracking.specs.Epochs.{shown_at};
 ghost use Rattle.rtk_quality.specs.Counts.{plus, code_counts_of};
-ghost use Rattle.rtk_quality.specs.Hours.{returns_at, locks_at};
+ghost use Rattle.rtk_quality.specs.Hours.{returns_at};
+ghost use Rattle.rtk_quality.specs.Steps.Noted.{locks_at};
 ghost use Rattle.rtk_quality.specs.Quality.{numbers_of, is_in_file};
 ghost use Rattle.rtk_quality.specs.SatellitePasses.{phases_in, slips_at, sums_plus, sums_in, epochs_in_passes};
 ghost use Rattle.rtk_quality.specs.Standing.{with_epoch, absent_at, StandsForSatellite, StandsForEnded};

@@ -1,9 +1,8 @@
 //! The lines of hours, gaps and falls.
 
-ghost use Rattle.std.specs.Prelude.{◌≡◌, ◌++◌, ◌==◌, flat_map, OnOk};
-ghost use Rattle.std.specs.List.{list_any};
-ghost use Rattle.rtk_obs.specs.Code.{band_of};
-ghost use Rattle.rtk_quality.specs.StationText.{number_of, has_band, strength_words, strength_key, strength_text, hour_counts_text, hour_line, gap_line, fall_line, fall_part, hours_text, gaps_text, falls_text};
+ghost use Rattle.std.specs.Prelude.{◌≡◌, ◌++◌, flat_map, OnOk};
+ghost use Rattle.rtk_quality.specs.Strengths.{number_of};
+ghost use Rattle.rtk_quality.specs.StationText.{has_band, strength_words, strength_key, strength_text, hour_counts_text, hour_line, gap_line, fall_line, fall_part, hours_text, gaps_text, falls_text};
 
 use crate::code_numbers::{mean_hundredths, mean_tenths};
 use crate::entries::put_count;

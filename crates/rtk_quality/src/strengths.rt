@@ -1,7 +1,8 @@
 //! The strengths of bands.
 
 ghost use Rattle.std.specs.Prelude.{◌≡◌, Option};
-ghost use Rattle.rtk_quality.specs.Strengths.{no_strengths, all_without, with_one, of_band, with_strength, with_row, with_rows};
+ghost use Rattle.rtk_quality.specs.Strengths.{of_band};
+ghost use Rattle.rtk_quality.specs.Steps.Noted.{no_strengths, all_without, with_one, with_strength, with_row, with_rows};
 
 use rtk_obs::{Band, Code};
 use rtk_rinex::{Observed, SatelliteRow};

@@ -5,7 +5,7 @@ use Rattle.rtk_rinex.specs.Record.{EpochTableView, IsSatelliteRow}
 use Rattle.rtk_rinex.specs.declared.epoch_table.SatelliteRow.{SatelliteRow}
 use Rattle.rtk_tracking.specs.Epochs.{newest_moment}
 use Rattle.rtk_tracking.specs.Passes.{sightings_of}
-use Rattle.rtk_quality.specs.Hours.{locks_onto}
+use Rattle.rtk_quality.specs.Steps.Noted.{locks_onto}
 use Rattle.rtk_quality.specs.declared.hours.Locks.{Locks}
 use Rattle.rtk_quality.specs.Standing.{absent_at, without_rows, StandsForSatellite, StandForSatellites, StandForEnded}
 use Rattle.rtk_quality.specs.declared.satellite_counts.SatelliteCounts.{SatelliteCounts}

@@ -1,7 +1,7 @@
 use Rattle.std.proofs.Common.{◌≡◌, ◌∷◌, List, length, drop}
 use Rattle.rtk_rinex.specs.Record.{EpochTableView}
 use Rattle.rtk_tracking.specs.Epochs.{newest_moment}
-use Rattle.rtk_quality.specs.Hours.{no_locks, locks_onto}
+use Rattle.rtk_quality.specs.Steps.Noted.{no_locks, locks_onto}
 use Rattle.rtk_quality.specs.Standing.{without_rows, StandForSatellites, StandForEnded}
 use Rattle.rtk_quality.proofs.RowLemmas.{first_rows}
 use Rattle.rtk_quality.proofs.file_counts.note_rows.Given as goal

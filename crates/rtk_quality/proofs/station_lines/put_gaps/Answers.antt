@@ -1,4 +1,4 @@
-use Rattle.std.proofs.Common.{◌≤◌, length, ap, ◌∙◌, arith, List, ◌++◌}
+use Rattle.std.proofs.Common.{◌≤◌, length, ap, ◌∙◌, arith, ◌++◌}
 use Rattle.std.specs.Prelude.{flat_map}
 use Rattle.std.proofs.lemmas.List.{take_all}
 use Rattle.rtk_quality.specs.StationText.{gap_line}

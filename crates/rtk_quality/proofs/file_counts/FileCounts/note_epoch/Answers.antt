@@ -1,7 +1,8 @@
 use Rattle.std.proofs.Common.{◌≡◌, ◌∙◌, ℕ, Option, ap}
 use Rattle.rtk_tracking.specs.Epochs.{newest_moment}
 use Rattle.rtk_quality.specs.declared.record_counts.RecordCounts.{RecordCounts}
-use Rattle.rtk_quality.proofs.HourLemmas.{hours-noted, gaps-noted}
+use Rattle.rtk_quality.proofs.GapLemmas.{gaps-noted}
+use Rattle.rtk_quality.proofs.HourLemmas.{hours-noted}
 use Rattle.rtk_quality.proofs.file_counts.FileCounts.note_epoch.Goals as goal
 
 pub returns-clause-counts : goal.returns-clause-counts
@@ -12,11 +13,11 @@ returns-clause-counts c = λ es stands.
     let time : ℕ = c.args.epoch.now.time in
     let fresh = c.note_satellites.ensures.satellites interval time es stands.satellites in
     record {
-      records = c.note_record.ensures es stands.records;
-      satellites = c.in_ok-note_rows-locks.ensures.satellites es record_ms fresh;
-      ended = c.in_ok-note_rows-locks.ensures.ended es record_ms fresh stands.ended;
+      records = c.note_record-3.ensures es stands.records;
+      satellites = c.in_ok-locks.ensures.satellites es record_ms fresh;
+      ended = c.in_ok-locks.ensures.ended es record_ms fresh stands.ended;
       hours = hours-noted interval c.args.unit_ms c.args.codes.now c.args.epoch.now es c.args.self.now.records.last _ c.args.self.now.hours _
-          last (c.in_ok-note_rows-locks.ensures.locks es record_ms fresh) stands.hours c.in_ok-note_record.ensures;
+          last (c.in_ok-locks.ensures.locks es record_ms fresh) stands.hours c.in_ok-note_record.ensures;
       gaps = gaps-noted c.args.unit_ms c.args.epoch.now es c.args.self.now.records.last c.time.result c.args.self.now.gaps _ last c.time.ensures stands.gaps
-          c.in_ok-note_record-2.ensures.count c.in_ok-note_record-2.ensures.longest;
+          c.in_ok-note_record-2.ensures;
     }

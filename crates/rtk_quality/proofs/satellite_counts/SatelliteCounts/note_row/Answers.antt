@@ -6,7 +6,8 @@ use Rattle.rtk_tracking.specs.Standing.{AreKnown, StandsForPass}
 use Rattle.rtk_tracking.specs.declared.passes.Pass.{Pass}
 use Rattle.rtk_quality.specs.Counts.{plus}
 use Rattle.rtk_quality.specs.SatellitePasses.{phases_in, slips_at, sums_of, sums_at, sums_plus, sums_in, passes_of, epochs_since_phase, epochs_in_passes}
-use Rattle.rtk_quality.specs.Hours.{no_locks, returns_at}
+use Rattle.rtk_quality.specs.Hours.{returns_at}
+use Rattle.rtk_quality.specs.Steps.Noted.{no_locks}
 use Rattle.rtk_quality.specs.Standing.{newest_pass, with_epoch}
 use Rattle.rtk_quality.specs.declared.hours.Locks.{Locks}
 use Rattle.rtk_quality.specs.declared.pass_sums.PassSums.{PassSums}
@@ -60,7 +61,7 @@ returns-clause-stands c = λ before absent last.
     ∙ ap (λ (k : ℕ). sums_of k c.slips_in-slips.result c.outage_ms-outage_ms.result) c.phases_in.ensures
     ∙ ap (λ (k : ℕ). sums_of (phases_in s.observed) k c.outage_ms-outage_ms.result) slips
     ∙ ap (λ (o : Option ℕ). sums_of (phases_in s.observed) (slips_at interval before s) o) outage in
-    let n = c.note_phases.ensures in
+    let n = c.note_phases-ended.ensures in
     record {
       pass = subst (λ (p : Pass). StandsForPass p interval (s ∷ before)) (sym n.pass)
           (subst (λ (t : ℕ). StandsForPass c.note.new.self interval (record { time = t; observed = c.args.observed.now } ∷ before)) at (c.note.ensures before stands.pass last));
@@ -88,7 +89,7 @@ returns-clause-ended c = λ before absent last.
     let s : Sighting = record { time = c.args.time; observed = c.args.observed.now } in
     let begins : c.begins-begins.result ≡ begins_pass c.args.interval before s =
     c.begins-begins.ensures before stands.pass ∙ ap (λ (t : ℕ). begins_pass c.args.interval before (record { time = t; observed = c.args.observed.now })) c.ms-time_ms.ensures.value in
-    c.note_phases.ensures.ended
+    c.note_phases-ended.ensures.ended
     ∙ ap (λ (b : Bool). cond b c.args.self.now.last None) begins
     ∙ ap (λ (o : Option PassCounts). cond (begins_pass c.args.interval before s) o None) stands.last
 

@@ -1,5 +1,5 @@
 use Rattle.std.proofs.Common.{◌≡◌, drop}
-use Rattle.rtk_quality.specs.Strengths.{with_row}
+use Rattle.rtk_quality.specs.Steps.Noted.{with_row}
 use Rattle.rtk_quality.proofs.strengths.Strengths.add_row.Given as goal
 
 abbrev pub invariant-loop-place : goal.invariant-loop-place

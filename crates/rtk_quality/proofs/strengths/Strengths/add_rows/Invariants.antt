@@ -1,5 +1,5 @@
 use Rattle.std.proofs.Common.{◌≡◌, drop}
-use Rattle.rtk_quality.specs.Strengths.{with_rows}
+use Rattle.rtk_quality.specs.Steps.Noted.{with_rows}
 use Rattle.rtk_quality.proofs.strengths.Strengths.add_rows.Given as goal
 
 abbrev pub invariant-loop-row : goal.invariant-loop-row
