@@ -17,16 +17,16 @@ from .files import Check, Part, check, cut, label
 from .headers import Header
 from .live import Converter
 from .program import find_program, version
-from .qualities import CodeQuality, Pass, Quality, Tracked, quality
+from .qualities import CodeQuality, Fall, Gap, Hour, Pass, Quality, Tracked, quality
 from .reports import Conflict, Counts, LateMessage, RefusedMessage, Report
 from .rinex import Epoch, Observation, epochs, header, observations
 from .tables import arrays, frame
 from .writing import Written
 
 __all__ = [
-    "AutoConversion", "CapturesError", "Check", "CodeQuality", "Conflict", "Conversion", "Converter", "Counts", "Date", "Epoch", "Error",
-    "FileError", "FormError", "Found", "Header", "LateMessage", "NoRecordError", "Observation", "Part", "Pass", "ProgramError",
-    "ProgramNotFound", "Quality", "RefusedMessage", "Report", "StationSummary", "Summary", "Tracked", "WordsError", "WorkError", "Written",
-    "arrays", "auto", "check", "convert", "cut", "epochs", "find_program", "frame", "header", "label", "observations", "quality", "summary",
-    "version",
+    "AutoConversion", "CapturesError", "Check", "CodeQuality", "Conflict", "Conversion", "Converter", "Counts", "Date", "Epoch",
+    "Error", "Fall", "FileError", "FormError", "Found", "Gap", "Header", "Hour", "LateMessage", "NoRecordError", "Observation", "Part",
+    "Pass", "ProgramError", "ProgramNotFound", "Quality", "RefusedMessage", "Report", "StationSummary", "Summary", "Tracked",
+    "WordsError", "WorkError", "Written", "arrays", "auto", "check", "convert", "cut", "epochs", "find_program", "frame", "header",
+    "label", "observations", "quality", "summary", "version",
 ]

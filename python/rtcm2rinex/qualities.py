@@ -69,17 +69,54 @@ class Pass:
 
 
 @dataclass(frozen=True)
+class Hour:
+    """An hour of GPS time that has a record: its beginning, its records, and how many would be `expected` without missing epochs.
+
+    `mean_satellites` says how many satellites a record has. `slips` and `returns` add up all codes of all satellites.
+    `mean_strengths` has the mean strength of each band of the file in dB-Hz, by the number of the band, or None without a strength.
+    """
+
+    start: datetime
+    records: int
+    expected: int
+    mean_satellites: float
+    slips: int
+    returns: int
+    mean_strengths: Dict[int, Optional[float]]
+
+
+@dataclass(frozen=True)
+class Gap:
+    """The GPS times of the records before and after a gap, and how many epochs are missing."""
+
+    first: datetime
+    last: datetime
+    missing: int
+
+
+@dataclass(frozen=True)
+class Fall:
+    """The largest fall of the mean strength of a band, in dB-Hz, and the beginnings of the hours before and after it."""
+
+    band: int
+    first: datetime
+    last: datetime
+    mean_strength: float
+
+
+@dataclass(frozen=True)
 class Quality:
     """The numbers of a file.
 
     `first` and `last` are the GPS times of the first and the last record, and `interval` is the most frequent step in seconds (s).
-    `records` and `missing` count the records and the missing epochs. `satellites` counts the satellites of the file, and the next
+    `records`, `missing` and `gaps` count the records, the missing epochs, and the gaps in which they are. `satellites` counts the satellites of the file, and the next
     three numbers say how many satellites a record has. `slips`, `moments`, `outages` and `outage_time` add up all satellites. A file
     without records has only `marker` and `records`, and all else is None or empty.
 
     `codes` has the numbers of each code over all satellites, and `satellite_codes` the numbers of each code of each satellite.
     `tracked` has the numbers of each satellite. `never` has the satellites and codes without any phase. `passes` has the passes of all
-    satellites.
+    satellites. `hours` has the hours with a record, `longest_gaps` up to ten gaps, the longest first, and `falls` the largest fall of
+    strength of each band.
     """
 
     marker: str
@@ -88,6 +125,7 @@ class Quality:
     last: Optional[datetime]
     interval: Optional[float]
     missing: Optional[int]
+    gaps: Optional[int]
     satellites: Optional[int]
     least_satellites: Optional[int]
     mean_satellites: Optional[float]
@@ -101,6 +139,9 @@ class Quality:
     tracked: Tuple[Tracked, ...]
     never: Tuple[Tuple[str, str], ...]
     passes: Tuple[Pass, ...]
+    hours: Tuple[Hour, ...]
+    longest_gaps: Tuple[Gap, ...]
+    falls: Tuple[Fall, ...]
 
 
 def quality(file: Input, *, program: Optional[Location] = None) -> Quality:
@@ -115,13 +156,15 @@ def read_quality(text: str) -> Quality:
     """Reads the JSON of `quality`."""
     try:
         first, *rows = json.loads(text)
-        rows_of: Dict[str, List[Any]] = {"code": [], "satellite": [], "tracked": [], "never": [], "pass": []}
+        rows_of: Dict[str, List[Any]] = {it: [] for it in ("code", "satellite", "tracked", "never", "pass", "hour", "gap", "fall")}
         for row in rows:
             rows_of[row["line"]].append(row)
         codes, satellite_codes = (tuple(map(code_of, rows_of[it])) for it in ("code", "satellite"))
         never = tuple((row["satellite"], row["code"]) for row in rows_of["never"])
         return Quality(**file_of(first), codes=codes, satellite_codes=satellite_codes, never=never,
-            tracked=tuple(map(tracked_of, rows_of["tracked"])), passes=tuple(map(pass_of, rows_of["pass"])))
+            tracked=tuple(map(tracked_of, rows_of["tracked"])), passes=tuple(map(pass_of, rows_of["pass"])),
+            hours=tuple(map(hour_of, rows_of["hour"])), longest_gaps=tuple(map(gap_of, rows_of["gap"])),
+            falls=tuple(map(fall_of, rows_of["fall"])))
     except (ValueError, KeyError, TypeError) as fault:
         raise FormError(1, f"the JSON of quality has another form: {fault!r}") from fault
 
@@ -134,10 +177,10 @@ def part_of(number: Optional[int], parts: int) -> Optional[float]:
 def file_of(row: Dict[str, Any]) -> Dict[str, Any]:
     """The numbers of the whole file. Without records there are only two."""
     if row["records"] == 0:
-        absent = ("first", "last", "interval", "missing", "satellites", "least_satellites", "mean_satellites", "greatest_satellites",
+        absent = ("first", "last", "interval", "missing", "gaps", "satellites", "least_satellites", "mean_satellites", "greatest_satellites",
             "slips", "moments", "outages", "outage_time")
         return {"marker": row["marker"], "records": 0, **dict.fromkeys(absent)}
-    same = ("marker", "records", "missing", "satellites", "least_satellites", "greatest_satellites", "slips", "moments", "outages")
+    same = ("marker", "records", "missing", "gaps", "satellites", "least_satellites", "greatest_satellites", "slips", "moments", "outages")
     return {**{name: row[name] for name in same}, "first": moment_of(row["from"]), "last": moment_of(row["until"]),
         "interval": part_of(row["interval_ms"], 1000), "mean_satellites": part_of(row["mean_satellites_tenths"], 10),
         "outage_time": row["outage_time_ms"] / 1000}
@@ -168,9 +211,35 @@ def tracked_of(row: Dict[str, Any]) -> Tracked:
     return Tracked(row["satellite"], *sums_of(row))
 
 
+def told(text: str) -> datetime:
+    """A GPS time, which stands there."""
+    moment = moment_of(text)
+    if moment is None:
+        raise ValueError("a time is missing")
+    return moment
+
+
+def span_of(row: Dict[str, Any]) -> Tuple[datetime, datetime]:
+    """The times from which and until which something lasts."""
+    return told(row["from"]), told(row["until"])
+
+
 def pass_of(row: Dict[str, Any]) -> Pass:
     """A pass of a satellite."""
-    first, last = moment_of(row["from"]), moment_of(row["until"])
-    if first is None or last is None:
-        raise ValueError("a pass has no time")
-    return Pass(row["satellite"], first, last, *sums_of(row))
+    return Pass(row["satellite"], *span_of(row), *sums_of(row))
+
+
+def hour_of(row: Dict[str, Any]) -> Hour:
+    """An hour. Its strengths have keys that name their bands."""
+    strengths = {int(key.split("_")[2]): part_of(number, 100) for key, number in row.items() if key.startswith("mean_strength_")}
+    return Hour(told(row["hour"]), row["records"], row["expected"], row["mean_satellites_tenths"] / 10, row["slips"], row["returns"], strengths)
+
+
+def gap_of(row: Dict[str, Any]) -> Gap:
+    """A gap."""
+    return Gap(*span_of(row), row["missing"])
+
+
+def fall_of(row: Dict[str, Any]) -> Fall:
+    """The largest fall of a band."""
+    return Fall(row["band"], *span_of(row), row["mean_strength_centidbhz"] / 100)

@@ -168,6 +168,75 @@ class Satellite:
         ]
 
 
+def mean_of(strengths: list[int]) -> int | None:
+    """In hundredths of a dB-Hz."""
+    return whole(Fraction(sum(strengths), 10 * len(strengths))) if strengths else None
+
+
+class Station:
+    """What the station has in each hour, and where its file has gaps."""
+
+    def __init__(self, records: list, times: list[int], interval: int | None, codes: list[str], satellites: list[Satellite]) -> None:
+        self.near = min(25, (interval or 0) // 10)
+        self.times, self.satellites, self.codes = times, satellites, codes
+        self.bands = sorted({code[0] for code in codes})
+        self.gaps: list[tuple[int, int, int]] = []
+        missed: list[int] = []
+        for a, b in zip(times, times[1:]):
+            moments = [a + k * interval for k in range(1, missing_in([a, b], interval) + 1)]
+            missed += moments
+            self.gaps += [(a, b, len(moments))] * bool(moments)
+        self.missing = Counter(self.hour(time) for time in missed)
+        self.places: dict[int, list[int]] = {}
+        for at, time in enumerate(times):
+            self.places.setdefault(self.hour(time), []).append(at)
+        self.rows = [len(it.lines) for it in records]
+        self.kinds = {(it.name, c): dict(zip(it.shown, it.knows(c))) for it in satellites for c in range(len(codes))}
+
+    def hour(self, time: int) -> int:
+        """A record may lie beside its moment, so it may lie before its hour."""
+        return (time + self.near) // 3_600_000
+
+    def locks(self, places: list[int], kind: str) -> int:
+        return sum(it.shown[at][c].digit & 1 and self.kinds[it.name, c][at] == kind
+            for it in self.satellites for at in places if at in it.shown for c in range(len(self.codes)))
+
+    def mean(self, places: list[int], band: str) -> int | None:
+        shown = [it.shown[at][c].strength for it in self.satellites for at in places if at in it.shown
+            for c, code in enumerate(self.codes) if code[0] == band]
+        return mean_of([it for it in shown if it is not None])
+
+    def hours(self) -> list[tuple[str, list[Field]]]:
+        return [("hour", [
+            text("", "hour", moment(hour * 3_600_000)),
+            counted("records", len(places)),
+            Field("of", "expected", len(places) + self.missing[hour]),
+            Field("mean-satellites", "mean_satellites_tenths", whole(Fraction(10 * sum(self.rows[at] for at in places), len(places))), 1),
+            counted("slips", self.locks(places, "slip")),
+            counted("returns", self.locks(places, "return")),
+            *(Field(f"mean-strength-{band}", f"mean_strength_{band}_centidbhz", self.mean(places, band), 2) for band in self.bands),
+        ]) for hour, places in self.places.items()]
+
+    def longest_gaps(self) -> list[tuple[str, list[Field]]]:
+        """The ten longest; a sort keeps the order of those alike."""
+        longest = sorted(self.gaps, key=lambda it: -it[2])[:10]
+        return [("gap", [text("from", "from", moment(a)), text("until", "until", moment(b)), counted("missing", count)]) for a, b, count in longest]
+
+    def falls(self) -> list[tuple[str, list[Field]]]:
+        lines: list[tuple[str, list[Field]]] = []
+        for band in self.bands:
+            means = [(hour, mean) for hour, places in self.places.items() if (mean := self.mean(places, band)) is not None]
+            steps = [(a, b, mean - less) for (a, mean), (b, less) in zip(means, means[1:]) if less < mean]
+            for a, b, by in sorted(steps, key=lambda it: -it[2])[:1]:
+                lines.append(("fall", [
+                    counted("band", int(band)),
+                    text("from", "from", moment(a * 3_600_000)),
+                    text("until", "until", moment(b * 3_600_000)),
+                    Field("mean-strength", "mean_strength_centidbhz", by, 2),
+                ]))
+        return lines
+
+
 def entries_of(file: str) -> tuple[list[Field], list[tuple[str, list[Field]]]]:
     """The numbers of the whole file, and the lines after them, each with its keyword."""
     header, body = file.split(END)
@@ -184,6 +253,7 @@ def entries_of(file: str) -> tuple[list[Field], list[tuple[str, list[Field]]]]:
     seen = [it for it in satellites if any(it.has(c) for c in range(len(codes)))]
     counts = [len(it.lines) for it in records]
     sums = {it.name: it.sums(it.spans, interval) for it in satellites}
+    station = Station(records, times, interval, codes, satellites)
     heading = [
         marker,
         text("from", "from", moment(times[0])),
@@ -191,6 +261,7 @@ def entries_of(file: str) -> tuple[list[Field], list[tuple[str, list[Field]]]]:
         Field("interval", "interval_ms", interval, 3),
         counted("records", len(records)),
         counted("missing", missing_in(times, interval)),
+        counted("gaps", len(station.gaps)),
         counted("satellites", len(seen)),
         counted("least-satellites", min(counts)),
         Field("mean-satellites", "mean_satellites_tenths", whole(Fraction(10 * sum(counts), len(records))), 1),
@@ -214,7 +285,7 @@ def entries_of(file: str) -> tuple[list[Field], list[tuple[str, list[Field]]]]:
         for row in it.spans:
             span = [text("from", "from", moment(row[0][0][1])), text("until", "until", moment(row[-1][-1][1]))]
             out.append(("pass", [text("", "satellite", it.name), *span, *it.sums([row], interval)]))
-    return heading, out
+    return heading, out + station.hours() + station.longest_gaps() + station.falls()
 
 
 def quality(file: str) -> str:

@@ -10,7 +10,7 @@ quality() { run quality "$@"; }
 # Its numbers, slip.numbers, were looked up in it by hand.
 lines=$root/tests/program/slip.numbers
 cat >json <<'END'
-[{"line":"file","marker":"BASE","from":"2024-05-17 12:00:00.000","until":"2024-05-17 12:01:00.000","interval_ms":1000,"records":61,"missing":0,"satellites":2,"least_satellites":1,"mean_satellites_tenths":18,"greatest_satellites":2,"slips":4,"moments":4,"outages":0,"outage_time_ms":0},
+[{"line":"file","marker":"BASE","from":"2024-05-17 12:00:00.000","until":"2024-05-17 12:01:00.000","interval_ms":1000,"records":61,"missing":0,"gaps":0,"satellites":2,"least_satellites":1,"mean_satellites_tenths":18,"greatest_satellites":2,"slips":4,"moments":4,"outages":0,"outage_time_ms":0},
 {"line":"code","code":"1C","phases":112,"possible":122,"percent_tenths":918,"satellites":2,"tracked":2,"ranges_only":0,"slips":2,"returns":0,"rises":0,"half_cycles":2,"phases_per_slip":56,"least_strength_millidbhz":41500,"mean_strength_centidbhz":4341,"greatest_strength_millidbhz":45000},
 {"line":"code","code":"2W","phases":112,"possible":122,"percent_tenths":918,"satellites":2,"tracked":2,"ranges_only":0,"slips":2,"returns":0,"rises":0,"half_cycles":0,"phases_per_slip":56,"least_strength_millidbhz":30250,"mean_strength_centidbhz":3284,"greatest_strength_millidbhz":35000},
 {"line":"satellite","satellite":"G05","code":"1C","phases":61,"possible":61,"percent_tenths":1000,"ranges_only":0,"slips":2,"returns":0,"rises":0,"half_cycles":0,"phases_per_slip":31,"least_strength_millidbhz":45000,"mean_strength_centidbhz":4500,"greatest_strength_millidbhz":45000},
@@ -20,7 +20,8 @@ cat >json <<'END'
 {"line":"tracked","satellite":"G05","phases":122,"slips":3,"moments":3,"outages":0,"outage_time_ms":0},
 {"line":"tracked","satellite":"G07","phases":102,"slips":1,"moments":1,"outages":0,"outage_time_ms":0},
 {"line":"pass","satellite":"G05","from":"2024-05-17 12:00:00.000","until":"2024-05-17 12:01:00.000","phases":122,"slips":3,"moments":3,"outages":0,"outage_time_ms":0},
-{"line":"pass","satellite":"G07","from":"2024-05-17 12:00:00.000","until":"2024-05-17 12:01:00.000","phases":102,"slips":1,"moments":1,"outages":0,"outage_time_ms":0}
+{"line":"pass","satellite":"G07","from":"2024-05-17 12:00:00.000","until":"2024-05-17 12:01:00.000","phases":102,"slips":1,"moments":1,"outages":0,"outage_time_ms":0},
+{"line":"hour","hour":"2024-05-17 12:00:00.000","records":61,"expected":61,"mean_satellites_tenths":18,"slips":4,"returns":0,"mean_strength_1_centidbhz":4341,"mean_strength_2_centidbhz":3284}
 ]
 END
 # pins: counts_of, passes_of, epochs_in_passes, percent_tenths, mean_hundredths
@@ -28,7 +29,7 @@ quality "$file";              leaves quality_of_a_file 0 "$lines" /dev/null
 quality --json "$file";       leaves quality_in_json 0 json /dev/null
 quality "$file" --json;       leaves quality_in_json_after_the_file 0 json /dev/null
 quality --json stdin <"$file"; leaves quality_of_standard_input_in_json 0 json /dev/null
-python3 -c 'import json, sys; print(len(json.load(sys.stdin)))' <out >got; echo 11 >want
+python3 -c 'import json, sys; print(len(json.load(sys.stdin)))' <out >got; echo 12 >want
 same other_programs_read_the_document got want
 
 # Fields in the header change no number.
@@ -44,8 +45,8 @@ leaves quality_without_records_in_json 0 want /dev/null
 
 # A record alone has no interval.
 sed '/^> .* 1.0000000 /,$d' "$file" >one
-quality one; sed '15,$d' out >heading
-printf '%s\n' 'marker BASE' 'from 2024-05-17 12:00:00.000' 'until 2024-05-17 12:00:00.000' 'interval -' 'records 1' 'missing 0' \
+quality one; sed '16,$d' out >heading
+printf '%s\n' 'marker BASE' 'from 2024-05-17 12:00:00.000' 'until 2024-05-17 12:00:00.000' 'interval -' 'records 1' 'missing 0' 'gaps 0' \
     'satellites 2' 'least-satellites 2' 'mean-satellites 2.0' 'greatest-satellites 2' 'slips 0' 'moments 0' 'outages 0' \
     'outage-time 0.000' >want
 same quality_of_a_record heading want
@@ -89,9 +90,51 @@ outage-time $time.000
 satellite G05 1C phases $phases of $possible percent $percent ranges-only 0 slips $slips returns $returns rises 0
 tracked G05 phases $phases slips $slips moments $slips outages $outages outage-time $time.000
 END
+    if [ "$slips" -gt 0 ]; then locks='%s 0\n'; else locks='0 %s\n'; fi
+    awk '$1 == "hour" { print $11, $13 }' out >>got
+    # shellcheck disable=SC2059 # it is a format
+    printf "$locks" 5 6 6 6 6 6 >>want
     # pins: absence_of, is_longer, ends_outage, is_return, is_slip, epochs_in_passes, percent_tenths, sums_of, station_sums
     same "quality_of_a_satellite_away_for_${seconds}_s_at_$step" got want
 done 3<rows
+
+# Seven records of three hours. The third one lies 20 ms before its hour, and 118 and 60 epochs are missing up to the next hour and in
+# it. 2W has no strength in the second hour. Its strengths fall by 5 from the first hour to the third, and those of 1C by 2 and by 3.
+# pins: hour_at, missing_since, missing_until, with_record, hours_of, hour_line, fall_to, largest_fall, fall_line
+{
+    sed '/END OF HEADER/q; /TIME OF FIRST OBS/s/    12     0 /    12    59 /' "$file"
+    while read -r hour minute second slip one two; do
+        printf '> 2024 05 17 %s %s %10s  0  1\n' "$hour" "$minute" "$second"
+        printf 'G05  21085472.060 %s 110804903.547%s%s        %s' "${one%:*}" "$(echo "$slip" | tr - ' ')" "${one%:*}" "${one#*:}"
+        [ "$two" = - ] || printf '    21085474.060 5  86341483.321 5        %s' "$two"
+        echo
+    done
+} >hours <<'END'
+12 59  0.0000000 - 7:45.000 35.000
+12 59 30.0000000 - 7:45.000 35.000
+12 59 59.9800000 - 7:44.000 -
+13 00 30.0000000 - 7:42.000 -
+14 30  0.0000000 1 6:40.000 30.000
+14 30 30.0000000 1 6:40.000 30.000
+14 31  0.0000000 - 6:40.000 30.000
+END
+quality hours
+grep -E '^(missing|gaps|hour|gap|fall) ' out >got
+cat >want <<'END'
+missing 178
+gaps 1
+hour 2024-05-17 12:00:00.000 records 2 of 2 mean-satellites 1.0 slips 0 returns 0 mean-strength-1 45.00 mean-strength-2 35.00
+hour 2024-05-17 13:00:00.000 records 2 of 120 mean-satellites 1.0 slips 0 returns 0 mean-strength-1 43.00 mean-strength-2 -
+hour 2024-05-17 14:00:00.000 records 3 of 63 mean-satellites 1.0 slips 1 returns 0 mean-strength-1 40.00 mean-strength-2 30.00
+gap from 2024-05-17 13:00:30.000 until 2024-05-17 14:30:00.000 missing 178
+fall band 1 from 2024-05-17 13:00:00.000 until 2024-05-17 14:00:00.000 mean-strength 3.00
+fall band 2 from 2024-05-17 12:00:00.000 until 2024-05-17 14:00:00.000 mean-strength 5.00
+END
+same quality_of_three_hours got want
+quality --json hours
+grep '"line":"fall","band":2' out >got
+echo '{"line":"fall","band":2,"from":"2024-05-17 12:00:00.000","until":"2024-05-17 14:00:00.000","mean_strength_centidbhz":500}' >want
+same quality_of_three_hours_in_json got want
 
 # twelve KIND: 83 records of twelve satellites. G07 slips twice on its codes. G11 has no 2W, and G05 lacks two phases of it. Of the
 # kind `ranges` G12 has only ranges of 2W, and of the kind `none` no satellite has 2W.

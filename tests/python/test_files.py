@@ -100,6 +100,8 @@ class Qualities(Case):
         self.assertIn(rtcm2rinex.Pass("G12", second(20), second(99), 145, 1, 1, 0, 0.0), found.passes)
         self.assertIn(rtcm2rinex.Tracked("G12", 145, 1, 1, 0, 0.0), found.tracked)
         self.assertEqual((found.slips, found.moments, found.outages, found.outage_time), (2, 2, 0, 0.0))
+        self.assertEqual(found.hours, (rtcm2rinex.Hour(NOON, 94, 100, 2.4, 2, 0, {1: 38.05, 2: 30.74}),))
+        self.assertEqual((found.gaps, found.longest_gaps, found.falls), (1, (rtcm2rinex.Gap(second(39), second(46), 6),), ()))
         self.assertEqual(found.never, ())
 
     def test_codes_that_a_satellite_never_has(self) -> None:
@@ -111,7 +113,7 @@ class Qualities(Case):
         header = b"".join((EXAMPLES / "base.rnx").read_bytes().splitlines(True)[:14])
         found = rtcm2rinex.quality(io.BytesIO(header))
         self.assertEqual((found.marker, found.records, found.first, found.codes, found.passes), ("BASE", 0, None, (), ()))
-        self.assertEqual((found.slips, found.outage_time, found.tracked), (None, None, ()))
+        self.assertEqual((found.gaps, found.slips, found.outage_time, found.tracked, found.hours), (None, None, None, (), ()))
 
     def test_a_wrong_file(self) -> None:
         text = (EXAMPLES / "base.rnx").read_bytes().replace(b"45.000", b"45.100")

@@ -7,7 +7,7 @@ use Rattle.std.proofs.lemmas.List.FromFn.{fill_by_all, length-map-range_with_len
 use Rattle.rtk_obs.specs.declared.time.Civil.{Civil}
 use Rattle.rtk_rinex.specs.Reading.{reading_of}
 use Rattle.rtk_rinex.specs.declared.epoch_table.Observed.{Observed}
-use Rattle.rtk_tracking.specs.Passes.{Sighting, has_phase, has_bit_0, last_phase, is_away, begins_pass, is_known, is_kept, is_slip}
+use Rattle.rtk_tracking.specs.Passes.{Sighting, has_phase, has_bit_0, last_phase, is_away, begins_pass, is_known, is_kept, is_slip, is_return}
 use Rattle.rtk_tracking.specs.Standing.{StandsForPass}
 use Rattle.rtk_tracking.specs.Epochs.{shown_at}
 use Rattle.rtk_rinex.specs.Record.{no_observation}
@@ -44,6 +44,15 @@ slip-is interval place before s os o kept same is marked =
     ap (λ (x : Observed). x.slip && kept) (is ∙ ap (λ (xs : List Observed). shown_at place xs) same)
     ∙ ap (λ (b : Bool). b && kept) (sym (bit-at place s.observed))
     ∙ ap (λ (b : Bool). has_bit_0 place s.observed && b) marked
+
+pub return-is : (interval : Option ℕ) (place : ℕ) (before : List Sighting) (s : Sighting) (os : List Observed) (o : Observed) (known kept : Bool)
+    → os ≡ s.observed → o ≡ shown_at place os → known ≡ is_known interval place before s → kept ≡ is_kept interval place before s
+    → (o.slip && (known && not kept)) ≡ is_return interval place before s
+return-is interval place before s os o known kept same is marked_known marked =
+    ap (λ (x : Observed). x.slip && (known && not kept)) (is ∙ ap (λ (xs : List Observed). shown_at place xs) same)
+    ∙ ap (λ (b : Bool). b && (known && not kept)) (sym (bit-at place s.observed))
+    ∙ ap (λ (b : Bool). has_bit_0 place s.observed && (b && not kept)) marked_known
+    ∙ ap (λ (b : Bool). has_bit_0 place s.observed && (is_known interval place before s && not b)) marked
 
 -- ---- what is not observed
 
@@ -86,6 +95,10 @@ code-rest interval place before s past =
 pub no-slip : (interval : Option ℕ) (place : ℕ) (before : List Sighting) (s : Sighting) → length s.observed ≤ place → is_slip interval place before s ≡ false
 no-slip interval place before s past =
     ap (λ (b : Bool). b && is_kept interval place before s) (bit-at place s.observed ∙ ap (λ (o : Observed). o.slip) (get_or_past s.observed place no_observation past))
+
+pub no-return : (interval : Option ℕ) (place : ℕ) (before : List Sighting) (s : Sighting) → length s.observed ≤ place → is_return interval place before s ≡ false
+no-return interval place before s past =
+    ap (λ (b : Bool). b && (is_known interval place before s && not (is_kept interval place before s))) (bit-at place s.observed ∙ ap (λ (o : Observed). o.slip) (get_or_past s.observed place no_observation past))
 
 -- the codes of a satellite without a row
 pub same-codes : (interval : Option ℕ) (t : ℕ) (before : List Sighting) → code_counts_of interval (absent_at t ∷ before) ≡ code_counts_of interval before

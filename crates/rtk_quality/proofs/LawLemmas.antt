@@ -1,5 +1,5 @@
 -- No bit 0 is hidden; and counts, sums and means below 2^64.
-use Rattle.std.proofs.Common.{◌≡◌, ◌<◌, ◌≤◌, ◌+◌, ◌*◌, ◌^◌, ◌==◌, ℕ, zero, suc, Bool, true, false, not, cond, ◌&&◌, ◌||◌, List, [], ◌∷◌, length, Option, None, Some, is_some, inl, inr, refl, sym, ap, subst, ◌∙◌, arith}
+use Rattle.std.proofs.Common.{◌≡◌, ◌<◌, ◌≤◌, ◌+◌, ◌*◌, ◌^◌, ◌==◌, ℕ, Bool, true, false, not, cond, ◌&&◌, List, [], ◌∷◌, length, Option, None, Some, is_some, inl, inr, refl, sym, ap, subst, ◌∙◌, arith}
 use Rattle.std.specs.Prelude.{count_by, sum_by}
 use Rattle.std.specs.List.{fold, range_with_len}
 use Rattle.std.proofs.lemmas.Bool.{cases_Bool, cases_eq, eq-eqb, or_parts}
@@ -7,15 +7,14 @@ use Rattle.std.proofs.lemmas.List.Sums.{sum_by-cons, count_by-le-length}
 use Rattle.std.proofs.Math.Nat.{div-le_of_le-mul}
 use Rattle.rtk_rinex.specs.declared.epoch_table.Observed.{Observed}
 use Rattle.rtk_rinex.specs.Reading.{reading_of}
-use Rattle.rtk_rinex.specs.Record.{EpochTableView}
 use Rattle.rtk_tracking.specs.Epochs.{capped, shown_at}
 use Rattle.rtk_tracking.specs.Passes.{Sighting, sightings_of, has_phase, begins_pass, is_known, is_kept}
 use Rattle.rtk_tracking.proofs.PublicLaws.{each-bit}
-use Rattle.rtk_quality.specs.Counts.{Noted, noted_of, plus, tally, strength_total, counts_of, rounded_fraction, mean_hundredths}
+use Rattle.rtk_quality.specs.Counts.{Noted, noted_of, plus, tally, strength_total, rounded_fraction, mean_hundredths}
 use Rattle.rtk_quality.specs.SatellitePasses.{phases_in, sums_at, sums_plus, longer, passes_of, epochs_since_phase, epochs_in_passes}
-use Rattle.rtk_quality.specs.Records.{rows_of, rows_total}
+use Rattle.rtk_quality.specs.Records.{rows_of}
 use Rattle.rtk_quality.specs.Quality.{numbers_of, no_numbers, together, with_satellite, totals_of}
-use Rattle.rtk_quality.specs.Laws.{CountsHideNothing, EachIsCounted, strength_or_0, sum_of_strengths, mean_of_strengths, MeanIsOfAll, number_if_seen, count_in_passes, EachInPassIsCounted, PhasesAreInPasses, sum_of_satellites, IsTotal, TotalsAreSums, RowsAreSum}
+use Rattle.rtk_quality.specs.Laws.{CountsHideNothing, EachIsCounted, strength_or_0, sum_of_strengths, MeanIsOfAll, number_if_seen, count_in_passes, EachInPassIsCounted, PhasesAreInPasses, IsTotal, TotalsAreSums, RowsAreSum}
 use Rattle.rtk_quality.specs.declared.code_numbers.CodeNumbers.{CodeNumbers}
 use Rattle.rtk_quality.specs.declared.pass_sums.PassSums.{PassSums}
 use Rattle.rtk_quality.specs.declared.satellite_counts.PassCounts.{PassCounts}
@@ -76,7 +75,7 @@ mean-fits sum count some fits =
     let most : rounded_fraction sum (10 * count) ≤ 18_446_744_073_709_551_615 = div-le_of_le-mul (2 * (10 * count)) (omega (arith, some, fits)) in
     omega (arith, most)
 
-shown-mean : (sum count : ℕ) → sum < 2 ^ 64 → mean_hundredths sum count ≡ cond (count == 0) None (Some (rounded_fraction sum (10 * count)))
+pub shown-mean : (sum count : ℕ) → sum < 2 ^ 64 → mean_hundredths sum count ≡ cond (count == 0) None (Some (rounded_fraction sum (10 * count)))
 shown-mean sum count fits = elim (cases_eq count 0) [
   | inl none ↦
       ap (λ (b : Bool). cond b None (Some (capped (rounded_fraction sum (10 * count))))) (eq-eqb count 0 none)
@@ -289,6 +288,7 @@ pub totals-are-sums : TotalsAreSums
 totals-are-sums = record {
   phases = total-is (λ n. n.counts.phases) (refl, λ total own. refl);
   possible = total-is (λ n. n.possible) (refl, λ total own. refl);
+  satellites = total-is (λ n. n.satellites) (refl, λ total own. refl);
   ranges = total-is (λ n. n.counts.ranges) (refl, λ total own. refl);
   slips = total-is (λ n. n.counts.slips) (refl, λ total own. refl);
   returns = total-is (λ n. n.counts.returns) (refl, λ total own. refl);

@@ -1,8 +1,16 @@
 mod CountLemmas
+mod FallLemmas
 mod FileLemmas
+mod GapLemmas
+mod HourCountLemmas
+mod HourLawLemmas
+mod HourLemmas
 mod LawLemmas
 mod LineLemmas
 mod ListLemmas
+mod MissingLemmas
+mod OrderLemmas
 mod RowLemmas
 mod SectionLemmas
+mod StrengthLemmas
 mod TextLemmas

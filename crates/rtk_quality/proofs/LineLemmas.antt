@@ -1,17 +1,27 @@
 -- The parts of a line, one after another.
 use Rattle.std.proofs.Common.{◌≡◌, ℕ, List, ◌++◌, Option, Some, ap, ◌∙◌}
 use Rattle.std.specs.Prelude.{codes}
+use Rattle.rtk_obs.specs.declared.code.Band.{Band}
+use Rattle.rtk_obs.specs.declared.code.Band.TheVariants.{L1, L2, L5}
+use Rattle.rtk_obs.specs.declared.code.Code.{Code}
 use Rattle.rtk_obs.specs.declared.time.Civil.{Civil}
-use Rattle.rtk_quality.specs.Counts.{phases_per_slip, mean_hundredths, mean_tenths}
-use Rattle.rtk_quality.specs.Forms.{value_text, moment_text}
-use Rattle.rtk_quality.specs.QualityText.{per_slip_text, locks_text, sums_text, strengths_text, satellites_text, station_text, span_text}
+use Rattle.rtk_rinex.specs.Reading.{reading_of}
+use Rattle.rtk_quality.specs.Counts.{plus, phases_per_slip, mean_hundredths, mean_tenths}
+use Rattle.rtk_quality.specs.Forms.{value_text, moment_text, start_text, end_text}
+use Rattle.rtk_quality.specs.QualityText.{per_slip_text, locks_text, sums_text, strengths_text, marker_text, satellites_text, station_text, span_text, heading_text}
+use Rattle.rtk_quality.specs.Hours.{start_of}
+use Rattle.rtk_quality.specs.Strengths.{number_of}
+use Rattle.rtk_quality.specs.StationText.{strength_text, hour_counts_text, hour_line, gap_line, fall_line, fall_part, falls_text}
+use Rattle.rtk_quality.specs.declared.hours.HourCounts.{HourCounts}
+use Rattle.rtk_quality.specs.declared.gaps.Gap.{Gap}
+use Rattle.rtk_quality.specs.declared.falls.Fall.{Fall}
 use Rattle.rtk_quality.specs.declared.form.Form.{Form}
 use Rattle.rtk_quality.specs.declared.form.Decimals.TheVariants.{Whole, Tenths, Hundredths, Thousandths}
 use Rattle.rtk_quality.specs.declared.code_counts.CodeCounts.{CodeCounts}
 use Rattle.rtk_quality.specs.declared.code_numbers.PerSlip.{PerSlip}
 use Rattle.rtk_quality.specs.declared.record_counts.RecordCounts.{RecordCounts}
 use Rattle.rtk_quality.specs.declared.pass_sums.PassSums.{PassSums}
-use Rattle.rtk_quality.proofs.ListLemmas.{three, four, five, six}
+use Rattle.rtk_quality.proofs.ListLemmas.{and-then, three, four, five, six}
 
 pub strengths-are : (form : Form) (c : CodeCounts) (mean : Option ℕ) (t0 t1 t2 t3 : List ℕ) → mean ≡ mean_hundredths c.strength_sum c.strengths
     → t1 ≡ t0 ++ value_text form (codes " least-strength ") (codes ",\"least_strength_millidbhz\":") Thousandths c.least
@@ -99,3 +109,74 @@ station-is form s t0 t1 t2 t3 t4 e1 e2 e3 e4 =
     (value_text form (codes "\nmoments ") (codes ",\"moments\":") Whole (Some s.moments))
     (value_text form (codes "\noutages ") (codes ",\"outages\":") Whole (Some s.outages))
     (value_text form (codes "\noutage-time ") (codes ",\"outage_time_ms\":") Thousandths (Some s.outage_ms)) e1 e2 e3 e4
+
+pub hour-counts-are : (form : Form) (h : HourCounts) (expected : ℕ) (mean : Option ℕ) (t0 t1 t2 t3 t4 t5 : List ℕ) → expected ≡ plus h.records h.missing → mean ≡ mean_tenths h.rows h.records
+    → t1 ≡ t0 ++ value_text form (codes " records ") (codes ",\"records\":") Whole (Some h.records)
+    → t2 ≡ t1 ++ value_text form (codes " of ") (codes ",\"expected\":") Whole (Some expected)
+    → t3 ≡ t2 ++ value_text form (codes " mean-satellites ") (codes ",\"mean_satellites_tenths\":") Tenths mean
+    → t4 ≡ t3 ++ value_text form (codes " slips ") (codes ",\"slips\":") Whole (Some h.locks.slips)
+    → t5 ≡ t4 ++ value_text form (codes " returns ") (codes ",\"returns\":") Whole (Some h.locks.returns)
+    → t5 ≡ t0 ++ hour_counts_text form h
+unfolding hour_counts_text
+hour-counts-are form h expected mean t0 t1 t2 t3 t4 t5 is_expected is e1 e2 e3 e4 e5 =
+    five t0 t1 t2 t3 t4 t5 (value_text form (codes " records ") (codes ",\"records\":") Whole (Some h.records))
+    (value_text form (codes " of ") (codes ",\"expected\":") Whole (Some (plus h.records h.missing)))
+    (value_text form (codes " mean-satellites ") (codes ",\"mean_satellites_tenths\":") Tenths (mean_tenths h.rows h.records))
+    (value_text form (codes " slips ") (codes ",\"slips\":") Whole (Some h.locks.slips))
+    (value_text form (codes " returns ") (codes ",\"returns\":") Whole (Some h.locks.returns)) e1
+    (e2 ∙ ap (λ (n : ℕ). t1 ++ value_text form (codes " of ") (codes ",\"expected\":") Whole (Some n)) is_expected)
+    (e3 ∙ ap (λ (m : Option ℕ). t2 ++ value_text form (codes " mean-satellites ") (codes ",\"mean_satellites_tenths\":") Tenths m) is) e4 e5
+
+pub hour-is : (form : Form) (listed : List Code) (h : HourCounts) (start : Civil) (t0 t1 t2 t3 t4 t5 t6 t7 : List ℕ) → start ≡ reading_of (start_of h.hour)
+    → t1 ≡ t0 ++ start_text form (codes "hour") → t2 ≡ t1 ++ moment_text form (codes " ") (codes ",\"hour\":") start → t3 ≡ t2 ++ hour_counts_text form h
+    → t4 ≡ t3 ++ strength_text form listed h.strengths L1 → t5 ≡ t4 ++ strength_text form listed h.strengths L2 → t6 ≡ t5 ++ strength_text form listed h.strengths L5
+    → t7 ≡ t6 ++ end_text form → t7 ≡ t0 ++ hour_line form listed h
+unfolding hour_line
+hour-is form listed h start t0 t1 t2 t3 t4 t5 t6 t7 is e1 e2 e3 e4 e5 e6 e7 =
+    let from : List ℕ = start_text form (codes "hour") in
+    let at : List ℕ = moment_text form (codes " ") (codes ",\"hour\":") (reading_of (start_of h.hour)) in
+    let counts : List ℕ = hour_counts_text form h in
+    let one : List ℕ = strength_text form listed h.strengths L1 in
+    let two : List ℕ = strength_text form listed h.strengths L2 in
+    let three : List ℕ = strength_text form listed h.strengths L5 in
+    and-then t0 t6 t7 (((((from ++ at) ++ counts) ++ one) ++ two) ++ three) (end_text form)
+    (six t0 t1 t2 t3 t4 t5 t6 from at counts one two three e1 (e2 ∙ ap (λ (c : Civil). t1 ++ moment_text form (codes " ") (codes ",\"hour\":") c) is) e3 e4 e5 e6) e7
+
+pub gap-is : (form : Form) (g : Gap) (t0 t1 t2 t3 t4 t5 : List ℕ)
+    → t1 ≡ t0 ++ start_text form (codes "gap") → t2 ≡ t1 ++ moment_text form (codes " from ") (codes ",\"from\":") g.from
+    → t3 ≡ t2 ++ moment_text form (codes " until ") (codes ",\"until\":") g.until → t4 ≡ t3 ++ value_text form (codes " missing ") (codes ",\"missing\":") Whole (Some g.missing)
+    → t5 ≡ t4 ++ end_text form → t5 ≡ t0 ++ gap_line form g
+unfolding gap_line
+gap-is form g t0 t1 t2 t3 t4 t5 e1 e2 e3 e4 e5 =
+    five t0 t1 t2 t3 t4 t5 (start_text form (codes "gap")) (moment_text form (codes " from ") (codes ",\"from\":") g.from)
+    (moment_text form (codes " until ") (codes ",\"until\":") g.until) (value_text form (codes " missing ") (codes ",\"missing\":") Whole (Some g.missing)) (end_text form) e1 e2 e3 e4 e5
+
+pub fall-is : (form : Form) (band : Band) (f : Fall) (number : ℕ) (from until : Civil) (t0 t1 t2 t3 t4 t5 t6 : List ℕ)
+    → number ≡ number_of band → from ≡ reading_of (start_of f.from) → until ≡ reading_of (start_of f.until)
+    → t1 ≡ t0 ++ start_text form (codes "fall") → t2 ≡ t1 ++ value_text form (codes " band ") (codes ",\"band\":") Whole (Some number)
+    → t3 ≡ t2 ++ moment_text form (codes " from ") (codes ",\"from\":") from → t4 ≡ t3 ++ moment_text form (codes " until ") (codes ",\"until\":") until
+    → t5 ≡ t4 ++ value_text form (codes " mean-strength ") (codes ",\"mean_strength_centidbhz\":") Hundredths (Some f.by) → t6 ≡ t5 ++ end_text form
+    → t6 ≡ t0 ++ fall_line form band f
+unfolding fall_line
+fall-is form band f number from until t0 t1 t2 t3 t4 t5 t6 is_number is_from is_until e1 e2 e3 e4 e5 e6 =
+    six t0 t1 t2 t3 t4 t5 t6 (start_text form (codes "fall")) (value_text form (codes " band ") (codes ",\"band\":") Whole (Some (number_of band)))
+    (moment_text form (codes " from ") (codes ",\"from\":") (reading_of (start_of f.from))) (moment_text form (codes " until ") (codes ",\"until\":") (reading_of (start_of f.until)))
+    (value_text form (codes " mean-strength ") (codes ",\"mean_strength_centidbhz\":") Hundredths (Some f.by)) (end_text form) e1
+    (e2 ∙ ap (λ (n : ℕ). t1 ++ value_text form (codes " band ") (codes ",\"band\":") Whole (Some n)) is_number)
+    (e3 ∙ ap (λ (c : Civil). t2 ++ moment_text form (codes " from ") (codes ",\"from\":") c) is_from)
+    (e4 ∙ ap (λ (c : Civil). t3 ++ moment_text form (codes " until ") (codes ",\"until\":") c) is_until) e5 e6
+
+pub falls-are : (form : Form) (hours : List HourCounts) (t0 t1 t2 t3 : List ℕ)
+    → t1 ≡ t0 ++ fall_part form hours L1 → t2 ≡ t1 ++ fall_part form hours L2 → t3 ≡ t2 ++ fall_part form hours L5 → t3 ≡ t0 ++ falls_text form hours
+unfolding falls_text
+falls-are form hours t0 t1 t2 t3 e1 e2 e3 = three t0 t1 t2 t3 (fall_part form hours L1) (fall_part form hours L2) (fall_part form hours L5) e1 e2 e3
+
+pub heading-is : (form : Form) (marker : List ℕ) (from until : Civil) (interval : Option ℕ) (satellites : ℕ) (r : RecordCounts) (gaps : ℕ) (s : PassSums) (t0 t1 t2 t3 t4 t5 t6 : List ℕ)
+    → t1 ≡ t0 ++ marker_text form marker → t2 ≡ t1 ++ span_text form from until interval r
+    → t3 ≡ t2 ++ value_text form (codes "\ngaps ") (codes ",\"gaps\":") Whole (Some gaps)
+    → t4 ≡ t3 ++ satellites_text form satellites r → t5 ≡ t4 ++ station_text form s → t6 ≡ t5 ++ end_text form
+    → t6 ≡ t0 ++ heading_text form marker from until interval satellites r gaps s
+unfolding heading_text
+heading-is form marker from until interval satellites r gaps s t0 t1 t2 t3 t4 t5 t6 e1 e2 e3 e4 e5 e6 =
+    six t0 t1 t2 t3 t4 t5 t6 (marker_text form marker) (span_text form from until interval r) (value_text form (codes "\ngaps ") (codes ",\"gaps\":") Whole (Some gaps))
+    (satellites_text form satellites r) (station_text form s) (end_text form) e1 e2 e3 e4 e5 e6

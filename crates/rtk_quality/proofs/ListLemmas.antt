@@ -58,6 +58,16 @@ push-item f xs i x before mid after within is so_far more =
     ap (λ t. map f t) (take_more xs i x within) ∙ map_push f (take i xs) (get_or xs i x) ∙ ap (λ y. parts ++ f y ∷ []) (sym is) in
     more ∙ ap (λ t. t ++ f x ∷ []) so_far ∙ append_assoc before parts (f x ∷ []) ∙ ap (λ t. before ++ t) (sym longer)
 
+-- the line of one item more
+pub line-more : {X : Type 0} (line : X → List ℕ) (xs : List X) (i : ℕ) (d : X) (before mid after : List ℕ) → i < length xs
+    → mid ≡ before ++ flat_map line (take i xs) → after ≡ mid ++ line (get_or xs i d)
+    → after ≡ before ++ flat_map line (take (i + 1) xs)
+line-more line xs i d before mid after within so_far more =
+    let parts = flat_map line (take i xs) in
+    let longer : flat_map line (take (i + 1) xs) ≡ parts ++ line (get_or xs i d) =
+    ap (λ t. flat_map line t) (take_more xs i d within) ∙ flat_map-append line (take i xs) (get_or xs i d ∷ []) ∙ ap (λ t. parts ++ t) (append-nil (line (get_or xs i d))) in
+    more ∙ ap (λ t. t ++ line (get_or xs i d)) so_far ∙ append_assoc before parts (line (get_or xs i d)) ∙ ap (λ t. before ++ t) (sym longer)
+
 -- a text, and then another one
 pub and-then : (l0 l1 l2 a b : List ℕ) → l1 ≡ l0 ++ a → l2 ≡ l1 ++ b → l2 ≡ l0 ++ (a ++ b)
 and-then l0 l1 l2 a b first second = second ∙ ap (λ t. t ++ b) first ∙ append_assoc l0 a b

@@ -1,14 +1,16 @@
 -- An epoch row by row: what has come of each satellite.
-use Rattle.std.proofs.Common.{◌≡◌, ◌≢◌, ◌<◌, ◌≤◌, ◌+◌, ◌++◌, ◌==◌, cond, ℕ, suc, Bool, List, [], ◌∷◌, length, take, set, get_or, reverse, Option, refl, sym, ap, subst, inl, inr, ◌∙◌, get_or-set_same, get_or-set_other, length-set, arith}
+use Rattle.std.proofs.Common.{◌≡◌, ◌≢◌, ◌<◌, ◌≤◌, ◌+◌, ◌++◌, ◌==◌, cond, ℕ, suc, Bool, List, [], ◌∷◌, length, take, drop, set, get_or, reverse, Option, refl, sym, ap, subst, inl, inr, ◌∙◌, get_or-set_same, get_or-set_other, length-set, arith}
 use Rattle.std.proofs.lemmas.Bool.{cases_eq, eq-eqb, ne_eqb}
-use Rattle.std.proofs.lemmas.List.{get_or-take, take_more, length-take-le}
+use Rattle.std.proofs.lemmas.List.{get_or-take, take_more, length-take-le, at_drop_more}
 use Rattle.rtk_rinex.specs.Record.{EpochTableView, IsEpochTableView}
 use Rattle.rtk_rinex.specs.declared.epoch_table.Observed.{Observed}
 use Rattle.rtk_rinex.specs.declared.epoch_table.SatelliteRow.{SatelliteRow}
 use Rattle.rtk_tracking.specs.Epochs.{newest_moment, observed_in}
 use Rattle.rtk_tracking.specs.Passes.{Sighting, sightings_of, last_record}
 use Rattle.rtk_quality.specs.SatellitePasses.{passes_of}
+use Rattle.rtk_quality.specs.Steps.Noted.{locks_plus, locks_at, locks_onto}
 use Rattle.rtk_quality.specs.Standing.{absent_at, older_passes, StandsForSatellite, StandsForEnded, StandForSatellites, ended_of, with_ended, HasEnded, StandForEnded}
+use Rattle.rtk_quality.specs.declared.hours.Locks.{Locks}
 use Rattle.rtk_quality.specs.declared.satellite_counts.PassCounts.{PassCounts}
 use Rattle.rtk_quality.specs.declared.satellite_counts.SatelliteCounts.{SatelliteCounts}
 use Rattle.rtk_quality.specs.declared.file_counts.EndedPass.{EndedPass}
@@ -151,3 +153,17 @@ row-ended e i r old new pass interval es at are took stands = λ place within.
           subst (λ (ss : List Sighting). HasEnded new interval ss (place + 1)) (same-for (place + 1) e i r es at apart)
           (ap (λ (xs : List EndedPass). ended_of (place + 1) xs) took ∙ with-other (place + 1) r.satellite old pass apart ∙ are place within)
     ]
+
+-- the slips and returns of one more row
+pub locks-more : (e : EpochTableView) (i : ℕ) (r : SatelliteRow) (interval : Option ℕ) (es : List EpochTableView) (old own new : Locks)
+    → IsRowAt e i r → own ≡ locks_at interval (sightings_of r.satellite es) (record { time = e.time; observed = r.observed.items }) → new ≡ locks_plus old own
+    → locks_onto interval es e.time old (drop i e.rows) ≡ locks_onto interval es e.time new (drop (i + 1) e.rows)
+locks-more e i r interval es old own new at is added =
+    let rest : List SatelliteRow = drop (i + 1) e.rows in
+    at_drop_more (λ (rows : List SatelliteRow). locks_onto interval es e.time old rows) e.rows i r at.within
+    ∙ ap (λ (x : SatelliteRow). locks_onto interval es e.time (locks_plus old (locks_at interval (sightings_of x.satellite es) (seen x))) rest) (sym at.is)
+    ∙ ap (λ (x : Locks). locks_onto interval es e.time (locks_plus old x) rest) (sym is)
+    ∙ ap (λ (x : Locks). locks_onto interval es e.time x rest) (sym added)
+  where
+    seen : SatelliteRow → Sighting
+    seen x = record { time = e.time; observed = x.observed.items }

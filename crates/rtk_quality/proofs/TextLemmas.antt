@@ -1,13 +1,18 @@
 -- The text of the numbers, part by part.
-use Rattle.std.proofs.Common.{◌≡◌, ℕ, List, ◌++◌, Option, ap, ◌∙◌}
+use Rattle.std.proofs.Common.{◌≡◌, ℕ, List, ◌++◌, reverse, Option, ap, ◌∙◌}
 use Rattle.std.specs.Prelude.{codes}
 use Rattle.rtk_obs.specs.declared.code.Code.{Code}
 use Rattle.rtk_obs.specs.declared.time.Civil.{Civil}
 use Rattle.rtk_rinex.specs.Reading.{reading_of}
 use Rattle.rtk_rinex.specs.Record.{EpochTableView}
 use Rattle.rtk_quality.specs.Records.{unit_of, record_counts_of}
+use Rattle.rtk_quality.specs.Hours.{hours_of}
+use Rattle.rtk_quality.specs.Gaps.{longest_gaps, gaps_in}
+use Rattle.rtk_quality.specs.StationText.{hours_text, gaps_text, falls_text}
+use Rattle.rtk_quality.specs.declared.hours.HourCounts.{HourCounts}
+use Rattle.rtk_quality.specs.declared.gaps.Gap.{Gap}
 use Rattle.rtk_quality.specs.Quality.{code_of_station, station_sums, satellites_in}
-use Rattle.rtk_quality.specs.QualityText.{marker_text, code_line, each_code, section_text, heading_text, close_text, quality_text}
+use Rattle.rtk_quality.specs.QualityText.{marker_text, code_line, each_code, section_text, heading_text, station_part, close_text, quality_text}
 use Rattle.rtk_quality.specs.Forms.{json_text}
 use Rattle.rtk_quality.specs.declared.form.Form.{Form}
 use Rattle.rtk_quality.specs.declared.form.Form.TheVariants.{Json}
@@ -23,25 +28,43 @@ json-marker marker t0 t1 t2 t3 e1 e2 e3 = three t0 t1 t2 t3 (codes "[{\"line\":\
 
 -- the text of a file with records
 pub text-is : (form : Form) (marker : List ℕ) (listed : List Code) (first last : ℕ) (interval : Option ℕ) (es : List EpochTableView)
-    (from until : Civil) (seen : ℕ) (r : RecordCounts) (sums : PassSums) (t1 t2 t3 t4 t5 t6 t7 : List ℕ)
-    → from ≡ reading_of first → until ≡ reading_of last → seen ≡ satellites_in interval es → r ≡ record_counts_of (unit_of interval) es → sums ≡ station_sums interval es
-    → t1 ≡ heading_text form marker from until interval seen r sums
+    (from until : Civil) (seen : ℕ) (r : RecordCounts) (gaps : ℕ) (sums : PassSums) (t1 t2 t3 t4 t5 t6 t7 t8 : List ℕ)
+    → from ≡ reading_of first → until ≡ reading_of last → seen ≡ satellites_in interval es → r ≡ record_counts_of (unit_of interval) es
+    → gaps ≡ gaps_in (unit_of interval) es → sums ≡ station_sums interval es
+    → t1 ≡ heading_text form marker from until interval seen r gaps sums
     → t2 ≡ t1 ++ each_code (λ place code. code_line form code (satellites_in interval es) (code_of_station interval es place)) 0 listed
     → t3 ≡ t2 ++ section_text form Codes listed interval es → t4 ≡ t3 ++ section_text form Tracked listed interval es
     → t5 ≡ t4 ++ section_text form Never listed interval es → t6 ≡ t5 ++ section_text form Passes listed interval es
-    → t7 ≡ t6 ++ close_text form → t7 ≡ quality_text form marker listed first last interval es
+    → t7 ≡ t6 ++ station_part form listed interval (unit_of interval) es
+    → t8 ≡ t7 ++ close_text form → t8 ≡ quality_text form marker listed first last interval es
 unfolding quality_text
-text-is form marker listed first last interval es from until seen r sums t1 t2 t3 t4 t5 t6 t7 begins ends count records adds e1 e2 e3 e4 e5 e6 e7 =
+text-is form marker listed first last interval es from until seen r gaps sums t1 t2 t3 t4 t5 t6 t7 t8 begins ends count records gap_count adds e1 e2 e3 e4 e5 e6 e7 e8 =
     let cs : List ℕ = each_code (λ place code. code_line form code (satellites_in interval es) (code_of_station interval es place)) 0 listed in
     let s1 : List ℕ = section_text form Codes listed interval es in
     let s2 : List ℕ = section_text form Tracked listed interval es in
     let s3 : List ℕ = section_text form Never listed interval es in
     let s4 : List ℕ = section_text form Passes listed interval es in
+    let s5 : List ℕ = station_part form listed interval (unit_of interval) es in
     let end : List ℕ = close_text form in
-    let h : t1 ≡ heading_text form marker (reading_of first) (reading_of last) interval (satellites_in interval es) (record_counts_of (unit_of interval) es) (station_sums interval es) =
-    e1 ∙ ap (λ (c : Civil). heading_text form marker c until interval seen r sums) begins
-    ∙ ap (λ (c : Civil). heading_text form marker (reading_of first) c interval seen r sums) ends
-    ∙ ap (λ (n : ℕ). heading_text form marker (reading_of first) (reading_of last) interval n r sums) count
-    ∙ ap (λ (x : RecordCounts). heading_text form marker (reading_of first) (reading_of last) interval (satellites_in interval es) x sums) records
-    ∙ ap (λ (x : PassSums). heading_text form marker (reading_of first) (reading_of last) interval (satellites_in interval es) (record_counts_of (unit_of interval) es) x) adds in
-    e7 ∙ ap (λ (t : List ℕ). t ++ end) (e6 ∙ ap (λ (t : List ℕ). t ++ s4) (e5 ∙ ap (λ (t : List ℕ). t ++ s3) (e4 ∙ ap (λ (t : List ℕ). t ++ s2) (e3 ∙ ap (λ (t : List ℕ). t ++ s1) (e2 ∙ ap (λ (t : List ℕ). t ++ cs) h)))))
+    let counts : RecordCounts = record_counts_of (unit_of interval) es in
+    let h : t1 ≡ heading_text form marker (reading_of first) (reading_of last) interval (satellites_in interval es) counts (gaps_in (unit_of interval) es) (station_sums interval es) =
+    e1 ∙ ap (λ (c : Civil). heading_text form marker c until interval seen r gaps sums) begins
+    ∙ ap (λ (c : Civil). heading_text form marker (reading_of first) c interval seen r gaps sums) ends
+    ∙ ap (λ (n : ℕ). heading_text form marker (reading_of first) (reading_of last) interval n r gaps sums) count
+    ∙ ap (λ (x : RecordCounts). heading_text form marker (reading_of first) (reading_of last) interval (satellites_in interval es) x gaps sums) records
+    ∙ ap (λ (n : ℕ). heading_text form marker (reading_of first) (reading_of last) interval (satellites_in interval es) counts n sums) gap_count
+    ∙ ap (λ (x : PassSums). heading_text form marker (reading_of first) (reading_of last) interval (satellites_in interval es) counts (gaps_in (unit_of interval) es) x) adds in
+    e8 ∙ ap (λ (t : List ℕ). t ++ end) (e7 ∙ ap (λ (t : List ℕ). t ++ s5) (e6 ∙ ap (λ (t : List ℕ). t ++ s4) (e5 ∙ ap (λ (t : List ℕ). t ++ s3)
+    (e4 ∙ ap (λ (t : List ℕ). t ++ s2) (e3 ∙ ap (λ (t : List ℕ). t ++ s1) (e2 ∙ ap (λ (t : List ℕ). t ++ cs) h))))))
+
+-- the hours, gaps and falls of a file
+pub station-part-is : (form : Form) (listed : List Code) (interval : Option ℕ) (unit : ℕ) (es : List EpochTableView) (hours : List HourCounts) (gaps : List Gap) (t0 t1 t2 t3 : List ℕ)
+    → hours ≡ reverse (hours_of interval unit listed es) → gaps ≡ longest_gaps unit es
+    → t1 ≡ t0 ++ hours_text form listed hours → t2 ≡ t1 ++ gaps_text form gaps → t3 ≡ t2 ++ falls_text form hours
+    → t3 ≡ t0 ++ station_part form listed interval unit es
+unfolding station_part
+station-part-is form listed interval unit es hours gaps t0 t1 t2 t3 are_hours are_gaps e1 e2 e3 =
+    three t0 t1 t2 t3 (hours_text form listed (reverse (hours_of interval unit listed es))) (gaps_text form (longest_gaps unit es))
+    (falls_text form (reverse (hours_of interval unit listed es)))
+    (e1 ∙ ap (λ (hs : List HourCounts). t0 ++ hours_text form listed hs) are_hours) (e2 ∙ ap (λ (gs : List Gap). t1 ++ gaps_text form gs) are_gaps)
+    (e3 ∙ ap (λ (hs : List HourCounts). t2 ++ falls_text form hs) are_hours)

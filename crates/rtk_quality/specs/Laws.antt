@@ -1,11 +1,17 @@
 -- Laws of bits, and of counts and means of any size.
-use Rattle.std.specs.Prelude.{◌≡◌, ◌<◌, ◌^◌, ◌*◌, ◌+◌, ◌==◌, ℕ, Bool, false, not, ◌&&◌, ◌||◌, List, [], ◌∷◌, length, count_by, sum_by, Option, None, Some, is_some, unwrap_or, if◌then◌else◌}
-use Rattle.std.specs.List.{range_with_len}
+use Rattle.std.specs.Prelude.{◌≡◌, ◌<◌, ◌≤◌, ◌^◌, ◌*◌, ◌+◌, ◌-◌, ◌==◌, ℕ, Bool, false, not, List, [], ◌∷◌, length, sum, count_by, sum_by, AllPairs, Option, None, Some, is_some, unwrap_or, if◌then◌else◌}
+use Rattle.std.specs.List.{list_any, range_with_len}
+use Rattle.rtk_obs.specs.declared.code.Band.{Band}
+use Rattle.rtk_obs.specs.declared.code.Code.{Code}
 use Rattle.rtk_rinex.specs.Record.{EpochTableView}
+use Rattle.rtk_tracking.specs.Interval.{missing_before, missing_in}
 use Rattle.rtk_tracking.specs.Passes.{Sighting, sightings_of, has_phase, begins_pass}
 use Rattle.rtk_quality.specs.Counts.{Noted, plus, tally, noted_of, counts_of, rounded_fraction, mean_hundredths}
-use Rattle.rtk_quality.specs.SatellitePasses.{phases_in, slips_at, passes_of, epochs_in_passes}
-use Rattle.rtk_quality.specs.Records.{rows_of, rows_total}
+use Rattle.rtk_quality.specs.SatellitePasses.{phases_in, passes_of, epochs_in_passes}
+use Rattle.rtk_quality.specs.Records.{unit_of, rows_of, rows_total}
+use Rattle.rtk_quality.specs.Gaps.{gaps_of}
+use Rattle.rtk_quality.specs.Hours.{hour_at, sum_in_hour, strengths_in_hour, missing_within, hours_of}
+use Rattle.rtk_quality.specs.Strengths.{strengths_of_rows}
 use Rattle.rtk_quality.specs.Quality.{numbers_of, totals_of}
 use Rattle.rtk_quality.specs.declared.code_numbers.CodeNumbers.{CodeNumbers}
 
@@ -78,6 +84,7 @@ IsTotal number =
 pub record TotalsAreSums : Type 0 where
   pub phases : IsTotal (λ n. n.counts.phases)
   pub possible : IsTotal (λ n. n.possible)
+  pub satellites : IsTotal (λ n. n.satellites)
   pub ranges : IsTotal (λ n. n.counts.ranges)
   pub slips : IsTotal (λ n. n.counts.slips)
   pub returns : IsTotal (λ n. n.counts.returns)
@@ -89,3 +96,56 @@ pub record TotalsAreSums : Type 0 where
 -- the satellites of all records together
 abbrev pub RowsAreSum : Type 0
 RowsAreSum = (es : List EpochTableView) → sum_by rows_of es < 2 ^ 64 → rows_total es ≡ sum_by rows_of es
+
+-- ---- hours
+
+-- epochs newest first
+abbrev pub EpochsFall : List EpochTableView → Type 0
+EpochsFall es = AllPairs (λ a b. b.time < a.time) es
+
+-- an hour has one line if a record lies in it, and else none
+abbrev pub EachHourHasOneLine : Type 0
+EachHourHasOneLine =
+    (interval : Option ℕ) (unit : ℕ) (listed : List Code) (es : List EpochTableView) (hour : ℕ) → EpochsFall es
+    → count_by (λ h. h.hour == hour) (hours_of interval unit listed es) ≡ (if list_any (λ e. hour_at interval e.time == hour) es then 1 else 0)
+
+-- the records of all hours are together those of the file
+abbrev pub HoursHaveAllRecords : Type 0
+HoursHaveAllRecords =
+    (interval : Option ℕ) (listed : List Code) (es : List EpochTableView) → EpochsFall es → length es < 2 ^ 64
+    → sum_by (λ h. h.records) (hours_of interval (unit_of interval) listed es) ≡ length es
+
+-- the epochs that are missing between two records are together those of the hours from the first record to the
+-- second one
+abbrev pub HoursHaveAllMissing : Type 0
+HoursHaveAllMissing =
+    (interval : Option ℕ) (unit last t : ℕ) → 0 < unit → last < t
+    → sum_by (λ hour. missing_within interval unit hour (Some last) t) (range_with_len (hour_at interval last) (hour_at interval t - hour_at interval last + 1))
+    ≡ missing_before unit (Some last) t
+
+-- formula
+-- the mean of the strengths of a band in an hour
+abbrev pub mean_of_hour : Option ℕ → ℕ → List Code → List EpochTableView → Band → Option ℕ
+mean_of_hour interval hour listed es band =
+    let there : ℕ = sum_in_hour interval hour (λ before e. length (strengths_of_rows band listed e.rows)) es in
+    if there == 0 then None
+    else Some (rounded_fraction (sum_in_hour interval hour (λ before e. sum (strengths_of_rows band listed e.rows)) es) (10 * there))
+
+-- the mean of an hour that is shown is this mean
+abbrev pub MeanOfHourIsOfAll : Type 0
+MeanOfHourIsOfAll =
+    (interval : Option ℕ) (hour : ℕ) (listed : List Code) (es : List EpochTableView) (band : Band)
+    → sum_in_hour interval hour (λ before e. length (strengths_of_rows band listed e.rows)) es < 2 ^ 64
+    → sum_in_hour interval hour (λ before e. sum (strengths_of_rows band listed e.rows)) es < 2 ^ 64
+    → mean_hundredths (strengths_in_hour interval hour listed es band).sum (strengths_in_hour interval hour listed es band).count
+    ≡ mean_of_hour interval hour listed es band
+
+-- ---- gaps
+
+-- the epochs that are missing in all gaps are together those of the file
+abbrev pub GapsHaveAllMissing : Type 0
+GapsHaveAllMissing = (unit : ℕ) (es : List EpochTableView) → sum_by (λ g. g.missing) (gaps_of unit es) ≡ missing_in unit es
+
+-- no gap is longer than one before it
+abbrev pub LongestGapsAreFirst : Type 0
+LongestGapsAreFirst = (unit : ℕ) (es : List EpochTableView) → AllPairs (λ a b. b.missing ≤ a.missing) (gaps_of unit es)

@@ -1,8 +1,14 @@
 pub mod Counts
+pub mod Falls
 pub mod Forms
+pub mod Gaps
+pub mod Hours
 pub mod Laws
 pub mod Quality
 pub mod QualityText
 pub mod Records
 pub mod SatellitePasses
 pub mod Standing
+pub mod Steps
+pub mod StationText
+pub mod Strengths

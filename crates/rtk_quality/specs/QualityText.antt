@@ -14,6 +14,9 @@ use Rattle.rtk_tracking.specs.Passes.{Sighting, sightings_of}
 use Rattle.rtk_quality.specs.Counts.{percent_tenths, phases_per_slip, mean_hundredths, mean_tenths}
 use Rattle.rtk_quality.specs.SatellitePasses.{sums_in, passes_of}
 use Rattle.rtk_quality.specs.Records.{unit_of, record_counts_of}
+use Rattle.rtk_quality.specs.Hours.{hours_of}
+use Rattle.rtk_quality.specs.Gaps.{longest_gaps, gaps_in}
+use Rattle.rtk_quality.specs.StationText.{hours_text, gaps_text, falls_text}
 use Rattle.rtk_quality.specs.Quality.{numbers_of, code_of_station, station_sums, is_in_file, satellites_in}
 use Rattle.rtk_quality.specs.Forms.{in_form, value_text, moment_text, name_text, start_text, end_text, json_text}
 use Rattle.rtk_quality.specs.declared.form.Form.{Form}
@@ -189,23 +192,31 @@ station_text form s =
     ++ value_text form (codes "\noutage-time ") (codes ",\"outage_time_ms\":") Thousandths (Some s.outage_ms)
 
 -- the lines of the whole file
-unfoldable pub heading_text : Form → List ℕ → Civil → Civil → Option ℕ → ℕ → RecordCounts → PassSums → List ℕ
-heading_text form marker from until interval satellites r s =
-    marker_text form marker ++ span_text form from until interval r ++ satellites_text form satellites r ++ station_text form s ++ end_text form
+unfoldable pub heading_text : Form → List ℕ → Civil → Civil → Option ℕ → ℕ → RecordCounts → ℕ → PassSums → List ℕ
+heading_text form marker from until interval satellites r gaps s =
+    marker_text form marker ++ span_text form from until interval r ++ value_text form (codes "\ngaps ") (codes ",\"gaps\":") Whole (Some gaps)
+    ++ satellites_text form satellites r ++ station_text form s ++ end_text form
 
 -- the end of the document
 abbrev pub close_text : Form → List ℕ
 close_text form = in_form form [] (codes "\n]\n")
 
 -- formula
+-- the hours, the ten longest gaps, and the largest falls
+unfoldable pub station_part : Form → List Code → Option ℕ → ℕ → List EpochTableView → List ℕ
+station_part form listed interval unit es =
+    hours_text form listed (reverse (hours_of interval unit listed es)) ++ gaps_text form (longest_gaps unit es)
+    ++ falls_text form (reverse (hours_of interval unit listed es))
+
+-- formula
 -- the numbers of a file of this marker, these codes, and these moments of its first and its last record
 unfoldable pub quality_text : Form → List ℕ → List Code → ℕ → ℕ → Option ℕ → List EpochTableView → List ℕ
 quality_text form marker listed first last interval es =
     heading_text form marker (reading_of first) (reading_of last) interval (satellites_in interval es)
-    (record_counts_of (unit_of interval) es) (station_sums interval es)
+    (record_counts_of (unit_of interval) es) (gaps_in (unit_of interval) es) (station_sums interval es)
     ++ each_code (λ place code. code_line form code (satellites_in interval es) (code_of_station interval es place)) 0 listed
     ++ section_text form Codes listed interval es ++ section_text form Tracked listed interval es ++ section_text form Never listed interval es ++ section_text form Passes listed interval es
-    ++ close_text form
+    ++ station_part form listed interval (unit_of interval) es ++ close_text form
 
 -- a file without records has no other numbers
 unfoldable pub text_of_none : Form → List ℕ → List ℕ

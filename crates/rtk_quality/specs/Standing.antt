@@ -7,6 +7,9 @@ use Rattle.rtk_tracking.specs.Standing.{StandsForPass}
 use Rattle.rtk_quality.specs.Counts.{code_counts_of}
 use Rattle.rtk_quality.specs.SatellitePasses.{sums_plus, sums_in, passes_of, epochs_since_phase, epochs_in_passes}
 use Rattle.rtk_quality.specs.Records.{record_counts_of}
+use Rattle.rtk_quality.specs.Gaps.{AreGaps, gaps_of}
+use Rattle.rtk_quality.specs.Steps.Noted.{AreHours}
+use Rattle.rtk_quality.specs.declared.hours.HourCounts.{HourCounts}
 use Rattle.rtk_quality.specs.declared.pass_sums.PassSums.{PassSums}
 use Rattle.rtk_quality.specs.declared.satellite_counts.PassCounts.{PassCounts}
 use Rattle.rtk_quality.specs.declared.satellite_counts.SatelliteCounts.{SatelliteCounts}
@@ -77,7 +80,10 @@ HasEnded ended interval before satellite = ended_of satellite ended ≡ reverse 
 abbrev pub StandForEnded : List EndedPass → Option ℕ → List EpochTableView → Type 0
 StandForEnded ended interval es = (place : ℕ) → place < 32 → HasEnded ended interval (sightings_of (place + 1) es) (place + 1)
 
-pub record StandsForFile (f : FileCounts) (interval : Option ℕ) (unit : ℕ) (es : List EpochTableView) : Type 0 where
+-- a file after these epochs, whose hours are given newest first
+pub record StandsForFile (f : FileCounts) (interval : Option ℕ) (unit : ℕ) (es : List EpochTableView) (hs : List HourCounts) : Type 0 where
   pub records : f.records ≡ record_counts_of unit es
   pub satellites : StandForSatellites f.satellites.items interval es
   pub ended : StandForEnded f.ended.items interval es
+  pub hours : AreHours f.hours hs
+  pub gaps : AreGaps f.gaps (gaps_of unit es)

@@ -1,9 +1,10 @@
 //! The numbers of a table.
 
-ghost use Rattle.std.specs.Prelude.{◌≡◌, ◌≤◌, ℕ, List, length, ◌++◌, IfOk, OnOk};
+ghost use Rattle.std.specs.Prelude.{◌≡◌, ◌≤◌, ℕ, List, length, ◌++◌, Option, IfOk, OnOk};
 ghost use Rattle.rtk_rinex.specs.Record.{EpochTableView};
+ghost use Rattle.rtk_quality.specs.Hours.{hours_of};
 ghost use Rattle.rtk_quality.specs.Records.{unit_of};
-ghost use Rattle.rtk_quality.specs.QualityText.{close_text, quality_text, text_of_none, TellsQuality};
+ghost use Rattle.rtk_quality.specs.QualityText.{close_text, station_part, quality_text, text_of_none, TellsQuality};
 ghost use Rattle.rtk_quality.specs.Standing.{StandsForFile};
 
 use crate::entries::put_count;
@@ -11,6 +12,7 @@ use crate::file_counts::{FileCounts, count_file, satellites_in, station_sums};
 use crate::form::{Form, put_end};
 use crate::heading::{put_heading, put_marker};
 use crate::sections::{Section, put_codes, put_section};
+use crate::station_lines::{put_falls, put_gaps, put_hours};
 use rtk_obs::{Code, GpsMs, civil};
 use rtk_rinex::TextTable;
 use rtk_tracking::interval;
@@ -38,6 +40,24 @@ fn text_of_none(alloc: Global, form: Form, marker: &[u8]) -> Result<Vec<u8>, All
     Ok(text)
 }
 
+// Appends the hours, the gaps and the largest falls.
+fn put_station_lines(
+    alloc: Global,
+    text: &mut Vec<u8>,
+    form: Form,
+    codes: &[Code],
+    counts: &FileCounts,
+) -> Result<(), AllocError>
+    ensures { OnOk result ((interval : Option ℕ) (unit : ℕ) (es : List EpochTableView) → StandsForFile counts.now interval unit es (hours_of interval unit codes.now es)
+        → text.new.items ≡ text.old.items ++ station_part form codes.now interval unit es) }
+{
+    let hours = counts.hours.all(alloc)?;
+    put_hours(text, form, codes, hours.as_slice())?;
+    put_gaps(text, form, counts.gaps.longest.as_slice())?;
+    put_falls(text, form, hours.as_slice())?;
+    Ok(())
+}
+
 // The numbers of a file with records.
 fn text_of(
     alloc: Global,
@@ -52,6 +72,7 @@ fn text_of(
     requires few { length codes.now ≤ 16 }
     requires size { length counts.now.satellites.items ≡ 32 }
     ensures { IfOk result (λ text. (es : List EpochTableView) → StandsForFile counts.now interval (unit_of interval) es
+        (hours_of interval (unit_of interval) codes.now es)
         → text.items ≡ quality_text form marker.now codes.now first last interval es) }
 {
     let satellites = counts.satellites.as_slice();
@@ -70,6 +91,7 @@ fn text_of(
         interval,
         seen,
         &counts.records,
+        counts.gaps.count,
         &sums,
     )?;
     put_codes(&mut text, form, codes, satellites)?;
@@ -77,6 +99,7 @@ fn text_of(
     put_section(&mut text, form, Section::Tracked, codes, satellites, ended)?;
     put_section(&mut text, form, Section::Never, codes, satellites, ended)?;
     put_section(&mut text, form, Section::Passes, codes, satellites, ended)?;
+    put_station_lines(alloc, &mut text, form, codes, counts)?;
     put_close(&mut text, form)?;
     Ok(text)
 }
@@ -93,7 +116,7 @@ pub fn quality(alloc: Global, form: Form, table: &TextTable<'_>) -> Result<Vec<u
     let marker = heading.head.marker();
     let codes = heading.head.codes();
     let interval = interval(alloc, table)?;
-    let counts = count_file(alloc, table, interval)?;
+    let counts = count_file(alloc, table, codes, interval)?;
     match counts.records.last {
         Some(last) => {
             let first = heading.first;

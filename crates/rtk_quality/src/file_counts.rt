@@ -3,16 +3,21 @@
 ghost use Rattle.std.specs.Prelude.{◌≡◌, ◌<◌, ℕ, List, [], ◌∷◌, ◌++◌, length, Option, IfOk, OnOk};
 ghost use Rattle.std.specs.List.{range_with_len};
 ghost use Rattle.rtk_rinex.specs.Record.{EpochTableView};
+ghost use Rattle.rtk_obs.specs.declared.code.Code.{Code};
+ghost use Rattle.rtk_quality.specs.Hours.{hours_of};
+ghost use Rattle.rtk_quality.specs.Steps.Noted.{no_locks, locks_onto, noted_hours};
 ghost use Rattle.rtk_quality.specs.Records.{unit_of};
 ghost use Rattle.rtk_quality.specs.Quality.{totals_of, station_sums, possible_in, satellites_in};
 ghost use Rattle.rtk_tracking.specs.Epochs.{HoldsOfEpochs, newest_moment};
 ghost use Rattle.rtk_quality.specs.Standing.{without_rows, with_ended, StandForSatellites, StandForEnded, StandsForFile};
 
 use crate::code_numbers::CodeNumbers;
+use crate::gaps::Gaps;
+use crate::hours::{Hours, Locks};
 use crate::pass_sums::PassSums;
 use crate::record_counts::{RecordCounts, unit_ms};
 use crate::satellite_counts::{PassCounts, SatelliteCounts};
-use rtk_obs::{GpsMs, civil};
+use rtk_obs::{Code, GpsMs, civil};
 use rtk_rinex::{EpochTable, TextTable};
 use std::alloc::{AllocError, Global};
 
@@ -31,6 +36,8 @@ pub(crate) struct FileCounts {
     pub(crate) satellites: Vec<SatelliteCounts>,
     /// The passes that ended, in the order in which others began.
     pub(crate) ended: Vec<EndedPass>,
+    pub(crate) hours: Hours,
+    pub(crate) gaps: Gaps,
 }
 
 // Adds a pass of a satellite, if one ended.
@@ -72,14 +79,15 @@ fn note_satellites(satellites: &mut Vec<SatelliteCounts>)
     }
 }
 
-// Counts the rows of that epoch, which comes after a record at this moment or is the first one.
+// Counts the rows of that epoch, which comes after a record at this moment or is the first one. The answer
+// has its slips and returns.
 fn note_rows(
     satellites: &mut Vec<SatelliteCounts>,
     ended: &mut Vec<EndedPass>,
     interval: Option<u64>,
     record_ms: Option<u64>,
     epoch: &EpochTable,
-) -> Result<(), AllocError>
+) -> Result<Locks, AllocError>
     requires { length satellites.old.items ≡ 32 }
     ensures size { OnOk result (length satellites.new.items ≡ 32) }
     ensures satellites { OnOk result ((es : List EpochTableView) → record_ms ≡ newest_moment es
@@ -88,16 +96,21 @@ fn note_rows(
     ensures ended { OnOk result ((es : List EpochTableView) → record_ms ≡ newest_moment es
         → StandForSatellites satellites.old.items interval (without_rows epoch.now.time ∷ es)
         → StandForEnded ended.old.items interval es → StandForEnded ended.new.items interval (epoch.now ∷ es)) }
+    ensures locks { IfOk result (λ locks. (es : List EpochTableView) → record_ms ≡ newest_moment es
+        → StandForSatellites satellites.old.items interval (without_rows epoch.now.time ∷ es)
+        → locks ≡ locks_onto interval es epoch.now.time no_locks epoch.now.rows) }
 {
     let time = epoch.time();
     let reading = civil(time);
+    let mut locks = Locks::none();
     for row in epoch.rows() {
         let place = usize::from(row.satellite) - 1;
         let observed = row.observed.as_slice();
-        let pass = satellites[place].note_row(interval, record_ms, time, reading, observed);
-        add_ended(ended, row.satellite, pass)?;
+        let notes = satellites[place].note_row(interval, record_ms, time, reading, observed);
+        locks = locks.plus(&notes.locks);
+        add_ended(ended, row.satellite, notes.ended)?;
     }
-    Ok(())
+    Ok(locks)
 }
 
 /// The numbers of the code at this place over all satellites that have it.
@@ -151,12 +164,14 @@ impl FileCounts {
     /// Of a file without records: 32 satellites, each of them without an epoch.
     pub(crate) fn new(alloc: Global) -> Result<FileCounts, AllocError>
         ensures size { IfOk result (λ counts. length counts.satellites.items ≡ 32) }
-        ensures counts { IfOk result (λ counts. (interval : Option ℕ) (unit : ℕ) → StandsForFile counts interval unit []) }
+        ensures counts { IfOk result (λ counts. (interval : Option ℕ) (unit : ℕ) (codes : List Code) → StandsForFile counts interval unit [] (noted_hours interval unit codes [])) }
     {
         Ok(FileCounts {
             records: RecordCounts::new(),
             satellites: vec![in alloc; SatelliteCounts::new(); 32]?,
             ended: Vec::new(alloc),
+            hours: Hours::new(alloc),
+            gaps: Gaps::new(alloc),
         })
     }
 
@@ -165,43 +180,51 @@ impl FileCounts {
         &mut self,
         interval: Option<u64>,
         unit_ms: u64,
+        codes: &[Code],
         epoch: &EpochTable,
     ) -> Result<(), AllocError>
         requires unit { 0 < unit_ms }
         requires size { length self.old.satellites.items ≡ 32 }
         ensures size { OnOk result (length self.new.satellites.items ≡ 32) }
-        ensures counts { OnOk result ((es : List EpochTableView) → StandsForFile self.old interval unit_ms es
-            → StandsForFile self.new interval unit_ms (epoch.now ∷ es)) }
+        ensures counts { OnOk result ((es : List EpochTableView)
+            → StandsForFile self.old interval unit_ms es (noted_hours interval unit_ms codes.now es)
+            → StandsForFile self.new interval unit_ms (epoch.now ∷ es) (noted_hours interval unit_ms codes.now (epoch.now ∷ es))) }
     {
         let record_ms = ms_of(self.records.last);
-        self.records.note_record(unit_ms, epoch);
         note_satellites(&mut self.satellites);
-        note_rows(
+        let locks = note_rows(
             &mut self.satellites,
             &mut self.ended,
             interval,
             record_ms,
             epoch,
         )?;
+        self.hours
+            .note_record(interval, unit_ms, self.records.last, codes, epoch, &locks)?;
+        self.gaps
+            .note_record(unit_ms, self.records.last, epoch.time())?;
+        self.records.note_record(unit_ms, epoch);
         Ok(())
     }
 }
 
-/// Counts all records of a table with this interval.
+/// Counts all records of a table with these codes and this interval.
 pub(crate) fn count_file(
     alloc: Global,
     table: &TextTable<'_>,
+    codes: &[Code],
     interval: Option<u64>,
 ) -> Result<FileCounts, AllocError>
     ensures size { IfOk result (λ counts. length counts.satellites.items ≡ 32) }
-    ensures counts { IfOk result (λ counts. HoldsOfEpochs table.now.text (StandsForFile counts interval (unit_of interval))) }
+    ensures counts { IfOk result (λ counts. HoldsOfEpochs table.now.text
+        (λ es. StandsForFile counts interval (unit_of interval) es (hours_of interval (unit_of interval) codes.now es))) }
 {
     let unit_ms = unit_ms(interval);
     let mut counts = FileCounts::new(alloc)?;
     let mut epoch = EpochTable::new(table.heading().first);
     let mut records = table.records();
     while let Some(_record) = records.next(&mut epoch) {
-        counts.note_epoch(interval, unit_ms, &epoch)?;
+        counts.note_epoch(interval, unit_ms, codes, &epoch)?;
     }
     Ok(counts)
 }

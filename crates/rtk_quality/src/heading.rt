@@ -132,13 +132,16 @@ pub(crate) fn put_heading(
     interval: Option<u64>,
     satellites: u64,
     records: &RecordCounts,
+    gaps: u64,
     sums: &PassSums,
 ) -> Result<(), AllocError>
-    ensures { OnOk result (text.new.items ≡ text.old.items ++ heading_text form marker.now from until interval satellites records.now sums.now) }
+    ensures { OnOk result (text.new.items ≡ text.old.items ++ heading_text form marker.now from until interval satellites records.now gaps sums.now) }
 {
     put_marker(text, form, marker)?;
     put_span(text, form, from, until, interval, records)?;
+    put_count(text, form, b"\ngaps ", b",\"gaps\":", gaps)?;
     put_satellites(text, form, satellites, records)?;
     put_station(text, form, sums)?;
-    put_end(text, form)
+    put_end(text, form)?;
+    Ok(())
 }

@@ -1,17 +1,18 @@
-//! Laws of the definitions: no loss-of-lock digit is hidden, and numbers may be of any size.
+//! Laws of the definitions: no loss-of-lock digit, record or missing epoch is hidden, and numbers may be of
+//! any size.
 //!
 //! Each function here does nothing. Its contract is the law, and a caller that calls it may cite it.
 
-ghost use Rattle.rtk_quality.specs.Laws.{CountsHideNothing, EachIsCounted, MeanIsOfAll, EachInPassIsCounted, PhasesAreInPasses, TotalsAreSums, RowsAreSum};
+ghost use Rattle.rtk_quality.specs.Laws.{CountsHideNothing, EachIsCounted, MeanIsOfAll, EachInPassIsCounted, PhasesAreInPasses, TotalsAreSums, RowsAreSum, EachHourHasOneLine, HoursHaveAllRecords, HoursHaveAllMissing, MeanOfHourIsOfAll, GapsHaveAllMissing, LongestGapsAreFirst};
 
-/// The rises and the slips of a code are together its digits with bit 0.
+/// The rises, the returns and the slips of a code are together its digits with bit 0.
 pub fn no_bit_is_hidden()
     ensures { CountsHideNothing }
 {}
 
 /// Counts and sums stay at the greatest value of 64 bits. Below it each epoch of a code is counted, each
-/// strength is in the mean, each epoch of a pass is counted, each phase is in a pass, each satellite is
-/// in the totals of a code, and each row is in the mean of satellites.
+/// strength is in the mean, also in that of an hour, each epoch of a pass is counted, each phase is in a
+/// pass, each satellite is in the totals of a code, and each row is in the mean of satellites.
 pub fn each_is_counted()
     ensures codes { EachIsCounted }
     ensures means { MeanIsOfAll }
@@ -19,4 +20,18 @@ pub fn each_is_counted()
     ensures phases { PhasesAreInPasses }
     ensures totals { TotalsAreSums }
     ensures rows { RowsAreSum }
+    ensures hours { MeanOfHourIsOfAll }
+{}
+
+/// Each record and each missing epoch is in one hour, and an hour that has a record has one line.
+pub fn hours_hide_nothing()
+    ensures lines { EachHourHasOneLine }
+    ensures records { HoursHaveAllRecords }
+    ensures missing { HoursHaveAllMissing }
+{}
+
+/// Each missing epoch is in a gap, and the gaps come from the longest to the shortest.
+pub fn gaps_hide_nothing()
+    ensures missing { GapsHaveAllMissing }
+    ensures order { LongestGapsAreFirst }
 {}

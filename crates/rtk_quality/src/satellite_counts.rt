@@ -1,18 +1,21 @@
 //! The counts of a satellite: its codes, and its passes.
 
-ghost use Rattle.std.specs.Prelude.{◌≡◌, ◌<◌, ℕ, List, [], ◌∷◌, Option, None, Some, if◌then◌else◌};
+ghost use Rattle.std.specs.Prelude.{◌≡◌, ◌<◌, ℕ, ◌&&◌, not, List, [], ◌∷◌, Option, None, Some, if◌then◌else◌};
 ghost use Rattle.std.specs.List.{list_any};
 ghost use Rattle.rtk_rinex.specs.Reading.{reading_of};
-ghost use Rattle.rtk_tracking.specs.Passes.{Sighting, last_record, has_phase, is_kept, is_slip};
+ghost use Rattle.rtk_tracking.specs.Passes.{Sighting, last_record, has_phase, is_kept, is_slip, is_return};
 ghost use Rattle.rtk_tracking.specs.Standing.{AreMarked, AreKnown};
 ghost use Rattle.rtk_tracking.specs.Epochs.{shown_at};
 ghost use Rattle.rtk_quality.specs.Counts.{plus, code_counts_of};
+ghost use Rattle.rtk_quality.specs.Hours.{returns_at};
+ghost use Rattle.rtk_quality.specs.Steps.Noted.{locks_at};
 ghost use Rattle.rtk_quality.specs.Quality.{numbers_of, is_in_file};
 ghost use Rattle.rtk_quality.specs.SatellitePasses.{phases_in, slips_at, sums_plus, sums_in, epochs_in_passes};
 ghost use Rattle.rtk_quality.specs.Standing.{with_epoch, absent_at, StandsForSatellite, StandsForEnded};
 
 use crate::code_counts::CodeCounts;
 use crate::code_numbers::CodeNumbers;
+use crate::hours::Locks;
 use crate::pass_sums::PassSums;
 use rtk_obs::{Civil, GpsMs};
 use rtk_rinex::Observed;
@@ -24,6 +27,13 @@ pub(crate) struct PassCounts {
     pub(crate) from: Civil,
     pub(crate) until: Civil,
     pub(crate) sums: PassSums,
+}
+
+/// What a row tells beside the counts: the pass that ended when another one began, and the slips and returns.
+#[derive(Clone, Copy)]
+pub(crate) struct RowNotes {
+    pub(crate) ended: Option<PassCounts>,
+    pub(crate) locks: Locks,
 }
 
 /// A satellite so far.
@@ -106,6 +116,37 @@ fn slips_in(observed: &[Observed], kept: &[bool; 16]) -> u64
         }
     }
     slips
+}
+
+// A bit 0 of a code that had a phase earlier in the pass, but none since the last outage.
+fn has_returned(bit: bool, known: bool, kept: bool) -> bool
+    ensures { result ≡ (bit && (known && not kept)) }
+{
+    bit && known && !kept
+}
+
+// The code at this place has returned.
+fn is_return(observed: &[Observed], known: &Known, place: usize) -> bool
+    requires { place < 16 }
+    ensures { (interval : Option ℕ) (before : List Sighting) (s : Sighting) → observed.now ≡ s.observed
+        → AreKnown known.now interval before s → result ≡ is_return interval place before s }
+{
+    let bit = shown_at(observed, place).slip;
+    has_returned(bit, known.had[place], known.kept[place])
+}
+
+// How many returns an epoch has.
+fn returns_in(observed: &[Observed], known: &Known) -> u64
+    ensures { (interval : Option ℕ) (before : List Sighting) (s : Sighting) → observed.now ≡ s.observed
+        → AreKnown known.now interval before s → result ≡ returns_at interval before s }
+{
+    let mut returns = 0;
+    for place in 0..observed.len().min(16) {
+        if is_return(observed, known, place) {
+            returns += 1;
+        }
+    }
+    returns
 }
 
 // The last pass with an epoch more, or a pass that begins with it.
@@ -207,7 +248,7 @@ impl SatelliteCounts {
     }
 
     /// Notes the row of that epoch, which comes after a record at this moment or is the first one: what
-    /// the codes of the satellite show. If a pass begins, the answer is the one before it.
+    /// the codes of the satellite show.
     pub(crate) fn note_row(
         &mut self,
         interval: Option<u64>,
@@ -215,12 +256,14 @@ impl SatelliteCounts {
         time: GpsMs,
         reading: Civil,
         observed: &[Observed],
-    ) -> Option<PassCounts>
+    ) -> RowNotes
         requires { reading ≡ reading_of time }
         ensures stands { (before : List Sighting) → StandsForSatellite self.old interval (absent_at time ∷ before)
             → record_ms ≡ last_record before → StandsForSatellite self.new interval (record { time = time; observed = observed.now } ∷ before) }
         ensures ended { (before : List Sighting) → StandsForSatellite self.old interval (absent_at time ∷ before)
-            → record_ms ≡ last_record before → StandsForEnded result interval before (record { time = time; observed = observed.now }) }
+            → record_ms ≡ last_record before → StandsForEnded result.ended interval before (record { time = time; observed = observed.now }) }
+        ensures locks { (before : List Sighting) → StandsForSatellite self.old interval (absent_at time ∷ before)
+            → record_ms ≡ last_record before → result.locks ≡ locks_at interval before (record { time = time; observed = observed.now }) }
     {
         let time_ms = time.ms();
         let begins = self.pass.begins(interval, time_ms, observed);
@@ -229,10 +272,16 @@ impl SatelliteCounts {
         let outage_ms = self.pass.outage_ms(interval, record_ms, time_ms, observed);
         self.pass.note(interval, record_ms, time_ms, observed);
         if !has_phase(observed) {
-            return None;
+            let locks = Locks::none();
+            return RowNotes { ended: None, locks };
         }
         let slips = slips_in(observed, &known.kept);
+        let returns = returns_in(observed, &known);
         let sums = PassSums::of(phases_in(observed), slips, outage_ms);
-        self.note_phases(begins, reading, &sums)
+        let ended = self.note_phases(begins, reading, &sums);
+        RowNotes {
+            ended,
+            locks: Locks { slips, returns },
+        }
     }
 }

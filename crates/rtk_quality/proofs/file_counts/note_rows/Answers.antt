@@ -1,13 +1,15 @@
-use Rattle.std.proofs.Common.{◌≡◌, ◌<◌, ◌≤◌, ◌+◌, ◌-◌, ◌∷◌, ◌∙◌, ℕ, List, length, get_or, sym, subst, length-set, arith, Option}
-use Rattle.std.proofs.lemmas.List.{take_all}
+use Rattle.std.proofs.Common.{◌≡◌, ◌<◌, ◌≤◌, ◌+◌, ◌-◌, ◌∷◌, ◌∙◌, ℕ, List, length, get_or, sym, ap, subst, length-set, arith, Option}
+use Rattle.std.proofs.lemmas.List.{take_all, at_drop_all}
 use Rattle.rtk_rinex.proofs.PublicLaws.{reading_is}
 use Rattle.rtk_rinex.specs.Record.{EpochTableView, IsSatelliteRow}
 use Rattle.rtk_rinex.specs.declared.epoch_table.SatelliteRow.{SatelliteRow}
 use Rattle.rtk_tracking.specs.Epochs.{newest_moment}
 use Rattle.rtk_tracking.specs.Passes.{sightings_of}
+use Rattle.rtk_quality.specs.Steps.Noted.{locks_onto}
+use Rattle.rtk_quality.specs.declared.hours.Locks.{Locks}
 use Rattle.rtk_quality.specs.Standing.{absent_at, without_rows, StandsForSatellite, StandForSatellites, StandForEnded}
 use Rattle.rtk_quality.specs.declared.satellite_counts.SatelliteCounts.{SatelliteCounts}
-use Rattle.rtk_quality.proofs.RowLemmas.{all-rows, IsRowAt, record-is, row-due, row-noted, row-ended}
+use Rattle.rtk_quality.proofs.RowLemmas.{all-rows, IsRowAt, record-is, row-due, row-noted, row-ended, locks-more}
 use Rattle.rtk_quality.proofs.file_counts.note_rows.Goals as goal
 
 pub loop-row-init : goal.loop-row-init
@@ -15,10 +17,11 @@ loop-row-init c = record {
   size = c.requires;
   satellites = λ es last stand. stand;
   ended = λ es last stand ended. ended;
+  locks = λ es last stand. ap (λ (x : Locks). locks_onto c.args.interval es c.args.epoch.now.time x c.args.epoch.now.rows) (sym c.none-locks.ensures);
 }
 
-pub note_row-pass-requires : goal.note_row-pass-requires
-note_row-pass-requires c = reading_is c.time-time.result c.civil-reading.result c.civil-reading.ensures.reading
+pub note_row-notes-requires : goal.note_row-notes-requires
+note_row-notes-requires c = reading_is c.time-time.result c.civil-reading.result c.civil-reading.ensures.reading
 
 pub loop-row-preserved : goal.loop-row-preserved
 loop-row-preserved c =
@@ -28,14 +31,15 @@ loop-row-preserved c =
     let r : SatelliteRow = c.row-item.result in
     let place : ℕ = c.from-place.result - 1 in
     let items : List SatelliteCounts = c.loop-row.satellites.items in
-    let new : SatelliteCounts = c.note_row-pass.new.self in
+    let new : SatelliteCounts = c.note_row-notes.new.self in
     let same : c.rows-row-items.result.now ≡ e.rows = c.rows-row-items.ensures.value in
     let at : IsRowAt e i r = record { good = c.rows-row-items.ensures.good; within = rw same at c.loop-row-test.true; is = rw same at c.row-item.is } in
     let good : IsSatelliteRow r = subst (λ (x : SatelliteRow). IsSatelliteRow x) (sym at.is) (at.good.rows i r at.within) in
     let number : place + 1 ≡ r.satellite = omega (arith, good.satellite, c.from-place.ensures) in
     let few : place < 32 = omega (arith, good.satellite, number) in
-    let stands = rw (c.time-time.ensures, c.as_slice-observed.ensures.value) at c.note_row-pass.ensures.stands in
-    let ends = rw (c.time-time.ensures, c.as_slice-observed.ensures.value) at c.note_row-pass.ensures.ended in
+    let stands = rw (c.time-time.ensures, c.as_slice-observed.ensures.value) at c.note_row-notes.ensures.stands in
+    let ends = rw (c.time-time.ensures, c.as_slice-observed.ensures.value) at c.note_row-notes.ensures.ended in
+    let tells = rw (c.time-time.ensures, c.as_slice-observed.ensures.value) at c.note_row-notes.ensures.locks in
     let was : (es : List EpochTableView) → c.args.record_ms ≡ newest_moment es → StandForSatellites c.args.satellites.now.items interval (without_rows e.time ∷ es)
     → StandsForSatellite (get_or items place _) interval (absent_at e.time ∷ sightings_of r.satellite es) =
     λ es last stand. row-due e i place r items _ interval es at number few (c.loop-row.invariant.satellites es last stand) in
@@ -45,8 +49,13 @@ loop-row-preserved c =
           row-noted e i place r items new interval es at number few (c.loop-row.invariant.satellites es last stand)
           (stands (sightings_of r.satellite es) (subst (λ (s : SatelliteCounts). StandsForSatellite s interval (absent_at e.time ∷ sightings_of r.satellite es)) (sym c.index_mut.ensures.value) (was es last stand)) (last ∙ record-is r.satellite es));
       ended = λ es last stand ended.
-          row-ended e i r c.loop-row.ended.items c.add_ended.new.ended.items c.note_row-pass.result interval es at (c.loop-row.invariant.ended es last stand ended) c.in_ok-add_ended.ensures
+          row-ended e i r c.loop-row.ended.items c.add_ended.new.ended.items c.note_row-notes.result.ended interval es at (c.loop-row.invariant.ended es last stand ended) c.in_ok-add_ended.ensures
           (ends (sightings_of r.satellite es) (subst (λ (s : SatelliteCounts). StandsForSatellite s interval (absent_at e.time ∷ sightings_of r.satellite es)) (sym c.index_mut.ensures.value) (was es last stand)) (last ∙ record-is r.satellite es));
+      locks = λ es last stand.
+          c.loop-row.invariant.locks es last stand
+          ∙ locks-more e i r interval es c.loop-row.locks c.note_row-notes.result.locks c.plus-locks.result at
+          (tells (sightings_of r.satellite es) (subst (λ (s : SatelliteCounts). StandsForSatellite s interval (absent_at e.time ∷ sightings_of r.satellite es)) (sym c.index_mut.ensures.value) (was es last stand)) (last ∙ record-is r.satellite es))
+          c.plus-locks.ensures;
     }
 
 pub returns-clause-satellites : goal.returns-clause-satellites
@@ -62,3 +71,10 @@ returns-clause-ended c = λ es last stand ended.
     let long : length e.rows ≤ c.loop-row.row-index = rw c.rows-row-items.ensures.value at c.loop-row-test.false in
     subst (λ (x : EpochTableView). StandForEnded c.loop-row.ended.items c.args.interval (x ∷ es)) (all-rows e c.loop-row.row-index (take_all c.loop-row.row-index e.rows long))
     (c.loop-row.invariant.ended es last stand ended)
+
+pub returns-clause-locks : goal.returns-clause-locks
+returns-clause-locks c = λ es last stand.
+    let e : EpochTableView = c.args.epoch.now in
+    let long : length e.rows ≤ c.loop-row.row-index = rw c.rows-row-items.ensures.value at c.loop-row-test.false in
+    sym (c.loop-row.invariant.locks es last stand
+    ∙ at_drop_all (λ (rows : List SatelliteRow). locks_onto c.args.interval es e.time c.loop-row.locks rows) e.rows c.loop-row.row-index long)

@@ -1,6 +1,7 @@
-use Rattle.std.proofs.Common.{◌≡◌, ◌∷◌, List, length}
+use Rattle.std.proofs.Common.{◌≡◌, ◌∷◌, List, length, drop}
 use Rattle.rtk_rinex.specs.Record.{EpochTableView}
 use Rattle.rtk_tracking.specs.Epochs.{newest_moment}
+use Rattle.rtk_quality.specs.Steps.Noted.{no_locks, locks_onto}
 use Rattle.rtk_quality.specs.Standing.{without_rows, StandForSatellites, StandForEnded}
 use Rattle.rtk_quality.proofs.RowLemmas.{first_rows}
 use Rattle.rtk_quality.proofs.file_counts.note_rows.Given as goal
@@ -12,4 +13,6 @@ invariant-loop-row l = record {
       → StandForSatellites l.satellites.items l.interval (first_rows l.epoch l.row-index ∷ es);
   ended : (es : List EpochTableView) → l.record_ms ≡ newest_moment es → StandForSatellites l.fn.satellites.items l.interval (without_rows l.epoch.time ∷ es) → StandForEnded l.fn.ended.items l.interval es
       → StandForEnded l.ended.items l.interval (first_rows l.epoch l.row-index ∷ es);
+  locks : (es : List EpochTableView) → l.record_ms ≡ newest_moment es → StandForSatellites l.fn.satellites.items l.interval (without_rows l.epoch.time ∷ es)
+      → locks_onto l.interval es l.epoch.time no_locks l.epoch.rows ≡ locks_onto l.interval es l.epoch.time l.locks (drop l.row-index l.epoch.rows);
 }

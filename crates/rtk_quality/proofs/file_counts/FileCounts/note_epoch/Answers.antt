@@ -1,15 +1,23 @@
 use Rattle.std.proofs.Common.{◌≡◌, ◌∙◌, ℕ, Option, ap}
 use Rattle.rtk_tracking.specs.Epochs.{newest_moment}
 use Rattle.rtk_quality.specs.declared.record_counts.RecordCounts.{RecordCounts}
+use Rattle.rtk_quality.proofs.GapLemmas.{gaps-noted}
+use Rattle.rtk_quality.proofs.HourLemmas.{hours-noted}
 use Rattle.rtk_quality.proofs.file_counts.FileCounts.note_epoch.Goals as goal
 
 pub returns-clause-counts : goal.returns-clause-counts
 returns-clause-counts c = λ es stands.
     let interval : Option ℕ = c.args.interval in
-    let last : c.ms_of-record_ms.result ≡ newest_moment es = c.ms_of-record_ms.ensures ∙ ap (λ (r : RecordCounts). r.last) stands.records in
+    let last : c.args.self.now.records.last ≡ newest_moment es = ap (λ (r : RecordCounts). r.last) stands.records in
+    let record_ms : c.ms_of-record_ms.result ≡ newest_moment es = c.ms_of-record_ms.ensures ∙ last in
     let time : ℕ = c.args.epoch.now.time in
+    let fresh = c.note_satellites.ensures.satellites interval time es stands.satellites in
     record {
-      records = c.note_record.ensures es stands.records;
-      satellites = c.in_ok-note_rows.ensures.satellites es last (c.note_satellites.ensures.satellites interval time es stands.satellites);
-      ended = c.in_ok-note_rows.ensures.ended es last (c.note_satellites.ensures.satellites interval time es stands.satellites) stands.ended;
+      records = c.note_record-3.ensures es stands.records;
+      satellites = c.in_ok-locks.ensures.satellites es record_ms fresh;
+      ended = c.in_ok-locks.ensures.ended es record_ms fresh stands.ended;
+      hours = hours-noted interval c.args.unit_ms c.args.codes.now c.args.epoch.now es c.args.self.now.records.last _ c.args.self.now.hours _
+          last (c.in_ok-locks.ensures.locks es record_ms fresh) stands.hours c.in_ok-note_record.ensures;
+      gaps = gaps-noted c.args.unit_ms c.args.epoch.now es c.args.self.now.records.last c.time.result c.args.self.now.gaps _ last c.time.ensures stands.gaps
+          c.in_ok-note_record-2.ensures;
     }

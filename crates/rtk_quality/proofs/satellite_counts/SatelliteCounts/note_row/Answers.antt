@@ -6,7 +6,10 @@ use Rattle.rtk_tracking.specs.Standing.{AreKnown, StandsForPass}
 use Rattle.rtk_tracking.specs.declared.passes.Pass.{Pass}
 use Rattle.rtk_quality.specs.Counts.{plus}
 use Rattle.rtk_quality.specs.SatellitePasses.{phases_in, slips_at, sums_of, sums_at, sums_plus, sums_in, passes_of, epochs_since_phase, epochs_in_passes}
+use Rattle.rtk_quality.specs.Hours.{returns_at}
+use Rattle.rtk_quality.specs.Steps.Noted.{no_locks}
 use Rattle.rtk_quality.specs.Standing.{newest_pass, with_epoch}
+use Rattle.rtk_quality.specs.declared.hours.Locks.{Locks}
 use Rattle.rtk_quality.specs.declared.pass_sums.PassSums.{PassSums}
 use Rattle.rtk_quality.specs.declared.satellite_counts.PassCounts.{PassCounts}
 use Rattle.rtk_quality.proofs.CountLemmas.{before-row, same-passes, last-more, within-more}
@@ -58,7 +61,7 @@ returns-clause-stands c = λ before absent last.
     ∙ ap (λ (k : ℕ). sums_of k c.slips_in-slips.result c.outage_ms-outage_ms.result) c.phases_in.ensures
     ∙ ap (λ (k : ℕ). sums_of (phases_in s.observed) k c.outage_ms-outage_ms.result) slips
     ∙ ap (λ (o : Option ℕ). sums_of (phases_in s.observed) (slips_at interval before s) o) outage in
-    let n = c.note_phases.ensures in
+    let n = c.note_phases-ended.ensures in
     record {
       pass = subst (λ (p : Pass). StandsForPass p interval (s ∷ before)) (sym n.pass)
           (subst (λ (t : ℕ). StandsForPass c.note.new.self interval (record { time = t; observed = c.args.observed.now } ∷ before)) at (c.note.ensures before stands.pass last));
@@ -86,6 +89,28 @@ returns-clause-ended c = λ before absent last.
     let s : Sighting = record { time = c.args.time; observed = c.args.observed.now } in
     let begins : c.begins-begins.result ≡ begins_pass c.args.interval before s =
     c.begins-begins.ensures before stands.pass ∙ ap (λ (t : ℕ). begins_pass c.args.interval before (record { time = t; observed = c.args.observed.now })) c.ms-time_ms.ensures.value in
-    c.note_phases.ensures.ended
+    c.note_phases-ended.ensures.ended
     ∙ ap (λ (b : Bool). cond b c.args.self.now.last None) begins
     ∙ ap (λ (o : Option PassCounts). cond (begins_pass c.args.interval before s) o None) stands.last
+
+pub returns-then-not-has_phase-clause-locks : goal.returns-then-not-has_phase-clause-locks
+returns-then-not-has_phase-clause-locks c = λ before absent last.
+    let s : Sighting = record { time = c.args.time; observed = c.args.observed.now } in
+    let none : has_phase s.observed ≡ false = sym c.has_phase.ensures ∙ c.if-not-has_phase.true in
+    c.none-locks.ensures ∙ sym (ap (λ (b : Bool). cond b (record { slips = slips_at c.args.interval before s; returns = returns_at c.args.interval before s }) no_locks) none)
+
+pub returns-clause-locks : goal.returns-clause-locks
+returns-clause-locks c = λ before absent last.
+    let stands = before-row c.args.self.now c.args.interval c.args.time before absent in
+    let interval : Option ℕ = c.args.interval in
+    let at : c.ms-time_ms.result ≡ c.args.time = c.ms-time_ms.ensures.value in
+    let s : Sighting = record { time = c.args.time; observed = c.args.observed.now } in
+    let has : has_phase s.observed ≡ true = sym c.has_phase.ensures ∙ c.if-not-has_phase.false in
+    let marked : AreKnown c.known-known.result interval before s =
+    subst (λ (t : ℕ). AreKnown c.known-known.result interval before (record { time = t; observed = c.args.observed.now })) at (c.known-known.ensures before stands.pass last) in
+    ap (λ (n : ℕ). locks n c.returns_in-returns.result) (c.slips_in-slips.ensures interval before s refl marked.kept)
+    ∙ ap (λ (n : ℕ). locks (slips_at interval before s) n) (c.returns_in-returns.ensures interval before s refl marked)
+    ∙ sym (ap (λ (b : Bool). cond b (record { slips = slips_at interval before s; returns = returns_at interval before s }) no_locks) has)
+  where
+    locks : ℕ → ℕ → Locks
+    locks slips returns = record { slips = slips; returns = returns }

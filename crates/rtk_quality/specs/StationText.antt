@@ -1,0 +1,88 @@
+-- The text of the hours, gaps and falls of a file, in both forms (this project's rule).
+use Rattle.std.specs.Prelude.{ℕ, Bool, List, [], ◌++◌, flat_map, codes, Option, None, Some, if◌then◌else◌}
+use Rattle.std.specs.List.{list_any}
+use Rattle.rtk_obs.specs.declared.code.Band.{Band}
+use Rattle.rtk_obs.specs.declared.code.Band.TheVariants.{L1, L2, L5}
+use Rattle.rtk_obs.specs.declared.code.Code.{Code}
+use Rattle.rtk_rinex.specs.Reading.{reading_of}
+use Rattle.rtk_quality.specs.Counts.{plus, mean_hundredths, mean_tenths}
+use Rattle.rtk_quality.specs.Hours.{start_of}
+use Rattle.rtk_quality.specs.Falls.{largest_fall}
+use Rattle.rtk_quality.specs.Strengths.{number_of, is_of_band, of_band}
+use Rattle.rtk_quality.specs.Forms.{value_text, moment_text, start_text, end_text}
+use Rattle.rtk_quality.specs.declared.form.Form.{Form}
+use Rattle.rtk_quality.specs.declared.form.Decimals.TheVariants.{Whole, Tenths, Hundredths}
+use Rattle.rtk_quality.specs.declared.hours.HourCounts.{HourCounts}
+use Rattle.rtk_quality.specs.declared.gaps.Gap.{Gap}
+use Rattle.rtk_quality.specs.declared.falls.Fall.{Fall}
+use Rattle.rtk_quality.specs.declared.strengths.Strengths.{Strengths}
+
+-- a code is of this band
+abbrev pub has_band : List Code → Band → Bool
+has_band listed band = list_any (λ c. is_of_band band c) listed
+
+-- table
+abbrev pub strength_words : Band → List ℕ
+strength_words L1 = codes " mean-strength-1 "
+strength_words L2 = codes " mean-strength-2 "
+strength_words L5 = codes " mean-strength-5 "
+
+-- table
+abbrev pub strength_key : Band → List ℕ
+strength_key L1 = codes ",\"mean_strength_1_centidbhz\":"
+strength_key L2 = codes ",\"mean_strength_2_centidbhz\":"
+strength_key L5 = codes ",\"mean_strength_5_centidbhz\":"
+
+-- the mean strength of a band, if a code of the file is of this band
+abbrev pub strength_text : Form → List Code → Strengths → Band → List ℕ
+strength_text form listed s band =
+    if has_band listed band
+    then value_text form (strength_words band) (strength_key band) Hundredths (mean_hundredths (of_band band s).sum (of_band band s).count)
+    else []
+
+-- formula
+-- records, and how many there would be without missing epochs; satellites in the mean; slips and returns
+unfoldable pub hour_counts_text : Form → HourCounts → List ℕ
+hour_counts_text form h =
+    value_text form (codes " records ") (codes ",\"records\":") Whole (Some h.records)
+    ++ value_text form (codes " of ") (codes ",\"expected\":") Whole (Some (plus h.records h.missing))
+    ++ value_text form (codes " mean-satellites ") (codes ",\"mean_satellites_tenths\":") Tenths (mean_tenths h.rows h.records)
+    ++ value_text form (codes " slips ") (codes ",\"slips\":") Whole (Some h.locks.slips)
+    ++ value_text form (codes " returns ") (codes ",\"returns\":") Whole (Some h.locks.returns)
+
+-- the line of an hour
+unfoldable pub hour_line : Form → List Code → HourCounts → List ℕ
+hour_line form listed h =
+    start_text form (codes "hour") ++ moment_text form (codes " ") (codes ",\"hour\":") (reading_of (start_of h.hour)) ++ hour_counts_text form h
+    ++ strength_text form listed h.strengths L1 ++ strength_text form listed h.strengths L2 ++ strength_text form listed h.strengths L5 ++ end_text form
+
+-- the line of a gap
+unfoldable pub gap_line : Form → Gap → List ℕ
+gap_line form g =
+    start_text form (codes "gap") ++ moment_text form (codes " from ") (codes ",\"from\":") g.from ++ moment_text form (codes " until ") (codes ",\"until\":") g.until
+    ++ value_text form (codes " missing ") (codes ",\"missing\":") Whole (Some g.missing) ++ end_text form
+
+-- the line of a fall
+unfoldable pub fall_line : Form → Band → Fall → List ℕ
+fall_line form band f =
+    start_text form (codes "fall") ++ value_text form (codes " band ") (codes ",\"band\":") Whole (Some (number_of band))
+    ++ moment_text form (codes " from ") (codes ",\"from\":") (reading_of (start_of f.from))
+    ++ moment_text form (codes " until ") (codes ",\"until\":") (reading_of (start_of f.until))
+    ++ value_text form (codes " mean-strength ") (codes ",\"mean_strength_centidbhz\":") Hundredths (Some f.by) ++ end_text form
+
+abbrev pub line_of_fall : Form → Band → Option Fall → List ℕ
+line_of_fall form band None = []
+line_of_fall form band (Some f) = fall_line form band f
+
+-- the line of the largest fall of a band, if there is one
+abbrev pub fall_part : Form → List HourCounts → Band → List ℕ
+fall_part form hours band = line_of_fall form band (largest_fall band hours)
+
+abbrev pub hours_text : Form → List Code → List HourCounts → List ℕ
+hours_text form listed hours = flat_map (hour_line form listed) hours
+
+abbrev pub gaps_text : Form → List Gap → List ℕ
+gaps_text form gaps = flat_map (gap_line form) gaps
+
+unfoldable pub falls_text : Form → List HourCounts → List ℕ
+falls_text form hours = fall_part form hours L1 ++ fall_part form hours L2 ++ fall_part form hours L5
