@@ -100,7 +100,6 @@ done 3<rows
 
 # Seven records of three hours. The third one lies 20 ms before its hour, and 118 and 60 epochs are missing up to the next hour and in
 # it. 2W has no strength in the second hour. Its strengths fall by 5 from the first hour to the third, and those of 1C by 2 and by 3.
-# pins: hour_at, missing_since, missing_until, with_record, hours_of, hour_line, fall_to, largest_fall, fall_line
 {
     sed '/END OF HEADER/q; /TIME OF FIRST OBS/s/    12     0 /    12    59 /' "$file"
     while read -r hour minute second slip one two; do
@@ -130,6 +129,8 @@ gap from 2024-05-17 13:00:30.000 until 2024-05-17 14:30:00.000 missing 178
 fall band 1 from 2024-05-17 13:00:00.000 until 2024-05-17 14:00:00.000 mean-strength 3.00
 fall band 2 from 2024-05-17 12:00:00.000 until 2024-05-17 14:00:00.000 mean-strength 5.00
 END
+# pins: hour_at, begin_of, start_of, hours_of, counts_of_hour, sum_in_hour, strengths_in_hour, mean_of_hour, mean_in, Strengths.number_of
+# pins: Hours.missing_until, missing_within, gap_between, Gaps.gaps_of, fall_to, largest_fall, strength_words
 same quality_of_three_hours got want
 quality --json hours
 grep '"line":"fall","band":2' out >got
