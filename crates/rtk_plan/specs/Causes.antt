@@ -10,7 +10,7 @@ use Rattle.rtk_survey.specs.declared.date_message.DateMessage.{DateMessage}
 use Rattle.rtk_survey.specs.declared.date_message.DateMessage.TheVariants.{Utc, Ephemeris}
 use Rattle.rtk_survey.specs.declared.placing.Placed.{Placed}
 use Rattle.rtk_survey.specs.declared.survey.CaptureSurvey.{CaptureSurvey}
-use Rattle.rtk_plan.specs.ChosenStation.{IsObserved, AreSeveralObserved}
+use Rattle.rtk_plan.specs.ChosenStation.{IsObservedStation, AreSeveralObserved}
 use Rattle.rtk_plan.specs.Reach.{least_of_captures, placed_if_any, reach_after}
 use Rattle.rtk_plan.specs.declared.station_capture.StationCapture.{StationCapture}
 use Rattle.rtk_plan.specs.declared.reach.Base.{Base}
@@ -32,8 +32,8 @@ IfRefused IsCause OutOfMemory = ⊤
 -- ---- the station
 
 abbrev pub IsStationCause : List CaptureSurvey → Option ℕ → Refusal → Type 0
-IsStationCause ss named NoObservation = (n : ℕ) → ¬ (IsObserved ss n)
-IsStationCause ss named (NoStation station) = (named ≡ Some station) × ¬ (IsObserved ss station)
+IsStationCause ss named NoObservation = (n : ℕ) → ¬ (IsObservedStation ss n)
+IsStationCause ss named (NoStation station) = (named ≡ Some station) × ¬ (IsObservedStation ss station)
 IsStationCause ss named SeveralStations = (named ≡ None) × AreSeveralObserved ss
 IsStationCause ss named other = ⊥
 

@@ -9,14 +9,14 @@ abbrev pub observes : ℕ → CaptureSurvey → Bool
 observes n s = has_observation (station_in n s)
 
 -- some capture has one; the number of a station (DF003) has 12 bits
-abbrev pub IsObserved : List CaptureSurvey → ℕ → Type 0
-IsObserved ss n = (n < 4096) × (list_any (observes n) ss ≡ true)
+abbrev pub IsObservedStation : List CaptureSurvey → ℕ → Type 0
+IsObservedStation ss n = (n < 4096) × (list_any (observes n) ss ≡ true)
 
 -- one station alone has observations
 pub record IsOnlyObserved (ss : List CaptureSurvey) (n : ℕ) : Type 0 where
-  pub observed : IsObserved ss n
-  pub alone : (m : ℕ) → IsObserved ss m → m ≡ n
+  pub observed : IsObservedStation ss n
+  pub alone : (m : ℕ) → IsObservedStation ss m → m ≡ n
 
 -- two stations have observations
 abbrev pub AreSeveralObserved : List CaptureSurvey → Type 0
-AreSeveralObserved ss = (m : ℕ) × (n : ℕ) × (m ≢ n) × IsObserved ss m × IsObserved ss n
+AreSeveralObserved ss = (m : ℕ) × (n : ℕ) × (m ≢ n) × IsObservedStation ss m × IsObservedStation ss n

@@ -5,7 +5,7 @@ use Rattle.rtk_message.specs.declared.msm_kind.MsmKind.{MsmKind}
 use Rattle.rtk_obs.specs.declared.code.Code.{Code}
 use Rattle.rtk_obs.specs.Code.{all_codes}
 use Rattle.rtk_survey.specs.Counting.{shown_count}
-use Rattle.rtk_survey.specs.Phases.{no_phases, table_of, count_in}
+use Rattle.rtk_survey.specs.Phases.{no_phases, table_of_msm, count_in}
 use Rattle.rtk_survey.specs.declared.phases.PhaseCount.{PhaseCount}
 use Rattle.rtk_survey.specs.declared.survey.CaptureSurvey.{CaptureSurvey}
 use Rattle.rtk_survey.specs.declared.target.TargetSurvey.{TargetSurvey}
@@ -15,7 +15,7 @@ use Rattle.rtk_plan.specs.StationCaptures.{is_station}
 
 abbrev pub table_for : Option MsmKind → TargetSurvey → List PhaseCount
 table_for None t = t.phases.of_1004.items
-table_for (Some kind) t = table_of t.phases kind
+table_for (Some kind) t = table_of_msm t.phases kind
 
 abbrev pub table_if : ℕ → Option MsmKind → Option TargetSurvey → List PhaseCount
 table_if n kind None = []

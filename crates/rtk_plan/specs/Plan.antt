@@ -9,7 +9,7 @@ use Rattle.rtk_survey.specs.Proposal.{proposed}
 use Rattle.rtk_survey.specs.Placing.{second_of}
 use Rattle.rtk_survey.specs.declared.placing.Placed.{Placed}
 use Rattle.rtk_survey.specs.declared.survey.CaptureSurvey.{CaptureSurvey}
-use Rattle.rtk_plan.specs.ChosenStation.{IsObserved, IsOnlyObserved}
+use Rattle.rtk_plan.specs.ChosenStation.{IsObservedStation, IsOnlyObserved}
 use Rattle.rtk_plan.specs.Reach.{least_of_captures, placed_if_any, reach_after, is_out_of_reach}
 use Rattle.rtk_plan.specs.declared.station_capture.StationCapture.{StationCapture}
 use Rattle.rtk_plan.specs.declared.reach.Base.{Base}
@@ -21,7 +21,7 @@ use Rattle.rtk_plan.specs.declared.wanted.Wanted.{Wanted}
 -- the station that is named, if it has observations; else the only one that has
 abbrev pub IsChosenStation : List CaptureSurvey → Option ℕ → ℕ → Type 0
 IsChosenStation ss None station = IsOnlyObserved ss station
-IsChosenStation ss (Some named) station = (station ≡ named) × IsObserved ss station
+IsChosenStation ss (Some named) station = (station ≡ named) × IsObservedStation ss station
 
 -- the MSM that is named; else the one of which the station has most epochs with a value
 abbrev pub msm_chosen : Option MsmKind → List CaptureSurvey → ℕ → MsmKind
@@ -65,7 +65,8 @@ IsInReach given cs near = (placed : List (Option Placed)) × ArePlaced given cs 
 -- formula
 -- the whole second of the least first epoch of the captures
 abbrev pub IsNearOf : Option ℕ → List StationCapture → ℕ → Type 0
-IsNearOf given cs near = (base : Base) × IsBaseOf given cs base × ((reach : Placed) × IsReachOf base cs reach × (near ≡ second_of reach.first))
+IsNearOf given cs near =
+    (base : Base) × IsBaseOf given cs base × ((reach : Placed) × IsReachOf base cs reach × (near ≡ second_of reach.first))
 
 -- what captures tell of a station, one after another
 abbrev pub captures_of : List CaptureSurvey → ℕ → List StationCapture

@@ -2,7 +2,7 @@
 
 ghost use Rattle.std.specs.Prelude.{◌≡◌, ℕ};
 ghost use Rattle.std.specs.List.{list_any};
-ghost use Rattle.rtk_plan.specs.ChosenStation.{observes, IsObserved, IsOnlyObserved, AreSeveralObserved};
+ghost use Rattle.rtk_plan.specs.ChosenStation.{observes, IsObservedStation, IsOnlyObserved, AreSeveralObserved};
 
 use crate::station_capture::has_observation;
 use rtk_survey::CaptureSurvey;
@@ -36,7 +36,7 @@ pub(crate) fn is_observed(surveys: &[CaptureSurvey], station: u16) -> bool
 
 /// The station that alone has observations in captures.
 pub fn only_station(surveys: &[CaptureSurvey]) -> OnlyStation
-    ensures none { result ≡ OnlyStation.None → (n : ℕ) → ¬ (IsObserved surveys.now n) }
+    ensures none { result ≡ OnlyStation.None → (n : ℕ) → ¬ (IsObservedStation surveys.now n) }
     ensures one { (n : ℕ) → result ≡ OnlyStation.One n → IsOnlyObserved surveys.now n }
     ensures several { result ≡ OnlyStation.Several → AreSeveralObserved surveys.now }
 {

@@ -5,46 +5,61 @@
 //! specs/Plan.antt defines what a plan has, and specs/Causes.antt when each refusal comes.
 //!
 //! ```rust
-//! use rtk_convert::Window;
+//! use rtk_convert::{Reference, Window};
 //! use rtk_frame::{After, MemSource};
 //! use rtk_obs::GpsMs;
-//! use rtk_plan::{Captures, PlanFault, Refusal, Wanted, plan_of};
+//! use rtk_plan::{Captures, Wanted, plan_of};
 //! use rtk_rinex::CreationTime;
-//! use rtk_survey::{Target, survey_capture};
+//! use rtk_survey::{CaptureSurvey, Target, survey_capture};
 //! use std::alloc::{AllocError, Global};
 //!
-//! // A capture of eight bytes without a frame has no plan.
-//! fn example(alloc: Global) -> Result<bool, AllocError> {
-//!     let Some(present) = GpsMs::new(1_394_668_800_000) else {
-//!         return Ok(false);
-//!     };
-//!     let (Ok(made), Ok(window)) = (CreationTime::new(present), Window::new(64)) else {
-//!         return Ok(false);
-//!     };
+//! // Frames with a 1004 of station 2003: of 2024-05-17 12:00:00, and of two seconds later.
+//! const FIRST: &[u8] = b"\xD3\x00\x18\x3E\xC7\xD3\x71\x4B\xE8\x00\x10\x14\x98\x96\x80\
+//!     \x00\x00\x01\x51\xAD\x30\x19\x00\x00\x00\x2C\x60\xD0\xFE\x53";
+//! const LATER: &[u8] = b"\xD3\x00\x18\x3E\xC7\xD3\x71\x4C\x07\x40\x10\x14\x98\x96\x80\
+//!     \x00\x00\x01\x51\xAD\x30\x19\x00\x00\x00\x2C\x60\x07\xE1\xA3";
+//!
+//! fn survey_of(alloc: Global, bytes: &[u8], present: GpsMs) -> Option<CaptureSurvey> {
 //!     let target = Target {
 //!         station: None,
 //!         present,
 //!     };
-//!     let mut capture = MemSource::new(alloc, b"no frame", 512, After::End)?;
-//!     let Ok(survey) = survey_capture(alloc, &mut capture, Some(target), 100) else {
+//!     let mut capture = MemSource::new(alloc, bytes, 512, After::End).ok()?;
+//!     survey_capture(alloc, &mut capture, Some(target), 100).ok()
+//! }
+//!
+//! // The later capture is given first. It follows the other one, so one link has both, in their order.
+//! fn example(alloc: Global) -> Result<bool, AllocError> {
+//!     let Some(noon) = GpsMs::new(1_399_982_400_000) else {
+//!         return Ok(false);
+//!     };
+//!     let (Ok(near), Ok(made)) = (Reference::new(noon), CreationTime::new(noon)) else {
+//!         return Ok(false);
+//!     };
+//!     let Ok(window) = Window::new(64) else {
+//!         return Ok(false);
+//!     };
+//!     let (Some(later), Some(first)) = (survey_of(alloc, LATER, noon), survey_of(alloc, FIRST, noon))
+//!     else {
 //!         return Ok(false);
 //!     };
 //!     let captures = Captures {
-//!         surveys: &[survey],
-//!         names: &["capture.rtcm"],
+//!         surveys: &[later, first],
+//!         names: &["later.rtcm", "first.rtcm"],
 //!     };
 //!     let wanted = Wanted {
 //!         station: None,
 //!         msm: None,
 //!         codes: None,
-//!         near: None,
+//!         near: Some(near),
 //!         marker: None,
 //!         window,
 //!     };
-//!     match plan_of(alloc, &captures, &wanted, made, false, false) {
-//!         Err(PlanFault::Refused { refusal, .. }) => Ok(refusal == Refusal::NoFrame),
-//!         _ => Ok(false),
-//!     }
+//!     let Ok(plan) = plan_of(alloc, &captures, &wanted, made, false, false) else {
+//!         return Ok(false);
+//!     };
+//!     let links = plan.links.as_slice();
+//!     Ok(plan.setup.station() == 2003 && links.len() == 1 && links[0].as_slice() == [1, 0].as_slice())
 //! }
 //! ```
 //!

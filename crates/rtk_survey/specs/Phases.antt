@@ -58,11 +58,11 @@ pub record HasPhases (p : Phases) (ms : List AnyMessage) : Type 0 where
   pub of_1077 : CountsPhases p.of_1077.items (entries_numbered 1077 ms)
 
 -- the table of an MSM
-abbrev pub table_of : Phases → MsmKind → List PhaseCount
-table_of p Msm4 = p.of_1074.items
-table_of p Msm5 = p.of_1075.items
-table_of p Msm6 = p.of_1076.items
-table_of p Msm7 = p.of_1077.items
+abbrev pub table_of_msm : Phases → MsmKind → List PhaseCount
+table_of_msm p Msm4 = p.of_1074.items
+table_of_msm p Msm5 = p.of_1075.items
+table_of_msm p Msm6 = p.of_1076.items
+table_of_msm p Msm7 = p.of_1077.items
 
 -- what a satellite has of a code, by a table
 abbrev pub count_in : List PhaseCount → ℕ → Code → PhaseCount

@@ -149,7 +149,7 @@ impl Phases {
 
     /// The table of an MSM.
     pub fn of_msm(&self, kind: MsmKind) -> &[PhaseCount]
-        ensures { result.now ≡ spec.table_of self.now kind }
+        ensures { result.now ≡ spec.table_of_msm self.now kind }
     {
         match kind {
             MsmKind::Msm4 => self.of_1074.as_slice(),
