@@ -20,7 +20,7 @@ CODE = rf"(?:(?!{WORD})[^{{}}]|{BLOCK})*?"
 # Calls of std and clap that fail for want of memory alone; and those of these crates of which name and type of fault don't say so.
 OF_STD = {"with_capacity", "from_slice", "push", "push_front", "insert", "reserve", "reserve_exact", "extend_from_slice", "to_string", "error",
     "render_long_help"}
-OF_CRATES = {"Scanner::new", "Findings::new", "sink"}
+OF_CRATES = {"Scanner::new", "sink"}
 NAME = r"(?:\(\)|(?:mut )?(?!true|false)[a-z]\w*)"
 FAULT = r"(?:\w+::OutOfMemory|AllocError)"
 ANSWER = rf"(?:return )?(?:{FAULT}|fail\(rt, {FAULT}\)|Err\((?:{FAULT}|fail\(rt, {FAULT}\))\))"
@@ -31,8 +31,7 @@ SIZES = {
     ".reserve(": set(),
     ".reserve_exact(": set(),
     ".resize(": set(),
-    "vec![in alloc; ": {"0u8; PIECE", "0; NUMBERS", "Station::new(); STATIONS", "StationDates::new(); NUMBERS", "0; WEEKS",
-        "false; STATIONS", "Heard::nothing(); STATIONS", "PhaseCount::nothing(); PLACES"},
+    "vec![in alloc; ": {"0u8; PIECE", "PhaseCount::nothing(); PLACES"},
 }
 
 # Code that may not stand in a body.
