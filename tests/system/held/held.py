@@ -35,16 +35,19 @@ LINK = 62_000
 GATHERED = 2 * 65_536
 # What a conversion of one link holds besides: the manual says some 89 kB.
 LEAST_BESIDE, MOST_BESIDE = 84_500, 89_500
-# What a summary of one station holds: some 0.2 MB. `auto` holds some 1.5 MB besides what its conversion holds, and so much for
-# each capture.
-LEAST_OF_SUMMARY, MOST_OF_SUMMARY = 180_000, 200_000
-LEAST_OF_AUTO, MOST_OF_AUTO = 1_400_000, 1_520_000
-CAPTURE = 600
+# What a summary of one station holds: some 66 kB. `auto` holds as much as `convert`, and before that a survey of each capture, with
+# the stations and one kind of messages.
+LEAST_OF_SUMMARY, MOST_OF_SUMMARY = 62_000, 67_000
+LEAST_OF_AUTO, MOST_OF_AUTO = -10_000, 2_000
+CAPTURE = 900 + 9_000 + 8_500
 
 # The sizes of an input: a vector that doubles has just the room that it needs. A file of as many
 # records has a picture of 1,440 columns, of 11 seconds or of 22.
 MIB = 1 << 20
 INPUTS = {1: 11 * COLUMNS, 2: 22 * COLUMNS}
+# What `quality` holds for the hours of the second one, which are nine, over those of the first one, which are five: a vector that
+# doubles has room for 16 and for 8, and the text is made of another one.
+QUALITY = 96 * (16 - 8) + 96 * (9 - 5)
 
 # The bytes that a picture has at most.
 MOST_OF_PICTURE = 60_000_000
@@ -364,7 +367,7 @@ def summaries_alike(runs: Runs, tests: Tests) -> None:
 
 # refuses: an `auto` that keeps something of each frame, or captures open beside those that are read
 def captures_found_alike(runs: Runs, tests: Tests) -> None:
-    """`auto` of an hour, ten hours and a day holds the same, a little more than `convert`; and of a thousand captures that follow
+    """`auto` of an hour, ten hours and a day holds the same, as much as `convert`; and of a thousand captures that follow
     one another, a little for each."""
     for window in (2, 64):
         held = [(runs.of_command(["auto", *OPTIONS, str(window), name], "     3.05"),) for name in HOURS]
@@ -390,8 +393,8 @@ def inputs_held_once(runs: Runs, tests: Tests) -> None:
         ("cut --from 2024-06-17T00:00:00", "file", MIB),
         ("chart", "file", MIB),
         ("chart --text", "file", MIB),
-        ("quality", "file", MIB),
-        ("quality --json", "file", MIB),
+        ("quality", "file", MIB + QUALITY),
+        ("quality --json", "file", MIB + QUALITY),
         ("label --blank", "file", MIB),
         ("label --observer me", "file", MIB),
         ("show", "capture", MIB),
