@@ -10,6 +10,8 @@ from typing import NamedTuple
 
 from parts import END, MS, START, records_of
 
+HOUR = 3_600_000
+
 
 class Shown(NamedTuple):
     """What a code shows in a record, by its columns."""
@@ -180,13 +182,13 @@ class Station:
         self.near = min(25, (interval or 0) // 10)
         self.times, self.satellites, self.codes = times, satellites, codes
         self.bands = sorted({code[0] for code in codes})
-        self.gaps: list[tuple[int, int, int]] = []
-        missed: list[int] = []
-        for a, b in zip(times, times[1:]):
-            moments = [a + k * interval for k in range(1, missing_in([a, b], interval) + 1)]
-            missed += moments
-            self.gaps += [(a, b, len(moments))] * bool(moments)
-        self.missing = Counter(self.hour(time) for time in missed)
+        self.gaps = [(a, b, missing) for a, b in zip(times, times[1:]) if (missing := missing_in([a, b], interval))]
+        self.missing: Counter[int] = Counter()
+        for a, b, missing in self.gaps:
+            for hour in {self.hour(a), self.hour(b)}: # no other hour that the gap touches has a record
+                first = -((a + self.near - hour * HOUR) // interval)
+                last = ((hour + 1) * HOUR - 1 - self.near - a) // interval
+                self.missing[hour] += max(0, min(last, missing) - max(first, 1) + 1)
         self.places: dict[int, list[int]] = {}
         for at, time in enumerate(times):
             self.places.setdefault(self.hour(time), []).append(at)
@@ -195,7 +197,7 @@ class Station:
 
     def hour(self, time: int) -> int:
         """A record may lie beside its moment, so it may lie before its hour."""
-        return (time + self.near) // 3_600_000
+        return (time + self.near) // HOUR
 
     def locks(self, places: list[int], kind: str) -> int:
         return sum(it.shown[at][c].digit & 1 and self.kinds[it.name, c][at] == kind
@@ -208,7 +210,7 @@ class Station:
 
     def hours(self) -> list[tuple[str, list[Field]]]:
         return [("hour", [
-            text("", "hour", moment(hour * 3_600_000)),
+            text("", "hour", moment(hour * HOUR)),
             counted("records", len(places)),
             Field("of", "expected", len(places) + self.missing[hour]),
             Field("mean-satellites", "mean_satellites_tenths", whole(Fraction(10 * sum(self.rows[at] for at in places), len(places))), 1),
@@ -230,8 +232,8 @@ class Station:
             for a, b, by in sorted(steps, key=lambda it: -it[2])[:1]:
                 lines.append(("fall", [
                     counted("band", int(band)),
-                    text("from", "from", moment(a * 3_600_000)),
-                    text("until", "until", moment(b * 3_600_000)),
+                    text("from", "from", moment(a * HOUR)),
+                    text("until", "until", moment(b * HOUR)),
                     Field("mean-strength", "mean_strength_centidbhz", by, 2),
                 ]))
         return lines
