@@ -1,24 +1,25 @@
 use Rattle.std.proofs.Common.{◌+◌, ◌∙◌, Some, refl, sym, ap, arith, drop, get_or}
 use Rattle.std.proofs.lemmas.List.{append-nil}
 use Rattle.rtk_collect.specs.EpochSet.{one_more, fresh, conflicts}
-use Rattle.rtk_collect.proofs.CellsLemmas.{any_cell, fresh-step, lower-length, push-few, conflict-is, kept-conflicts}
+use Rattle.rtk_collect.proofs.CellsLemmas.{some_cell, fresh-step, lower-length, push-few, conflict-is, kept-conflicts}
 use Rattle.rtk_collect.proofs.EqualityLemmas.{sources-same}
 use Rattle.rtk_collect.proofs.RisingLemmas.{none-conflicts}
 use Rattle.rtk_collect.proofs.merging.count_new.Goals as goal
 use Rattle.rtk_collect.proofs.merging.count_new.Goals.{in-None, in-Some+then-ne, in-Some+else-ne}
 
 pub loop-entry-preserved : goal.loop-entry-preserved
-loop-entry-preserved c =
+loop-entry-preserved g c =
     let i = c.loop-entry.entry-index in
     let cells = c.args.cells.now in
     let kept = c.args.kept.now in
     let l = c.loop-entry-test.true in
+    let d = some_cell cells (omega (arith, l)) in
     let inv = c.loop-entry.invariant in
-    let cell = get_or cells i any_cell in
-    let rest = fresh (drop (i + 1) cells) kept in
-    let low = lower-length c.key_of-key.result kept in
+    let cell = get_or cells i d in
+    let rest = fresh g.E.Entry.entries (drop (i + 1) cells) kept in
+    let low = lower-length g.E.Entry.entries c.key_of-key.result kept in
     let o = rw c.key_of-key.ensures at c.kept_cell.ensures in
-    let f = fresh-step i any_cell c.kept_cell.result cells kept l o in
+    let f = fresh-step g.E.Entry.entries i d c.kept_cell.result cells kept l o in
     elim c.match-kept_cell.branch [
       | in-None w ↦
           let n = ap (λ t. one_more t rest) w.in-None.is in
@@ -27,31 +28,31 @@ loop-entry-preserved c =
             bound = omega (arith, w.count-is, inv.bound);
             count = omega (arith, w.count-is, inv.count, f, n);
             few = rw w.found-is (omega (arith, inv.few));
-            rising = λ r. rw w.found-is (none-conflicts i any_cell cells kept c.loop-entry.found (conflicts cells kept) l r (sym o ∙ w.in-None.is) (inv.rising r));
+            rising = λ r. rw w.found-is (none-conflicts g.E.Entry.entries i d cells kept c.loop-entry.found (conflicts g.E.Entry.entries cells kept) l r (sym o ∙ w.in-None.is) (inv.rising r));
             conflicts = λ e. absurd (omega (arith, w.count-is, e));
           }
       | in-Some+then-ne w ↦
           let first = w.in-Some.first in
           let n = ap (λ t. one_more t rest) w.in-Some.is in
-          let told = rw w.if-ne.true at (conflict-is cell first (Some first) w.ne.result refl (rw (sources-same first.cell.source cell.cell.source) at w.ne.ensures)) in
+          let told = rw w.if-ne.true at (conflict-is g.E.Entry.entries cell first (Some first) w.ne.result refl (rw (sources-same (g.E.Entry.entries.cell first).source (g.E.Entry.entries.cell cell).source) at w.ne.ensures)) in
           record {
             at = omega arith;
             bound = omega (arith, w.count-is, inv.bound);
             count = omega (arith, w.count-is, inv.count, f, n);
             few = rw (w.found-is, w.push.ensures) (push-few c.loop-entry.found _ i inv.few);
-            rising = λ r. rw (w.found-is, w.push.ensures, w.satellite_code.ensures) (kept-conflicts i any_cell first cells kept c.loop-entry.found _ (conflicts cells kept) l c.requires.rises (sym o ∙ w.in-Some.is) told (inv.rising r));
-            conflicts = λ e. rw (w.found-is, w.push.ensures, w.satellite_code.ensures) (kept-conflicts i any_cell first cells kept c.loop-entry.found _ (conflicts cells kept) l c.requires.rises (sym o ∙ w.in-Some.is) told (inv.conflicts (omega (arith, w.count-is, e))));
+            rising = λ r. rw (w.found-is, w.push.ensures, w.signal.ensures) (kept-conflicts g.E.Entry.entries i d first cells kept c.loop-entry.found _ (conflicts g.E.Entry.entries cells kept) l c.requires.rises (sym o ∙ w.in-Some.is) told (inv.rising r));
+            conflicts = λ e. rw (w.found-is, w.push.ensures, w.signal.ensures) (kept-conflicts g.E.Entry.entries i d first cells kept c.loop-entry.found _ (conflicts g.E.Entry.entries cells kept) l c.requires.rises (sym o ∙ w.in-Some.is) told (inv.conflicts (omega (arith, w.count-is, e))));
           }
       | in-Some+else-ne w ↦
           let first = w.in-Some.first in
           let n = ap (λ t. one_more t rest) w.in-Some.is in
-          let told = rw w.if-ne.false at (conflict-is cell first (Some first) w.ne.result refl (rw (sources-same first.cell.source cell.cell.source) at w.ne.ensures)) in
+          let told = rw w.if-ne.false at (conflict-is g.E.Entry.entries cell first (Some first) w.ne.result refl (rw (sources-same (g.E.Entry.entries.cell first).source (g.E.Entry.entries.cell cell).source) at w.ne.ensures)) in
           record {
             at = omega arith;
             bound = omega (arith, w.count-is, inv.bound);
             count = omega (arith, w.count-is, inv.count, f, n);
             few = rw w.found-is (omega (arith, inv.few));
-            rising = λ r. rw (w.found-is, ← append-nil c.loop-entry.found) (kept-conflicts i any_cell first cells kept c.loop-entry.found _ (conflicts cells kept) l c.requires.rises (sym o ∙ w.in-Some.is) told (inv.rising r));
-            conflicts = λ e. rw (w.found-is, ← append-nil c.loop-entry.found) (kept-conflicts i any_cell first cells kept c.loop-entry.found _ (conflicts cells kept) l c.requires.rises (sym o ∙ w.in-Some.is) told (inv.conflicts (omega (arith, w.count-is, e))));
+            rising = λ r. rw (w.found-is, ← append-nil c.loop-entry.found) (kept-conflicts g.E.Entry.entries i d first cells kept c.loop-entry.found _ (conflicts g.E.Entry.entries cells kept) l c.requires.rises (sym o ∙ w.in-Some.is) told (inv.rising r));
+            conflicts = λ e. rw (w.found-is, ← append-nil c.loop-entry.found) (kept-conflicts g.E.Entry.entries i d first cells kept c.loop-entry.found _ (conflicts g.E.Entry.entries cells kept) l c.requires.rises (sym o ∙ w.in-Some.is) told (inv.conflicts (omega (arith, w.count-is, e))));
           }
     ]

@@ -12,8 +12,6 @@ by-kind Msm n = omega arith
 
 pub returns : goal.returns
 unfolding key key_at
-returns c =
-    let source = c.args.entry.now.cell.source in
-    by-kind source ((c.from.result * 16 + c.place.result) * 2)
-    ∙ ap (λ t. (t * 16 + c.place.result) * 2 + rank_of source) c.from.ensures
-    ∙ ap (λ t. (c.args.entry.now.satellite * 16 + t) * 2 + rank_of source) c.place.ensures.value
+returns g c =
+    by-kind (g.E.Entry.entries.cell c.args.entry.now).source (c.place.result * 2)
+    ∙ ap (λ t. t * 2 + rank_of (g.E.Entry.entries.cell c.args.entry.now).source) c.place.ensures.value

@@ -4,13 +4,13 @@ use Rattle.rtk_obs.specs.MsmCells.{satellites_of, signals_of}
 use Rattle.rtk_obs.specs.SignalCells.{signal_entry}
 use Rattle.rtk_obs.proofs.MsmLemmas.{count-satellites, fits_at, cells_at, next_row_entries, next_row_length, no_row_entries, no_row_length}
 use Rattle.rtk_obs.proofs.MsmFieldLemmas.{is_cell_mask-msm}
-use Rattle.rtk_obs.proofs.signal_cells.signal_entries.Goals as goal
+use Rattle.rtk_obs.proofs.signal_cells.put_signal_entries.Goals as goal
 
 pub loop-place-init : goal.loop-place-init
 loop-place-init c = record {
-  entries = c.new-found.ensures ∙ no_row_entries c.args.message.now.header (signal_entry c.args.channels.now c.args.message.now);
+  entries = c.clear.ensures ∙ no_row_entries c.args.message.now.header (signal_entry c.args.channels.now c.args.message.now);
   cells = no_row_length c.args.message.now.header;
-  few = omega (arith, ap length c.new-found.ensures);
+  few = omega (arith, ap length c.clear.ensures);
 }
 
 pub bounds-as_slice-place : goal.bounds-as_slice-place

@@ -2,7 +2,7 @@ use Rattle.std.proofs.Common.{◌≡◌, ◌≤◌, length, take}
 use Rattle.rtk_obs.specs.Mask.{join_from}
 use Rattle.rtk_obs.specs.MsmCells.{signals_of, row_slots}
 use Rattle.rtk_obs.specs.SignalCells.{signal_entry}
-use Rattle.rtk_obs.proofs.signal_cells.signal_entries.Given as goal
+use Rattle.rtk_obs.proofs.signal_cells.put_signal_entries.Given as goal
 
 abbrev pub invariant-loop-place : goal.invariant-loop-place
 invariant-loop-place l = record {
