@@ -41,7 +41,7 @@ impl Gatherer<SignalEntry> {
     ) -> Result<Outcome<SignalEntry>, AllocError>
         ensures places { self.new.places ≡ self.old.places }
         ensures bound { length self.new.sets ≤ self.new.places }
-        // Fails only if memory is refused: tests/system/calls, rows offer.
+        // Fails only if memory is refused: tests/system/calls, rows signals, offer.
         ensures answer { IfOk result (λ offer. AnswersArrival signals (entries_of channels.now) self.old dated.entry offer conflicts.new self.new) }
         ensures closed { IfOk result (λ offer. ClosesBelow offer self.new.sets) }
         ensures least_closes { IfOk result (λ offer. ClosesLeast self.old.places self.old.sets offer) }
