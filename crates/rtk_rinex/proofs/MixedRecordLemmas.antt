@@ -1,9 +1,10 @@
 -- The text of a record of any systems that is written satellite by satellite.
-use Rattle.std.proofs.Common.{◌≡◌, ◌≢◌, ℕ, ◌+◌, ◌<◌, ◌≤◌, [], ◌∷◌, ◌++◌, List, length, take, drop, ap, arith, refl, sym, ◌∙◌, length-append, true, false, flat_map}
+use Rattle.std.proofs.Common.{◌≡◌, ◌≢◌, ℕ, zero, suc, ◌+◌, ◌<◌, ◌≤◌, ◌==◌, if◌then◌else◌, replicate, [], ◌∷◌, ◌++◌, List, length, take, drop, ap, arith, refl, sym, ◌∙◌, length-append, true, false, flat_map}
 use Rattle.std.specs.List.{filter}
 use Rattle.std.proofs.Math.Seq.{drop-append_seam}
 use Rattle.std.proofs.lemmas.Grind.{flat_map-append}
-use Rattle.std.proofs.lemmas.List.{append-nil}
+use Rattle.std.proofs.lemmas.Bool.Decides.{nat_tests}
+use Rattle.std.proofs.lemmas.List.{append-nil, drop_at, drop-append-le}
 use Rattle.rtk_obs.specs.declared.time.Civil.{Civil}
 use Rattle.rtk_rinex.specs.declared.epoch_table.SatelliteRow.{SatelliteRow}
 use Rattle.rtk_rinex.specs.Record.{has_line, epoch_line}
@@ -39,6 +40,15 @@ pub mixed-none-added : (l : MixedLinesView) (rows : List SatelliteRow) (r : Sate
 mixed-none-added l rows r h none =
     let same = filter-none rows r none in
     record { lines = h.lines ∙ ap (λ (rs : List SatelliteRow). flat_map mixed_satellite_line rs) (sym same); count = h.count ∙ ap length (sym same) }
+
+-- the line goes after the lines before, or after the columns of the epoch line
+pub pushed-lines : (text line now : List ℕ) (count : ℕ) → (count ≡ 0 → text ≡ []) → (0 < count → 36 ≤ length text)
+    → now ≡ (if length text == 0 then replicate 36 32 else text) ++ line → drop 36 now ≡ drop 36 text ++ line
+pushed-lines [] line now count none some e = ap (drop 36) e ∙ drop_at (replicate 36 32) line 36 refl
+pushed-lines (x ∷ xs) line now zero none some e = absurd (let size = ap length (none refl) in omega (arith, size))
+pushed-lines (x ∷ xs) line now (suc count) none some e =
+    let no : (length (x ∷ xs) == 0) ≡ false = grind (arith, nat_tests) in
+    ap (drop 36) (rw no at e) ∙ drop-append-le 36 (x ∷ xs) line (some (omega arith))
 
 -- ---- the epoch line
 

@@ -6,6 +6,6 @@ use Rattle.rtk_rinex.proofs.mixed_record_lines.satellite_columns.Given as goal
 
 abbrev pub invariant-loop-shown : goal.invariant-loop-shown
 invariant-loop-shown l = record {
-  items : l.line.items ≡ index_name l.satellite ++ flat_map observations (take l.shown-index l.observed);
+  items : l.line.items ≡ index_name l.fn.satellite ++ flat_map observations (take l.shown-index l.observed);
   len : length l.line.items ≡ 3 + 48 * l.shown-index;
 }
