@@ -2,9 +2,9 @@ use Rattle.std.proofs.Common.{◌≡◌, ◌<◌, ◌+◌, ◌++◌, ℕ, List, 
 use Rattle.std.specs.Prelude.{flat_map}
 use Rattle.std.specs.List.{range_with_len}
 use Rattle.rtk_tracking.specs.Passes.{sightings_of}
-use Rattle.rtk_quality.specs.QualityText.{part_of, section_text}
+use Rattle.rtk_quality.specs.QualityText.{part_of, parts_of}
 use Rattle.rtk_quality.proofs.ListLemmas.{put-more}
-use Rattle.rtk_quality.proofs.sections.put_section.Goals as goal
+use Rattle.rtk_quality.proofs.sections.put_parts.Goals as goal
 
 pub loop-place-preserved : goal.loop-place-preserved
 loop-place-preserved c = λ interval es stand ended.
@@ -16,7 +16,7 @@ loop-place-preserved c = λ interval es stand ended.
     (c.in_ok-put_part.ensures interval (sightings_of (i + 1) es) (stand.each i _ within) (ended i within))
 
 pub returns : goal.returns
-unfolding section_text
+unfolding parts_of
 returns c = λ interval es stand ended.
     let end : c.loop-place.place ≡ 32 = omega (arith, c.loop-place.auto.place-end, c.loop-place-test.false, stand.size) in
     c.loop-place.invariant interval es stand ended
