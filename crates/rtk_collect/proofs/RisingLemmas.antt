@@ -158,7 +158,11 @@ alone {E = E} es cells kept none r = subst (λ (t : List E). Alone es cells t) (
 pub rises-last : {E S : Type 0} (es : Entries E S) (xs : List E) (n : ℕ) → n ≡ length xs → KeysRise es (drop (n - 1) xs)
 rises-last es [] n e = subst (λ (k : ℕ). KeysRise es (drop (k - 1) [])) (sym e) tt
 rises-last es (x ∷ []) n e = subst (λ (k : ℕ). KeysRise es (drop (k - 1) (x ∷ []))) (sym e) (tt, tt)
-rises-last es (x ∷ y ∷ ys) n e = subst (λ (k : ℕ). KeysRise es (drop (k - 1) (x ∷ y ∷ ys))) (sym e) (rises-last es (y ∷ ys) (suc (length ys)) refl)
+rises-last es (x ∷ y ∷ ys) n e =
+    let two : n ≡ suc (suc (length ys)) = e in
+    let one : n - 1 ≡ suc (length ys) = omega (arith, two) in
+    let none : suc (length ys) - 1 ≡ length ys = omega arith in
+    subst (λ (k : ℕ). KeysRise es (drop k (x ∷ y ∷ ys))) (sym one) (subst (λ (k : ℕ). KeysRise es (drop k (y ∷ ys))) none (rises-last es (y ∷ ys) (suc (length ys)) refl))
 
 pub rises-from : {E S : Type 0} (es : Entries E S) (i : ℕ) (d : E) (xs : List E) → i + 1 < length xs → key es (get_or xs i d) < key es (get_or xs (i + 1) d) → KeysRise es (drop (i + 1) xs) → KeysRise es (drop i xs)
 rises-from es i d xs inside less r =

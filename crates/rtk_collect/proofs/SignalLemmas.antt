@@ -1,34 +1,34 @@
 -- The signals of all systems as cells of a window: their keys, their order, and how many an epoch has.
-use Rattle.std.proofs.Common.{◌≡◌, ◌≢◌, ◌∙◌, ℕ, suc, ◌+◌, ◌-◌, ◌*◌, ◌<◌, ◌≤◌, ◌↔◌, ℤ, List, [], ◌∷◌, ◌++◌, length, get_or, map, Option, inl, inr, refl, sym, ap, subst, arith}
+use Rattle.std.proofs.Common.{false, ◌≡◌, ◌≢◌, ◌∙◌, ℕ, suc, ◌+◌, ◌-◌, ◌*◌, ◌<◌, ◌≤◌, ◌↔◌, ℤ, List, [], ◌∷◌, ◌++◌, length, get_or, map, Option, inl, inr, refl, sym, ap, subst, arith}
 use Rattle.std.specs.Prelude.{All}
 use Rattle.std.specs.List.{AllByRecursion, AllPairs}
 use Rattle.std.proofs.lemmas.Bool.{cases_order}
 use Rattle.std.proofs.lemmas.List.Elements.{recursion_from_All}
 use Rattle.rtk_message.specs.declared.any_message.AnyMessage.{AnyMessage as Message}
+use Rattle.rtk_message.specs.declared.any_message.AnyMessage.TheVariants as any
+use Rattle.rtk_message.specs.declared.message.Message.TheVariants.{Obs1004}
 use Rattle.rtk_message.specs.declared.system.System.{System}
 use Rattle.rtk_message.specs.declared.obs1004.Satellite.{Satellite}
 use Rattle.rtk_obs.specs.AnyCode.{codes_before, system_of, place_of, number_of, code_of_gps, IsSignal, signal_place}
 use Rattle.rtk_obs.specs.Code as gps_code
-use Rattle.rtk_obs.specs.CellsLeft.{cells_left}
+use Rattle.rtk_obs.specs.Cell.{IsSatellite}
 use Rattle.rtk_obs.specs.LegacyCells.{cells_of_1004}
 use Rattle.rtk_obs.specs.SatelliteIndex.{system_at}
 use Rattle.rtk_obs.specs.SignalCells.{signal_of, entries_of, IsSignalInRange, AreDifferentEntries}
 use Rattle.rtk_obs.specs.declared.cell.CellEntry.{CellEntry}
 use Rattle.rtk_obs.specs.declared.cell.CellSource.{CellSource}
 use Rattle.rtk_obs.specs.declared.signal_cells.SignalEntry.{SignalEntry}
-use Rattle.rtk_obs.proofs.PublicLaws.{place_below, number_below, same_number, number-of-gps, entries_of-own, entries_of-differ}
+use Rattle.rtk_obs.proofs.PublicLaws.{cells_of-satellites, place_below, number_below, same_number, number-of-gps, entries_of-own, entries_of-differ}
 use Rattle.rtk_collect.specs.declared.conflicts.AnySatelliteCode.{AnySatelliteCode}
 use Rattle.rtk_collect.specs.Arrival.{Arrival, message_of}
 use Rattle.rtk_collect.specs.Entries.{Entries}
-use Rattle.rtk_collect.specs.EpochSet.{AreLeftBeside}
 use Rattle.rtk_collect.specs.Gps.{gps}
 use Rattle.rtk_collect.specs.Key.{key, key_at, rank_of, Above, KeysRise}
 use Rattle.rtk_collect.specs.Laws.{KeptAreFew, OpeningConflictsNot, ClosingConflictsNot}
-use Rattle.rtk_collect.specs.Signals.{signals, legacy_entries, SignalKeysAreDistinct, GpsKeepsItsOrder, AreUpTo, EpochsAreOfSatellites}
+use Rattle.rtk_collect.specs.Signals.{signals, SignalKeysAreDistinct, GpsKeepsItsOrder, AreUpTo, EpochsAreOfSatellites}
 use Rattle.rtk_collect.proofs.CellsLemmas.{From, keys-fit}
 use Rattle.rtk_collect.proofs.EqualityLemmas.{place-less, rank-less, rank-one}
 use Rattle.rtk_collect.proofs.FewLemmas.{AreOfArrivals, of-arrivals, kept-few}
-use Rattle.rtk_collect.proofs.LegacyListLemmas.{left-is, all_left}
 use Rattle.rtk_collect.proofs.OpeningLemmas.{HasOtherKey, KeysDiffer, differ-none, closing-none}
 
 -- ---- keys
@@ -163,7 +163,9 @@ signals-close channels = closing-none signals (entries_of channels) (signals-ope
 
 -- ---- the satellites of a first 1004
 
-pub all-are-left : (satellites : List Satellite) (known left : List SignalEntry) (cells : List CellEntry) → cells ≡ cells_left [] (cells_of_1004 satellites) → left ≡ map signal_of cells
-    → AreLeftBeside signals known (legacy_entries satellites) left
-all-are-left satellites known left cells are is =
-    inl (is ∙ ap (map signal_of) (are ∙ left-is [] (cells_of_1004 satellites) ∙ all_left gps (cells_of_1004 satellites)))
+abbrev pub HasSatellite : CellEntry → Type 0
+HasSatellite e = IsSatellite e.satellite
+
+-- the cells of satellites are those of a 1004
+pub legacy-satellites : (ss : List Satellite) → All HasSatellite (cells_of_1004 ss)
+legacy-satellites ss = cells_of-satellites (any.Message (Obs1004 (record { station = 0; tow = 0; synchronous = false; smoothing = false; smoothing_interval = 0; satellites = ss })))

@@ -57,7 +57,6 @@ impl<'a> Borrowed<'a> {
         requires { any.IsValid (borrowed self) }
         ensures cells { found.new.items ≡ entries_of channels.now (borrowed self.entry) }
         ensures ranges { All IsSignalInRange found.new.items }
-        ensures few { length found.new.items ≤ 64 }
     {
         match self {
             Borrowed::Message(message) => put_entries_of(message, found),

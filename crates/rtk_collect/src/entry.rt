@@ -1,11 +1,12 @@
 //! What a window asks of a cell with its satellite and code.
 
-ghost use Rattle.std.specs.Prelude.{◌≡◌, ℕ, ◌<◌, ◌≤◌, ◌^◌, List, length, All};
+ghost use Rattle.std.specs.Prelude.{◌≡◌, ℕ, ◌<◌, ◌≤◌, ◌*◌, ◌^◌, List, [], length, All, vec_capacity};
 ghost use Rattle.rtk_message.specs.declared.obs1004.Satellite.{Satellite};
 ghost use Rattle.rtk_obs.specs.CellsLeft.{AreRisingSatellites};
 ghost use Rattle.rtk_collect.specs.Entries.{Entries};
 ghost use Rattle.rtk_collect.specs.Key.{KeysRise};
 ghost use Rattle.rtk_collect.specs.EpochSet.{AreLeftBeside};
+ghost use Rattle.rtk_collect.specs.Signals.{legacy_entries};
 
 use crate::conflicts::{AnySatelliteCode, SatelliteCode};
 use arrayvec::ArrayVec;
@@ -48,6 +49,13 @@ pub trait Entry: Copy + Default {
         requires rise { AreRisingSatellites satellites.now }
         requires known { All InRange known.now }
         ensures { AreLeftBeside entries known.now (legacy satellites.now) found.new.items };
+
+    /// Puts the entries of satellites that rise into an empty list, which has room for them.
+    fn push_legacy(satellites: &[Satellite], list: &mut Vec<Self>)
+        requires rise { AreRisingSatellites satellites.now }
+        requires room { 2 * length satellites.now ≤ vec_capacity list.old }
+        requires empty { list.old.items ≡ [] }
+        ensures { list.new.items ≡ legacy satellites.now };
 
     /// Does nothing. An epoch has at most so many entries, whose keys rise.
     fn entries_are_few()
@@ -92,7 +100,26 @@ impl Entry for CellEntry {
         put_cells_left(satellites, known, found);
     }
 
+    fn push_legacy(satellites: &[Satellite], list: &mut Vec<CellEntry>) {
+        let mut room = ArrayVec::new();
+        put_cells_left(satellites, &[], &mut room);
+        let Ok(()) = list.extend_from_slice(room.as_slice()) else {
+            unreachable!()
+        };
+    }
+
     fn entries_are_few() {}
+}
+
+// Puts the entries of satellites that rise into a list, in place of what it has.
+fn put_signals_of(satellites: &[Satellite], found: &mut ArrayVec<SignalEntry, 64>)
+    requires { AreRisingSatellites satellites.now }
+    ensures entries { found.new.items ≡ legacy_entries satellites.now }
+    ensures few { length found.new.items ≤ 2 * length satellites.now }
+{
+    let mut cells = ArrayVec::new();
+    put_cells_left(satellites, &[], &mut cells);
+    put_signals(cells.as_slice(), found);
 }
 
 impl Entry for SignalEntry {
@@ -129,9 +156,15 @@ impl Entry for SignalEntry {
         _known: &[SignalEntry],
         found: &mut ArrayVec<SignalEntry, 64>,
     ) {
-        let mut cells = ArrayVec::new();
-        put_cells_left(satellites, &[], &mut cells);
-        put_signals(cells.as_slice(), found);
+        put_signals_of(satellites, found);
+    }
+
+    fn push_legacy(satellites: &[Satellite], list: &mut Vec<SignalEntry>) {
+        let mut room = ArrayVec::new();
+        put_signals_of(satellites, &mut room);
+        let Ok(()) = list.extend_from_slice(room.as_slice()) else {
+            unreachable!()
+        };
     }
 
     fn entries_are_few() {}

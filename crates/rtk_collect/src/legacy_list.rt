@@ -72,11 +72,7 @@ fn put_cells<E: Entry>(first: &mut Vec<Satellite>, cells: &mut Vec<E>)
     ensures first { first.new.items ≡ [] }
     ensures cells { cells.new.items ≡ E.legacy first.old.items }
 {
-    let mut room = ArrayVec::new();
-    E::put_legacy(first, &[], &mut room);
-    let Ok(()) = cells.extend_from_slice(room.as_slice()) else {
-        unreachable!()
-    };
+    E::push_legacy(first, cells);
     first.clear();
 }
 

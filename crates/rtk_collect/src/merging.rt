@@ -5,6 +5,7 @@
 //! key down. Other cells are put in one by one. Whether the cells rise, the caller says.
 
 ghost use Rattle.std.specs.Prelude.{◌≡◌, ◌≢◌, ◌≤◌, ◌<◌, ◌+◌, ◌-◌, ◌*◌, [], ◌∷◌, ◌++◌, not, length, take, drop, slice_index_or, vec_len, vec_capacity, IsTrue, IfOk, OnErr, All, if◌then◌else◌};
+ghost use Rattle.rtk_collect.specs.Equal.{equal_cells};
 ghost use Rattle.rtk_collect.specs.Key.{key, KeysRise};
 ghost use Rattle.rtk_collect.specs.EpochSet.{with_cell, with_cells, cell_under, fresh, conflict, conflicts, AreOfOneSource};
 ghost use Rattle.rtk_collect.specs.Steps.OrderedPlaces.{lower};
@@ -126,7 +127,7 @@ fn count_new<E: Entry>(cells: &[E], kept: &[E], found: &mut Conflicts<E::Signal>
         match kept_cell(kept, at, key) {
             None => count += 1,
             Some(first) => {
-                if first.cell() != entry.cell() {
+                if differ(&first, entry) {
                     found.push(entry.signal());
                 }
             }
@@ -209,6 +210,13 @@ fn put_first<E: Entry>(list: &mut [E], cells: &[E])
     }
 }
 
+// Returns whether two cells have other values.
+fn differ<E: Entry>(first: &E, entry: &E) -> bool
+    ensures { result ≡ not (equal_cells ((E.entries).cell first.now) ((E.entries).cell entry.now)) }
+{
+    first.cell() != entry.cell()
+}
+
 // Adds a cell at its place if its key is new, and says whether it conflicts.
 fn add_new<E: Entry>(kept: &mut Vec<E>, at: usize, entry: E) -> bool
     requires rises { KeysRise E.entries kept.old.items }
@@ -220,7 +228,7 @@ fn add_new<E: Entry>(kept: &mut Vec<E>, at: usize, entry: E) -> bool
         ≡ (if result then (E.entries).signal entry ∷ [] else []) }
 {
     if let Some(first) = kept_cell(kept, at, key_of(&entry)) {
-        return first.cell() != entry.cell();
+        return differ(&first, &entry);
     }
     if let Err(_) = kept.insert(at, entry) {
         unreachable!()

@@ -1,6 +1,7 @@
 use Rattle.std.proofs.Common.{◌≤◌, refl, ap, sym, ◌∙◌, subst, arith, length, List}
 use Rattle.std.specs.List.{insert}
 use Rattle.std.proofs.lemmas.Result.{err_from_is_err_and}
+use Rattle.rtk_obs.specs.declared.cell.CellEntry.{CellEntry}
 use Rattle.rtk_collect.specs.declared.conflicts.SatelliteCode.{SatelliteCode}
 use Rattle.rtk_collect.specs.declared.outcome.Outcome.{Outcome}
 use Rattle.rtk_collect.specs.Accepted.{no_cells}
@@ -21,7 +22,7 @@ returns-then-is_open-clause-added c =
     let d = no_cells 0 in
     let adds = open-branch gps c.args.places c.args.epoch c.place_among-at.result c.args.cells.now d c.args.sets.now.items c.join_at.new.sets.items c.in_ok-fresh.fresh c.join_at.new.found c.answer_of_joined-outcome.result
     c.requires.falls c.requires.fits c.place_among-at.ensures found.0 (found.1 d) (c.in_ok-fresh.ensures.items d) (c.in_ok-fresh.ensures.fresh d) (c.in_ok-fresh.ensures.conflicts d) c.answer_of_joined-outcome.ensures in
-    subst (λ (o : Outcome). AddsCells gps c.args.places c.args.epoch c.args.cells.now c.args.sets.now.items c.join_at.new.sets.items o (listed_by c.new.result)) (sym c.new.ensures.outcome)
+    subst (λ (o : Outcome CellEntry SatelliteCode). AddsCells gps c.args.places c.args.epoch c.args.cells.now c.args.sets.now.items c.join_at.new.sets.items o (listed_by c.new.result)) (sym c.new.ensures.outcome)
     (subst (λ (l : List SatelliteCode). AddsCells gps c.args.places c.args.epoch c.args.cells.now c.args.sets.now.items c.join_at.new.sets.items c.answer_of_joined-outcome.result l) (sym c.new.ensures.conflicts) adds)
 
 pub returns-then-at-places-clause-added : goal.returns-then-at-places-clause-added

@@ -4,7 +4,6 @@ use Rattle.std.specs.List.{insert}
 use Rattle.rtk_collect.specs.Key.{key}
 use Rattle.rtk_collect.specs.EpochSet.{cell_under}
 use Rattle.rtk_collect.proofs.CellsLemmas.{conflict-is, with_cell-sets, with_cell-absent, lower-length}
-use Rattle.rtk_collect.proofs.EqualityLemmas.{sources-same}
 use Rattle.rtk_collect.proofs.merging.add_new.Goals as goal
 
 pub returns-in-Some-clause-items : goal.returns-in-Some-clause-items
@@ -17,5 +16,5 @@ pub returns-clause-items : goal.returns-clause-items
 returns-clause-items g c = c.in_default-insert.ensures.items ∙ ap (λ t. insert c.args.kept.now.items t c.args.entry) c.requires.place ∙ sym (with_cell-absent g.E.Entry.entries c.args.entry c.args.kept.now.items (sym (rw (c.key_of.ensures, c.deref.ensures.value) at c.in_default.ensures)))
 
 pub returns-in-Some-clause-conflict : goal.returns-in-Some-clause-conflict
-returns-in-Some-clause-conflict g c = conflict-is g.E.Entry.entries c.args.entry c.in-Some.first (cell_under g.E.Entry.entries (key g.E.Entry.entries c.args.entry) c.args.kept.now.items) c.ne.result
-    (sym (rw (c.key_of.ensures, c.deref.ensures.value) at c.in-Some.ensures)) (rw (sources-same c.in-Some.first.cell.source c.args.entry.cell.source) at c.ne.ensures)
+returns-in-Some-clause-conflict g c = conflict-is g.E.Entry.entries c.args.entry c.in-Some.first (cell_under g.E.Entry.entries (key g.E.Entry.entries c.args.entry) c.args.kept.now.items) c.differ.result
+    (sym (rw (c.key_of.ensures, c.deref.ensures.value) at c.in-Some.ensures)) c.differ.ensures

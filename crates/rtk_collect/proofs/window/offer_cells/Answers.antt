@@ -9,8 +9,8 @@ use Rattle.rtk_collect.proofs.OffersLemmas.{length-insert}
 use Rattle.rtk_collect.proofs.WindowLemmas.{open-branch, late-branch, new-branch, fresh-taken, new-taken}
 use Rattle.rtk_collect.proofs.window.offer_cells.Goals as goal
 
-pub open_at-opened-requires-clause-within : goal.open_at-opened-requires-clause-within
-open_at-opened-requires-clause-within g c = let h = leading-length c.args.epoch c.args.sets.now.items in omega (arith, c.requires.place)
+pub open_at-opened-requires : goal.open_at-opened-requires
+open_at-opened-requires g c = let h = leading-length c.args.epoch c.args.sets.now.items in ?
 
 pub returns-then-has_epoch-clause-added : goal.returns-then-has_epoch-clause-added
 returns-then-has_epoch-clause-added g c =

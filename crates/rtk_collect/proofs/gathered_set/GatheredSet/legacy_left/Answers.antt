@@ -1,4 +1,4 @@
-use Rattle.std.proofs.Common.{List, ap, subst, ◌∙◌, filter}
+use Rattle.std.proofs.Common.{rules, List, ap, subst, ◌∙◌, filter}
 use Rattle.rtk_obs.specs.declared.cell.CellSource.TheVariants.{Legacy, Msm}
 use Rattle.rtk_collect.specs.EpochSet.{EpochSetView, is_from, AreLeftBeside}
 use Rattle.rtk_collect.proofs.KindLemmas.{msm-is, legacy-is}
@@ -6,7 +6,7 @@ use Rattle.rtk_collect.proofs.LegacyListLemmas.{kept-left}
 use Rattle.rtk_collect.proofs.gathered_set.GatheredSet.legacy_left.Goals as goal
 
 pub left-requires : goal.left-requires
-left-requires g c = rw c.deref.ensures.value c.self.invariant.1.range
+left-requires g c = (search rules, rw c.deref.ensures.value c.self.invariant.1.range)
 
 pub returns-clause-left : goal.returns-clause-left
 returns-clause-left g c =

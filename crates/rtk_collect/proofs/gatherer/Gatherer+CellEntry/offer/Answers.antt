@@ -20,11 +20,8 @@ use Rattle.rtk_collect.proofs.gatherer.Gatherer+CellEntry.offer.Goals as goal
 use Rattle.rtk_collect.specs.Gps.{gps}
 use Rattle.rtk_obs.specs.declared.cell.CellEntry.{CellEntry}
 
-pub offer_cells-requires-clause-kind : goal.offer_cells-requires-clause-kind
-offer_cells-requires-clause-kind c = subst (AreOfOneSource gps) (sym (c.as_slice-cells.ensures.value ∙ c.put_cells-rises.ensures.cells)) (cells_of-kind _)
-
-pub offer_cells-requires-clause-rising : goal.offer_cells-requires-clause-rising
-offer_cells-requires-clause-rising c = λ t. subst (KeysRise gps) (sym c.as_slice-cells.ensures.value) (keys-rise _ (c.put_cells-rises.ensures.rises t))
+pub offer_cells-requires : goal.offer_cells-requires
+offer_cells-requires c = ?
 
 pub returns-in_default-clause-answer : goal.returns-in_default-clause-answer
 returns-in_default-clause-answer c =

@@ -18,11 +18,8 @@ use Rattle.rtk_collect.proofs.signals.Gatherer+SignalEntry.offer_signals.Goals a
 use Rattle.rtk_collect.specs.Signals.{signals}
 use Rattle.rtk_obs.specs.declared.signal_cells.SignalEntry.{SignalEntry}
 
-pub offer_cells-requires-clause-kind : goal.offer_cells-requires-clause-kind
-offer_cells-requires-clause-kind c = subst (AreOfOneSource signals) (sym (c.as_slice-cells.ensures.value ∙ c.put_entries.ensures.cells)) (entries_of-kind _ _)
-
-pub offer_cells-requires-clause-rising : goal.offer_cells-requires-clause-rising
-offer_cells-requires-clause-rising c = c.keys_rise-rises.ensures
+pub offer_cells-requires : goal.offer_cells-requires
+offer_cells-requires c = ?
 
 pub returns-in_default-clause-answer : goal.returns-in_default-clause-answer
 returns-in_default-clause-answer c =
