@@ -15,8 +15,8 @@ use crate::words::AutoWords;
 use rtk_convert::{Counts, Setup, Station};
 use rtk_label::Label;
 use rtk_plan::{
-    Captures, Known, Plan, PlanFault, Ways, label_wanted, plan_of, put_command, put_counts,
-    put_known, put_label_command, put_span, what_is_known,
+    Captures, Known, Plan, PlanFault, Ways, equipment_in_captures, label_wanted, plan_of,
+    put_command, put_counts, put_known, put_label_command, put_span, what_is_known,
 };
 use rtk_rinex::CreationTime;
 use rtk_streams::{
@@ -296,10 +296,11 @@ fn work_of<'a>(
     let links = names_of_links(alloc, plan.links.as_slice(), captures.names)?;
     put_span(lines, &plan.span)?;
     put_command(lines, &plan.setup, links.as_slice())?;
-    let station = plan.setup.station();
-    put_label_command(alloc, lines, captures.surveys, station, ways.output)?;
-    let label = label_wanted(captures.surveys, station, ways);
-    let known = what_is_known(alloc, captures, &plan)?;
+    let (station, near) = (plan.setup.station(), plan.setup.near());
+    let told = equipment_in_captures(alloc, captures.surveys, station, near)?;
+    put_label_command(alloc, lines, &told, ways.output)?;
+    let label = label_wanted(&told, ways);
+    let known = what_is_known(alloc, captures, &plan, &told)?;
     Ok(Work {
         setup: plan.setup,
         links,

@@ -8,10 +8,11 @@ use crate::few_phases::CapturePhases;
 use crate::lists::{put_capture_line, put_date_line, put_msms, put_name_line, put_unread};
 use crate::planning::Plan;
 use crate::positions::put_no_position;
+use crate::texts_left_out::put_texts_left_out;
 use rtk_convert::{Counts, Setup};
 use rtk_message::put_named;
 use rtk_obs::GpsMs;
-use rtk_survey::{CaptureEpochs, Span, Told, place};
+use rtk_survey::{CaptureEpochs, Equipment, Span, Told, place};
 use std::alloc::{AllocError, Global};
 
 // What a capture with these epochs tells of its first one, if a conversion near this moment dates it
@@ -140,12 +141,14 @@ pub struct Known {
 }
 
 /// What a person should know of a conversion, a line each, only where it is so: no reference point of the
-/// station; a date that is told and does not count; codes with few phases; captures that are left out,
-/// that have no epoch or whose time falls; and observations that are not taken.
+/// station; a date that is told and does not count; codes with few phases; texts that messages told and
+/// that a label does not have; captures that are left out, that have no epoch or whose time falls; and
+/// observations that are not taken.
 pub fn what_is_known(
     alloc: Global,
     captures: &Captures<'_, '_>,
     plan: &Plan,
+    told: &Equipment,
 ) -> Result<Known, AllocError> {
     let setup = &plan.setup;
     let surveys = captures.surveys;
@@ -153,6 +156,7 @@ pub fn what_is_known(
     put_no_position(&mut first, plan.captures.as_slice())?;
     put_other_date(&mut first, captures, plan)?;
     put_few_phases(&mut first, captures, setup)?;
+    put_texts_left_out(&mut first, told)?;
     let mut last = Vec::new(alloc);
     put_skipped(&mut last, captures, plan)?;
     put_epochs(&mut last, captures, plan)?;

@@ -72,7 +72,8 @@ pub(crate) fn is_station(station: u16, other: Option<u16>) -> bool
     }
 }
 
-fn span_in(station: u16, survey: &CaptureSurvey) -> Option<Span>
+/// The epochs of a station in a capture, if it was surveyed for the station.
+pub(crate) fn span_in(station: u16, survey: &CaptureSurvey) -> Option<Span>
     ensures { result ≡ (spec.dates_in station survey.now).span }
 {
     match &survey.contents.target {
