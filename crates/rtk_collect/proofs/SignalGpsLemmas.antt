@@ -18,7 +18,7 @@ use Rattle.rtk_collect.specs.EpochSet.{EpochSetView, with_cell, with_cells, join
 use Rattle.rtk_collect.specs.Gps.{gps}
 use Rattle.rtk_collect.specs.Key.{key, key_at, rank_of}
 use Rattle.rtk_collect.specs.Late.{late}
-use Rattle.rtk_collect.specs.Signals.{signals, IsOfGps, epoch_of_signals, GpsIsKept}
+use Rattle.rtk_collect.specs.Signals.{signals, IsGpsMessage, epoch_of_signals, GpsIsKept}
 use Rattle.rtk_collect.proofs.ArrivalsLemmas.{with_arrival-new, with_arrival-below, with_arrival-same}
 use Rattle.rtk_collect.proofs.CellsLemmas.{with_cell-new, with_cell-past, with_cell-same}
 use Rattle.rtk_collect.proofs.EqualityLemmas.{place-less, rank-less, parts-one}
@@ -67,11 +67,11 @@ arrival-joins e cs (y ∷ ys) = elim (cases_order y.epoch e) [
   ]
 ]
 
-entries-of : (channels : List (Option ℤ)) (m : Message) → IsOfGps m → entries_of channels m ≡ map signal_of (cells_of m)
+entries-of : (channels : List (Option ℤ)) (m : Message) → IsGpsMessage m → entries_of channels m ≡ map signal_of (cells_of m)
 entries-of channels (any.Message m) is = refl
 entries-of channels (any.Msm m) is = entries-of-gps channels m is
 
-kept-is : (channels : List (Option ℤ)) (n : ℕ) (arrivals : List Arrival) → AllByRecursion (λ (a : Arrival). IsOfGps (message_of a)) arrivals
+kept-is : (channels : List (Option ℤ)) (n : ℕ) (arrivals : List Arrival) → AllByRecursion (λ (a : Arrival). IsGpsMessage (message_of a)) arrivals
     → kept signals (entries_of channels) n arrivals ≡ map epoch_of_signals (kept gps cells_of n arrivals)
 kept-is channels n [] h = refl
 kept-is channels n (At None m ∷ before) h = kept-is channels n before h.1
@@ -86,4 +86,4 @@ kept-is channels n (At (Some e) m ∷ before) h = elim (cases_Bool (late n (At (
 ]
 
 pub gps-is-kept : GpsIsKept
-gps-is-kept channels n arrivals h = kept-is channels n arrivals (recursion_from_All (λ (a : Arrival). IsOfGps (message_of a)) arrivals h)
+gps-is-kept channels n arrivals h = kept-is channels n arrivals (recursion_from_All (λ (a : Arrival). IsGpsMessage (message_of a)) arrivals h)

@@ -21,13 +21,13 @@ use Rattle.rtk_collect.specs.Accepted.{kept}
 
 -- formula
 -- the number of a satellite and code of any system (this project's rule)
-abbrev pub number_at : ℕ → AnyCode → ℕ
-number_at satellite code = satellite * 128 + number_of code
+abbrev pub signal_number : ℕ → AnyCode → ℕ
+signal_number satellite code = satellite * 128 + number_of code
 
 -- what a window asks of the signals of all systems
 abbrev pub signals : Entries SignalEntry AnySatelliteCode
 signals = record {
-  place = λ c. number_at c.satellite c.code;
+  place = λ c. signal_number c.satellite c.code;
   signal = λ c. record { satellite = c.satellite; code = c.code };
   cell = λ c. c.cell;
 }
@@ -48,16 +48,15 @@ GpsKeepsItsOrder = (c d : CellEntry) → (key gps c < key gps d) ↔ (key signal
 abbrev pub AreUpTo : List (Option ℤ) → ℕ → List Arrival → Type 0
 AreUpTo channels greatest arrivals = All (λ a. All (λ c. c.satellite ≤ greatest) (entries_of channels (message_of a))) arrivals
 
--- constant
 -- an epoch has at most 32 cells for each satellite up to the greatest one: for 16 codes and 2 kinds of message
 abbrev pub EpochsAreOfSatellites : Type 0
 EpochsAreOfSatellites = (channels : List (Option ℤ)) (greatest n : ℕ) (arrivals : List Arrival) → AreUpTo channels greatest arrivals
     → All (λ x. length x.cells ≤ 32 * greatest) (kept signals (entries_of channels) n arrivals)
 
 -- a message of GPS, or of a station
-abbrev pub IsOfGps : Message → Type 0
-IsOfGps (any.Message m) = Unit {0}
-IsOfGps (any.Msm m) = m.system ≡ Gps
+abbrev pub IsGpsMessage : Message → Type 0
+IsGpsMessage (any.Message m) = Unit {0}
+IsGpsMessage (any.Msm m) = m.system ≡ Gps
 
 -- an epoch of GPS as one of signals
 abbrev pub epoch_of_signals : EpochSetView CellEntry → EpochSetView SignalEntry
@@ -65,5 +64,5 @@ epoch_of_signals x = record { epoch = x.epoch; cells = map signal_of x.cells }
 
 -- of messages of GPS the same is kept, whatever the channels are
 abbrev pub GpsIsKept : Type 0
-GpsIsKept = (channels : List (Option ℤ)) (n : ℕ) (arrivals : List Arrival) → All (λ a. IsOfGps (message_of a)) arrivals
+GpsIsKept = (channels : List (Option ℤ)) (n : ℕ) (arrivals : List Arrival) → All (λ a. IsGpsMessage (message_of a)) arrivals
     → kept signals (entries_of channels) n arrivals ≡ map epoch_of_signals (kept gps cells_of n arrivals)

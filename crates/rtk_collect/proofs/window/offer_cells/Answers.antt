@@ -1,4 +1,4 @@
-use Rattle.std.proofs.Common.{◌≡◌, ◌≤◌, ◌<◌, [], Ok, Err, refl, ap, sym, ◌∙◌, arith, length, get_or}
+use Rattle.std.proofs.Common.{rules, ◌≡◌, ◌≤◌, ◌<◌, [], Ok, Err, refl, ap, sym, ◌∙◌, arith, length, get_or}
 use Rattle.std.specs.Prelude.{slice_set}
 use Rattle.std.specs.List.{insert}
 use Rattle.std.proofs.lemmas.Result.{IfOk-at_ok, IfErr-at_err, err_from_is_err_and}
@@ -10,7 +10,9 @@ use Rattle.rtk_collect.proofs.WindowLemmas.{open-branch, late-branch, new-branch
 use Rattle.rtk_collect.proofs.window.offer_cells.Goals as goal
 
 pub open_at-opened-requires : goal.open_at-opened-requires
-open_at-opened-requires g c = let h = leading-length c.args.epoch c.args.sets.now.items in ?
+open_at-opened-requires g c =
+    let h = leading-length c.args.epoch c.args.sets.now.items in
+    (search rules, omega (arith, c.requires.place), c.requires.few, c.requires.range, c.requires.kind, c.requires.rising, c.requires.empty, c.requires.spare)
 
 pub returns-then-has_epoch-clause-added : goal.returns-then-has_epoch-clause-added
 returns-then-has_epoch-clause-added g c =

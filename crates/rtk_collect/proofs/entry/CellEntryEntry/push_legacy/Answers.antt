@@ -1,4 +1,4 @@
-use Rattle.std.proofs.Common.{List, ◌++◌, ap, ◌∙◌}
+use Rattle.std.proofs.Common.{[], List, ◌++◌, ap, ◌∙◌}
 use Rattle.rtk_obs.specs.declared.cell.CellEntry.{CellEntry}
 use Rattle.rtk_obs.specs.LegacyCells.{cells_of_1004}
 use Rattle.rtk_collect.specs.Gps.{gps}
@@ -8,4 +8,4 @@ use Rattle.rtk_collect.proofs.entry.CellEntryEntry.push_legacy.Goals as goal
 pub returns : goal.returns
 returns c =
     c.in-Ok.ensures.items ∙ ap (λ (xs : List CellEntry). xs ++ c.as_slice.result.now) c.requires.empty
-    ∙ c.as_slice.ensures.value ∙ c.put_cells_left.ensures.cells ∙ left-is _ (cells_of_1004 c.args.satellites.now) ∙ all_left gps (cells_of_1004 c.args.satellites.now)
+    ∙ c.as_slice.ensures.value ∙ c.put_cells_left.ensures.cells ∙ left-is [] (cells_of_1004 c.args.satellites.now) ∙ all_left gps (cells_of_1004 c.args.satellites.now)

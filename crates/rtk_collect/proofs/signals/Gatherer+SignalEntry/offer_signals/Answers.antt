@@ -1,4 +1,4 @@
-use Rattle.std.proofs.Common.{[], None, Some, List, eqb, sym, ap, subst, ◌∙◌}
+use Rattle.std.proofs.Common.{rules, arith, [], None, Some, List, eqb, sym, ap, subst, ◌∙◌}
 use Rattle.std.proofs.lemmas.Result.{IfOk-weaker, on_err_weaker}
 use Rattle.rtk_message.specs.declared.any_message.AnyMessage.TheVariants as any
 use Rattle.rtk_collect.specs.declared.conflicts.AnySatelliteCode.{AnySatelliteCode}
@@ -19,7 +19,18 @@ use Rattle.rtk_collect.specs.Signals.{signals}
 use Rattle.rtk_obs.specs.declared.signal_cells.SignalEntry.{SignalEntry}
 
 pub offer_cells-requires : goal.offer_cells-requires
-offer_cells-requires c = ?
+offer_cells-requires c = (
+  omega arith,
+  search rules,
+  search rules,
+  c.place_of_epoch-at.ensures,
+  c.as_slice-cells.ensures.fits,
+  search rules,
+  subst (AreOfOneSource signals) (sym (c.as_slice-cells.ensures.value ∙ c.put_entries.ensures.cells)) (entries_of-kind _ _),
+  c.keys_rise-rises.ensures,
+  search rules,
+  c.clear.ensures,
+)
 
 pub returns-in_default-clause-answer : goal.returns-in_default-clause-answer
 returns-in_default-clause-answer c =
