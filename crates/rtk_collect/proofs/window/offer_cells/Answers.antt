@@ -12,7 +12,7 @@ use Rattle.rtk_collect.proofs.window.offer_cells.Goals as goal
 pub open_at-opened-requires : goal.open_at-opened-requires
 open_at-opened-requires g c =
     let h = leading-length c.args.epoch c.args.sets.now.items in
-    (search rules, omega (arith, c.requires.place), c.requires.few, c.requires.range, c.requires.kind, c.requires.rising, c.requires.empty, c.requires.spare)
+    (search rules, (omega (arith, c.requires.place), (c.requires.few, (c.requires.range, (c.requires.kind, (c.requires.rising, (c.requires.empty, c.requires.spare)))))))
 
 pub returns-then-has_epoch-clause-added : goal.returns-then-has_epoch-clause-added
 returns-then-has_epoch-clause-added g c =

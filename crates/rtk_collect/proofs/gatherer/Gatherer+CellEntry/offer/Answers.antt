@@ -21,18 +21,10 @@ use Rattle.rtk_collect.specs.Gps.{gps}
 use Rattle.rtk_obs.specs.declared.cell.CellEntry.{CellEntry}
 
 pub offer_cells-requires : goal.offer_cells-requires
-offer_cells-requires c = (
-  omega arith,
-  search rules,
-  search rules,
-  c.place_of_epoch-at.ensures,
-  c.as_slice-cells.ensures.fits,
-  search rules,
-  subst (AreOfOneSource gps) (sym (c.as_slice-cells.ensures.value ∙ c.put_cells-rises.ensures.cells)) (cells_of-kind _),
-  (λ t. subst (KeysRise gps) (sym c.as_slice-cells.ensures.value) (keys-rise _ (c.put_cells-rises.ensures.rises t))),
-  search rules,
-  c.clear.ensures,
-)
+offer_cells-requires c =
+    let kind = subst (AreOfOneSource gps) (sym (c.as_slice-cells.ensures.value ∙ c.put_cells-rises.ensures.cells)) (cells_of-kind _) in
+    let rising = λ t. subst (KeysRise gps) (sym c.as_slice-cells.ensures.value) (keys-rise _ (c.put_cells-rises.ensures.rises t)) in
+    (omega arith, (search rules, (search rules, (c.place_of_epoch-at.ensures, (c.as_slice-cells.ensures.fits, (search rules, (kind, (rising, (search rules, c.clear.ensures)))))))))
 
 pub returns-in_default-clause-answer : goal.returns-in_default-clause-answer
 returns-in_default-clause-answer c =

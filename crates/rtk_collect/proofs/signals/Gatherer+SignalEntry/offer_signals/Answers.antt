@@ -19,18 +19,10 @@ use Rattle.rtk_collect.specs.Signals.{signals}
 use Rattle.rtk_obs.specs.declared.signal_cells.SignalEntry.{SignalEntry}
 
 pub offer_cells-requires : goal.offer_cells-requires
-offer_cells-requires c = (
-  omega arith,
-  search rules,
-  search rules,
-  c.place_of_epoch-at.ensures,
-  c.as_slice-cells.ensures.fits,
-  search rules,
-  subst (AreOfOneSource signals) (sym (c.as_slice-cells.ensures.value ∙ c.put_entries.ensures.cells)) (entries_of-kind _ _),
-  c.keys_rise-rises.ensures,
-  search rules,
-  c.clear.ensures,
-)
+offer_cells-requires c =
+    let kind = subst (AreOfOneSource signals) (sym (c.as_slice-cells.ensures.value ∙ c.put_entries.ensures.cells)) (entries_of-kind _ _) in
+    let rising = c.keys_rise-rises.ensures in
+    (omega arith, (search rules, (search rules, (c.place_of_epoch-at.ensures, (c.as_slice-cells.ensures.fits, (search rules, (kind, (rising, (search rules, c.clear.ensures)))))))))
 
 pub returns-in_default-clause-answer : goal.returns-in_default-clause-answer
 returns-in_default-clause-answer c =
