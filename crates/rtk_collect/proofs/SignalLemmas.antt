@@ -1,5 +1,5 @@
 -- The signals of all systems as cells of a window: their keys, their order, and how many an epoch has.
-use Rattle.std.proofs.Common.{false, ◌≡◌, ◌≢◌, ◌∙◌, ℕ, suc, ◌+◌, ◌-◌, ◌*◌, ◌<◌, ◌≤◌, ◌↔◌, ℤ, List, [], ◌∷◌, ◌++◌, length, get_or, map, Option, inl, inr, refl, sym, ap, subst, arith}
+use Rattle.std.proofs.Common.{false, ◌≡◌, ◌∙◌, ℕ, suc, ◌+◌, ◌-◌, ◌*◌, ◌<◌, ◌≤◌, ℤ, List, [], ◌∷◌, length, get_or, Option, inl, inr, sym, ap, arith}
 use Rattle.std.specs.Prelude.{All}
 use Rattle.std.specs.List.{AllByRecursion, AllPairs}
 use Rattle.std.proofs.lemmas.Bool.{cases_order}
@@ -7,25 +7,22 @@ use Rattle.std.proofs.lemmas.List.Elements.{recursion_from_All}
 use Rattle.rtk_message.specs.declared.any_message.AnyMessage.{AnyMessage as Message}
 use Rattle.rtk_message.specs.declared.any_message.AnyMessage.TheVariants as any
 use Rattle.rtk_message.specs.declared.message.Message.TheVariants.{Obs1004}
-use Rattle.rtk_message.specs.declared.system.System.{System}
 use Rattle.rtk_message.specs.declared.obs1004.Satellite.{Satellite}
-use Rattle.rtk_obs.specs.AnyCode.{codes_before, system_of, place_of, number_of, code_of_gps, IsSignal, signal_place}
+use Rattle.rtk_obs.specs.AnyCode.{codes_before, system_of, place_of, number_of, IsSignal, signal_place}
 use Rattle.rtk_obs.specs.Code as gps_code
 use Rattle.rtk_obs.specs.Cell.{IsSatellite}
 use Rattle.rtk_obs.specs.LegacyCells.{cells_of_1004}
 use Rattle.rtk_obs.specs.SatelliteIndex.{system_at}
 use Rattle.rtk_obs.specs.SignalCells.{signal_of, entries_of, IsSignalInRange, AreDifferentEntries}
 use Rattle.rtk_obs.specs.declared.cell.CellEntry.{CellEntry}
-use Rattle.rtk_obs.specs.declared.cell.CellSource.{CellSource}
 use Rattle.rtk_obs.specs.declared.signal_cells.SignalEntry.{SignalEntry}
 use Rattle.rtk_obs.proofs.PublicLaws.{cells_of-satellites, place_below, number_below, same_number, number-of-gps, entries_of-own, entries_of-differ}
 use Rattle.rtk_collect.specs.declared.conflicts.AnySatelliteCode.{AnySatelliteCode}
 use Rattle.rtk_collect.specs.Arrival.{Arrival, message_of}
 use Rattle.rtk_collect.specs.Entries.{Entries}
-use Rattle.rtk_collect.specs.Gps.{gps}
-use Rattle.rtk_collect.specs.Key.{key, key_at, rank_of, Above, KeysRise}
+use Rattle.rtk_collect.specs.Key.{key, key_at, rank_of, KeysRise}
 use Rattle.rtk_collect.specs.Laws.{KeptAreFew, OpeningConflictsNot, ClosingConflictsNot}
-use Rattle.rtk_collect.specs.Signals.{signals, SignalKeysAreDistinct, GpsKeepsItsOrder, AreUpTo, EpochsAreOfSatellites}
+use Rattle.rtk_collect.specs.Signals.{signals, SignalKeysAreDistinct, GpsKeepsItsOrder, EpochsAreOfSatellites}
 use Rattle.rtk_collect.proofs.CellsLemmas.{From, keys-fit}
 use Rattle.rtk_collect.proofs.EqualityLemmas.{place-less, rank-less, rank-one}
 use Rattle.rtk_collect.proofs.FewLemmas.{AreOfArrivals, of-arrivals, kept-few}

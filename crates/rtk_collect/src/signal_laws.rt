@@ -9,10 +9,10 @@ ghost use Rattle.rtk_collect.specs.Laws.{LateArrivalsChangeNothing, ClosedOnlyGr
 use crate::conflicts::AnySatelliteCode;
 
 /// What is a law of a window with the cells of GPS is one of a window with the signals of all systems,
-/// whatever the channels are. Keys are equal exactly if satellite, code and kind of message are equal, and
-/// cells of GPS have the same order, so of messages of GPS the same is kept. An epoch has at most 32 cells for each satellite up to the greatest
-/// one of all arrivals: 7,072 for all satellites, and 1,024 for those of GPS. `==` on satellites with codes
-/// is equality of both.
+/// whatever the channels are. Keys are equal exactly if satellite, code and kind of message are equal. Cells
+/// of GPS have the same order in both windows, and of messages of GPS both keep the same. An epoch has at
+/// most 32 cells for each satellite up to the greatest one of all arrivals: 7,072 for all satellites, and
+/// 1,024 for those of GPS. `==` on satellites with codes is equality of both.
 pub fn signal_window_laws()
     ensures keys { SignalKeysAreDistinct }
     ensures order { GpsKeepsItsOrder }

@@ -1,10 +1,9 @@
 -- The cells of GPS as entries of any system: their ranges, and that those of an MSM of GPS are its entries.
-use Rattle.std.proofs.Common.{◌≡◌, ◌∙◌, ℕ, suc, zero, ◌+◌, ℤ, Bool, true, false, cond, nat_eq, List, [], ◌∷◌, ◌++◌, map, length, get_or, Option, Some, None, refl, sym, ap, subst, arith}
-use Rattle.std.specs.Prelude.{IfSome, option_map, nat_le}
+use Rattle.std.proofs.Common.{◌≡◌, ◌∙◌, ℕ, suc, zero, ◌+◌, ℤ, Bool, true, false, cond, nat_eq, List, [], ◌∷◌, ◌++◌, map, length, get_or, Option, Some, None, refl, sym, ap, arith}
+use Rattle.std.specs.Prelude.{IfSome, option_map}
 use Rattle.std.specs.List.{All, AllPairs, AllByRecursion}
-use Rattle.std.proofs.lemmas.Bool.Decides.{nat_tests}
 use Rattle.std.proofs.lemmas.List.{map-append}
-use Rattle.std.proofs.lemmas.List.Elements.{All-from_recursion, All-weaker, All-map, All-tail, All-nil}
+use Rattle.std.proofs.lemmas.List.Elements.{All-from_recursion, All-weaker, All-map}
 use Rattle.std.proofs.lemmas.List.Kept.{AllPairs-cons}
 use Rattle.rtk_message.specs.AnyDecoded.{IsValid}
 use Rattle.rtk_message.specs.MsmForm.{IsValid as IsValidMsm}
@@ -27,8 +26,8 @@ use Rattle.rtk_obs.specs.Cell.{is_satellite, IsSatellite, IsStrength, IsInRange,
 use Rattle.rtk_obs.specs.Code.{band_of, frequency_of, name_of, place_of}
 use Rattle.rtk_obs.specs.Mask.{join_from}
 use Rattle.rtk_obs.specs.MessageCells.{cells_of}
-use Rattle.rtk_obs.specs.MsmCells.{Slot, satellites_of, slots_of, coded_entry, slot_entry, code_of_signal, cell_on, cell_of_msm, cells_of_msm, msm_entries, if_gps, strength_of_kind, has_extended_resolution}
-use Rattle.rtk_obs.specs.SatelliteIndex.{IsSatelliteIndex, system_at, index_in}
+use Rattle.rtk_obs.specs.MsmCells.{Slot, slots_of, coded_entry, slot_entry, code_of_signal, cell_of_msm, cells_of_msm, msm_entries, if_gps, has_extended_resolution}
+use Rattle.rtk_obs.specs.SatelliteIndex.{index_in}
 use Rattle.rtk_obs.specs.Signals.{gps_code, code_in}
 use Rattle.rtk_obs.specs.SignalCells.{channel_in, bit_of_row, field_of_row, entry_if, signal_entry, signal_entries, signal_of, entries_of, AreDifferentEntries, IsSignalInRange, EntriesAreOfOneKind}
 use Rattle.rtk_obs.proofs.CodeLemmas.{same_code}

@@ -220,8 +220,8 @@ pub fn signal_laws()
 
 /// Each entry of a message is of a code of the system of its satellite, and all came in one kind of
 /// message. If the message is valid, an entry with a strength has one that messages give, and no two
-/// entries are of one satellite and code. Those of an MSM of GPS are its cells, whatever the channels are. The number
-/// of a code of GPS among all codes is its place.
+/// entries are of one satellite and code. Those of an MSM of GPS are its cells, whatever the channels are.
+/// The number of a code of GPS among all codes is its place.
 pub fn entry_laws()
     ensures codes { (channels : List (Option ℤ)) (m : AnyMessage) → All (λ e. any.IsSignal e.satellite e.code) (entries_of channels m) }
     ensures range { (channels : List (Option ℤ)) (m : AnyMessage) → IsValid m → All IsSignalInRange (entries_of channels m) }

@@ -41,7 +41,7 @@ loop-left-preserved g c =
       | then-last-wanted-2 w ↦
           let x = w.index-cells-next.result in
           let new = subst (λ (t : _). Puts g.E.Entry.entries c.args.cells.now (take c.args.kept c.args.list.now) (set c.loop-left.list (c.loop-left.left + (c.loop-left.gap - 1)) t) (c.loop-left.next - 1) c.loop-left.left (c.loop-left.gap - 1)) (sym w.index-cells-next.is)
-              (put-new g.E.Entry.entries c.args.cells.now (take c.args.kept c.args.list.now) c.loop-left.list c.loop-left.next c.loop-left.left c.loop-left.gap x c.requires.rising c.requires.rises c.loop-left.invariant.puts c.if-next-gt0.true c.loop-left-test.true (omega (arith, c.loop-left.invariant.last c.loop-left-test.true x, c.loop-left.invariant.wanted c.if-next-gt0.true x, w.if-last-wanted-2.true))) in
+          (put-new g.E.Entry.entries c.args.cells.now (take c.args.kept c.args.list.now) c.loop-left.list c.loop-left.next c.loop-left.left c.loop-left.gap x c.requires.rising c.requires.rises c.loop-left.invariant.puts c.if-next-gt0.true c.loop-left-test.true (omega (arith, c.loop-left.invariant.last c.loop-left-test.true x, c.loop-left.invariant.wanted c.if-next-gt0.true x, w.if-last-wanted-2.true))) in
           record {
             puts = rw (w.list-is, w.gap-is) new;
             last = λ l e. rw w.list-is (c.loop-left.invariant.last l e ∙ ap (key g.E.Entry.entries) (same-before _ c.loop-left.list c.loop-left.left (c.loop-left.left - 1) e (c.loop-left.invariant.puts.before ∙ sym new.before) (omega arith)));

@@ -7,7 +7,7 @@ use Rattle.rtk_collect.proofs.merging.place_of_key.Goals.{then-loop-at-test+else
 
 pub loop-at-2-init : goal.loop-at-2-init
 loop-at-2-init g c = elim c.loop-at-test.branch [
-  | then-loop-at-test+else-key_of-key w ↦ 
+  | then-loop-at-test+else-key_of-key w ↦
       let h = w.key_of.ensures in
       let is = ap (key g.E.Entry.entries) w.index-kept-at.is in
       place-from g.E.Entry.entries c.args.key c.loop-at.at w.index-kept-at.result c.args.kept.now c.requires.rises c.loop-at.invariant (omega arith) (omega arith)
@@ -15,13 +15,13 @@ loop-at-2-init g c = elim c.loop-at-test.branch [
 ]
 
 pub loop-at-2-preserved : goal.loop-at-2-preserved
-loop-at-2-preserved g c = 
+loop-at-2-preserved g c =
     let h = c.key_of-in-loop-at-2.ensures in
     let is = ap (key g.E.Entry.entries) c.index-kept-at-in-loop-at-2.is in
     place-next g.E.Entry.entries c.args.key c.loop-at-2.at c.index-kept-at-in-loop-at-2.result c.args.kept.now c.requires.rises (grind (arith, common_steps)) (omega arith)
 
 pub returns-else-key_of-key-2 : goal.returns-else-key_of-key-2
-returns-else-key_of-key-2 g c = 
+returns-else-key_of-key-2 g c =
     let h = c.key_of-in-loop-at-2.ensures in
     let is = ap (key g.E.Entry.entries) c.index-kept-at-in-loop-at-2.is in
     place-ends g.E.Entry.entries c.args.key c.loop-at-2.at c.index-kept-at-in-loop-at-2.result c.args.kept.now c.loop-at-2.invariant (grind (arith, common_steps)) (omega arith)

@@ -1,4 +1,4 @@
-use Rattle.std.proofs.Common.{rules, arith, [], None, Some, List, eqb, sym, ap, subst, ◌∙◌}
+use Rattle.std.proofs.Common.{rules, arith, IsTrue, [], None, Some, List, eqb, sym, ap, subst, ◌∙◌}
 use Rattle.std.proofs.lemmas.Result.{IfOk-weaker, on_err_weaker}
 use Rattle.rtk_message.specs.declared.any_message.AnyMessage.TheVariants as any
 use Rattle.rtk_collect.specs.declared.conflicts.SatelliteCode.{SatelliteCode}
@@ -23,7 +23,7 @@ use Rattle.rtk_obs.specs.declared.cell.CellEntry.{CellEntry}
 pub offer_cells-requires : goal.offer_cells-requires
 offer_cells-requires c =
     let kind = subst (AreOfOneSource gps) (sym (c.as_slice-cells.ensures.value ∙ c.put_cells-rises.ensures.cells)) (cells_of-kind _) in
-    let rising = λ t. subst (KeysRise gps) (sym c.as_slice-cells.ensures.value) (keys-rise _ (c.put_cells-rises.ensures.rises t)) in
+    let rising : IsTrue c.put_cells-rises.result → KeysRise gps c.as_slice-cells.result.now = λ t. subst (KeysRise gps) (sym c.as_slice-cells.ensures.value) (keys-rise _ (c.put_cells-rises.ensures.rises t)) in
     (omega arith, (search rules, (search rules, (c.place_of_epoch-at.ensures, (c.as_slice-cells.ensures.fits, (search rules, (kind, (rising, (search rules, c.clear.ensures)))))))))
 
 pub returns-in_default-clause-answer : goal.returns-in_default-clause-answer

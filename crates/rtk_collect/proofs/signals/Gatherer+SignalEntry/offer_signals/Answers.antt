@@ -1,4 +1,4 @@
-use Rattle.std.proofs.Common.{rules, arith, [], None, Some, List, eqb, sym, ap, subst, ◌∙◌}
+use Rattle.std.proofs.Common.{rules, arith, [], None, List, eqb, sym, ap, subst, ◌∙◌}
 use Rattle.std.proofs.lemmas.Result.{IfOk-weaker, on_err_weaker}
 use Rattle.rtk_message.specs.declared.any_message.AnyMessage.TheVariants as any
 use Rattle.rtk_collect.specs.declared.conflicts.AnySatelliteCode.{AnySatelliteCode}
@@ -11,7 +11,6 @@ use Rattle.rtk_collect.specs.Steps.Observed.{AddsCells, WouldTakeCells}
 use Rattle.rtk_collect.specs.Steps.Slot.{window_of}
 use Rattle.rtk_obs.specs.SignalCells.{entries_of}
 use Rattle.rtk_obs.proofs.PublicLaws.{entries_of-kind}
-use Rattle.rtk_collect.specs.Key.{KeysRise}
 use Rattle.rtk_collect.specs.EpochSet.{AreOfOneSource}
 use Rattle.rtk_collect.proofs.WindowLemmas.{observed-answers, observed-taken}
 use Rattle.rtk_collect.proofs.signals.Gatherer+SignalEntry.offer_signals.Goals as goal
