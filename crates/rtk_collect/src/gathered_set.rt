@@ -18,12 +18,13 @@ use std::alloc::{AllocError, Global};
 use std::marker::Model;
 use std::mem::replace;
 
-/// An epoch with its cells: one for each satellite, code and kind of message, at most 1,024.
+/// An epoch with its cells: one for each satellite, code and kind of message. There are at most 1,024 of
+/// GPS, or 7,072 of all systems.
 ///
-/// Those that came in an MSM (1074 to 1077) stand in one list, those that came in a 1004 in another;
-/// each rises by satellite and code. As long as one 1004 came, and its satellites rise, these are kept
-/// in place of its cells. The satellites are 1 to 32; a strength is absent, or 250 to 63,750 thousandths
-/// of a dB-Hz in steps of 250.
+/// Those that came in an MSM stand in one list, those that came in a 1004 in another; each rises by
+/// satellite and code. As long as one 1004 of a window of GPS came, and its satellites rise, these are
+/// kept in place of its cells. Satellites of GPS are 1 to 32; a strength is absent, or 250 to 63,750
+/// thousandths of a dB-Hz in steps of 250.
 #[derive(Drop)]
 pub struct GatheredSet<E: Entry = CellEntry> {
     epoch: GpsMs,
@@ -101,7 +102,7 @@ impl<E: Entry> GatheredSet<E> {
         self.epoch
     }
 
-    /// Returns the cells that came in an MSM (1074 to 1077).
+    /// Returns the cells that came in an MSM.
     pub fn msm_cells(&self) -> &[E]
         ensures value { result.now ≡ filter (is_from E.entries Msm) self.now.cells }
         ensures rises { KeysRise E.entries result.now }

@@ -33,11 +33,11 @@ use std::marker::Model;
 /// A window over the greatest epochs of one station's messages, with their kept cells, and the
 /// first 1005 and 1006.
 ///
-/// It holds at most as many epochs as it has places, each with at most 1,024 cells of GPS. It promises what
-/// a `Collector` promises.
+/// It holds at most as many epochs as it has places, each with at most 1,024 cells of GPS, or 7,072 of
+/// all systems. It promises what a `Collector` promises.
 ///
-/// Its caller offers one MSM number alone, of 1074 to 1077, beside 1004, 1005 and 1006. Cells of all
-/// four have the same keys. So if two of these numbers are offered, a cell of the second message
+/// Its caller offers one MSM number of a system alone, as one of 1074 to 1077, beside 1004, 1005 and 1006.
+/// Cells of all four have the same keys. So if two of these numbers are offered, a cell of the second message
 /// conflicts with the cell that is kept of the first, if their values differ, though both be right;
 /// and the cells of one epoch may be of either number.
 #[derive(Drop)]

@@ -3,7 +3,8 @@
 //!
 //! A `Collector` takes messages, and gives each epoch with its cells in one list. A `Gatherer` makes
 //! the same promises, proved by the same definitions, to a caller who offers many: it borrows messages,
-//! and keeps the cells of 1004 and of MSMs apart.
+//! and keeps the cells of 1004 and of MSMs apart. A `Gatherer<SignalEntry>` does so for the cells of all
+//! systems, by `offer_signals`.
 //!
 //! ```rust
 //! use rtk_collect::{Collector, Dated, Offer};
