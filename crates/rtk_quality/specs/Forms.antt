@@ -20,7 +20,7 @@ abbrev pub padded : ℕ → List ℕ → List ℕ
 padded width text = replicate (width - length text) 32 ++ text
 
 -- formula
--- a value of the heading of a table: it ends in column 44
+-- a value of the heading of a table: it ends in column 43 of its line, whose words begin with a line end
 abbrev pub lined_up : List ℕ → List ℕ → List ℕ
 lined_up words value = words ++ padded (44 - length words) value
 

@@ -1,6 +1,6 @@
 //! The columns of a table.
 
-ghost use Rattle.std.specs.Prelude.{◌≡◌, ◌++◌, ℕ, List, length, take, Some, OnOk};
+ghost use Rattle.std.specs.Prelude.{◌≡◌, ◌≤◌, ◌++◌, ℕ, List, length, take, Some, OnOk};
 ghost use Rattle.rtk_obs.specs.CivilText.{civil_text};
 ghost use Rattle.rtk_quality.specs.Forms.{padded};
 ghost use Rattle.rtk_quality.specs.Columns.{column, cell_text, cells_text};
@@ -40,11 +40,12 @@ impl Cell {
 
 /// Moves the text from a place on to the right end of a column of this width.
 pub(crate) fn pad_from(text: &mut Vec<u8>, at: usize, width: usize) -> Result<(), AllocError>
+    requires { at ≤ length text.old.items }
     ensures { OnOk result ((before value : List ℕ) → length before ≡ at → text.old.items ≡ before ++ value
         → text.new.items ≡ before ++ padded width value) }
 {
-    let wide = text.len().saturating_sub(at);
-    for _blank in wide..width {
+    let blanks = width.saturating_sub(text.len() - at);
+    for _blank in 0..blanks {
         text.insert(at, b' ')?;
     }
     Ok(())
@@ -56,7 +57,8 @@ fn put_cell(text: &mut Vec<u8>, cell: Cell) -> Result<(), AllocError>
 {
     let at = text.len();
     put_line_number(text, cell.decimals, cell.number)?;
-    pad_from(text, at, cell.width)
+    pad_from(text, at, cell.width)?;
+    Ok(())
 }
 
 /// Appends numbers in their columns.

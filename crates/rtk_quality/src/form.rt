@@ -1,6 +1,6 @@
 //! The three forms of a text: a table, lines, and JSON.
 
-ghost use Rattle.std.specs.Prelude.{◌≡◌, ◌-◌, ◌++◌, ℕ, List, length, OnOk};
+ghost use Rattle.std.specs.Prelude.{◌≡◌, ◌≤◌, ◌-◌, ◌++◌, ℕ, List, length, OnOk};
 ghost use Rattle.rtk_obs.specs.CivilText.{civil_text};
 ghost use Rattle.rtk_quality.specs.Forms.{in_form, padded, lined_up, point_text, line_number, json_number, value_text, moment_text, name_text, start_text, end_text, json_character, json_text};
 
@@ -20,7 +20,7 @@ pub enum Form {
     Json,
 }
 
-/// The column at which the values of the heading end in a table.
+/// How wide a word and its value are in the heading of a table, the line end before the word included.
 const HEADING_WIDTH: usize = 44;
 
 /// The unit of a number, by the digits behind its point.
@@ -80,6 +80,7 @@ fn put_json_number(text: &mut Vec<u8>, number: Option<u64>) -> Result<(), AllocE
 
 // Moves what was appended after words from a place on to the right, up to the end of its column.
 fn line_up(text: &mut Vec<u8>, at: usize, words: &[u8]) -> Result<(), AllocError>
+    requires { at ≤ length text.old.items }
     ensures { OnOk result ((before value : List ℕ) → length before ≡ at → text.old.items ≡ before ++ value
         → text.new.items ≡ before ++ padded (44 - length words.now) value) }
 {
@@ -98,7 +99,8 @@ fn put_lined_up(
     text.extend_from_slice(words)?;
     let at = text.len();
     put_line_number(text, decimals, number)?;
-    line_up(text, at, words)
+    line_up(text, at, words)?;
+    Ok(())
 }
 
 // Appends a moment of the heading of a table after its words.
@@ -108,7 +110,8 @@ fn put_moment_lined_up(text: &mut Vec<u8>, words: &[u8], reading: Civil) -> Resu
     text.extend_from_slice(words)?;
     let at = text.len();
     put_civil(text, reading)?;
-    line_up(text, at, words)
+    line_up(text, at, words)?;
+    Ok(())
 }
 
 /// Appends a number after its words in the heading of a table or in a line, or after its key.

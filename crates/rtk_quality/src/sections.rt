@@ -33,10 +33,6 @@ pub(crate) enum Section {
     Passes,
 }
 
-/// The heading of the columns of codes in a table.
-const SIGNALS: &[u8] =
-    b"\nsignal phases     of      % ranges slips returns rises half     min  mean    max\n";
-
 // The heading of a section in a table. The codes of satellites follow those of the station.
 fn section_heading(section: Section) -> &'static [u8]
     ensures { result.now ≡ section_heading section }
@@ -94,9 +90,15 @@ pub(crate) fn put_codes(
     ensures { OnOk result ((interval : Option ℕ) (es : List EpochTableView) → StandForSatellites satellites.now interval es
         → text.new.items ≡ text.old.items ++ codes_text form codes.now interval es) }
 {
-    let start = begin_list(text, form, SIGNALS, b",\n\"codes\":[")?;
+    let start = begin_list(
+        text,
+        form,
+        b"\nsignal phases     of      % ranges slips returns rises half     min  mean    max\n",
+        b",\n\"codes\":[",
+    )?;
     put_each_code(text, form, codes, satellites)?;
-    end_list(text, form, start)
+    end_list(text, form, start)?;
+    Ok(())
 }
 
 // Appends what a section has of a code of a satellite.
@@ -240,5 +242,6 @@ pub(crate) fn put_section(
     let key = section_key(section);
     let start = begin_list(text, form, heading, key)?;
     put_parts(text, form, section, codes, satellites, ended)?;
-    end_list(text, form, start)
+    end_list(text, form, start)?;
+    Ok(())
 }

@@ -13,14 +13,7 @@ use crate::lists::{begin_list, end_list};
 use rtk_obs::{Band, Code};
 use std::alloc::AllocError;
 
-/// The headings in a table.
-const HOURS: &[u8] =
-    b"\nhour             records    of satellites  slips returns  band 1  band 2  band 5\n";
-
-const GAPS: &[u8] = b"\ngap from                until                     missing\n";
-
-const FALLS: &[u8] = b"\nband falls from       until                by\n";
-
+// Appends each hour.
 fn put_each_hour(
     text: &mut Vec<u8>,
     form: Form,
@@ -44,11 +37,18 @@ pub(crate) fn put_hours(
 ) -> Result<(), AllocError>
     ensures { OnOk result (text.new.items ≡ text.old.items ++ hours_text form codes.now hours.now) }
 {
-    let start = begin_list(text, form, HOURS, b",\n\"hours\":[")?;
+    let start = begin_list(
+        text,
+        form,
+        b"\nhour             records    of satellites  slips returns  band 1  band 2  band 5\n",
+        b",\n\"hours\":[",
+    )?;
     put_each_hour(text, form, codes, hours)?;
-    end_list(text, form, start)
+    end_list(text, form, start)?;
+    Ok(())
 }
 
+// Appends each gap.
 fn put_each_gap(text: &mut Vec<u8>, form: Form, gaps: &[Gap]) -> Result<(), AllocError>
     ensures { OnOk result (text.new.items ≡ text.old.items ++ flat_map (gap_entry form) gaps.now) }
 {
@@ -62,9 +62,15 @@ fn put_each_gap(text: &mut Vec<u8>, form: Form, gaps: &[Gap]) -> Result<(), Allo
 pub(crate) fn put_gaps(text: &mut Vec<u8>, form: Form, gaps: &[Gap]) -> Result<(), AllocError>
     ensures { OnOk result (text.new.items ≡ text.old.items ++ gaps_text form gaps.now) }
 {
-    let start = begin_list(text, form, GAPS, b",\n\"gaps\":[")?;
+    let start = begin_list(
+        text,
+        form,
+        b"\ngap from                until                     missing\n",
+        b",\n\"gaps\":[",
+    )?;
     put_each_gap(text, form, gaps)?;
-    end_list(text, form, start)
+    end_list(text, form, start)?;
+    Ok(())
 }
 
 // Appends the largest fall of a band, if there is one.
@@ -82,6 +88,7 @@ fn put_fall(
     }
 }
 
+// Appends the largest fall of each band.
 #[tactic(auto, unfolding(crate::specs::QualityText::falls_of))]
 fn put_each_fall(text: &mut Vec<u8>, form: Form, hours: &[HourCounts]) -> Result<(), AllocError>
     ensures { OnOk result (text.new.items ≡ text.old.items ++ falls_of form hours.now) }
@@ -100,7 +107,13 @@ pub(crate) fn put_falls(
 ) -> Result<(), AllocError>
     ensures { OnOk result (text.new.items ≡ text.old.items ++ falls_text form hours.now) }
 {
-    let start = begin_list(text, form, FALLS, b",\n\"falls\":[")?;
+    let start = begin_list(
+        text,
+        form,
+        b"\nband falls from       until                by\n",
+        b",\n\"falls\":[",
+    )?;
     put_each_fall(text, form, hours)?;
-    end_list(text, form, start)
+    end_list(text, form, start)?;
+    Ok(())
 }
