@@ -95,16 +95,22 @@ def auto(captures: Union[Input, Sequence[Input]], *, output: Optional[Name] = No
     The file goes to `output`, which gets its name when it is whole, or else into `text` of the result. A file that is there is
     replaced only with `force`.
 
-    Raises `CapturesError` if the captures do not tell enough, `NoRecordError` if the file is a header alone, and `WorkError` or
-    `WordsError` for other faults.
+    Raises `CapturesError` if the captures do not tell enough, `NoRecordError` if no record came, and `WorkError` or `WordsError` for
+    other faults. Without a record the file is a header alone, but a file that is there stays.
     """
-    options: Dict[str, Value] = {"output": None if output is None else str(Path(output)), "force": force, "label": label,
+    options: Dict[str, Value] = {"output": None if output is None else file_word(output), "force": force, "label": label,
         "near": gps_word(near), "made": utc_word(made), "marker": marker, "station": station, "codes": code_word(codes), "msm": msm,
         "window": window, "links_as_given": links_as_given, "skip_empty": skip_empty, "report": report}
     with tempfile.TemporaryDirectory(prefix="rtcm2rinex-") as folder:
         given = [named(it, Path(folder), number) for number, it in enumerate(listed(captures), 1)]
         ran = run(program, ["auto", *option_words(options)], given, accepted=(0, 3), third=CapturesError)
     return conversion_of(ran, output)
+
+
+def file_word(output: Name) -> str:
+    """The name of a file as the program takes it, which refuses `-`."""
+    name = str(Path(output))
+    return "./-" if name == "-" else name
 
 
 def named(given: Input, folder: Path, number: int) -> Name:
@@ -121,7 +127,7 @@ def named(given: Input, folder: Path, number: int) -> Name:
 
 
 def conversion_of(ran: Ran, output: Optional[Name]) -> AutoConversion:
-    """What `auto` wrote and said. Status 3 is a fault, also if the file is a header alone."""
+    """What `auto` wrote and said. Status 3 is a fault, also if no record came."""
     lines = lines_of(ran.told)
     if ran.status == 3 and not lines[0].startswith(" from "):
         fail(ran.status, ran.told, CapturesError)

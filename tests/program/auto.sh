@@ -186,11 +186,21 @@ finds '--skip-empty --station 7 one stations' "$noon until $noon by 1013 of stat
     "$(echo "$one_command" | sed 's/2003/0007/g; s/station 0007/station 7/') stations" '4 1 0 2 1 0 0 0 1' 0 '' ' skipped one'
 # labelled OPTIONS: the command of `label` for FILE
 labelled() { printf '\nrtcm2rinex label%s FILE' "$1"; }
-# pins: option_words, label_words, file_word, command_with, field_of, antenna_field, label_told, is_null_antenna, fits_field, ToldLabel.is_printed
+# pins: option_words, label_words, file_word, command_with, field_if_fits, antenna_field, label_told, is_null_antenna, fits_field, ToldLabel.is_printed
 finds equipped "$two 1013" "$one_command equipped$(labelled " --antenna-type 'TRM55971.00     NONE' --antenna-number 1440911917 --receiver-type 'TRIMBLE NETR9' --receiver-version 4.48 --receiver-number 5148K72868")" '6 4 0 0 2 0 0 0 2' 0 one.rnx
-finds null_antenna "$two 1013" "$one_command null_antenna$(labelled " --receiver-type 'LEICA GRX1200+GNSS' --receiver-version 9.20 --receiver-number 496710")" '4 2 0 0 2 0 0 0 2' 0 one.rnx
-finds only_null "$two 1013" "$one_command only_null" '4 2 0 0 2 0 0 0 2' 0 one.rnx
-finds unfit "$two 1013" "$one_command unfit$(labelled " --antenna-type GPPNULLANTENNAS --receiver-number --'it'\\''s'")" '4 2 0 0 2 0 0 0 2' 0 one.rnx
+finds null_antenna "$two 1013" "$one_command null_antenna$(labelled " --receiver-type 'LEICA GRX1200+GNSS' --receiver-version 9.20 --receiver-number 496710")" '4 2 0 0 2 0 0 0 2' 0 one.rnx \
+    ' not-in-label antenna-type names no antenna: ADVNULLANTENNA  NONE\n not-in-label antenna-serial is of no antenna: 12'
+# pins: TextsLeftOut.reason, left_out_line, antenna_left_out, receiver_left_out, ToldLabel.is_blank, without_leading
+finds only_null "$two 1013" "$one_command only_null" '4 2 0 0 2 0 0 0 2' 0 one.rnx ' not-in-label antenna-type names no antenna: GPPNULLANTENNA'
+finds unfit "$two 1013" "$one_command unfit$(labelled " --antenna-type GPPNULLANTENNAS --antenna-number blank --receiver-number --'it'\\''s'")" '4 2 0 0 2 0 0 0 2' 0 one.rnx \
+    ' not-in-label receiver-type has more than 20 characters: of 21 characters here\n not-in-label receiver-version has characters that are no printable ASCII: tab\\x09'
+finds padded "$two 1013" "$one_command padded$(labelled " --antenna-type 'TRM55971.00     NONE' --antenna-number 144 --receiver-type 'TRIMBLE NETR9' --receiver-number 5148K72868")" '4 2 0 0 2 0 0 0 2' 0 one.rnx
+# What was told last counts by its time, and not by the order of the captures or of their begins.
+# pins: time_or_first, moment_told
+finds 'antenna_2 antenna_1' "$noon until 2024-05-17T12:00:03 by 1013" "cat antenna_1 antenna_2 | $one_command stdin$(labelled ' --antenna-type B')" '8 4 0 0 4 0 0 0 4' 0 ''
+finds 'antenna_3 antenna_1' "$noon until 2024-05-17T12:00:04 by 1013" "cat antenna_1 antenna_3 | $one_command stdin$(labelled ' --antenna-type A --antenna-number 1')" '7 4 0 0 3 0 0 0 3' 0 ''
+finds 'antenna_3 antenna_2 antenna_1' "$noon until 2024-05-17T12:00:04 by 1013" "cat antenna_1 antenna_2 antenna_3 | $one_command stdin$(labelled ' --antenna-type A')" '11 6 0 0 5 0 0 0 5' 0 ''
+finds 'long short' "$noon until 2024-05-17T12:00:09 by 1013" "$one_command long short$(labelled ' --antenna-type NEW --antenna-number 2 --receiver-type R2')" '9 5 0 0 4 0 0 0 4' 0 ''
 auto -o 'a file' equipped; cp err equipped.err; grep '^rtcm2rinex label' err >said
 (PATH=$work/bin:$PATH && . ./said) >labelled_file 2>again_err
 run label --blank labelled_file; leaves the_label_as_said 0 one.rnx /dev/null
@@ -199,7 +209,7 @@ rm 'a file'
 # --label puts it on, and leaves nothing beside. A file of a header alone gets it too; without one that fits it is the plain file.
 # pins: label_if_any
 auto --label -o 'a file' equipped; leaves label 0 /dev/null equipped.err; same the_file_with_its_label 'a file' labelled_file
-auto -f --label -o 'a file' --codes 5X equipped; [ "$status" = 3 ] && right label_of_a_header || wrong label_of_a_header "$status"
+rm 'a file'; auto --label -o 'a file' --codes 5X equipped; [ "$status" = 3 ] && right label_of_a_header || wrong label_of_a_header "$status"
 run label --blank 'a file'; cp out plain; auto --codes 5X equipped; same the_header_with_its_label plain out
 for capture in only_null one; do
     auto -f --label -o 'a file' $capture; [ "$status" = 0 ] && same "no_label_of_$capture" 'a file' one.rnx || wrong "no_label_of_$capture" "$status"
@@ -266,7 +276,18 @@ run auto --made 2024-05-16T00:00:00 one; [ "$status" = 0 ] && right a_date_of_to
 # A FILE that is there stays, but with -f; an output that is a capture is never taken, by whatever name.
 echo old >file; echo old >want
 auto -o file one; expect a_file_that_is_there 1 '' 'rtcm2rinex: file is there, and -f would replace it'; same it_stays file want
-auto -f -o file one; leaves a_file_that_is_replaced 0 /dev/null one.err; same it_is_replaced file one.rnx; rm file
+chmod 640 file; auto -f -o file one; leaves a_file_that_is_replaced 0 /dev/null one.err; same it_is_replaced file one.rnx
+# Its permissions stay. A file without a record does not replace it; where no FILE is, it is written.
+[ "$(stat -c %a file)" = 640 ] && right it_keeps_its_permissions || wrong it_keeps_its_permissions "$(stat -c %a file)"
+says "$two 1013" "$(command $noon 5X) one" '3 1 0 0 2 0 0 0 0' 'rtcm2rinex: no record came; file stays as it was'
+auto -f -o file --codes 5X one; leaves a_file_and_no_record 3 /dev/null want_err; same the_good_file_stays file one.rnx
+[ "$(ls file*)" = file ] && right no_header_beside || wrong no_header_beside "$(ls file*)"
+mv file 'a file'; auto -f -o 'a file' --codes 5X one; tail -n 1 err >told; echo "rtcm2rinex: no record came; 'a file' stays as it was" >want
+same a_file_with_a_blank_and_no_record told want; rm 'a file'
+says "$two 1013" "$(command $noon 5X) one" '3 1 0 0 2 0 0 0 0' 'rtcm2rinex: no record came; the file is a header alone'
+auto --codes 5X one; cp out want; auto -f -o file --codes 5X one; leaves no_file_and_no_record 3 /dev/null want_err; same the_header_alone file want; rm file
+auto -o - one; expect an_output_of_a_hyphen 2 '' 'rtcm2rinex: -o - names no file; leave out -o for standard output, or say -o ./-'
+auto -o ./- one; leaves an_output_of_this_name 0 /dev/null one.err; same it_has_this_name ./- one.rnx; rm ./-
 cp one kept
 for name in one ./one linked other_name folder/../one; do
     for force in '' -f; do
@@ -290,17 +311,23 @@ auto -o nowhere/file one.gz; expect no_folder 1 '' 'rtcm2rinex: cannot write bes
 auto -o 'no where/file' one; expect a_folder_with_a_blank 1 '' "rtcm2rinex: cannot write beside 'no where/file'"
 echo old >'a file'; auto -o 'a file' one; expect a_file_with_a_blank 1 '' "rtcm2rinex: 'a file' is there, and -f would replace it"
 head -n 2 one.err >lines
-# A full disk, and no standard error: nothing is left of FILE, and a FILE that is there stays.
+# A full disk: nothing is left of FILE, and a FILE that is there stays. Without a reader of standard error FILE is written.
 install
 { cat lines; echo 'rtcm2rinex: write failed'; } >want
 for force in '' -f; do
+    [ "$force" ] && echo old >file
     limited 600 installed/bin/rtcm2rinex auto --made $made $force -o file one >out 2>err; status=$?
     leaves "a_full_disk_$force" 1 /dev/null want
-    "$program" auto --made $made $force -o file one >out 2>&-; status=$?; : >err
-    leaves "closed_standard_error_$force" 1 /dev/null /dev/null
     [ "$(cat file* 2>&1)" = "$([ "$force" ] && echo old || cat 'file*' 2>&1)" ] && right "no_part_$force" || wrong "no_part_$force" "$(ls)"
-    echo old >file
+    "$program" auto --made $made $force -o file one >out 2>&-; status=$?; : >err
+    leaves "closed_standard_error_$force" 1 /dev/null /dev/null; same "its_file_$force" file one.rnx; rm file
+    [ "$force" ] && echo old >file
+    "$program" auto --made $made $force --report -o file one >out 2>/dev/full; status=$?; : >err
+    leaves "full_standard_error_$force" 1 /dev/null /dev/null; same "its_file_with_a_report_$force" file one.rnx; rm file
+    "$program" auto --made $made $force -o file --codes 5X one >out 2>&-; status=$?; : >err
+    leaves "a_header_and_closed_standard_error_$force" 1 /dev/null /dev/null; rm file
 done
+"$program" auto --made $made one >out 2>&-; status=$?; : >err; leaves an_output_and_closed_standard_error 1 one.rnx /dev/null
 "$program" auto --made $made one >/dev/full 2>err; status=$?; : >out
 leaves a_full_output 1 /dev/null want
 
