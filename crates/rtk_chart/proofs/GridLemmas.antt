@@ -547,22 +547,20 @@ in_slots place from to k = (k % 32 == place) && (nat_le from (k / 32) && nat_le 
 
 -- the bin has the mark
 pub slot-set : (place from to bin slot k : ℕ) (old now : List Bool) → place < 32 → slot ≡ 32 * bin + place → slot < length now
-    → from ≤ bin → bin ≤ to
+    → (nat_le from bin && nat_le bin to) ≡ true
     → get_or now k false ≡ cond (ltb (k / 32) bin) (in_slots place from to k || get_or old k false) (get_or old k false)
     → get_or (set now slot true) k false ≡ cond (ltb (k / 32) (bin + 1)) (in_slots place from to k || get_or old k false) (get_or old k false)
-slot-set place from to bin slot k old now few at inside low high was =
+slot-set place from to bin slot k old now few at inside hit was =
     elim (cases_eq k slot) [
       | inl here ↦
           let where_in : k / 32 ≡ bin = omega (arith, few, at, here) in
           let which : k % 32 ≡ place = omega (arith, few, at, here) in
           let below : k / 32 < bin + 1 = omega (arith, where_in) in
-          let above : from ≤ k / 32 = omega (arith, where_in, low) in
-          let under : k / 32 ≤ to = omega (arith, where_in, high) in
+          let held : (nat_le from (k / 32) && nat_le (k / 32) to) ≡ true = ap (λ (c : ℕ). nat_le from c && nat_le c to) where_in ∙ hit in
           ap (λ (n : ℕ). get_or (set now slot true) n false) here ∙ get_or-set_same now slot true false inside
           ∙ sym (ap (λ (b : Bool). cond b (in_slots place from to k || get_or old k false) (get_or old k false)) (lt-ltb (k / 32) (bin + 1) below)
           ∙ ap (λ (b : Bool). (b && (nat_le from (k / 32) && nat_le (k / 32) to)) || get_or old k false) (eq-eqb (k % 32) place which)
-          ∙ ap (λ (b : Bool). (b && nat_le (k / 32) to) || get_or old k false) (le-leb from (k / 32) above)
-          ∙ ap (λ (b : Bool). b || get_or old k false) (le-leb (k / 32) to under))
+          ∙ ap (λ (b : Bool). b || get_or old k false) held)
       | inr other ↦
           get_or-set_other now slot k true false other
           ∙ slot-kept bin k (in_slots place from to k) (get_or old k false) (get_or now k false) was (λ same.

@@ -21,7 +21,8 @@ fn mark(outages: &mut Vec<bool>, place: usize, from: u64, to: u64)
     ensures { AddsMarks (λ slot. (slot % 32 == place) && (nat_le from (slot / 32) && nat_le (slot / 32) to)) outages.old.items outages.new.items }
 {
     for bin in 0..outages.len() / 32 {
-        if from <= bin as u64 && bin as u64 <= to {
+        let within = from <= bin as u64 && bin as u64 <= to;
+        if within {
             outages[32 * bin + place] = true;
         }
     }

@@ -59,13 +59,15 @@ path{fill:none}\
 // constant
 /// The name of the time, what the forms mean, and the strengths of the colours.
 pub(crate) const LEGEND: &[u8] = b"<text y='16'>GPS time</text>\
-<g transform='translate(0 38)'><path class='s' d='M8 20l-7-21h14z'/><text x='22' y='18'>slip</text></g>\
-<g transform='translate(110 38)'><path class='r' d='M4 5l9 5l-9 5z'/><text x='22' y='18'>rise</text></g>\
-<g transform='translate(220 38)'><path class='h' d='M8 5l6 6l-6 6l-6-6z'/><text x='22' y='18'>half cycle</text></g>\
-<g transform='translate(410 38)'><path class='l8' d='M0 10H30'/><text x='40' y='18'>phase</text></g>\
-<g transform='translate(560 38)'><path class='l8' d='M0 10H30'/><path class='p' d='M0 10v-6H30v6z'/><text x='40' y='18'>code missing in some epochs</text></g>\
-<g transform='translate(1040 38)'><path class='m' d='M0 16v-12H30v12z'/><text x='40' y='18'>in all</text></g>\
-<g transform='translate(1190 38)'><path class='g' d='M0 10H30'/><text x='40' y='18'>epochs missing</text></g>\
+<g transform='translate(250 -2)'><path class='s' d='M8 20l-7-21h14z'/><text x='22' y='18'>slip</text></g>\
+<g transform='translate(370 -2)'><path class='a' d='M4 5l9 5l-9 5z'/><text x='22' y='18'>return</text></g>\
+<g transform='translate(530 -2)'><path class='r' d='M4 5l9 5l-9 5z'/><text x='22' y='18'>rise</text></g>\
+<g transform='translate(650 -2)'><path class='h' d='M8 5l6 6l-6 6l-6-6z'/><text x='22' y='18'>half cycle</text></g>\
+<g transform='translate(860 -2)'><path class='o' d='M0 -1v22H30v-22z'/><text x='40' y='18'>outage</text></g>\
+<g transform='translate(1040 -2)'><path class='g' d='M0 10H30'/><text x='40' y='18'>epochs missing</text></g>\
+<g transform='translate(0 38)'><path class='l8' d='M0 10H30'/><text x='40' y='18'>phase</text></g>\
+<g transform='translate(250 38)'><path class='l8' d='M0 10H30'/><path class='p' d='M0 10v-6H30v6z'/><text x='40' y='18'>code missing in some epochs</text></g>\
+<g transform='translate(740 38)'><path class='m' d='M0 16v-12H30v12z'/><text x='40' y='18'>in all</text></g>\
 <text y='94'>least strength, dB-Hz</text>\
 <path class='l0' d='M310 87h36'/><text x='352' y='94'>none</text>\
 <path class='l1' d='M430 87h36'/><text x='472' y='94'>&lt;12</text>\
