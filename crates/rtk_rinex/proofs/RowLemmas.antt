@@ -87,7 +87,7 @@ piece (o ∷ os) rest (suc k) d h lt =
 no_observed : Observed
 no_observed = record { range_mm = None; phase_millicycles = None; strength_millidbhz = None; slip = false; half = false }
 
-cells : (n : ℕ) (os : List Observed) (rest : List ℕ) → All IsObserved os → n ≤ length os
+pub cells : (n : ℕ) (os : List Observed) (rest : List ℕ) → All IsObserved os → n ≤ length os
     → observations_in n (flat_map observations os ++ rest) ≡ take n os
 cells zero os rest h le = refl
 cells (suc n) os rest h le =
