@@ -1,17 +1,18 @@
 //! The line of a satellite of any system, told by its form.
 
-ghost use Rattle.std.specs.Prelude.{◌≡◌, ◌≢◌, ℕ, ◌*◌, ◌≤◌, length, IsTrue, ◌↔◌, MatchOption};
+ghost use Rattle.std.specs.Prelude.{◌≡◌, ◌≢◌, ℕ, ◌*◌, ◌≤◌, length, IsTrue, ◌↔◌, Decides, MatchOption};
 ghost use Rattle.rtk_rinex.specs.Columns.{left};
 ghost use Rattle.rtk_rinex.specs.Lines.{IsLine};
 ghost use Rattle.rtk_rinex.specs.Record.{observations};
 ghost use Rattle.rtk_rinex.specs.MixedRecord.{mixed_satellite_line};
-ghost use Rattle.rtk_rinex.specs.MixedTable.{IsMixedRow};
+ghost use Rattle.rtk_rinex.specs.MixedTable.{IsMixedRow, HasNoPhase};
 ghost use Rattle.rtk_rinex.specs.MixedCheckLine.{IsMixedForm};
 ghost use Rattle.rtk_rinex.specs.Steps.MixedReadRecords.{IsMixedCell, AreMixedCells};
 ghost use Rattle.rtk_rinex.specs.declared.epoch_table.SatelliteRow.{SatelliteRow};
 
 use crate::columns::CODE_COLUMNS;
 use crate::digits::{columns_at, front};
+use crate::epoch_table::Observed;
 use crate::mixed_form::RecordForm;
 use crate::satellite_line_check::shown_cell;
 use rtk_obs::{SatelliteIndex, satellite_named};
@@ -33,6 +34,16 @@ pub(crate) fn satellite_of_mixed_form(line: &[u8], form: &RecordForm) -> Option<
     Some(satellite)
 }
 
+// Returns whether a code shows no phase.
+fn has_no_phase(observed: &Observed) -> bool
+    ensures { Decides result (HasNoPhase observed.now) }
+{
+    match observed.phase_millicycles {
+        Some(_) => false,
+        None => true,
+    }
+}
+
 // Returns whether these columns show what a code can show, without a phase if there are none. Blanks at
 // the end may be missing.
 fn is_mixed_cell(columns: &[u8], phases: bool) -> bool
@@ -40,7 +51,7 @@ fn is_mixed_cell(columns: &[u8], phases: bool) -> bool
     ensures { IsTrue result ↔ IsMixedCell phases columns.now }
 {
     match shown_cell(columns) {
-        Some(shown) => phases || shown.phase_millicycles.is_none(),
+        Some(shown) => phases || has_no_phase(&shown),
         None => false,
     }
 }
@@ -70,6 +81,7 @@ pub(crate) fn is_mixed_row_line(line: &[u8], form: &RecordForm, satellite: Satel
     if line.len() <= 4 {
         return false;
     }
-    let columns = &line[3..line.len() - 1];
-    are_mixed_cells(columns, form.width(satellite), form.has_phases(satellite))
+    let codes = form.width(satellite);
+    let phases = form.has_phases(satellite);
+    are_mixed_cells(&line[3..line.len() - 1], codes, phases)
 }

@@ -34,6 +34,14 @@ impl<'a> MixedTextTable<'a> {
     ghost use Rattle.rtk_rinex.specs.MixedTable.{MixedTable, IsMixedTable, mixed_table_text};
     ghost use Rattle.rtk_rinex.specs.Reading.{IsMoment};
 
+    // Returns the table whose text this is.
+    fn of_text(text: &'a [u8], counts: LineCounts) -> MixedTextTable<'a>
+        requires { IsMixedTableView (record { text = text.now; epochs = counts.epochs; satellites = counts.satellites }) }
+        ensures { result ≡ record { text = text.now; epochs = counts.epochs; satellites = counts.satellites } }
+    {
+        MixedTextTable { text, counts }
+    }
+
     /// Returns how many records the table has.
     pub fn epochs(&self) -> usize
         ensures { result ≡ self.now.epochs }
@@ -81,8 +89,5 @@ pub fn check_mixed_text(bytes: &[u8]) -> Result<MixedTextTable<'_>, CheckFault>
     let heading = check_mixed_header(bytes)?;
     let form = RecordForm::of_head(&heading.head);
     let counts = check_mixed_records(heading.records, heading.lines, &form, heading.first)?;
-    Ok(MixedTextTable {
-        text: bytes,
-        counts,
-    })
+    Ok(MixedTextTable::of_text(bytes, counts))
 }
