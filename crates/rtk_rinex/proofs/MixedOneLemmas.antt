@@ -102,7 +102,7 @@ epochs-all n first last [] h = All-nil (IsMixedEpoch n)
 epochs-all n first last (e ∷ epochs) h = All-cons (IsMixedEpoch n) e epochs h.0 (epochs-all n first (Some e.time) epochs h.2)
 
 epochs-above : (n : FormView) (first s b : ℕ) (epochs : List EpochTableView) → AreMixedEpochs n first (Some s) epochs → b ≤ s → All (λ (e : EpochTableView). b < e.time) epochs
-epochs-above n first s b [] h = All-nil (λ (e : EpochTableView). b < e.time)
+epochs-above n first s b [] h le = All-nil (λ (e : EpochTableView). b < e.time)
 epochs-above n first s b (e ∷ epochs) h le =
     let less : s < e.time = h.1 in
     All-cons (λ (e : EpochTableView). b < e.time) e epochs (omega arith) (epochs-above n first e.time b epochs h.2 (omega arith))

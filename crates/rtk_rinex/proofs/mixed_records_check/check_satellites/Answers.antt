@@ -27,7 +27,7 @@ returns-in-Err-clause-fault c =
       due = omega (arith, r.count);
       text = r.text;
       line = omega (arith, r.count);
-      cause = satellite-fault c.args.form.now (last_satellite None r.rows) c.loop-k.rest.now c.in-Some.mixed_satellite_line.now c.in-Some.after.now c.in-Err.cause line.0 line.1 fault;
+      cause = satellite-fault c.args.form.now (last_satellite None r.rows) c.loop-k.rest.now c.in-Some.satellite_line.now c.in-Some.after.now c.in-Err.cause line.0 line.1 fault;
     }
 
 pub loop-k-preserved : goal.loop-k-preserved
@@ -42,7 +42,7 @@ loop-k-preserved c =
         rows = r.rows ++ row ∷ [];
         are_rows = rows-more c.args.form.now None r.rows row r.are_rows is.1 next;
         count = simp length-append (omega (arith, r.count));
-        text = text-more mixed_satellite_line r.rows row c.args.text.now l.rest.now c.in-Some.mixed_satellite_line.now c.in-Some.after.now r.text line.1 is.2;
+        text = text-more mixed_satellite_line r.rows row c.args.text.now l.rest.now c.in-Some.satellite_line.now c.in-Some.after.now r.text line.1 is.2;
       },
       sym (last_satellite-more None r.rows row ∙ ap Some is.3),
       omega (arith, l.invariant.2, line.2),
