@@ -32,6 +32,7 @@ fn put_satellite(text: &mut Vec<u8>, satellite: u8) -> Result<(), AllocError>
 }
 
 // Appends the numbers of a code, up to the end of their row.
+#[tactic(auto, unfolding(crate::specs::Rows::numbers_text))]
 fn put_numbers(text: &mut Vec<u8>, numbers: &CodeNumbers) -> Result<(), AllocError>
     ensures { OnOk result (text.new.items ≡ text.old.items ++ numbers_text numbers.now) }
 {
@@ -60,6 +61,7 @@ fn put_numbers(text: &mut Vec<u8>, numbers: &CodeNumbers) -> Result<(), AllocErr
 }
 
 /// Appends the row of a code that a satellite has.
+#[tactic(auto, unfolding(crate::specs::Rows::signal_row))]
 pub(crate) fn put_signal_row(
     text: &mut Vec<u8>,
     satellite: u8,
@@ -75,6 +77,7 @@ pub(crate) fn put_signal_row(
 }
 
 /// Appends the rows of a code over all satellites that have it, of so many that are tracked.
+#[tactic(auto, unfolding(crate::specs::Rows::code_row))]
 pub(crate) fn put_code_row(
     text: &mut Vec<u8>,
     code: Code,
@@ -94,6 +97,7 @@ pub(crate) fn put_code_row(
 }
 
 /// Appends the row of a code of the file of which a satellite has no phase.
+#[tactic(auto, unfolding(crate::specs::Rows::never_row))]
 pub(crate) fn put_never_row(text: &mut Vec<u8>, satellite: u8, code: Code) -> Result<(), AllocError>
     ensures { OnOk result (text.new.items ≡ text.old.items ++ never_row satellite code) }
 {
@@ -104,6 +108,7 @@ pub(crate) fn put_never_row(text: &mut Vec<u8>, satellite: u8, code: Code) -> Re
 }
 
 /// Appends the row of all codes of a satellite.
+#[tactic(auto, unfolding(crate::specs::Rows::tracked_row))]
 pub(crate) fn put_tracked_row(
     text: &mut Vec<u8>,
     satellite: u8,
@@ -126,6 +131,7 @@ pub(crate) fn put_tracked_row(
 }
 
 // Appends two moments, with blanks before them.
+#[tactic(auto, unfolding(crate::specs::Rows::span_part))]
 fn put_span(text: &mut Vec<u8>, from: Civil, until: Civil, width: usize) -> Result<(), AllocError>
     ensures { OnOk result (text.new.items ≡ text.old.items ++ span_part from until width) }
 {
@@ -136,6 +142,7 @@ fn put_span(text: &mut Vec<u8>, from: Civil, until: Civil, width: usize) -> Resu
 }
 
 /// Appends the row of a pass.
+#[tactic(auto, unfolding(crate::specs::Rows::pass_row))]
 pub(crate) fn put_pass_row(
     text: &mut Vec<u8>,
     satellite: u8,
@@ -167,6 +174,7 @@ fn strength_cell(strengths: &BandStrengths) -> Cell
 }
 
 /// Appends the row of an hour.
+#[tactic(auto, unfolding(crate::specs::Rows::hour_row))]
 pub(crate) fn put_hour_row(text: &mut Vec<u8>, hour: &HourCounts) -> Result<(), AllocError>
     ensures { OnOk result (text.new.items ≡ text.old.items ++ hour_row hour.now) }
 {
@@ -191,6 +199,7 @@ pub(crate) fn put_hour_row(text: &mut Vec<u8>, hour: &HourCounts) -> Result<(), 
 }
 
 /// Appends the row of a gap.
+#[tactic(auto, unfolding(crate::specs::Rows::gap_row))]
 pub(crate) fn put_gap_row(text: &mut Vec<u8>, gap: &Gap) -> Result<(), AllocError>
     ensures { OnOk result (text.new.items ≡ text.old.items ++ gap_row gap.now) }
 {
@@ -202,6 +211,7 @@ pub(crate) fn put_gap_row(text: &mut Vec<u8>, gap: &Gap) -> Result<(), AllocErro
 }
 
 /// Appends the row of the largest fall of a band.
+#[tactic(auto, unfolding(crate::specs::Rows::fall_row))]
 pub(crate) fn put_fall_row(text: &mut Vec<u8>, band: u64, fall: &Fall) -> Result<(), AllocError>
     ensures { OnOk result (text.new.items ≡ text.old.items ++ fall_row band fall.now) }
 {
