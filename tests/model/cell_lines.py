@@ -31,7 +31,7 @@ def cell_line(time: int, satellite: str, code: str, cell: Cell) -> str:
 
 @dataclass
 class Listener:
-    """What came before a message: the reference, and of each slot of GLONASS the channel that was told first."""
+    """What came before a message of a capture: the reference, and of each slot of GLONASS the channel that was told first."""
 
     near: int = 0
     channels: dict[int, int] = field(default_factory=dict)
@@ -69,7 +69,7 @@ def cell_lines(text: str) -> str:
     lines = []
     for line in text.splitlines():
         if line.startswith("near "):
-            listener.near = int(line[5:])
+            listener = Listener(int(line[5:]))
             continue
         try:
             content = bytes.fromhex(line)

@@ -80,7 +80,7 @@ def odd_ones(rng: Random) -> list[Message]:
 def leap_messages(rng: Random) -> list[Message]:
     """GLONASS about a leap second, which has the clock of the second after it."""
     first = moment("2017-01-01T00:00:18")
-    return [made_message(rng, GLONASS, 4, [1], [2], first + off) for off in (-1001, -1000, -1, 0, 30_000)]
+    return [made_message(rng, GLONASS, 5, [1], [2], first + off) for off in (-1001, -1000, -1, 0, 30_000)]
 
 
 def text_of(messages: list[Message]) -> str:

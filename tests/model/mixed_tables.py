@@ -24,11 +24,10 @@ class MixedTable(NamedTuple):
         return "".join(f"{line}\n" for line in self.header + self.records).encode()
 
 
-def some_codes(rng: Random) -> dict[str, tuple[str, ...]]:
-    """Codes of one to seven systems, in any order within a system; of some systems all."""
-    letters = rng.sample(LETTERS, rng.choice((1, 1, 2, 2, 3, 4, 5, 7)))
+def some_codes(rng: Random, letters: str) -> dict[str, tuple[str, ...]]:
+    """Codes of some of these systems, in any order within a system; of some systems all."""
     codes = {}
-    for letter in letters:
+    for letter in rng.sample(letters, min(len(letters), rng.choice((1, 1, 2, 2, 3, 4, 5, 7)))):
         known = BY_LETTER[letter].codes
         codes[letter] = tuple(rng.sample(known, rng.choice((1, rng.randint(1, len(known)), len(known)))))
     return codes
@@ -44,10 +43,10 @@ def some_time(rng: Random) -> int:
     return rng.choice((FIRST_DAY, LAST_MS, rng.randint(FIRST_DAY, LAST_MS), moment("2024-05-17T12:00:00") + rng.randrange(10_000)))
 
 
-def some_setup(rng: Random) -> MixedSetup:
+def some_setup(rng: Random, letters: str) -> MixedSetup:
     marker = rng.choice(PRINTABLE[1:]) + "".join(rng.choices(PRINTABLE, k=rng.choice((0, 3, 59))))
     made = some_time(rng) // 1000 * 1000
-    return MixedSetup(moment("2024-05-17T12:00:00"), made, marker, some_codes(rng), some_channels(rng))
+    return MixedSetup(moment("2024-05-17T12:00:00"), made, marker, some_codes(rng, letters), some_channels(rng))
 
 
 def some_header(rng: Random, setup: MixedSetup, first: int) -> list[str]:
@@ -74,9 +73,9 @@ def some_epoch(rng: Random, setup: MixedSetup) -> dict[str, dict[str, Shown]]:
     return epoch
 
 
-def some_table(rng: Random) -> MixedTable:
-    """A head and up to four records; most tables have some."""
-    setup = some_setup(rng)
+def some_table(rng: Random, letters: str = LETTERS) -> MixedTable:
+    """A head of these systems and up to four records; most tables have some."""
+    setup = some_setup(rng, letters)
     time = min(some_time(rng), LAST_MS - 4000)
     records, first = [], None
     for _ in range(rng.choice((0, 1, 2, 4))):

@@ -6,16 +6,21 @@ Prints a line for each test, and last 'N passed, M failed'.
 from __future__ import annotations
 
 import sys
+from pathlib import Path
+from random import Random
 from typing import Callable
 
 import mixed_cases
 import worked_rows as rows
+from cell_lines import cell_lines
 from checker import fault
 from clocks import DAY_MS, LEAP_ROWS, UNKNOWN_DAY, clock_of, glonass_clock, is_clock, moment_of, near_of_span
-from messages import Refusal, _legacy_cell
+from messages import Refusal, _legacy_cell, frames_of
 from mixed_cells import all_cells, cells_of_1012, normal_channel_1012, normal_channels, rolls_of_1012, sbas_of_1004
 from mixed_checker import header_fault, mixed_fault
+from mixed_damages import damaged_mixed
 from mixed_files import MixedSetup, listed, mixed_file, mixed_header, slots_lines, types_lines
+from mixed_tables import some_table
 from model import civil, moment
 from msm import HEADER_1012, SATELLITE_1012, message_of, payload_of_msm, read_1012, read_any
 from systems import GLONASS, INDEX, KINDS, LETTERS, SATELLITES, SYSTEMS, TYPES, carrier, number_of
@@ -265,6 +270,33 @@ def changed_files() -> None:
     same("nothing", mixed_fault(b""), (1, mixed_cases.C5))
     same("no last LF", mixed_fault(text[:-1]), (37, mixed_cases.C5))
     same("no record", mixed_fault(text[: text.index(b"> ")]), None)
+
+
+@test
+def files_that_chance_makes() -> None:
+    """Each table is a file; of a file of GPS the two checkers find the same fault, wherever it is."""
+    for number in range(300):
+        rng = Random(number)
+        of_gps = number % 3 == 0
+        text = some_table(rng, "G" if of_gps else LETTERS).text
+        same(f"{number}", mixed_fault(text), None)
+        text = damaged_mixed(rng, text)
+        if of_gps and text[40:41] not in b"RECJSIM":
+            same(f"{number}, changed", mixed_fault(text), fault(text))
+
+
+@test
+def lines_of_the_example() -> None:
+    """What crates/example_cells is to print: each signal of each system stands in an MSM of each kind."""
+    text, due = (Path(__file__).resolve().parents[2].joinpath("crates/example_cells", it).read_text() for it in ("stdin", "stdout"))
+    same("its lines", cell_lines(text).splitlines(), due.splitlines())
+    told = set()
+    for frame in frames_of(bytes.fromhex("".join(it for it in text.splitlines() if it[:2] == "d3"))):
+        message = read_any(frame.payload, ALL)
+        if isinstance(message, Message) and message.header["number"] in TYPES:
+            told |= {(message.header["number"], name[0], code) for name, code, _ in all_cells(message, {})}
+    every = {(number, it.letter, code) for number, (it, _) in TYPES.items() for code, signal in it.signals.items() if signal}
+    same("signals", every - told, set())
 
 
 @test

@@ -96,9 +96,11 @@ impl Listener {
         }
     }
 
-    /// Dates the messages that follow near this time, in ms.
-    pub(crate) fn set_near(&mut self, time: &str) {
+    /// Begins a capture whose messages are dated near this time, in ms. Channels are forgotten, because
+    /// satellites and their channels change.
+    pub(crate) fn begin(&mut self, time: &str) {
         self.near_ms = time.parse::<u64>().unwrap_or(0);
+        self.channels = Channels::new();
     }
 
     /// Prints the cells of the message of a payload.
