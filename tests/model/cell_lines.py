@@ -2,6 +2,7 @@
 
 from __future__ import annotations
 
+import re
 from dataclasses import dataclass, field
 
 from clocks import moment_of
@@ -71,12 +72,10 @@ def cell_lines(text: str) -> str:
         if line.startswith("near "):
             listener = Listener(int(line[5:]))
             continue
-        try:
-            content = bytes.fromhex(line)
-        except ValueError:
+        if not re.fullmatch("([0-9A-Fa-f]{2})*", line):
             lines.append("no hex text")
             continue
-        lines += [line for frame in frames_of(content) for line in listener.lines(frame.payload)]
+        lines += [it for frame in frames_of(bytes.fromhex(line)) for it in listener.lines(frame.payload)]
     return "".join(f"{line}\n" for line in lines)
 
 
