@@ -17,6 +17,7 @@ from .words import Codes, Time, Value, code_word, gps_word, option_words, presen
 from .writing import Written, output_of
 
 SPAN = re.compile(r" from (\S{19}) until (\S{19}) by (\S+(?: of station \d+)?)(?: \(or (.*)\))?", re.ASCII)
+BY_HAND = " the same by hand:"
 
 
 @dataclass(frozen=True)
@@ -159,7 +160,7 @@ def found_of(lines: Sequence[str], notes: Tuple[str, ...]) -> Found:
     match = SPAN.fullmatch(lines[0])
     if match is None:
         raise FormError(1, f"{lines[0]!r} has no first and last epoch")
-    commands = list(lines[1:])
+    commands = [line for line in lines[1:] if line != BY_HAND]
     label = commands.pop() if commands and commands[-1].startswith("rtcm2rinex label ") else None
     others = tuple(match[4].split(", ")) if match[4] else ()
     first, last = (datetime.fromisoformat(it) for it in (match[1], match[2]))

@@ -16,7 +16,7 @@ unfinished() { ls | grep '^file' >>err; rm -f file*; }
 while IFS='|' read -r want words lines <&3; do
     eval "auto -o file.rnx $words"
     unfinished
-    # pins: words_and_name, look_text, count_line_of, unread_line, unread_gps, unread_glonass_to_sbas, unread_qzss_to_navic, all_unread, observed_line, number_and_station, date_message_text, is_told_later
+    # pins: words_and_name, look_text, count_line_of, unread_line, unread_gps, unread_glonass_to_sbas, unread_qzss_to_navic, all_unread, station_line, epochs_text, epochs_heard, number_and_station, date_message_text, is_told_later
     expect "refused_$(echo "$words" | tr ' ' _)" "$want" '' "rtcm2rinex: $(printf '%b' "$lines")"
 done 3<<'ROWS'
 1|nowhere|cannot open nowhere
@@ -33,37 +33,39 @@ done 3<<'ROWS'
 2|one linked|linked is named twice
 2|other_name later one|one is named twice
 2|"a b" "./a b"|'./a b' is named twice
-2|--near 2024-05-17 one|bad --near
-2|--near 2024-05-17T12:00:00Z one|bad --near
-2|--near "2024/05/17 12:00:00" one|bad --near
-2|--near 1980-01-12T23:59:59 one|bad --near
+2|--near 2024-05-17 one|bad --near\n --near takes YYYY-MM-DDTHH:MM:SS (GPS), from 1980-01-13T00:00:00 to 2099-12-31T23:59:59
+2|--near 2024-05-17T12:00:00Z one|bad --near\n --near takes YYYY-MM-DDTHH:MM:SS (GPS), from 1980-01-13T00:00:00 to 2099-12-31T23:59:59
+2|--near "2024/05/17 12:00:00" one|bad --near\n --near takes YYYY-MM-DDTHH:MM:SS (GPS), from 1980-01-13T00:00:00 to 2099-12-31T23:59:59
+2|--near 1980-01-12T23:59:59 one|bad --near\n --near takes YYYY-MM-DDTHH:MM:SS (GPS), from 1980-01-13T00:00:00 to 2099-12-31T23:59:59
 2|--codes C1C,C2W one|bad --codes
 2|--codes 1c,2w one|bad --codes
 2|--codes "1C, 2W" one|bad --codes
 2|--marker ZÜRICH one|bad --marker
 3|one.gz|the captures have no frame of RTCM 3\n one.gz looks like gzip
 3|zip one.rnx text nmea empty|the captures have no frame of RTCM 3\n zip looks like zip\n one.rnx looks like RINEX\n text looks like hex-text\n nmea looks like NMEA\n empty is empty
-3|one one.gz empty stations|several stations have GPS observations; choose one by --station\n station 7\n station 2003
+3|one one.gz empty stations|several stations have GPS observations; choose one by --station\n station 7 in stations: 1 epochs\n station 2003 in one: 2 epochs\n station 2003 in stations: 2 epochs
 3|one one.gz "a b" empty|captures have nothing of station 2003; --skip-empty leaves them out\n one.gz looks like gzip\n empty is empty
 3|unread|the captures have no GPS observations that are read\n untaken GPS 1001 1\n untaken GPS 1003 12\n untaken GPS 1072 1\n untaken GLONASS 1009 1\n untaken GLONASS 1012 1\n untaken GLONASS 1081 1\n untaken GLONASS 1087 1\n untaken Galileo 1091 1\n untaken Galileo 1097 1\n untaken SBAS 1101 1\n untaken SBAS 1107 1\n untaken QZSS 1111 1\n untaken QZSS 1117 1\n untaken BeiDou 1121 1\n untaken BeiDou 1127 1\n untaken NavIC 1131 1\n untaken NavIC 1137 1
-3|reserved|the captures have no GPS observations that are read
-3|no_value position|the captures have no GPS observations that are read
-3|--station 7 one|station 7 has no GPS observations that are read\n station 2003
-3|--station 7 foreign|station 7 has no GPS observations that are read\n station 2003
+3|reserved|the captures have no GPS observations that are read\n holds 1080 1\n holds 1088 1\n holds 1089 1\n holds 1090 1\n holds 1098 1\n holds 1099 1\n holds 1100 1\n holds 1108 1\n holds 1109 1\n holds 1110 1\n holds 1118 1\n holds 1119 1\n holds 1120 1\n holds 1128 1\n holds 1129 1\n holds 1130 1\n holds 1138 1
+3|no_value position|the captures have no GPS observations that are read\n holds 1004 1\n holds 1005 1\n holds 1013 1
+3|--station 7 one|station 7 has no GPS observations that are read\n station 2003 in one: 2 epochs
+3|--station 7 foreign|station 7 has no GPS observations that are read\n station 2003 in foreign: 2 epochs
 3|differ|the captures tell dates that differ; choose one by --near\n 2024-05-17T12:00:00 by 1013 of station 2003 in differ\n 2024-05-10T12:00:00 by 1013 of station 2003 in differ
 3|weeks|the captures tell dates that differ; choose one by --near\n 2024-05-17T12:00:00 by 1019 in weeks\n 2024-05-10T12:00:00 by 1019 in weeks
 3|last_week one|the captures tell dates that differ; choose one by --near\n 2024-05-10T12:00:02 by 1019 in last_week\n 2024-05-17T12:00:00 by 1013 of station 2003 in one
-3|one half_week|the captures are longer than half a week; convert them in parts
+3|one half_week|the captures are longer than half a week; convert them in parts\n 2024-05-17T12:00:00 until 2024-05-17T12:00:01 in one: 2 epochs\n 2024-05-21T00:00:00 until 2024-05-21T00:00:00 in half_week: 1 epochs
 3|one over_half_week|the captures tell dates that differ; choose one by --near\n 2024-05-17T12:00:00 by 1013 of station 2003 in one\n 2024-05-21T00:00:01 by 1019 in over_half_week
-3|undated|the captures tell no date; give one, as in --near 2024-05-17T12:00:00
-3|passed_over|the captures tell no date; give one, as in --near 2024-05-17T12:00:00
-3|one next_week|the captures are longer than half a week; convert them in parts
+3|undated|the captures tell no date; give one, as in --near GPS-TIME-WITHIN-HALF-A-WEEK
+3|passed_over|the captures tell no date; give one, as in --near GPS-TIME-WITHIN-HALF-A-WEEK
+3|one next_week|the captures are longer than half a week; convert them in parts\n 2024-05-17T12:00:00 until 2024-05-17T12:00:01 in one: 2 epochs\n 2024-05-26T23:59:50 until 2024-05-26T23:59:50 in next_week: 1 epochs
 3|--codes 5X --msm 7 --near 2099-12-31T23:59:59 --skip-empty empty nmea|the captures have no frame of RTCM 3\n empty is empty\n nmea looks like NMEA
 3|same.*|more than 16 captures are of the same time, and 16 links are taken\n same.00\n same.01\n same.02\n same.03\n same.04\n same.05\n same.06\n same.07\n same.08\n same.09\n same.10\n same.11\n same.12\n same.13\n same.14\n same.15\n same.16
 3|here.0 here.2|the station stands at positions that differ; --links-as-given takes them for one\n position 1114104.5999 -4850729.7108 3975521.4643 in here.0\n position 1114204.6000 -4850729.7108 3975521.4643 in here.2
 3|far_and_later here.1 here.0|the station stands at positions that differ; --links-as-given takes them for one\n position 1114204.6000 -4850729.7108 3975521.4643 in far_and_later\n position 1114104.5999 -4850729.7108 3975521.4643 in here.0
 3|here.0 far|the station stands at positions that differ; --links-as-given takes them for one\n position 1114104.5999 -4850729.7108 3975521.4643 in here.0\n position 1114204.6000 -4850729.7108 3975521.4643 in far
 ROWS
+run auto --made 2024-06-01 one; expect form_of_made 2 '' 'rtcm2rinex: bad --made
+ --made takes YYYY-MM-DDTHH:MM:SS (UTC), from 1980-01-06T00:00:00 to 2100-12-31T23:59:59'
 auto -o '' one; expect an_output_without_a_name 2 '' "$(error "a value is required for '--output <FILE>' but none was supplied")"
 auto -o folder one; expect an_output_that_is_a_folder 1 '' 'rtcm2rinex: folder is there, and -f would replace it'
 auto -f -o folder one; expect an_output_that_is_a_folder_and_force 1 '' 'rtcm2rinex: folder is no regular file'
@@ -88,7 +90,7 @@ done
 no_position=' no-position: no 1005 or 1006 came, and the header has zeros'
 position=$no_position
 says() {
-    printf ' from %s\n%s\n' "$1" "$2"
+    printf ' from %s\n the same by hand:\n%s\n' "$1" "$2"
     report $3
     [ ! "$position" ] || echo "$position"
     shift 3
@@ -310,7 +312,7 @@ auto -o new one; leaves beside_another_run 0 /dev/null one.err; same its_file ne
 auto -o nowhere/file one.gz; expect no_folder 1 '' 'rtcm2rinex: cannot write beside nowhere/file'
 auto -o 'no where/file' one; expect a_folder_with_a_blank 1 '' "rtcm2rinex: cannot write beside 'no where/file'"
 echo old >'a file'; auto -o 'a file' one; expect a_file_with_a_blank 1 '' "rtcm2rinex: 'a file' is there, and -f would replace it"
-head -n 2 one.err >lines
+head -n 3 one.err >lines
 # A full disk: nothing is left of FILE, and a FILE that is there stays. Without a reader of standard error FILE is written.
 install
 { cat lines; echo 'rtcm2rinex: write failed'; } >want

@@ -339,6 +339,7 @@ fn work_of<'a>(
 ) -> Result<Work<'a>, AllocError> {
     let links = names_of_links(alloc, plan.links.as_slice(), captures.names)?;
     put_span(lines, &plan.span)?;
+    lines.extend_from_slice(b" the same by hand:\n")?;
     put_command(lines, &plan.setup, links.as_slice())?;
     let (station, near) = (plan.setup.station(), plan.setup.near());
     let told = equipment_in_captures(alloc, captures.surveys, station, near)?;
