@@ -279,6 +279,11 @@ def with_dates(rng: Random, setup: Setup, text: bytes) -> bytes:
     return b"".join(pieces)
 
 
+def distinct(told: list[finding.Told]) -> list[finding.Told]:
+    """The first message that tells each first epoch, of the first 16 that differ."""
+    return list({it.first: it for it in told[::-1]}[first] for first in dict.fromkeys(it.first for it in told))[:16]
+
+
 SYSTEMS = {108: "GLONASS", 109: "Galileo", 110: "SBAS", 111: "QZSS", 112: "BeiDou", 113: "NavIC"}
 
 
@@ -310,11 +315,13 @@ def auto_text(found: Found, said: Setup, due: Conversion, texts: list[bytes], is
     captures = {at: finding.Capture.of(texts[at]) for at in kept}
     if not any(it.point(said.station) for it in captures.values()):
         lines.append(" no-position: no 1005 or 1006 came, and the header has zeros")
-    if not is_told:
-        told = {at: finding.counting(finding.tellings(said.made, it, said.station), said.station)[:1] for at, it in captures.items()}
+    told = {at: distinct(finding.counting(finding.tellings(said.made, it, said.station), said.station)) for at, it in captures.items()}
+    if is_told:
+        lines += [f" undated link{at + 1}: dated near the others" for (at, of), epochs in zip(told.items(), found.epochs) if epochs and not of]
+    else:
         others = [(at, it) for (at, of), epochs in zip(told.items(), found.epochs) for it in of if it.first != epochs[0]]
         lines += [f" other-date {civil(it.first):%Y-%m-%dT%H:%M:%S} by {it.fields['number']}"
-                  + (f" of station {it.fields['station']}" if "station" in it.fields else "") + f" in link{at + 1}" for at, it in others[:1]]
+                  + (f" of station {it.fields['station']}" if "station" in it.fields else "") + f" in link{at + 1}" for at, it in others]
     lines += [f" few-phases {code}: its satellites have more than twice as many in another code" for code in found.few]
     lines += [f" late {counts['late']}: messages after {said.window} newer epochs are left out"] * (counts["late"] != "0")
     looks = {at: look_of(texts[at]) for at in found.skipped if not frames_of(texts[at])}

@@ -163,8 +163,15 @@ finds '--near 2024-06-18T12:00:00 one' "2024-06-21T12:00:00 until 2024-06-21T12:
     ' other-date 2024-05-17T12:00:00 by 1013 of station 2003 in one'
 finds '--near 2024-05-11T12:00:00 differ' "2024-05-10T12:00:00 until 2024-05-10T12:00:01 by --near" "$(command 2024-05-10T12:00:00) differ" '5 3 0 0 2 0 0 0 2' 0 '' \
     ' other-date 2024-05-17T12:00:00 by 1013 of station 2003 in differ'
+finds '--near 2024-05-17T12:00:00 differ' "$two --near" "$one_command differ" '5 3 0 0 2 0 0 0 2' 0 one.rnx \
+    ' other-date 2024-05-10T12:00:00 by 1013 of station 2003 in differ'
+finds '--near 2024-06-18T12:00:00 differ' "2024-06-21T12:00:00 until 2024-06-21T12:00:01 by --near" "$(command 2024-06-21T12:00:00) differ" '5 3 0 0 2 0 0 0 2' 0 '' \
+    ' other-date 2024-05-17T12:00:00 by 1013 of station 2003 in differ\n other-date 2024-05-10T12:00:00 by 1013 of station 2003 in differ'
+# With --near all captures are dated by it, and none is undated.
+finds '--near 2024-05-17T12:00:00 later one' "$noon until 2024-05-17T12:00:03 by --near" "cat one later | $one_command stdin" '5 1 0 0 4 0 0 0 4' 0 ''
 # pins: joined_bytes, cat_words, one_link_text, no_position_line
-finds 'later one' "$noon until 2024-05-17T12:00:03 by 1013" "cat one later | $one_command stdin" '5 1 0 0 4 0 0 0 4' 0 ''
+# pins: undated_line
+finds 'later one' "$noon until 2024-05-17T12:00:03 by 1013" "cat one later | $one_command stdin" '5 1 0 0 4 0 0 0 4' 0 '' ' undated later: dated near the others'
 position=
 finds 'one position' "$two 1013" "cat position one | $one_command stdin" '4 1 0 0 3 0 0 0 2' 0 '' ' no-epoch position'
 # a capture that begins with another station, before the one that tells which station is converted

@@ -25,6 +25,11 @@ abbrev pub name_line : List ℕ → List ℕ → List ℕ
 name_line words name = words_and_name words name ++ line_end
 
 -- formula
+-- a capture that is dated near the others
+abbrev pub undated_line : List ℕ → List ℕ
+undated_line name = words_and_name (codes " undated ") name ++ codes ": dated near the others\n"
+
+-- formula
 -- what a capture without a frame looks like
 abbrev pub look_text : Option Look → List ℕ
 look_text None = []

@@ -42,6 +42,14 @@ pub(crate) fn put_name_line(lines: &mut Vec<u8>, words: &[u8], name: &str) -> Re
     end_line(lines)
 }
 
+/// Appends the line of a capture that is dated near the others.
+pub(crate) fn put_undated_line(lines: &mut Vec<u8>, name: &str) -> Result<(), AllocError>
+    ensures { OnOk result (lines.new.items ≡ lines.old.items ++ spec.undated_line name.now) }
+{
+    put_words_and_name(lines, b" undated ", name)?;
+    lines.extend_from_slice(b": dated near the others\n")
+}
+
 // What a capture without a frame looks like.
 fn put_look(lines: &mut Vec<u8>, look: Option<Look>) -> Result<(), AllocError>
     ensures { OnOk result (lines.new.items ≡ lines.old.items ++ spec.look_text look) }
