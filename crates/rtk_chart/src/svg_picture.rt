@@ -67,7 +67,7 @@ pub(crate) const LEGEND: &[u8] = b"<text y='16'>GPS time</text>\
 <g transform='translate(1040 -2)'><path class='g' d='M0 10H30'/><text x='40' y='18'>epochs missing</text></g>\
 <g transform='translate(0 38)'><path class='l8' d='M0 10H30'/><text x='40' y='18'>phase</text></g>\
 <g transform='translate(250 38)'><path class='l8' d='M0 10H30'/><path class='p' d='M0 10v-6H30v6z'/><text x='40' y='18'>code missing in some epochs</text></g>\
-<g transform='translate(740 38)'><path class='m' d='M0 16v-12H30v12z'/><text x='40' y='18'>in all</text></g>\
+<g transform='translate(800 38)'><path class='m' d='M0 16v-12H30v12z'/><text x='40' y='18'>in all</text></g>\
 <text y='94'>least strength, dB-Hz</text>\
 <path class='l0' d='M310 87h36'/><text x='352' y='94'>none</text>\
 <path class='l1' d='M430 87h36'/><text x='472' y='94'>&lt;12</text>\
