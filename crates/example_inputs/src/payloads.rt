@@ -11,32 +11,32 @@ use std::alloc::Global;
 use std::io;
 
 /// The station of the messages.
-pub(crate) const STATION: u16 = 2003;
+pub const STATION: u16 = 2003;
 
 /// The payload of the station's position, and its frame.
-pub(crate) const POSITION_PAYLOAD: [u8; 19] = [
+pub const POSITION_PAYLOAD: [u8; 19] = [
     0x3E, 0xD7, 0xD3, 0x02, 0x02, 0x98, 0x0E, 0xDE, 0xEF, 0x34, 0xB4, 0xBD, 0x62, 0xAC, 0x09, 0x41,
     0x98, 0x6F, 0x33,
 ];
 
-pub(crate) const POSITION_FRAME: [u8; 25] = [
+pub const POSITION_FRAME: [u8; 25] = [
     0xD3, 0x00, 0x13, 0x3E, 0xD7, 0xD3, 0x02, 0x02, 0x98, 0x0E, 0xDE, 0xEF, 0x34, 0xB4, 0xBD, 0x62,
     0xAC, 0x09, 0x41, 0x98, 0x6F, 0x33, 0x36, 0x0B, 0x98,
 ];
 
 /// The marks of a value that a sender does not give.
-pub(crate) const NO_PHASE_1004: i32 = -524_288;
+pub const NO_PHASE_1004: i32 = -524_288;
 
-pub(crate) const NO_L2_RANGE: i16 = -8_192;
+pub const NO_L2_RANGE: i16 = -8_192;
 
-pub(crate) const NO_ROUGH_RANGE: u8 = 255;
+pub const NO_ROUGH_RANGE: u8 = 255;
 
 /// The mask bits of satellites 5 and 7, and of the signal of code 1C.
-pub(crate) const SATELLITE_5: u64 = 1 << 59;
+pub const SATELLITE_5: u64 = 1 << 59;
 
-pub(crate) const SATELLITE_7: u64 = 1 << 57;
+pub const SATELLITE_7: u64 = 1 << 57;
 
-pub(crate) const SIGNAL_1C: u32 = 1 << 30;
+pub const SIGNAL_1C: u32 = 1 << 30;
 
 // A field of a message: its width in bits, and its value.
 #[derive(Clone, Copy)]
@@ -73,22 +73,22 @@ fn put_all(bits: &mut BitWriter, fields: &[Field]) -> io::Result<()> {
 
 /// What a 1004 says of a satellite, in the order of its fields.
 #[derive(Clone, Copy)]
-pub(crate) struct LegacySatellite {
-    pub(crate) satellite: u8,
-    pub(crate) l1_range: u32,
-    pub(crate) l1_phase_offset: i32,
-    pub(crate) l1_lock_indicator: u8,
-    pub(crate) modulus_ambiguity: u8,
-    pub(crate) l1_cnr: u8,
-    pub(crate) l2_code: u8,
-    pub(crate) l2_range_offset: i16,
-    pub(crate) l2_phase_offset: i32,
-    pub(crate) l2_lock_indicator: u8,
-    pub(crate) l2_cnr: u8,
+pub struct LegacySatellite {
+    pub satellite: u8,
+    pub l1_range: u32,
+    pub l1_phase_offset: i32,
+    pub l1_lock_indicator: u8,
+    pub modulus_ambiguity: u8,
+    pub l1_cnr: u8,
+    pub l2_code: u8,
+    pub l2_range_offset: i16,
+    pub l2_phase_offset: i32,
+    pub l2_lock_indicator: u8,
+    pub l2_cnr: u8,
 }
 
 /// Satellite 5, with codes 1C and 2W.
-pub(crate) const LEGACY_5: LegacySatellite = LegacySatellite {
+pub const LEGACY_5: LegacySatellite = LegacySatellite {
     satellite: 5,
     l1_range: 5_000_000,
     l1_phase_offset: 0,
@@ -123,7 +123,7 @@ fn put_satellite(bits: &mut BitWriter, satellite: &LegacySatellite) -> io::Resul
 }
 
 /// The payload of a 1004 with this smoothing interval.
-pub(crate) fn smoothed_payload(
+pub fn smoothed_payload(
     alloc: Global,
     tow: u32,
     smoothing: u8,
@@ -149,7 +149,7 @@ pub(crate) fn smoothed_payload(
 }
 
 /// The payload of a 1004 without smoothing.
-pub(crate) fn legacy_payload(
+pub fn legacy_payload(
     alloc: Global,
     tow: u32,
     satellites: &[LegacySatellite],
@@ -158,50 +158,50 @@ pub(crate) fn legacy_payload(
 }
 
 /// The payload of the 1004 of satellite 5.
-pub(crate) fn observation_payload(alloc: Global, tow: u32) -> io::Result<Vec<u8>> {
+pub fn observation_payload(alloc: Global, tow: u32) -> io::Result<Vec<u8>> {
     legacy_payload(alloc, tow, &[LEGACY_5])
 }
 
 /// What a 1074 says of a satellite: whole ms of the rough range, and 2^-10 ms.
 #[derive(Clone, Copy)]
-pub(crate) struct MsmSatellite {
-    pub(crate) whole: u8,
-    pub(crate) fraction: u16,
+pub struct MsmSatellite {
+    pub whole: u8,
+    pub fraction: u16,
 }
 
 /// What a 1074 says of a cell.
 #[derive(Clone, Copy)]
-pub(crate) struct MsmCell {
-    pub(crate) lock_indicator: u8,
-    pub(crate) half: bool,
-    pub(crate) cnr: u8,
+pub struct MsmCell {
+    pub lock_indicator: u8,
+    pub half: bool,
+    pub cnr: u8,
 }
 
 /// A 1074 whose cell mask is set throughout.
 #[derive(Clone, Copy)]
-pub(crate) struct Msm<'a> {
-    pub(crate) tow: u32,
-    pub(crate) satellite_mask: u64,
-    pub(crate) signal_mask: u32,
-    pub(crate) satellites: &'a [MsmSatellite],
-    pub(crate) cells: &'a [MsmCell],
+pub struct Msm<'a> {
+    pub tow: u32,
+    pub satellite_mask: u64,
+    pub signal_mask: u32,
+    pub satellites: &'a [MsmSatellite],
+    pub cells: &'a [MsmCell],
 }
 
 /// A range of 70.5 ms.
-pub(crate) const MSM_SATELLITE: MsmSatellite = MsmSatellite {
+pub const MSM_SATELLITE: MsmSatellite = MsmSatellite {
     whole: 70,
     fraction: 512,
 };
 
 /// A cell without a strength and without a lock time.
-pub(crate) const MSM_CELL: MsmCell = MsmCell {
+pub const MSM_CELL: MsmCell = MsmCell {
     lock_indicator: 0,
     half: false,
     cnr: 0,
 };
 
 /// Code 1C of satellite 5 at noon.
-pub(crate) const MSM_5: Msm<'static> = Msm {
+pub const MSM_5: Msm<'static> = Msm {
     tow: NOON_TOW,
     satellite_mask: SATELLITE_5,
     signal_mask: SIGNAL_1C,
@@ -210,7 +210,7 @@ pub(crate) const MSM_5: Msm<'static> = Msm {
 };
 
 /// The payload of a 1074.
-pub(crate) fn msm_payload(alloc: Global, message: &Msm) -> io::Result<Vec<u8>> {
+pub fn msm_payload(alloc: Global, message: &Msm) -> io::Result<Vec<u8>> {
     let mut bits = BitWriter::new(alloc);
     put_all(
         &mut bits,
@@ -274,21 +274,21 @@ fn put_cells(bits: &mut BitWriter, cells: &[MsmCell]) -> io::Result<()> {
 /// What differs between the positions: the station, the year of its coordinates, and the height of its antenna
 /// in 0.0001 m, which only a 1006 has.
 #[derive(Clone, Copy)]
-pub(crate) struct Arp {
-    pub(crate) station: u16,
-    pub(crate) itrf_year: u8,
-    pub(crate) height: Option<u16>,
+pub struct Arp {
+    pub station: u16,
+    pub itrf_year: u8,
+    pub height: Option<u16>,
 }
 
 /// The position whose payload is `POSITION_PAYLOAD`.
-pub(crate) const POSITION: Arp = Arp {
+pub const POSITION: Arp = Arp {
     station: STATION,
     itrf_year: 0,
     height: None,
 };
 
 /// The payload of a 1005, or of a 1006 if there is a height.
-pub(crate) fn arp_payload(alloc: Global, position: Arp) -> io::Result<Vec<u8>> {
+pub fn arp_payload(alloc: Global, position: Arp) -> io::Result<Vec<u8>> {
     let number = if position.height.is_some() {
         1006
     } else {
@@ -320,7 +320,7 @@ pub(crate) fn arp_payload(alloc: Global, position: Arp) -> io::Result<Vec<u8>> {
 }
 
 /// The frame of a payload.
-pub(crate) fn frame_of(alloc: Global, payload: &[u8]) -> io::Result<Vec<u8>> {
+pub fn frame_of(alloc: Global, payload: &[u8]) -> io::Result<Vec<u8>> {
     match encode_frame(alloc, payload) {
         Ok(frame) => Ok(frame),
         Err(_) => Err(io::Error::other("no frame")),
@@ -328,7 +328,7 @@ pub(crate) fn frame_of(alloc: Global, payload: &[u8]) -> io::Result<Vec<u8>> {
 }
 
 /// The message of a payload.
-pub(crate) fn message_of(payload: &[u8]) -> io::Result<Message>
+pub fn message_of(payload: &[u8]) -> io::Result<Message>
     ensures { IfOk result IsValid }
 {
     match decode(payload) {

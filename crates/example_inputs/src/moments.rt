@@ -4,7 +4,7 @@ use rtk_obs::{Civil, GpsMs, civil, date, of_civil};
 use std::{fmt, io};
 
 /// Noon of that day as time of week.
-pub(crate) const NOON_TOW: u32 = 475_200_000;
+pub const NOON_TOW: u32 = 475_200_000;
 
 const LAST_TOW: u32 = 604_799_999;
 
@@ -14,7 +14,7 @@ const FIRST_REFERENCE_MS: u64 = 604_800_000;
 const LAST_REFERENCE_MS: u64 = 3_786_479_999_999;
 
 /// A full hour of the day, and some milliseconds.
-pub(crate) fn on_the_day(hour: u8, millisecond: u16) -> io::Result<GpsMs> {
+pub fn on_the_day(hour: u8, millisecond: u16) -> io::Result<GpsMs> {
     of_civil(Civil {
         year: 2024,
         month: 5,
@@ -28,12 +28,12 @@ pub(crate) fn on_the_day(hour: u8, millisecond: u16) -> io::Result<GpsMs> {
 }
 
 /// The reference of all dates.
-pub(crate) fn noon() -> io::Result<GpsMs> {
+pub fn noon() -> io::Result<GpsMs> {
     on_the_day(12, 0)
 }
 
 /// A moment after the references that `date` takes.
-pub(crate) fn new_year_2100() -> io::Result<GpsMs> {
+pub fn new_year_2100() -> io::Result<GpsMs> {
     of_civil(Civil {
         year: 2100,
         month: 1,
@@ -47,7 +47,7 @@ pub(crate) fn new_year_2100() -> io::Result<GpsMs> {
 }
 
 /// The moment with this time of week that is nearest to noon.
-pub(crate) fn near_noon(tow: u32) -> io::Result<GpsMs> {
+pub fn near_noon(tow: u32) -> io::Result<GpsMs> {
     let near = noon()?;
     let ms = near.ms();
     if tow > LAST_TOW || ms < FIRST_REFERENCE_MS || ms > LAST_REFERENCE_MS {
@@ -58,7 +58,7 @@ pub(crate) fn near_noon(tow: u32) -> io::Result<GpsMs> {
 
 /// Prints a moment as its date and time of day.
 #[derive(Clone, Copy)]
-pub(crate) struct Shown(pub(crate) GpsMs);
+pub struct Shown(pub GpsMs);
 
 impl fmt::Display for Shown {
     fn fmt<W: fmt::Write>(&self, f: &mut fmt::Formatter<W>) -> fmt::Result {

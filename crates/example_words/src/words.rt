@@ -1,6 +1,6 @@
 //! The call that reads the words of a command.
 
-use crate::runs;
+use example_inputs::conversion;
 use rtk_cli::{Job, WordsFault, job};
 use rtk_convert::Setup;
 use std::alloc::Global;
@@ -17,7 +17,7 @@ fn print_asked_conversion(
     for link in links {
         println!(rt; "  {link}")?;
     }
-    runs::print_example(rt, setup)
+    conversion::print_example(rt, setup)
 }
 
 // Prints what the words ask for.

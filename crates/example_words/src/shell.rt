@@ -1,8 +1,8 @@
 //! The calls that show a capture and check a file.
 
-use crate::moments::NOON_TOW;
-use crate::payloads::{self, Arp, MSM_5, POSITION, POSITION_FRAME, POSITION_PAYLOAD};
-use crate::{converter, example};
+use example_inputs::moments::NOON_TOW;
+use example_inputs::payloads::{self, Arp, MSM_5, POSITION, POSITION_FRAME, POSITION_PAYLOAD};
+use example_inputs::{conversion, example};
 use rtk_cli::{ToolFault, check_file, show, show_line};
 use rtk_frame::{After, MemSink, MemSource};
 use std::alloc::Global;
@@ -45,7 +45,7 @@ fn fault_name(fault: &ToolFault) -> &'static str {
 }
 
 fn print_output(rt: &HostRuntime, out: &MemSink) -> io::Result<()> {
-    converter::print_lines(rt, out.bytes())
+    conversion::print_lines(rt, out.bytes())
 }
 
 fn print_show(

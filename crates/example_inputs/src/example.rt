@@ -37,13 +37,13 @@ const HEADER: [(&str, &str); 14] = [
 ];
 
 /// The record of the example file.
-pub(crate) const RECORD: &str = "\
+pub const RECORD: &str = "\
 > 2024 05 17 12 00  0.0000000  0  1
 G05  21085472.060 7 110804903.547 7        45.000    21085474.060 5  86341483.283 5        35.000
 ";
 
 /// The header of the example file.
-pub(crate) fn header(alloc: Global) -> io::Result<String> {
+pub fn header(alloc: Global) -> io::Result<String> {
     let mut text = String::new(alloc);
     for (fields, label) in HEADER {
         text.push_str(&format!(in alloc; "{fields:<60}{label:<20}\n")?)?;
@@ -52,14 +52,14 @@ pub(crate) fn header(alloc: Global) -> io::Result<String> {
 }
 
 /// The example file.
-pub(crate) fn file(alloc: Global) -> io::Result<String> {
+pub fn file(alloc: Global) -> io::Result<String> {
     let mut text = header(alloc)?;
     text.push_str(RECORD)?;
     Ok(text)
 }
 
 /// The text with the first place of `from` turned into `to`.
-pub(crate) fn replaced(alloc: Global, text: &str, from: &str, to: &str) -> io::Result<String> {
+pub fn replaced(alloc: Global, text: &str, from: &str, to: &str) -> io::Result<String> {
     match text.split_once(from) {
         Some((before, after)) => Ok(format!(in alloc; "{before}{to}{after}")?),
         None => Err(io::Error::other("nothing to replace")),
