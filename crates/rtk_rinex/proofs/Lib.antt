@@ -39,6 +39,8 @@ mod KeptLemmas
 mod MixedListLemmas
 mod MixedRoomLemmas
 mod GpsHeaderLemmas
+mod GpsRecordLemmas
+mod MixedRecordLemmas
 mod TextPartLemmas
 mod TypesPieceLemmas
 mod SlotsPieceLemmas

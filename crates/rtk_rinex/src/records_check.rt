@@ -11,7 +11,7 @@ ghost use Rattle.std.specs.Int.{IsInRange};
 ghost use Rattle.std.specs.Prelude.{◌≡◌, ◌≢◌, ℕ, ◌+◌, ◌-◌, ◌*◌, ◌<◌, ◌≤◌, ◌++◌, [], ◌∷◌, length, take, slice_get, Option, Some, IsTrue, ◌↔◌, IfOk, IfErr, MatchOption, ◌^◌, List, flat_map, None};
 
 use crate::check_fault::{Cause, CheckFault};
-use crate::columns::CODE_COLUMNS;
+use crate::columns::{CODE_COLUMNS, GPS_SATELLITES};
 use crate::digits::number_of_digits;
 use crate::epoch_line_check::{EpochStamp, read_epoch_line};
 use crate::header_check::line_end;
@@ -35,7 +35,7 @@ fn check_epoch_line(line: &[u8], first: GpsMs, last: Option<GpsMs>) -> Result<Ep
     ensures line { IfOk result (λ s. IsEpochLine line.now s.time s.count × IsNextTime first last s.time) }
     ensures fault { IfErr result (IsEpochFault first last line.now) }
 {
-    let Some(stamp) = read_epoch_line(line) else {
+    let Some(stamp) = read_epoch_line(line, GPS_SATELLITES) else {
         return Err(Cause::Columns);
     };
     if !is_next_time(first, last, stamp.time) {
