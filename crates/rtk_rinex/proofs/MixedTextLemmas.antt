@@ -15,7 +15,7 @@ use Rattle.rtk_rinex.specs.MixedHead.{MixedHeadView, IsMixedHead}
 use Rattle.rtk_rinex.specs.MixedHeader.{mixed_header_text}
 use Rattle.rtk_rinex.specs.MixedHeaderFault.{BeginsWithMixedHeader, IsOnlyMixedHeader}
 use Rattle.rtk_rinex.specs.MixedRecord.{mixed_satellite_line, mixed_record_text}
-use Rattle.rtk_rinex.specs.MixedForm.{FormView, form_of}
+use Rattle.rtk_rinex.specs.MixedForm.{FormView, form_of_head}
 use Rattle.rtk_rinex.specs.MixedTable.{MixedTable, IsMixedTable, IsMixedEpoch, IsMixedRow, mixed_table_text}
 use Rattle.rtk_rinex.specs.CheckText.{BeginsWithFault, last_satellite, last_time}
 use Rattle.rtk_rinex.specs.MixedCheckText.{IsFaultAfterMixedEpochLine, IsFaultOfMixedRecord, IsFaultOfMixedRecords}
@@ -85,10 +85,10 @@ same_list n epochs others h g e =
     goes.list ∙ ap (λ (t : List EpochTableView). epochs ++ t) none ∙ append-nil epochs
 
 pub holds : (bytes rest : List ℕ) (h : MixedHeadView) (s : PositionView) (first records lines : ℕ) → IsMixedHead h → IsPositionView s → IsMoment first
-    → bytes ≡ mixed_header_text h s first ++ rest → IsOnlyMixedHeader bytes h s first → ReadsMixedRecords (form_of h) first records lines rest
+    → bytes ≡ mixed_header_text h s first ++ rest → IsOnlyMixedHeader bytes h s first → ReadsMixedRecords (form_of_head h) first records lines rest
     → HoldsMixedTable bytes records lines
 holds bytes rest h s first records lines heading site moment e only r =
-    let n = form_of h in
+    let n = form_of_head h in
     let all = epochs-all n first None r.epochs r.are_epochs in
     record {
       table = table_from h s first r.epochs;
@@ -174,11 +174,11 @@ no_records n first before text f others r h p s e =
     next-fault n first _ f r.epochs others goes.more r.rest r.next h p s goes.list goes.text
 
 pub records-none : (bytes rest : List ℕ) (h : MixedHeadView) (s : PositionView) (first lines : ℕ) (f : CheckFault) → IsMixedHead h → bytes ≡ mixed_header_text h s first ++ rest
-    → IsOnlyMixedHeader bytes h s first → IsFaultOfMixedRecords (form_of h) first lines rest f → IsWithoutMixedTable bytes
+    → IsOnlyMixedHeader bytes h s first → IsFaultOfMixedRecords (form_of_head h) first lines rest f → IsWithoutMixedTable bytes
 records-none bytes rest h s first lines f heading e only r =
     λ u is same.
     let o = only u.head u.site u.first (flat_map mixed_record_text u.epochs) is.head is.site is.first same in
     let rest_is = epochs-after-header bytes rest h s first u e same o.0 o.1 o.2 in
-    let good : All (IsMixedEpoch (form_of h)) u.epochs = rw o.0 at is.epochs in
+    let good : All (IsMixedEpoch (form_of_head h)) u.epochs = rw o.0 at is.epochs in
     let start : StartsAt first u.epochs = rw o.2 at is.starts in
-    no_records (form_of h) first lines rest f u.epochs r good is.rise start rest_is
+    no_records (form_of_head h) first lines rest f u.epochs r good is.rise start rest_is

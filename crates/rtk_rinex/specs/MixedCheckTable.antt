@@ -8,7 +8,7 @@ use Rattle.rtk_rinex.specs.CheckTable.{TableView}
 use Rattle.rtk_rinex.specs.MixedHead.{MixedHeadView, IsMixedHead}
 use Rattle.rtk_rinex.specs.MixedHeader.{mixed_header_text}
 use Rattle.rtk_rinex.specs.MixedHeaderFault.{IsFaultOfMixedHeader}
-use Rattle.rtk_rinex.specs.MixedForm.{form_of}
+use Rattle.rtk_rinex.specs.MixedForm.{form_of_head}
 use Rattle.rtk_rinex.specs.MixedTable.{MixedTable, IsMixedTable, mixed_table_text}
 use Rattle.rtk_rinex.specs.MixedCheckText.{IsFaultOfMixedRecords}
 use Rattle.rtk_rinex.specs.declared.check_fault.CheckFault.{CheckFault}
@@ -39,7 +39,7 @@ pub record IsFaultAfterMixedHeader (bytes : List ℕ) (fault : CheckFault) : Typ
   pub moment : IsMoment first
   pub text : bytes ≡ mixed_header_text head site first ++ rest
   pub are_lines : AreLines lines (mixed_header_text head site first)
-  pub records : IsFaultOfMixedRecords (form_of head) first lines rest fault
+  pub records : IsFaultOfMixedRecords (form_of_head head) first lines rest fault
 
 -- formula
 -- the first fault of a text

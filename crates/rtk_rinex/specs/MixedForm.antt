@@ -28,7 +28,6 @@ codes_in f Qzss = f.qzss
 codes_in f Sbas = f.sbas
 codes_in f Navic = f.navic
 
--- formula
 -- a system has at most 16 codes
 abbrev pub IsFormView : FormView → Type 0
 IsFormView f = (s : System) → codes_in f s ≤ 16
@@ -70,8 +69,8 @@ most_satellites f =
 
 -- formula
 -- what a head says of the lines
-abbrev pub form_of : MixedHeadView → FormView
-form_of h =
+abbrev pub form_of_head : MixedHeadView → FormView
+form_of_head h =
     record {
       gps = length (codes_of 71 h.listed);
       glonass = length (codes_of 82 h.listed);

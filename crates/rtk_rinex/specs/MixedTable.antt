@@ -9,7 +9,7 @@ use Rattle.rtk_rinex.specs.Table.{IsObserved, StartsAt}
 use Rattle.rtk_rinex.specs.MixedHead.{MixedHeadView, IsMixedHead}
 use Rattle.rtk_rinex.specs.MixedHeader.{mixed_header_text}
 use Rattle.rtk_rinex.specs.MixedRecord.{mixed_record_text}
-use Rattle.rtk_rinex.specs.MixedForm.{FormView, width_at, has_phases, form_of}
+use Rattle.rtk_rinex.specs.MixedForm.{FormView, width_at, has_phases, form_of_head}
 use Rattle.rtk_rinex.specs.declared.epoch_table.Observed.{Observed}
 use Rattle.rtk_rinex.specs.declared.epoch_table.SatelliteRow.{SatelliteRow}
 
@@ -49,7 +49,7 @@ pub record IsMixedTable (t : MixedTable) : Type 0 where
   pub site : IsPositionView t.site
   pub first : IsMoment t.first
   pub starts : StartsAt t.first t.epochs
-  pub epochs : All (IsMixedEpoch (form_of t.head)) t.epochs
+  pub epochs : All (IsMixedEpoch (form_of_head t.head)) t.epochs
   pub rise : AllPairs (λ a b. a.time < b.time) t.epochs
 
 -- the text of a table: its header, then a record for each epoch

@@ -3,7 +3,7 @@
 ghost use Rattle.std.specs.Prelude.{◌≡◌, ◌≤◌, ◌==◌, if◌then◌else◌, length};
 ghost use Rattle.rtk_obs.specs.Carriers.{IsSlot};
 ghost use Rattle.rtk_rinex.specs.MixedHeader.{codes_of};
-ghost use Rattle.rtk_rinex.specs.MixedForm.{width_at, has_channel, has_phases, most_satellites, form_of};
+ghost use Rattle.rtk_rinex.specs.MixedForm.{width_at, has_channel, has_phases, most_satellites, form_of_head};
 
 use crate::glonass_head::Glonass;
 use crate::mixed_head::MixedHead;
@@ -95,7 +95,7 @@ fn has_channel(told: Option<Glonass>, slot: u8) -> bool
 impl RecordForm {
     /// Makes what a head says of the lines.
     pub fn of_head(head: &MixedHead) -> RecordForm
-        ensures { result ≡ form_of head.now }
+        ensures { result ≡ form_of_head head.now }
     {
         RecordForm {
             gps: count_of(b'G', head),
