@@ -64,7 +64,7 @@ fn chart_command<'a>(alloc: Global) -> Result<Command<'a>, AllocError> {
 }
 
 fn quality_command<'a>(alloc: Global) -> Result<Command<'a>, AllocError> {
-    let lines = "Lines for programs, each of which begins with a keyword, in place of the table";
+    let lines = "Lines for programs in place of the table";
     let json = "One JSON object in place of the table";
     Command::new(alloc, "quality")
         .about("Tells the numbers of a file: phases, slips, strengths and passes")
