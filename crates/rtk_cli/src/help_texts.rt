@@ -120,8 +120,8 @@ Exit status:
 What the numbers do not say:
   Nothing of multipath and elevation.
   Slips are the receiver's own marks; nothing is computed from the phases.
-  The percentage is of the passes that the file shows and not of orbits, as that of
-  teqc or Anubis is: a file that lacks half a day may have 100.0.
+  The percentage is of the passes that the file shows. teqc and Anubis take orbits
+  in their place. A file that lacks half a day may have 100.0.
 
 Manual: man rtcm2rinex, or docs/MANUAL.md";
 
