@@ -41,7 +41,7 @@ cat >json <<'END'
 ]}
 END
 # pins: counts_of, passes_of, epochs_in_passes, percent_tenths, mean_hundredths
-# pins: padded, lined_up, column, closed, satellite_mark, numbers_columns, code_row, tracked_row, pass_row, hour_row, codes_heading
+# pins: padded, lined_up, Lists.closed, satellite_mark, numbers_columns, code_row, tracked_row, pass_row, hour_row, codes_heading
 # pins: section_heading, hours_heading, span_part
 quality "$file";              leaves quality_of_a_file 0 "$table" /dev/null
 quality stdin <"$file";       leaves quality_of_standard_input 0 "$table" /dev/null
@@ -178,7 +178,7 @@ band falls from       until                by
    1 2024-05-17 13:00 2024-05-17 14:00    3.00
    2 2024-05-17 12:00 2024-05-17 14:00    5.00
 END
-# pins: hour_row, gap_row, fall_row, gaps_heading, falls_heading, span_part
+# pins: hour_row, gaps_heading, falls_heading, span_part
 same quality_of_three_hours_in_a_table got want
 
 # twelve KIND: 83 records of twelve satellites. G07 slips twice on its codes. G11 has no 2W, and G05 lacks two phases of it. Of the
