@@ -54,7 +54,8 @@ def all_signals(rng: Random) -> list[Message]:
             known = sorted(it for it in system.signals.values() if it is not None)
             other = next(it for it in range(1, 33) if it not in known)
             bits = [1, system.satellites, min(system.satellites + 1, 64)]
-            messages.append(made_message(rng, system, kind, bits[:3 if len(known) < 16 else 2], sorted([*known, other]), NOON))
+            fitting = bits if len(known) < 16 else bits[:2]
+            messages.append(made_message(rng, system, kind, fitting, sorted([*known, other]), NOON))
     return messages
 
 
@@ -69,8 +70,9 @@ def odd_ones(rng: Random) -> list[Message]:
         channels.append(message)
     channels.append(made_message(rng, GLONASS, 6, [10, 20], [2, 9], NOON))
     clocks = []
-    for system, clock in ((GPS, 604_800_000), (BEIDOU, 604_799_999), (GLONASS, glonass_clock(7, 0)), (GLONASS, glonass_clock(0, 86_401_000)),
-            (GLONASS, glonass_clock(6, 86_400_999)), (BEIDOU, 604_800_000)):  # fmt: skip
+    of_glonass = [glonass_clock(*it) for it in ((7, 0), (0, 86_401_000), (6, 86_400_999))]
+    told = [(GPS, 604_800_000), (BEIDOU, 604_799_999), *((GLONASS, it) for it in of_glonass), (BEIDOU, 604_800_000)]
+    for system, clock in told:
         message = made_message(rng, system, 4, [1], [2], NOON)
         message.header["tow"] = clock
         clocks.append(message)

@@ -50,18 +50,22 @@ def with_slot(rng: Random, line: bytes) -> bytes:
     slot = b"R%02d" % rng.choice((0, 1, 8, 20, 26, 27, 28, rng.randrange(100)))
     channel = rng.choice((b"-8", b"-7", b" 6", b" 7", b"+1", b"-0", b" 0", b"6 "))
     word = line[at : at + 7]
-    return line[:at] + rng.choice((slot + word[3:], word[:4] + channel + b" ", b" " * 7, slot + b" " + channel + b" ")) + line[at + 7 :]
+    other = rng.choice((slot + word[3:], word[:4] + channel + b" ", b" " * 7, slot + b" " + channel + b" "))
+    return line[:at] + other + line[at + 7 :]
 
 
 def renamed(rng: Random, line: bytes) -> bytes:
     """A satellite line with another satellite, which may be none."""
-    name = rng.choice((rng.choice(SATELLITES), rng.choice(LETTERS) + f"{rng.randrange(100):02}", "G33", "R28", "E37", "C64", "S19"))
+    any_name = rng.choice(LETTERS) + f"{rng.randrange(100):02}"
+    name = rng.choice((rng.choice(SATELLITES), any_name, "G33", "R28", "E37", "C64", "S19"))
     return name.encode() + line[3:]
 
 
 def of_other_width(rng: Random, line: bytes) -> bytes:
     """A satellite line with the columns of one code more or less, or with a blank at its end."""
-    return rng.choice((line[:-1] + b"         1.000", line[:-1].ljust(51) + b"         1.000", line[:51], line[:-1] + b" ")).rstrip(b"\n") + b"\n"
+    more = b"         1.000"
+    other = rng.choice((line[:-1] + more, line[:-1].ljust(51) + more, line[:51], line[:-1] + b" "))
+    return other.rstrip(b"\n") + b"\n"
 
 
 def recounted(rng: Random, line: bytes) -> bytes:
@@ -86,7 +90,9 @@ def own_changes(line: bytes) -> tuple[Change, ...]:
     """How a line of its kind may be changed."""
     if len(line) == 81 and line[60:80].rstrip() in OF_LABELS:
         return OF_LABELS[line[60:80].rstrip()]
-    return OF_EPOCHS if line.startswith(b"> ") else OF_SATELLITES if line[:1].decode("latin-1") in LETTERS and len(line) > 4 else ()
+    if line.startswith(b"> "):
+        return OF_EPOCHS
+    return OF_SATELLITES if line[:1].decode("latin-1") in LETTERS and len(line) > 4 else ()
 
 
 def other_line(rng: Random, line: bytes) -> bytes:

@@ -15,7 +15,7 @@ import worked_rows as rows
 from cell_lines import cell_lines
 from checker import fault
 from clocks import DAY_MS, LEAP_ROWS, UNKNOWN_DAY, clock_of, glonass_clock, is_clock, moment_of, near_of_span
-from messages import Refusal, _legacy_cell, frames_of
+from messages import Cell, Refusal, _legacy_cell, frames_of
 from mixed_cells import all_cells, cells_of_1012, normal_channel_1012, normal_channels, rolls_of_1012, sbas_of_1004
 from mixed_checker import header_fault, mixed_fault
 from mixed_damages import damaged_mixed
@@ -92,6 +92,26 @@ def cells_of_real_streams() -> None:
         channels = {} if it.channel is None else {int(it.name[1:]): it.channel}
         [(name, code, cell)] = all_cells(message_of_row(row, 15), channels)
         same(f"{it.stream} {it.number}", (name, code, (cell.range, cell.phase, cell.strength)), (it.name, it.code, it.due))
+
+
+@test
+def cells_of_fine_fields() -> None:
+    def cell(rough: tuple[int, int], fine: tuple[int, int], lock: int, cnr: int) -> Cell:
+        row = rows.Row("G05", "1C", 2, 7, None, rough, fine, (lock, 0), cnr, (0, 0, 0), "")
+        [(_, _, cell)] = all_cells(message_of_row(row), {})
+        return cell
+
+    for fine, due in rows.FINE:
+        it = cell((70, 512), fine, 0, 0)
+        same(f"{fine}", (it.range, it.phase, it.strength), (*due, None))
+    rough, due = rows.TIE
+    same("a tie", cell(rough, (0, 0), 0, 0).range, due)
+    it = cell((255, 0), (0, 0), 0, 4)
+    same("no rough range", (it.range, it.phase, it.strength), (None, None, 250))
+    for cnr, due in rows.STRENGTHS:
+        same(f"strength {cnr}", cell((70, 512), (0, 0), 0, cnr).strength, due)
+    for lock, due in rows.LOCK_TIMES:
+        same(f"lock {lock}", cell((70, 512), (0, 0), lock, 0).lock_time, due)
 
 
 def message_1012(entry: Fields) -> Message:
