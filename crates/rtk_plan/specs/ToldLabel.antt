@@ -1,6 +1,6 @@
 -- The label of what messages told of a station (this project's rule): a field is the text that was told last, if it fits.
-use Rattle.std.specs.Prelude.{ℕ, ◌-◌, ◌==◌, Bool, false, not, ◌&&◌, ◌||◌, nat_eq, nat_le, nat_lt, List, [], length, drop, take, get_or, codes, Option, None, Some, if◌then◌else◌}
-use Rattle.std.specs.List.{list_all, prefix_len, starts_with, suffix_len}
+use Rattle.std.specs.Prelude.{ℕ, ◌-◌, ◌==◌, Bool, false, not, ◌&&◌, ◌||◌, nat_eq, nat_le, nat_lt, List, [], ◌∷◌, length, take, get_or, codes, Option, None, Some, if◌then◌else◌}
+use Rattle.std.specs.List.{list_all, starts_with, suffix_len}
 use Rattle.arrayvec.specs.ArrayVec.{ArrayVec}
 use Rattle.rtk_survey.specs.declared.equipment.Equipment.{Equipment}
 use Rattle.rtk_label.specs.Labelled.{LabelView}
@@ -12,7 +12,8 @@ is_blank byte = byte == 32
 -- formula
 -- a text without the blanks at its begin, at its end, and at both
 abbrev pub without_leading : List ℕ → List ℕ
-without_leading text = drop (prefix_len is_blank text) text
+without_leading [] = []
+without_leading (x ∷ xs) = if is_blank x then without_leading xs else x ∷ xs
 
 abbrev pub without_trailing : List ℕ → List ℕ
 without_trailing text = take (length text - suffix_len is_blank text) text

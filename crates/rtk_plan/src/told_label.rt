@@ -1,22 +1,22 @@
 //! The label of what messages told of the station's antenna and receiver.
 
-ghost use Rattle.std.specs.Prelude.{◌≡◌, ◌<◌, ◌≤◌, ◌-◌, List, None, true, false, length, drop, take, get_or, IfOk};
-ghost use Rattle.std.specs.List.{list_all, prefix_len, suffix_len};
+ghost use Rattle.std.specs.Prelude.{◌≡◌, ◌<◌, ◌-◌, List, None, true, false, length, get_or, IfOk};
+ghost use Rattle.std.specs.List.{list_all, suffix_len};
 ghost use Rattle.rtk_plan.specs.ToldLabel as spec;
 
 use crate::wanted::Ways;
 use rtk_label::{Label, LabelParts};
 use rtk_survey::{Equipment, Text};
 
-// How many blanks a text begins with.
-fn leading_blanks(text: &[u8]) -> usize
-    ensures { result ≡ prefix_len spec.is_blank text.now }
+// A text without the blanks at its begin.
+fn without_leading(text: &[u8]) -> &[u8]
+    ensures { result.now ≡ spec.without_leading text.now }
 {
-    let mut count = 0;
-    while count < text.len() && text[count] == b' ' {
-        count += 1;
+    let mut at = 0;
+    while at < text.len() && text[at] == b' ' {
+        at += 1;
     }
-    count
+    &text[at..]
 }
 
 // The place behind the last byte of a text that is no blank.
@@ -28,12 +28,6 @@ fn trailing_place(text: &[u8]) -> usize
         place -= 1;
     }
     place
-}
-
-fn without_leading(text: &[u8]) -> &[u8]
-    ensures { result.now ≡ spec.without_leading text.now }
-{
-    &text[leading_blanks(text)..]
 }
 
 fn without_trailing(text: &[u8]) -> &[u8]

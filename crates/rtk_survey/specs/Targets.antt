@@ -86,14 +86,14 @@ HasTargetPhases p (Some station) ms = HasPhases p (messages_from station ms)
 abbrev pub no_times : EquipmentTimes
 no_times = record { antenna = None; receiver = None }
 
--- the time of week of the last of these epochs
-abbrev pub time_of_last : Option Span → Option ℕ
-time_of_last None = None
-time_of_last (Some s) = Some (last_time_of_week s)
+-- the time of week of the last of these epochs, if they are of the station
+abbrev pub time_of_last : Bool → Option Span → Option ℕ
+time_of_last is_own None = None
+time_of_last is_own (Some s) = if is_own then Some (last_time_of_week s) else None
 
 -- the time of week of a station's last epoch, if it is the station that is known
 abbrev pub time_at : TargetDates → ℕ → Option ℕ
-time_at d station = if unwrap_or d.station station == station then time_of_last d.capture.span else None
+time_at d station = time_of_last (unwrap_or d.station station == station) d.capture.span
 
 -- a message at this time, which tells an antenna, and a receiver or none
 abbrev pub with_message_at : ℕ → Bool → EquipmentTimes → EquipmentTimes
