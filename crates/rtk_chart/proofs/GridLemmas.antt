@@ -457,38 +457,6 @@ abbrev pub out_up_to : Scale → EpochTableView → List EpochTableView → ℕ 
 out_up_to s e es place slot =
     cond (ltb (slot % 32) place) (has_outage s (slot % 32 + 1) (e ∷ es) (slot / 32)) (has_outage s (slot % 32 + 1) es (slot / 32))
 
--- what one satellite more has
-pub out-more : (s : Scale) (e : EpochTableView) (es : List EpochTableView) (i place time : ℕ) (ms : Option ℕ) (os : List Observed) (old new : List Bool)
-    → place ≡ i → time ≡ e.time → os ≡ observed_in (i + 1) e.rows
-    → ms ≡ outage_before s.interval (sightings_of (i + 1) es) (record { time = time; observed = os })
-    → AddsMarks (λ slot. (slot % 32 == place) && is_out_before s ms time (slot / 32)) old new
-    → ((slot : ℕ) → slot < length old → get_or old slot false ≡ out_up_to s e es i slot)
-    → (slot : ℕ) → slot < length old → get_or new slot false ≡ out_up_to s e es (i + 1) slot
-out-more s e es i place time ms os old new at same shown is added so_far slot inside =
-    let c : ℕ = slot / 32 in
-    let ends : Option ℕ = outage_before s.interval (sightings_of (i + 1) es) (sighting_of (i + 1) e) in
-    let exact : ms ≡ ends = is
-        ∙ ap (λ (t : ℕ). outage_before s.interval (sightings_of (i + 1) es) (record { time = t; observed = os })) same
-        ∙ ap (λ (xs : List Observed). outage_before s.interval (sightings_of (i + 1) es) (record { time = e.time; observed = xs })) shown in
-    let was : get_or old slot false ≡ out_up_to s e es i slot = so_far slot inside in
-    added.marked slot inside
-    ∙ ap (λ (p : ℕ). ((slot % 32 == p) && is_out_before s ms time c) || get_or old slot false) at
-    ∙ elim (cases_eq (slot % 32) i) as (λ _. (((slot % 32 == i) && is_out_before s ms time c) || get_or old slot false) ≡ out_up_to s e es (i + 1) slot) [
-      | inl here ↦
-          let last : i ≤ slot % 32 = omega (arith, here) in
-          let below : slot % 32 < i + 1 = omega (arith, here) in
-          ap (λ (b : Bool). (b && is_out_before s ms time c) || get_or old slot false) (eq-eqb (slot % 32) i here)
-          ∙ ap (λ (b : Bool). is_out_before s ms time c || b) (was ∙ ap (λ (b : Bool). cond b (has_outage s (slot % 32 + 1) (e ∷ es) c) (has_outage s (slot % 32 + 1) es c)) (le-ltb (slot % 32) i last))
-          ∙ ap (λ (o : Option ℕ). is_out_before s o time c || has_outage s (slot % 32 + 1) es c) exact
-          ∙ ap (λ (t : ℕ). is_out_before s ends t c || has_outage s (slot % 32 + 1) es c) same
-          ∙ ap (λ (n : ℕ). is_out_before s (outage_before s.interval (sightings_of (n + 1) es) (sighting_of (n + 1) e)) e.time c || has_outage s (slot % 32 + 1) es c) (sym here)
-          ∙ sym (ap (λ (b : Bool). cond b (has_outage s (slot % 32 + 1) (e ∷ es) c) (has_outage s (slot % 32 + 1) es c)) (lt-ltb (slot % 32) (i + 1) below))
-      | inr other ↦
-          ap (λ (b : Bool). (b && is_out_before s ms time c) || get_or old slot false) (ne_eqb (slot % 32) i other)
-          ∙ was
-          ∙ ap (λ (b : Bool). cond b (has_outage s (slot % 32 + 1) (e ∷ es) c) (has_outage s (slot % 32 + 1) es c)) (ltb-other i (slot % 32) other)
-    ]
-
 pub out-none : (s : Scale) (e : EpochTableView) (es : List EpochTableView) (outages : List Bool) → length outages ≡ 32 * s.bins → outages ≡ outages_of s es
     → (slot : ℕ) → slot < length outages → get_or outages slot false ≡ out_up_to s e es 0 slot
 unfolding outages_of
@@ -507,78 +475,6 @@ out-all s e es i outages end size so_far =
     let below : slot % 32 < i = omega (arith, end) in
     so_far slot inside ∙ ap (λ (b : Bool). cond b (has_outage s (slot % 32 + 1) (e ∷ es) (slot / 32)) (has_outage s (slot % 32 + 1) es (slot / 32))) (lt-ltb (slot % 32) i below))
 
--- the bins of one outage
-pub outage-marked : (s : Scale) (place ms t from to : ℕ) (old new : List Bool) → from ≡ bin_at s (t - ms) → to ≡ bin_at s (t - s.unit)
-    → AddsMarks (λ slot. (slot % 32 == place) && (nat_le from (slot / 32) && nat_le (slot / 32) to)) old new
-    → AddsMarks (λ slot. (slot % 32 == place) && is_out_before s (Some ms) t (slot / 32)) old new
-outage-marked s place ms t from to old new first last added = record {
-  size = added.size;
-  marked = λ k lt.
-      added.marked k lt
-      ∙ ap (λ (a : ℕ). ((k % 32 == place) && (nat_le a (k / 32) && nat_le (k / 32) to)) || get_or old k false) first
-      ∙ ap (λ (b : ℕ). ((k % 32 == place) && (nat_le (bin_at s (t - ms)) (k / 32) && nat_le (k / 32) b)) || get_or old k false) last;
-}
-
-and-nothing : (b : Bool) → (b && false) ≡ false
-and-nothing true = refl
-and-nothing false = refl
-
-pub no-outage : (s : Scale) (place t : ℕ) (old : List Bool) → AddsMarks (λ slot. (slot % 32 == place) && is_out_before s None t (slot / 32)) old old
-no-outage s place t old = record {
-  size = refl;
-  marked = λ k lt. sym (ap (λ (b : Bool). b || get_or old k false) (and-nothing (k % 32 == place)));
-}
-
--- a slot after one bin more
-slot-kept : (bin k : ℕ) (test old now : Bool) → now ≡ cond (ltb (k / 32) bin) (test || old) old → (k / 32 ≡ bin → test ≡ false)
-    → now ≡ cond (ltb (k / 32) (bin + 1)) (test || old) old
-slot-kept bin k test old now was none =
-    elim (cases_eq (k / 32) bin) [
-      | inl here ↦
-          let last : bin ≤ k / 32 = omega (arith, here) in
-          let below : k / 32 < bin + 1 = omega (arith, here) in
-          was ∙ ap (λ (b : Bool). cond b (test || old) old) (le-ltb (k / 32) bin last)
-          ∙ sym (ap (λ (b : Bool). cond b (test || old) old) (lt-ltb (k / 32) (bin + 1) below) ∙ ap (λ (b : Bool). b || old) (none here))
-      | inr other ↦ was ∙ ap (λ (b : Bool). cond b (test || old) old) (ltb-other bin (k / 32) other)
-    ]
-
+-- a slot of the satellite at a place, in one of these bins
 abbrev pub in_slots : ℕ → ℕ → ℕ → ℕ → Bool
 in_slots place from to k = (k % 32 == place) && (nat_le from (k / 32) && nat_le (k / 32) to)
-
--- the bin has the mark
-pub slot-set : (place from to bin slot k : ℕ) (old now : List Bool) → place < 32 → slot ≡ 32 * bin + place → slot < length now
-    → (nat_le from bin && nat_le bin to) ≡ true
-    → get_or now k false ≡ cond (ltb (k / 32) bin) (in_slots place from to k || get_or old k false) (get_or old k false)
-    → get_or (set now slot true) k false ≡ cond (ltb (k / 32) (bin + 1)) (in_slots place from to k || get_or old k false) (get_or old k false)
-slot-set place from to bin slot k old now few at inside hit was =
-    elim (cases_eq k slot) [
-      | inl here ↦
-          let where_in : k / 32 ≡ bin = omega (arith, few, at, here) in
-          let which : k % 32 ≡ place = omega (arith, few, at, here) in
-          let below : k / 32 < bin + 1 = omega (arith, where_in) in
-          let held : (nat_le from (k / 32) && nat_le (k / 32) to) ≡ true = ap (λ (c : ℕ). nat_le from c && nat_le c to) where_in ∙ hit in
-          ap (λ (n : ℕ). get_or (set now slot true) n false) here ∙ get_or-set_same now slot true false inside
-          ∙ sym (ap (λ (b : Bool). cond b (in_slots place from to k || get_or old k false) (get_or old k false)) (lt-ltb (k / 32) (bin + 1) below)
-          ∙ ap (λ (b : Bool). (b && (nat_le from (k / 32) && nat_le (k / 32) to)) || get_or old k false) (eq-eqb (k % 32) place which)
-          ∙ ap (λ (b : Bool). b || get_or old k false) held)
-      | inr other ↦
-          get_or-set_other now slot k true false other
-          ∙ slot-kept bin k (in_slots place from to k) (get_or old k false) (get_or now k false) was (λ same.
-          let apart : k % 32 ≢ place = λ which. other (omega (arith, same, which, at)) in
-          ap (λ (b : Bool). b && (nat_le from (k / 32) && nat_le (k / 32) to)) (ne_eqb (k % 32) place apart))
-    ]
-
--- the bin has none
-pub slot-passed : (place from to bin k : ℕ) (old now : List Bool) → (nat_le from bin && nat_le bin to) ≡ false
-    → get_or now k false ≡ cond (ltb (k / 32) bin) (in_slots place from to k || get_or old k false) (get_or old k false)
-    → get_or now k false ≡ cond (ltb (k / 32) (bin + 1)) (in_slots place from to k || get_or old k false) (get_or old k false)
-slot-passed place from to bin k old now out was =
-    slot-kept bin k (in_slots place from to k) (get_or old k false) (get_or now k false) was (λ same.
-    ap (λ (c : ℕ). (k % 32 == place) && (nat_le from c && nat_le c to)) same ∙ ap (λ (b : Bool). (k % 32 == place) && b) out ∙ and-nothing (k % 32 == place))
-
--- all bins were passed
-pub slots-all : (place from to bin k : ℕ) (old now : List Bool) → k / 32 < bin
-    → get_or now k false ≡ cond (ltb (k / 32) bin) (in_slots place from to k || get_or old k false) (get_or old k false)
-    → get_or now k false ≡ (in_slots place from to k || get_or old k false)
-slots-all place from to bin k old now below was =
-    was ∙ ap (λ (b : Bool). cond b (in_slots place from to k || get_or old k false) (get_or old k false)) (lt-ltb (k / 32) bin below)

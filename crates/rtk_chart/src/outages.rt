@@ -21,8 +21,7 @@ fn mark(outages: &mut Vec<bool>, place: usize, from: u64, to: u64)
     ensures { AddsMarks (λ slot. (slot % 32 == place) && (nat_le from (slot / 32) && nat_le (slot / 32) to)) outages.old.items outages.new.items }
 {
     for bin in 0..outages.len() / 32 {
-        let within = from <= bin as u64 && bin as u64 <= to;
-        if within {
+        if from <= bin as u64 && bin as u64 <= to {
             outages[32 * bin + place] = true;
         }
     }
@@ -92,7 +91,8 @@ pub(crate) fn outage_flags(
 ) -> Result<Vec<bool>, AllocError>
     requires place { place < 32 }
     requires few { bins ≤ 1440 }
-    ensures { IfOk result (λ flags. flags.items ≡ outage_flags outages.now bins place) }
+    ensures value { IfOk result (λ flags. flags.items ≡ outage_flags outages.now bins place) }
+    ensures size { IfOk result (λ flags. length flags.items ≡ bins) }
 {
     let mut flags = Vec::new(alloc);
     for bin in 0..bins {

@@ -70,7 +70,13 @@ fn put_outages(
     put_between(&mut begin, b" 4v", high, b"")?;
     let mut end = Vec::new(alloc);
     put_between(&mut end, b"v-", high, b"z")?;
-    put_runs_layer(text, b"o", begin.as_slice(), end.as_slice(), flags.as_slice())?;
+    put_runs_layer(
+        text,
+        b"o",
+        begin.as_slice(),
+        end.as_slice(),
+        flags.as_slice(),
+    )?;
     Ok(())
 }
 

@@ -11,7 +11,8 @@ use crate::never::{never_in_line, put_never};
 use crate::outages::is_out;
 use crate::scale::Scale;
 use crate::signs::{
-    codes_had, has_half, has_return, has_rise, has_slip, is_drawn, is_missing, is_tracked, least_level,
+    codes_had, has_half, has_return, has_rise, has_slip, is_drawn, is_missing, is_tracked,
+    least_level,
 };
 use crate::survey::Survey;
 use crate::text_time::put_time;

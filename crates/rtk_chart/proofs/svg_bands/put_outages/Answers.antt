@@ -14,5 +14,5 @@ returns c =
       c.in_ok-put_between.ensures,
       c.new-end.ensures.items,
       c.new-begin.ensures.items,
-      c.in_ok-flags.ensures,
+      c.in_ok-flags.ensures.value,
     ) refl
