@@ -8,11 +8,11 @@ import sys
 from itertools import chain
 
 import model
+import qualities
 import streams
 import summaries
 from model import COUNTS, Setup, moment
 from pictures import svg_picture, text_picture
-from qualities import quality, quality_in_json
 from station import NOON
 from wire import WEEK_MS, frame_of
 
@@ -165,8 +165,9 @@ def main():
     # More epochs of a pass than 16 bits hold, and a sum of strengths that 32 bits do not hold.
     some = first_records(text, 100_000)
     # refuses: epochs of passes in 16 bits, a sum of strengths in 32
-    test("quality_of_100_000_epochs", ["quality"], some, 0, quality(some.decode()).encode())
-    test("quality_of_100_000_epochs_in_json", ["quality", "--json"], some, 0, quality_in_json(some.decode()).encode())
+    test("quality_of_100_000_epochs", ["quality"], some, 0, qualities.table(some.decode()).encode())
+    test("quality_of_100_000_epochs_in_lines", ["quality", "--lines"], some, 0, qualities.lines(some.decode()).encode())
+    test("quality_of_100_000_epochs_in_json", ["quality", "--json"], some, 0, qualities.in_json(some.decode()).encode())
     # refuses: slips in 16 bits
     test("chart_of_100_000_epochs", ["chart", "--text"], some, 0, text_picture(some.decode(), 80).encode())
     print(passed, failed)

@@ -5,6 +5,7 @@ use rtk_cut::Part;
 use rtk_label::{Label, LabelFault};
 use rtk_message::MsmKind;
 use rtk_plan::{Wanted, Ways};
+use rtk_quality::Form;
 use rtk_rinex::CreationTime;
 use std::alloc::AllocError;
 
@@ -62,11 +63,7 @@ pub enum Job<'a> {
         file: &'a str,
     },
     /// The numbers of a file.
-    Quality {
-        /// They are told as JSON.
-        json: bool,
-        file: &'a str,
-    },
+    Quality { form: Form, file: &'a str },
     /// A part of a file.
     Cut {
         part: Part,

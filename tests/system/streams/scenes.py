@@ -193,7 +193,7 @@ BESIDE_A_FILE = "convert of standard input and a file"
 
 # Each command that takes one file.
 COMMANDS = [("show",), ("show", "--hex"), ("check",), ("summary",), ("chart",), ("chart", "--text"), ("cut", "--every", "1"),
-            ("quality",), ("quality", "--json"), ("label", "--blank")]
+            ("quality",), ("quality", "--lines"), ("quality", "--json"), ("label", "--blank")]
 
 
 def convert(name, *words, given=NOTHING):

@@ -5,7 +5,7 @@ use Rattle.rtk_rinex.specs.Record.{EpochTableView}
 use Rattle.rtk_tracking.specs.Passes.{sightings_of}
 use Rattle.rtk_quality.specs.QualityText.{part_of}
 use Rattle.rtk_quality.specs.Standing.{StandForSatellites, StandForEnded}
-use Rattle.rtk_quality.proofs.sections.put_section.Given as goal
+use Rattle.rtk_quality.proofs.sections.put_parts.Given as goal
 
 abbrev pub invariant-loop-place : goal.invariant-loop-place
 invariant-loop-place l =

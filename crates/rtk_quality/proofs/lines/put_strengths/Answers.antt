@@ -1,5 +1,5 @@
 use Rattle.rtk_quality.proofs.LineLemmas.{strengths-are}
-use Rattle.rtk_quality.proofs.entries.put_strengths.Goals as goal
+use Rattle.rtk_quality.proofs.lines.put_strengths.Goals as goal
 
 pub returns : goal.returns
 returns c =

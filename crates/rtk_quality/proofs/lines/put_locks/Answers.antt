@@ -1,5 +1,5 @@
 use Rattle.rtk_quality.proofs.LineLemmas.{locks-are}
-use Rattle.rtk_quality.proofs.entries.put_locks.Goals as goal
+use Rattle.rtk_quality.proofs.lines.put_locks.Goals as goal
 
 pub returns : goal.returns
 returns c =

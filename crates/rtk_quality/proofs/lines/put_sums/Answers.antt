@@ -1,5 +1,5 @@
 use Rattle.rtk_quality.proofs.LineLemmas.{sums-are}
-use Rattle.rtk_quality.proofs.entries.put_sums.Goals as goal
+use Rattle.rtk_quality.proofs.lines.put_sums.Goals as goal
 
 pub returns : goal.returns
 returns c =

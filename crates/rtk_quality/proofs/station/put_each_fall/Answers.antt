@@ -1,5 +1,5 @@
 use Rattle.rtk_quality.proofs.LineLemmas.{falls-are}
-use Rattle.rtk_quality.proofs.station_lines.put_falls.Goals as goal
+use Rattle.rtk_quality.proofs.station.put_each_fall.Goals as goal
 
 pub returns : goal.returns
 returns c =
