@@ -37,7 +37,7 @@ solid_front x [] k h long = solid_if x k (x == 32) refl long
 solid_front x (y ∷ ys) zero h long = absurd (omega (arith, long))
 solid_front x (y ∷ ys) (suc k) h long = h k (omega (arith, long))
 
-solid : (xs : List ℕ) (k : ℕ) → length (trim_end xs) ≡ suc k → get_or (trim_end xs) k 0 ≢ 32
+pub solid : (xs : List ℕ) (k : ℕ) → length (trim_end xs) ≡ suc k → get_or (trim_end xs) k 0 ≢ 32
 unfolding trim_end
 solid [] k long = absurd (omega (arith, long))
 solid (x ∷ xs) k long = solid_front x (trim_end xs) k (λ j e. solid xs j e) long

@@ -41,6 +41,13 @@ mod MixedRoomLemmas
 mod GpsHeaderLemmas
 mod GpsRecordLemmas
 mod MixedRecordLemmas
+mod SatelliteRangeLemmas
+mod MixedRowLemmas
+mod MixedCountLemmas
+mod MixedCheckLemmas
+mod MixedOneLemmas
+mod MixedFormLemmas
+mod MixedTextLemmas
 mod TextPartLemmas
 mod TypesPieceLemmas
 mod SlotsPieceLemmas

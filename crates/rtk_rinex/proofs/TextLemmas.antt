@@ -41,7 +41,7 @@ line_bytes [] = omega arith
 line_bytes (l ∷ lines) =
     omega (arith, line_bytes lines, length-append (l ++ 10 ∷ []) (flat_map (λ (line : List ℕ). line ++ 10 ∷ []) lines), length-append l (10 ∷ []))
 
-more_bytes : (text : List ℕ) (lines : List (List ℕ)) → get_or text 0 0 ≡ 32 → text ≡ flat_map (λ (line : List ℕ). line ++ 10 ∷ []) lines → length lines < length text
+pub more_bytes : (text : List ℕ) (lines : List (List ℕ)) → get_or text 0 0 ≡ 32 → text ≡ flat_map (λ (line : List ℕ). line ++ 10 ∷ []) lines → length lines < length text
 more_bytes text [] h e = absurd (let none : get_or text 0 0 ≡ 0 = ap (λ (xs : List ℕ). get_or xs 0 0) e in omega (arith, none, h))
 more_bytes text ([] ∷ lines) h e = absurd (let lf : get_or text 0 0 ≡ 10 = ap (λ (xs : List ℕ). get_or xs 0 0) e in omega (arith, lf, h))
 more_bytes text ((x ∷ l) ∷ lines) h e =

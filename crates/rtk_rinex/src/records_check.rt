@@ -18,9 +18,9 @@ use crate::header_check::line_end;
 use crate::satellite_line_check::is_row_line;
 use rtk_obs::GpsMs;
 
-// Returns whether a record at this time may follow the record `last`, or be the first one at the
-// time `first`.
-fn is_next_time(first: GpsMs, last: Option<GpsMs>, time: GpsMs) -> bool
+/// Returns whether a record at this time may follow the record `last`, or be the first one at the
+/// time `first`.
+pub(crate) fn is_next_time(first: GpsMs, last: Option<GpsMs>, time: GpsMs) -> bool
     ensures { IsTrue result ↔ IsNextTime first last time }
 {
     match last {
@@ -77,8 +77,8 @@ pub(crate) fn satellite_of_form(line: &[u8], code_count: usize) -> Option<u8>
     Some(satellite)
 }
 
-// Returns whether the line of this satellite may follow the line of the satellite `last`.
-fn is_next_satellite(last: Option<u8>, satellite: u8) -> bool
+/// Returns whether the line of this satellite may follow the line of the satellite `last`.
+pub(crate) fn is_next_satellite(last: Option<u8>, satellite: u8) -> bool
     ensures { IsTrue result ↔ IsNextSatellite last satellite }
 {
     match last {
