@@ -223,7 +223,8 @@ def span_of(row: Dict[str, Any]) -> Tuple[datetime, datetime]:
 
 def pass_of(row: Dict[str, Any]) -> Pass:
     """A pass of a satellite."""
-    return Pass(row["satellite"], *span_of(row), *sums_of(row))
+    first, last = span_of(row)
+    return Pass(row["satellite"], first, last, *sums_of(row))
 
 
 def hour_of(row: Dict[str, Any]) -> Hour:
