@@ -63,7 +63,10 @@ pub enum Job<'a> {
         file: &'a str,
     },
     /// The numbers of a file.
-    Quality { form: Form, file: &'a str },
+    Quality {
+        form: Form,
+        file: &'a str,
+    },
     /// A part of a file.
     Cut {
         part: Part,
