@@ -245,12 +245,7 @@ fn is_listed(number: u16) -> bool {
 pub(crate) fn put_held(lines: &mut Vec<u8>, surveys: &[CaptureSurvey]) -> Result<(), AllocError> {
     for number in 0..NUMBERS {
         if !is_listed(number) {
-            put_count_line(
-                lines,
-                b" holds ",
-                number,
-                held_in_captures(surveys, number),
-            )?;
+            put_count_line(lines, b" holds ", number, held_in_captures(surveys, number))?;
         }
     }
     Ok(())
