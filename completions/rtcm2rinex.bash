@@ -52,7 +52,7 @@ _rtcm2rinex() {
             arguments='files stdin'
             ;;
         quality)
-            options='--json -h --help'
+            options='--lines --json -h --help'
             arguments='files stdin'
             ;;
         cut)

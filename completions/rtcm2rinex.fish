@@ -49,7 +49,8 @@ complete -c rtcm2rinex -n '__fish_seen_subcommand_from chart' -l text -d 'A pict
 complete -c rtcm2rinex -n '__fish_seen_subcommand_from chart' -l columns -x -d 'How many characters wide it is with --text, 40 to 400; 80 if not given'
 complete -c rtcm2rinex -n '__fish_seen_subcommand_from chart' -s h -l help -d 'Print help (see more with \'--help\')'
 complete -c rtcm2rinex -n '__fish_seen_subcommand_from chart' -F -a stdin
-complete -c rtcm2rinex -n '__fish_seen_subcommand_from quality' -l json -d 'One JSON document in place of lines'
+complete -c rtcm2rinex -n '__fish_seen_subcommand_from quality' -l lines -d 'Lines for programs in place of the table'
+complete -c rtcm2rinex -n '__fish_seen_subcommand_from quality' -l json -d 'One JSON object in place of the table'
 complete -c rtcm2rinex -n '__fish_seen_subcommand_from quality' -s h -l help -d 'Print help (see more with \'--help\')'
 complete -c rtcm2rinex -n '__fish_seen_subcommand_from quality' -F -a stdin
 complete -c rtcm2rinex -n '__fish_seen_subcommand_from cut' -l from -x -d 'The GPS time of the first records that are kept'

@@ -5,7 +5,7 @@ from __future__ import annotations
 import json
 from dataclasses import dataclass
 from datetime import datetime
-from typing import Any, Dict, List, Optional, Tuple
+from typing import Any, Dict, Optional, Tuple
 
 from .faults import FileError, FormError
 from .inputs import Input
@@ -155,16 +155,13 @@ def quality(file: Input, *, program: Optional[Location] = None) -> Quality:
 def read_quality(text: str) -> Quality:
     """Reads the JSON of `quality`."""
     try:
-        first, *rows = json.loads(text)
-        rows_of: Dict[str, List[Any]] = {it: [] for it in ("code", "satellite", "tracked", "never", "pass", "hour", "gap", "fall")}
-        for row in rows:
-            rows_of[row["line"]].append(row)
-        codes, satellite_codes = (tuple(map(code_of, rows_of[it])) for it in ("code", "satellite"))
-        never = tuple((row["satellite"], row["code"]) for row in rows_of["never"])
-        return Quality(**file_of(first), codes=codes, satellite_codes=satellite_codes, never=never,
-            tracked=tuple(map(tracked_of, rows_of["tracked"])), passes=tuple(map(pass_of, rows_of["pass"])),
-            hours=tuple(map(hour_of, rows_of["hour"])), longest_gaps=tuple(map(gap_of, rows_of["gap"])),
-            falls=tuple(map(fall_of, rows_of["fall"])))
+        rows: Dict[str, Any] = json.loads(text)
+        codes, satellite_codes = (tuple(map(code_of, rows[it])) for it in ("codes", "satellites"))
+        never = tuple((row["satellite"], row["code"]) for row in rows["never"])
+        return Quality(**file_of(rows["file"]), codes=codes, satellite_codes=satellite_codes, never=never,
+            tracked=tuple(map(tracked_of, rows["tracked"])), passes=tuple(map(pass_of, rows["passes"])),
+            hours=tuple(map(hour_of, rows["hours"])), longest_gaps=tuple(map(gap_of, rows["gaps"])),
+            falls=tuple(map(fall_of, rows["falls"])))
     except (ValueError, KeyError, TypeError) as fault:
         raise FormError(1, f"the JSON of quality has another form: {fault!r}") from fault
 
@@ -226,7 +223,8 @@ def span_of(row: Dict[str, Any]) -> Tuple[datetime, datetime]:
 
 def pass_of(row: Dict[str, Any]) -> Pass:
     """A pass of a satellite."""
-    return Pass(row["satellite"], *span_of(row), *sums_of(row))
+    first, last = span_of(row)
+    return Pass(row["satellite"], first, last, *sums_of(row))
 
 
 def hour_of(row: Dict[str, Any]) -> Hour:

@@ -12,12 +12,12 @@ from random import Random
 import dated_links
 import model
 import parts
+import qualities
 import station
 import summaries
 from messages import CODES, SIGNALS, frames_of
 from model import Setup, moment
 from pictures import svg_picture
-from qualities import quality, quality_in_json
 from station import NOON
 from wire import MSM_CELL, MSMS, frame_of, payload_of
 
@@ -588,8 +588,9 @@ def long_file():
     text = head + "".join(f"{model.epoch_line(NEAR + 1000 * it, 32)}\n{bodies[it % 15]}" for it in range(450))
     assert len(text) > 10_000_000
     save("long.rnx", text)
-    save("long.numbers", quality(text))
-    save("long.json", quality_in_json(text))
+    save("long.table", qualities.table(text))
+    save("long.numbers", qualities.lines(text))
+    save("long.json", qualities.in_json(text))
     last = text.rindex("\nG32") + 4
     save("zero.rnx", text[:last] + f"{'0.000':>14}" + text[last + 14:])
     save("zero.line", f"line {text.count(chr(10))}: C3 Value\n")

@@ -77,10 +77,12 @@ leaves cut_of_10_mb 0 long.rnx counts
 echo 'records 450 written 225' >counts
 leaves cut_of_10_mb_at_2_seconds 0 long_2s.rnx counts
 "$program" quality long.rnx >out 2>err </dev/null; status=$?
-leaves quality_of_10_mb 0 long.numbers /dev/null
+leaves quality_of_10_mb 0 long.table /dev/null
+"$program" quality --lines long.rnx >out 2>err </dev/null; status=$?
+leaves quality_of_10_mb_in_lines 0 long.numbers /dev/null
 "$program" quality --json long.rnx >out 2>err </dev/null; status=$?
 leaves quality_of_10_mb_in_json 0 long.json /dev/null
-for words in 'cut --every 1' chart 'chart --text' quality 'quality --json'; do
+for words in 'cut --every 1' chart 'chart --text' quality 'quality --lines' 'quality --json'; do
     "$program" $words zero.rnx >out 2>err </dev/null; status=$?
     leaves "$(echo "$words" | tr -cs a-z _)of_10_mb_with_a_zero" 3 /dev/null zero.line
 done

@@ -20,8 +20,9 @@ import signal
 import sys
 import tempfile
 from collections import Counter
+from concurrent.futures import ProcessPoolExecutor
+from concurrent.futures.process import BrokenProcessPool
 from dataclasses import dataclass, field
-from multiprocessing import Pool
 from pathlib import Path
 from random import Random
 from typing import NamedTuple
@@ -178,12 +179,19 @@ def main() -> int:
     numbers = range(words.first, words.first + words.captures)
     tasks = (Task(words.seed, number, words.draws, keep_in) for number in numbers)
     tally = Tally()
-    with tempfile.TemporaryDirectory() as folder:
-        with Pool(words.jobs, begin_worker, (folder, path)) as pool:
-            for looked in pool.imap(look, tasks, chunksize=10):
-                tally.add(looked)
-                if words.to_first_failure and looked.failed:
-                    break
+    try:
+        with tempfile.TemporaryDirectory() as folder:
+            # A pool of `multiprocessing` would wait for ever for what a killed worker had begun.
+            with ProcessPoolExecutor(words.jobs, initializer=begin_worker, initargs=(folder, path)) as pool:
+                for looked in pool.map(look, tasks, chunksize=10):
+                    tally.add(looked)
+                    if words.to_first_failure and looked.failed:
+                        pool.shutdown(wait=False, cancel_futures=True)
+                        break
+    except BrokenProcessPool:
+        print("FAILED: a worker was killed, as where memory ends, after", sum(tally.scenes.values()), "captures")
+        print("0 passed, 1 failed")
+        return 1
     print("captures: " + ", ".join(f"{count} {scene}" for scene, count in tally.scenes.items()))
     # Nothing is due of what is drawn.
     passed = [tally.told(it, it.floor if words.draws is None or it in FREE else 0) for it in ALL]

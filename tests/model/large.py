@@ -8,11 +8,11 @@ import sys
 from itertools import chain
 
 import model
+import qualities
 import streams
 import summaries
 from model import COUNTS, Setup, moment
 from pictures import svg_picture, text_picture
-from qualities import quality, quality_in_json
 from station import NOON
 from wire import WEEK_MS, frame_of
 
@@ -156,17 +156,18 @@ def main():
     # pins: number_lines, named_count_line
     test("chart_of_200_mb_in_characters", ["chart", "--text"], text, 0, (
         f"marker BASE\nfrom 2024-05-17 12:00:00.000 GPS time\nuntil {LAST_TOLD} GPS time\ninterval 0.100\ncolumn 3333.400\n"
-        f"records {EPOCHS}\nsatellites 4\nslips {slips}\nrises {rises}\nmissing {missing}\n").encode(), begins=True)
+        f"records {EPOCHS}\nsatellites 4\nslips {slips}\nreturns 0\nrises {rises}\nmissing {missing}\n").encode(), begins=True)
     shown = svg_picture(model.convert(SETUP, [few]).file).split("\n")[:5]
     shown.append(f"<text x='110' y='72'>2024-05-17 12:00:00.000 to {LAST_TOLD}, interval 0.100 s, column 173.700 s</text>")
-    shown.append(f"<text x='110' y='98'>records {EPOCHS}, satellites 4, slips {slips}, rises {rises}, missing epochs {missing}</text>\n")
+    shown.append(f"<text x='110' y='98'>records {EPOCHS}, satellites 4, slips {slips}, returns 0, rises {rises}, missing epochs {missing}</text>\n")
     # pins: svg_span, svg_numbers
     test("chart_of_200_mb", ["chart"], text, 0, "\n".join(shown).encode(), begins=True)
     # More epochs of a pass than 16 bits hold, and a sum of strengths that 32 bits do not hold.
     some = first_records(text, 100_000)
     # refuses: epochs of passes in 16 bits, a sum of strengths in 32
-    test("quality_of_100_000_epochs", ["quality"], some, 0, quality(some.decode()).encode())
-    test("quality_of_100_000_epochs_in_json", ["quality", "--json"], some, 0, quality_in_json(some.decode()).encode())
+    test("quality_of_100_000_epochs", ["quality"], some, 0, qualities.table(some.decode()).encode())
+    test("quality_of_100_000_epochs_in_lines", ["quality", "--lines"], some, 0, qualities.lines(some.decode()).encode())
+    test("quality_of_100_000_epochs_in_json", ["quality", "--json"], some, 0, qualities.in_json(some.decode()).encode())
     # refuses: slips in 16 bits
     test("chart_of_100_000_epochs", ["chart", "--text"], some, 0, text_picture(some.decode(), 80).encode())
     print(passed, failed)

@@ -1,6 +1,6 @@
 """The slow model of pictures: each column is asked for its epochs, one after another."""
 # pins: IsMostFrequent, missing_before, nearest_intervals, bin_length, has_missing, IsScale, Scale.unit_of, half_of
-# pins: absence_of, is_longer, begins_pass, ends_outage, is_rise, is_return, is_slip, Grid.code_in, lacks_phase, times_in_epoch
+# pins: absence_of, is_longer, begins_pass, ends_outage, is_rise, is_return, is_slip, Grid.code_in, lacks_phase, times_in_epoch, has_outage
 
 from __future__ import annotations
 
@@ -24,20 +24,16 @@ STEPS = [
 
 
 class Shown(NamedTuple):
-    """What a code shows: its phase, its loss-of-lock digit, its strength digit, and whether bit 0 is a rise or a return."""
+    """What a code shows: its phase, its loss-of-lock digit, its strength digit, and what a bit 0 is: slip, return or rise."""
 
     phase: bool
     lock: int
     level: int | None
-    rises: bool = False
+    kind: str = "slip"
 
-    @property
-    def rise(self) -> bool:
-        return bool(self.lock & 1) and self.rises
-
-    @property
-    def slip(self) -> bool:
-        return bool(self.lock & 1) and not self.rises
+    def has(self, kind: str) -> bool:
+        """Whether the digit has bit 0, and it is of this kind."""
+        return bool(self.lock & 1) and self.kind == kind
 
 
 class Epoch(NamedTuple):
@@ -68,38 +64,50 @@ def epochs_of(records: str, codes: int) -> list[Epoch]:
     ]
 
 
-def is_break(step: int, records: int, interval: int | None) -> bool:
-    """Whether a satellite whose phases are a step and so many records apart was away, or out for a time that has records."""
-    absence = step - (interval or 0) - 2 * min(25, (interval or 0) // 10)
-    return absence > 1_800_000 or (absence > 120_000 and records > 1)
+def absence(step: int, interval: int | None) -> int:
+    """An absence less its tolerance, if the phases of a satellite are a step apart."""
+    return step - (interval or 0) - 2 * min(25, (interval or 0) // 10)
 
 
-def with_rises(epochs: list[Epoch], interval: int | None) -> None:
-    """Tells slips from rises and returns: satellite by satellite, each span up to a break is looked through for the first phase of
-    each code."""
+def with_kinds(epochs: list[Epoch], interval: int | None) -> dict[str, list[tuple[int, int]]]:
+    """Tells slips from rises and returns: satellite by satellite, each span up to an absence is looked through for the first phase
+    of each code. Gives the outages of each satellite, by the times of its phases before and after them."""
+    outages: dict[str, list[tuple[int, int]]] = {}
     for name in {name for epoch in epochs for name in epoch.satellites}:
-        seen = [(at, epoch) for at, epoch in enumerate(epochs) if name in epoch.satellites]
+        outages[name] = []
         last: tuple[int, int] | None = None
-        known: set[int] = set()
-        for at, epoch in seen:
-            codes = epoch.satellites[name]
+        had: set[int] = set()
+        kept: set[int] = set()
+        for at, epoch in enumerate(epochs):
+            codes = epoch.satellites.get(name, [])
             phases = {code for code, shown in enumerate(codes) if shown.phase}
-            if phases and (last is None or is_break(epoch.time - last[1], at - last[0], interval)):
-                known = set()
-            epoch.satellites[name] = [shown._replace(rises=code not in known) for code, shown in enumerate(codes)]
-            known |= phases
+            if phases and (last is None or absence(epoch.time - last[1], interval) > 1_800_000):
+                had, kept = set(), set()
+            elif phases and last and absence(epoch.time - last[1], interval) > 120_000 and at - last[0] > 1:
+                kept = set()
+                outages[name].append((last[1], epoch.time))
+            if codes:
+                kinds = ["rise" if code not in had else "slip" if code in kept else "return" for code in range(len(codes))]
+                epoch.satellites[name] = [shown._replace(kind=kind) for shown, kind in zip(codes, kinds)]
+            had, kept = had | phases, kept | phases
             last = (at, epoch.time) if phases else last
+    return outages
 
 
-def character(epochs: list[Epoch], name: str, had: set[int]) -> str:
-    """The character of a satellite, which has these codes somewhere, in the epochs of a column."""
+def character(epochs: list[Epoch], name: str, had: set[int], out: bool) -> str:
+    """The character of a satellite, which has these codes somewhere, in the epochs of a column, where it is out or not."""
     rows = [epoch.satellites.get(name) for epoch in epochs]
     cells = [shown for row in rows if row for shown in row]
-    slip, half = any(c.slip for c in cells), any(c.lock & 2 for c in cells)
-    if slip or half:
-        return "B" if slip and half else "S" if slip else "H"
-    if any(c.rise for c in cells):
-        return "R"
+    slip, half = any(c.has("slip") for c in cells), any(c.lock & 2 for c in cells)
+    if slip:
+        return "B" if half else "S"
+    if out:
+        return "o"
+    if half:
+        return "H"
+    for kind, sign in ("rise", "R"), ("return", "r"):
+        if any(c.has(kind) for c in cells):
+            return sign
     for row in rows:
         if row and any(shown.phase for shown in row) and not all(row[code].phase for code in had):
             return "-"
@@ -134,9 +142,9 @@ class Drawn:
         times = [epoch.time for epoch in self.epochs]
         steps = Counter(b - a for a, b in zip(times, times[1:]))
         self.interval = interval = min(steps, key=lambda step: (-steps[step], step)) if steps else None
-        with_rises(self.epochs, interval)
+        outages = with_kinds(self.epochs, interval)
         cells = [c for e in self.epochs for row in e.satellites.values() for c in row]
-        self.slips, self.rises = sum(c.slip for c in cells), sum(c.rise for c in cells)
+        self.kinds = Counter(c.kind for c in cells if c.lock & 1)
         # which codes each satellite has somewhere, by their places
         self.had = {
             name: {at for e in self.epochs for at, c in enumerate(e.satellites.get(name, [])) if c.phase} for name in self.names
@@ -153,6 +161,10 @@ class Drawn:
         self.parts: list[list[Epoch]] = [[] for _ in range(self.columns)]
         for epoch in self.epochs:
             self.parts[self.column(epoch.time)].append(epoch)
+        # The columns in which a satellite is out, from the first epoch that its outage has to the last.
+        self.out = {
+            name: {c for a, b in parts for c in range(self.column(a + unit), self.column(b - unit) + 1)} for name, parts in outages.items()
+        }
         # A column is no shorter than the interval, so each column between two with a missing epoch has one.
         ends = [(self.column(row[0]), self.column(row[-1])) for row in missing if row]
         self.gaps = {c for begin, end in ends for c in range(begin, end + 1)}
@@ -183,9 +195,9 @@ def text_picture(text: str, width: int) -> str:
     if it.interval:
         out += [f"interval {fixed(it.interval, 3)}", f"column {fixed(it.length, 3)}"]
     out += [f"records {len(it.epochs)}", f"satellites {len(it.names)}"]
-    out += [f"slips {it.slips}", f"rises {it.rises}", f"missing {it.missing}"]
+    out += [f"slips {it.kinds['slip']}", f"returns {it.kinds['return']}", f"rises {it.kinds['rise']}", f"missing {it.missing}"]
     for name in it.names:
-        out.append(f"{name}|{''.join(character(part, name, it.had[name]) for part in it.parts)}|")
+        out.append(f"{name}|{''.join(character(part, name, it.had[name], c in it.out[name]) for c, part in enumerate(it.parts))}|")
     out.append(f"gap|{''.join('x' if c in it.gaps else ' ' for c in range(it.columns))}|")
     ticks = it.ticks(12 * it.length)
     out.append("    " + "".join("+" if c in ticks else "-" for c in range(it.columns)))
@@ -205,14 +217,15 @@ def text_picture(text: str, width: int) -> str:
 
 
 SIGNS = [
-    "S slip  R rise  H half cycle  B S and H",
+    "S slip  H half cycle  B S and H",
+    "R rise  r return  o outage",
     "- code missing  x epochs missing",
     "1-9 strength, 5 is 30-35 dB-Hz  . none",
 ]
 
 
 # pins: edge_of, middle_of, run_part, mark_part, path_start, runs_path, marks_path, level_path
-# pins: missing_paths, lock_paths, shows, column_numbers, drawn_bar, bar_text, SvgPicture.code_line, band_height, band_start, band_text
+# pins: outage_boxes, missing_paths, lock_paths, shows, column_numbers, drawn_bar, bar_text, SvgPicture.code_line, band_height, band_start, band_text
 # pins: band_if_drawn, bands_text, gaps_band, satellites_band, step_part, tick_text, ticks_text, svg_tick_step
 # pins: interval_text, svg_span, svg_numbers, civil_text, svg_picture, svg_start, svg_body, svg_legend, bands_end
 def svg_picture(text: str) -> str:
@@ -227,13 +240,15 @@ def svg_picture(text: str) -> str:
         return "\n".join([*out, "<text x='110' y='72'>no records</text>", "</svg>\n"])
     interval = f", interval {fixed(it.interval, 3)} s, column {fixed(it.length, 3)} s" if it.interval else ""
     out.append(f"<text x='110' y='72'>{moment(it.first)} to {moment(it.last)}{interval}</text>")
-    counts = f"records {len(it.epochs)}, satellites {len(it.names)}, slips {it.slips}, rises {it.rises}, missing epochs {it.missing}"
+    counts = f"records {len(it.epochs)}, satellites {len(it.names)}, slips {it.kinds['slip']}, returns {it.kinds['return']}"
+    counts += f", rises {it.kinds['rise']}, missing epochs {it.missing}"
     out.append(f"<text x='110' y='98'>{counts}</text>")
     for at, name in enumerate(it.names):
         ground = f"<rect class='b{at % 2}' x='-110' width='1620' height='{high}'/>"
         label = f"<text class='name' x='-40' y='{16 + 11 * len(it.codes)}'>{name}</text>"
         lines = [line for code in range(len(it.codes)) for line in code_line(it, name, code)]
-        out += group(110, 112 + high * at, [f"<title>{name}</title>", ground, label, *lines])
+        outages = path("o", (f"M{begin} 4v{high - 8}H{end}v-{high - 8}z" for begin, end in runs(it, it.out[name])))
+        out += group(110, 112 + high * at, [f"<title>{name}</title>", ground, label, *outages, *lines])
     out += group(110, end, ["<title>missing epochs</title>", "<text class='code' x='-6' y='18'>missing</text>", *bars(it, "g", it.gaps, 12)])
     out += group(110, end + 26, satellites(it))
     for c, label in it.ticks((it.columns // 10 + 1) * it.length).items():
@@ -264,17 +279,17 @@ def code_line(it: Drawn, name: str, code: int) -> list[str]:
     cells = {c: [row[code] for row in part] for c, part in rows.items()}
     phases = {c for c, part in cells.items() if any(shown.phase for shown in part)}
     missing = {c for c, part in rows.items() if any(any(shown.phase for shown in row) and not row[code].phase for row in part)}
-    slips = {c for c, part in cells.items() if any(shown.slip for shown in part)}
-    rises = {c for c, part in cells.items() if any(shown.rise for shown in part)}
+    slips, returns, rises = ({c for c, part in cells.items() if any(shown.has(kind) for shown in part)} for kind in ("slip", "return", "rise"))
     halves = {c for c, part in cells.items() if any(shown.lock & 2 for shown in part)}
     least = {c: min((shown.level for shown in cells[c] if shown.level), default=0) for c in phases}
     title += f"columns with phase {len(phases)}, missing {len(missing)}"
-    title += f", slips {len(slips)}, rises {len(rises)}, half cycles {len(halves)}</title>"
+    title += f", slips {len(slips)}, returns {len(returns)}, rises {len(rises)}, half cycles {len(halves)}</title>"
     lines = [title]
     for level in range(10):
         lines += bars(it, f"l{level}", {c for c in phases if least[c] == level}, 10)
     lines += boxes(it, "p", missing & phases, 10, 6) + boxes(it, "m", missing - phases, 16, 12)
-    lines += forms(it, "r", rises, "5l9 5l-9 5z") + forms(it, "s", slips, "20l-7-21h14z") + forms(it, "h", halves, "8l6 6l-6 6l-6-6z")
+    lines += forms(it, "r", rises, "5l9 5l-9 5z") + forms(it, "a", returns, "5l9 5l-9 5z")
+    lines += forms(it, "s", slips, "20l-7-21h14z") + forms(it, "h", halves, "8l6 6l-6 6l-6-6z")
     return group(0, 7 + 22 * code, [*lines, label])
 
 

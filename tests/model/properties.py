@@ -19,6 +19,7 @@ from random import Random
 from typing import Callable, Iterable, NamedTuple, Optional
 
 import finding
+import qualities
 from captures import LAST_MADE, Capture
 from checker import fault
 from damages import damaged_file
@@ -29,7 +30,6 @@ from parts import Part, part_of, records_of
 from passes import file_of_passes
 from pictures import svg_picture, text_picture
 from program import Ended, Program
-from qualities import quality, quality_in_json
 from sender import pick_any
 from summaries import UNTAKEN, look_of, sh_quoted, summary_of
 from wire import MSMS, WEEK_MS, BitWriter, Message, frame_of
@@ -340,10 +340,11 @@ def charted_as_modelled(case: Case) -> Answer:
 
 
 def assessed_as_modelled(case: Case) -> Answer:
-    """`quality` tells of a file what the slow model counts, in lines and in JSON."""
+    """`quality` tells of a file what the slow model counts, in a table, in lines and in JSON."""
     text = any_file(case)
-    lines = ends_with(case.program.on(text.encode(), "quality"), 0, quality(text).encode(), b"")
-    return lines or ends_with(case.program.on(text.encode(), "quality", "--json"), 0, quality_in_json(text).encode(), b"")
+    forms = (((), qualities.table), (("--lines",), qualities.lines), (("--json",), qualities.in_json))
+    answers = (ends_with(case.program.on(text.encode(), "quality", *words), 0, due(text).encode(), b"") for words, due in forms)
+    return next((it for it in answers if it), None)
 
 
 def cut_as_modelled(case: Case) -> Answer:

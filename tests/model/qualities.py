@@ -290,21 +290,85 @@ def entries_of(file: str) -> tuple[list[Field], list[tuple[str, list[Field]]]]:
     return heading, out + station.hours() + station.longest_gaps() + station.falls()
 
 
-def quality(file: str) -> str:
+def lines(file: str) -> str:
     """The numbers of a file as lines."""
     heading, entries = entries_of(file)
     lines = [it.in_line() for it in heading] + [" ".join([keyword, *(it.in_line() for it in fields)]) for keyword, fields in entries]
     return "\n".join(lines) + "\n"
 
 
-def quality_in_json(file: str) -> str:
-    """The same as a JSON document: an object for the file, and one on each further line."""
+LISTS = {"code": "codes", "satellite": "satellites", "tracked": "tracked", "never": "never", "pass": "passes", "hour": "hours", "gap": "gaps",
+    "fall": "falls"}
+
+
+def in_json(file: str) -> str:
+    """The same as a JSON object: an object for the file, and for each list an array with an object on each line."""
     heading, entries = entries_of(file)
-    objects = [{"line": keyword, **{it.key: it.value for it in fields}} for keyword, fields in [("file", heading), *entries]]
-    return "[" + ",\n".join(json.dumps(it, separators=(",", ":")) for it in objects) + "\n]\n"
+    lists: dict[str, list[str]] = {it: [] for it in LISTS.values()}
+    for keyword, fields in entries:
+        lists[LISTS[keyword]].append(compact(fields))
+    empty = "" if entries else "[]"
+    arrays = [f'"{name}":' + (empty or "[" + ",".join("\n" + it for it in rows) + "\n]") for name, rows in lists.items()]
+    return ",\n".join(['{"file":' + compact(heading), *arrays]) + "}\n"
+
+
+def compact(fields: list[Field]) -> str:
+    return json.dumps({it.key: it.value for it in fields}, separators=(",", ":"))
+
+
+SUMS = ("phases", "slips", "moments", "outages", "outage_time_ms")
+
+# For each list of the table its heading, and the widths of its columns by their keys; a text column is cut to its width.
+SIGNALS = ("phases 7", "possible 7", "percent_tenths 7", "ranges_only 7", "slips 6", "returns 8", "rises 6", "half_cycles 5",
+    "least_strength_millidbhz 8", "mean_strength_centidbhz 6", "greatest_strength_millidbhz 7")
+TABLES = {
+    "code": ("signal phases     of      % ranges slips returns rises half     min  mean    max", SIGNALS),
+    "satellite": (None, SIGNALS),
+    "tracked": ("sat    phases  slips  moments  outages        time", ("phases 10", "slips 7", "moments 9", "outages 9", "outage_time_ms 12")),
+    "never": ("never a phase", ()),
+    "pass": ("sat from                until               phases slips moments outages   time",
+        ("from 19", "until 19", "phases 7", "slips 6", "moments 8", "outages 5", "outage_time_ms 10")),
+    "hour": ("hour             records    of satellites  slips returns  band 1  band 2  band 5",
+        ("hour 16", "records 8", "expected 6", "mean_satellites_tenths 11", "slips 7", "returns 8", "mean_strength_1_centidbhz 8",
+            "mean_strength_2_centidbhz 8", "mean_strength_5_centidbhz 8")),
+    "gap": ("gap from                until                     missing", ("from 23", "until 23", "missing 10")),
+    "fall": ("band falls from       until                by", ("band 4", "from 16", "until 16", "mean_strength_centidbhz 8")),
+}
+
+
+def row_of(keyword: str, fields: list[Field]) -> str:
+    """A row of the table: names and moments stand to the left, with a blank between, and numbers to the right."""
+    by_key = {it.key: it for it in fields}
+    name = " ".join(str(by_key[it].value) for it in ("satellite", "code") if it in by_key)
+    row = f"all {name}" if keyword == "code" else name
+    for key, width in (it.split() for it in TABLES[keyword][1]):
+        field = by_key.get(key, Field("", key, None))
+        if field.digits is None:
+            row += (" " if row else "") + str(field.value)[: int(width)]
+        else:
+            row += field._replace(word="").in_line().rjust(int(width))
+    if keyword == "code":
+        on = [it.in_line() for it in fields if it.key in ("satellites", "tracked", "phases_per_slip")]
+        row += "\n       " + " ".join(on)
+    return row
+
+
+def table(file: str) -> str:
+    """The same as a table."""
+    heading, entries = entries_of(file)
+    lines = [f"marker {heading[0].value}"]
+    lines += [it.word + it._replace(word="").in_line().rjust(43 - len(it.word)) for it in heading[1:]]
+    last = ""
+    for keyword, fields in entries:
+        title = TABLES[keyword][0]
+        if keyword != last and title is not None:
+            lines += ["", title]
+        last = keyword
+        lines.append(row_of(keyword, fields))
+    return "\n".join(lines) + "\n"
 
 
 if __name__ == "__main__":
     import sys
 
-    print(quality(open(sys.argv[1], encoding="ascii").read()), end="")
+    print(table(open(sys.argv[1], encoding="ascii").read()), end="")

@@ -19,7 +19,7 @@ import re, sys
 for forms, words in re.findall(r"((?:<path class='\w+' d='[^']+'/>)+)<text x='\d+' y='\d+'>([^<]+)", open(sys.argv[1]).read()):
     print(*re.findall(r"class='(\w+)'", forms), words)
 END
-printf '%s\n' 's slip' 'r rise' 'h half cycle' 'l8 phase' 'l8 p code missing in some epochs' 'm in all' 'g epochs missing' 'l0 none' 'l1 &lt;12' >want
+printf '%s\n' 's slip' 'a return' 'r rise' 'h half cycle' 'o outage' 'g epochs missing' 'l8 phase' 'l8 p code missing in some epochs' 'm in all' 'l0 none' 'l1 &lt;12' >want
 for digit in 2 3 4 5 6 7 8 9; do echo "l$digit $((6 * digit))"; done >>want
 same legend_of_each_class got want
 COLUMNS=120 "$program" chart --text "$marks" >out 2>err; status=$?

@@ -93,7 +93,7 @@ example() {
     summary) file=$base && sed "s#BASE\$#$base#" "$root/tests/program/base.summary" >good_out ;;
     check) echo 'valid: 1 epochs, 1 satellite lines' >good_out ;;
     chart) file=$examples/marks.rnx && cp "$examples/marks.svg" good_out ;;
-    quality) file=$examples/slip.rnx && cp "$root/tests/program/slip.numbers" good_out ;;
+    quality) file=$examples/slip.rnx && cp "$root/tests/program/slip.table" good_out ;;
     cut)
         words='cut --every 30' file=$examples/slip.rnx
         cp "$examples/slip_30s.rnx" good_out && echo 'records 61 written 3' >good_err ;;

@@ -4,48 +4,75 @@
 file=$root/examples/slip.rnx
 
 quality() { run quality "$@"; }
+lines() { quality --lines "$@"; }
 
 # The file was laid by hand: a minute of G05, with the slips that its digits show at the seconds 7, 30 and 60, and of G07 without
 # the seconds 25 to 34, with a slip at 20 and half cycles at 10 and 60. Strengths are 45 and 35, 41.5 and 30.25 dB-Hz throughout.
-# Its numbers, slip.numbers, were looked up in it by hand.
-lines=$root/tests/program/slip.numbers
+# Its numbers, slip.numbers, were looked up in it by hand, and slip.table has them in columns.
+numbers=$root/tests/program/slip.numbers table=$root/tests/program/slip.table
 cat >json <<'END'
-[{"line":"file","marker":"BASE","from":"2024-05-17 12:00:00.000","until":"2024-05-17 12:01:00.000","interval_ms":1000,"records":61,"missing":0,"gaps":0,"satellites":2,"least_satellites":1,"mean_satellites_tenths":18,"greatest_satellites":2,"slips":4,"moments":4,"outages":0,"outage_time_ms":0},
-{"line":"code","code":"1C","phases":112,"possible":122,"percent_tenths":918,"satellites":2,"tracked":2,"ranges_only":0,"slips":2,"returns":0,"rises":0,"half_cycles":2,"phases_per_slip":56,"least_strength_millidbhz":41500,"mean_strength_centidbhz":4341,"greatest_strength_millidbhz":45000},
-{"line":"code","code":"2W","phases":112,"possible":122,"percent_tenths":918,"satellites":2,"tracked":2,"ranges_only":0,"slips":2,"returns":0,"rises":0,"half_cycles":0,"phases_per_slip":56,"least_strength_millidbhz":30250,"mean_strength_centidbhz":3284,"greatest_strength_millidbhz":35000},
-{"line":"satellite","satellite":"G05","code":"1C","phases":61,"possible":61,"percent_tenths":1000,"ranges_only":0,"slips":2,"returns":0,"rises":0,"half_cycles":0,"phases_per_slip":31,"least_strength_millidbhz":45000,"mean_strength_centidbhz":4500,"greatest_strength_millidbhz":45000},
-{"line":"satellite","satellite":"G05","code":"2W","phases":61,"possible":61,"percent_tenths":1000,"ranges_only":0,"slips":1,"returns":0,"rises":0,"half_cycles":0,"phases_per_slip":61,"least_strength_millidbhz":35000,"mean_strength_centidbhz":3500,"greatest_strength_millidbhz":35000},
-{"line":"satellite","satellite":"G07","code":"1C","phases":51,"possible":61,"percent_tenths":836,"ranges_only":0,"slips":0,"returns":0,"rises":0,"half_cycles":2,"phases_per_slip":null,"least_strength_millidbhz":41500,"mean_strength_centidbhz":4150,"greatest_strength_millidbhz":41500},
-{"line":"satellite","satellite":"G07","code":"2W","phases":51,"possible":61,"percent_tenths":836,"ranges_only":0,"slips":1,"returns":0,"rises":0,"half_cycles":0,"phases_per_slip":51,"least_strength_millidbhz":30250,"mean_strength_centidbhz":3025,"greatest_strength_millidbhz":30250},
-{"line":"tracked","satellite":"G05","phases":122,"slips":3,"moments":3,"outages":0,"outage_time_ms":0},
-{"line":"tracked","satellite":"G07","phases":102,"slips":1,"moments":1,"outages":0,"outage_time_ms":0},
-{"line":"pass","satellite":"G05","from":"2024-05-17 12:00:00.000","until":"2024-05-17 12:01:00.000","phases":122,"slips":3,"moments":3,"outages":0,"outage_time_ms":0},
-{"line":"pass","satellite":"G07","from":"2024-05-17 12:00:00.000","until":"2024-05-17 12:01:00.000","phases":102,"slips":1,"moments":1,"outages":0,"outage_time_ms":0},
-{"line":"hour","hour":"2024-05-17 12:00:00.000","records":61,"expected":61,"mean_satellites_tenths":18,"slips":4,"returns":0,"mean_strength_1_centidbhz":4341,"mean_strength_2_centidbhz":3284}
-]
+{"file":{"marker":"BASE","from":"2024-05-17 12:00:00.000","until":"2024-05-17 12:01:00.000","interval_ms":1000,"records":61,"missing":0,"gaps":0,"satellites":2,"least_satellites":1,"mean_satellites_tenths":18,"greatest_satellites":2,"slips":4,"moments":4,"outages":0,"outage_time_ms":0},
+"codes":[
+{"code":"1C","phases":112,"possible":122,"percent_tenths":918,"satellites":2,"tracked":2,"ranges_only":0,"slips":2,"returns":0,"rises":0,"half_cycles":2,"phases_per_slip":56,"least_strength_millidbhz":41500,"mean_strength_centidbhz":4341,"greatest_strength_millidbhz":45000},
+{"code":"2W","phases":112,"possible":122,"percent_tenths":918,"satellites":2,"tracked":2,"ranges_only":0,"slips":2,"returns":0,"rises":0,"half_cycles":0,"phases_per_slip":56,"least_strength_millidbhz":30250,"mean_strength_centidbhz":3284,"greatest_strength_millidbhz":35000}
+],
+"satellites":[
+{"satellite":"G05","code":"1C","phases":61,"possible":61,"percent_tenths":1000,"ranges_only":0,"slips":2,"returns":0,"rises":0,"half_cycles":0,"phases_per_slip":31,"least_strength_millidbhz":45000,"mean_strength_centidbhz":4500,"greatest_strength_millidbhz":45000},
+{"satellite":"G05","code":"2W","phases":61,"possible":61,"percent_tenths":1000,"ranges_only":0,"slips":1,"returns":0,"rises":0,"half_cycles":0,"phases_per_slip":61,"least_strength_millidbhz":35000,"mean_strength_centidbhz":3500,"greatest_strength_millidbhz":35000},
+{"satellite":"G07","code":"1C","phases":51,"possible":61,"percent_tenths":836,"ranges_only":0,"slips":0,"returns":0,"rises":0,"half_cycles":2,"phases_per_slip":null,"least_strength_millidbhz":41500,"mean_strength_centidbhz":4150,"greatest_strength_millidbhz":41500},
+{"satellite":"G07","code":"2W","phases":51,"possible":61,"percent_tenths":836,"ranges_only":0,"slips":1,"returns":0,"rises":0,"half_cycles":0,"phases_per_slip":51,"least_strength_millidbhz":30250,"mean_strength_centidbhz":3025,"greatest_strength_millidbhz":30250}
+],
+"tracked":[
+{"satellite":"G05","phases":122,"slips":3,"moments":3,"outages":0,"outage_time_ms":0},
+{"satellite":"G07","phases":102,"slips":1,"moments":1,"outages":0,"outage_time_ms":0}
+],
+"never":[
+],
+"passes":[
+{"satellite":"G05","from":"2024-05-17 12:00:00.000","until":"2024-05-17 12:01:00.000","phases":122,"slips":3,"moments":3,"outages":0,"outage_time_ms":0},
+{"satellite":"G07","from":"2024-05-17 12:00:00.000","until":"2024-05-17 12:01:00.000","phases":102,"slips":1,"moments":1,"outages":0,"outage_time_ms":0}
+],
+"hours":[
+{"hour":"2024-05-17 12:00:00.000","records":61,"expected":61,"mean_satellites_tenths":18,"slips":4,"returns":0,"mean_strength_1_centidbhz":4341,"mean_strength_2_centidbhz":3284}
+],
+"gaps":[
+],
+"falls":[
+]}
 END
 # pins: counts_of, passes_of, epochs_in_passes, percent_tenths, mean_hundredths
-quality "$file";              leaves quality_of_a_file 0 "$lines" /dev/null
+# pins: padded, lined_up, Lists.closed, satellite_mark, numbers_columns, code_row, tracked_row, pass_row, hour_row, codes_heading
+# pins: section_heading, hours_heading, span_part
+quality "$file";              leaves quality_of_a_file 0 "$table" /dev/null
+quality stdin <"$file";       leaves quality_of_standard_input 0 "$table" /dev/null
+lines "$file";                leaves quality_in_lines 0 "$numbers" /dev/null
+quality "$file" --lines;      leaves quality_in_lines_after_the_file 0 "$numbers" /dev/null
 quality --json "$file";       leaves quality_in_json 0 json /dev/null
 quality "$file" --json;       leaves quality_in_json_after_the_file 0 json /dev/null
 quality --json stdin <"$file"; leaves quality_of_standard_input_in_json 0 json /dev/null
-python3 -c 'import json, sys; print(len(json.load(sys.stdin)))' <out >got; echo 12 >want
+python3 -c 'import json, sys; print(*json.load(sys.stdin))' <out >got; echo file codes satellites tracked never passes hours gaps falls >want
 same other_programs_read_the_document got want
 
 # Fields in the header change no number.
 "$program" label --antenna-type 'AOAD/M_T        NONE' --delta-height +1.5000 "$file" >labelled
-quality labelled;        leaves quality_of_a_file_with_a_label 0 "$lines" /dev/null
+quality labelled;        leaves quality_of_a_file_with_a_label 0 "$table" /dev/null
+lines labelled;          leaves quality_of_a_file_with_a_label_in_lines 0 "$numbers" /dev/null
 quality --json labelled; leaves quality_of_a_file_with_a_label_in_json 0 json /dev/null
 
 # A header alone; in JSON a marker may need a backslash.
 sed '/END OF HEADER/q; s/^BASE         /B~"\\<é>      /' "$file" | sed 's/<é>/<\&>/' >empty
-quality empty;        expect quality_without_records 0 "$(printf '%s\n' 'marker B~"\<&>' 'records 0')" ''
-quality --json empty; printf '%s\n' '[{"line":"file","marker":"B~\"\\<&>","records":0}' ']' >want
+quality empty; { echo 'marker B~"\<&>'; printf '%-8s%35s\n' records 0; } >want
+leaves quality_without_records 0 want /dev/null
+lines empty; expect quality_without_records_in_lines 0 "$(printf '%s\n' 'marker B~"\<&>' 'records 0')" ''
+quality --json empty
+printf '%s,\n' '{"file":{"marker":"B~\"\\<&>","records":0}' '"codes":[]' '"satellites":[]' '"tracked":[]' '"never":[]' '"passes":[]' '"hours":[]' '"gaps":[]' >want
+echo '"falls":[]}' >>want
+# pins: no_lists
 leaves quality_without_records_in_json 0 want /dev/null
 
 # A record alone has no interval.
 sed '/^> .* 1.0000000 /,$d' "$file" >one
-quality one; sed '16,$d' out >heading
+lines one; sed '16,$d' out >heading
 printf '%s\n' 'marker BASE' 'from 2024-05-17 12:00:00.000' 'until 2024-05-17 12:00:00.000' 'interval -' 'records 1' 'missing 0' 'gaps 0' \
     'satellites 2' 'least-satellites 2' 'mean-satellites 2.0' 'greatest-satellites 2' 'slips 0' 'moments 0' 'outages 0' \
     'outage-time 0.000' >want
@@ -80,7 +107,7 @@ END
 while read -r seconds step phases possible percent slips returns outages time <&3; do
     away "$seconds" >gone
     "$program" cut --every "$step" gone >part 2>log
-    quality part
+    lines part
     grep -E '^(slips|moments|outages|outage-time|satellite G05 1C|tracked G05) ' out | sed 's/ half-cycles .*//' >got
     cat >want <<END
 slips $slips
@@ -117,7 +144,7 @@ done 3<rows
 14 30 30.0000000 1 6:40.000 30.000
 14 31  0.0000000 - 6:40.000 30.000
 END
-quality hours
+lines hours
 grep -E '^(missing|gaps|hour|gap|fall) ' out >got
 cat >want <<'END'
 missing 178
@@ -133,9 +160,26 @@ END
 # pins: Hours.missing_until, missing_within, gap_between, Gaps.gaps_of, fall_to, largest_fall, strength_words
 same quality_of_three_hours got want
 quality --json hours
-grep '"line":"fall","band":2' out >got
-echo '{"line":"fall","band":2,"from":"2024-05-17 12:00:00.000","until":"2024-05-17 14:00:00.000","mean_strength_centidbhz":500}' >want
+grep '"band":2' out >got
+echo '{"band":2,"from":"2024-05-17 12:00:00.000","until":"2024-05-17 14:00:00.000","mean_strength_centidbhz":500}' >want
 same quality_of_three_hours_in_json got want
+# The table of the same numbers, from its hours on.
+quality hours; sed -n '/^hour/,$p' out >got
+cat >want <<'END'
+hour             records    of satellites  slips returns  band 1  band 2  band 5
+2024-05-17 12:00       2     2        1.0      0       0   45.00   35.00       -
+2024-05-17 13:00       2   120        1.0      0       0   43.00       -       -
+2024-05-17 14:00       3    63        1.0      1       0   40.00   30.00       -
+
+gap from                until                     missing
+2024-05-17 13:00:30.000 2024-05-17 14:30:00.000       178
+
+band falls from       until                by
+   1 2024-05-17 13:00 2024-05-17 14:00    3.00
+   2 2024-05-17 12:00 2024-05-17 14:00    5.00
+END
+# pins: hour_row, gaps_heading, falls_heading, span_part
+same quality_of_three_hours_in_a_table got want
 
 # twelve KIND: 83 records of twelve satellites. G07 slips twice on its codes. G11 has no 2W, and G05 lacks two phases of it. Of the
 # kind `ranges` G12 has only ranges of 2W, and of the kind `none` no satellite has 2W.
@@ -158,7 +202,7 @@ twelve() {
 }
 
 twelve most >most
-quality most
+lines most
 grep -E '^(slips|moments|code|tracked G07|never) ' out | sed 's/ ranges-only .*//' >got
 cat >want <<'END'
 slips 4
@@ -170,8 +214,20 @@ never G11 2W
 END
 # pins: percent_tenths, station_numbers, code_of_station, phases_per_slip, sums_of
 same quality_of_a_code_that_one_satellite_never_sends got want
+# The table has the code of which G11 has no phase in a list of its own.
+quality most
+sed -n '/^all 2W/,/^G01/p; /^never/,/^$/p' out >got
+cat >want <<'END'
+all 2W    911    913   99.7      0     2       0     0    0  35.000 35.00 35.000
+       satellites 11 of 12 phases-per-slip 456
+G01 1C     83     83  100.0      0     0       0     0    0  45.000 45.00 45.000
+never a phase
+G11 2W
+
+END
+same quality_of_a_code_that_one_satellite_never_sends_in_a_table got want
 twelve ranges >ranges
-quality ranges
+lines ranges
 grep -E '^(code 2W|satellite G12 2W|never) ' out | sed 's/ slips .*//' >got
 cat >want <<'END'
 code 2W phases 828 of 913 percent 90.6 satellites 11 of 12 ranges-only 83
@@ -181,19 +237,19 @@ never G12 2W
 END
 same quality_of_a_code_with_ranges_alone got want
 twelve none >none
-quality none
+lines none
 grep '^code 2W ' out >got
 echo 'code 2W phases 0 of 996 percent 0.0 satellites 0 of 12 ranges-only 0 slips 0 returns 0 rises 0 half-cycles 0 phases-per-slip no-phase least-strength - mean-strength - greatest-strength -' >want
 same quality_of_a_code_that_no_satellite_sends got want
 quality --json none
-grep '"line":"code","code":"2W"' out | sed 's/,"ranges_only".*//' >got
-echo '{"line":"code","code":"2W","phases":0,"possible":996,"percent_tenths":0,"satellites":0,"tracked":12' >want
+grep '^{"code":"2W"' out | sed 's/,"ranges_only".*//' >got
+echo '{"code":"2W","phases":0,"possible":996,"percent_tenths":0,"satellites":0,"tracked":12' >want
 same quality_of_a_code_that_no_satellite_sends_in_json got want
 
 # A file that `check` refuses: its line, on standard error, and no number.
 sed '20s/^/x/' "$file" >wrong
 "$program" check wrong >line
-for words in '' --json; do
+for words in '' --lines --json; do
     quality $words wrong; leaves "quality_of_a_bad_file$words" 3 /dev/null line
     sed '20s/^/x/' labelled >bad
     quality $words bad; expect "quality_of_a_bad_file_with_a_label$words" 3 '' 'line 20: C2 Columns'
@@ -202,6 +258,8 @@ done
 
 quality --json --json "$file"
 expect quality_json_twice 2 '' "$(error "the argument '--json' cannot be used multiple times" 'quality [OPTIONS] <FILE>')"
+quality --lines --json "$file"
+expect quality_in_two_forms 2 '' "$(error "the argument '--lines' cannot be used with '--json'" 'quality [OPTIONS] <FILE>')"
 quality --json=yes "$file"; head -n 1 err >line
 echo "error: unexpected value 'yes' for '--json' found; no more were expected" >want
 same quality_json_with_a_value line want

@@ -127,7 +127,8 @@ class Texts(Case):
         self.refuses(2, read_summary, "bytes 1\nframes x\n")
         self.refuses(1, read_summary, " message 1004 1\n")
         self.refuses(1, found_of, ["from 2024"], ())
-        self.refuses(1, read_quality, '[{"line":"file"}\n]\n')
+        self.refuses(1, read_quality, '{"file":{"marker":"BASE"}}\n')
+        self.refuses(1, read_quality, "[]\n")
         self.refuses(1, read_quality, "marker BASE\n")
         with self.assertRaises(rtcm2rinex.FormError):
             rtcm2rinex.check(EXAMPLES / "base.rnx", program=stand_in("./program", "fine"))

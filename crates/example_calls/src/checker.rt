@@ -1,6 +1,6 @@
 //! The calls that check a file.
 
-use crate::example;
+use example_inputs::example;
 use rtk_rinex::{Cause, check, text};
 use std::alloc::Global;
 use std::io;

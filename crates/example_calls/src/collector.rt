@@ -1,7 +1,7 @@
 //! The calls that collect messages into epochs.
 
-use crate::moments::{self, NOON_TOW, Shown};
-use crate::payloads::{
+use example_inputs::moments::{self, NOON_TOW, Shown};
+use example_inputs::payloads::{
     self, Arp, LEGACY_5, LegacySatellite, MSM_5, MSM_CELL, MSM_SATELLITE, Msm, MsmCell, POSITION,
     SATELLITE_5, SATELLITE_7,
 };

@@ -1,8 +1,9 @@
 //! Files and reports of a few frames.
 
-use crate::converter::{Conversion, observation_frame};
-use crate::moments::NOON_TOW;
-use crate::payloads::{
+use crate::converter::Conversion;
+use example_inputs::conversion::observation_frame;
+use example_inputs::moments::NOON_TOW;
+use example_inputs::payloads::{
     self, Arp, LEGACY_5, LegacySatellite, MSM_5, MSM_CELL, MSM_SATELLITE, Msm, MsmCell,
     MsmSatellite, NO_ROUGH_RANGE, POSITION, POSITION_FRAME, SATELLITE_5, SATELLITE_7,
 };

@@ -1,17 +1,16 @@
 //! The calls that convert pieces of links.
 
-use crate::moments::{self, NOON_TOW, Shown};
-use crate::payloads::{self, POSITION_FRAME, STATION};
 use crate::{conversions, rinex};
-use rtk_convert::{ConvertFault, Converter, Counts, Setup, SetupFault, Stream};
+use example_inputs::conversion::{observation_frame, print_counts, print_fault, print_lines, sink};
+use example_inputs::moments::{self, NOON_TOW, Shown};
+use example_inputs::payloads::{POSITION_FRAME, STATION};
+use rtk_convert::{ConvertFault, Converter, Setup, SetupFault};
 use rtk_frame::MemSink;
 use rtk_obs::GpsMs;
 use std::alloc::Global;
-use std::{io, str};
+use std::io;
 
 const WINDOW: usize = 2;
-
-const ROOM: usize = 4_096;
 
 const PER_WRITE: usize = 4_096;
 
@@ -21,60 +20,6 @@ pub(crate) fn setup() -> io::Result<Setup> {
         Ok(setup) => Ok(setup),
         Err(_) => Err(io::Error::other("no setup")),
     }
-}
-
-/// A writer with room for each file here.
-pub(crate) fn sink(alloc: Global) -> io::Result<MemSink> {
-    Ok(MemSink::new(alloc, ROOM, PER_WRITE)?)
-}
-
-/// Prints a fault by its name.
-pub(crate) fn print_fault(rt: &HostRuntime, name: &str, fault: &ConvertFault) -> io::Result<()> {
-    match fault {
-        ConvertFault::Setup => println!(rt; "{name}: Setup"),
-        ConvertFault::NoLink => println!(rt; "{name}: NoLink"),
-        ConvertFault::LinkClosed => println!(rt; "{name}: LinkClosed"),
-        ConvertFault::OutOfMemory => println!(rt; "{name}: OutOfMemory"),
-        ConvertFault::Write {
-            stream: Stream::Out,
-        } => println!(rt; "{name}: Write Out"),
-        ConvertFault::Write {
-            stream: Stream::Log,
-        } => println!(rt; "{name}: Write Log"),
-        ConvertFault::Read { link } => println!(rt; "{name}: Read, link {link}"),
-        ConvertFault::Endless => println!(rt; "{name}: Endless"),
-        ConvertFault::Stopped => println!(rt; "{name}: Stopped"),
-    }
-}
-
-/// Prints the counts that are not zero.
-pub(crate) fn print_counts(rt: &HostRuntime, counts: &Counts) -> io::Result<()> {
-    let each = [
-        ("frames", counts.frames),
-        ("other", counts.other),
-        ("refused", counts.refused),
-        ("foreign", counts.foreign),
-        ("taken", counts.taken),
-        ("repeat", counts.repeat),
-        ("conflict", counts.conflict),
-        ("late", counts.late),
-        ("epochs", counts.epochs),
-    ];
-    print!(rt; "  Counts:")?;
-    for (name, count) in each {
-        if count > 0 {
-            print!(rt; " {name} {count}")?;
-        }
-    }
-    println!(rt)
-}
-
-/// Prints a text line by line, behind two blanks.
-pub(crate) fn print_lines(rt: &HostRuntime, text: &[u8]) -> io::Result<()> {
-    for line in str::from_utf8(text).unwrap_or("no text").lines() {
-        println!(rt; "  {line}")?;
-    }
-    Ok(())
 }
 
 fn print_setup(
@@ -113,11 +58,6 @@ fn print_setups(rt: &HostRuntime) -> io::Result<()> {
         }
     }
     Ok(())
-}
-
-/// The frame of the 1004 of satellite 5.
-pub(crate) fn observation_frame(alloc: Global, tow: u32) -> io::Result<Vec<u8>> {
-    payloads::frame_of(alloc, &payloads::observation_payload(alloc, tow)?)
 }
 
 /// A converter with the writers of its file and of its report.

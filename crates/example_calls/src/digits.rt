@@ -4,9 +4,9 @@ ghost use Rattle.std.specs.Prelude.{ℕ, ◌<◌};
 ghost use Rattle.rtk_obs.specs.declared.code.Code.{Code};
 ghost use Rattle.rtk_obs.specs.Tracks.{IsLater, track_at};
 
-use crate::moments::{self, NOON_TOW};
 use crate::observations;
-use crate::payloads::{
+use example_inputs::moments::{self, NOON_TOW};
+use example_inputs::payloads::{
     self, LEGACY_5, LegacySatellite, MSM_5, MSM_CELL, Msm, MsmCell, NO_PHASE_1004,
 };
 use rtk_obs::{Cell, Code, Digits, GpsMs, Tracks};

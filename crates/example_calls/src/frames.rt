@@ -1,6 +1,6 @@
 //! The calls that make frames and find them in a text of bytes.
 
-use crate::payloads::{POSITION_FRAME, POSITION_PAYLOAD};
+use example_inputs::payloads::{POSITION_FRAME, POSITION_PAYLOAD};
 use rtk_frame::{FrameFault, Placed, crc24q, encode_frame, next_frame};
 use std::io;
 

@@ -1,5 +1,6 @@
-//! Makes each public call of the libraries that convert, show and check, on inputs whose answers were
-//! worked out by hand, and prints what was called and what came.
+//! Makes each public call of the libraries that convert and check, on inputs whose answers were worked
+//! out by hand, and prints what was called and what came. The calls of rtk_cli are those of
+//! `example_words`.
 //!
 //! A change of a name, of a form of a call or of an answer shows here: the program no longer
 //! compiles, or it prints another line than the file `stdout` has.
@@ -11,18 +12,13 @@ mod collector;
 mod conversions;
 mod converter;
 mod digits;
-mod example;
 mod frames;
 mod messages;
-mod moments;
 mod observations;
-mod payloads;
 mod rinex;
 mod runs;
 mod scanner;
-mod shell;
 mod streams;
-mod words;
 
 use std::io;
 
@@ -42,9 +38,7 @@ fn print_wholes(rt: &HostRuntime) -> io::Result<()> {
     checker::print_calls(rt)?;
     converter::print_calls(rt)?;
     conversions::print_calls(rt)?;
-    runs::print_calls(rt)?;
-    shell::print_calls(rt)?;
-    words::print_calls(rt)
+    runs::print_calls(rt)
 }
 
 fn main(rt: HostRuntime) -> io::Result<()> {

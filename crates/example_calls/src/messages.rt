@@ -1,7 +1,7 @@
 //! The calls that decode and encode messages.
 
-use crate::moments::NOON_TOW;
-use crate::payloads::{
+use example_inputs::moments::NOON_TOW;
+use example_inputs::payloads::{
     self, Arp, LEGACY_5, MSM_5, MSM_CELL, MSM_SATELLITE, Msm, POSITION, POSITION_PAYLOAD,
 };
 use rtk_bits::{BitReader, BitWriter};

@@ -1,11 +1,11 @@
 //! The calls for times, codes and observations.
 
-use crate::moments::{self, NOON_TOW, Shown};
-use crate::payloads::{
+use arrayvec::ArrayVec;
+use example_inputs::moments::{self, NOON_TOW, Shown};
+use example_inputs::payloads::{
     self, LEGACY_5, LegacySatellite, MSM_5, MSM_SATELLITE, Msm, MsmSatellite, NO_L2_RANGE,
     NO_PHASE_1004, NO_ROUGH_RANGE,
 };
-use arrayvec::ArrayVec;
 use rtk_message::Message;
 use rtk_obs::{
     Cell, CellEntry, CellSource, Civil, Code, cells_1004, cells_1074, least_lock_legacy,

@@ -3,8 +3,8 @@
 ghost use Rattle.std.specs.Prelude.{IsTrue};
 ghost use Rattle.rtk_rinex.specs.Record.{IsStrengthOrNone};
 
-use crate::moments;
-use crate::payloads::STATION;
+use example_inputs::moments;
+use example_inputs::payloads::STATION;
 use rtk_obs::{Code, GpsMs, Position};
 use rtk_rinex::{EpochTable, Head, HeadFault, Observed, header, record};
 use std::{io, str};

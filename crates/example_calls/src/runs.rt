@@ -1,64 +1,18 @@
 //! The call that converts what readers give.
 
-use crate::moments::NOON_TOW;
-use crate::payloads::POSITION_FRAME;
-use crate::{checker, converter, example};
-use rtk_convert::{Setup, run};
+use crate::{checker, converter};
+use example_inputs::conversion::{
+    capture, observation_frame, print_example, print_likeness, reader, run_into, sink,
+};
+use example_inputs::example;
+use example_inputs::moments::NOON_TOW;
 use rtk_frame::{After, MemSink, MemSource};
 use std::alloc::Global;
 use std::io;
 
-const PER_READ: usize = 512;
-
-// The frames of the position and of the observations at noon.
-fn capture(alloc: Global) -> io::Result<Vec<u8>> {
-    let mut bytes = Vec::from_slice(alloc, &POSITION_FRAME)?;
-    bytes.extend_from_slice(&converter::observation_frame(alloc, NOON_TOW)?)?;
-    Ok(bytes)
-}
-
-fn reader(alloc: Global, bytes: &[u8], after: After) -> io::Result<MemSource> {
-    Ok(MemSource::new(alloc, bytes, PER_READ, after)?)
-}
-
-// Runs a conversion, prints its counts or its fault, and gives the report.
-fn run_into(
-    rt: &HostRuntime,
-    setup: Setup,
-    readers: &mut [MemSource],
-    file: &mut MemSink,
-    max_reads: u64,
-) -> io::Result<MemSink> {
-    let mut report = converter::sink(rt.alloc())?;
-    match run(rt.alloc(), setup, readers, file, &mut report, max_reads) {
-        Ok(counts) => converter::print_counts(rt, &counts)?,
-        Err(fault) => converter::print_fault(rt, "run", &fault)?,
-    }
-    Ok(report)
-}
-
-// Prints whether these bytes are the example file, or its first bytes.
-fn print_likeness(rt: &HostRuntime, file: &[u8]) -> io::Result<()> {
-    let example = example::file(rt.alloc())?;
-    let same = file == example.as_bytes();
-    let front = example.as_bytes().starts_with(file);
-    let count = file.len();
-    println!(rt; "  {count} bytes, the example {same}, the front of it {front}")
-}
-
-/// Converts the example, and prints its report.
-pub(crate) fn print_example(rt: &HostRuntime, setup: Setup) -> io::Result<()> {
-    println!(rt; "run, the position and the observations")?;
-    let mut file = converter::sink(rt.alloc())?;
-    let mut readers = [reader(rt.alloc(), &capture(rt.alloc())?, After::End)?];
-    let report = run_into(rt, setup, &mut readers, &mut file, 100)?;
-    print_likeness(rt, file.bytes())?;
-    converter::print_lines(rt, report.bytes())
-}
-
 fn print_empty(rt: &HostRuntime) -> io::Result<()> {
     println!(rt; "run, an empty reader")?;
-    let mut file = converter::sink(rt.alloc())?;
+    let mut file = sink(rt.alloc())?;
     let mut readers = [reader(rt.alloc(), &[], After::End)?];
     let _report = run_into(rt, converter::setup()?, &mut readers, &mut file, 100)?;
     let known = "  1114104.5999 -4850729.7108  3975521.4643";
@@ -87,20 +41,14 @@ fn print_two(rt: &HostRuntime, name: &str, max_reads: u64) -> io::Result<()> {
     let bytes = capture(alloc)?;
     let first = reader(alloc, &bytes, After::End)?;
     let second = reader(alloc, &bytes, After::End)?;
-    print_run(
-        rt,
-        name,
-        &mut [first, second],
-        max_reads,
-        converter::sink(alloc)?,
-    )
+    print_run(rt, name, &mut [first, second], max_reads, sink(alloc)?)
 }
 
 fn print_lost_reader(rt: &HostRuntime) -> io::Result<()> {
     let alloc = rt.alloc();
     let first = reader(alloc, &capture(alloc)?, After::End)?;
     let second = reader(alloc, &[], After::Failure)?;
-    let file = converter::sink(alloc)?;
+    let file = sink(alloc)?;
     print_run(
         rt,
         "a second read that fails",
@@ -108,7 +56,7 @@ fn print_lost_reader(rt: &HostRuntime) -> io::Result<()> {
         100,
         file,
     )?;
-    print_run(rt, "no readers", &mut [], 100, converter::sink(alloc)?)
+    print_run(rt, "no readers", &mut [], 100, sink(alloc)?)
 }
 
 fn print_writer(rt: &HostRuntime, name: &str, file: MemSink) -> io::Result<()> {
@@ -121,7 +69,7 @@ fn long_capture(alloc: Global) -> io::Result<Vec<u8>> {
     let mut bytes = Vec::new(alloc);
     for second in 0..3_000u32 {
         let tow = second.saturating_mul(1_000).saturating_add(NOON_TOW);
-        bytes.extend_from_slice(&converter::observation_frame(alloc, tow)?)?;
+        bytes.extend_from_slice(&observation_frame(alloc, tow)?)?;
     }
     Ok(bytes)
 }

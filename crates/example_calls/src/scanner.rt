@@ -2,7 +2,7 @@
 
 ghost use Rattle.std.specs.Prelude.{◌≡◌, IfOk, false};
 
-use crate::payloads::{POSITION_FRAME, POSITION_PAYLOAD};
+use example_inputs::payloads::{POSITION_FRAME, POSITION_PAYLOAD};
 use rtk_frame::{Answer, Fed, Scanner};
 use std::alloc::Global;
 use std::io;

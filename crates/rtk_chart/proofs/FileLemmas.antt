@@ -9,7 +9,7 @@ use Rattle.rtk_rinex.specs.Reading.{IsMoment}
 use Rattle.rtk_rinex.specs.Record.{EpochTableView}
 use Rattle.rtk_rinex.specs.Table.{WellFormedTable, IsWellFormedTable, IsTableEpoch}
 use Rattle.rtk_tracking.specs.Epochs.{epochs_onto, newest_first}
-use Rattle.rtk_chart.specs.Epochs.{slips_in, rises_in}
+use Rattle.rtk_chart.specs.Epochs.{slips_in, returns_in, rises_in}
 use Rattle.rtk_tracking.specs.Interval.{steps_in, IsInterval, missing_in}
 use Rattle.rtk_chart.specs.Scale.{IsScale, unit_of, half_of, scale_of, bin_at, bin_length}
 use Rattle.rtk_chart.specs.HeadingLaws.{HasNumbers}
@@ -147,10 +147,10 @@ at-moments n es h = All-weaker (IsTableEpoch n) AtMoment (λ e is. is.time) es h
 
 pub tables-have-numbers : (t : WellFormedTable) (interval : Option ℕ) (allowed : ℕ) (e : EpochTableView) (before : List EpochTableView)
     → IsWellFormedTable t → newest_first t.epochs ≡ e ∷ before → IsInterval (steps_in (e ∷ before)) interval → IsInRange 1 1440 allowed
-    → length (e ∷ before) < 2 ^ 64 → slips_in interval (e ∷ before) < 2 ^ 64 → rises_in interval (e ∷ before) < 2 ^ 64
-    → missing_in (unit_of interval) (e ∷ before) < 2 ^ 64
+    → length (e ∷ before) < 2 ^ 64 → slips_in interval (e ∷ before) < 2 ^ 64 → returns_in interval (e ∷ before) < 2 ^ 64
+    → rises_in interval (e ∷ before) < 2 ^ 64 → missing_in (unit_of interval) (e ∷ before) < 2 ^ 64
     → HasNumbers (scale_of t.first e.time interval allowed) (e ∷ before)
-tables-have-numbers t interval allowed e before is newest steps room records slips rises missing =
+tables-have-numbers t interval allowed e before is newest steps room records slips returns rises missing =
     let moments : All AtMoment (e ∷ before) =
     subst (λ (es : List EpochTableView). All AtMoment es) newest
     (all-onto AtMoment t.epochs [] (at-moments _ t.epochs is.epochs) (All-nil AtMoment)) in
@@ -163,6 +163,7 @@ tables-have-numbers t interval allowed e before is newest steps room records sli
       interval = interval-fits (steps_in (e ∷ before)) interval steps (short-steps (e ∷ before) moments);
       records = records;
       slips = slips;
+      returns = returns;
       rises = rises;
       missing = missing;
     }

@@ -1,5 +1,5 @@
 -- The bins of a picture, epoch by epoch.
-use Rattle.std.proofs.Common.{◌≡◌, ◌≢◌, ◌<◌, ◌≤◌, ◌+◌, ◌*◌, ℕ, zero, suc, refl, Bool, true, false, cond, ltb, not, ◌&&◌, ◌||◌, List, [], ◌∷◌, Option, Some, length, set, get_or, map, replicate, sym, ap, subst, inl, inr, get_or-set_same, get_or-set_other, ◌∙◌, arith}
+use Rattle.std.proofs.Common.{◌≡◌, ◌≢◌, ◌<◌, ◌≤◌, ◌+◌, ◌-◌, ◌*◌, ◌/◌, ◌%◌, ◌==◌, ℕ, zero, suc, refl, Bool, true, false, cond, ltb, not, ◌&&◌, ◌||◌, List, [], ◌∷◌, Option, None, Some, length, set, get_or, map, replicate, sym, ap, subst, inl, inr, get_or-set_same, get_or-set_other, ◌∙◌, arith}
 use Rattle.std.specs.Prelude.{nat_lt, nat_le, is_some, count_by}
 use Rattle.std.specs.List.{range_with_len, sum_by}
 use Rattle.std.proofs.lemmas.Bool.{both_ways, cases_eq, eq-eqb, ne_eqb, lt-ltb, le-ltb}
@@ -9,13 +9,13 @@ use Rattle.rtk_rinex.specs.Record.{EpochTableView}
 use Rattle.rtk_rinex.specs.declared.epoch_table.Observed.{Observed}
 use Rattle.rtk_tracking.specs.Epochs.{capped, newest_moment, shows_phase, observed_in, shown_at}
 use Rattle.rtk_tracking.specs.Extremes.{lesser}
-use Rattle.rtk_tracking.specs.Passes.{Sighting, sightings_of, last_record, has_phase, has_bit_0, is_kept, is_slip, is_rise_or_return}
+use Rattle.rtk_tracking.specs.Passes.{Sighting, sightings_of, last_record, has_phase, has_bit_0, is_known, is_kept, is_slip, is_rise, is_return, outage_before}
 use Rattle.rtk_tracking.specs.Standing.{AreMarked, StandsForPass}
 use Rattle.rtk_tracking.specs.Interval.{missing_before, missing_in}
 use Rattle.rtk_tracking.specs.declared.passes.Pass.{Pass}
 use Rattle.rtk_chart.specs.Epochs.{sighting_of, is_seen, lacks_phase, has_bit_1, level_at, level_of, times_in_epoch}
 use Rattle.rtk_chart.specs.Scale.{bin_at}
-use Rattle.rtk_chart.specs.Grid.{no_marks, no_tracking, no_bin, code_in, codes_in, tracking_in, trackings_in, bin_in, bins_of, has_missing_before, has_missing, gaps_of}
+use Rattle.rtk_chart.specs.Grid.{no_marks, no_tracking, no_bin, code_in, codes_in, tracking_in, trackings_in, bin_in, bins_of, has_missing_before, has_missing, gaps_of, is_out_before, has_outage, outages_of}
 use Rattle.rtk_chart.specs.Steps.Standing.{AddsMarks, StandForPasses}
 use Rattle.rtk_chart.specs.Steps.Shown.{called_for, called_at, both_marks, both_codes, both_trackings, both_satellites, both_bins, tracking_of, bin_of}
 use Rattle.rtk_chart.specs.declared.code_marks.CodeMarks.{CodeMarks}
@@ -43,35 +43,39 @@ with_epoch s satellite e es c code own =
       phase = (own && shows_phase code (observed_in satellite e.rows)) || (code_in s satellite es c code).phase;
       missing = (own && lacks_phase code (observed_in satellite e.rows)) || (code_in s satellite es c code).missing;
       slip = (own && is_slip s.interval code (sightings_of satellite es) (sighting_of satellite e)) || (code_in s satellite es c code).slip;
-      rise = (own && is_rise_or_return s.interval code (sightings_of satellite es) (sighting_of satellite e)) || (code_in s satellite es c code).rise;
+      returned = (own && is_return s.interval code (sightings_of satellite es) (sighting_of satellite e)) || (code_in s satellite es c code).returned;
+      rise = (own && is_rise s.interval code (sightings_of satellite es) (sighting_of satellite e)) || (code_in s satellite es c code).rise;
       half = (own && has_bit_1 code (observed_in satellite e.rows)) || (code_in s satellite es c code).half;
       least = cond own (lesser (level_at code (observed_in satellite e.rows)) (code_in s satellite es c code).least) (code_in s satellite es c code).least;
     }
 
 -- what an epoch calls for, by its phase and bit 0
-abbrev called_by : Observed → Bool → Bool → Bool → Bool → CodeMarks → CodeMarks
-called_by o has kept phase bit m =
+abbrev called_by : Observed → Bool → Bool → Bool → Bool → Bool → CodeMarks → CodeMarks
+called_by o has known kept phase bit m =
     record {
       phase = phase || m.phase;
       missing = (has && not phase) || m.missing;
       slip = (bit && kept) || m.slip;
-      rise = (bit && not kept) || m.rise;
+      returned = (bit && (known && not kept)) || m.returned;
+      rise = (bit && not known) || m.rise;
       half = o.half || m.half;
       least = lesser (level_of o.strength_millidbhz) m.least;
     }
 
 code-own : (s : Scale) (satellite : ℕ) (e : EpochTableView) (es : List EpochTableView) (c code : ℕ) → bin_at s e.time ≡ c
     → code_in s satellite (e ∷ es) c code
-    ≡ both_marks (called_for (shown_at code (observed_in satellite e.rows)) (has_phase (observed_in satellite e.rows)) (is_kept s.interval code (sightings_of satellite es) (sighting_of satellite e)))
+    ≡ both_marks (called_for (shown_at code (observed_in satellite e.rows)) (has_phase (observed_in satellite e.rows)) (is_known s.interval code (sightings_of satellite es) (sighting_of satellite e))
+    (is_kept s.interval code (sightings_of satellite es) (sighting_of satellite e)))
     (code_in s satellite es c code)
 code-own s satellite e es c code at =
     let os : List Observed = observed_in satellite e.rows in
     let o : Observed = shown_at code os in
+    let known : Bool = is_known s.interval code (sightings_of satellite es) (sighting_of satellite e) in
     let kept : Bool = is_kept s.interval code (sightings_of satellite es) (sighting_of satellite e) in
     let m : CodeMarks = code_in s satellite es c code in
     ap (with_epoch s satellite e es c code) (eq-eqb (bin_at s e.time) c at)
-    ∙ ap (λ (phase : Bool). called_by o (has_phase os) kept phase (has_bit_0 code os) m) (phase-at code os)
-    ∙ ap (λ (bit : Bool). called_by o (has_phase os) kept (is_some o.phase_millicycles) bit m) (bit-at code os)
+    ∙ ap (λ (phase : Bool). called_by o (has_phase os) known kept phase (has_bit_0 code os) m) (phase-at code os)
+    ∙ ap (λ (bit : Bool). called_by o (has_phase os) known kept (is_some o.phase_millicycles) bit m) (bit-at code os)
 
 code-other : (s : Scale) (satellite : ℕ) (e : EpochTableView) (es : List EpochTableView) (c code : ℕ) → bin_at s e.time ≢ c
     → code_in s satellite (e ∷ es) c code ≡ code_in s satellite es c code
@@ -104,7 +108,8 @@ at-place f n k d inside =
 
 -- the codes of one epoch
 abbrev called_of : Option ℕ → List Sighting → Sighting → ℕ → CodeMarks
-called_of interval before now code = called_for (shown_at code now.observed) (has_phase now.observed) (is_kept interval code before now)
+called_of interval before now code =
+    called_for (shown_at code now.observed) (has_phase now.observed) (is_known interval code before now) (is_kept interval code before now)
 
 codes-own : (s : Scale) (satellite : ℕ) (e : EpochTableView) (es : List EpochTableView) (c : ℕ) → bin_at s e.time ≡ c
     → codes_in s satellite (e ∷ es) c
@@ -135,11 +140,12 @@ unseen-own : (s : Scale) (satellite : ℕ) (e : EpochTableView) (es : List Epoch
     → tracking_in s satellite (e ∷ es) c ≡ tracking_in s satellite es c
 unfolding codes_in
 unseen-own s satellite e es c at none =
+    let known : ℕ → Bool = λ code. is_known s.interval code (sightings_of satellite es) (sighting_of satellite e) in
     let kept : ℕ → Bool = λ code. is_kept s.interval code (sightings_of satellite es) (sighting_of satellite e) in
     same-tracking _ _ _ _
     (map-same (code_in s satellite (e ∷ es) c) (code_in s satellite es c) 0 16 (λ code lt.
     code-own s satellite e es c code at
-    ∙ ap (λ (os : List Observed). both_marks (called_for (shown_at code os) (has_phase os) (kept code)) (code_in s satellite es c code)) none))
+    ∙ ap (λ (os : List Observed). both_marks (called_for (shown_at code os) (has_phase os) (known code) (kept code)) (code_in s satellite es c code)) none))
     (seen-own s satellite e es c at ∙ ap (λ (os : List Observed). is_seen os || (tracking_in s satellite es c).seen) none)
 
 tracking-by : (s : Scale) (satellite : ℕ) (e : EpochTableView) (es : List EpochTableView) (c : ℕ) → bin_at s e.time ≡ c
@@ -205,16 +211,17 @@ bin-more s e es bins place called old new d at within are calls was took =
 -- ---- what one epoch calls for
 
 -- the codes of a satellite
-pub codes-called : (interval : Option ℕ) (before : List Sighting) (now : Sighting) (os : List Observed) (kept : List Bool) (t : Tracking)
-    → os ≡ now.observed → AreMarked kept (λ code. is_kept interval code before now)
-    → t.codes ≡ map (called_at os kept) (range_with_len 0 16) → t.seen ≡ is_seen os → t ≡ tracking_of interval before now
+pub codes-called : (interval : Option ℕ) (before : List Sighting) (now : Sighting) (os : List Observed) (had kept : List Bool) (t : Tracking)
+    → os ≡ now.observed → AreMarked had (λ code. is_known interval code before now) → AreMarked kept (λ code. is_kept interval code before now)
+    → t.codes ≡ map (called_at os had kept) (range_with_len 0 16) → t.seen ≡ is_seen os → t ≡ tracking_of interval before now
 unfolding tracking_of
-codes-called interval before now os kept t shown marked codes seen =
+codes-called interval before now os had kept t shown known marked codes seen =
     same-tracking t.codes _ t.seen _
-    (codes ∙ map-same (called_at os kept) (called_of interval before now) 0 16 (λ code lt.
+    (codes ∙ map-same (called_at os had kept) (called_of interval before now) 0 16 (λ code lt.
     let inside : code < 16 = omega (arith, lt) in
-    ap (λ (xs : List Observed). called_at xs kept code) shown
-    ∙ ap (λ (b : Bool). called_for (shown_at code now.observed) (has_phase now.observed) b) (marked code inside)))
+    ap (λ (xs : List Observed). called_at xs had kept code) shown
+    ∙ ap (λ (b : Bool). called_for (shown_at code now.observed) (has_phase now.observed) b (get_or kept code false)) (known code inside)
+    ∙ ap (λ (b : Bool). called_for (shown_at code now.observed) (has_phase now.observed) (is_known interval code before now) b) (marked code inside)))
     (seen ∙ ap is_seen shown)
 
 -- a satellite without a row calls for nothing
@@ -290,13 +297,22 @@ slips-of-tracking interval before now =
     ∙ sum-same (λ (code : ℕ). cond ((shown_at code now.observed).slip && is_kept interval code before now) 1 0) (λ (code : ℕ). cond (is_slip interval code before now) 1 0) (range_with_len 0 16)
     (λ code. ap (λ (bit : Bool). cond (bit && is_kept interval code before now) 1 0) (sym (bit-at code now.observed)))
 
+returns-of-tracking : (interval : Option ℕ) (before : List Sighting) (now : Sighting)
+    → count_by (λ m. m.returned) (tracking_of interval before now).codes ≡ count_by (λ code. is_return interval code before now) (range_with_len 0 16)
+unfolding tracking_of
+returns-of-tracking interval before now =
+    let back : ℕ → Bool = λ code. is_known interval code before now && not (is_kept interval code before now) in
+    sum-map (λ (m : CodeMarks). cond m.returned 1 0) (called_of interval before now) (range_with_len 0 16)
+    ∙ sum-same (λ (code : ℕ). cond ((shown_at code now.observed).slip && back code) 1 0) (λ (code : ℕ). cond (is_return interval code before now) 1 0) (range_with_len 0 16)
+    (λ code. ap (λ (bit : Bool). cond (bit && back code) 1 0) (sym (bit-at code now.observed)))
+
 rises-of-tracking : (interval : Option ℕ) (before : List Sighting) (now : Sighting)
-    → count_by (λ m. m.rise) (tracking_of interval before now).codes ≡ count_by (λ code. is_rise_or_return interval code before now) (range_with_len 0 16)
+    → count_by (λ m. m.rise) (tracking_of interval before now).codes ≡ count_by (λ code. is_rise interval code before now) (range_with_len 0 16)
 unfolding tracking_of
 rises-of-tracking interval before now =
     sum-map (λ (m : CodeMarks). cond m.rise 1 0) (called_of interval before now) (range_with_len 0 16)
-    ∙ sum-same (λ (code : ℕ). cond ((shown_at code now.observed).slip && not (is_kept interval code before now)) 1 0) (λ (code : ℕ). cond (is_rise_or_return interval code before now) 1 0) (range_with_len 0 16)
-    (λ code. ap (λ (bit : Bool). cond (bit && not (is_kept interval code before now)) 1 0) (sym (bit-at code now.observed)))
+    ∙ sum-same (λ (code : ℕ). cond ((shown_at code now.observed).slip && not (is_known interval code before now)) 1 0) (λ (code : ℕ). cond (is_rise interval code before now) 1 0) (range_with_len 0 16)
+    (λ code. ap (λ (bit : Bool). cond (bit && not (is_known interval code before now)) 1 0) (sym (bit-at code now.observed)))
 
 pub slips-called : (interval : Option ℕ) (es : List EpochTableView) (e : EpochTableView) (called : TimeBin) → called ≡ bin_of interval es e
     → sum_by (λ t. count_by (λ m. m.slip) t.codes) called.satellites ≡ times_in_epoch (is_slip interval) es e
@@ -307,8 +323,17 @@ slips-called interval es e called are =
     ∙ sum-map (λ (t : Tracking). count_by (λ m. m.slip) t.codes) of (range_with_len 0 32)
     ∙ sum-same (λ (place : ℕ). count_by (λ m. m.slip) (of place).codes) _ (range_with_len 0 32) (λ place. slips-of-tracking interval (sightings_of (place + 1) es) (sighting_of (place + 1) e))
 
+pub returns-called : (interval : Option ℕ) (es : List EpochTableView) (e : EpochTableView) (called : TimeBin) → called ≡ bin_of interval es e
+    → sum_by (λ t. count_by (λ m. m.returned) t.codes) called.satellites ≡ times_in_epoch (is_return interval) es e
+unfolding bin_of
+returns-called interval es e called are =
+    let of : ℕ → Tracking = λ place. tracking_of interval (sightings_of (place + 1) es) (sighting_of (place + 1) e) in
+    ap (λ (b : TimeBin). sum_by (λ (t : Tracking). count_by (λ m. m.returned) t.codes) b.satellites) are
+    ∙ sum-map (λ (t : Tracking). count_by (λ m. m.returned) t.codes) of (range_with_len 0 32)
+    ∙ sum-same (λ (place : ℕ). count_by (λ m. m.returned) (of place).codes) _ (range_with_len 0 32) (λ place. returns-of-tracking interval (sightings_of (place + 1) es) (sighting_of (place + 1) e))
+
 pub rises-called : (interval : Option ℕ) (es : List EpochTableView) (e : EpochTableView) (called : TimeBin) → called ≡ bin_of interval es e
-    → sum_by (λ t. count_by (λ m. m.rise) t.codes) called.satellites ≡ times_in_epoch (is_rise_or_return interval) es e
+    → sum_by (λ t. count_by (λ m. m.rise) t.codes) called.satellites ≡ times_in_epoch (is_rise interval) es e
 unfolding bin_of
 rises-called interval es e called are =
     let of : ℕ → Tracking = λ place. tracking_of interval (sightings_of (place + 1) es) (sighting_of (place + 1) e) in
@@ -418,3 +443,38 @@ pub missing-more : (unit : ℕ) (e : EpochTableView) (es : List EpochTableView) 
 missing-more unit e es last time missing before at are =
     are ∙ ap (λ (l : Option ℕ). capped (missing_in unit es + missing_before unit l time)) before
     ∙ ap (λ (t : ℕ). capped (missing_in unit es + missing_before unit (newest_moment es) t)) at
+
+-- ---- outages
+
+pub fresh-outages : (s : Scale) (outages : List Bool) → outages ≡ replicate (32 * s.bins) false → outages ≡ outages_of s []
+unfolding outages_of
+fresh-outages s outages are =
+    fill_by_all (λ slot. false) outages (32 * s.bins) false (ap (λ xs. length xs) are ∙ length-replicate (32 * s.bins) false)
+    (λ k lt. ap (λ xs. get_or xs k false) are ∙ get_or-replicate (32 * s.bins) k false false lt)
+
+-- whether a satellite, by its slot, has an outage: those before a place with an epoch more, the others without it
+abbrev pub out_up_to : Scale → EpochTableView → List EpochTableView → ℕ → ℕ → Bool
+out_up_to s e es place slot =
+    cond (ltb (slot % 32) place) (has_outage s (slot % 32 + 1) (e ∷ es) (slot / 32)) (has_outage s (slot % 32 + 1) es (slot / 32))
+
+pub out-none : (s : Scale) (e : EpochTableView) (es : List EpochTableView) (outages : List Bool) → length outages ≡ 32 * s.bins → outages ≡ outages_of s es
+    → (slot : ℕ) → slot < length outages → get_or outages slot false ≡ out_up_to s e es 0 slot
+unfolding outages_of
+out-none s e es outages size are slot lt =
+    let inside : slot < 32 * s.bins = omega (arith, lt, size) in
+    let above : 0 ≤ slot % 32 = omega arith in
+    ap (λ xs. get_or xs slot false) are ∙ at-place (λ k. has_outage s (k % 32 + 1) es (k / 32)) (32 * s.bins) slot false inside
+    ∙ sym (ap (λ (b : Bool). cond b (has_outage s (slot % 32 + 1) (e ∷ es) (slot / 32)) (has_outage s (slot % 32 + 1) es (slot / 32))) (le-ltb (slot % 32) 0 above))
+
+pub out-all : (s : Scale) (e : EpochTableView) (es : List EpochTableView) (i : ℕ) (outages : List Bool) → i ≡ 32 → length outages ≡ 32 * s.bins
+    → ((slot : ℕ) → slot < length outages → get_or outages slot false ≡ out_up_to s e es i slot) → outages ≡ outages_of s (e ∷ es)
+unfolding outages_of
+out-all s e es i outages end size so_far =
+    fill_by_all (λ slot. has_outage s (slot % 32 + 1) (e ∷ es) (slot / 32)) outages (32 * s.bins) false size (λ slot lt.
+    let inside : slot < length outages = omega (arith, lt, size) in
+    let below : slot % 32 < i = omega (arith, end) in
+    so_far slot inside ∙ ap (λ (b : Bool). cond b (has_outage s (slot % 32 + 1) (e ∷ es) (slot / 32)) (has_outage s (slot % 32 + 1) es (slot / 32))) (lt-ltb (slot % 32) i below))
+
+-- a slot of the satellite at a place, in one of these bins
+abbrev pub in_slots : ℕ → ℕ → ℕ → ℕ → Bool
+in_slots place from to k = (k % 32 == place) && (nat_le from (k / 32) && nat_le (k / 32) to)

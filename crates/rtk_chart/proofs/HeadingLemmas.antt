@@ -6,23 +6,20 @@ use Rattle.rtk_rinex.specs.Header.{IsMarker}
 use Rattle.rtk_rinex.specs.Reading.{IsMoment, reading_of}
 use Rattle.rtk_rinex.specs.Record.{EpochTableView}
 use Rattle.rtk_tracking.specs.Epochs.{capped}
-use Rattle.rtk_chart.specs.Epochs.{slips_in, rises_in}
+use Rattle.rtk_chart.specs.Epochs.{slips_in, returns_in, rises_in}
 use Rattle.rtk_obs.specs.CivilText.{civil_text}
 use Rattle.rtk_chart.specs.Heading.{interval_lines}
 use Rattle.rtk_tracking.specs.Interval.{missing_in}
-use Rattle.rtk_chart.specs.Grid.{bins_of, gaps_of}
+use Rattle.rtk_chart.specs.Grid.{bins_of, outages_of, gaps_of}
 use Rattle.rtk_chart.specs.TextPicture.{satellites_in, named_count_line, moment_line, text_heading, number_lines, text_body, text_picture}
 use Rattle.rtk_chart.specs.SvgPicture.{number_between, interval_text, svg_span, svg_numbers, svg_start, svg_body, bands_end, svg_picture}
-use Rattle.rtk_chart.specs.Chart.{slips_at, rises_at, text_at, svg_at}
+use Rattle.rtk_chart.specs.Chart.{slips_at, returns_at, rises_at, text_at, svg_at}
 use Rattle.rtk_chart.specs.HeadingLaws.{HasNumbers, HaveSameBins, HaveSameNumbers, heading_in_text, heading_in_svg}
 use Rattle.rtk_chart.specs.declared.scale.Scale.{Scale}
 use Rattle.rtk_chart.proofs.PieceLemmas.{capped-fits, same-capped, Lacks, Fits, lacks-printable, same-until, same-count, same-last-count, same-between, same-last-between, same-interval, same-interval-text, same-moment, same-moment-line}
 use Rattle.rtk_chart.proofs.SeenLemmas.{satellites-are, satellites-fit}
 
 -- ---- texts one after another
-
-group_5 : (a b c d e : List ℕ) → (((a ++ b) ++ c) ++ d) ++ e ≡ a ++ (b ++ (c ++ (d ++ e)))
-group_5 a b c d e = simp append_assoc
 
 group_6 : (a b c d e f : List ℕ) → ((((a ++ b) ++ c) ++ d) ++ e) ++ f ≡ a ++ (b ++ (c ++ (d ++ (e ++ f))))
 group_6 a b c d e f = simp append_assoc
@@ -32,11 +29,12 @@ group_7 a b c d e f g = simp append_assoc
 
 -- ---- counts
 
--- the numbers of records, satellites, slips, rises and missing epochs
+-- the numbers of records, satellites, slips, returns, rises and missing epochs
 record Numbers : Type 0 where
   records : ℕ
   satellites : ℕ
   slips : ℕ
+  returns : ℕ
   rises : ℕ
   missing : ℕ
 
@@ -45,6 +43,7 @@ record Fit (n : Numbers) : Type 0 where
   records : n.records < 2 ^ 64
   satellites : n.satellites < 2 ^ 64
   slips : n.slips < 2 ^ 64
+  returns : n.returns < 2 ^ 64
   rises : n.rises < 2 ^ 64
   missing : n.missing < 2 ^ 64
 
@@ -53,6 +52,7 @@ record Alike (m n : Numbers) : Type 0 where
   records : m.records ≡ n.records
   satellites : m.satellites ≡ n.satellites
   slips : m.slips ≡ n.slips
+  returns : m.returns ≡ n.returns
   rises : m.rises ≡ n.rises
   missing : m.missing ≡ n.missing
 
@@ -60,7 +60,8 @@ abbrev count_lines : Numbers → List ℕ
 count_lines n =
     named_count_line (codes "records ") n.records
     ++ (named_count_line (codes "satellites ") n.satellites
-    ++ (named_count_line (codes "slips ") n.slips ++ (named_count_line (codes "rises ") n.rises ++ named_count_line (codes "missing ") n.missing)))
+    ++ (named_count_line (codes "slips ") n.slips ++ (named_count_line (codes "returns ") n.returns
+    ++ (named_count_line (codes "rises ") n.rises ++ named_count_line (codes "missing ") n.missing))))
 
 same-count-lines : (m n : Numbers) → Fit m → Fit n → count_lines m ≡ count_lines n → Alike m n
 same-count-lines m n h g same =
@@ -68,39 +69,43 @@ same-count-lines m n h g same =
     let last₂ : List ℕ = named_count_line (codes "missing ") n.missing in
     let two : List ℕ = named_count_line (codes "rises ") m.rises ++ last in
     let two₂ : List ℕ = named_count_line (codes "rises ") n.rises ++ last₂ in
-    let three : List ℕ = named_count_line (codes "slips ") m.slips ++ two in
-    let three₂ : List ℕ = named_count_line (codes "slips ") n.slips ++ two₂ in
+    let back : List ℕ = named_count_line (codes "returns ") m.returns ++ two in
+    let back₂ : List ℕ = named_count_line (codes "returns ") n.returns ++ two₂ in
+    let three : List ℕ = named_count_line (codes "slips ") m.slips ++ back in
+    let three₂ : List ℕ = named_count_line (codes "slips ") n.slips ++ back₂ in
     let four : List ℕ = named_count_line (codes "satellites ") m.satellites ++ three in
     let four₂ : List ℕ = named_count_line (codes "satellites ") n.satellites ++ three₂ in
     let w = same-count (codes "records ") m.records n.records four four₂ h.records g.records same in
     let x = same-count (codes "satellites ") m.satellites n.satellites three three₂ h.satellites g.satellites w.1 in
-    let y = same-count (codes "slips ") m.slips n.slips two two₂ h.slips g.slips x.1 in
-    let z = same-count (codes "rises ") m.rises n.rises last last₂ h.rises g.rises y.1 in
-    record { records = w.0; satellites = x.0; slips = y.0; rises = z.0; missing = same-last-count (codes "missing ") m.missing n.missing h.missing g.missing z.1 }
+    let y = same-count (codes "slips ") m.slips n.slips back back₂ h.slips g.slips x.1 in
+    let b = same-count (codes "returns ") m.returns n.returns two two₂ h.returns g.returns y.1 in
+    let z = same-count (codes "rises ") m.rises n.rises last last₂ h.rises g.rises b.1 in
+    record { records = w.0; satellites = x.0; slips = y.0; returns = b.0; rises = z.0; missing = same-last-count (codes "missing ") m.missing n.missing h.missing g.missing z.1 }
 
 abbrev lines_of : Scale → Numbers → List ℕ
-lines_of s n = number_lines s n.records n.satellites n.slips n.rises n.missing
+lines_of s n = number_lines s n.records n.satellites n.slips n.returns n.rises n.missing
 
 lines-are : (s : Scale) (n : Numbers) → lines_of s n ≡ interval_lines s.interval s.bin_ms ++ count_lines n
 unfolding number_lines
 lines-are s n =
-    group_6 (interval_lines s.interval s.bin_ms) (named_count_line (codes "records ") n.records) (named_count_line (codes "satellites ") n.satellites)
-    (named_count_line (codes "slips ") n.slips) (named_count_line (codes "rises ") n.rises) (named_count_line (codes "missing ") n.missing)
+    group_7 (interval_lines s.interval s.bin_ms) (named_count_line (codes "records ") n.records) (named_count_line (codes "satellites ") n.satellites)
+    (named_count_line (codes "slips ") n.slips) (named_count_line (codes "returns ") n.returns) (named_count_line (codes "rises ") n.rises) (named_count_line (codes "missing ") n.missing)
 
 abbrev svg_counts : Numbers → List ℕ
 svg_counts n =
     number_between (codes "<text x='110' y='98'>records ") n.records (44 ∷ codes " satellites ")
-    ++ (number_between [] n.satellites (44 ∷ codes " slips ") ++ (number_between [] n.slips (44 ∷ codes " rises ")
-    ++ (number_between [] n.rises (44 ∷ codes " missing epochs ") ++ number_between [] n.missing (codes "</text>\n"))))
+    ++ (number_between [] n.satellites (44 ∷ codes " slips ") ++ (number_between [] n.slips (44 ∷ codes " returns ")
+    ++ (number_between [] n.returns (44 ∷ codes " rises ")
+    ++ (number_between [] n.rises (44 ∷ codes " missing epochs ") ++ number_between [] n.missing (codes "</text>\n")))))
 
 abbrev svg_numbers_of : Numbers → List ℕ
-svg_numbers_of n = svg_numbers n.records n.satellites n.slips n.rises n.missing
+svg_numbers_of n = svg_numbers n.records n.satellites n.slips n.returns n.rises n.missing
 
 svg-counts-are : (n : Numbers) → svg_numbers_of n ≡ svg_counts n
 unfolding svg_numbers
 svg-counts-are n =
-    group_5 (number_between (codes "<text x='110' y='98'>records ") n.records (codes ", satellites ")) (number_between [] n.satellites (codes ", slips "))
-    (number_between [] n.slips (codes ", rises ")) (number_between [] n.rises (codes ", missing epochs ")) (number_between [] n.missing (codes "</text>\n"))
+    group_6 (number_between (codes "<text x='110' y='98'>records ") n.records (codes ", satellites ")) (number_between [] n.satellites (codes ", slips "))
+    (number_between [] n.slips (codes ", returns ")) (number_between [] n.returns (codes ", rises ")) (number_between [] n.rises (codes ", missing epochs ")) (number_between [] n.missing (codes "</text>\n"))
 
 same-svg-counts : (m n : Numbers) → Fit m → Fit n → svg_counts m ≡ svg_counts n → Alike m n
 same-svg-counts m n h g same =
@@ -108,15 +113,18 @@ same-svg-counts m n h g same =
     let last₂ : List ℕ = number_between [] n.missing (codes "</text>\n") in
     let two : List ℕ = number_between [] m.rises (44 ∷ codes " missing epochs ") ++ last in
     let two₂ : List ℕ = number_between [] n.rises (44 ∷ codes " missing epochs ") ++ last₂ in
-    let three : List ℕ = number_between [] m.slips (44 ∷ codes " rises ") ++ two in
-    let three₂ : List ℕ = number_between [] n.slips (44 ∷ codes " rises ") ++ two₂ in
+    let back : List ℕ = number_between [] m.returns (44 ∷ codes " rises ") ++ two in
+    let back₂ : List ℕ = number_between [] n.returns (44 ∷ codes " rises ") ++ two₂ in
+    let three : List ℕ = number_between [] m.slips (44 ∷ codes " returns ") ++ back in
+    let three₂ : List ℕ = number_between [] n.slips (44 ∷ codes " returns ") ++ back₂ in
     let four : List ℕ = number_between [] m.satellites (44 ∷ codes " slips ") ++ three in
     let four₂ : List ℕ = number_between [] n.satellites (44 ∷ codes " slips ") ++ three₂ in
     let w = same-between (codes "<text x='110' y='98'>records ") m.records n.records 44 (codes " satellites ") four four₂ (lit< tt) h.records g.records same in
     let x = same-between [] m.satellites n.satellites 44 (codes " slips ") three three₂ (lit< tt) h.satellites g.satellites w.1 in
-    let y = same-between [] m.slips n.slips 44 (codes " rises ") two two₂ (lit< tt) h.slips g.slips x.1 in
-    let z = same-between [] m.rises n.rises 44 (codes " missing epochs ") last last₂ (lit< tt) h.rises g.rises y.1 in
-    record { records = w.0; satellites = x.0; slips = y.0; rises = z.0; missing = same-last-between (codes "</text>\n") m.missing n.missing h.missing g.missing z.1 }
+    let y = same-between [] m.slips n.slips 44 (codes " returns ") back back₂ (lit< tt) h.slips g.slips x.1 in
+    let b = same-between [] m.returns n.returns 44 (codes " rises ") two two₂ (lit< tt) h.returns g.returns y.1 in
+    let z = same-between [] m.rises n.rises 44 (codes " missing epochs ") last last₂ (lit< tt) h.rises g.rises b.1 in
+    record { records = w.0; satellites = x.0; slips = y.0; returns = b.0; rises = z.0; missing = same-last-between (codes "</text>\n") m.missing n.missing h.missing g.missing z.1 }
 
 -- ---- what a heading tells
 
@@ -206,6 +214,7 @@ numbers_in s es =
       records = capped (length es);
       satellites = satellites_in (bins_of s es);
       slips = slips_at s es;
+      returns = returns_at s es;
       rises = rises_at s es;
       missing = capped (missing_in s.unit es);
     }
@@ -216,6 +225,7 @@ fit s es =
       records = capped-fits (length es);
       satellites = satellites-fit (bins_of s es);
       slips = capped-fits (slips_in s.interval es);
+      returns = capped-fits (returns_in s.interval es);
       rises = capped-fits (rises_in s.interval es);
       missing = capped-fits (missing_in s.unit es);
     }
@@ -232,6 +242,7 @@ same-numbers s t es fs hs ht same =
       records = same-capped (length es) (length fs) hs.records ht.records n.records;
       satellites = sym (satellites-are s es hs.bins) ∙ n.satellites ∙ satellites-are t fs ht.bins;
       slips = same-capped (slips_in s.interval es) (slips_in t.interval fs) hs.slips ht.slips n.slips;
+      returns = same-capped (returns_in s.interval es) (returns_in t.interval fs) hs.returns ht.returns n.returns;
       rises = same-capped (rises_in s.interval es) (rises_in t.interval fs) hs.rises ht.rises n.rises;
       missing = same-capped (missing_in s.unit es) (missing_in t.unit fs) hs.missing ht.missing n.missing;
     }
@@ -256,7 +267,7 @@ svg-headings reads s t es fs hs ht same =
 pub text-begins : (marker : List ℕ) (listed : List Code) (width : ℕ) (s : Scale) (es : List EpochTableView)
     → (rest : List ℕ) × (text_at marker listed width s es ≡ heading_in_text marker s es ++ rest)
 unfolding text_picture
-text-begins marker listed width s es = (text_body listed s width (bins_of s es) (gaps_of s es), refl)
+text-begins marker listed width s es = (text_body listed s width (bins_of s es) (outages_of s es) (gaps_of s es), refl)
 
 pub svg-has : (marker : List ℕ) (listed : List Code) (s : Scale) (es : List EpochTableView)
     → (front : List ℕ) × (rest : List ℕ) × (svg_at marker listed s es ≡ front ++ heading_in_svg s es ++ rest)
@@ -264,6 +275,6 @@ unfolding svg_picture
 svg-has marker listed s es =
     let satellites = satellites_in (bins_of s es) in
     let end = bands_end (length listed) satellites in
-    let numbers : List ℕ = svg_numbers (capped (length es)) satellites (slips_at s es) (rises_at s es) (capped (missing_in s.unit es)) in
-    let body : List ℕ = svg_body listed s (bins_of s es) (gaps_of s es) end in
+    let numbers : List ℕ = svg_numbers (capped (length es)) satellites (slips_at s es) (returns_at s es) (rises_at s es) (capped (missing_in s.unit es)) in
+    let body : List ℕ = svg_body listed s (bins_of s es) (outages_of s es) (gaps_of s es) end in
     (svg_start marker (end + 230), body, ap (λ (t : List ℕ). t ++ body) (append_assoc (svg_start marker (end + 230)) (svg_span s) numbers))

@@ -1,5 +1,5 @@
 -- Each mark of a picture has its epochs, and each epoch its mark.
-use Rattle.std.proofs.Common.{Less, Equal, Greater, ◌≡◌, ◌<◌, ◌+◌, ◌-◌, ◌==◌, ℕ, Bool, true, false, cond, not, ◌&&◌, ◌||◌, inl, inr, Option, None, Some, List, [], ◌∷◌, ◌++◌, get_or, refl, sym, ap, ◌∙◌, arith}
+use Rattle.std.proofs.Common.{Less, Equal, Greater, ◌≡◌, ◌<◌, ◌+◌, ◌-◌, ◌*◌, ◌/◌, ◌%◌, ◌==◌, ℕ, Bool, true, false, cond, not, ◌&&◌, ◌||◌, inl, inr, Option, None, Some, List, [], ◌∷◌, ◌++◌, get_or, refl, sym, ap, ◌∙◌, arith}
 use Rattle.std.specs.Prelude.{nat_le, nat_lt, ◌↔◌, count_by}
 use Rattle.std.specs.Ordering.{nat_cmp, is_lt, ord_min}
 use Rattle.std.specs.List.{range_with_len, sum_by}
@@ -10,12 +10,13 @@ use Rattle.std.proofs.lemmas.List.Sums.{sum_by-cons}
 use Rattle.rtk_rinex.specs.Record.{EpochTableView}
 use Rattle.rtk_tracking.specs.Epochs.{newest_moment, observed_in, shows_phase}
 use Rattle.rtk_tracking.specs.Extremes.{lesser}
-use Rattle.rtk_tracking.specs.Passes.{Sighting, sightings_of, has_bit_0, is_kept, is_slip, is_rise_or_return}
+use Rattle.rtk_tracking.specs.Passes.{Sighting, sightings_of, has_bit_0, is_slip, is_rise, is_return, outage_before}
+use Rattle.rtk_tracking.specs.Laws.{EachBitIsOneOfThree}
 use Rattle.rtk_tracking.specs.Interval.{steps_in, nearest_intervals, missing_in}
-use Rattle.rtk_chart.specs.Epochs.{sighting_of, is_seen, lacks_phase, has_bit_1, level_at, times_in_epoch, times_in, slips_in, rises_in}
+use Rattle.rtk_chart.specs.Epochs.{sighting_of, is_seen, lacks_phase, has_bit_1, level_at, times_in_epoch, times_in, slips_in, returns_in, rises_in}
 use Rattle.rtk_chart.specs.Scale.{bin_at}
-use Rattle.rtk_chart.specs.Grid.{no_bin, some_epoch, least_in, code_in, bin_in, bins_of, tracking_at, marks_at, has_missing_before, has_missing, gaps_of}
-use Rattle.rtk_chart.specs.MarkLaws.{IsCalledFor, IsMarkOf, is_at_most, ShowsEpochs, IsMissingIn}
+use Rattle.rtk_chart.specs.Grid.{no_bin, some_epoch, least_in, code_in, bin_in, bins_of, tracking_at, marks_at, has_missing_before, has_missing, gaps_of, is_out_before, has_outage, outages_of, is_out}
+use Rattle.rtk_chart.specs.MarkLaws.{IsCalledFor, IsMarkOf, is_at_most, ShowsEpochs, IsMissingIn, IsOutIn}
 use Rattle.rtk_chart.specs.declared.scale.Scale.{Scale}
 use Rattle.rtk_chart.specs.declared.code_marks.CodeMarks.{CodeMarks}
 use Rattle.rtk_chart.specs.declared.tracking.Tracking.{Tracking}
@@ -101,7 +102,8 @@ marks-show s es c satellite code marks is =
       phase = mark-of (λ before now. shows_phase code now.observed) s satellite es c marks.phase (ap (λ (m : CodeMarks). m.phase) is);
       missing = mark-of (λ before now. lacks_phase code now.observed) s satellite es c marks.missing (ap (λ (m : CodeMarks). m.missing) is);
       slip = mark-of (is_slip s.interval code) s satellite es c marks.slip (ap (λ (m : CodeMarks). m.slip) is);
-      rise = mark-of (is_rise_or_return s.interval code) s satellite es c marks.rise (ap (λ (m : CodeMarks). m.rise) is);
+      returned = mark-of (is_return s.interval code) s satellite es c marks.returned (ap (λ (m : CodeMarks). m.returned) is);
+      rise = mark-of (is_rise s.interval code) s satellite es c marks.rise (ap (λ (m : CodeMarks). m.rise) is);
       half = mark-of (λ before now. has_bit_1 code now.observed) s satellite es c marks.half (ap (λ (m : CodeMarks). m.half) is);
       least = λ level. mark-of (λ before now. is_at_most level (level_at code now.observed)) s satellite es c (is_at_most level marks.least)
           (ap (λ (m : CodeMarks). is_at_most level m.least) is ∙ least-at-most level s satellite code es c);
@@ -165,32 +167,79 @@ missing-of-steps unit (e ∷ b ∷ before) =
     ∙ turned (sum_by (λ (k : ℕ). nearest_intervals unit k - 1) (steps_in (b ∷ before))) (nearest_intervals unit step - 1)
     ∙ sym (sum_by-cons (λ (k : ℕ). nearest_intervals unit k - 1) step (steps_in (b ∷ before)))
 
--- each bit 0 is a slip or a rise
-one-of-two : (bit known : Bool) → cond (bit && known) 1 0 + cond (bit && not known) 1 0 ≡ cond bit 1 0
-one-of-two true true = refl
-one-of-two true false = refl
-one-of-two false known = refl
+-- each bit 0 is a slip, a return or a rise
+turned-three : (a b c : ℕ) → a + b + c ≡ c + b + a
+turned-three a b c = omega arith
 
-bits-of-satellite : (interval : Option ℕ) (before : List Sighting) (now : Sighting)
-    → count_by (λ code. is_slip interval code before now) (range_with_len 0 16) + count_by (λ code. is_rise_or_return interval code before now) (range_with_len 0 16)
+bits-of-satellite : EachBitIsOneOfThree → (interval : Option ℕ) (before : List Sighting) (now : Sighting)
+    → count_by (λ code. is_slip interval code before now) (range_with_len 0 16) + count_by (λ code. is_return interval code before now) (range_with_len 0 16)
+    + count_by (λ code. is_rise interval code before now) (range_with_len 0 16)
     ≡ count_by (λ code. has_bit_0 code now.observed) (range_with_len 0 16)
-bits-of-satellite interval before now =
-    sum-both (λ (code : ℕ). cond (is_slip interval code before now) 1 0) (λ (code : ℕ). cond (is_rise_or_return interval code before now) 1 0) (λ (code : ℕ). cond (has_bit_0 code now.observed) 1 0)
-    (range_with_len 0 16) (λ code. one-of-two (has_bit_0 code now.observed) (is_kept interval code before now))
+bits-of-satellite three interval before now =
+    let slip : ℕ → ℕ = λ code. cond (is_slip interval code before now) 1 0 in
+    let back : ℕ → ℕ = λ code. cond (is_return interval code before now) 1 0 in
+    let rise : ℕ → ℕ = λ code. cond (is_rise interval code before now) 1 0 in
+    ap (λ (n : ℕ). n + sum_by rise (range_with_len 0 16)) (sum-both slip back (λ (code : ℕ). slip code + back code) (range_with_len 0 16) (λ code. refl))
+    ∙ sum-both (λ (code : ℕ). slip code + back code) rise (λ (code : ℕ). cond (has_bit_0 code now.observed) 1 0) (range_with_len 0 16)
+    (λ code. turned-three (slip code) (back code) (rise code) ∙ three interval code before now)
 
-bits-of-epoch : (interval : Option ℕ) (es : List EpochTableView) (e : EpochTableView)
-    → times_in_epoch (is_slip interval) es e + times_in_epoch (is_rise_or_return interval) es e ≡ times_in_epoch (λ code before now. has_bit_0 code now.observed) es e
-bits-of-epoch interval es e =
-    sum-both (λ (place : ℕ). count_by (λ code. is_slip interval code (sightings_of (place + 1) es) (sighting_of (place + 1) e)) (range_with_len 0 16))
-    (λ (place : ℕ). count_by (λ code. is_rise_or_return interval code (sightings_of (place + 1) es) (sighting_of (place + 1) e)) (range_with_len 0 16))
-    (λ (place : ℕ). count_by (λ code. has_bit_0 code (observed_in (place + 1) e.rows)) (range_with_len 0 16))
-    (range_with_len 0 32) (λ place. bits-of-satellite interval (sightings_of (place + 1) es) (sighting_of (place + 1) e))
+bits-of-epoch : EachBitIsOneOfThree → (interval : Option ℕ) (es : List EpochTableView) (e : EpochTableView)
+    → times_in_epoch (is_slip interval) es e + times_in_epoch (is_return interval) es e + times_in_epoch (is_rise interval) es e
+    ≡ times_in_epoch (λ code before now. has_bit_0 code now.observed) es e
+bits-of-epoch three interval es e =
+    let slip : ℕ → ℕ = λ place. count_by (λ code. is_slip interval code (sightings_of (place + 1) es) (sighting_of (place + 1) e)) (range_with_len 0 16) in
+    let back : ℕ → ℕ = λ place. count_by (λ code. is_return interval code (sightings_of (place + 1) es) (sighting_of (place + 1) e)) (range_with_len 0 16) in
+    let rise : ℕ → ℕ = λ place. count_by (λ code. is_rise interval code (sightings_of (place + 1) es) (sighting_of (place + 1) e)) (range_with_len 0 16) in
+    ap (λ (n : ℕ). n + sum_by rise (range_with_len 0 32)) (sum-both slip back (λ (place : ℕ). slip place + back place) (range_with_len 0 32) (λ place. refl))
+    ∙ sum-both (λ (place : ℕ). slip place + back place) rise (λ (place : ℕ). count_by (λ code. has_bit_0 code (observed_in (place + 1) e.rows)) (range_with_len 0 16))
+    (range_with_len 0 32) (λ place. bits-of-satellite three interval (sightings_of (place + 1) es) (sighting_of (place + 1) e))
 
-sums-together : (a b c d e f : ℕ) → a + b ≡ c → d + e ≡ f → (a + d) + (b + e) ≡ c + f
-sums-together a b c d e f first second = omega (arith, first, second)
+sums-together : (a b c d x y z w : ℕ) → a + b + c ≡ d → x + y + z ≡ w → (a + x) + (b + y) + (c + z) ≡ d + w
+sums-together a b c d x y z w first second = omega (arith, first, second)
 
-pub slips-and-rises : (interval : Option ℕ) (es : List EpochTableView) → slips_in interval es + rises_in interval es ≡ times_in (λ code before now. has_bit_0 code now.observed) es
-slips-and-rises interval [] = refl
-slips-and-rises interval (e ∷ es) =
-    sums-together (slips_in interval es) (rises_in interval es) (times_in (λ code before now. has_bit_0 code now.observed) es) (times_in_epoch (is_slip interval) es e) (times_in_epoch (is_rise_or_return interval) es e)
-    (times_in_epoch (λ code before now. has_bit_0 code now.observed) es e) (slips-and-rises interval es) (bits-of-epoch interval es e)
+pub slips-and-rises : EachBitIsOneOfThree → (interval : Option ℕ) (es : List EpochTableView)
+    → slips_in interval es + returns_in interval es + rises_in interval es ≡ times_in (λ code before now. has_bit_0 code now.observed) es
+slips-and-rises three interval [] = refl
+slips-and-rises three interval (e ∷ es) =
+    sums-together (slips_in interval es) (returns_in interval es) (rises_in interval es) (times_in (λ code before now. has_bit_0 code now.observed) es)
+    (times_in_epoch (is_slip interval) es e) (times_in_epoch (is_return interval) es e) (times_in_epoch (is_rise interval) es e)
+    (times_in_epoch (λ code before now. has_bit_0 code now.observed) es e) (slips-and-rises three interval es) (bits-of-epoch three interval es e)
+
+-- ---- outages
+
+out-from : (s : Scale) (es : List EpochTableView) (satellite c : ℕ) → has_outage s satellite es c ≡ true → IsOutIn s es satellite c
+out-from s [] satellite c marked = absurd (cc)
+out-from s (e ∷ es) satellite c marked =
+    elim (or_cases (is_out_before s (outage_before s.interval (sightings_of satellite es) (sighting_of satellite e)) e.time c) (has_outage s satellite es c) marked) [
+      | inl here ↦ ([], e, es, refl, here)
+      | inr there ↦
+          let rest = out-from s es satellite c there in
+          (e ∷ rest.0, rest.1, rest.2, ap (λ (t : List EpochTableView). e ∷ t) rest.3, rest.4)
+    ]
+
+out-at : (s : Scale) (newer : List EpochTableView) (e : EpochTableView) (before : List EpochTableView) (satellite c : ℕ)
+    → is_out_before s (outage_before s.interval (sightings_of satellite before) (sighting_of satellite e)) e.time c ≡ true
+    → has_outage s satellite (newer ++ e ∷ before) c ≡ true
+out-at s [] e before satellite c here =
+    or_left (is_out_before s (outage_before s.interval (sightings_of satellite before) (sighting_of satellite e)) e.time c) (has_outage s satellite before c) here
+out-at s (f ∷ newer) e before satellite c here =
+    or_right (is_out_before s (outage_before s.interval (sightings_of satellite (newer ++ e ∷ before)) (sighting_of satellite f)) f.time c)
+    (has_outage s satellite (newer ++ e ∷ before) c) (out-at s newer e before satellite c here)
+
+out-there : (s : Scale) (es : List EpochTableView) (place c : ℕ) → place < 32 → c < s.bins → is_out (outages_of s es) place c ≡ has_outage s (place + 1) es c
+unfolding outages_of
+out-there s es place c few inside =
+    let slot : ℕ = 32 * c + place in
+    let within : slot < 32 * s.bins = omega (arith, few, inside) in
+    let which : slot % 32 ≡ place = omega (arith, few) in
+    let where_in : slot / 32 ≡ c = omega (arith, few) in
+    at-place (λ k. has_outage s (k % 32 + 1) es (k / 32)) (32 * s.bins) slot false within
+    ∙ ap (λ (k : ℕ). has_outage s (k + 1) es (slot / 32)) which
+    ∙ ap (λ (k : ℕ). has_outage s (place + 1) es k) where_in
+
+pub outages-shown : (s : Scale) (es : List EpochTableView) (place c : ℕ) → place < 32 → c < s.bins
+    → (is_out (outages_of s es) place c ≡ true) ↔ IsOutIn s es (place + 1) c
+outages-shown s es place c few inside = (
+  (λ marked. out-from s es (place + 1) c (sym (out-there s es place c few inside) ∙ marked)),
+  (λ found. out-there s es place c few inside ∙ ap (λ (t : List EpochTableView). has_outage s (place + 1) t c) found.3 ∙ out-at s found.0 found.1 found.2 (place + 1) c found.4),
+)

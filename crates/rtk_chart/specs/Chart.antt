@@ -3,10 +3,10 @@ use Rattle.std.specs.Prelude.{◌≡◌, ℕ, ◌-◌, List, [], ◌∷◌, leng
 use Rattle.rtk_rinex.specs.Record.{EpochTableView}
 use Rattle.rtk_rinex.specs.Table.{WellFormedTable, IsWellFormedTable, table_text}
 use Rattle.rtk_tracking.specs.Epochs.{capped, newest_first}
-use Rattle.rtk_chart.specs.Epochs.{slips_in, rises_in}
+use Rattle.rtk_chart.specs.Epochs.{slips_in, returns_in, rises_in}
 use Rattle.rtk_tracking.specs.Interval.{interval_of_file, missing_in}
 use Rattle.rtk_chart.specs.Scale.{scale_of}
-use Rattle.rtk_chart.specs.Grid.{bins_of, gaps_of}
+use Rattle.rtk_chart.specs.Grid.{bins_of, outages_of, gaps_of}
 use Rattle.rtk_chart.specs.TextPicture.{text_picture, text_of_none}
 use Rattle.rtk_chart.specs.SvgPicture.{svg_picture, svg_of_none}
 use Rattle.rtk_obs.specs.declared.code.Code.{Code}
@@ -16,14 +16,17 @@ use Rattle.rtk_chart.specs.declared.scale.Scale.{Scale}
 abbrev pub slips_at : Scale → List EpochTableView → ℕ
 slips_at s es = capped (slips_in s.interval es)
 
+abbrev pub returns_at : Scale → List EpochTableView → ℕ
+returns_at s es = capped (returns_in s.interval es)
+
 abbrev pub rises_at : Scale → List EpochTableView → ℕ
 rises_at s es = capped (rises_in s.interval es)
 
 -- the picture in characters of these epochs, newest first, at a scale, of this width
 abbrev pub text_at : List ℕ → List Code → ℕ → Scale → List EpochTableView → List ℕ
 text_at marker listed width s es =
-    text_picture marker listed s width (capped (length es)) (slips_at s es) (rises_at s es) (capped (missing_in s.unit es))
-    (bins_of s es) (gaps_of s es)
+    text_picture marker listed s width (capped (length es)) (slips_at s es) (returns_at s es) (rises_at s es)
+    (capped (missing_in s.unit es)) (bins_of s es) (outages_of s es) (gaps_of s es)
 
 -- the picture of a file of this marker, these codes and this first time, with this interval, so many
 -- characters wide: five are the labels and the frame
@@ -47,8 +50,8 @@ ShowsTable file width text = (t : WellFormedTable) → IsWellFormedTable t → f
 -- the picture in SVG of these epochs, newest first, at a scale
 abbrev pub svg_at : List ℕ → List Code → Scale → List EpochTableView → List ℕ
 svg_at marker listed s es =
-    svg_picture marker listed s (capped (length es)) (slips_at s es) (rises_at s es) (capped (missing_in s.unit es))
-    (bins_of s es) (gaps_of s es)
+    svg_picture marker listed s (capped (length es)) (slips_at s es) (returns_at s es) (rises_at s es)
+    (capped (missing_in s.unit es)) (bins_of s es) (outages_of s es) (gaps_of s es)
 
 -- formula
 -- the picture of a file of this marker, these codes and this first time, with this interval

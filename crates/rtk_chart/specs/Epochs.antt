@@ -4,7 +4,7 @@ use Rattle.std.specs.List.{range_with_len, sum_by}
 use Rattle.rtk_rinex.specs.Record.{EpochTableView}
 use Rattle.rtk_rinex.specs.declared.epoch_table.Observed.{Observed}
 use Rattle.rtk_tracking.specs.Epochs.{observed_in, shows_phase, shown_at}
-use Rattle.rtk_tracking.specs.Passes.{Sighting, sightings_of, has_phase, is_rise_or_return, is_slip}
+use Rattle.rtk_tracking.specs.Passes.{Sighting, sightings_of, has_phase, is_rise, is_return, is_slip}
 
 -- an epoch as a satellite is seen in it
 abbrev pub sighting_of : ℕ → EpochTableView → Sighting
@@ -53,6 +53,10 @@ times_in test (e ∷ before) = times_in test before + times_in_epoch test before
 abbrev pub slips_in : Option ℕ → List EpochTableView → ℕ
 slips_in interval es = times_in (is_slip interval) es
 
--- its rises and returns
+-- its returns
+abbrev pub returns_in : Option ℕ → List EpochTableView → ℕ
+returns_in interval es = times_in (is_return interval) es
+
+-- its rises
 abbrev pub rises_in : Option ℕ → List EpochTableView → ℕ
-rises_in interval es = times_in (is_rise_or_return interval) es
+rises_in interval es = times_in (is_rise interval) es

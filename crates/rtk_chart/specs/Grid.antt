@@ -1,10 +1,10 @@
 -- What the epochs of each bin call for: the marks of each code of each satellite (this project's rule).
-use Rattle.std.specs.Prelude.{ℕ, ◌+◌, ◌*◌, ◌==◌, nat_lt, nat_le, Bool, false, ◌&&◌, ◌||◌, List, [], ◌∷◌, map, get_or, replicate, Option, None, Some, if◌then◌else◌}
+use Rattle.std.specs.Prelude.{ℕ, ◌+◌, ◌-◌, ◌*◌, ◌/◌, ◌%◌, ◌==◌, nat_lt, nat_le, Bool, false, ◌&&◌, ◌||◌, List, [], ◌∷◌, map, get_or, replicate, Option, None, Some, if◌then◌else◌}
 use Rattle.std.specs.List.{range_with_len}
 use Rattle.rtk_rinex.specs.Record.{EpochTableView}
 use Rattle.rtk_tracking.specs.Epochs.{newest_moment, observed_in, shows_phase}
 use Rattle.rtk_tracking.specs.Extremes.{lesser}
-use Rattle.rtk_tracking.specs.Passes.{Sighting, sightings_of, is_rise_or_return, is_slip}
+use Rattle.rtk_tracking.specs.Passes.{Sighting, sightings_of, is_rise, is_return, is_slip, outage_before}
 use Rattle.rtk_tracking.specs.Interval.{missing_before}
 use Rattle.rtk_chart.specs.Epochs.{sighting_of, is_seen, lacks_phase, has_bit_1, level_at}
 use Rattle.rtk_chart.specs.Scale.{bin_at}
@@ -16,7 +16,7 @@ use Rattle.rtk_chart.specs.declared.time_bin.TimeBin.{TimeBin}
 -- ---- what no epoch calls for
 
 abbrev pub no_marks : CodeMarks
-no_marks = record { phase = false; missing = false; slip = false; rise = false; half = false; least = None }
+no_marks = record { phase = false; missing = false; slip = false; returned = false; rise = false; half = false; least = None }
 
 abbrev pub no_tracking : Tracking
 no_tracking = record { codes = replicate 16 no_marks; seen = false }
@@ -41,14 +41,15 @@ least_in s satellite code (e ∷ before) c =
 
 -- formula
 -- the marks of a code of a satellite: its phase stands, or is missing where another phase of the satellite
--- stands; it slips, rises, or has a half cycle; and its least strength digit
+-- stands; it slips, returns, rises, or has a half cycle; and its least strength digit
 abbrev pub code_in : Scale → ℕ → List EpochTableView → ℕ → ℕ → CodeMarks
 code_in s satellite es c code =
     record {
       phase = some_epoch (λ before now. shows_phase code now.observed) s satellite es c;
       missing = some_epoch (λ before now. lacks_phase code now.observed) s satellite es c;
       slip = some_epoch (is_slip s.interval code) s satellite es c;
-      rise = some_epoch (is_rise_or_return s.interval code) s satellite es c;
+      returned = some_epoch (is_return s.interval code) s satellite es c;
+      rise = some_epoch (is_rise s.interval code) s satellite es c;
       half = some_epoch (λ before now. has_bit_1 code now.observed) s satellite es c;
       least = least_in s satellite code es c;
     }
@@ -102,3 +103,31 @@ has_missing s (e ∷ before) c = has_missing_before s (newest_moment before) e.t
 -- which bins have a missing epoch
 unfoldable pub gaps_of : Scale → List EpochTableView → List Bool
 gaps_of s es = map (has_missing s es) (range_with_len 0 s.bins)
+
+-- ---- outages
+
+-- an outage of a satellite, so many ms long, that ends with the epoch at t lies in the bin: from its first epoch
+-- without a phase to the last one
+abbrev pub is_out_before : Scale → Option ℕ → ℕ → ℕ → Bool
+is_out_before s None t c = false
+is_out_before s (Some ms) t c = nat_le (bin_at s (t - ms)) c && nat_le c (bin_at s (t - s.unit))
+
+-- formula
+-- an outage of the satellite lies in the bin
+abbrev pub has_outage : Scale → ℕ → List EpochTableView → ℕ → Bool
+has_outage s satellite [] c = false
+has_outage s satellite (e ∷ before) c =
+    is_out_before s (outage_before s.interval (sightings_of satellite before) (sighting_of satellite e)) e.time c
+    || has_outage s satellite before c
+
+-- the place of a satellite in a bin, in a list of all satellites of all bins
+abbrev pub slot_of : ℕ → ℕ → ℕ
+slot_of c place = 32 * c + place
+
+-- which satellites have an outage in which bins: those of a bin stand side by side
+unfoldable pub outages_of : Scale → List EpochTableView → List Bool
+outages_of s es = map (λ slot. has_outage s (slot % 32 + 1) es (slot / 32)) (range_with_len 0 (32 * s.bins))
+
+-- the satellite at a place has an outage in a bin
+abbrev pub is_out : List Bool → ℕ → ℕ → Bool
+is_out outages place c = get_or outages (slot_of c place) false

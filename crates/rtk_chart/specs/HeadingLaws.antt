@@ -8,13 +8,13 @@ use Rattle.rtk_rinex.specs.Header.{IsMarker}
 use Rattle.rtk_rinex.specs.Record.{EpochTableView}
 use Rattle.rtk_rinex.specs.Table.{WellFormedTable, IsWellFormedTable}
 use Rattle.rtk_tracking.specs.Epochs.{capped, newest_first, observed_in}
-use Rattle.rtk_chart.specs.Epochs.{is_seen, slips_in, rises_in}
+use Rattle.rtk_chart.specs.Epochs.{is_seen, slips_in, returns_in, rises_in}
 use Rattle.rtk_tracking.specs.Interval.{steps_in, IsInterval, missing_in}
 use Rattle.rtk_chart.specs.Scale.{IsScale, unit_of, scale_of, bin_at}
 use Rattle.rtk_chart.specs.Grid.{bins_of}
 use Rattle.rtk_chart.specs.TextPicture.{satellites_in, text_heading, number_lines}
 use Rattle.rtk_chart.specs.SvgPicture.{svg_span, svg_numbers}
-use Rattle.rtk_chart.specs.Chart.{slips_at, rises_at, text_at, svg_at}
+use Rattle.rtk_chart.specs.Chart.{slips_at, returns_at, rises_at, text_at, svg_at}
 use Rattle.rtk_chart.specs.declared.scale.Scale.{Scale}
 
 -- how many satellites have a row in some of these epochs
@@ -29,6 +29,7 @@ pub record HasNumbers (s : Scale) (es : List EpochTableView) : Type 0 where
   pub interval : ForSome s.interval (λ ms. ms < 2 ^ 64)
   pub records : length es < 2 ^ 64
   pub slips : slips_in s.interval es < 2 ^ 64
+  pub returns : returns_in s.interval es < 2 ^ 64
   pub rises : rises_in s.interval es < 2 ^ 64
   pub missing : missing_in s.unit es < 2 ^ 64
 
@@ -37,8 +38,8 @@ abbrev pub TablesHaveNumbers : Type 0
 TablesHaveNumbers =
     (t : WellFormedTable) (interval : Option ℕ) (allowed : ℕ) (e : EpochTableView) (before : List EpochTableView)
     → IsWellFormedTable t → newest_first t.epochs ≡ e ∷ before → IsInterval (steps_in (e ∷ before)) interval → IsInRange 1 1440 allowed
-    → length (e ∷ before) < 2 ^ 64 → slips_in interval (e ∷ before) < 2 ^ 64 → rises_in interval (e ∷ before) < 2 ^ 64
-    → missing_in (unit_of interval) (e ∷ before) < 2 ^ 64
+    → length (e ∷ before) < 2 ^ 64 → slips_in interval (e ∷ before) < 2 ^ 64 → returns_in interval (e ∷ before) < 2 ^ 64
+    → rises_in interval (e ∷ before) < 2 ^ 64 → missing_in (unit_of interval) (e ∷ before) < 2 ^ 64
     → HasNumbers (scale_of t.first e.time interval allowed) (e ∷ before)
 
 -- bins are equally long; a heading tells their length if there is an interval
@@ -55,6 +56,7 @@ pub record HaveSameNumbers (s t : Scale) (es fs : List EpochTableView) : Type 0 
   pub records : length es ≡ length fs
   pub satellites : satellites_shown_in es ≡ satellites_shown_in fs
   pub slips : slips_in s.interval es ≡ slips_in t.interval fs
+  pub returns : returns_in s.interval es ≡ returns_in t.interval fs
   pub rises : rises_in s.interval es ≡ rises_in t.interval fs
   pub missing : missing_in s.unit es ≡ missing_in t.unit fs
 
@@ -62,13 +64,15 @@ pub record HaveSameNumbers (s t : Scale) (es fs : List EpochTableView) : Type 0 
 abbrev pub heading_in_text : List ℕ → Scale → List EpochTableView → List ℕ
 heading_in_text marker s es =
     text_heading marker s
-    ++ number_lines s (capped (length es)) (satellites_in (bins_of s es)) (slips_at s es) (rises_at s es) (capped (missing_in s.unit es))
+    ++ number_lines s (capped (length es)) (satellites_in (bins_of s es)) (slips_at s es) (returns_at s es) (rises_at s es)
+    (capped (missing_in s.unit es))
 
 -- the heading of a picture in SVG, which stands behind its marker
 abbrev pub heading_in_svg : Scale → List EpochTableView → List ℕ
 heading_in_svg s es =
     svg_span s
-    ++ svg_numbers (capped (length es)) (satellites_in (bins_of s es)) (slips_at s es) (rises_at s es) (capped (missing_in s.unit es))
+    ++ svg_numbers (capped (length es)) (satellites_in (bins_of s es)) (slips_at s es) (returns_at s es) (rises_at s es)
+    (capped (missing_in s.unit es))
 
 -- a picture in characters begins with its heading
 abbrev pub TextHasHeading : Type 0

@@ -1,5 +1,5 @@
 -- Laws of the definitions of a picture.
-use Rattle.std.specs.Prelude.{◌≡◌, ◌≤◌, ◌<◌, ◌↔◌, ℕ, ◌+◌, ◌-◌, ◌*◌, ◌/◌, true, List, length, Option, Some}
+use Rattle.std.specs.Prelude.{◌≡◌, ◌≤◌, ◌<◌, ◌↔◌, ℕ, ◌+◌, ◌-◌, ◌*◌, ◌/◌, Bool, true, List, length, Option, Some}
 use Rattle.rtk_rinex.specs.Record.{EpochTableView}
 use Rattle.rtk_chart.specs.Scale.{half_of, intervals_of, IsScale, scale_of, bin_at}
 use Rattle.rtk_chart.specs.Grid.{bins_of, has_missing_before, gaps_of}
@@ -33,8 +33,8 @@ ScalesFillRoom = (first last allowed : ℕ) (interval : Option ℕ) → 0 < allo
 -- satellites and of missing epochs end in a bar before it
 abbrev pub RowsHaveAllBins : Type 0
 RowsHaveAllBins =
-    (s : Scale) (es : List EpochTableView) (place step : ℕ)
-    → (length (satellite_row (bins_of s es) place) ≡ s.bins + 6) × (length (gap_row (gaps_of s es)) ≡ s.bins + 6)
+    (s : Scale) (es : List EpochTableView) (outages : List Bool) (place step : ℕ)
+    → (length (satellite_row (bins_of s es) outages place) ≡ s.bins + 6) × (length (gap_row (gaps_of s es)) ≡ s.bins + 6)
     × (length (axis_row s step) ≡ s.bins + 5)
 
 -- the columns of a picture in SVG fill 1440 units, side by side: each is as wide as its share of them in whole

@@ -17,6 +17,9 @@ has_slip tracking = list_any (λ m. m.slip) tracking.codes
 abbrev pub has_rise : Tracking → Bool
 has_rise tracking = list_any (λ m. m.rise) tracking.codes
 
+abbrev pub has_return : Tracking → Bool
+has_return tracking = list_any (λ m. m.returned) tracking.codes
+
 abbrev pub has_half : Tracking → Bool
 has_half tracking = list_any (λ m. m.half) tracking.codes
 

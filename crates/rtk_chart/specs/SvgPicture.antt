@@ -1,6 +1,6 @@
 -- A picture in SVG (this project's rule). Lengths are in units of the picture, which is 1620 wide:
 -- bands begin 110 from the left and 112 from the top, and are 1440 wide.
-use Rattle.std.specs.Prelude.{ℕ, ◌+◌, ◌*◌, ◌/◌, ◌%◌, ◌==◌, Bool, List, [], ◌∷◌, ◌++◌, length, map, flat_map, count_by, codes, decimal, Option, None, Some, if◌then◌else◌}
+use Rattle.std.specs.Prelude.{ℕ, ◌+◌, ◌-◌, ◌*◌, ◌/◌, ◌%◌, ◌==◌, Bool, List, [], ◌∷◌, ◌++◌, length, map, flat_map, count_by, codes, decimal, Option, None, Some, if◌then◌else◌}
 use Rattle.std.specs.List.{list_any, range_with_len}
 use Rattle.rtk_obs.specs.declared.code.Code.{Code}
 use Rattle.rtk_obs.specs.Code.{name_of}
@@ -8,7 +8,7 @@ use Rattle.rtk_rinex.specs.Reading.{reading_of}
 use Rattle.rtk_obs.specs.CivilText.{civil_text}
 use Rattle.rtk_chart.specs.Heading.{seconds_text}
 use Rattle.rtk_chart.specs.Ticks.{tick_step, tick_at, tick_label}
-use Rattle.rtk_chart.specs.Grid.{tracking_at, marks_at}
+use Rattle.rtk_chart.specs.Grid.{tracking_at, marks_at, is_out}
 use Rattle.rtk_chart.specs.Signs.{is_drawn, has_code}
 use Rattle.rtk_chart.specs.TextPicture.{satellite_label, drawn_before, satellites_in}
 use Rattle.rtk_chart.specs.SvgPath.{edge_of, runs_text, marks_text, most_tracked, steps_text}
@@ -18,7 +18,7 @@ use Rattle.rtk_chart.specs.declared.svg_codes.TheConstants.{NEVER}
 use Rattle.rtk_chart.specs.declared.scale.Scale.{Scale}
 use Rattle.rtk_chart.specs.declared.time_bin.TimeBin.{TimeBin}
 use Rattle.rtk_chart.specs.declared.layer.Layer.{Layer}
-use Rattle.rtk_chart.specs.declared.layer.Layer.TheVariants.{Phase, Level, Missing, Part, Absent, Slip, Rise, Half}
+use Rattle.rtk_chart.specs.declared.layer.Layer.TheVariants.{Phase, Level, Missing, Part, Absent, Slip, Return, Rise, Half}
 
 -- ---- text
 
@@ -87,25 +87,26 @@ missing_paths bins place code =
     ++ runs_layer (codes "m") (codes " 16v-12") (codes "v12z") (layer_flags bins place code Absent)
 
 -- formula
--- a triangle to the right for a rise, one downwards for a slip, and a rhomb for a half cycle
+-- a triangle to the right for a rise, a hollow one for a return, one downwards for a slip, and a rhomb for a half cycle
 unfoldable pub lock_paths : List TimeBin → ℕ → ℕ → List ℕ
 lock_paths bins place code =
     marks_layer (codes "r") (codes " 5l9 5l-9 5z") (layer_flags bins place code Rise)
+    ++ marks_layer (codes "a") (codes " 5l9 5l-9 5z") (layer_flags bins place code Return)
     ++ marks_layer (codes "s") (codes " 20l-7-21h14z") (layer_flags bins place code Slip)
     ++ marks_layer (codes "h") (codes " 8l6 6l-6 6l-6-6z") (layer_flags bins place code Half)
 
 -- formula
 -- how many columns have what of a code
-unfoldable pub column_numbers : ℕ → ℕ → ℕ → ℕ → ℕ → List ℕ
-column_numbers phases missing slips rises halves =
+unfoldable pub column_numbers : ℕ → ℕ → ℕ → ℕ → ℕ → ℕ → List ℕ
+column_numbers phases missing slips returns rises halves =
     number_between (codes ": columns with phase ") phases (codes ", missing ") ++ number_between [] missing (codes ", slips ")
-    ++ number_between [] slips (codes ", rises ") ++ number_between [] rises (codes ", half cycles ")
-    ++ number_between [] halves (codes "</title>\n")
+    ++ number_between [] slips (codes ", returns ") ++ number_between [] returns (codes ", rises ")
+    ++ number_between [] rises (codes ", half cycles ") ++ number_between [] halves (codes "</title>\n")
 
 unfoldable pub code_numbers : List TimeBin → ℕ → ℕ → List ℕ
 code_numbers bins place code =
     column_numbers (columns_of bins place code Phase) (columns_of bins place code Missing) (columns_of bins place code Slip)
-    (columns_of bins place code Rise) (columns_of bins place code Half)
+    (columns_of bins place code Return) (columns_of bins place code Rise) (columns_of bins place code Half)
 
 -- formula
 -- a code that the satellite has: its numbers and its bar
@@ -145,20 +146,33 @@ band_start top satellite stripe height =
     ++ number_between (codes " height='") height (codes "'/>\n")
     ++ number_between (codes "<text class='name' x='-40' y='") (height / 2 + 9) (codes "'>") ++ satellite_label satellite ++ codes "</text>\n"
 
+-- the bins of so many in which a satellite has an outage
+abbrev pub outage_flags : List Bool → ℕ → ℕ → List Bool
+outage_flags outages n place = map (is_out outages place) (range_with_len 0 n)
+
+-- formula
+-- the outages of a satellite in n bins, as boxes over all its codes, so high
+unfoldable pub outage_boxes : List Bool → ℕ → ℕ → ℕ → List ℕ
+outage_boxes outages n place high =
+    runs_layer (codes "o") (number_between (codes " 4v") high []) (number_between (codes "v-") high (codes "z"))
+    (outage_flags outages n place)
+
 -- formula
 -- the band of a satellite after so many others: every other one has a stripe
-unfoldable pub band_text : List Code → List TimeBin → ℕ → ℕ → List ℕ
-band_text listed bins place before =
+unfoldable pub band_text : List Code → List TimeBin → List Bool → ℕ → ℕ → List ℕ
+band_text listed bins outages place before =
     band_start (112 + before * band_height (length listed)) (place + 1) (before % 2) (band_height (length listed))
+    ++ outage_boxes outages (length bins) place (band_height (length listed) - 8)
     ++ code_lines bins place 0 listed ++ codes "</g>\n"
 
 -- formula
-abbrev pub band_if_drawn : List Code → List TimeBin → ℕ → List ℕ
-band_if_drawn listed bins place = if is_drawn bins place then band_text listed bins place (drawn_before bins place) else []
+abbrev pub band_if_drawn : List Code → List TimeBin → List Bool → ℕ → List ℕ
+band_if_drawn listed bins outages place =
+    if is_drawn bins place then band_text listed bins outages place (drawn_before bins place) else []
 
 -- formula
-unfoldable pub bands_text : List Code → List TimeBin → List ℕ
-bands_text listed bins = flat_map (band_if_drawn listed bins) (range_with_len 0 32)
+unfoldable pub bands_text : List Code → List TimeBin → List Bool → List ℕ
+bands_text listed bins outages = flat_map (band_if_drawn listed bins outages) (range_with_len 0 32)
 
 -- ---- below the bands, so far from the top
 
@@ -211,12 +225,13 @@ svg_span s =
     ++ interval_text s.interval s.bin_ms ++ codes "</text>\n"
 
 -- formula
--- the numbers of records, satellites, slips, rises and missing epochs
-unfoldable pub svg_numbers : ℕ → ℕ → ℕ → ℕ → ℕ → List ℕ
-svg_numbers records satellites slips rises missing =
+-- the numbers of records, satellites, slips, returns, rises and missing epochs
+unfoldable pub svg_numbers : ℕ → ℕ → ℕ → ℕ → ℕ → ℕ → List ℕ
+svg_numbers records satellites slips returns rises missing =
     number_between (codes "<text x='110' y='98'>records ") records (codes ", satellites ")
-    ++ number_between [] satellites (codes ", slips ") ++ number_between [] slips (codes ", rises ")
-    ++ number_between [] rises (codes ", missing epochs ") ++ number_between [] missing (codes "</text>\n")
+    ++ number_between [] satellites (codes ", slips ") ++ number_between [] slips (codes ", returns ")
+    ++ number_between [] returns (codes ", rises ") ++ number_between [] rises (codes ", missing epochs ")
+    ++ number_between [] missing (codes "</text>\n")
 
 -- formula
 -- the beginning of a picture so high
@@ -241,19 +256,20 @@ bands_end listed satellites = 112 + satellites * band_height listed
 
 -- formula
 -- what stands below the heading
-unfoldable pub svg_body : List Code → Scale → List TimeBin → List Bool → ℕ → List ℕ
-svg_body listed s bins gaps end =
-    bands_text listed bins ++ gaps_band end gaps ++ satellites_band (end + 26) bins
+unfoldable pub svg_body : List Code → Scale → List TimeBin → List Bool → List Bool → ℕ → List ℕ
+svg_body listed s bins outages gaps end =
+    bands_text listed bins outages ++ gaps_band end gaps ++ satellites_band (end + 26) bins
     ++ ticks_text s (svg_tick_step s) (end + 72) ++ svg_legend (end + 104) ++ codes "</svg>\n"
 
 -- formula
 -- the picture of a file with records: its marker, its codes, its scale, the numbers of its records,
--- slips, rises and missing epochs, and what its bins show
-unfoldable pub svg_picture : List ℕ → List Code → Scale → ℕ → ℕ → ℕ → ℕ → List TimeBin → List Bool → List ℕ
-svg_picture marker listed s records slips rises missing bins gaps =
+-- slips, returns, rises and missing epochs, and what its bins show
+unfoldable pub svg_picture
+    : List ℕ → List Code → Scale → ℕ → ℕ → ℕ → ℕ → ℕ → List TimeBin → List Bool → List Bool → List ℕ
+svg_picture marker listed s records slips returns rises missing bins outages gaps =
     svg_start marker (bands_end (length listed) (satellites_in bins) + 230)
-    ++ svg_span s ++ svg_numbers records (satellites_in bins) slips rises missing
-    ++ svg_body listed s bins gaps (bands_end (length listed) (satellites_in bins))
+    ++ svg_span s ++ svg_numbers records (satellites_in bins) slips returns rises missing
+    ++ svg_body listed s bins outages gaps (bands_end (length listed) (satellites_in bins))
 
 -- formula
 -- the picture of a file without records

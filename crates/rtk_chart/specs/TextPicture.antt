@@ -1,12 +1,12 @@
 -- A picture in characters (this project's rule).
-use Rattle.std.specs.Prelude.{ℕ, ◌+◌, ◌-◌, ◌*◌, ◌/◌, ◌%◌, ◌==◌, nat_le, Bool, true, false, ◌&&◌, List, [], ◌∷◌, ◌++◌, map, flat_map, count_by, codes, decimal, Option, None, Some, is_some, min, if◌then◌else◌}
+use Rattle.std.specs.Prelude.{ℕ, ◌+◌, ◌-◌, ◌*◌, ◌/◌, ◌%◌, ◌==◌, nat_le, Bool, true, false, ◌&&◌, List, [], ◌∷◌, ◌++◌, length, get_or, map, flat_map, count_by, codes, decimal, Option, None, Some, is_some, min, if◌then◌else◌}
 use Rattle.std.specs.List.{list_any, range_with_len}
 use Rattle.rtk_obs.specs.declared.code.Code.{Code}
 use Rattle.rtk_obs.specs.Code.{name_of}
 use Rattle.rtk_obs.specs.CivilText.{civil_text}
 use Rattle.rtk_rinex.specs.Reading.{reading_of}
-use Rattle.rtk_chart.specs.Grid.{tracking_at}
-use Rattle.rtk_chart.specs.Signs.{is_tracked, has_slip, has_rise, has_half, least_level, is_drawn, has_code, is_never, is_missing}
+use Rattle.rtk_chart.specs.Grid.{no_bin, tracking_at, is_out}
+use Rattle.rtk_chart.specs.Signs.{is_tracked, has_slip, has_return, has_rise, has_half, least_level, is_drawn, has_code, is_never, is_missing}
 use Rattle.rtk_chart.specs.Heading.{interval_lines}
 use Rattle.rtk_chart.specs.Ticks.{tick_step, tick_at, tick_label, label_length}
 use Rattle.rtk_chart.specs.declared.scale.Scale.{Scale}
@@ -28,18 +28,22 @@ abbrev pub phase_mark : (ℕ → Bool) → Tracking → ℕ
 phase_mark has tracking = if is_missing has tracking then 45 else strength_mark (least_level tracking) (is_tracked tracking)
 
 -- table
--- B for a slip and a half cycle, S for a slip, H for a half cycle, R for a rise, else another mark
-abbrev pub lock_mark : Bool → Bool → Bool → ℕ → ℕ
-lock_mark true true rise other = 66
-lock_mark true false rise other = 83
-lock_mark false true rise other = 72
-lock_mark false false true other = 82
-lock_mark false false false other = other
+-- B for a slip and a half cycle, S for a slip, o for an outage, H for a half cycle, R for a rise, r for a return, else
+-- another mark
+abbrev pub lock_mark : Bool → Bool → Bool → Bool → Bool → ℕ → ℕ
+lock_mark true true out rise returned other = 66
+lock_mark true false out rise returned other = 83
+lock_mark false half true rise returned other = 111
+lock_mark false true false rise returned other = 72
+lock_mark false false false true returned other = 82
+lock_mark false false false false true other = 114
+lock_mark false false false false false other = other
 
 -- formula
--- the first of these that a tracking calls for, if a test says which codes the satellite has
-abbrev pub character_of : (ℕ → Bool) → Tracking → ℕ
-character_of has tracking = lock_mark (has_slip tracking) (has_half tracking) (has_rise tracking) (phase_mark has tracking)
+-- the first of these that a tracking and an outage call for, if a test says which codes the satellite has
+abbrev pub character_of : (ℕ → Bool) → Bool → Tracking → ℕ
+character_of has out tracking =
+    lock_mark (has_slip tracking) (has_half tracking) out (has_rise tracking) (has_return tracking) (phase_mark has tracking)
 
 -- ---- rows
 
@@ -54,16 +58,22 @@ abbrev pub row_head : ℕ → List ℕ
 row_head satellite = 71 ∷ (48 + satellite / 10) ∷ (48 + satellite % 10) ∷ 124 ∷ []
 
 -- formula
-unfoldable pub satellite_row : List TimeBin → ℕ → List ℕ
-satellite_row bins place =
-    row_head (place + 1) ++ map (λ bin. character_of (has_code bins place) (tracking_at place bin)) bins ++ codes "|\n"
-
-abbrev pub row_if_drawn : List TimeBin → ℕ → List ℕ
-row_if_drawn bins place = if is_drawn bins place then satellite_row bins place else []
+-- what a bin shows of a satellite
+abbrev pub character_at : List TimeBin → List Bool → ℕ → ℕ → ℕ
+character_at bins outages place c =
+    character_of (has_code bins place) (is_out outages place c) (tracking_at place (get_or bins c no_bin))
 
 -- formula
-unfoldable pub satellite_rows : List TimeBin → List ℕ
-satellite_rows bins = flat_map (row_if_drawn bins) (range_with_len 0 32)
+unfoldable pub satellite_row : List TimeBin → List Bool → ℕ → List ℕ
+satellite_row bins outages place =
+    row_head (place + 1) ++ map (character_at bins outages place) (range_with_len 0 (length bins)) ++ codes "|\n"
+
+abbrev pub row_if_drawn : List TimeBin → List Bool → ℕ → List ℕ
+row_if_drawn bins outages place = if is_drawn bins place then satellite_row bins outages place else []
+
+-- formula
+unfoldable pub satellite_rows : List TimeBin → List Bool → List ℕ
+satellite_rows bins outages = flat_map (row_if_drawn bins outages) (range_with_len 0 32)
 
 -- table
 -- an x where epochs are missing
@@ -183,27 +193,29 @@ text_heading marker s =
 
 -- formula
 -- the numbers in the heading of a picture
-unfoldable pub number_lines : Scale → ℕ → ℕ → ℕ → ℕ → ℕ → List ℕ
-number_lines s records satellites slips rises missing =
+unfoldable pub number_lines : Scale → ℕ → ℕ → ℕ → ℕ → ℕ → ℕ → List ℕ
+number_lines s records satellites slips returns rises missing =
     interval_lines s.interval s.bin_ms
     ++ named_count_line (codes "records ") records ++ named_count_line (codes "satellites ") satellites
-    ++ named_count_line (codes "slips ") slips ++ named_count_line (codes "rises ") rises ++ named_count_line (codes "missing ") missing
+    ++ named_count_line (codes "slips ") slips ++ named_count_line (codes "returns ") returns
+    ++ named_count_line (codes "rises ") rises ++ named_count_line (codes "missing ") missing
 
 unfoldable pub time_rows : Scale → ℕ → List ℕ
 time_rows s width = axis_row s (text_tick_step s) ++ label_row s width (text_tick_step s)
 
 -- formula
 -- what stands below the heading of a picture of this width: what the bins show, and what the signs mean
-unfoldable pub text_body : List Code → Scale → ℕ → List TimeBin → List Bool → List ℕ
-text_body listed s width bins gaps =
-    satellite_rows bins ++ gap_row gaps ++ time_rows s width ++ all_never_lines bins (never_in_line width) 0 listed ++ SIGNS.now
+unfoldable pub text_body : List Code → Scale → ℕ → List TimeBin → List Bool → List Bool → List ℕ
+text_body listed s width bins outages gaps =
+    satellite_rows bins outages ++ gap_row gaps ++ time_rows s width ++ all_never_lines bins (never_in_line width) 0 listed ++ SIGNS.now
 
 -- the picture of a file with records: its marker, its codes, its scale, its width, the numbers of its
--- records, slips, rises and missing epochs, and what its bins show
-unfoldable pub text_picture : List ℕ → List Code → Scale → ℕ → ℕ → ℕ → ℕ → ℕ → List TimeBin → List Bool → List ℕ
-text_picture marker listed s width records slips rises missing bins gaps =
-    text_heading marker s ++ number_lines s records (satellites_in bins) slips rises missing
-    ++ text_body listed s width bins gaps
+-- records, slips, returns, rises and missing epochs, and what its bins show
+unfoldable pub text_picture
+    : List ℕ → List Code → Scale → ℕ → ℕ → ℕ → ℕ → ℕ → ℕ → List TimeBin → List Bool → List Bool → List ℕ
+text_picture marker listed s width records slips returns rises missing bins outages gaps =
+    text_heading marker s ++ number_lines s records (satellites_in bins) slips returns rises missing
+    ++ text_body listed s width bins outages gaps
 
 -- formula
 -- the picture of a file without records

@@ -16,6 +16,8 @@ pub(crate) struct CodeMarks {
     /// The phase is missing where another phase of the satellite stands.
     pub(crate) missing: bool,
     pub(crate) slip: bool,
+    /// A return, which is bit 0 at the first phase after an outage.
+    pub(crate) returned: bool,
     pub(crate) rise: bool,
     pub(crate) half: bool,
     /// The least strength digit.
@@ -31,6 +33,7 @@ impl CodeMarks {
             phase: false,
             missing: false,
             slip: false,
+            returned: false,
             rise: false,
             half: false,
             least: None,
@@ -38,16 +41,17 @@ impl CodeMarks {
     }
 
     /// What an epoch calls for: the satellite has a phase or none, and the code had one earlier in the
-    /// pass or had none.
-    pub(crate) fn of(observed: Observed, has_phase: bool, kept: bool) -> CodeMarks
-        ensures { result ≡ called_for observed has_phase kept }
+    /// pass or had none, and since the last outage in it.
+    pub(crate) fn of(observed: Observed, has_phase: bool, known: bool, kept: bool) -> CodeMarks
+        ensures { result ≡ called_for observed has_phase known kept }
     {
         let phase = observed.phase_millicycles.is_some();
         CodeMarks {
             phase,
             missing: has_phase && !phase,
             slip: observed.slip && kept,
-            rise: observed.slip && !kept,
+            returned: observed.slip && known && !kept,
+            rise: observed.slip && !known,
             half: observed.half,
             least: level_of(observed.strength_millidbhz),
         }
@@ -60,6 +64,7 @@ impl CodeMarks {
         self.phase = more.phase || self.phase;
         self.missing = more.missing || self.missing;
         self.slip = more.slip || self.slip;
+        self.returned = more.returned || self.returned;
         self.rise = more.rise || self.rise;
         self.half = more.half || self.half;
         self.least = lesser(more.least, self.least);

@@ -1,6 +1,6 @@
 //! The bins of a picture with what their epochs call for.
 
-ghost use Rattle.std.specs.Prelude.{◌≡◌, ◌<◌, ◌&&◌, nat_le, ℕ, Some, List, [], ◌∷◌, length, get_or, IfOk};
+ghost use Rattle.std.specs.Prelude.{◌≡◌, ◌<◌, ◌*◌, ◌&&◌, nat_le, ℕ, Some, List, [], ◌∷◌, length, get_or, IfOk};
 ghost use Rattle.rtk_rinex.specs.Reading.{IsMoment};
 ghost use Rattle.rtk_rinex.specs.Record.{EpochTableView};
 ghost use Rattle.rtk_tracking.specs.Interval.{missing_before};
@@ -10,6 +10,7 @@ ghost use Rattle.rtk_chart.specs.Grid.{bins_of, has_missing_before};
 ghost use Rattle.rtk_chart.specs.Steps.Standing.{AddsMarks, CountsMissing, StandForPasses, StandsForGrid};
 ghost use Rattle.rtk_chart.specs.Steps.Shown.{bin_of};
 
+use crate::outages::note_outages;
 use crate::scale::Scale;
 use crate::time_bin::TimeBin;
 use rtk_obs::GpsMs;
@@ -21,10 +22,13 @@ use std::alloc::{AllocError, Global};
 #[derive(Drop)]
 pub(crate) struct Grid {
     pub(crate) bins: Vec<TimeBin>,
+    /// Whether each satellite has an outage in each bin: those of a bin stand side by side.
+    pub(crate) outages: Vec<bool>,
     /// Whether an epoch is missing in each bin.
     pub(crate) gaps: Vec<bool>,
     pub(crate) missing: u64,
     pub(crate) slips: u64,
+    pub(crate) returns: u64,
     pub(crate) rises: u64,
     /// The moment of the record that was read last.
     pub(crate) last: Option<GpsMs>,
@@ -106,15 +110,19 @@ fn note_passes(
 impl Grid {
     /// No record was read.
     pub(crate) fn new(alloc: Global, scale: &Scale) -> Result<Grid, AllocError>
+        requires { IsScale scale.now }
         ensures bins { IfOk result (λ grid. length grid.bins.items ≡ scale.now.bins) }
+        ensures outages { IfOk result (λ grid. length grid.outages.items ≡ 32 * scale.now.bins) }
         ensures gaps { IfOk result (λ grid. length grid.gaps.items ≡ scale.now.bins) }
         ensures grid { IfOk result (λ grid. StandsForGrid grid scale.now []) }
     {
         Ok(Grid {
             bins: vec![in alloc; TimeBin::new(); scale.bins as usize]?,
+            outages: vec![in alloc; false; 32 * scale.bins as usize]?,
             gaps: vec![in alloc; false; scale.bins as usize]?,
             missing: 0,
             slips: 0,
+            returns: 0,
             rises: 0,
             last: None,
             passes: [Pass::new(); 32],
@@ -125,8 +133,10 @@ impl Grid {
     fn count_missing(&mut self, scale: &Scale, epoch: &EpochTable)
         requires { IsScale scale.now }
         ensures bins { self.new.bins ≡ self.old.bins }
+        ensures outages { self.new.outages ≡ self.old.outages }
         ensures passes { self.new.passes ≡ self.old.passes }
         ensures slips { self.new.slips ≡ self.old.slips }
+        ensures returns { self.new.returns ≡ self.old.returns }
         ensures rises { self.new.rises ≡ self.old.rises }
         ensures size { length self.new.gaps.items ≡ length self.old.gaps.items }
         ensures missing { CountsMissing self.old self.new scale.now epoch.now }
@@ -139,11 +149,13 @@ impl Grid {
         }
     }
 
-    /// Notes one more record: its marks in its bin, its slips and rises, the passes of its satellites, and
-    /// the epochs that are missing before it.
+    /// Notes one more record: its marks in its bin, its slips, returns and rises, the passes of its satellites,
+    /// the outages that end with it, and the epochs that are missing before it.
     pub(crate) fn place_record(&mut self, scale: &Scale, epoch: &EpochTable)
-        requires { IsScale scale.now }
+        requires good { IsScale scale.now }
+        requires outages { length self.old.outages.items ≡ 32 * scale.now.bins }
         ensures bins { length self.new.bins.items ≡ length self.old.bins.items }
+        ensures outages { length self.new.outages.items ≡ length self.old.outages.items }
         ensures gaps { length self.new.gaps.items ≡ length self.old.gaps.items }
         ensures grid { (es : List EpochTableView) → StandsForGrid self.old scale.now es
             → StandsForGrid self.new scale.now (epoch.now ∷ es) }
@@ -153,8 +165,10 @@ impl Grid {
         let called = TimeBin::of(&self.passes, interval, record_ms, epoch);
         self.count_missing(scale, epoch);
         self.slips = self.slips.saturating_add(called.slips());
+        self.returns = self.returns.saturating_add(called.returns());
         self.rises = self.rises.saturating_add(called.rises());
         note_in_bin(&mut self.bins, scale, epoch.time().ms(), &called);
+        note_outages(&mut self.outages, scale, &self.passes, record_ms, epoch);
         note_passes(&mut self.passes, interval, record_ms, epoch);
         self.last = Some(epoch.time());
     }

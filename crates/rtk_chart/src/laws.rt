@@ -2,10 +2,11 @@
 //! epochs, where epochs are missing, and what a heading tells.
 
 ghost use Rattle.rtk_chart.specs.Laws.{BinsAreFew, ShorterBinsAreTooMany, ScalesFillRoom, RowsHaveAllBins, ColumnsFillWidth, MissingMarksAreEpochs};
-ghost use Rattle.rtk_chart.specs.MarkLaws.{CodesShowEpochs, SatellitesShowEpochs, CodesAreOfEpochs, GapsAreMissing, MissingAreOfSteps, SlipsAndRisesAreDigits};
+ghost use Rattle.rtk_chart.specs.MarkLaws.{CodesShowEpochs, SatellitesShowEpochs, CodesAreOfEpochs, GapsAreMissing, OutagesAreOfEpochs, MissingAreOfSteps, SlipsAndRisesAreDigits};
 ghost use Rattle.rtk_chart.specs.HeadingLaws.{TablesHaveNumbers, TextHasHeading, EqualTextHeadings, SvgHasHeading, EqualSvgHeadings};
 
 use rtk_rinex::one_reading;
+use rtk_tracking::bits_are_of_three_kinds;
 
 /// A bin, which is drawn as a column, is as few intervals long as leave room for the file: so long,
 /// there are as many bins as allowed at most, and if it were shorter there would be more.
@@ -31,20 +32,24 @@ pub fn missing_marks_are_epochs()
 
 /// A bin has of each code of each satellite the marks that the epochs in it call for, however many they
 /// are, and no others. A satellite has a code in some bin exactly if it has its phase in some epoch. A bin
-/// has the mark of missing epochs exactly if one is missing in it.
+/// has the mark of missing epochs exactly if one is missing in it. A satellite has an outage in a bin exactly if
+/// one of its outages lies there.
 pub fn marks_are_of_epochs()
     ensures marks { CodesShowEpochs }
     ensures satellites { SatellitesShowEpochs }
     ensures codes { CodesAreOfEpochs }
     ensures gaps { GapsAreMissing }
+    ensures outages { OutagesAreOfEpochs }
 {}
 
-/// Missing epochs are counted step by step, and slips and rises digit by digit: each digit with bit 0 is
-/// one of the two.
+/// Missing epochs are counted step by step, and slips, returns and rises digit by digit: each digit with bit 0
+/// is one of the three.
 pub fn counts_are_of_epochs()
     ensures missing { MissingAreOfSteps }
     ensures slips { SlipsAndRisesAreDigits }
-{}
+{
+    bits_are_of_three_kinds();
+}
 
 /// A file with records has its numbers at the scale of each of its pictures: each record has its bin,
 /// and moments and lengths of time are far below 2^64. Only its counts must be below 2^64.
@@ -54,7 +59,7 @@ pub fn files_have_numbers()
 
 /// A picture in characters begins with its heading. Two files with equal headings have the same marker
 /// and the same numbers, up to 2^64: first and last moment, interval and length of a bin if there is an
-/// interval, records, satellites, slips, rises and missing epochs.
+/// interval, records, satellites, slips, returns, rises and missing epochs.
 pub fn text_headings_tell_numbers()
     ensures stands { TextHasHeading }
     ensures equal { EqualTextHeadings }

@@ -23,6 +23,7 @@ pub(crate) enum Layer {
     /// The phase is missing in all epochs.
     Absent,
     Slip,
+    Return,
     Rise,
     Half,
 }
@@ -37,6 +38,7 @@ fn shows(layer: Layer, marks: CodeMarks) -> bool
         Layer::Part => marks.phase && marks.missing,
         Layer::Absent => marks.missing && !marks.phase,
         Layer::Slip => marks.slip,
+        Layer::Return => marks.returned,
         Layer::Rise => marks.rise,
         Layer::Half => marks.half,
     }

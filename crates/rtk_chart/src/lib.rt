@@ -1,5 +1,5 @@
-//! A picture of an observation file: its satellites in bands along its time, with each slip, rise, half
-//! cycle, missing code and missing epoch. Its time is divided into bins, and each bin is drawn as a
+//! A picture of an observation file: its satellites in bands along its time, with each slip, return,
+//! rise, half cycle, outage, missing code and missing epoch. Its time is divided into bins, and each bin is drawn as a
 //! column.
 //!
 //! Its tests: tests/values/src/chart.rt.in and chart/.
@@ -56,6 +56,7 @@ mod laws;
 mod layer;
 mod never;
 mod observations;
+mod outages;
 mod passes;
 mod scale;
 mod signs;

@@ -3,7 +3,7 @@
 //! The first pass finds their number and steps, which give the bins. The second one notes each record in
 //! its bin.
 
-ghost use Rattle.std.specs.Prelude.{◌≡◌, length, IfOk};
+ghost use Rattle.std.specs.Prelude.{◌≡◌, ◌*◌, length, IfOk};
 ghost use Rattle.rtk_chart.specs.Scale.{IsScale};
 ghost use Rattle.rtk_chart.specs.Steps.Standing.{StandsForSurvey, StandsForGrid};
 ghost use Rattle.rtk_tracking.specs.Epochs.{HoldsOfEpochs};
@@ -41,6 +41,7 @@ pub(crate) fn fill_grid(
 ) -> Result<Grid, AllocError>
     requires { IsScale scale.now }
     ensures bins { IfOk result (λ grid. length grid.bins.items ≡ scale.now.bins) }
+    ensures outages { IfOk result (λ grid. length grid.outages.items ≡ 32 * scale.now.bins) }
     ensures gaps { IfOk result (λ grid. length grid.gaps.items ≡ scale.now.bins) }
     ensures grid { IfOk result (λ grid. HoldsOfEpochs table.now.text (StandsForGrid grid scale.now)) }
 {

@@ -3,7 +3,7 @@
 ghost use Rattle.std.specs.Prelude.{◌≡◌, ◌<◌, ◌&&◌, ℕ, Bool};
 ghost use Rattle.rtk_tracking.specs.Standing.{AreMarked};
 ghost use Rattle.rtk_chart.specs.Grid.{tracking_at, marks_at};
-ghost use Rattle.rtk_chart.specs.Signs.{is_tracked, has_slip, has_rise, has_half, least_level, is_drawn, has_code, is_never, is_missing};
+ghost use Rattle.rtk_chart.specs.Signs.{is_tracked, has_slip, has_return, has_rise, has_half, least_level, is_drawn, has_code, is_never, is_missing};
 
 use crate::code_marks::CodeMarks;
 use crate::time_bin::TimeBin;
@@ -27,6 +27,12 @@ pub(crate) fn has_rise(tracking: &Tracking) -> bool
     ensures { result ≡ has_rise tracking.now }
 {
     tracking.codes.iter().any(|marks| marks.rise)
+}
+
+pub(crate) fn has_return(tracking: &Tracking) -> bool
+    ensures { result ≡ has_return tracking.now }
+{
+    tracking.codes.iter().any(|marks| marks.returned)
 }
 
 pub(crate) fn has_half(tracking: &Tracking) -> bool

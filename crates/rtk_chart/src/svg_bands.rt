@@ -1,11 +1,13 @@
 //! The bands of the satellites in an SVG picture.
 
 ghost use Rattle.std.specs.Prelude.{◌≡◌, ◌≤◌, ◌<◌, ◌+◌, ◌/◌, ◌++◌, length, OnOk};
-ghost use Rattle.rtk_chart.specs.SvgPicture.{band_height, band_start, band_text, band_if_drawn, bands_text};
+ghost use Rattle.rtk_chart.specs.SvgPicture.{band_height, band_start, outage_boxes, band_text, band_if_drawn, bands_text};
 
 use crate::never::put_label;
+use crate::outages::outage_flags;
 use crate::signs::is_drawn;
 use crate::svg_codes::put_code_lines;
+use crate::svg_layers::put_runs_layer;
 use crate::svg_text::put_between;
 use crate::text_picture::drawn_before;
 use crate::time_bin::TimeBin;
@@ -50,12 +52,41 @@ fn put_band_start(
     Ok(())
 }
 
+// Appends the outages of a satellite, as boxes over all its codes.
+fn put_outages(
+    alloc: Global,
+    text: &mut Vec<u8>,
+    outages: &[bool],
+    bins: usize,
+    place: usize,
+    high: u64,
+) -> Result<(), AllocError>
+    requires place { place < 32 }
+    requires few { bins ≤ 1440 }
+    ensures { OnOk result (text.new.items ≡ text.old.items ++ outage_boxes outages.now bins place high) }
+{
+    let flags = outage_flags(alloc, outages, bins, place)?;
+    let mut begin = Vec::new(alloc);
+    put_between(&mut begin, b" 4v", high, b"")?;
+    let mut end = Vec::new(alloc);
+    put_between(&mut end, b"v-", high, b"z")?;
+    put_runs_layer(
+        text,
+        b"o",
+        begin.as_slice(),
+        end.as_slice(),
+        flags.as_slice(),
+    )?;
+    Ok(())
+}
+
 // The band after so many others.
 fn put_band(
     alloc: Global,
     text: &mut Vec<u8>,
     codes: &[Code],
     bins: &[TimeBin],
+    outages: &[bool],
     place: usize,
     before: u64,
 ) -> Result<(), AllocError>
@@ -63,11 +94,12 @@ fn put_band(
     requires before { before ≤ 32 }
     requires few { length bins.now ≤ 1440 }
     requires listed { length codes.now ≤ 16 }
-    ensures { OnOk result (text.new.items ≡ text.old.items ++ band_text codes.now bins.now place before) }
+    ensures { OnOk result (text.new.items ≡ text.old.items ++ band_text codes.now bins.now outages.now place before) }
 {
     let height = band_height(codes);
     let top = TOP + before * height;
     put_band_start(text, top, place as u8 + 1, before % 2, height)?;
+    put_outages(alloc, text, outages, bins.len(), place, height - 8)?;
     put_code_lines(alloc, text, bins, place, codes)?;
     text.extend_from_slice(b"</g>\n")?;
     Ok(())
@@ -78,16 +110,17 @@ fn put_band_if_drawn(
     text: &mut Vec<u8>,
     codes: &[Code],
     bins: &[TimeBin],
+    outages: &[bool],
     place: usize,
 ) -> Result<(), AllocError>
     requires place { place < 32 }
     requires few { length bins.now ≤ 1440 }
     requires listed { length codes.now ≤ 16 }
-    ensures { OnOk result (text.new.items ≡ text.old.items ++ band_if_drawn codes.now bins.now place) }
+    ensures { OnOk result (text.new.items ≡ text.old.items ++ band_if_drawn codes.now bins.now outages.now place) }
 {
     if is_drawn(bins, place) {
         let before = drawn_before(bins, place);
-        put_band(alloc, text, codes, bins, place, before)?;
+        put_band(alloc, text, codes, bins, outages, place, before)?;
     }
     Ok(())
 }
@@ -98,13 +131,14 @@ pub(crate) fn put_bands(
     text: &mut Vec<u8>,
     codes: &[Code],
     bins: &[TimeBin],
+    outages: &[bool],
 ) -> Result<(), AllocError>
     requires few { length bins.now ≤ 1440 }
     requires listed { length codes.now ≤ 16 }
-    ensures { OnOk result (text.new.items ≡ text.old.items ++ bands_text codes.now bins.now) }
+    ensures { OnOk result (text.new.items ≡ text.old.items ++ bands_text codes.now bins.now outages.now) }
 {
     for place in 0..32 {
-        put_band_if_drawn(alloc, text, codes, bins, place)?;
+        put_band_if_drawn(alloc, text, codes, bins, outages, place)?;
     }
     Ok(())
 }

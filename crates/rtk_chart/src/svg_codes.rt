@@ -23,14 +23,16 @@ fn put_column_numbers(
     phases: u64,
     missing: u64,
     slips: u64,
+    returns: u64,
     rises: u64,
     halves: u64,
 ) -> Result<(), AllocError>
-    ensures { OnOk result (text.new.items ≡ text.old.items ++ column_numbers phases missing slips rises halves) }
+    ensures { OnOk result (text.new.items ≡ text.old.items ++ column_numbers phases missing slips returns rises halves) }
 {
     put_between(text, b": columns with phase ", phases, b", missing ")?;
     put_between(text, b"", missing, b", slips ")?;
-    put_between(text, b"", slips, b", rises ")?;
+    put_between(text, b"", slips, b", returns ")?;
+    put_between(text, b"", returns, b", rises ")?;
     put_between(text, b"", rises, b", half cycles ")?;
     put_between(text, b"", halves, b"</title>\n")?;
     Ok(())
@@ -50,9 +52,10 @@ fn put_code_numbers(
     let phases = columns_of(alloc, bins, place, code, Layer::Phase)?;
     let missing = columns_of(alloc, bins, place, code, Layer::Missing)?;
     let slips = columns_of(alloc, bins, place, code, Layer::Slip)?;
+    let returns = columns_of(alloc, bins, place, code, Layer::Return)?;
     let rises = columns_of(alloc, bins, place, code, Layer::Rise)?;
     let halves = columns_of(alloc, bins, place, code, Layer::Half)?;
-    put_column_numbers(text, phases, missing, slips, rises, halves)?;
+    put_column_numbers(text, phases, missing, slips, returns, rises, halves)?;
     Ok(())
 }
 

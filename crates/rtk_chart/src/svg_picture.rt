@@ -30,7 +30,8 @@ pub(crate) const STYLE: &[u8] = b"<style>\
 .l0{stroke:#444!important}.l1{stroke:#4f4822!important}.l2{stroke:#55582a!important}.l3{stroke:#4f6438!important}\
 .l4{stroke:#4a754e!important}.l5{stroke:#438568!important}.l6{stroke:#3f9585!important}.l7{stroke:#45a4a6!important}\
 .l8{stroke:#55b3c8!important}.l9{stroke:#7cc8f0!important}\
-.n{fill:#8ab!important}.p,.m,.h{fill:#111!important}.p,.m{stroke:#ccc!important}\
+.n{fill:#8ab!important}.p,.m,.h,.a{fill:#111!important}.p,.m{stroke:#ccc!important}\
+.o{fill:#ffb070!important;stroke:#ffb070!important}.a{stroke:#fff!important}\
 .s{fill:#ffb070!important}.g{stroke:#fff!important}\
 .r{fill:#fff!important}.r,.s{stroke:#111!important}}\
 @media (max-width:700px){\
@@ -47,7 +48,8 @@ path{fill:none}\
 .l5{stroke:#5fa08f}.l6{stroke:#468c9a}.l7{stroke:#3577a0}.l8{stroke:#2a619f}.l9{stroke:#274a94}\
 .p,.m{fill:#fff;stroke:#555;stroke-width:2}\
 .s,.r{stroke:#fff;stroke-width:3;paint-order:stroke}.s{fill:#8a1c00}.r{fill:#222}\
-.h{fill:#fff;stroke:#b04c85;stroke-width:2}\
+.h{fill:#fff;stroke:#b04c85;stroke-width:2}.a{fill:#fff;stroke:#222;stroke-width:2}\
+.o{fill:#8a1c00;fill-opacity:.2;stroke:#8a1c00;stroke-width:1.5}\
 .g{stroke:#222;stroke-width:14}\
 .n{fill:#468;fill-opacity:.5}\
 .t{stroke:#888;stroke-opacity:.5}\
@@ -57,13 +59,15 @@ path{fill:none}\
 // constant
 /// The name of the time, what the forms mean, and the strengths of the colours.
 pub(crate) const LEGEND: &[u8] = b"<text y='16'>GPS time</text>\
-<g transform='translate(0 38)'><path class='s' d='M8 20l-7-21h14z'/><text x='22' y='18'>slip</text></g>\
-<g transform='translate(110 38)'><path class='r' d='M4 5l9 5l-9 5z'/><text x='22' y='18'>rise</text></g>\
-<g transform='translate(220 38)'><path class='h' d='M8 5l6 6l-6 6l-6-6z'/><text x='22' y='18'>half cycle</text></g>\
-<g transform='translate(410 38)'><path class='l8' d='M0 10H30'/><text x='40' y='18'>phase</text></g>\
-<g transform='translate(560 38)'><path class='l8' d='M0 10H30'/><path class='p' d='M0 10v-6H30v6z'/><text x='40' y='18'>code missing in some epochs</text></g>\
-<g transform='translate(1040 38)'><path class='m' d='M0 16v-12H30v12z'/><text x='40' y='18'>in all</text></g>\
-<g transform='translate(1190 38)'><path class='g' d='M0 10H30'/><text x='40' y='18'>epochs missing</text></g>\
+<g transform='translate(250 -2)'><path class='s' d='M8 20l-7-21h14z'/><text x='22' y='18'>slip</text></g>\
+<g transform='translate(370 -2)'><path class='a' d='M4 5l9 5l-9 5z'/><text x='22' y='18'>return</text></g>\
+<g transform='translate(530 -2)'><path class='r' d='M4 5l9 5l-9 5z'/><text x='22' y='18'>rise</text></g>\
+<g transform='translate(650 -2)'><path class='h' d='M8 5l6 6l-6 6l-6-6z'/><text x='22' y='18'>half cycle</text></g>\
+<g transform='translate(860 -2)'><path class='o' d='M0 -1v22H30v-22z'/><text x='40' y='18'>outage</text></g>\
+<g transform='translate(1040 -2)'><path class='g' d='M0 10H30'/><text x='40' y='18'>epochs missing</text></g>\
+<g transform='translate(0 38)'><path class='l8' d='M0 10H30'/><text x='40' y='18'>phase</text></g>\
+<g transform='translate(250 38)'><path class='l8' d='M0 10H30'/><path class='p' d='M0 10v-6H30v6z'/><text x='40' y='18'>code missing in some epochs</text></g>\
+<g transform='translate(800 38)'><path class='m' d='M0 16v-12H30v12z'/><text x='40' y='18'>in all</text></g>\
 <text y='94'>least strength, dB-Hz</text>\
 <path class='l0' d='M310 87h36'/><text x='352' y='94'>none</text>\
 <path class='l1' d='M430 87h36'/><text x='472' y='94'>&lt;12</text>\
@@ -112,10 +116,11 @@ fn put_counts(
     records: u64,
     satellites: u64,
     slips: u64,
+    returns: u64,
     rises: u64,
     missing: u64,
 ) -> Result<(), AllocError>
-    ensures { OnOk result (text.new.items ≡ text.old.items ++ svg_numbers records satellites slips rises missing) }
+    ensures { OnOk result (text.new.items ≡ text.old.items ++ svg_numbers records satellites slips returns rises missing) }
 {
     put_between(
         text,
@@ -124,7 +129,8 @@ fn put_counts(
         b", satellites ",
     )?;
     put_between(text, b"", satellites, b", slips ")?;
-    put_between(text, b"", slips, b", rises ")?;
+    put_between(text, b"", slips, b", returns ")?;
+    put_between(text, b"", returns, b", rises ")?;
     put_between(text, b"", rises, b", missing epochs ")?;
     put_between(text, b"", missing, b"</text>\n")?;
     Ok(())
@@ -177,11 +183,12 @@ fn put_body(
     requires gaps { length grid.now.gaps.items ≡ scale.now.bins }
     requires end { end ≤ bands_end 16 32 }
     ensures { OnOk result (text.new.items
-        ≡ text.old.items ++ svg_body codes.now scale.now grid.now.bins.items grid.now.gaps.items end) }
+        ≡ text.old.items ++ svg_body codes.now scale.now grid.now.bins.items grid.now.outages.items grid.now.gaps.items end) }
 {
-    put_bands(alloc, text, codes, grid.bins.as_slice())?;
+    let (bins, outages) = (grid.bins.as_slice(), grid.outages.as_slice());
+    put_bands(alloc, text, codes, bins, outages)?;
     put_gaps(text, end, grid.gaps.as_slice())?;
-    put_satellites(text, end + 26, grid.bins.as_slice())?;
+    put_satellites(text, end + 26, bins)?;
     put_ticks(text, scale, end + 72)?;
     put_legend(text, end + 104)?;
     text.extend_from_slice(b"</svg>\n")?;
@@ -223,6 +230,7 @@ pub(crate) fn svg_picture(
         survey.records,
         satellites,
         grid.slips,
+        grid.returns,
         grid.rises,
         grid.missing,
     )?;

@@ -1,6 +1,6 @@
 //! A picture in characters.
 
-ghost use Rattle.std.specs.Prelude.{◌≡◌, ◌≤◌, ◌<◌, ◌++◌, ℕ, Bool, OnOk, IfOk};
+ghost use Rattle.std.specs.Prelude.{◌≡◌, ◌≤◌, ◌<◌, ◌++◌, ℕ, Bool, length, OnOk, IfOk};
 ghost use Rattle.rtk_tracking.specs.Standing.{AreMarked};
 ghost use Rattle.rtk_chart.specs.Scale.{IsScale};
 ghost use Rattle.rtk_chart.specs.TextPicture.{strength_mark, phase_mark, character_of, satellite_row, row_if_drawn, satellite_rows, drawn_before, gap_mark, gap_row, named_count_line, moment_line, text_heading, text_of_none};
@@ -8,9 +8,11 @@ ghost use Rattle.rtk_chart.specs.Steps.Pictures.{body_of_grid, numbers_of_grid, 
 
 use crate::grid::Grid;
 use crate::never::{never_in_line, put_never};
+use crate::outages::is_out;
 use crate::scale::Scale;
 use crate::signs::{
-    codes_had, has_half, has_rise, has_slip, is_drawn, is_missing, is_tracked, least_level,
+    codes_had, has_half, has_return, has_rise, has_slip, is_drawn, is_missing, is_tracked,
+    least_level,
 };
 use crate::survey::Survey;
 use crate::text_time::put_time;
@@ -23,7 +25,8 @@ use std::alloc::{AllocError, Global};
 
 // constant
 /// What the signs mean.
-pub(crate) const SIGNS: &[u8] = b"S slip  R rise  H half cycle  B S and H\n\
+pub(crate) const SIGNS: &[u8] = b"S slip  H half cycle  B S and H\n\
+R rise  r return  o outage\n\
 - code missing  x epochs missing\n\
 1-9 strength, 5 is 30-35 dB-Hz  . none\n";
 
@@ -37,7 +40,7 @@ fn strength_mark(least: Option<u8>, tracked: bool) -> u8
     }
 }
 
-// The character of a satellite without a slip, a half cycle or a rise; it has these codes somewhere.
+// The character of a satellite without a slip, an outage, a half cycle, a rise or a return; it has these codes somewhere.
 fn phase_mark(had: &[bool; 16], tracking: &Tracking) -> u8
     ensures { (has : ℕ → Bool) → AreMarked had.now has → result ≡ phase_mark has tracking.now }
 {
@@ -47,15 +50,17 @@ fn phase_mark(had: &[bool; 16], tracking: &Tracking) -> u8
     strength_mark(least_level(tracking), is_tracked(tracking))
 }
 
-// The character of a satellite in a bin, which has these codes somewhere.
-fn character_of(had: &[bool; 16], tracking: &Tracking) -> u8
-    ensures { (has : ℕ → Bool) → AreMarked had.now has → result ≡ character_of has tracking.now }
+// The character of a satellite in a bin, which has an outage there or none, and these codes somewhere.
+fn character_of(had: &[bool; 16], out: bool, tracking: &Tracking) -> u8
+    ensures { (has : ℕ → Bool) → AreMarked had.now has → result ≡ character_of has out tracking.now }
 {
     match (has_slip(tracking), has_half(tracking)) {
         (true, true) => b'B',
         (true, false) => b'S',
+        (false, _) if out => b'o',
         (false, true) => b'H',
         (false, false) if has_rise(tracking) => b'R',
+        (false, false) if has_return(tracking) => b'r',
         (false, false) => phase_mark(had, tracking),
     }
 }
@@ -77,35 +82,49 @@ pub(crate) fn drawn_before(bins: &[TimeBin], place: usize) -> u64
 
 // The row of a satellite. Which codes it had anywhere in the file is found first: only of these can one
 // be missing in a bin.
-fn put_row(text: &mut Vec<u8>, bins: &[TimeBin], place: usize) -> Result<(), AllocError>
-    requires { place < 32 }
-    ensures { OnOk result (text.new.items ≡ text.old.items ++ satellite_row bins.now place) }
+fn put_row(
+    text: &mut Vec<u8>,
+    bins: &[TimeBin],
+    outages: &[bool],
+    place: usize,
+) -> Result<(), AllocError>
+    requires place { place < 32 }
+    requires few { length bins.now ≤ 1440 }
+    ensures { OnOk result (text.new.items ≡ text.old.items ++ satellite_row bins.now outages.now place) }
 {
     let satellite = place as u8 + 1;
     let had = codes_had(bins, place);
     text.extend_from_slice(&[b'G', b'0' + satellite / 10, b'0' + satellite % 10, b'|'])?;
-    for bin in bins {
-        text.push(character_of(&had, bin.satellite(place)))?;
+    for bin in 0..bins.len() {
+        let out = is_out(outages, place, bin);
+        text.push(character_of(&had, out, bins[bin].satellite(place)))?;
     }
     text.extend_from_slice(b"|\n")?;
     Ok(())
 }
 
-fn put_row_if_drawn(text: &mut Vec<u8>, bins: &[TimeBin], place: usize) -> Result<(), AllocError>
-    requires { place < 32 }
-    ensures { OnOk result (text.new.items ≡ text.old.items ++ row_if_drawn bins.now place) }
+fn put_row_if_drawn(
+    text: &mut Vec<u8>,
+    bins: &[TimeBin],
+    outages: &[bool],
+    place: usize,
+) -> Result<(), AllocError>
+    requires place { place < 32 }
+    requires few { length bins.now ≤ 1440 }
+    ensures { OnOk result (text.new.items ≡ text.old.items ++ row_if_drawn bins.now outages.now place) }
 {
     if is_drawn(bins, place) {
-        put_row(text, bins, place)?;
+        put_row(text, bins, outages, place)?;
     }
     Ok(())
 }
 
-fn put_rows(text: &mut Vec<u8>, bins: &[TimeBin]) -> Result<(), AllocError>
-    ensures { OnOk result (text.new.items ≡ text.old.items ++ satellite_rows bins.now) }
+fn put_rows(text: &mut Vec<u8>, bins: &[TimeBin], outages: &[bool]) -> Result<(), AllocError>
+    requires { length bins.now ≤ 1440 }
+    ensures { OnOk result (text.new.items ≡ text.old.items ++ satellite_rows bins.now outages.now) }
 {
     for place in 0..32 {
-        put_row_if_drawn(text, bins, place)?;
+        put_row_if_drawn(text, bins, outages, place)?;
     }
     Ok(())
 }
@@ -168,6 +187,7 @@ fn put_numbers(
     put_line(text, b"records ", survey.records)?;
     put_line(text, b"satellites ", drawn_before(grid.bins.as_slice(), 32))?;
     put_line(text, b"slips ", grid.slips)?;
+    put_line(text, b"returns ", grid.returns)?;
     put_line(text, b"rises ", grid.rises)?;
     put_line(text, b"missing ", grid.missing)?;
     Ok(())
@@ -182,10 +202,11 @@ fn put_body(
     grid: &Grid,
 ) -> Result<(), AllocError>
     requires good { IsScale scale.now }
+    requires bins { length grid.now.bins.items ≡ scale.now.bins }
     requires width { 40 ≤ width }
     ensures { OnOk result (text.new.items ≡ text.old.items ++ body_of_grid codes.now scale.now width grid.now) }
 {
-    put_rows(text, grid.bins.as_slice())?;
+    put_rows(text, grid.bins.as_slice(), grid.outages.as_slice())?;
     put_gap_row(text, grid.gaps.as_slice())?;
     put_time(text, scale, width)?;
     put_never(text, grid.bins.as_slice(), never_in_line(width), codes)?;
@@ -204,6 +225,7 @@ pub(crate) fn text_picture(
     grid: &Grid,
 ) -> Result<Vec<u8>, AllocError>
     requires good { IsScale scale.now }
+    requires bins { length grid.now.bins.items ≡ scale.now.bins }
     requires width { 40 ≤ width }
     ensures { IfOk result (λ text. text.items ≡ text_of_grid marker.now codes.now scale.now width survey.now grid.now) }
 {

@@ -90,6 +90,17 @@ impl TimeBin {
         slips
     }
 
+    /// How many codes of satellites have a return.
+    pub(crate) fn returns(&self) -> u64
+        ensures { result ≡ sum_by (λ t. count_by (λ m. m.returned) t.codes) self.now.satellites }
+    {
+        let mut returns = 0;
+        for tracking in &self.satellites {
+            returns += tracking.returns();
+        }
+        returns
+    }
+
     /// How many codes of satellites have a rise.
     pub(crate) fn rises(&self) -> u64
         ensures { result ≡ sum_by (λ t. count_by (λ m. m.rise) t.codes) self.now.satellites }

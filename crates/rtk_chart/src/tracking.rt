@@ -11,7 +11,7 @@ ghost use Rattle.rtk_chart.specs.Steps.Shown.{called_at, both_codes, both_tracki
 use crate::code_marks::CodeMarks;
 use crate::observations::{has_phase, is_seen, shown_at};
 use rtk_rinex::Observed;
-use rtk_tracking::Pass;
+use rtk_tracking::{Known, Pass};
 
 /// A satellite: the marks of its codes by their places, and whether it has a row.
 #[derive(Clone, Copy)]
@@ -20,24 +20,28 @@ pub(crate) struct Tracking {
     pub(crate) seen: bool,
 }
 
-// What an epoch calls for of the code at this place; those that are kept had a phase earlier in
-// the pass and since the last outage.
-fn called_at(observed: &[Observed], tracked: bool, kept: &[bool; 16], code: usize) -> CodeMarks
+// What an epoch calls for of the code at this place, after the codes that are known.
+fn called_at(observed: &[Observed], tracked: bool, known: &Known, code: usize) -> CodeMarks
     requires tracked { tracked ≡ has_phase observed.now }
     requires code { code < 16 }
-    ensures { result ≡ called_at observed.now kept.now code }
+    ensures { result ≡ called_at observed.now known.now.had known.now.kept code }
 {
-    CodeMarks::of(shown_at(observed, code), tracked, kept[code])
+    CodeMarks::of(
+        shown_at(observed, code),
+        tracked,
+        known.had[code],
+        known.kept[code],
+    )
 }
 
 // What an epoch calls for of each code.
-fn called_for(observed: &[Observed], kept: &[bool; 16]) -> [CodeMarks; 16]
-    ensures { result ≡ map (called_at observed.now kept.now) (range_with_len 0 16) }
+fn called_for(observed: &[Observed], known: &Known) -> [CodeMarks; 16]
+    ensures { result ≡ map (called_at observed.now known.now.had known.now.kept) (range_with_len 0 16) }
 {
     let tracked = has_phase(observed);
     let mut codes = [CodeMarks::new(); 16];
     for code in 0..16 {
-        codes[code] = called_at(observed, tracked, kept, code);
+        codes[code] = called_at(observed, tracked, known, code);
     }
     codes
 }
@@ -64,14 +68,13 @@ impl Tracking {
         }
     }
 
-    // What an epoch calls for; the codes that are kept had a phase earlier in the pass and
-    // since the last outage.
-    fn of(observed: &[Observed], kept: &[bool; 16]) -> Tracking
-        ensures codes { result.codes ≡ map (called_at observed.now kept.now) (range_with_len 0 16) }
+    // What an epoch calls for, after the codes that are known.
+    fn of(observed: &[Observed], known: &Known) -> Tracking
+        ensures codes { result.codes ≡ map (called_at observed.now known.now.had known.now.kept) (range_with_len 0 16) }
         ensures seen { result.seen ≡ is_seen observed.now }
     {
         Tracking {
-            codes: called_for(observed, kept),
+            codes: called_for(observed, known),
             seen: is_seen(observed),
         }
     }
@@ -92,7 +95,7 @@ impl Tracking {
             return Tracking::new();
         }
         let known = pass.known(interval, record_ms, time_ms, observed);
-        Tracking::of(observed, &known.kept)
+        Tracking::of(observed, &known)
     }
 
     /// Adds what one more epoch calls for.
@@ -112,6 +115,14 @@ impl Tracking {
         ensures few { result ≤ 16 }
     {
         self.codes.iter().filter(|marks| marks.slip).count() as u64
+    }
+
+    /// How many codes have a return.
+    pub(crate) fn returns(&self) -> u64
+        ensures value { result ≡ count_by (λ m. m.returned) self.now.codes }
+        ensures few { result ≤ 16 }
+    {
+        self.codes.iter().filter(|marks| marks.returned).count() as u64
     }
 
     /// How many codes have a rise.

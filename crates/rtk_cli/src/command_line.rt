@@ -64,10 +64,12 @@ fn chart_command<'a>(alloc: Global) -> Result<Command<'a>, AllocError> {
 }
 
 fn quality_command<'a>(alloc: Global) -> Result<Command<'a>, AllocError> {
-    let json = "One JSON document in place of lines";
+    let lines = "Lines for programs in place of the table";
+    let json = "One JSON object in place of the table";
     Command::new(alloc, "quality")
         .about("Tells the numbers of a file: phases, slips, strengths and passes")
         .after_long_help(help_texts::QUALITY)
+        .arg(switch_arg(alloc, "lines", lines).conflicts_with("json")?)?
         .arg(switch_arg(alloc, "json", json))?
         .arg(file_arg(alloc, "The file, or stdin for standard input"))
 }

@@ -117,6 +117,12 @@ Exit status:
   2  the words are refused
   3  the file is not as convert or label writes it; standard error says where
 
+What the numbers do not say:
+  Nothing of multipath and elevation.
+  Slips are the receiver's own marks; nothing is computed from the phases.
+  The percentage is of the passes that the file shows. teqc and Anubis take orbits
+  in their place. A file that lacks half a day may have 100.0.
+
 Manual: man rtcm2rinex, or docs/MANUAL.md";
 
 pub(crate) const CUT: &str = "\

@@ -12,7 +12,7 @@ use crate::convert_words::convert_job;
 use crate::cut_words::part_of;
 use crate::label_words::label_of;
 use crate::options::{
-    auto_options, chart_width, convert_options, cut_options, label_options, shown_msm,
+    auto_options, chart_width, convert_options, cut_options, label_options, quality_form, shown_msm,
 };
 use crate::words::{Job, WordsFault};
 use clap::{ArgMatches, Command};
@@ -101,8 +101,8 @@ fn file_job<'a>(command: &str, words: &ArgMatches<'a>) -> Result<Option<Job<'a>>
         "summary" => Ok(Some(Job::Summary { file })),
         "chart" => Ok(chart_job(words, file)),
         "quality" => {
-            let json = words.get_flag("json");
-            Ok(Some(Job::Quality { json, file }))
+            let form = quality_form(words);
+            Ok(Some(Job::Quality { form, file }))
         }
         "cut" => cut_job(words, file),
         "label" => label_job(words, file),

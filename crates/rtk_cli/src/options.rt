@@ -18,6 +18,7 @@ use rtk_convert::{Station, Window};
 use rtk_label::LabelParts;
 use rtk_message::MsmKind;
 use rtk_plan::Ways;
+use rtk_quality::Form;
 
 /// How many characters wide a picture is if no number is given. It is not clap's default value,
 /// unlike `WINDOW` of command_line.rt: without `--text` a picture has no such width.
@@ -164,6 +165,17 @@ pub(crate) fn chart_width(words: &ArgMatches<'_>) -> Option<Option<u16>>
         return None;
     }
     Some(Some(width as u16))
+}
+
+/// The form in which `quality` tells its numbers. clap refuses both words together.
+pub(crate) fn quality_form(words: &ArgMatches<'_>) -> Form {
+    if words.get_flag("json") {
+        return Form::Json;
+    }
+    if words.get_flag("lines") {
+        return Form::Lines;
+    }
+    Form::Table
 }
 
 /// The options of `cut`.

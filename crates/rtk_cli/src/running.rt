@@ -12,7 +12,6 @@ use crate::refusing::refuse_words;
 use crate::words::Job;
 use rtk_commands::{Chart, Check, run_file, show_named, summarize_named};
 use rtk_message::MsmKind;
-use rtk_quality::Form;
 use rtk_streams::{ToolFault, fail};
 use std::env::Env;
 use std::fs::Files;
@@ -54,8 +53,7 @@ fn run_job<R: Env + Clock + Files + Input + Print + Eprint + AllocGlobal, W: Wri
         Job::Check { file } => run_file(rt, &Check, file),
         Job::Summary { file } => summarize_named(rt, file),
         Job::Chart { width, file } => run_file(rt, &Chart { width }, file),
-        Job::Quality { json: true, file } => run_file(rt, &Form::Json, file),
-        Job::Quality { json: false, file } => run_file(rt, &Form::Lines, file),
+        Job::Quality { form, file } => run_file(rt, &form, file),
         Job::Cut { part, file } => run_file(rt, &part, file),
         Job::Label { label, file } => run_file(rt, &label, file),
     }

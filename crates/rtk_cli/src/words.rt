@@ -5,6 +5,7 @@ use rtk_cut::Part;
 use rtk_label::{Label, LabelFault};
 use rtk_message::MsmKind;
 use rtk_plan::{Wanted, Ways};
+use rtk_quality::Form;
 use rtk_rinex::CreationTime;
 use std::alloc::AllocError;
 
@@ -63,8 +64,7 @@ pub enum Job<'a> {
     },
     /// The numbers of a file.
     Quality {
-        /// They are told as JSON.
-        json: bool,
+        form: Form,
         file: &'a str,
     },
     /// A part of a file.

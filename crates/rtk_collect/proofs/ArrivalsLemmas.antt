@@ -4,22 +4,21 @@ use Rattle.std.proofs.lemmas.Bool.{lt-ltb, le-ltb, le-leb, lt-leb, cases_order, 
 use Rattle.std.proofs.lemmas.List.{append-nil}
 use Rattle.std.proofs.lemmas.List.Sums.{sum_by-cons}
 use Rattle.std.specs.List.{insert}
-use Rattle.rtk_obs.specs.declared.cell.CellEntry.{CellEntry}
 use Rattle.std.specs.Prelude.{◌&&◌}
 use Rattle.rtk_message.specs.declared.any_message.AnyMessage.{AnyMessage as Message}
-use Rattle.rtk_obs.specs.MessageCells.{cells_of}
 use Rattle.rtk_collect.specs.EpochSet.{EpochSetView, joined, FirstIsBelow, EpochsFall}
 use Rattle.rtk_collect.specs.Arrival.{Arrival, At}
 use Rattle.rtk_collect.specs.Late.{with_epoch, epochs, greater, late}
 use Rattle.rtk_collect.specs.Accepted.{no_cells, with_arrival, kept, cells_at}
 use Rattle.rtk_collect.specs.Laws.{GreaterOpens, LesserJoinsOthers, SameJoins, KeptFall}
 use Rattle.rtk_collect.specs.Steps.OrderedPlaces.{leading}
+use Rattle.rtk_collect.specs.Entries.{Entries}
 
 -- an epoch with the cells of one message
-abbrev pub opened : ℕ → List CellEntry → EpochSetView
-opened e cells = joined cells (no_cells e)
+abbrev pub opened : {E S : Type 0} (es : Entries E S) → ℕ → List E → EpochSetView E
+opened es e cells = joined es cells (no_cells e)
 
-abbrev pub keys : List EpochSetView → List ℕ
+abbrev pub keys : {E : Type 0} → List (EpochSetView E) → List ℕ
 keys [] = []
 keys (x ∷ xs) = x.epoch ∷ keys xs
 
@@ -65,22 +64,22 @@ with_epoch-falls e (x ∷ xs) h = elim (cases_order x e) [
   ]
 ]
 
-pub with_arrival-new : GreaterOpens
-with_arrival-new e cs x xs h = rw (lt-ltb x.epoch e h) refl
+pub with_arrival-new : {E S : Type 0} (es : Entries E S) → GreaterOpens es
+with_arrival-new es e cs x xs h = rw (lt-ltb x.epoch e h) refl
 
-pub with_arrival-below : LesserJoinsOthers
-with_arrival-below e cs x xs h = rw (le-ltb x.epoch e (omega arith), lt-ltb e x.epoch h) refl
+pub with_arrival-below : {E S : Type 0} (es : Entries E S) → LesserJoinsOthers es
+with_arrival-below es e cs x xs h = rw (le-ltb x.epoch e (omega arith), lt-ltb e x.epoch h) refl
 
-pub with_arrival-same : SameJoins
-with_arrival-same e cs x xs h = rw (le-ltb x.epoch e (omega arith), le-ltb e x.epoch (omega arith)) refl
+pub with_arrival-same : {E S : Type 0} (es : Entries E S) → SameJoins es
+with_arrival-same es e cs x xs h = rw (le-ltb x.epoch e (omega arith), le-ltb e x.epoch (omega arith)) refl
 
-pub keys-with_arrival : (e : ℕ) (cs : List CellEntry) (xs : List EpochSetView) → keys (with_arrival e cs xs) ≡ with_epoch e (keys xs)
-keys-with_arrival e cs [] = refl
-keys-with_arrival e cs (x ∷ xs) = elim (cases_order x.epoch e) [
-  | inl same ↦ rw (with_arrival-same e cs x xs (sym same), with_epoch-same e x.epoch (keys xs) (sym same)) refl
+pub keys-with_arrival : {E S : Type 0} (es : Entries E S) (e : ℕ) (cs : List E) (xs : List (EpochSetView E)) → keys (with_arrival es e cs xs) ≡ with_epoch e (keys xs)
+keys-with_arrival es e cs [] = refl
+keys-with_arrival es e cs (x ∷ xs) = elim (cases_order x.epoch e) [
+  | inl same ↦ rw (with_arrival-same es e cs x xs (sym same), with_epoch-same e x.epoch (keys xs) (sym same)) refl
   | inr more ↦ elim more [
-    | inl new ↦ rw (with_arrival-new e cs x xs new, with_epoch-new e x.epoch (keys xs) new) refl
-    | inr below ↦ rw (with_arrival-below e cs x xs below, with_epoch-below e x.epoch (keys xs) below) (ap (λ t. x.epoch ∷ t) (keys-with_arrival e cs xs))
+    | inl new ↦ rw (with_arrival-new es e cs x xs new, with_epoch-new e x.epoch (keys xs) new) refl
+    | inr below ↦ rw (with_arrival-below es e cs x xs below, with_epoch-below e x.epoch (keys xs) below) (ap (λ t. x.epoch ∷ t) (keys-with_arrival es e cs xs))
   ]
 ]
 
@@ -89,7 +88,7 @@ leadingN-take zero e xs = grind arith
 leadingN-take (suc n) e [] = grind arith
 leadingN-take (suc n) e (x ∷ xs) = grind (arith, leadingN-take n e xs)
 
-pub leadingN-keys : (e : ℕ) (xs : List EpochSetView) → leadingN e (keys xs) ≡ leading e xs
+pub leadingN-keys : {E : Type 0} (e : ℕ) (xs : List (EpochSetView E)) → leadingN e (keys xs) ≡ leading e xs
 leadingN-keys e [] = refl
 leadingN-keys e (x ∷ xs) = rw (leadingN-keys e xs) refl
 
@@ -124,7 +123,7 @@ take-with_epoch (suc n) e (x ∷ xs) = elim (cases_order x e) [
   ]
 ]
 
-pub keys-take : (n : ℕ) (xs : List EpochSetView) → keys (take n xs) ≡ take n (keys xs)
+pub keys-take : {E : Type 0} (n : ℕ) (xs : List (EpochSetView E)) → keys (take n xs) ≡ take n (keys xs)
 keys-take zero xs = refl
 keys-take (suc n) [] = refl
 keys-take (suc n) (x ∷ xs) = ap (λ t. x.epoch ∷ t) (keys-take n xs)
@@ -172,96 +171,96 @@ late-true n e m before h = late-leading n e m before ∙ le-leb _ _ h
 pub late-false : (n e : ℕ) (m : Message) (before : List Arrival) → leadingN e (epochs before) < n → late n (At (Some e) m) before ≡ false
 late-false n e m before h = late-leading n e m before ∙ lt-leb _ _ h
 
-pub is-late : (n e : ℕ) (m : Message) (before : List Arrival) → n ≤ leadingN e (epochs before) → kept n (At (Some e) m ∷ before) ≡ kept n before
-is-late n e m before h = ap (λ (b : Bool). if b then kept n before else with_arrival e (cells_of m) (kept n before)) (late-true n e m before h)
+pub is-late : {E S : Type 0} (es : Entries E S) (of : Message → List E) (n e : ℕ) (m : Message) (before : List Arrival) → n ≤ leadingN e (epochs before) → kept es of n (At (Some e) m ∷ before) ≡ kept es of n before
+is-late es of n e m before h = ap (λ (b : Bool). if b then kept es of n before else with_arrival es e (of m) (kept es of n before)) (late-true n e m before h)
 
-pub is-open : (n e : ℕ) (m : Message) (before : List Arrival) → leadingN e (epochs before) < n → kept n (At (Some e) m ∷ before) ≡ with_arrival e (cells_of m) (kept n before)
-is-open n e m before h = ap (λ (b : Bool). if b then kept n before else with_arrival e (cells_of m) (kept n before)) (late-false n e m before h)
+pub is-open : {E S : Type 0} (es : Entries E S) (of : Message → List E) (n e : ℕ) (m : Message) (before : List Arrival) → leadingN e (epochs before) < n → kept es of n (At (Some e) m ∷ before) ≡ with_arrival es e (of m) (kept es of n before)
+is-open es of n e m before h = ap (λ (b : Bool). if b then kept es of n before else with_arrival es e (of m) (kept es of n before)) (late-false n e m before h)
 
 -- the greatest epochs of the arrivals are those that are kept
-pub same_greatest : (n : ℕ) (arrivals : List Arrival) → take n (keys (kept n arrivals)) ≡ take n (epochs arrivals)
-same_greatest n [] = refl
-same_greatest n (At None m ∷ before) = same_greatest n before
-same_greatest n (At (Some e) m ∷ before) = elim (cases_lt (leadingN e (epochs before)) n) [
-  | inl fresh ↦ rw (is-open n e m before fresh, keys-with_arrival, take-with_epoch n e (keys (kept n before)), same_greatest n before) (sym (take-with_epoch n e (epochs before)))
-  | inr over ↦ rw (is-late n e m before over) (same_greatest n before ∙ sym (take-with_epoch-late n e (epochs before) over))
+pub same_greatest : {E S : Type 0} (es : Entries E S) (of : Message → List E) (n : ℕ) (arrivals : List Arrival) → take n (keys (kept es of n arrivals)) ≡ take n (epochs arrivals)
+same_greatest es of n [] = refl
+same_greatest es of n (At None m ∷ before) = same_greatest es of n before
+same_greatest es of n (At (Some e) m ∷ before) = elim (cases_lt (leadingN e (epochs before)) n) [
+  | inl fresh ↦ rw (is-open es of n e m before fresh, keys-with_arrival es, take-with_epoch n e (keys (kept es of n before)), same_greatest es of n before) (sym (take-with_epoch n e (epochs before)))
+  | inr over ↦ rw (is-late es of n e m before over) (same_greatest es of n before ∙ sym (take-with_epoch-late n e (epochs before) over))
 ]
 
-pub with_arrival-under : (e : ℕ) (cs : List CellEntry) (x : EpochSetView) (xs : List EpochSetView) → e < x.epoch → FirstIsBelow x.epoch xs → FirstIsBelow x.epoch (with_arrival e cs xs)
-with_arrival-under e cs x [] h b = h
-with_arrival-under e cs x (y ∷ ys) h b = elim (cases_order y.epoch e) [
-  | inl same ↦ rw (with_arrival-same e cs y ys (sym same)) b
+pub with_arrival-under : {E S : Type 0} (es : Entries E S) (e : ℕ) (cs : List E) (x : EpochSetView E) (xs : List (EpochSetView E)) → e < x.epoch → FirstIsBelow x.epoch xs → FirstIsBelow x.epoch (with_arrival es e cs xs)
+with_arrival-under es e cs x [] h b = h
+with_arrival-under es e cs x (y ∷ ys) h b = elim (cases_order y.epoch e) [
+  | inl same ↦ rw (with_arrival-same es e cs y ys (sym same)) b
   | inr more ↦ elim more [
-    | inl new ↦ rw (with_arrival-new e cs y ys new) h
-    | inr below ↦ rw (with_arrival-below e cs y ys below) b
+    | inl new ↦ rw (with_arrival-new es e cs y ys new) h
+    | inr below ↦ rw (with_arrival-below es e cs y ys below) b
   ]
 ]
 
-pub with_arrival-falls : (e : ℕ) (cs : List CellEntry) (xs : List EpochSetView) → EpochsFall xs → EpochsFall (with_arrival e cs xs)
-with_arrival-falls e cs [] h = (tt, tt)
-with_arrival-falls e cs (x ∷ xs) h = elim (cases_order x.epoch e) [
-  | inl same ↦ rw (with_arrival-same e cs x xs (sym same)) h
+pub with_arrival-falls : {E S : Type 0} (es : Entries E S) (e : ℕ) (cs : List E) (xs : List (EpochSetView E)) → EpochsFall xs → EpochsFall (with_arrival es e cs xs)
+with_arrival-falls es e cs [] h = (tt, tt)
+with_arrival-falls es e cs (x ∷ xs) h = elim (cases_order x.epoch e) [
+  | inl same ↦ rw (with_arrival-same es e cs x xs (sym same)) h
   | inr more ↦ elim more [
-    | inl new ↦ rw (with_arrival-new e cs x xs new) (new, h)
-    | inr below ↦ rw (with_arrival-below e cs x xs below) (with_arrival-under e cs x xs below h.0, with_arrival-falls e cs xs h.1)
+    | inl new ↦ rw (with_arrival-new es e cs x xs new) (new, h)
+    | inr below ↦ rw (with_arrival-below es e cs x xs below) (with_arrival-under es e cs x xs below h.0, with_arrival-falls es e cs xs h.1)
   ]
 ]
 
-pub kept-falls : KeptFall
-kept-falls n [] = tt
-kept-falls n (At None m ∷ before) = kept-falls n before
-kept-falls n (At (Some e) m ∷ before) = elim (cases_lt (leadingN e (epochs before)) n) [
-  | inl fresh ↦ rw (is-open n e m before fresh) (with_arrival-falls e (cells_of m) (kept n before) (kept-falls n before))
-  | inr over ↦ rw (is-late n e m before over) (kept-falls n before)
+pub kept-falls : {E S : Type 0} (es : Entries E S) (of : Message → List E) → KeptFall es of
+kept-falls es of n [] = tt
+kept-falls es of n (At None m ∷ before) = kept-falls es of n before
+kept-falls es of n (At (Some e) m ∷ before) = elim (cases_lt (leadingN e (epochs before)) n) [
+  | inl fresh ↦ rw (is-open es of n e m before fresh) (with_arrival-falls es e (of m) (kept es of n before) (kept-falls es of n before))
+  | inr over ↦ rw (is-late es of n e m before over) (kept-falls es of n before)
 ]
 
-pub take-with_arrival : (n e : ℕ) (cs : List CellEntry) (xs : List EpochSetView) → take n (with_arrival e cs xs) ≡ take n (with_arrival e cs (take n xs))
-take-with_arrival zero e cs xs = refl
-take-with_arrival (suc n) e cs [] = refl
-take-with_arrival (suc n) e cs (x ∷ xs) = elim (cases_order x.epoch e) [
-  | inl same ↦ rw (with_arrival-same e cs x xs (sym same), with_arrival-same e cs x (take n xs) (sym same)) (ap (λ t. joined cs x ∷ t) (sym (take-take-same n xs)))
+pub take-with_arrival : {E S : Type 0} (es : Entries E S) (n e : ℕ) (cs : List E) (xs : List (EpochSetView E)) → take n (with_arrival es e cs xs) ≡ take n (with_arrival es e cs (take n xs))
+take-with_arrival es zero e cs xs = refl
+take-with_arrival es (suc n) e cs [] = refl
+take-with_arrival es (suc n) e cs (x ∷ xs) = elim (cases_order x.epoch e) [
+  | inl same ↦ rw (with_arrival-same es e cs x xs (sym same), with_arrival-same es e cs x (take n xs) (sym same)) (ap (λ t. joined es cs x ∷ t) (sym (take-take-same n xs)))
   | inr more ↦ elim more [
-    | inl new ↦ rw (with_arrival-new e cs x xs new, with_arrival-new e cs x (take n xs) new) (ap (λ t. opened e cs ∷ t) (sym (take-cons-take n x xs)))
-    | inr below ↦ rw (with_arrival-below e cs x xs below, with_arrival-below e cs x (take n xs) below) (ap (λ t. x ∷ t) (take-with_arrival n e cs xs))
+    | inl new ↦ rw (with_arrival-new es e cs x xs new, with_arrival-new es e cs x (take n xs) new) (ap (λ t. opened es e cs ∷ t) (sym (take-cons-take n x xs)))
+    | inr below ↦ rw (with_arrival-below es e cs x xs below, with_arrival-below es e cs x (take n xs) below) (ap (λ t. x ∷ t) (take-with_arrival es n e cs xs))
   ]
 ]
 
-pub drop-with_arrival : (n e : ℕ) (cs : List CellEntry) (xs : List EpochSetView) → leading e xs < n → drop n (with_arrival e cs xs) ≡ drop n (with_arrival e cs (take n xs)) ++ drop n xs
-drop-with_arrival zero e cs xs h = grind arith
-drop-with_arrival (suc n) e cs [] h = sym (append-nil _)
-drop-with_arrival (suc n) e cs (x ∷ xs) h = elim (cases_order x.epoch e) [
-  | inl same ↦ rw (with_arrival-same e cs x xs (sym same), with_arrival-same e cs x (take n xs) (sym same)) (rw (drop-take-same n xs) refl)
+pub drop-with_arrival : {E S : Type 0} (es : Entries E S) (n e : ℕ) (cs : List E) (xs : List (EpochSetView E)) → leading e xs < n → drop n (with_arrival es e cs xs) ≡ drop n (with_arrival es e cs (take n xs)) ++ drop n xs
+drop-with_arrival es zero e cs xs h = grind arith
+drop-with_arrival es (suc n) e cs [] h = sym (append-nil _)
+drop-with_arrival es (suc n) e cs (x ∷ xs) h = elim (cases_order x.epoch e) [
+  | inl same ↦ rw (with_arrival-same es e cs x xs (sym same), with_arrival-same es e cs x (take n xs) (sym same)) (rw (drop-take-same n xs) refl)
   | inr more ↦ elim more [
-    | inl new ↦ rw (with_arrival-new e cs x xs new, with_arrival-new e cs x (take n xs) new) (drop-cons-take n x xs)
-    | inr below ↦ rw (with_arrival-below e cs x xs below, with_arrival-below e cs x (take n xs) below) (drop-with_arrival n e cs xs (let q = rw (lt-ltb e x.epoch below) at h in omega arith))
+    | inl new ↦ rw (with_arrival-new es e cs x xs new, with_arrival-new es e cs x (take n xs) new) (drop-cons-take n x xs)
+    | inr below ↦ rw (with_arrival-below es e cs x xs below, with_arrival-below es e cs x (take n xs) below) (drop-with_arrival es n e cs xs (let q = rw (lt-ltb e x.epoch below) at h in omega arith))
   ]
 ]
 
 -- the epochs that are greater than one, from what is held
 
-pub leading-sets : (n e : ℕ) (sets : List EpochSetView) (arrivals : List Arrival) → sets ≡ take n (kept n arrivals) → leading e sets ≡ min n (leadingN e (epochs arrivals))
-leading-sets n e sets arrivals h = rw (h, ← leadingN-keys e (take n (kept n arrivals)), keys-take, same_greatest n arrivals) (leadingN-take n e (epochs arrivals))
+pub leading-sets : {E S : Type 0} (es : Entries E S) (of : Message → List E) (n e : ℕ) (sets : List (EpochSetView E)) (arrivals : List Arrival) → sets ≡ take n (kept es of n arrivals) → leading e sets ≡ min n (leadingN e (epochs arrivals))
+leading-sets es of n e sets arrivals h = rw (h, ← leadingN-keys e (take n (kept es of n arrivals)), keys-take, same_greatest es of n arrivals) (leadingN-take n e (epochs arrivals))
 
-pub sets-late : (n e : ℕ) (sets : List EpochSetView) (before : List Arrival) → sets ≡ take n (kept n before) → n ≤ leading e sets → n ≤ leadingN e (epochs before)
-sets-late n e sets before h l = grind (arith, leading-sets n e sets before h)
+pub sets-late : {E S : Type 0} (es : Entries E S) (of : Message → List E) (n e : ℕ) (sets : List (EpochSetView E)) (before : List Arrival) → sets ≡ take n (kept es of n before) → n ≤ leading e sets → n ≤ leadingN e (epochs before)
+sets-late es of n e sets before h l = grind (arith, leading-sets es of n e sets before h)
 
-pub sets-open : (n e : ℕ) (sets : List EpochSetView) (before : List Arrival) → sets ≡ take n (kept n before) → leading e sets < n → leadingN e (epochs before) < n
-sets-open n e sets before h l = grind (arith, leading-sets n e sets before h)
+pub sets-open : {E S : Type 0} (es : Entries E S) (of : Message → List E) (n e : ℕ) (sets : List (EpochSetView E)) (before : List Arrival) → sets ≡ take n (kept es of n before) → leading e sets < n → leadingN e (epochs before) < n
+sets-open es of n e sets before h l = grind (arith, leading-sets es of n e sets before h)
 
 -- the place of an epoch
 
-pub below-none : (e : ℕ) (x : EpochSetView) (xs : List EpochSetView) → EpochsFall (x ∷ xs) → x.epoch < e → cells_at e (x ∷ xs) ≡ None
+pub below-none : {E : Type 0} (e : ℕ) (x : EpochSetView E) (xs : List (EpochSetView E)) → EpochsFall (x ∷ xs) → x.epoch < e → cells_at e (x ∷ xs) ≡ None
 below-none e x [] f h = rw (ne_eqb e x.epoch (λ q. omega arith)) refl
 below-none e x (y ∷ ys) f h = rw (ne_eqb e x.epoch (λ q. omega arith)) (below-none e y ys f.1 (omega (arith, f.0)))
 
-pub found-cells : (e : ℕ) (d : EpochSetView) (xs : List EpochSetView) → leading e xs < length xs → (get_or xs (leading e xs) d).epoch ≡ e → cells_at e xs ≡ Some (get_or xs (leading e xs) d).cells
+pub found-cells : {E : Type 0} (e : ℕ) (d : EpochSetView E) (xs : List (EpochSetView E)) → leading e xs < length xs → (get_or xs (leading e xs) d).epoch ≡ e → cells_at e xs ≡ Some (get_or xs (leading e xs) d).cells
 found-cells e d [] l h = grind arith
 found-cells e d (x ∷ xs) l h = elim (cases_lt e x.epoch) [
   | inl below ↦ rw (lt-ltb e x.epoch below, ne_eqb e x.epoch (λ q. omega arith)) (found-cells e d xs (let q = rw (lt-ltb e x.epoch below) at l in omega arith) (rw (lt-ltb e x.epoch below) at h))
   | inr over ↦ let q = rw (le-ltb e x.epoch over) at h in rw (le-ltb e x.epoch over, eq-eqb e x.epoch (sym q)) refl
 ]
 
-pub absent-cells : (e : ℕ) (d : EpochSetView) (xs : List EpochSetView) → EpochsFall xs → (leading e xs < length xs → (get_or xs (leading e xs) d).epoch ≢ e) → cells_at e xs ≡ None
+pub absent-cells : {E : Type 0} (e : ℕ) (d : EpochSetView E) (xs : List (EpochSetView E)) → EpochsFall xs → (leading e xs < length xs → (get_or xs (leading e xs) d).epoch ≢ e) → cells_at e xs ≡ None
 absent-cells e d [] f h = refl
 absent-cells e d (x ∷ xs) f h = elim (cases_order e x.epoch) [
   | inl same ↦ absurd (rw (le-ltb e x.epoch (omega arith)) at h (omega arith) (sym same))
@@ -271,7 +270,7 @@ absent-cells e d (x ∷ xs) f h = elim (cases_order e x.epoch) [
   ]
 ]
 
-pub cells_at-take : (n e : ℕ) (b : List CellEntry) (xs : List EpochSetView) → cells_at e (take n xs) ≡ Some b → cells_at e xs ≡ Some b
+pub cells_at-take : {E : Type 0} (n e : ℕ) (b : List E) (xs : List (EpochSetView E)) → cells_at e (take n xs) ≡ Some b → cells_at e xs ≡ Some b
 cells_at-take zero e b xs h = cc
 cells_at-take (suc n) e b [] h = h
 cells_at-take (suc n) e b (x ∷ xs) h = elim (cases_eq e x.epoch) [
@@ -279,7 +278,7 @@ cells_at-take (suc n) e b (x ∷ xs) h = elim (cases_eq e x.epoch) [
   | inr other ↦ rw (ne_eqb e x.epoch other) (cells_at-take n e b xs (rw (ne_eqb e x.epoch other) at h))
 ]
 
-pub cells_at-none : (n e : ℕ) (xs : List EpochSetView) → EpochsFall xs → leading e xs < n → cells_at e (take n xs) ≡ None → cells_at e xs ≡ None
+pub cells_at-none : {E : Type 0} (n e : ℕ) (xs : List (EpochSetView E)) → EpochsFall xs → leading e xs < n → cells_at e (take n xs) ≡ None → cells_at e xs ≡ None
 cells_at-none zero e xs f l h = grind arith
 cells_at-none (suc n) e [] f l h = refl
 cells_at-none (suc n) e (x ∷ xs) f l h = elim (cases_order e x.epoch) [
@@ -291,26 +290,26 @@ cells_at-none (suc n) e (x ∷ xs) f l h = elim (cases_order e x.epoch) [
 ]
 
 -- cells join the epoch that is there
-pub with_arrival-found : (e : ℕ) (cs : List CellEntry) (d : EpochSetView) (xs : List EpochSetView) → leading e xs < length xs → (get_or xs (leading e xs) d).epoch ≡ e
-    → with_arrival e cs xs ≡ set xs (leading e xs) (joined cs (get_or xs (leading e xs) d))
-with_arrival-found e cs d [] l h = grind arith
-with_arrival-found e cs d (x ∷ xs) l h = elim (cases_lt e x.epoch) [
-  | inl below ↦ rw (with_arrival-below e cs x xs below, lt-ltb e x.epoch below) (ap (λ t. x ∷ t) (with_arrival-found e cs d xs (let q = rw (lt-ltb e x.epoch below) at l in omega arith) (rw (lt-ltb e x.epoch below) at h)))
-  | inr over ↦ let q = rw (le-ltb e x.epoch over) at h in rw (with_arrival-same e cs x xs (sym q), le-ltb e x.epoch over) refl
+pub with_arrival-found : {E S : Type 0} (es : Entries E S) (e : ℕ) (cs : List E) (d : EpochSetView E) (xs : List (EpochSetView E)) → leading e xs < length xs → (get_or xs (leading e xs) d).epoch ≡ e
+    → with_arrival es e cs xs ≡ set xs (leading e xs) (joined es cs (get_or xs (leading e xs) d))
+with_arrival-found es e cs d [] l h = grind arith
+with_arrival-found es e cs d (x ∷ xs) l h = elim (cases_lt e x.epoch) [
+  | inl below ↦ rw (with_arrival-below es e cs x xs below, lt-ltb e x.epoch below) (ap (λ t. x ∷ t) (with_arrival-found es e cs d xs (let q = rw (lt-ltb e x.epoch below) at l in omega arith) (rw (lt-ltb e x.epoch below) at h)))
+  | inr over ↦ let q = rw (le-ltb e x.epoch over) at h in rw (with_arrival-same es e cs x xs (sym q), le-ltb e x.epoch over) refl
 ]
 
-pub with_arrival-absent : (e : ℕ) (cs : List CellEntry) (xs : List EpochSetView) → cells_at e xs ≡ None → with_arrival e cs xs ≡ insert xs (leading e xs) (opened e cs)
-with_arrival-absent e cs [] h = refl
-with_arrival-absent e cs (x ∷ xs) h = elim (cases_order e x.epoch) [
+pub with_arrival-absent : {E S : Type 0} (es : Entries E S) (e : ℕ) (cs : List E) (xs : List (EpochSetView E)) → cells_at e xs ≡ None → with_arrival es e cs xs ≡ insert xs (leading e xs) (opened es e cs)
+with_arrival-absent es e cs [] h = refl
+with_arrival-absent es e cs (x ∷ xs) h = elim (cases_order e x.epoch) [
   | inl same ↦ let q = rw (eq-eqb e x.epoch same) at h in cc
   | inr more ↦ elim more [
-    | inl below ↦ rw (with_arrival-below e cs x xs below, lt-ltb e x.epoch below) (ap (λ t. x ∷ t) (with_arrival-absent e cs xs (rw (ne_eqb e x.epoch (λ q. omega arith)) at h)))
-    | inr over ↦ rw (with_arrival-new e cs x xs over, le-ltb e x.epoch (omega arith)) refl
+    | inl below ↦ rw (with_arrival-below es e cs x xs below, lt-ltb e x.epoch below) (ap (λ t. x ∷ t) (with_arrival-absent es e cs xs (rw (ne_eqb e x.epoch (λ q. omega arith)) at h)))
+    | inr over ↦ rw (with_arrival-new es e cs x xs over, le-ltb e x.epoch (omega arith)) refl
   ]
 ]
 
 -- no new cell: nothing changes
-pub set-same : (i : ℕ) (d : EpochSetView) (xs : List EpochSetView) → set xs i (get_or xs i d) ≡ xs
+pub set-same : {E : Type 0} (i : ℕ) (d : EpochSetView E) (xs : List (EpochSetView E)) → set xs i (get_or xs i d) ≡ xs
 set-same zero d [] = refl
 set-same (suc i) d [] = refl
 set-same zero d (x ∷ xs) = refl

@@ -8,9 +8,6 @@ use Rattle.std.specs.List.{All, AllByRecursion, insert}
 use Rattle.std.proofs.lemmas.List.Elements.{All-from_recursion, recursion_from_All}
 use Rattle.rtk_obs.specs.Cell.{IsSatellite, IsInRange}
 use Rattle.rtk_obs.specs.declared.cell.CellEntry.{CellEntry}
-use Rattle.rtk_obs.specs.declared.cell.CellSource.TheVariants.{Legacy}
-use Rattle.rtk_obs.specs.declared.code.Code.TheVariants.{G1C}
-use Rattle.rtk_collect.specs.declared.conflicts.SatelliteCode.{SatelliteCode}
 use Rattle.std.specs.Prelude.{◌*◌, not}
 use Rattle.rtk_obs.specs.Code.{place_of}
 use Rattle.rtk_collect.specs.Equal.{equal_cells}
@@ -18,325 +15,325 @@ use Rattle.rtk_collect.specs.Key.{key, key_at, rank_of, Above, KeysRise}
 use Rattle.rtk_collect.proofs.EqualityLemmas.{place-less, rank-less}
 use Rattle.rtk_collect.specs.EpochSet.{AreCellsOfEpoch, with_cell, with_cells, cell_under, one_more, fresh, conflict, conflicts}
 use Rattle.rtk_collect.specs.Steps.OrderedPlaces.{lower}
+use Rattle.rtk_collect.specs.Gps.{gps}
+use Rattle.rtk_collect.specs.Entries.{Entries}
 
--- some cell, for a list that wants one
-abbrev pub any_cell : CellEntry
-any_cell = record {
-  satellite = 0;
-  code = G1C;
-  cell = record { range_mm = None; phase_millicycles = None; strength_millidbhz = None; lock_time_ms = 0; half = false; source = Legacy; offset = None };
-}
+-- some cell of a list, for a look-up that wants one
+pub some_cell : {X : Type 0} (xs : List X) → 0 < length xs → X
+some_cell [] h = absurd (omega arith)
+some_cell (x ∷ xs) h = x
 
 -- A cell joins cells: with_cell by its three cases
-pub with_cell-new : (c x : CellEntry) (xs : List CellEntry) → key c < key x → with_cell c (x ∷ xs) ≡ c ∷ x ∷ xs
-with_cell-new c x xs h = rw (lt-ltb (key c) (key x) h) refl
+pub with_cell-new : {E S : Type 0} (es : Entries E S) (c x : E) (xs : List E) → key es c < key es x → with_cell es c (x ∷ xs) ≡ c ∷ x ∷ xs
+with_cell-new es c x xs h = rw (lt-ltb (key es c) (key es x) h) refl
 
-pub with_cell-past : (c x : CellEntry) (xs : List CellEntry) → key x < key c → with_cell c (x ∷ xs) ≡ x ∷ with_cell c xs
-with_cell-past c x xs h = rw (le-ltb (key c) (key x) (omega arith), lt-ltb (key x) (key c) h) refl
+pub with_cell-past : {E S : Type 0} (es : Entries E S) (c x : E) (xs : List E) → key es x < key es c → with_cell es c (x ∷ xs) ≡ x ∷ with_cell es c xs
+with_cell-past es c x xs h = rw (le-ltb (key es c) (key es x) (omega arith), lt-ltb (key es x) (key es c) h) refl
 
-pub with_cell-same : (c x : CellEntry) (xs : List CellEntry) → key c ≡ key x → with_cell c (x ∷ xs) ≡ x ∷ xs
-with_cell-same c x xs h = rw (le-ltb (key c) (key x) (omega arith), le-ltb (key x) (key c) (omega arith)) refl
+pub with_cell-same : {E S : Type 0} (es : Entries E S) (c x : E) (xs : List E) → key es c ≡ key es x → with_cell es c (x ∷ xs) ≡ x ∷ xs
+with_cell-same es c x xs h = rw (le-ltb (key es c) (key es x) (omega arith), le-ltb (key es x) (key es c) (omega arith)) refl
 
-pub with_cell-above : (c x : CellEntry) (xs : List CellEntry) → key x < key c → Above (key x) xs → Above (key x) (with_cell c xs)
-with_cell-above c x [] h b = h
-with_cell-above c x (y ∷ ys) h b = elim (cases_order (key c) (key y)) [
-  | inl same ↦ rw (with_cell-same c y ys same) b
+pub with_cell-above : {E S : Type 0} (es : Entries E S) (c x : E) (xs : List E) → key es x < key es c → Above es (key es x) xs → Above es (key es x) (with_cell es c xs)
+with_cell-above es c x [] h b = h
+with_cell-above es c x (y ∷ ys) h b = elim (cases_order (key es c) (key es y)) [
+  | inl same ↦ rw (with_cell-same es c y ys same) b
   | inr more ↦ elim more [
-    | inl new ↦ rw (with_cell-new c y ys new) h
-    | inr past ↦ rw (with_cell-past c y ys past) b
+    | inl new ↦ rw (with_cell-new es c y ys new) h
+    | inr past ↦ rw (with_cell-past es c y ys past) b
   ]
 ]
 
-pub with_cell-rises : (c : CellEntry) (xs : List CellEntry) → KeysRise xs → KeysRise (with_cell c xs)
-with_cell-rises c [] h = (tt, tt)
-with_cell-rises c (x ∷ xs) h = elim (cases_order (key c) (key x)) [
-  | inl same ↦ rw (with_cell-same c x xs same) h
+pub with_cell-rises : {E S : Type 0} (es : Entries E S) (c : E) (xs : List E) → KeysRise es xs → KeysRise es (with_cell es c xs)
+with_cell-rises es c [] h = (tt, tt)
+with_cell-rises es c (x ∷ xs) h = elim (cases_order (key es c) (key es x)) [
+  | inl same ↦ rw (with_cell-same es c x xs same) h
   | inr more ↦ elim more [
-    | inl new ↦ rw (with_cell-new c x xs new) (new, h)
-    | inr past ↦ rw (with_cell-past c x xs past) (with_cell-above c x xs past h.0, with_cell-rises c xs h.1)
+    | inl new ↦ rw (with_cell-new es c x xs new) (new, h)
+    | inr past ↦ rw (with_cell-past es c x xs past) (with_cell-above es c x xs past h.0, with_cell-rises es c xs h.1)
   ]
 ]
 
-pub with_cells-rises : (cells kept : List CellEntry) → KeysRise kept → KeysRise (with_cells cells kept)
-with_cells-rises [] kept h = h
-with_cells-rises (c ∷ more) kept h = with_cells-rises more (with_cell c kept) (with_cell-rises c kept h)
+pub with_cells-rises : {E S : Type 0} (es : Entries E S) (cells kept : List E) → KeysRise es kept → KeysRise es (with_cells es cells kept)
+with_cells-rises es [] kept h = h
+with_cells-rises es (c ∷ more) kept h = with_cells-rises es more (with_cell es c kept) (with_cell-rises es c kept h)
 
 -- the place of a key
 
-pub lower-length : (k : ℕ) (xs : List CellEntry) → lower k xs ≤ length xs
-lower-length k [] = omega arith
-lower-length k (x ∷ xs) = elim (cases_lt (key x) k) [
-  | inl past ↦ rw (lt-ltb (key x) k past) (let h : lower k xs ≤ length xs = lower-length k xs in omega arith)
-  | inr here ↦ rw (le-ltb (key x) k here) (omega arith)
+pub lower-length : {E S : Type 0} (es : Entries E S) (k : ℕ) (xs : List E) → lower es k xs ≤ length xs
+lower-length es k [] = omega arith
+lower-length es k (x ∷ xs) = elim (cases_lt (key es x) k) [
+  | inl past ↦ rw (lt-ltb (key es x) k past) (let h : lower es k xs ≤ length xs = lower-length es k xs in omega arith)
+  | inr here ↦ rw (le-ltb (key es x) k here) (omega arith)
 ]
 
-pub above-all : (k : ℕ) (xs : List CellEntry) → Above k xs → KeysRise xs → (i : ℕ) (d : CellEntry) → i < length xs → k < key (get_or xs i d)
-above-all k [] a r i d l = grind arith
-above-all k (x ∷ xs) a r zero d l = a
-above-all k (x ∷ xs) a r (suc i) d l = let h : key x < key (get_or xs i d) = above-all (key x) xs r.0 r.1 i d (omega arith) in omega (arith, a)
+pub above-all : {E S : Type 0} (es : Entries E S) (k : ℕ) (xs : List E) → Above es k xs → KeysRise es xs → (i : ℕ) (d : E) → i < length xs → k < key es (get_or xs i d)
+above-all es k [] a r i d l = grind arith
+above-all es k (x ∷ xs) a r zero d l = a
+above-all es k (x ∷ xs) a r (suc i) d l = let h : key es x < key es (get_or xs i d) = above-all es (key es x) xs r.0 r.1 i d (omega arith) in omega (arith, a)
 
-pub lower-past : (k i : ℕ) (d : CellEntry) (xs : List CellEntry) → KeysRise xs → i < length xs → key (get_or xs i d) < k → i < lower k xs
-lower-past k i d [] r l h = grind arith
-lower-past k zero d (x ∷ xs) r l h = rw (lt-ltb (key x) k h) (omega arith)
-lower-past k (suc i) d (x ∷ xs) r l h =
-    let a : key x < key (get_or xs i d) = above-all (key x) xs r.0 r.1 i d (omega arith) in
-    let p : i < lower k xs = lower-past k i d xs r.1 (omega arith) h in
-    rw (lt-ltb (key x) k (omega arith)) (omega arith)
+pub lower-past : {E S : Type 0} (es : Entries E S) (k i : ℕ) (d : E) (xs : List E) → KeysRise es xs → i < length xs → key es (get_or xs i d) < k → i < lower es k xs
+lower-past es k i d [] r l h = grind arith
+lower-past es k zero d (x ∷ xs) r l h = rw (lt-ltb (key es x) k h) (omega arith)
+lower-past es k (suc i) d (x ∷ xs) r l h =
+    let a : key es x < key es (get_or xs i d) = above-all es (key es x) xs r.0 r.1 i d (omega arith) in
+    let p : i < lower es k xs = lower-past es k i d xs r.1 (omega arith) h in
+    rw (lt-ltb (key es x) k (omega arith)) (omega arith)
 
-pub lower-stop : (k i : ℕ) (d : CellEntry) (xs : List CellEntry) → i < length xs → k ≤ key (get_or xs i d) → lower k xs ≤ i
-lower-stop k i d [] l h = grind arith
-lower-stop k zero d (x ∷ xs) l h = rw (le-ltb (key x) k h) (omega arith)
-lower-stop k (suc i) d (x ∷ xs) l h = elim (cases_lt (key x) k) [
-  | inl past ↦ rw (lt-ltb (key x) k past) (let p : lower k xs ≤ i = lower-stop k i d xs (omega arith) h in omega arith)
-  | inr here ↦ rw (le-ltb (key x) k here) (omega arith)
+pub lower-stop : {E S : Type 0} (es : Entries E S) (k i : ℕ) (d : E) (xs : List E) → i < length xs → k ≤ key es (get_or xs i d) → lower es k xs ≤ i
+lower-stop es k i d [] l h = grind arith
+lower-stop es k zero d (x ∷ xs) l h = rw (le-ltb (key es x) k h) (omega arith)
+lower-stop es k (suc i) d (x ∷ xs) l h = elim (cases_lt (key es x) k) [
+  | inl past ↦ rw (lt-ltb (key es x) k past) (let p : lower es k xs ≤ i = lower-stop es k i d xs (omega arith) h in omega arith)
+  | inr here ↦ rw (le-ltb (key es x) k here) (omega arith)
 ]
 
 -- the place of a cell
 
-pub above-none : (k : ℕ) (x : CellEntry) (xs : List CellEntry) → KeysRise (x ∷ xs) → k < key x → cell_under k (x ∷ xs) ≡ None
-above-none k x [] f h = rw (ne_eqb k (key x) (λ q. omega arith)) refl
-above-none k x (y ∷ ys) f h = rw (ne_eqb k (key x) (λ q. omega arith)) (above-none k y ys f.1 (omega (arith, f.0)))
+pub above-none : {E S : Type 0} (es : Entries E S) (k : ℕ) (x : E) (xs : List E) → KeysRise es (x ∷ xs) → k < key es x → cell_under es k (x ∷ xs) ≡ None
+above-none es k x [] f h = rw (ne_eqb k (key es x) (λ q. omega arith)) refl
+above-none es k x (y ∷ ys) f h = rw (ne_eqb k (key es x) (λ q. omega arith)) (above-none es k y ys f.1 (omega (arith, f.0)))
 
-pub found-cell : (k : ℕ) (d : CellEntry) (xs : List CellEntry) → lower k xs < length xs → key (get_or xs (lower k xs) d) ≡ k → cell_under k xs ≡ Some (get_or xs (lower k xs) d)
-found-cell k d [] l h = grind arith
-found-cell k d (x ∷ xs) l h = elim (cases_lt (key x) k) [
-  | inl past ↦ rw (lt-ltb (key x) k past, ne_eqb k (key x) (λ q. omega arith)) (found-cell k d xs (let q = rw (lt-ltb (key x) k past) at l in omega arith) (rw (lt-ltb (key x) k past) at h))
-  | inr here ↦ let q = rw (le-ltb (key x) k here) at h in rw (le-ltb (key x) k here, eq-eqb k (key x) (sym q)) refl
+pub found-cell : {E S : Type 0} (es : Entries E S) (k : ℕ) (d : E) (xs : List E) → lower es k xs < length xs → key es (get_or xs (lower es k xs) d) ≡ k → cell_under es k xs ≡ Some (get_or xs (lower es k xs) d)
+found-cell es k d [] l h = grind arith
+found-cell es k d (x ∷ xs) l h = elim (cases_lt (key es x) k) [
+  | inl past ↦ rw (lt-ltb (key es x) k past, ne_eqb k (key es x) (λ q. omega arith)) (found-cell es k d xs (let q = rw (lt-ltb (key es x) k past) at l in omega arith) (rw (lt-ltb (key es x) k past) at h))
+  | inr here ↦ let q = rw (le-ltb (key es x) k here) at h in rw (le-ltb (key es x) k here, eq-eqb k (key es x) (sym q)) refl
 ]
 
-pub absent-cell : (k : ℕ) (d : CellEntry) (xs : List CellEntry) → KeysRise xs → (lower k xs < length xs → key (get_or xs (lower k xs) d) ≢ k) → cell_under k xs ≡ None
-absent-cell k d [] f h = refl
-absent-cell k d (x ∷ xs) f h = elim (cases_order k (key x)) [
-  | inl same ↦ absurd (rw (le-ltb (key x) k (omega arith)) at h (omega arith) (sym same))
+pub absent-cell : {E S : Type 0} (es : Entries E S) (k : ℕ) (d : E) (xs : List E) → KeysRise es xs → (lower es k xs < length xs → key es (get_or xs (lower es k xs) d) ≢ k) → cell_under es k xs ≡ None
+absent-cell es k d [] f h = refl
+absent-cell es k d (x ∷ xs) f h = elim (cases_order k (key es x)) [
+  | inl same ↦ absurd (rw (le-ltb (key es x) k (omega arith)) at h (omega arith) (sym same))
   | inr more ↦ elim more [
-    | inl less ↦ above-none k x xs f less
-    | inr past ↦ rw (ne_eqb k (key x) (λ q. omega arith)) (absent-cell k d xs f.1 (λ l. rw (lt-ltb (key x) k past) at h (omega arith)))
+    | inl less ↦ above-none es k x xs f less
+    | inr past ↦ rw (ne_eqb k (key es x) (λ q. omega arith)) (absent-cell es k d xs f.1 (λ l. rw (lt-ltb (key es x) k past) at h (omega arith)))
   ]
 ]
 
-pub found-here : (k i : ℕ) (d : CellEntry) (xs : List CellEntry) → i ≡ lower k xs → i < length xs → key (get_or xs i d) ≡ k → cell_under k xs ≡ Some (get_or xs i d)
-found-here k i d xs at l same =
-    let here : get_or xs i d ≡ get_or xs (lower k xs) d = ap (λ t. get_or xs t d) at in
-    found-cell k d xs (omega arith) (sym (ap key here) ∙ same) ∙ ap Some (sym here)
+pub found-here : {E S : Type 0} (es : Entries E S) (k i : ℕ) (d : E) (xs : List E) → i ≡ lower es k xs → i < length xs → key es (get_or xs i d) ≡ k → cell_under es k xs ≡ Some (get_or xs i d)
+found-here es k i d xs at l same =
+    let here : get_or xs i d ≡ get_or xs (lower es k xs) d = ap (λ t. get_or xs t d) at in
+    found-cell es k d xs (omega arith) (sym (ap (key es) here) ∙ same) ∙ ap Some (sym here)
 
-pub absent-here : (k i : ℕ) (d : CellEntry) (xs : List CellEntry) → KeysRise xs → i ≡ lower k xs → key (get_or xs i d) ≢ k → cell_under k xs ≡ None
-absent-here k i d xs f at other =
-    let here : get_or xs i d ≡ get_or xs (lower k xs) d = ap (λ t. get_or xs t d) at in
-    absent-cell k d xs f (λ l q. other (ap key here ∙ q))
+pub absent-here : {E S : Type 0} (es : Entries E S) (k i : ℕ) (d : E) (xs : List E) → KeysRise es xs → i ≡ lower es k xs → key es (get_or xs i d) ≢ k → cell_under es k xs ≡ None
+absent-here es k i d xs f at other =
+    let here : get_or xs i d ≡ get_or xs (lower es k xs) d = ap (λ t. get_or xs t d) at in
+    absent-cell es k d xs f (λ l q. other (ap (key es) here ∙ q))
 
-pub absent-past : (k i : ℕ) (xs : List CellEntry) → KeysRise xs → i ≡ lower k xs → length xs ≤ i → cell_under k xs ≡ None
-absent-past k i xs f at l = absent-cell k (any_cell) xs f (λ m. absurd (omega arith))
+pub absent-past : {E S : Type 0} (es : Entries E S) (k i : ℕ) (xs : List E) → KeysRise es xs → i ≡ lower es k xs → length xs ≤ i → cell_under es k xs ≡ None
+absent-past es k i [] f at l = refl
+absent-past es k i (x ∷ xs) f at l = absent-cell es k x (x ∷ xs) f (λ m. absurd (omega arith))
 
-pub with_cell-sets : (c x : CellEntry) (xs : List CellEntry) → KeysRise xs → cell_under (key c) xs ≡ Some x → with_cell c xs ≡ xs
-with_cell-sets c x [] f h = cc
-with_cell-sets c x (y ∷ ys) f h = elim (cases_order (key c) (key y)) [
-  | inl same ↦ with_cell-same c y ys same
+pub with_cell-sets : {E S : Type 0} (es : Entries E S) (c x : E) (xs : List E) → KeysRise es xs → cell_under es (key es c) xs ≡ Some x → with_cell es c xs ≡ xs
+with_cell-sets es c x [] f h = cc
+with_cell-sets es c x (y ∷ ys) f h = elim (cases_order (key es c) (key es y)) [
+  | inl same ↦ with_cell-same es c y ys same
   | inr more ↦ elim more [
-    | inl less ↦ let q = above-none (key c) y ys f less in cc
-    | inr past ↦ rw (with_cell-past c y ys past) (ap (λ t. y ∷ t) (with_cell-sets c x ys f.1 (rw (ne_eqb (key c) (key y) (λ q. omega arith)) at h)))
+    | inl less ↦ let q = above-none es (key es c) y ys f less in cc
+    | inr past ↦ rw (with_cell-past es c y ys past) (ap (λ t. y ∷ t) (with_cell-sets es c x ys f.1 (rw (ne_eqb (key es c) (key es y) (λ q. omega arith)) at h)))
   ]
 ]
 
-pub with_cell-absent : (c : CellEntry) (xs : List CellEntry) → cell_under (key c) xs ≡ None → with_cell c xs ≡ insert xs (lower (key c) xs) c
-with_cell-absent c [] h = refl
-with_cell-absent c (x ∷ xs) h = elim (cases_order (key c) (key x)) [
-  | inl same ↦ let q = rw (eq-eqb (key c) (key x) same) at h in cc
+pub with_cell-absent : {E S : Type 0} (es : Entries E S) (c : E) (xs : List E) → cell_under es (key es c) xs ≡ None → with_cell es c xs ≡ insert xs (lower es (key es c) xs) c
+with_cell-absent es c [] h = refl
+with_cell-absent es c (x ∷ xs) h = elim (cases_order (key es c) (key es x)) [
+  | inl same ↦ let q = rw (eq-eqb (key es c) (key es x) same) at h in cc
   | inr more ↦ elim more [
-    | inl less ↦ rw (lt-ltb (key c) (key x) less, le-ltb (key x) (key c) (omega arith)) refl
-    | inr past ↦ rw (lt-ltb (key x) (key c) past, le-ltb (key c) (key x) (omega arith)) (ap (λ t. x ∷ t) (with_cell-absent c xs (rw (ne_eqb (key c) (key x) (λ q. omega arith)) at h)))
+    | inl less ↦ rw (lt-ltb (key es c) (key es x) less, le-ltb (key es x) (key es c) (omega arith)) refl
+    | inr past ↦ rw (lt-ltb (key es x) (key es c) past, le-ltb (key es c) (key es x) (omega arith)) (ap (λ t. x ∷ t) (with_cell-absent es c xs (rw (ne_eqb (key es c) (key es x) (λ q. omega arith)) at h)))
   ]
 ]
 
 -- the first cell under a key stays
-pub with_cell-keeps : (k : ℕ) (c v : CellEntry) (xs : List CellEntry) → KeysRise xs → cell_under k xs ≡ Some v → cell_under k (with_cell c xs) ≡ Some v
-with_cell-keeps k c v [] f h = cc
-with_cell-keeps k c v (x ∷ xs) f h = elim (cases_order (key c) (key x)) [
-  | inl same ↦ rw (with_cell-same c x xs same) h
+pub with_cell-keeps : {E S : Type 0} (es : Entries E S) (k : ℕ) (c v : E) (xs : List E) → KeysRise es xs → cell_under es k xs ≡ Some v → cell_under es k (with_cell es c xs) ≡ Some v
+with_cell-keeps es k c v [] f h = cc
+with_cell-keeps es k c v (x ∷ xs) f h = elim (cases_order (key es c) (key es x)) [
+  | inl same ↦ rw (with_cell-same es c x xs same) h
   | inr more ↦ elim more [
-    | inl less ↦ elim (cases_lt k (key x)) [
-      | inl out ↦ let q = above-none k x xs f out in cc
-      | inr far ↦ rw (with_cell-new c x xs less, ne_eqb k (key c) (λ q. omega arith)) h
+    | inl less ↦ elim (cases_lt k (key es x)) [
+      | inl out ↦ let q = above-none es k x xs f out in cc
+      | inr far ↦ rw (with_cell-new es c x xs less, ne_eqb k (key es c) (λ q. omega arith)) h
     ]
-    | inr past ↦ rw (with_cell-past c x xs past) (elim (cases_eq k (key x)) [
-      | inl here ↦ rw (eq-eqb k (key x) here) (rw (eq-eqb k (key x) here) at h)
-      | inr other ↦ rw (ne_eqb k (key x) other) (with_cell-keeps k c v xs f.1 (rw (ne_eqb k (key x) other) at h))
+    | inr past ↦ rw (with_cell-past es c x xs past) (elim (cases_eq k (key es x)) [
+      | inl here ↦ rw (eq-eqb k (key es x) here) (rw (eq-eqb k (key es x) here) at h)
+      | inr other ↦ rw (ne_eqb k (key es x) other) (with_cell-keeps es k c v xs f.1 (rw (ne_eqb k (key es x) other) at h))
     ])
   ]
 ]
 
-pub with_cells-keeps : (k : ℕ) (v : CellEntry) (cells kept : List CellEntry) → KeysRise kept → cell_under k kept ≡ Some v → cell_under k (with_cells cells kept) ≡ Some v
-with_cells-keeps k v [] kept f h = h
-with_cells-keeps k v (c ∷ more) kept f h = with_cells-keeps k v more (with_cell c kept) (with_cell-rises c kept f) (with_cell-keeps k c v kept f h)
+pub with_cells-keeps : {E S : Type 0} (es : Entries E S) (k : ℕ) (v : E) (cells kept : List E) → KeysRise es kept → cell_under es k kept ≡ Some v → cell_under es k (with_cells es cells kept) ≡ Some v
+with_cells-keeps es k v [] kept f h = h
+with_cells-keeps es k v (c ∷ more) kept f h = with_cells-keeps es k v more (with_cell es c kept) (with_cell-rises es c kept f) (with_cell-keeps es k c v kept f h)
 
 -- room for the rest
 
-pub one_more-le : (old new : Option CellEntry) (m n : ℕ) → ((v : CellEntry) → old ≡ Some v → new ≡ Some v) → m ≤ n → one_more new m ≤ one_more old n
+pub one_more-le : {E : Type 0} (old new : Option E) (m n : ℕ) → ((v : E) → old ≡ Some v → new ≡ Some v) → m ≤ n → one_more new m ≤ one_more old n
 one_more-le None None m n h l = omega arith
 one_more-le None (Some x) m n h l = omega arith
 one_more-le (Some x) None m n h l = let q = h x refl in cc
 one_more-le (Some x) (Some y) m n h l = l
 
-pub fresh-less : (c : CellEntry) (more kept : List CellEntry) → KeysRise kept → fresh more (with_cell c kept) ≤ fresh more kept
-fresh-less c [] kept f = omega arith
-fresh-less c (x ∷ more) kept f = one_more-le (cell_under (key x) kept) (cell_under (key x) (with_cell c kept)) _ _ (λ v h. with_cell-keeps (key x) c v kept f h) (fresh-less c more kept f)
+pub fresh-less : {E S : Type 0} (es : Entries E S) (c : E) (more kept : List E) → KeysRise es kept → fresh es more (with_cell es c kept) ≤ fresh es more kept
+fresh-less es c [] kept f = omega arith
+fresh-less es c (x ∷ more) kept f = one_more-le (cell_under es (key es x) kept) (cell_under es (key es x) (with_cell es c kept)) _ _ (λ v h. with_cell-keeps es (key es x) c v kept f h) (fresh-less es c more kept f)
 
-pub length-insert : (c : CellEntry) (i : ℕ) (xs : List CellEntry) → i ≤ length xs → length (insert xs i c) ≡ suc (length xs)
+pub length-insert : {E : Type 0} (c : E) (i : ℕ) (xs : List E) → i ≤ length xs → length (insert xs i c) ≡ suc (length xs)
 length-insert c zero xs l = refl
 length-insert c (suc i) [] l = grind arith
 length-insert c (suc i) (x ∷ xs) l = ap suc (length-insert c i xs (omega arith))
 
-pub room-step : (c : CellEntry) (o : Option CellEntry) (more kept : List CellEntry) → KeysRise kept → cell_under (key c) kept ≡ o → length (with_cell c kept) + fresh more (with_cell c kept) ≤ length kept + one_more o (fresh more kept)
-room-step c None more kept f h =
-    let l : fresh more (with_cell c kept) ≤ fresh more kept = fresh-less c more kept f in
-    let n : length (with_cell c kept) ≡ suc (length kept) = ap length (with_cell-absent c kept h) ∙ length-insert c (lower (key c) kept) kept (lower-length (key c) kept) in
+pub room-step : {E S : Type 0} (es : Entries E S) (c : E) (o : Option E) (more kept : List E) → KeysRise es kept → cell_under es (key es c) kept ≡ o → length (with_cell es c kept) + fresh es more (with_cell es c kept) ≤ length kept + one_more o (fresh es more kept)
+room-step es c None more kept f h =
+    let l : fresh es more (with_cell es c kept) ≤ fresh es more kept = fresh-less es c more kept f in
+    let n : length (with_cell es c kept) ≡ suc (length kept) = ap length (with_cell-absent es c kept h) ∙ length-insert c (lower es (key es c) kept) kept (lower-length es (key es c) kept) in
     omega arith
-room-step c (Some x) more kept f h = rw (with_cell-sets c x kept f h) (omega arith)
+room-step es c (Some x) more kept f h = rw (with_cell-sets es c x kept f h) (omega arith)
 
 -- no new cell, no change
-none-step : (c : CellEntry) (o : Option CellEntry) (more kept : List CellEntry) → KeysRise kept → cell_under (key c) kept ≡ o → one_more o (fresh more kept) ≡ 0
-    → (fresh more kept ≡ 0 → with_cells more kept ≡ kept) → with_cells more (with_cell c kept) ≡ kept
-none-step c None more kept f e h rest = absurd (omega arith)
-none-step c (Some x) more kept f e h rest = rw (with_cell-sets c x kept f e) (rest h)
+none-step : {E S : Type 0} (es : Entries E S) (c : E) (o : Option E) (more kept : List E) → KeysRise es kept → cell_under es (key es c) kept ≡ o → one_more o (fresh es more kept) ≡ 0
+    → (fresh es more kept ≡ 0 → with_cells es more kept ≡ kept) → with_cells es more (with_cell es c kept) ≡ kept
+none-step es c None more kept f e h rest = absurd (omega arith)
+none-step es c (Some x) more kept f e h rest = rw (with_cell-sets es c x kept f e) (rest h)
 
-pub with_cells-none : (cells kept : List CellEntry) → KeysRise kept → fresh cells kept ≡ 0 → with_cells cells kept ≡ kept
-with_cells-none [] kept f h = refl
-with_cells-none (c ∷ more) kept f h = none-step c (cell_under (key c) kept) more kept f refl h (with_cells-none more kept f)
+pub with_cells-none : {E S : Type 0} (es : Entries E S) (cells kept : List E) → KeysRise es kept → fresh es cells kept ≡ 0 → with_cells es cells kept ≡ kept
+with_cells-none es [] kept f h = refl
+with_cells-none es (c ∷ more) kept f h = none-step es c (cell_under es (key es c) kept) more kept f refl h (with_cells-none es more kept f)
 
 -- the steps of the code
 
-pub place-from : (k i : ℕ) (d : CellEntry) (xs : List CellEntry) → KeysRise xs → i ≤ length xs → 0 < i → key (get_or xs (i - 1) d) < k → i ≤ lower k xs
-place-from k i d xs r l p h = let q : i - 1 < lower k xs = lower-past k (i - 1) d xs r (omega arith) h in omega arith
+pub place-from : {E S : Type 0} (es : Entries E S) (k i : ℕ) (d : E) (xs : List E) → KeysRise es xs → i ≤ length xs → 0 < i → key es (get_or xs (i - 1) d) < k → i ≤ lower es k xs
+place-from es k i d xs r l p h = let q : i - 1 < lower es k xs = lower-past es k (i - 1) d xs r (omega arith) h in omega arith
 
-pub place-next : (k i : ℕ) (d : CellEntry) (xs : List CellEntry) → KeysRise xs → i < length xs → key (get_or xs i d) < k → i + 1 ≤ lower k xs
-place-next k i d xs r l h = let q : i < lower k xs = lower-past k i d xs r l h in omega arith
+pub place-next : {E S : Type 0} (es : Entries E S) (k i : ℕ) (d : E) (xs : List E) → KeysRise es xs → i < length xs → key es (get_or xs i d) < k → i + 1 ≤ lower es k xs
+place-next es k i d xs r l h = let q : i < lower es k xs = lower-past es k i d xs r l h in omega arith
 
-pub place-ends : (k i : ℕ) (d : CellEntry) (xs : List CellEntry) → i ≤ lower k xs → i < length xs → k ≤ key (get_or xs i d) → i ≡ lower k xs
-place-ends k i d xs p l h = let q : lower k xs ≤ i = lower-stop k i d xs l h in omega arith
+pub place-ends : {E S : Type 0} (es : Entries E S) (k i : ℕ) (d : E) (xs : List E) → i ≤ lower es k xs → i < length xs → k ≤ key es (get_or xs i d) → i ≡ lower es k xs
+place-ends es k i d xs p l h = let q : lower es k xs ≤ i = lower-stop es k i d xs l h in omega arith
 
-pub drop-at : (i : ℕ) (d : CellEntry) (cells : List CellEntry) → i < length cells → drop i cells ≡ get_or cells i d ∷ drop (i + 1) cells
+pub drop-at : {E : Type 0} (i : ℕ) (d : E) (cells : List E) → i < length cells → drop i cells ≡ get_or cells i d ∷ drop (i + 1) cells
 drop-at i d cells h = rw (add-one, drop-cons cells i d) refl
 
-pub one_more-none : (o : Option CellEntry) (n : ℕ) → is_some o ≡ false → one_more o n ≡ suc n
+pub one_more-none : {E : Type 0} (o : Option E) (n : ℕ) → is_some o ≡ false → one_more o n ≡ suc n
 one_more-none None n h = refl
 one_more-none (Some x) n h = cc
 
-pub one_more-some : (o : Option CellEntry) (n : ℕ) → is_some o ≡ true → one_more o n ≡ n
+pub one_more-some : {E : Type 0} (o : Option E) (n : ℕ) → is_some o ≡ true → one_more o n ≡ n
 one_more-some None n h = cc
 one_more-some (Some x) n h = refl
 
-pub fresh-step : (i : ℕ) (d : CellEntry) (o : Option CellEntry) (cells kept : List CellEntry) → i < length cells → o ≡ cell_under (key (get_or cells i d)) kept
-    → fresh (drop i cells) kept ≡ one_more o (fresh (drop (i + 1) cells) kept)
-fresh-step i d o cells kept l e = ap (λ t. fresh t kept) (drop-at i d cells l) ∙ ap (λ t. one_more t (fresh (drop (i + 1) cells) kept)) (sym e)
+pub fresh-step : {E S : Type 0} (es : Entries E S) (i : ℕ) (d : E) (o : Option E) (cells kept : List E) → i < length cells → o ≡ cell_under es (key es (get_or cells i d)) kept
+    → fresh es (drop i cells) kept ≡ one_more o (fresh es (drop (i + 1) cells) kept)
+fresh-step es i d o cells kept l e = ap (λ t. fresh es t kept) (drop-at i d cells l) ∙ ap (λ t. one_more t (fresh es (drop (i + 1) cells) kept)) (sym e)
 
-more-length : (o : Option CellEntry) (m n : ℕ) → m ≤ n → one_more o m ≤ suc n
+more-length : {E : Type 0} (o : Option E) (m n : ℕ) → m ≤ n → one_more o m ≤ suc n
 more-length None m n h = omega arith
 more-length (Some x) m n h = omega arith
 
-pub fresh-length : (cells kept : List CellEntry) → fresh cells kept ≤ length cells
-fresh-length [] kept = omega arith
-fresh-length (c ∷ more) kept = more-length (cell_under (key c) kept) _ _ (fresh-length more kept)
+pub fresh-length : {E S : Type 0} (es : Entries E S) (cells kept : List E) → fresh es cells kept ≤ length cells
+fresh-length es [] kept = omega arith
+fresh-length es (c ∷ more) kept = more-length (cell_under es (key es c) kept) _ _ (fresh-length es more kept)
 
 -- one cell of a message, as the code does it
-pub record Step (kept new : List CellEntry) (c : CellEntry) (more : List CellEntry) (cap : ℕ) : Type 0 where
-  pub items : with_cells more new ≡ with_cells (c ∷ more) kept
-  pub conflicts : conflicts (c ∷ more) kept ≡ conflict c (cell_under (key c) kept) ++ conflicts more new
-  pub rises : KeysRise new
-  pub room : length new + fresh more new ≤ cap
+pub record Step {E S : Type 0} (es : Entries E S) (kept new : List E) (c : E) (more : List E) (cap : ℕ) : Type 0 where
+  pub items : with_cells es more new ≡ with_cells es (c ∷ more) kept
+  pub conflicts : conflicts es (c ∷ more) kept ≡ conflict es c (cell_under es (key es c) kept) ++ conflicts es more new
+  pub rises : KeysRise es new
+  pub room : length new + fresh es more new ≤ cap
 
-pub step : (kept new : List CellEntry) (c : CellEntry) (more : List CellEntry) (cap : ℕ) → KeysRise kept → new ≡ with_cell c kept → length kept + fresh (c ∷ more) kept ≤ cap → Step kept new c more cap
-step kept new c more cap r e room =
-    let q : length (with_cell c kept) + fresh more (with_cell c kept) ≤ length kept + one_more (cell_under (key c) kept) (fresh more kept) = room-step c (cell_under (key c) kept) more kept r refl in
+pub step : {E S : Type 0} (es : Entries E S) (kept new : List E) (c : E) (more : List E) (cap : ℕ) → KeysRise es kept → new ≡ with_cell es c kept → length kept + fresh es (c ∷ more) kept ≤ cap → Step es kept new c more cap
+step es kept new c more cap r e room =
+    let q : length (with_cell es c kept) + fresh es more (with_cell es c kept) ≤ length kept + one_more (cell_under es (key es c) kept) (fresh es more kept) = room-step es c (cell_under es (key es c) kept) more kept r refl in
     record {
-      items = ap (with_cells more) e;
-      conflicts = ap (λ t. conflict c (cell_under (key c) kept) ++ conflicts more t) (sym e);
-      rises = rw e (with_cell-rises c kept r);
+      items = ap (with_cells es more) e;
+      conflicts = ap (λ t. conflict es c (cell_under es (key es c) kept) ++ conflicts es more t) (sym e);
+      rises = rw e (with_cell-rises es c kept r);
       room = rw e (omega arith);
     }
 
-room-first : (o : Option CellEntry) (n m cap : ℕ) → n + one_more o m ≤ cap → n + one_more o 0 ≤ cap
+room-first : {E : Type 0} (o : Option E) (n m cap : ℕ) → n + one_more o m ≤ cap → n + one_more o 0 ≤ cap
 room-first None n m cap h = omega arith
 room-first (Some x) n m cap h = omega arith
 
-pub first-room : (kept : List CellEntry) (c : CellEntry) (more : List CellEntry) (cap : ℕ) → length kept + fresh (c ∷ more) kept ≤ cap → length kept + fresh (c ∷ []) kept ≤ cap
-first-room kept c more cap h = room-first (cell_under (key c) kept) _ _ _ h
+pub first-room : {E S : Type 0} (es : Entries E S) (kept : List E) (c : E) (more : List E) (cap : ℕ) → length kept + fresh es (c ∷ more) kept ≤ cap → length kept + fresh es (c ∷ []) kept ≤ cap
+first-room es kept c more cap h = room-first (cell_under es (key es c) kept) _ _ _ h
 
-pub with_cell-longer : (c : CellEntry) (xs : List CellEntry) → length xs ≤ length (with_cell c xs)
-with_cell-longer c [] = omega arith
-with_cell-longer c (x ∷ xs) = elim (cases_order (key c) (key x)) [
-  | inl same ↦ rw (with_cell-same c x xs same) (omega arith)
+pub with_cell-longer : {E S : Type 0} (es : Entries E S) (c : E) (xs : List E) → length xs ≤ length (with_cell es c xs)
+with_cell-longer es c [] = omega arith
+with_cell-longer es c (x ∷ xs) = elim (cases_order (key es c) (key es x)) [
+  | inl same ↦ rw (with_cell-same es c x xs same) (omega arith)
   | inr more ↦ elim more [
-    | inl new ↦ rw (with_cell-new c x xs new) (omega arith)
-    | inr past ↦ rw (with_cell-past c x xs past) (let h : length xs ≤ length (with_cell c xs) = with_cell-longer c xs in omega arith)
+    | inl new ↦ rw (with_cell-new es c x xs new) (omega arith)
+    | inr past ↦ rw (with_cell-past es c x xs past) (let h : length xs ≤ length (with_cell es c xs) = with_cell-longer es c xs in omega arith)
   ]
 ]
 
 -- the parts of the loop's invariant, over plain lists
-pub merge-items : (i : ℕ) (d : CellEntry) (cells kept new all : List CellEntry) → i < length cells → new ≡ with_cell (get_or cells i d) kept
-    → with_cells (drop i cells) kept ≡ all → with_cells (drop (i + 1) cells) new ≡ all
-merge-items i d cells kept new all l e h = ap (with_cells (drop (i + 1) cells)) e ∙ ap (λ t. with_cells t kept) (sym (drop-at i d cells l)) ∙ h
+pub merge-items : {E S : Type 0} (es : Entries E S) (i : ℕ) (d : E) (cells kept new all : List E) → i < length cells → new ≡ with_cell es (get_or cells i d) kept
+    → with_cells es (drop i cells) kept ≡ all → with_cells es (drop (i + 1) cells) new ≡ all
+merge-items es i d cells kept new all l e h = ap (with_cells es (drop (i + 1) cells)) e ∙ ap (λ t. with_cells es t kept) (sym (drop-at i d cells l)) ∙ h
 
-pub merge-conflicts : (i : ℕ) (d : CellEntry) (cells kept new : List CellEntry) (some now all : List SatelliteCode) → i < length cells → new ≡ with_cell (get_or cells i d) kept
-    → conflict (get_or cells i d) (cell_under (key (get_or cells i d)) kept) ≡ now
-    → some ++ conflicts (drop i cells) kept ≡ all → (some ++ now) ++ conflicts (drop (i + 1) cells) new ≡ all
-merge-conflicts i d cells kept new some now all l e n h =
-    append_assoc some _ _ ∙ ap (λ t. some ++ t) (rw (e, ← n) (ap (λ t. conflicts t kept) (sym (drop-at i d cells l)))) ∙ h
+pub merge-conflicts : {E S : Type 0} (es : Entries E S) (i : ℕ) (d : E) (cells kept new : List E) (some now all : List S) → i < length cells → new ≡ with_cell es (get_or cells i d) kept
+    → conflict es (get_or cells i d) (cell_under es (key es (get_or cells i d)) kept) ≡ now
+    → some ++ conflicts es (drop i cells) kept ≡ all → (some ++ now) ++ conflicts es (drop (i + 1) cells) new ≡ all
+merge-conflicts es i d cells kept new some now all l e n h =
+    append_assoc some _ _ ∙ ap (λ t. some ++ t) (rw (e, ← n) (ap (λ t. conflicts es t kept) (sym (drop-at i d cells l)))) ∙ h
 
 -- a cell is kept under its key
-pub kept-conflicts : (i : ℕ) (d x : CellEntry) (cells kept : List CellEntry) (some now all : List SatelliteCode) → i < length cells → KeysRise kept → cell_under (key (get_or cells i d)) kept ≡ Some x
-    → conflict (get_or cells i d) (Some x) ≡ now → some ++ conflicts (drop i cells) kept ≡ all → (some ++ now) ++ conflicts (drop (i + 1) cells) kept ≡ all
-kept-conflicts i d x cells kept some now all l r u n h =
-    merge-conflicts i d cells kept kept some now all l (sym (with_cell-sets (get_or cells i d) x kept r u)) (ap (conflict (get_or cells i d)) u ∙ n) h
+pub kept-conflicts : {E S : Type 0} (es : Entries E S) (i : ℕ) (d x : E) (cells kept : List E) (some now all : List S) → i < length cells → KeysRise es kept → cell_under es (key es (get_or cells i d)) kept ≡ Some x
+    → conflict es (get_or cells i d) (Some x) ≡ now → some ++ conflicts es (drop i cells) kept ≡ all → (some ++ now) ++ conflicts es (drop (i + 1) cells) kept ≡ all
+kept-conflicts es i d x cells kept some now all l r u n h =
+    merge-conflicts es i d cells kept kept some now all l (sym (with_cell-sets es (get_or cells i d) x kept r u)) (ap (conflict es (get_or cells i d)) u ∙ n) h
 
-pub merge-room : (i : ℕ) (d : CellEntry) (cells kept new : List CellEntry) (cap cap' : ℕ) → i < length cells → KeysRise kept → new ≡ with_cell (get_or cells i d) kept
-    → length kept + fresh (drop i cells) kept ≤ cap → cap ≤ cap' → length new + fresh (drop (i + 1) cells) new ≤ cap'
-merge-room i d cells kept new cap cap' l r e h k =
-    let s = step kept new (get_or cells i d) (drop (i + 1) cells) cap r e (rw (drop-at i d cells l) at h) in omega (arith, s.room)
+pub merge-room : {E S : Type 0} (es : Entries E S) (i : ℕ) (d : E) (cells kept new : List E) (cap cap' : ℕ) → i < length cells → KeysRise es kept → new ≡ with_cell es (get_or cells i d) kept
+    → length kept + fresh es (drop i cells) kept ≤ cap → cap ≤ cap' → length new + fresh es (drop (i + 1) cells) new ≤ cap'
+merge-room es i d cells kept new cap cap' l r e h k =
+    let s = step es kept new (get_or cells i d) (drop (i + 1) cells) cap r e (rw (drop-at i d cells l) at h) in omega (arith, s.room)
 
-pub put-room : (i : ℕ) (d : CellEntry) (cells kept : List CellEntry) (cap : ℕ) → i < length cells → length kept + fresh (drop i cells) kept ≤ cap
-    → length kept + fresh (get_or cells i d ∷ []) kept ≤ cap
-put-room i d cells kept cap l h = first-room kept (get_or cells i d) (drop (i + 1) cells) cap (rw (drop-at i d cells l) at h)
+pub put-room : {E S : Type 0} (es : Entries E S) (i : ℕ) (d : E) (cells kept : List E) (cap : ℕ) → i < length cells → length kept + fresh es (drop i cells) kept ≤ cap
+    → length kept + fresh es (get_or cells i d ∷ []) kept ≤ cap
+put-room es i d cells kept cap l h = first-room es kept (get_or cells i d) (drop (i + 1) cells) cap (rw (drop-at i d cells l) at h)
 
 -- a fact of each cell, after cells join
 
-pub with_cell-all : (P : CellEntry → Type 0) (c : CellEntry) (xs : List CellEntry) → P c → AllByRecursion P xs → AllByRecursion P (with_cell c xs)
-with_cell-all P c [] p h = (p, tt)
-with_cell-all P c (x ∷ xs) p h = elim (cases_order (key c) (key x)) [
-  | inl same ↦ subst (AllByRecursion P) (sym (with_cell-same c x xs same)) h
+pub with_cell-all : {E S : Type 0} (es : Entries E S) (P : E → Type 0) (c : E) (xs : List E) → P c → AllByRecursion P xs → AllByRecursion P (with_cell es c xs)
+with_cell-all es P c [] p h = (p, tt)
+with_cell-all es P c (x ∷ xs) p h = elim (cases_order (key es c) (key es x)) [
+  | inl same ↦ subst (AllByRecursion P) (sym (with_cell-same es c x xs same)) h
   | inr more ↦ elim more [
-    | inl new ↦ subst (AllByRecursion P) (sym (with_cell-new c x xs new)) (p, h)
-    | inr past ↦ subst (AllByRecursion P) (sym (with_cell-past c x xs past)) (h.0, with_cell-all P c xs p h.1)
+    | inl new ↦ subst (AllByRecursion P) (sym (with_cell-new es c x xs new)) (p, h)
+    | inr past ↦ subst (AllByRecursion P) (sym (with_cell-past es c x xs past)) (h.0, with_cell-all es P c xs p h.1)
   ]
 ]
 
-pub with_cells-each : (P : CellEntry → Type 0) (cells kept : List CellEntry) → AllByRecursion P cells → AllByRecursion P kept → AllByRecursion P (with_cells cells kept)
-with_cells-each P [] kept h k = k
-with_cells-each P (c ∷ more) kept h k = with_cells-each P more (with_cell c kept) h.1 (with_cell-all P c kept h.0 k)
+pub with_cells-each : {E S : Type 0} (es : Entries E S) (P : E → Type 0) (cells kept : List E) → AllByRecursion P cells → AllByRecursion P kept → AllByRecursion P (with_cells es cells kept)
+with_cells-each es P [] kept h k = k
+with_cells-each es P (c ∷ more) kept h k = with_cells-each es P more (with_cell es c kept) h.1 (with_cell-all es P c kept h.0 k)
 
-pub with_cells-all : (P : CellEntry → Type 0) (cells kept : List CellEntry) → All P cells → All P kept → All P (with_cells cells kept)
-with_cells-all P cells kept h k = All-from_recursion P (with_cells cells kept) (with_cells-each P cells kept (recursion_from_All P cells h) (recursion_from_All P kept k))
+pub with_cells-all : {E S : Type 0} (es : Entries E S) (P : E → Type 0) (cells kept : List E) → All P cells → All P kept → All P (with_cells es cells kept)
+with_cells-all es P cells kept h k = All-from_recursion P (with_cells es cells kept) (with_cells-each es P cells kept (recursion_from_All P cells h) (recursion_from_All P kept k))
 
 -- how many keys there are
 
-abbrev From : ℕ → List CellEntry → Type 0
-From low [] = Unit {0}
-From low (x ∷ xs) = low ≤ key x
+abbrev pub From : {E S : Type 0} (es : Entries E S) → ℕ → List E → Type 0
+From es low [] = Unit {0}
+From es low (x ∷ xs) = low ≤ key es x
 
-above-from : (k : ℕ) (xs : List CellEntry) → Above k xs → From (suc k) xs
-above-from k [] h = tt
-above-from k (x ∷ xs) h = omega (arith, h)
+above-from : {E S : Type 0} (es : Entries E S) (k : ℕ) (xs : List E) → Above es k xs → From es (suc k) xs
+above-from es k [] h = tt
+above-from es k (x ∷ xs) h = omega (arith, h)
 
-keys-fit : (low top : ℕ) (xs : List CellEntry) → low ≤ top → KeysRise xs → From low xs → AllByRecursion (λ c. key c < top) xs → length xs + low ≤ top
-keys-fit low top [] l r f h = omega arith
-keys-fit low top (x ∷ xs) l r f h =
-    let k : key x < top = h.0 in
-    let i : length xs + suc (key x) ≤ top = keys-fit (suc (key x)) top xs (omega arith) r.1 (above-from (key x) xs r.0) h.1 in
+pub keys-fit : {E S : Type 0} (es : Entries E S) (low top : ℕ) (xs : List E) → low ≤ top → KeysRise es xs → From es low xs → AllByRecursion (λ c. key es c < top) xs → length xs + low ≤ top
+keys-fit es low top [] l r f h = omega arith
+keys-fit es low top (x ∷ xs) l r f h =
+    let k : key es x < top = h.0 in
+    let i : length xs + suc (key es x) ≤ top = keys-fit es (suc (key es x)) top xs (omega arith) r.1 (above-from es (key es x) xs r.0) h.1 in
     omega (arith, f)
 
-key-low : (c : CellEntry) → 1 ≤ c.satellite → 32 ≤ key c
+key-low : (c : CellEntry) → 1 ≤ c.satellite → 32 ≤ key gps c
 unfolding key key_at
 key-low c h = omega arith
 
-key-high : (c : CellEntry) → c.satellite ≤ 32 → key c < 1056
+key-high : (c : CellEntry) → c.satellite ≤ 32 → key gps c < 1056
 unfolding key key_at
 key-high c h = let p = place-less c.code in let r = rank-less c.cell.source in omega arith
 
@@ -344,11 +341,11 @@ key-high c h = let p = place-less c.code in let r = rank-less c.cell.source in o
 abbrev pub HasSatellite : CellEntry → Type 0
 HasSatellite c = IsSatellite c.satellite
 
-low-from : (xs : List CellEntry) → AllByRecursion HasSatellite xs → From 32 xs
+low-from : (xs : List CellEntry) → AllByRecursion HasSatellite xs → From gps 32 xs
 low-from [] h = tt
 low-from (x ∷ xs) h = key-low x h.0.0
 
-high-all : (xs : List CellEntry) → AllByRecursion HasSatellite xs → AllByRecursion (λ c. key c < 1056) xs
+high-all : (xs : List CellEntry) → AllByRecursion HasSatellite xs → AllByRecursion (λ c. key gps c < 1056) xs
 high-all [] h = tt
 high-all (x ∷ xs) h = (key-high x h.0.1, high-all xs h.1)
 
@@ -357,34 +354,34 @@ range-satellites [] h = tt
 range-satellites (x ∷ xs) h = (h.0.satellite, range-satellites xs h.1)
 
 -- an epoch has at most 32 satellites with 16 codes of 2 kinds of message
-pub satellites-few : (xs : List CellEntry) → KeysRise xs → AllByRecursion HasSatellite xs → length xs ≤ 1024
+pub satellites-few : (xs : List CellEntry) → KeysRise gps xs → AllByRecursion HasSatellite xs → length xs ≤ 1024
 satellites-few xs r a =
-    let f : length xs + 32 ≤ 1056 = keys-fit 32 1056 xs (omega arith) r (low-from xs a) (high-all xs a) in
+    let f : length xs + 32 ≤ 1056 = keys-fit gps 32 1056 xs (omega arith) r (low-from xs a) (high-all xs a) in
     omega arith
 
-pub cells-few : (xs : List CellEntry) → KeysRise xs → All IsInRange xs → length xs ≤ 1024
+pub cells-few : (xs : List CellEntry) → KeysRise gps xs → All IsInRange xs → length xs ≤ 1024
 cells-few xs r h = satellites-few xs r (range-satellites xs (recursion_from_All IsInRange xs h))
 
 -- the cells of an epoch, after those of a message
-pub cells-with : (cells kept : List CellEntry) → All IsInRange cells → AreCellsOfEpoch kept → AreCellsOfEpoch (with_cells cells kept)
+pub cells-with : (cells kept : List CellEntry) → All IsInRange cells → AreCellsOfEpoch kept → AreCellsOfEpoch (with_cells gps cells kept)
 cells-with cells kept range k =
-    let rise : KeysRise (with_cells cells kept) = with_cells-rises cells kept k.rise in
-    let all : All IsInRange (with_cells cells kept) = with_cells-all IsInRange cells kept range k.range in
-    record { rise = rise; range = all; few = cells-few (with_cells cells kept) rise all }
+    let rise : KeysRise gps (with_cells gps cells kept) = with_cells-rises gps cells kept k.rise in
+    let all : All IsInRange (with_cells gps cells kept) = with_cells-all gps IsInRange cells kept range k.range in
+    record { rise = rise; range = all; few = cells-few (with_cells gps cells kept) rise all }
 
 -- the parts of a key
-pub key-from : (c : CellEntry) (s p r : ℕ) → s ≡ c.satellite → p ≡ place_of c.code → r ≡ rank_of c.cell.source → (s * 16 + p) * 2 + r ≡ key c
+pub key-from : (c : CellEntry) (s p r : ℕ) → s ≡ c.satellite → p ≡ place_of c.code → r ≡ rank_of c.cell.source → (s * 16 + p) * 2 + r ≡ key gps c
 unfolding key key_at
 key-from c s p r a b d = rw (a, b, d) refl
 
-pub push-few : (xs : List SatelliteCode) (x : SatelliteCode) (i : ℕ) → length xs ≤ i → length (xs ++ x ∷ []) ≤ i + 1
+pub push-few : {S : Type 0} (xs : List S) (x : S) (i : ℕ) → length xs ≤ i → length (xs ++ x ∷ []) ≤ i + 1
 push-few xs x i h = let q : length (xs ++ x ∷ []) ≡ length xs + 1 = length-append xs (x ∷ []) in omega arith
 
-flipped : (b : Bool) (xs : List SatelliteCode) → (if b then [] else xs) ≡ (if not b then xs else [])
+flipped : {S : Type 0} (b : Bool) (xs : List S) → (if b then [] else xs) ≡ (if not b then xs else [])
 flipped true xs = refl
 flipped false xs = refl
 
 -- a cell conflicts if another one is kept under its key
-pub conflict-is : (c x : CellEntry) (o : Option CellEntry) (r : Bool) → o ≡ Some x → r ≡ not (equal_cells x.cell c.cell)
-    → conflict c o ≡ (if r then record { satellite = c.satellite; code = c.code } ∷ [] else [])
-conflict-is c x o r h e = ap (conflict c) h ∙ flipped (equal_cells x.cell c.cell) _ ∙ ap (λ t. if t then record { satellite = c.satellite; code = c.code } ∷ [] else []) (sym e)
+pub conflict-is : {E S : Type 0} (es : Entries E S) (c x : E) (o : Option E) (r : Bool) → o ≡ Some x → r ≡ not (equal_cells (es.cell x) (es.cell c))
+    → conflict es c o ≡ (if r then es.signal c ∷ [] else [])
+conflict-is es c x o r h e = ap (conflict es c) h ∙ flipped (equal_cells (es.cell x) (es.cell c)) _ ∙ ap (λ t. if t then es.signal c ∷ [] else []) (sym e)

@@ -16,10 +16,13 @@ use Rattle.rtk_obs.specs.declared.code.Code.TheVariants.{G1C, G1P, G1W, G1S, G1L
 use Rattle.rtk_obs.specs.declared.cell.CellSource.{CellSource}
 use Rattle.rtk_obs.specs.declared.cell.CellSource.TheVariants.{Legacy, Msm}
 use Rattle.rtk_obs.specs.declared.cell.Cell.{Cell}
-use Rattle.rtk_obs.proofs.PublicLaws.{code_same}
+use Rattle.rtk_obs.proofs.PublicLaws.{code_same, any_code_same}
 use Rattle.rtk_collect.specs.declared.conflicts.SatelliteCode.{SatelliteCode}
+use Rattle.rtk_collect.specs.declared.conflicts.AnySatelliteCode.{AnySatelliteCode}
 use Rattle.rtk_collect.specs.contracts.conflicts.SatelliteCodePartialEq.TheImpl as satellite_code_eq
+use Rattle.rtk_collect.specs.contracts.conflicts.AnySatelliteCodePartialEq.TheImpl as any_satellite_code_eq
 use Rattle.rtk_collect.specs.Key.{key, key_at, rank_of}
+use Rattle.rtk_collect.specs.Entries.{Entries}
 use Rattle.rtk_obs.specs.Slip.{is_same_source}
 use Rattle.rtk_collect.specs.Equal.{equal_cells, equal_1005, equal_1006}
 use Rattle.rtk_collect.specs.Laws.{KeysAreDistinct, EqualityDecides}
@@ -71,7 +74,7 @@ pub rank-less : (s : CellSource) → rank_of s < 2
 rank-less Legacy = omega arith
 rank-less Msm = omega arith
 
-rank-one : (s t : CellSource) → rank_of s ≡ rank_of t → s ≡ t
+pub rank-one : (s t : CellSource) → rank_of s ≡ rank_of t → s ≡ t
 rank-one Legacy Legacy h = refl
 rank-one Legacy Msm h = cc
 rank-one Msm Legacy h = cc
@@ -82,6 +85,16 @@ place-one c d h = sym (code_at-place c) ∙ ap code_at h ∙ code_at-place d
 
 pub parts-one : (s s' p p' r r' : ℕ) → p < 16 → p' < 16 → r < 2 → r' < 2 → (s * 16 + p) * 2 + r ≡ (s' * 16 + p') * 2 + r' → (s ≡ s') × (p ≡ p') × (r ≡ r')
 parts-one s s' p p' r r' a b c d h = (omega arith, omega arith, omega arith)
+
+pub number-one : (p q r s : ℕ) → r < 2 → s < 2 → p * 2 + r ≡ q * 2 + s → (p ≡ q) × (r ≡ s)
+number-one p q r s a b h = (omega arith, omega arith)
+
+-- equal keys have one number of satellite and code, and one kind of message
+pub key-one : {E S : Type 0} (es : Entries E S) (c d : E) → key es c ≡ key es d → (es.place c ≡ es.place d) × ((es.cell c).source ≡ (es.cell d).source)
+unfolding key key_at
+key-one es c d h =
+    let p = number-one (es.place c) (es.place d) (rank_of (es.cell c).source) (rank_of (es.cell d).source) (rank-less (es.cell c).source) (rank-less (es.cell d).source) h in
+    (p.0, rank-one (es.cell c).source (es.cell d).source p.1)
 
 pub keys-are-distinct : KeysAreDistinct
 unfolding key key_at
@@ -204,3 +217,9 @@ satellite_code-same a b = Decides-like ((satellite_code_eq.ghosts).eq a b)
     (λ h i. record { satellite = h.0 i; code = h.1 i })
     (λ e. (ap (λ (x : SatelliteCode). x.satellite) e, ap (λ (x : SatelliteCode). x.code) e))
     (Decides-and _ _ (Decides-eqb a.satellite b.satellite) (code_same a.code b.code))
+
+pub any_satellite_code-same : (a b : AnySatelliteCode) → Decides ((any_satellite_code_eq.ghosts).eq a b) (a ≡ b)
+any_satellite_code-same a b = Decides-like ((any_satellite_code_eq.ghosts).eq a b)
+    (λ h i. record { satellite = h.0 i; code = h.1 i })
+    (λ e. (ap (λ (x : AnySatelliteCode). x.satellite) e, ap (λ (x : AnySatelliteCode). x.code) e))
+    (Decides-and _ _ (Decides-eqb a.satellite b.satellite) (any_code_same a.code b.code))

@@ -6,7 +6,6 @@ use Rattle.std.proofs.lemmas.Bool.{le-leb, leb-true, cases_lt, cases_eq, ne_eqb,
 use Rattle.std.proofs.lemmas.List.{length-take}
 use Rattle.rtk_message.specs.declared.any_message.AnyMessage.{AnyMessage as Message}
 use Rattle.rtk_message.specs.AnyDecoded.{number_of}
-use Rattle.rtk_obs.specs.MessageCells.{cells_of}
 use Rattle.rtk_collect.specs.Equal.{equal_stations, is_first}
 use Rattle.rtk_collect.specs.EpochSet.{EpochSetView, EpochsFall}
 use Rattle.rtk_collect.specs.Arrival.{Arrival, At}
@@ -16,15 +15,16 @@ use Rattle.rtk_collect.specs.Laws.{without_late, AreInTime, LateArrivalsChangeNo
 use Rattle.rtk_collect.proofs.ArrivalsLemmas.{leadingN, leadingN-take, late-leading, is-late, is-open, take-with_epoch, take-with_epoch-late, keys, same_greatest, kept-falls, drop-with_arrival}
 use Rattle.rtk_collect.proofs.JoinsLemmas.{same-le, closed-drop, whole, leading-kept}
 use Rattle.rtk_collect.proofs.StationLemmas.{length-keys, and-none, excused-is}
+use Rattle.rtk_collect.specs.Entries.{Entries}
 
 late-above : (n e : ℕ) (m : Message) (before : List Arrival) → late n (At (Some e) m) before ≡ true → n ≤ leadingN e (epochs before)
 late-above n e m before h = leb-true n _ (sym (late-leading n e m before) ∙ h)
 
-pub kept-late : LateLeavesKept
-kept-late n e m before h = ap (λ (b : Bool). if b then kept n before else with_arrival e (cells_of m) (kept n before)) h
+pub kept-late : {E S : Type 0} (es : Entries E S) (of : Message → List E) → LateLeavesKept es of
+kept-late es of n e m before h = ap (λ (b : Bool). if b then kept es of n before else with_arrival es e (of m) (kept es of n before)) h
 
-pub kept-new : InTimeJoinsKept
-kept-new n e m before h = ap (λ (b : Bool). if b then kept n before else with_arrival e (cells_of m) (kept n before)) h
+pub kept-new : {E S : Type 0} (es : Entries E S) (of : Message → List E) → InTimeJoinsKept es of
+kept-new es of n e m before h = ap (λ (b : Bool). if b then kept es of n before else with_arrival es e (of m) (kept es of n before)) h
 
 without-head : (n : ℕ) (a : Arrival) (before : List Arrival) → late n a before ≡ true → without_late n (a ∷ before) ≡ without_late n before
 without-head n a before h = ap (λ (b : Bool). if b then without_late n before else a ∷ without_late n before) h
@@ -80,16 +80,16 @@ without-late n (At (Some e) m) arrivals = late-leading n e m (without_late n arr
     ∙ same-le n _ _ (sym (leadingN-take n e (epochs (without_late n arrivals))) ∙ ap (leadingN e) (without-epochs n arrivals) ∙ leadingN-take n e (epochs arrivals))
     ∙ sym (late-leading n e m arrivals)
 
-without-kept : (n : ℕ) (arrivals : List Arrival) → kept n (without_late n arrivals) ≡ kept n arrivals
-without-kept n [] = refl
-without-kept n (At None m ∷ before) = elim (cases_Bool (late n (At None m) before)) [
-  | inl over ↦ ap (kept n) (without-head n (At None m) before over) ∙ without-kept n before
-  | inr fresh ↦ ap (kept n) (without-stays n (At None m) before fresh) ∙ without-kept n before
+without-kept : {E S : Type 0} (es : Entries E S) (of : Message → List E) (n : ℕ) (arrivals : List Arrival) → kept es of n (without_late n arrivals) ≡ kept es of n arrivals
+without-kept es of n [] = refl
+without-kept es of n (At None m ∷ before) = elim (cases_Bool (late n (At None m) before)) [
+  | inl over ↦ ap (kept es of n) (without-head n (At None m) before over) ∙ without-kept es of n before
+  | inr fresh ↦ ap (kept es of n) (without-stays n (At None m) before fresh) ∙ without-kept es of n before
 ]
-without-kept n (At (Some e) m ∷ before) = elim (cases_Bool (late n (At (Some e) m) before)) [
-  | inl over ↦ ap (kept n) (without-head n (At (Some e) m) before over) ∙ without-kept n before ∙ sym (kept-late n e m before over)
-  | inr fresh ↦ ap (kept n) (without-stays n (At (Some e) m) before fresh) ∙ kept-new n e m (without_late n before) (without-late n (At (Some e) m) before ∙ fresh)
-      ∙ ap (with_arrival e (cells_of m)) (without-kept n before) ∙ sym (kept-new n e m before fresh)
+without-kept es of n (At (Some e) m ∷ before) = elim (cases_Bool (late n (At (Some e) m) before)) [
+  | inl over ↦ ap (kept es of n) (without-head n (At (Some e) m) before over) ∙ without-kept es of n before ∙ sym (kept-late es of n e m before over)
+  | inr fresh ↦ ap (kept es of n) (without-stays n (At (Some e) m) before fresh) ∙ kept-new es of n e m (without_late n before) (without-late n (At (Some e) m) before ∙ fresh)
+      ∙ ap (with_arrival es e (of m)) (without-kept es of n before) ∙ sym (kept-new es of n e m before fresh)
 ]
 
 in-time : (n : ℕ) (arrivals : List Arrival) → AreInTime n (without_late n arrivals)
@@ -114,45 +114,45 @@ without-taken n a (x ∷ before) =
       )
     ]
 
-pub late-change-nothing : LateArrivalsChangeNothing
-late-change-nothing n arrivals = ((λ a. without-late n a arrivals), in-time n arrivals, (λ a. without-taken n a arrivals), without-kept n arrivals, (λ k. without-station n k arrivals))
+pub late-change-nothing : {E S : Type 0} (es : Entries E S) (of : Message → List E) → LateArrivalsChangeNothing es of
+late-change-nothing es of n arrivals = ((λ a. without-late n a arrivals), in-time n arrivals, (λ a. without-taken n a arrivals), without-kept es of n arrivals, (λ k. without-station n k arrivals))
 
 -- closed epochs
 
-one-grows : (n : ℕ) (a : Arrival) (before : List Arrival) → (more : List EpochSetView) × (closed n (a ∷ before) ≡ more ++ closed n before)
-one-grows n (At None m) before = ([], refl)
-one-grows n (At (Some e) m) before =
-    let d : EpochSetView = no_cells 0 in
+one-grows : {E S : Type 0} (es : Entries E S) (of : Message → List E) (n : ℕ) (a : Arrival) (before : List Arrival) → (more : List (EpochSetView E)) × (closed es of n (a ∷ before) ≡ more ++ closed es of n before)
+one-grows es of n (At None m) before = ([], refl)
+one-grows {E = E} es of n (At (Some e) m) before =
+    let d : EpochSetView E = no_cells 0 in
     elim (cases_lt (leadingN e (epochs before)) n) [
       | inl fresh ↦ (
-        drop n (with_arrival e (cells_of m) (take n (kept n before))),
-        closed-drop n d (At (Some e) m ∷ before) ∙ ap (drop n) (is-open n e m before fresh) ∙ drop-with_arrival n e (cells_of m) (kept n before) (leading-kept n e before fresh)
-            ∙ ap (λ t. drop n (with_arrival e (cells_of m) (take n (kept n before))) ++ t) (sym (closed-drop n d before)),
+        drop n (with_arrival es e (of m) (take n (kept es of n before))),
+        closed-drop es of n d (At (Some e) m ∷ before) ∙ ap (drop n) (is-open es of n e m before fresh) ∙ drop-with_arrival es n e (of m) (kept es of n before) (leading-kept es of n e before fresh)
+            ∙ ap (λ t. drop n (with_arrival es e (of m) (take n (kept es of n before))) ++ t) (sym (closed-drop es of n d before)),
       )
-      | inr over ↦ ([], closed-drop n d (At (Some e) m ∷ before) ∙ ap (drop n) (is-late n e m before over) ∙ sym (closed-drop n d before))
+      | inr over ↦ ([], closed-drop es of n d (At (Some e) m ∷ before) ∙ ap (drop n) (is-late es of n e m before over) ∙ sym (closed-drop es of n d before))
     ]
 
-pub closed-only-grow : ClosedOnlyGrow
-closed-only-grow n [] before = ([], refl)
-closed-only-grow n (a ∷ later) before =
-    let r = closed-only-grow n later before in
-    let s = one-grows n a (later ++ before) in
-    (s.0 ++ r.0, s.1 ∙ ap (λ t. s.0 ++ t) r.1 ∙ sym (append_assoc s.0 r.0 (closed n before)))
+pub closed-only-grow : {E S : Type 0} (es : Entries E S) (of : Message → List E) → ClosedOnlyGrow es of
+closed-only-grow es of n [] before = ([], refl)
+closed-only-grow es of n (a ∷ later) before =
+    let r = closed-only-grow es of n later before in
+    let s = one-grows es of n a (later ++ before) in
+    (s.0 ++ r.0, s.1 ∙ ap (λ t. s.0 ++ t) r.1 ∙ sym (append_assoc s.0 r.0 (closed es of n before)))
 
-falls-drop : (n : ℕ) (xs : List EpochSetView) → EpochsFall xs → EpochsFall (drop n xs)
+falls-drop : {E : Type 0} (n : ℕ) (xs : List (EpochSetView E)) → EpochsFall xs → EpochsFall (drop n xs)
 falls-drop zero xs f = f
 falls-drop (suc n) [] f = tt
 falls-drop (suc n) (x ∷ xs) f = falls-drop n xs f.1
 
-pub closed-fall : ClosedFall
-closed-fall n arrivals = subst EpochsFall (sym (closed-drop n (no_cells 0) arrivals)) (falls-drop n (kept n arrivals) (kept-falls n arrivals))
+pub closed-fall : {E S : Type 0} (es : Entries E S) (of : Message → List E) → ClosedFall es of
+closed-fall es of n arrivals = subst EpochsFall (sym (closed-drop es of n (no_cells 0) arrivals)) (falls-drop n (kept es of n arrivals) (kept-falls es of n arrivals))
 
-pub closed-after : ClosedAfter
-closed-after n arrivals = elim (cases_lt (length (epochs arrivals)) n) [
+pub closed-after : {E S : Type 0} (es : Entries E S) (of : Message → List E) → ClosedAfter es of
+closed-after es of n arrivals = elim (cases_lt (length (epochs arrivals)) n) [
   | inl less ↦
-      let a : min n (length (keys (kept n arrivals))) ≡ min n (length (epochs arrivals)) = sym (length-take n (keys (kept n arrivals))) ∙ ap length (same_greatest n arrivals) ∙ length-take n (epochs arrivals) in
-      let k : length (keys (kept n arrivals)) ≡ length (kept n arrivals) = length-keys (kept n arrivals) in
-      inl (closed-drop n (no_cells 0) arrivals ∙ (whole n (kept n arrivals) (omega arith)).1)
+      let a : min n (length (keys (kept es of n arrivals))) ≡ min n (length (epochs arrivals)) = sym (length-take n (keys (kept es of n arrivals))) ∙ ap length (same_greatest es of n arrivals) ∙ length-take n (epochs arrivals) in
+      let k : length (keys (kept es of n arrivals)) ≡ length (kept es of n arrivals) = length-keys (kept es of n arrivals) in
+      inl (closed-drop es of n (no_cells 0) arrivals ∙ (whole n (kept es of n arrivals) (omega arith)).1)
   | inr over ↦ inr over
 ]
 

@@ -24,3 +24,5 @@ mod FirstLemmas
 mod NextWindowLemmas
 mod DatedLemmas
 mod PositionLemmas
+mod SignalLemmas
+mod SignalGpsLemmas

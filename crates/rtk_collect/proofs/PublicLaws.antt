@@ -1,5 +1,5 @@
 -- The laws of src/laws.rt as lemmas, which proofs of other crates cite: each says what a clause
--- there says, but for `with_cells-all`.
+-- there says, but for `with_cells-all` and `left-is`.
 
 -- the clause of `late_arrivals_change_nothing`; the clauses `grow` and `after` of
 -- `closed_epochs_only_grow`; the clause `late` of `stations_are_final`; the clauses `late` and
@@ -22,3 +22,5 @@ pub use Rattle.rtk_collect.proofs.FewLemmas.{kept-are-few}
 -- what holds of all cells that join and of all cells that they join holds of all after it: of any
 -- property, and a clause can't speak of all properties
 pub use Rattle.rtk_collect.proofs.CellsLemmas.{with_cells-all}
+-- cells that are left beside others by satellite and code are left by their numbers
+pub use Rattle.rtk_collect.proofs.LegacyListLemmas.{left-is}

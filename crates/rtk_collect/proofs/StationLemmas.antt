@@ -18,17 +18,18 @@ use Rattle.rtk_collect.specs.NextWindow.{outcome_of_station}
 use Rattle.rtk_collect.specs.Steps.Observed.{ListsConflicts}
 use Rattle.rtk_collect.specs.Steps.Slot.{AnswersStationMessage}
 use Rattle.rtk_collect.proofs.ArrivalsLemmas.{keys, same_greatest, with_epoch-new, with_epoch-below, with_epoch-same}
+use Rattle.rtk_collect.specs.Entries.{Entries}
 
-pub length-keys : (xs : List EpochSetView) → length (keys xs) ≡ length xs
+pub length-keys : {E : Type 0} (xs : List (EpochSetView E)) → length (keys xs) ≡ length xs
 length-keys [] = refl
 length-keys (x ∷ xs) = ap suc (length-keys xs)
 
 -- whether n epochs have come, from what is held
-pub full-is : (n : ℕ) (sets : List EpochSetView) (before : List Arrival) → sets ≡ take n (kept n before) → eqb (length sets) n ≡ nat_le n (length (epochs before))
-full-is n sets before h =
-    let a : length sets ≡ min n (length (kept n before)) = ap length h ∙ length-take n (kept n before) in
-    let b : min n (length (keys (kept n before))) ≡ min n (length (epochs before)) = sym (length-take n (keys (kept n before))) ∙ ap length (same_greatest n before) ∙ length-take n (epochs before) in
-    let k : length (keys (kept n before)) ≡ length (kept n before) = length-keys (kept n before) in
+pub full-is : {E S : Type 0} (es : Entries E S) (of : Message → List E) (n : ℕ) (sets : List (EpochSetView E)) (before : List Arrival) → sets ≡ take n (kept es of n before) → eqb (length sets) n ≡ nat_le n (length (epochs before))
+full-is es of n sets before h =
+    let a : length sets ≡ min n (length (kept es of n before)) = ap length h ∙ length-take n (kept es of n before) in
+    let b : min n (length (keys (kept es of n before))) ≡ min n (length (epochs before)) = sym (length-take n (keys (kept es of n before))) ∙ ap length (same_greatest es of n before) ∙ length-take n (epochs before) in
+    let k : length (keys (kept es of n before)) ≡ length (kept es of n before) = length-keys (kept es of n before) in
     elim (cases_lt (length (epochs before)) n) [
       | inl less ↦ ne_eqb (length sets) n (λ e. omega arith) ∙ sym (lt-leb n (length (epochs before)) less)
       | inr full ↦ eq-eqb (length sets) n (omega arith) ∙ sym (le-leb n (length (epochs before)) full)
@@ -121,7 +122,7 @@ excused-is n m before = excused-on-time n m (first_with (number_of m) before) �
 
 -- one station message, from the kept one
 
-module _ {T : Type 0} (wrap : T → Message) (eq : T → T → Bool) (same_eq : (a b : T) → equal_stations (wrap a) (wrap b) ≡ eq a b) where
+module _ {E S : Type 0} (es : Entries E S) (of : Message → List E) {T : Type 0} (wrap : T → Message) (eq : T → T → Bool) (same_eq : (a b : T) → equal_stations (wrap a) (wrap b) ≡ eq a b) where
   first-wrapped : (slot : Option T) (m : T) → is_first equal_stations (option_map wrap slot) (wrap m) ≡ is_first eq slot m
   first-wrapped None m = refl
   first-wrapped (Some x) m = same_eq x m
@@ -133,13 +134,13 @@ module _ {T : Type 0} (wrap : T → Message) (eq : T → T → Bool) (same_eq : 
   kept_here full slot m = if not (full && not (is_first eq slot m)) then first (option_map wrap slot) (wrap m) else option_map wrap slot
 
   -- the answer, as a class
-  abbrev ClassOf : Outcome → Class → Type 0
+  abbrev ClassOf : Outcome E S → Class → Type 0
   ClassOf Late c = c ≡ LateClass
   ClassOf (Taken out) c = (c ≡ TakenClass) × (out ≡ None)
   ClassOf Conflict c = c ≡ ConflictClass
   ClassOf Repeat c = c ≡ RepeatClass
 
-  slot-class : (slot new : Option T) (m : T) (full : Bool) (offer : Outcome) → AnswersStationMessage eq slot m full offer new → ClassOf offer (class_here full slot m) × (option_map wrap new ≡ kept_here full slot m)
+  slot-class : (slot new : Option T) (m : T) (full : Bool) (offer : Outcome E S) → AnswersStationMessage eq slot m full offer new → ClassOf offer (class_here full slot m) × (option_map wrap new ≡ kept_here full slot m)
   slot-class slot new m full Late h = (rw (h.0, h.1) refl, ap (option_map wrap) h.2 ∙ rw (h.0, h.1) refl)
   slot-class slot new m full (Taken out) h = ((rw (h.0, h.1) refl, h.3), ap (option_map wrap) h.2 ∙ rw (h.0, h.1) refl)
   slot-class None new m full Conflict h = absurd h
@@ -147,24 +148,24 @@ module _ {T : Type 0} (wrap : T → Message) (eq : T → T → Bool) (same_eq : 
   slot-class None new m full Repeat h = let q = h.0 in cc
   slot-class (Some x) new m full Repeat h = (rw (h.0, and-none full, same_eq x m, h.0) refl, ap (option_map wrap) h.1 ∙ rw (h.0, and-none full) refl)
 
-  answers-from : (n : ℕ) (m : T) (before : List Arrival) (offer : Outcome) → ClassOf offer (class_of n (At None (wrap m)) before) → IsRightAnswer n (At None (wrap m)) before offer []
+  answers-from : (n : ℕ) (m : T) (before : List Arrival) (offer : Outcome E S) → ClassOf offer (class_of es of n (At None (wrap m)) before) → IsRightAnswer es of n (At None (wrap m)) before offer []
   answers-from n m before Late h = (h, refl, refl)
-  answers-from n m before (Taken out) h = (h.0, refl, ap (λ o. option_to_list o ++ closed n before) (sym h.1))
+  answers-from n m before (Taken out) h = (h.0, refl, ap (λ o. option_to_list o ++ closed es of n before) (sym h.1))
   answers-from n m before Conflict h = (h, refl, refl)
   answers-from n m before Repeat h = (h, refl, refl)
 
-  pub record StationStep (n k : ℕ) (m : T) (before : List Arrival) (offer : Outcome) (slot : Option T) : Type 0 where
-    pub answers : IsRightAnswer n (At None (wrap m)) before offer []
+  pub record StationStep (n k : ℕ) (m : T) (before : List Arrival) (offer : Outcome E S) (slot : Option T) : Type 0 where
+    pub answers : IsRightAnswer es of n (At None (wrap m)) before offer []
     pub after : option_map wrap slot ≡ station n k (At None (wrap m) ∷ before)
 
-  pub slot-parts : (n k : ℕ) (m : T) (slot new : Option T) (full : Bool) (offer : Outcome) (before : List Arrival) → number_of (wrap m) ≡ k → option_map wrap slot ≡ station n k before
+  pub slot-parts : (n k : ℕ) (m : T) (slot new : Option T) (full : Bool) (offer : Outcome E S) (before : List Arrival) → number_of (wrap m) ≡ k → option_map wrap slot ≡ station n k before
       → full ≡ nat_le n (length (epochs before)) → AnswersStationMessage eq slot m full offer new → StationStep n k m before offer new
   slot-parts n k m slot new full offer before num s f h =
       let p = slot-class slot new m full offer h in
       let s' : station n (number_of (wrap m)) before ≡ option_map wrap slot = ap (λ t. station n t before) num ∙ sym s in
       let ex : is_excused n (At None (wrap m)) before ≡ is_first eq slot m = excused-is n (wrap m) before ∙ ap (λ o. is_first equal_stations o (wrap m)) s' ∙ first-wrapped slot m in
       let over : late n (At None (wrap m)) before ≡ (full && not (is_first eq slot m)) = ap (λ b. b && not (is_excused n (At None (wrap m)) before)) (sym f) ∙ ap (λ b. full && not b) ex in
-      let class : class_of n (At None (wrap m)) before ≡ class_here full slot m =
+      let class : class_of es of n (At None (wrap m)) before ≡ class_here full slot m =
       ap (λ b. if b then LateClass else class_of_station (wrap m) (station n (number_of (wrap m)) before)) over ∙ ap (λ o. if full && not (is_first eq slot m) then LateClass else class_of_station (wrap m) o) s' in
       let kept_is : station n k (At None (wrap m) ∷ before) ≡ kept_here full slot m =
       ap (λ b. if b && not (late n (At None (wrap m)) before) then first (station n k before) (wrap m) else station n k before) (eq-eqb (number_of (wrap m)) k num)
@@ -179,7 +180,7 @@ module _ {T : Type 0} (wrap : T → Message) (eq : T → T → Bool) (same_eq : 
   abbrev pub late_here : Bool → Option T → T → Bool
   late_here full slot m = full && not (is_first equal_stations (option_map wrap slot) (wrap m))
 
-  abbrev outcome_here : Option T → T → Outcome
+  abbrev outcome_here : Option T → T → Outcome E S
   outcome_here None m = Taken None
   outcome_here (Some x) m = if eq x m then Repeat else Conflict
 
@@ -206,7 +207,7 @@ pub other-stays : (n k : ℕ) (m : Message) (before : List Arrival) → number_o
 other-stays n k m before h = ap (λ b. if b && not (late n (At None m) before) then first (station n k before) m else station n k before) (ne_eqb (number_of m) k h)
 
 -- the fields of the kept one fit, if the fields of the offered one do
-pub slot-fits : {T : Type 0} (eq : T → T → Bool) (P : T → Type 0) (slot new : Option T) (m : T) (full : Bool) (offer : Outcome) → AnswersStationMessage eq slot m full offer new → ForSome slot P → P m → ForSome new P
+pub slot-fits : {T E S : Type 0} (eq : T → T → Bool) (P : T → Type 0) (slot new : Option T) (m : T) (full : Bool) (offer : Outcome E S) → AnswersStationMessage eq slot m full offer new → ForSome slot P → P m → ForSome new P
 slot-fits eq P slot new m full Late h f p = subst (λ o. ForSome o P) (sym h.2) f
 slot-fits eq P slot new m full (Taken out) h f p = subst (λ o. ForSome o P) (sym h.2) (λ x e. subst P (ap (λ o. unwrap_or o x) e) p)
 slot-fits eq P None new m full Conflict h f p = absurd h
@@ -214,7 +215,7 @@ slot-fits eq P (Some x) new m full Conflict h f p = subst (λ o. ForSome o P) (s
 slot-fits eq P slot new m full Repeat h f p = subst (λ o. ForSome o P) (sym h.1) f
 
 -- the answer closes no epoch, and lists no conflict
-pub slot-lists : {T : Type 0} (eq : T → T → Bool) (slot new : Option T) (m : T) (full : Bool) (offer : Outcome) → AnswersStationMessage eq slot m full offer new → ListsConflicts offer []
+pub slot-lists : {T E S : Type 0} (eq : T → T → Bool) (slot new : Option T) (m : T) (full : Bool) (offer : Outcome E S) → AnswersStationMessage eq slot m full offer new → ListsConflicts offer []
 slot-lists eq slot new m full Late h = refl
 slot-lists eq slot new m full (Taken out) h = h.3
 slot-lists eq slot new m full Conflict h = tt

@@ -1,4 +1,6 @@
+pub mod Entries
 pub mod Key
+pub mod Gps
 pub mod Equal
 pub mod EpochSet
 pub mod Arrival
@@ -11,3 +13,4 @@ pub mod Offered
 pub mod NextWindow
 pub mod Steps
 pub mod Laws
+pub mod Signals

@@ -3,6 +3,9 @@
 //! It keeps each epoch in the form in which it gives it away: a list of its cells. So memory is taken
 //! when cells come, and none when an epoch closes or is left.
 
+ghost use Rattle.rtk_collect.specs.Gps.{gps};
+ghost use Rattle.rtk_obs.specs.MessageCells.{cells_of};
+ghost use Rattle.rtk_obs.specs.declared.cell.CellEntry.{CellEntry};
 ghost use Rattle.std.specs.Prelude.{◌≡◌, ◌≤◌, List, [], length, take, IfOk, OnErr, None};
 ghost use Rattle.rtk_collect.specs.Arrival.{Arrival};
 ghost use Rattle.rtk_collect.specs.Accepted.{kept};
@@ -44,9 +47,10 @@ pub struct Collector {
 // 1006.
 impl Model for Collector {
     ghost use Rattle.std.specs.Prelude.{◌≡◌};
+    ghost use Rattle.rtk_obs.specs.declared.cell.CellEntry.{CellEntry};
     ghost use Rattle.rtk_collect.specs.Collector.{CollectorView, IsCollectorView};
 
-    ghost Value = { CollectorView };
+    ghost Value = { CollectorView CellEntry };
 
     ghost view = { λ c. record { places = c.places; sets = c.sets.items; arp1005 = c.stations.arp1005; arp1006 = c.stations.arp1006 } };
 
@@ -66,7 +70,7 @@ impl Collector {
         requires low { 2 ≤ window }
         requires high { window ≤ 4096 }
         ensures empty { result ≡ record { places = window; sets = []; arp1005 = None; arp1006 = None } }
-        ensures history { RepresentsArrivals result [] }
+        ensures history { RepresentsArrivals gps cells_of result [] }
     {
         Collector {
             alloc,
@@ -84,12 +88,12 @@ impl Collector {
         ensures places { self.new.places ≡ self.old.places }
         ensures bound { length self.new.sets ≤ self.new.places }
         // Fails only if memory is refused: tests/system/calls, rows offer.
-        ensures answer { IfOk result (λ offer. AnswersArrival self.old dated (outcome_of offer) (listed_by offer) self.new) }
+        ensures answer { IfOk result (λ offer. AnswersArrival gps cells_of self.old dated (outcome_of offer) (listed_by offer) self.new) }
         ensures closed { IfOk result (λ offer. ClosesBelow (outcome_of offer) self.new.sets) }
         ensures least_closes { IfOk result (λ offer. ClosesLeast self.old.places self.old.sets (outcome_of offer)) }
         ensures least { LeastNeverFalls self.old self.new }
         ensures err { OnErr result (self.new ≡ self.old) }
-        ensures refused { OnErr result (WouldBeTaken self.old dated) }
+        ensures refused { OnErr result (WouldBeTaken gps cells_of self.old dated) }
     {
         let Some(epoch) = dated.epoch else {
             let full = self.sets.len() == self.places;
@@ -106,7 +110,7 @@ impl Collector {
     /// that of the 1006, else zero.
     pub fn station(&self) -> Position
         ensures position { IsPosition self.now.arp1005 self.now.arp1006 result }
-        ensures kept { (before : List Arrival) → RepresentsArrivals self.now before → IsPositionOf self.now.places before result }
+        ensures kept { (before : List Arrival) → RepresentsArrivals gps cells_of self.now before → IsPositionOf self.now.places before result }
     {
         position(self.stations)
     }
@@ -116,9 +120,9 @@ impl Collector {
         ensures sets { result.sets ≡ self.sets }
         ensures arp1005 { result.arp1005 ≡ self.arp1005 }
         ensures arp1006 { result.arp1006 ≡ self.arp1006 }
-        ensures epochs { (before : List Arrival) → RepresentsArrivals self before
-            → result.sets ≡ take self.places (kept self.places before) }
-        ensures stations { (before : List Arrival) → RepresentsArrivals self before → KeepsStations result self.places before }
+        ensures epochs { (before : List Arrival) → RepresentsArrivals gps cells_of self before
+            → result.sets ≡ take self.places (kept gps cells_of self.places before) }
+        ensures stations { (before : List Arrival) → RepresentsArrivals gps cells_of self before → KeepsStations result self.places before }
     {
         Left::new(self.sets, self.stations)
     }

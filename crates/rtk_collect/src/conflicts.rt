@@ -3,7 +3,7 @@
 ghost use Rattle.std.specs.Prelude.{◌≡◌, ◌<◌, ◌≤◌, ◌↔◌, [], ◌∷◌, ◌++◌, length, IsTrue, OnOk, OnErr};
 
 use arrayvec::ArrayVec;
-use rtk_obs::Code;
+use rtk_obs::{AnyCode, Code, SatelliteIndex};
 use std::alloc::AllocError;
 use std::marker::Model;
 
@@ -15,27 +15,34 @@ pub struct SatelliteCode {
     pub code: Code,
 }
 
-/// Satellites and codes of the cells of one message, in its order, at most 64.
+/// The satellite and the code of a cell of any system.
+#[derive(Clone, Copy, Debug, Default, PartialEq, Eq)]
+pub struct AnySatelliteCode {
+    pub satellite: SatelliteIndex,
+    pub code: AnyCode,
+}
+
+/// Satellites and codes of the cells of one message, in its order, at most 64. `S` is a satellite with a
+/// code: a `SatelliteCode` for GPS, or an `AnySatelliteCode`.
 #[derive(Drop)]
-pub struct Conflicts {
-    list: ArrayVec<SatelliteCode, 64>,
+pub struct Conflicts<S = SatelliteCode> {
+    list: ArrayVec<S, 64>,
 }
 
 // Clauses see the list.
-impl Model for Conflicts {
+impl<S> Model for Conflicts<S> {
     ghost use Rattle.std.specs.Prelude.{List, length, ◌≤◌};
-    ghost use Rattle.rtk_collect.specs.declared.conflicts.SatelliteCode.{SatelliteCode};
 
-    ghost Value = { List SatelliteCode };
+    ghost Value = { List S };
 
     ghost view = { λ c. c.list.items };
 
     ghost invariant = { λ c. length c.list.items ≤ 64 };
 }
 
-impl Conflicts {
+impl<S: Copy + Default> Conflicts<S> {
     /// Makes an empty list.
-    pub fn new() -> Conflicts
+    pub fn new() -> Conflicts<S>
         ensures { result ≡ [] }
     {
         Conflicts {
@@ -59,7 +66,7 @@ impl Conflicts {
     }
 
     /// Returns the satellites and codes, in the order of the message.
-    pub fn as_slice(&self) -> &[SatelliteCode]
+    pub fn as_slice(&self) -> &[S]
         ensures value { result.now ≡ self.now }
         ensures few { length result.now ≤ 64 }
     {
@@ -90,7 +97,7 @@ impl Conflicts {
     }
 
     /// Adds a satellite and code after the others.
-    pub(crate) fn push(&mut self, cell: SatelliteCode)
+    pub(crate) fn push(&mut self, cell: S)
         requires { length self.old < 64 }
         ensures { self.new ≡ self.old ++ cell ∷ [] }
     {

@@ -6,12 +6,16 @@ ghost use Rattle.rtk_message.specs.AnyDecoded as any;
 ghost use Rattle.rtk_message.specs.Decoded.{IsValid, tow_of};
 ghost use Rattle.rtk_obs.specs.Cell.{IsInRange, AreRising};
 ghost use Rattle.rtk_obs.specs.MessageCells.{cells_of};
+ghost use Rattle.rtk_obs.specs.SignalCells.{entries_of, IsSignalInRange};
 ghost use Rattle.rtk_collect.specs.Arrival.{At, epoch_of, message_of, IsWideMsm};
 ghost use Rattle.rtk_collect.specs.Steps.Borrowed.{borrowed};
 
 use arrayvec::ArrayVec;
 use rtk_message::{AnyMessage, Message, Msm};
-use rtk_obs::{CellEntry, GpsMs, put_cells_msm, put_cells_of};
+use rtk_obs::{
+    CellEntry, Channels, GpsMs, SignalEntry, put_cells_msm, put_cells_of, put_entries_of,
+    put_signal_entries,
+};
 use std::marker::Model;
 
 /// A message whose fields fit, which it borrows, with its epoch: the moment of its time of week
@@ -45,6 +49,18 @@ impl<'a> Borrowed<'a> {
         match self {
             Borrowed::Message(message) => put_cells_of(message, found),
             Borrowed::Msm(message) => put_cells_msm(message, found),
+        }
+    }
+
+    /// Puts the cells of the message into a list, in place of what it has, each as one of any system.
+    pub(crate) fn put_entries(self, channels: &Channels, found: &mut ArrayVec<SignalEntry, 64>)
+        requires { any.IsValid (borrowed self) }
+        ensures cells { found.new.items ≡ entries_of channels.now (borrowed self.entry) }
+        ensures ranges { All IsSignalInRange found.new.items }
+    {
+        match self {
+            Borrowed::Message(message) => put_entries_of(message, found),
+            Borrowed::Msm(message) => put_signal_entries(message, channels, found),
         }
     }
 }

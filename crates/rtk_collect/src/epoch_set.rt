@@ -1,5 +1,7 @@
 //! An epoch with its cells in one list.
 
+ghost use Rattle.rtk_collect.specs.Gps.{gps};
+ghost use Rattle.rtk_obs.specs.declared.cell.CellEntry.{CellEntry};
 ghost use Rattle.std.specs.Prelude.{◌≡◌, ◌<◌, ◌≤◌, [], length, IsTrue, IfOk, OnOk, OnErr, All};
 ghost use Rattle.rtk_obs.specs.Cell.{IsInRange};
 ghost use Rattle.rtk_collect.specs.Key.{KeysRise};
@@ -26,9 +28,10 @@ pub struct EpochSet {
 
 // Clauses see the epoch in ms and the list of cells.
 impl Model for EpochSet {
+    ghost use Rattle.rtk_obs.specs.declared.cell.CellEntry.{CellEntry};
     ghost use Rattle.rtk_collect.specs.EpochSet.{EpochSetView, AreCellsOfEpoch};
 
-    ghost Value = { EpochSetView };
+    ghost Value = { EpochSetView CellEntry };
 
     ghost view = { λ s. record { epoch = s.epoch; cells = s.cells.items } };
 
@@ -47,10 +50,10 @@ impl EpochSet {
     ) -> Result<EpochSet, AllocError>
         requires few { length cells.now ≤ 64 }
         requires range { All IsInRange cells.now }
-        requires rising { IsTrue rises → KeysRise cells.now }
+        requires rising { IsTrue rises → KeysRise gps cells.now }
         requires empty { found.old ≡ [] }
-        ensures set { IfOk result (λ set. set ≡ joined cells.now (no_cells epoch)) }
-        ensures conflicts { OnOk result (found.new ≡ conflicts cells.now []) }
+        ensures set { IfOk result (λ set. set ≡ joined gps cells.now (no_cells epoch)) }
+        ensures conflicts { OnOk result (found.new ≡ conflicts gps cells.now []) }
     {
         let mut set = EpochSet {
             epoch,
@@ -71,13 +74,13 @@ impl EpochSet {
     ) -> Result<usize, AllocError>
         requires few { length cells.now ≤ 64 }
         requires range { All IsInRange cells.now }
-        requires rising { IsTrue rises → KeysRise cells.now }
+        requires rising { IsTrue rises → KeysRise gps cells.now }
         requires empty { found.old ≡ [] }
-        ensures set { OnOk result (self.new ≡ joined cells.now self.old) }
-        ensures fresh { IfOk result (λ n. n ≡ fresh cells.now self.old.cells) }
-        ensures conflicts { OnOk result (found.new ≡ conflicts cells.now self.old.cells) }
+        ensures set { OnOk result (self.new ≡ joined gps cells.now self.old) }
+        ensures fresh { IfOk result (λ n. n ≡ fresh gps cells.now self.old.cells) }
+        ensures conflicts { OnOk result (found.new ≡ conflicts gps cells.now self.old.cells) }
         ensures err { OnErr result (self.new ≡ self.old) }
-        ensures refused { OnErr result (0 < fresh cells.now self.old.cells) }
+        ensures refused { OnErr result (0 < fresh gps cells.now self.old.cells) }
     {
         join_list(&mut self.cells, cells, rises, found)
     }

@@ -1,5 +1,7 @@
 //! The epochs of a collector, from the greatest to the least.
 
+ghost use Rattle.rtk_collect.specs.Gps.{gps};
+ghost use Rattle.rtk_obs.specs.declared.cell.CellEntry.{CellEntry};
 ghost use Rattle.std.specs.Prelude.{◌≡◌, ◌≢◌, ◌<◌, ◌≤◌, [], not, IsTrue, length, IfOk, OnErr, OnOk, All, slice_index_or, slice_set};
 ghost use Rattle.rtk_obs.specs.Cell.{IsInRange};
 ghost use Rattle.rtk_collect.specs.Key.{KeysRise};
@@ -28,9 +30,9 @@ fn place_among(sets: &VecDeque<EpochSet>, epoch: GpsMs) -> usize
 fn is_open(sets: &VecDeque<EpochSet>, at: usize, epoch: GpsMs) -> bool
     requires place { at ≡ leading epoch sets.now.items }
     ensures found { IsTrue result → (at < length sets.now.items)
-        × ((d : EpochSetView) → (slice_index_or sets.now.items at d).epoch ≡ epoch) }
+        × ((d : EpochSetView CellEntry) → (slice_index_or sets.now.items at d).epoch ≡ epoch) }
     ensures absent { IsTrue (not result) → (at < length sets.now.items)
-        → ((d : EpochSetView) → (slice_index_or sets.now.items at d).epoch ≢ epoch) }
+        → ((d : EpochSetView CellEntry) → (slice_index_or sets.now.items at d).epoch ≢ epoch) }
 {
     match sets.get(at) {
         Some(set) => set.epoch == epoch,
@@ -49,14 +51,14 @@ fn join_at(
     requires within { at < length sets.old.items }
     requires few { length cells.now ≤ 64 }
     requires range { All IsInRange cells.now }
-    requires rising { IsTrue rises → KeysRise cells.now }
+    requires rising { IsTrue rises → KeysRise gps cells.now }
     requires empty { found.old ≡ [] }
-    ensures items { (d : EpochSetView) → OnOk result (sets.new.items
-        ≡ slice_set sets.old.items at (joined cells.now (slice_index_or sets.old.items at d))) }
-    ensures fresh { (d : EpochSetView) → IfOk result (λ n. n ≡ fresh cells.now (slice_index_or sets.old.items at d).cells) }
-    ensures conflicts { (d : EpochSetView) → OnOk result (found.new ≡ conflicts cells.now (slice_index_or sets.old.items at d).cells) }
+    ensures items { (d : EpochSetView CellEntry) → OnOk result (sets.new.items
+        ≡ slice_set sets.old.items at (joined gps cells.now (slice_index_or sets.old.items at d))) }
+    ensures fresh { (d : EpochSetView CellEntry) → IfOk result (λ n. n ≡ fresh gps cells.now (slice_index_or sets.old.items at d).cells) }
+    ensures conflicts { (d : EpochSetView CellEntry) → OnOk result (found.new ≡ conflicts gps cells.now (slice_index_or sets.old.items at d).cells) }
     ensures err { OnErr result (sets.new.items ≡ sets.old.items) }
-    ensures refused { (d : EpochSetView) → OnErr result (0 < fresh cells.now (slice_index_or sets.old.items at d).cells) }
+    ensures refused { (d : EpochSetView CellEntry) → OnErr result (0 < fresh gps cells.now (slice_index_or sets.old.items at d).cells) }
 {
     let set = &mut sets[at];
     set.join(cells, rises, found)
@@ -76,10 +78,10 @@ pub(crate) fn join_epochs(
     requires falls { EpochsFall sets.old.items }
     requires few { length cells.now ≤ 64 }
     requires range { All IsInRange cells.now }
-    requires rising { IsTrue rises → KeysRise cells.now }
-    ensures added { IfOk result (λ offer. AddsCells places epoch cells.now sets.old.items sets.new.items (outcome_of offer) (listed_by offer)) }
+    requires rising { IsTrue rises → KeysRise gps cells.now }
+    ensures added { IfOk result (λ offer. AddsCells gps places epoch cells.now sets.old.items sets.new.items (outcome_of offer) (listed_by offer)) }
     ensures err { OnErr result (sets.new.items ≡ sets.old.items) }
-    ensures refused { OnErr result (WouldTakeCells places epoch cells.now sets.old.items) }
+    ensures refused { OnErr result (WouldTakeCells gps places epoch cells.now sets.old.items) }
 {
     let at = place_among(sets, epoch);
     let mut conflicts = Conflicts::new();

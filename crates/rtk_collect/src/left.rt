@@ -7,25 +7,33 @@ ghost use Rattle.rtk_collect.specs.EpochSet.{EpochSetView};
 ghost use Rattle.rtk_collect.specs.Offered.{NotBelow};
 ghost use Rattle.rtk_collect.specs.StationPosition.{IsPosition, IsPositionOf};
 
+use crate::entry::Entry;
 use crate::epoch_set::EpochSet;
 use crate::gathered_set::GatheredSet;
 use crate::stations::{StationMessages, position};
 use crate::window::take_last;
-use rtk_obs::Position;
+use rtk_obs::{CellEntry, Position};
 use std::collections::VecDeque;
 use std::marker::Model;
 
 /// An epoch with its cells, in whatever lists it keeps them.
 pub trait KeptSet: Drop {
+    /// A cell with its satellite and code.
+    type Entry;
+
     /// The epoch in ms and its cells.
-    ghost epoch_set: { Self → EpochSetView };
+    ghost epoch_set: { Self → EpochSetView Self.Entry };
 }
 
 impl KeptSet for EpochSet {
+    type Entry = CellEntry;
+
     ghost epoch_set = { λ set. set };
 }
 
-impl KeptSet for GatheredSet {
+impl<E: Entry> KeptSet for GatheredSet<E> {
+    type Entry = E;
+
     ghost epoch_set = { λ set. set };
 }
 
@@ -40,14 +48,14 @@ pub struct LeftSets<S: KeptSet> {
 pub type Left = LeftSets<EpochSet>;
 
 /// What is left of a gatherer.
-pub type GatheredSets = LeftSets<GatheredSet>;
+pub type GatheredSets<E = CellEntry> = LeftSets<GatheredSet<E>>;
 
 // Clauses see the epochs that are left, from the greatest to the least, the 1005 and the 1006.
 impl<S: KeptSet> Model for LeftSets<S> {
     ghost use Rattle.std.specs.Prelude.{◌≡◌, map};
     ghost use Rattle.rtk_collect.specs.Collector.{LeftView, IsLeftView};
 
-    ghost Value = { LeftView };
+    ghost Value = { LeftView S.Entry };
 
     ghost view = { λ l. record { sets = map S.epoch_set l.sets.items; arp1005 = l.stations.arp1005; arp1006 = l.stations.arp1006 } };
 

@@ -5,26 +5,25 @@
 //! closes, and then only those whose satellite and code no cell of an MSM has.
 
 ghost use Rattle.std.specs.Prelude.{◌≡◌, ◌<◌, ◌≤◌, ◌*◌, ◌++◌, [], length, IsTrue, IfOk, OnOk, OnErr, All, vec_capacity};
-ghost use Rattle.rtk_obs.specs.Cell.{IsInRange};
 ghost use Rattle.rtk_obs.specs.CellsLeft.{AreRisingSatellites};
-ghost use Rattle.rtk_obs.specs.LegacyCells.{cells_of_1004};
 ghost use Rattle.rtk_collect.specs.Key.{KeysRise};
 ghost use Rattle.rtk_collect.specs.EpochSet.{with_cells, fresh, conflicts, AreLeftBeside};
+ghost use Rattle.rtk_collect.specs.Steps.First.{spelled};
 
 use crate::conflicts::Conflicts;
+use crate::entry::Entry;
 use crate::merging::join_list;
 use arrayvec::ArrayVec;
 use rtk_message::Satellite;
-use rtk_obs::{CellEntry, put_cells_left};
 use std::alloc::{AllocError, Global};
 use std::marker::Model;
 
 /// Cells that came in a 1004: those of the satellites of the first one, or a list.
 #[derive(Drop)]
-pub(crate) struct LegacyList {
+pub(crate) struct LegacyList<E: Entry> {
     // The satellites of the first 1004, as long as its cells are not in the list.
     first: Vec<Satellite>,
-    cells: Vec<CellEntry>,
+    cells: Vec<E>,
     // How many satellites the first 1004 had, also when its cells are in the list.
     satellites: usize,
 }
@@ -38,15 +37,14 @@ pub(crate) struct LegacyRoom {
 
 // Clauses see the cells. While the satellites are kept, the list is empty and has room for their
 // cells.
-impl Model for LegacyList {
+impl<E: Entry> Model for LegacyList<E> {
     ghost use Rattle.std.specs.Prelude.{◌≡◌, ◌<◌, ◌≤◌, ◌*◌, ◌++◌, [], length, List, vec_capacity};
-    ghost use Rattle.rtk_obs.specs.declared.cell.CellEntry.{CellEntry};
     ghost use Rattle.rtk_obs.specs.CellsLeft.{AreRisingSatellites};
-    ghost use Rattle.rtk_obs.specs.LegacyCells.{cells_of_1004};
+    ghost use Rattle.rtk_collect.specs.Steps.First.{spelled};
 
-    ghost Value = { List CellEntry };
+    ghost Value = { List E };
 
-    ghost view = { λ l. cells_of_1004 l.first.items ++ l.cells.items };
+    ghost view = { λ l. spelled E.legacy l.first.items l.cells.items };
 
     ghost invariant = { λ l. (l ≡ record { first = l.first; cells = l.cells; satellites = l.satellites })
         × AreRisingSatellites l.first.items
@@ -67,28 +65,24 @@ pub(crate) fn if_of_room<T: Drop>(alloc: Global, mut list: Vec<T>, room: usize) 
 
 // Puts the cells of satellites into an empty list, which has room for them.
 #[inline(never)]
-fn put_cells(first: &mut Vec<Satellite>, cells: &mut Vec<CellEntry>)
+fn put_cells<E: Entry>(first: &mut Vec<Satellite>, cells: &mut Vec<E>)
     requires rise { AreRisingSatellites first.old.items }
     requires room { 2 * length first.old.items ≤ vec_capacity cells.old }
     requires empty { cells.old.items ≡ [] }
     ensures first { first.new.items ≡ [] }
-    ensures cells { cells.new.items ≡ cells_of_1004 first.old.items }
+    ensures cells { cells.new.items ≡ E.legacy first.old.items }
 {
-    let mut room = ArrayVec::new();
-    put_cells_left(first, &[], &mut room);
-    let Ok(()) = cells.extend_from_slice(room.as_slice()) else {
-        unreachable!()
-    };
+    E::push_legacy(first, cells);
     first.clear();
 }
 
 // Puts the cells of satellites into the list, if there are any.
-fn spell_out(first: &mut Vec<Satellite>, cells: &mut Vec<CellEntry>)
+fn spell_out<E: Entry>(first: &mut Vec<Satellite>, cells: &mut Vec<E>)
     requires rise { AreRisingSatellites first.old.items }
     requires room { 2 * length first.old.items ≤ vec_capacity cells.old }
     requires alone { 0 < length first.old.items → cells.old.items ≡ [] }
     ensures first { first.new.items ≡ [] }
-    ensures cells { cells.new.items ≡ cells_of_1004 first.old.items ++ cells.old.items }
+    ensures cells { cells.new.items ≡ spelled E.legacy first.old.items cells.old.items }
 {
     if first.is_empty() {
         return;
@@ -96,9 +90,9 @@ fn spell_out(first: &mut Vec<Satellite>, cells: &mut Vec<CellEntry>)
     put_cells(first, cells);
 }
 
-impl LegacyList {
+impl<E: Entry> LegacyList<E> {
     /// Makes a list without cells, which has taken no memory.
-    pub(crate) fn new(alloc: Global) -> LegacyList
+    pub(crate) fn new(alloc: Global) -> LegacyList<E>
         ensures { result ≡ [] }
     {
         LegacyList {
@@ -112,7 +106,11 @@ impl LegacyList {
     /// that list that has just the room that is wanted is used. Any other part is given up before
     /// memory is taken.
     #[inline(always)]
-    pub(crate) fn with_room(self, alloc: Global, room: LegacyRoom) -> Result<LegacyList, AllocError>
+    pub(crate) fn with_room(
+        self,
+        alloc: Global,
+        room: LegacyRoom,
+    ) -> Result<LegacyList<E>, AllocError>
         ensures { IfOk result (λ list. list ≡ []) }
     {
         let mut first = if_of_room(alloc, self.first, room.satellites);
@@ -127,7 +125,7 @@ impl LegacyList {
     }
 
     /// Empties the list and returns it, for an epoch that opens later.
-    pub(crate) fn cleared(self) -> LegacyList
+    pub(crate) fn cleared(self) -> LegacyList<E>
         ensures { result ≡ [] }
     {
         let mut first = self.first;
@@ -160,8 +158,9 @@ impl LegacyList {
     #[inline(always)]
     pub(crate) fn take_first(&mut self, satellites: &[Satellite]) -> Result<(), AllocError>
         requires rise { AreRisingSatellites satellites.now }
+        requires some { 0 < length satellites.now }
         requires empty { self.old ≡ [] }
-        ensures ok { OnOk result (self.new ≡ cells_of_1004 satellites.now) }
+        ensures ok { OnOk result (self.new ≡ E.legacy satellites.now) }
         ensures err { OnErr result (self.new ≡ self.old) }
     {
         self.first.clear();
@@ -177,37 +176,33 @@ impl LegacyList {
     /// cells alone, before the first one is added.
     pub(crate) fn join_list(
         &mut self,
-        cells: &[CellEntry],
+        cells: &[E],
         rises: bool,
-        found: &mut Conflicts,
+        found: &mut Conflicts<E::Signal>,
     ) -> Result<usize, AllocError>
         requires few { length cells.now ≤ 64 }
-        requires rises { KeysRise self.old }
-        requires rising { IsTrue rises → KeysRise cells.now }
+        requires rises { KeysRise E.entries self.old }
+        requires rising { IsTrue rises → KeysRise E.entries cells.now }
         requires empty { found.old ≡ [] }
-        ensures items { IfOk result (λ n. self.new ≡ with_cells cells.now self.old) }
-        ensures fresh { IfOk result (λ n. n ≡ fresh cells.now self.old) }
-        ensures conflicts { IfOk result (λ n. found.new ≡ conflicts cells.now self.old) }
+        ensures items { IfOk result (λ n. self.new ≡ with_cells E.entries cells.now self.old) }
+        ensures fresh { IfOk result (λ n. n ≡ fresh E.entries cells.now self.old) }
+        ensures conflicts { IfOk result (λ n. found.new ≡ conflicts E.entries cells.now self.old) }
         ensures err { OnErr result (self.new ≡ self.old) }
-        ensures refused { OnErr result (0 < fresh cells.now self.old) }
+        ensures refused { OnErr result (0 < fresh E.entries cells.now self.old) }
     {
         spell_out(&mut self.first, &mut self.cells);
         join_list(&mut self.cells, cells, rises, found)
     }
 
     /// Returns the cells, or those of them whose satellite and code no known cell has.
-    pub(crate) fn left<'a>(
-        &'a self,
-        known: &[CellEntry],
-        room: &'a mut ArrayVec<CellEntry, 64>,
-    ) -> &'a [CellEntry]
-        requires { All IsInRange known.now }
-        ensures { AreLeftBeside known.now self.now result.now }
+    pub(crate) fn left<'a>(&'a self, known: &[E], room: &'a mut ArrayVec<E, 64>) -> &'a [E]
+        requires { All E.InRange known.now }
+        ensures { AreLeftBeside E.entries known.now self.now result.now }
     {
         if self.first.is_empty() {
             return &self.cells;
         }
-        put_cells_left(&self.first, known, room);
+        E::put_legacy(&self.first, known, room);
         room.as_slice()
     }
 }

@@ -3,7 +3,8 @@
 //!
 //! A `Collector` takes messages, and gives each epoch with its cells in one list. A `Gatherer` makes
 //! the same promises, proved by the same definitions, to a caller who offers many: it borrows messages,
-//! and keeps the cells of 1004 and of MSMs apart.
+//! and keeps the cells of 1004 and of MSMs apart. A `Gatherer<SignalEntry>` does so for the cells of all
+//! systems, by `offer_signals`.
 //!
 //! ```rust
 //! use rtk_collect::{Collector, Dated, Offer};
@@ -56,6 +57,7 @@ mod collector;
 mod conflicts;
 mod dated;
 mod dated_ref;
+mod entry;
 mod epoch_set;
 mod epochs;
 mod first;
@@ -67,13 +69,16 @@ mod legacy_list;
 mod merging;
 mod offer;
 mod outcome;
+mod signal_laws;
+mod signals;
 mod stations;
 mod window;
 
 pub use collector::Collector;
-pub use conflicts::{Conflicts, SatelliteCode};
+pub use conflicts::{AnySatelliteCode, Conflicts, SatelliteCode};
 pub use dated::Dated;
 pub use dated_ref::DatedRef;
+pub use entry::Entry;
 pub use epoch_set::EpochSet;
 pub use gathered_set::GatheredSet;
 pub use gatherer::Gatherer;
@@ -86,3 +91,4 @@ pub use laws::{
 pub use left::{GatheredSets, KeptSet, Left, LeftSets};
 pub use offer::Offer;
 pub use outcome::Outcome;
+pub use signal_laws::signal_window_laws;

@@ -5,55 +5,55 @@
 //! key down. Other cells are put in one by one. Whether the cells rise, the caller says.
 
 ghost use Rattle.std.specs.Prelude.{◌≡◌, ◌≢◌, ◌≤◌, ◌<◌, ◌+◌, ◌-◌, ◌*◌, [], ◌∷◌, ◌++◌, not, length, take, drop, slice_index_or, vec_len, vec_capacity, IsTrue, IfOk, OnErr, All, if◌then◌else◌};
-ghost use Rattle.rtk_obs.specs.MessageCells.{AreOfOneKind};
+ghost use Rattle.rtk_collect.specs.Equal.{equal_cells};
 ghost use Rattle.rtk_collect.specs.Key.{key, KeysRise};
-ghost use Rattle.rtk_collect.specs.EpochSet.{with_cell, with_cells, cell_under, fresh, conflict, conflicts};
+ghost use Rattle.rtk_collect.specs.EpochSet.{with_cell, with_cells, cell_under, fresh, conflict, conflicts, AreOfOneSource};
 ghost use Rattle.rtk_collect.specs.Steps.OrderedPlaces.{lower};
 
-use crate::conflicts::{Conflicts, SatelliteCode};
-use rtk_obs::{CellEntry, CellSource};
+use crate::conflicts::Conflicts;
+use crate::entry::Entry;
+use rtk_obs::CellSource;
 use std::alloc::AllocError;
 
-// Returns the key of a cell, by which the cells of an epoch rise: satellite, code and kind of
-// message. It has the kind since clauses see one list of both kinds. In the list of a kind all
-// cells have the same.
-fn key_of(entry: &CellEntry) -> usize
-    ensures { result ≡ key entry.now }
+/// Returns the key of a cell, by which the cells of an epoch rise: satellite, code and kind of
+/// message. It has the kind since clauses see one list of both kinds. In the list of a kind all
+/// cells have the same.
+pub(crate) fn key_of<E: Entry>(entry: &E) -> usize
+    ensures { result ≡ key E.entries entry.now }
 {
-    let place = usize::from(entry.satellite) * 16 + entry.code.place();
     // An MSM is the kind with the number 1, and stands before a 1004.
-    place * 2 + 1 - entry.cell.source as usize
+    entry.place() * 2 + 1 - entry.cell().source as usize
 }
 
 /// Returns the kind of message that cells of one kind came in, which is a 1004 if there is no cell.
-pub(crate) fn source_of(cells: &[CellEntry]) -> CellSource
-    requires { AreOfOneKind cells.now }
-    ensures { All (λ c. c.cell.source ≡ result) cells.now }
+pub(crate) fn source_of<E: Entry>(cells: &[E]) -> CellSource
+    requires { AreOfOneSource E.entries cells.now }
+    ensures { All (λ c. ((E.entries).cell c).source ≡ result) cells.now }
 {
     if cells.is_empty() {
         return CellSource::Legacy;
     }
-    cells[0].cell.source
+    cells[0].cell().source
 }
 
 /// Takes the cells whose keys are new into a list, and says how many these are. Those that conflict
 /// are added to an empty list. If `rises`, the keys of the cells rise. Memory is taken for new
 /// cells alone, before the first one is added.
-pub(crate) fn join_list(
-    list: &mut Vec<CellEntry>,
-    cells: &[CellEntry],
+pub(crate) fn join_list<E: Entry>(
+    list: &mut Vec<E>,
+    cells: &[E],
     rises: bool,
-    found: &mut Conflicts,
+    found: &mut Conflicts<E::Signal>,
 ) -> Result<usize, AllocError>
     requires few { length cells.now ≤ 64 }
-    requires rises { KeysRise list.old.items }
-    requires rising { IsTrue rises → KeysRise cells.now }
+    requires rises { KeysRise E.entries list.old.items }
+    requires rising { IsTrue rises → KeysRise E.entries cells.now }
     requires empty { found.old ≡ [] }
-    ensures items { IfOk result (λ n. list.new.items ≡ with_cells cells.now list.old.items) }
-    ensures fresh { IfOk result (λ n. n ≡ fresh cells.now list.old.items) }
-    ensures conflicts { IfOk result (λ n. found.new ≡ conflicts cells.now list.old.items) }
+    ensures items { IfOk result (λ n. list.new.items ≡ with_cells E.entries cells.now list.old.items) }
+    ensures fresh { IfOk result (λ n. n ≡ fresh E.entries cells.now list.old.items) }
+    ensures conflicts { IfOk result (λ n. found.new ≡ conflicts E.entries cells.now list.old.items) }
     ensures err { OnErr result (list.new.items ≡ list.old.items) }
-    ensures refused { OnErr result (0 < fresh cells.now list.old.items) }
+    ensures refused { OnErr result (0 < fresh E.entries cells.now list.old.items) }
 {
     if rises && list.is_empty() {
         // The common case: the first message of its kind, whose cells are copied as they stand.
@@ -71,15 +71,11 @@ pub(crate) fn join_list(
 }
 
 // Takes cells whose keys rise; `count` of them are new.
-fn join_rising(
-    list: &mut Vec<CellEntry>,
-    cells: &[CellEntry],
-    count: usize,
-) -> Result<usize, AllocError>
-    requires rises { KeysRise list.old.items }
-    requires rising { KeysRise cells.now }
-    requires count { count ≡ fresh cells.now list.old.items }
-    ensures items { IfOk result (λ n. list.new.items ≡ with_cells cells.now list.old.items) }
+fn join_rising<E: Entry>(list: &mut Vec<E>, cells: &[E], count: usize) -> Result<usize, AllocError>
+    requires rises { KeysRise E.entries list.old.items }
+    requires rising { KeysRise E.entries cells.now }
+    requires count { count ≡ fresh E.entries cells.now list.old.items }
+    ensures items { IfOk result (λ n. list.new.items ≡ with_cells E.entries cells.now list.old.items) }
     ensures fresh { IfOk result (λ n. n ≡ count) }
     ensures err { OnErr result (list.new.items ≡ list.old.items) }
 {
@@ -94,18 +90,18 @@ fn join_rising(
 }
 
 // Takes cells whose keys don't rise; `count` of them are new.
-fn join_other(
-    list: &mut Vec<CellEntry>,
-    cells: &[CellEntry],
+fn join_other<E: Entry>(
+    list: &mut Vec<E>,
+    cells: &[E],
     count: usize,
-    found: &mut Conflicts,
+    found: &mut Conflicts<E::Signal>,
 ) -> Result<usize, AllocError>
     requires few { length cells.now ≤ 64 }
-    requires rises { KeysRise list.old.items }
-    requires count { count ≡ fresh cells.now list.old.items }
-    ensures items { IfOk result (λ n. list.new.items ≡ with_cells cells.now list.old.items) }
+    requires rises { KeysRise E.entries list.old.items }
+    requires count { count ≡ fresh E.entries cells.now list.old.items }
+    ensures items { IfOk result (λ n. list.new.items ≡ with_cells E.entries cells.now list.old.items) }
     ensures fresh { IfOk result (λ n. n ≡ count) }
-    ensures conflicts { IfOk result (λ n. found.new ≡ conflicts cells.now list.old.items) }
+    ensures conflicts { IfOk result (λ n. found.new ≡ conflicts E.entries cells.now list.old.items) }
     ensures err { OnErr result (list.new.items ≡ list.old.items) }
 {
     list.reserve(count)?;
@@ -115,13 +111,13 @@ fn join_other(
 
 // Returns how many of the cells are new, which means that no kept cell has their key. If none is
 // new or the keys of the cells rise, those that conflict are added to an empty list.
-fn count_new(cells: &[CellEntry], kept: &[CellEntry], found: &mut Conflicts) -> usize
-    requires rises { KeysRise kept.now }
+fn count_new<E: Entry>(cells: &[E], kept: &[E], found: &mut Conflicts<E::Signal>) -> usize
+    requires rises { KeysRise E.entries kept.now }
     requires few { length cells.now ≤ 64 }
     requires empty { found.old ≡ [] }
-    ensures fresh { result ≡ fresh cells.now kept.now }
-    ensures conflicts { result ≡ 0 → found.new ≡ conflicts cells.now kept.now }
-    ensures rising { KeysRise cells.now → found.new ≡ conflicts cells.now kept.now }
+    ensures fresh { result ≡ fresh E.entries cells.now kept.now }
+    ensures conflicts { result ≡ 0 → found.new ≡ conflicts E.entries cells.now kept.now }
+    ensures rising { KeysRise E.entries cells.now → found.new ≡ conflicts E.entries cells.now kept.now }
 {
     let mut count = 0;
     let mut at = 0;
@@ -131,8 +127,8 @@ fn count_new(cells: &[CellEntry], kept: &[CellEntry], found: &mut Conflicts) -> 
         match kept_cell(kept, at, key) {
             None => count += 1,
             Some(first) => {
-                if first.cell != entry.cell {
-                    found.push(satellite_code(entry));
+                if differ(&first, entry) {
+                    found.push(entry.signal());
                 }
             }
         }
@@ -141,31 +137,31 @@ fn count_new(cells: &[CellEntry], kept: &[CellEntry], found: &mut Conflicts) -> 
 }
 
 // Adds the cells whose keys are new, for which there is room, and says which cells conflict.
-fn merge(kept: &mut Vec<CellEntry>, cells: &[CellEntry], found: &mut Conflicts)
-    requires rises { KeysRise kept.old.items }
+fn merge<E: Entry>(kept: &mut Vec<E>, cells: &[E], found: &mut Conflicts<E::Signal>)
+    requires rises { KeysRise E.entries kept.old.items }
     requires few { length cells.now ≤ 64 }
-    requires room { vec_len kept.old + fresh cells.now kept.old.items ≤ vec_capacity kept.old }
-    ensures items { kept.new.items ≡ with_cells cells.now kept.old.items }
-    ensures conflicts { found.new ≡ conflicts cells.now kept.old.items }
+    requires room { vec_len kept.old + fresh E.entries cells.now kept.old.items ≤ vec_capacity kept.old }
+    ensures items { kept.new.items ≡ with_cells E.entries cells.now kept.old.items }
+    ensures conflicts { found.new ≡ conflicts E.entries cells.now kept.old.items }
 {
     *found = Conflicts::new();
     let mut at = 0;
     for entry in cells {
         at = place_of_key(kept, at, key_of(entry));
         if add_new(kept, at, *entry) {
-            found.push(satellite_code(entry));
+            found.push(entry.signal());
         }
     }
 }
 
 // Puts cells whose keys rise among the first `kept` ones of a list, which has a place for each new
 // cell after them. Of two cells with one key the kept one stays.
-fn merge_rising(list: &mut [CellEntry], kept: usize, cells: &[CellEntry])
+fn merge_rising<E: Entry>(list: &mut [E], kept: usize, cells: &[E])
     requires kept { kept ≤ length list.old }
-    requires rises { KeysRise (take kept list.old) }
-    requires rising { KeysRise cells.now }
-    requires room { length list.old ≡ kept + fresh cells.now (take kept list.old) }
-    ensures { list.new ≡ with_cells cells.now (take kept list.old) }
+    requires rises { KeysRise E.entries (take kept list.old) }
+    requires rising { KeysRise E.entries cells.now }
+    requires room { length list.old ≡ kept + fresh E.entries cells.now (take kept list.old) }
+    ensures { list.new ≡ with_cells E.entries cells.now (take kept list.old) }
 {
     // The kept cells and the cells that are still to be put, the greatest first, so that none is
     // overwritten before it is moved; and how many of these are new.
@@ -192,9 +188,9 @@ fn merge_rising(list: &mut [CellEntry], kept: usize, cells: &[CellEntry])
 }
 
 // Returns the key of the cell before a place. At the first place it is asked for and not looked at.
-fn key_before(cells: &[CellEntry], at: usize) -> usize
+fn key_before<E: Entry>(cells: &[E], at: usize) -> usize
     requires { at ≤ length cells.now }
-    ensures { 0 < at → ((d : CellEntry) → result ≡ key (slice_index_or cells.now (at - 1) d)) }
+    ensures { 0 < at → ((d : E) → result ≡ key E.entries (slice_index_or cells.now (at - 1) d)) }
 {
     if at == 0 {
         return 0;
@@ -203,7 +199,7 @@ fn key_before(cells: &[CellEntry], at: usize) -> usize
 }
 
 // Puts cells at the first places of a list.
-fn put_first(list: &mut [CellEntry], cells: &[CellEntry])
+fn put_first<E: Entry>(list: &mut [E], cells: &[E])
     requires { length cells.now ≤ length list.old }
     ensures { list.new ≡ cells.now ++ drop (length cells.now) list.old }
 {
@@ -214,28 +210,25 @@ fn put_first(list: &mut [CellEntry], cells: &[CellEntry])
     }
 }
 
-// Returns the satellite and the code of a cell.
-fn satellite_code(entry: &CellEntry) -> SatelliteCode
-    ensures { result ≡ record { satellite = entry.now.satellite; code = entry.now.code } }
+// Returns whether two cells have other values.
+fn differ<E: Entry>(first: &E, entry: &E) -> bool
+    ensures { result ≡ not (equal_cells ((E.entries).cell first.now) ((E.entries).cell entry.now)) }
 {
-    SatelliteCode {
-        satellite: entry.satellite,
-        code: entry.code,
-    }
+    first.cell() != entry.cell()
 }
 
 // Adds a cell at its place if its key is new, and says whether it conflicts.
-fn add_new(kept: &mut Vec<CellEntry>, at: usize, entry: CellEntry) -> bool
-    requires rises { KeysRise kept.old.items }
-    requires place { at ≡ lower (key entry) kept.old.items }
-    requires room { vec_len kept.old + fresh (entry ∷ []) kept.old.items ≤ vec_capacity kept.old }
-    ensures items { kept.new.items ≡ with_cell entry kept.old.items }
+fn add_new<E: Entry>(kept: &mut Vec<E>, at: usize, entry: E) -> bool
+    requires rises { KeysRise E.entries kept.old.items }
+    requires place { at ≡ lower E.entries (key E.entries entry) kept.old.items }
+    requires room { vec_len kept.old + fresh E.entries (entry ∷ []) kept.old.items ≤ vec_capacity kept.old }
+    ensures items { kept.new.items ≡ with_cell E.entries entry kept.old.items }
     ensures capacity { vec_capacity kept.old ≤ vec_capacity kept.new }
-    ensures conflict { conflict entry (cell_under (key entry) kept.old.items)
-        ≡ (if result then record { satellite = entry.satellite; code = entry.code } ∷ [] else []) }
+    ensures conflict { conflict E.entries entry (cell_under E.entries (key E.entries entry) kept.old.items)
+        ≡ (if result then (E.entries).signal entry ∷ [] else []) }
 {
     if let Some(first) = kept_cell(kept, at, key_of(&entry)) {
-        return first.cell != entry.cell;
+        return differ(&first, &entry);
     }
     if let Err(_) = kept.insert(at, entry) {
         unreachable!()
@@ -245,10 +238,10 @@ fn add_new(kept: &mut Vec<CellEntry>, at: usize, entry: CellEntry) -> bool
 
 // Returns the place of a key, which is how many cells have a lesser one. The search begins at a
 // guess.
-fn place_of_key(kept: &[CellEntry], guess: usize, key: usize) -> usize
+fn place_of_key<E: Entry>(kept: &[E], guess: usize, key: usize) -> usize
     requires guess { guess ≤ length kept.now }
-    requires rises { KeysRise kept.now }
-    ensures { result ≡ lower key kept.now }
+    requires rises { KeysRise E.entries kept.now }
+    ensures { result ≡ lower E.entries key kept.now }
 {
     let mut at = guess;
     while at > 0 && key_of(&kept[at - 1]) >= key {
@@ -261,10 +254,10 @@ fn place_of_key(kept: &[CellEntry], guess: usize, key: usize) -> usize
 }
 
 // Returns the kept cell with this key, whose place is `at`.
-fn kept_cell(kept: &[CellEntry], at: usize, key: usize) -> Option<CellEntry>
-    requires rises { KeysRise kept.now }
-    requires place { at ≡ lower key kept.now }
-    ensures { result ≡ cell_under key kept.now }
+fn kept_cell<E: Entry>(kept: &[E], at: usize, key: usize) -> Option<E>
+    requires rises { KeysRise E.entries kept.now }
+    requires place { at ≡ lower E.entries key kept.now }
+    ensures { result ≡ cell_under E.entries key kept.now }
 {
     if at >= kept.len() {
         return None;

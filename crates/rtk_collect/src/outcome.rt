@@ -1,14 +1,16 @@
 //! The answer to a message that is offered.
 
+use crate::entry::Entry;
 use crate::gathered_set::GatheredSet;
+use rtk_obs::CellEntry;
 
 /// What became of an offered message.
 #[derive(Drop)]
-pub enum Outcome {
+pub enum Outcome<E: Entry = CellEntry> {
     /// A cell is new, or the message opened its epoch; or it is the first 1005 or the first 1006.
     Taken {
         /// The epoch that this closes, with its kept cells.
-        closed: Option<GatheredSet>,
+        closed: Option<GatheredSet<E>>,
     },
     /// Nothing is new, and nothing conflicts.
     Repeat,

@@ -2,6 +2,7 @@
 
 ghost use Rattle.rtk_message.specs.Arp1005 as arp1005_spec;
 ghost use Rattle.rtk_message.specs.Arp1006 as arp1006_spec;
+ghost use Rattle.rtk_message.specs.declared.any_message.AnyMessage.{AnyMessage as TheMessage};
 ghost use Rattle.rtk_message.specs.declared.any_message.AnyMessage.TheVariants as AnyMessage;
 ghost use Rattle.rtk_message.specs.Decoded.{IsValid, tow_of};
 ghost use Rattle.std.specs.Prelude.{◌≡◌, ◌==◌, ℕ, List, [], length, None};
@@ -14,6 +15,7 @@ ghost use Rattle.rtk_collect.specs.StationPosition.{IsPosition};
 ghost use Rattle.rtk_collect.specs.Steps.Observed.{ListsConflicts};
 ghost use Rattle.rtk_collect.specs.Steps.Slot.{AnswersStationMessage, window_of};
 
+use crate::entry::Entry;
 use crate::outcome::Outcome;
 use rtk_message::{Arp1005, Arp1006, Message};
 use rtk_obs::Position;
@@ -38,13 +40,13 @@ impl StationMessages {
 
     /// Takes a 1005 or 1006, if it is the first of its number and the window isn't full. No cell of it
     /// conflicts.
-    pub(crate) fn offer(&mut self, message: &Message, full: bool) -> Outcome
+    pub(crate) fn offer<E: Entry>(&mut self, message: &Message, full: bool) -> Outcome<E>
         requires valid { IsValid message.now }
         requires station { tow_of message.now ≡ None }
         requires fits_1005 { ForSome self.old.arp1005 arp1005_spec.IsValid }
         requires fits_1006 { ForSome self.old.arp1006 arp1006_spec.IsValid }
-        ensures answer { (n : ℕ) (sets : List EpochSetView) → full ≡ (length sets == n)
-            → AnswersArrival (window_of n sets self.old) (At None (AnyMessage.Message message.now)) result [] (window_of n sets self.new) }
+        ensures answer { (of : TheMessage → List E) (n : ℕ) (sets : List (EpochSetView E)) → full ≡ (length sets == n)
+            → AnswersArrival E.entries of (window_of n sets self.old) (At None (AnyMessage.Message message.now)) result [] (window_of n sets self.new) }
         ensures fits_1005 { ForSome self.new.arp1005 arp1005_spec.IsValid }
         ensures fits_1006 { ForSome self.new.arp1006 arp1006_spec.IsValid }
         ensures none { ListsConflicts result [] }
@@ -59,11 +61,11 @@ impl StationMessages {
 
 // Keeps a station message if it is the first of its number and the window isn't full, and says
 // what became of it.
-fn keep_station_message<T: PartialEq + Copy>(
+fn keep_station_message<T: PartialEq + Copy, E: Entry>(
     slot: &mut Option<T>,
     message: T,
     full: bool,
-) -> Outcome
+) -> Outcome<E>
     ensures { AnswersStationMessage T.eq slot.old message full result slot.new }
 {
     if let Some(first) = *slot {

@@ -7,27 +7,26 @@
 
 ghost use Rattle.std.specs.Prelude.{◌≡◌, ◌≢◌, ◌<◌, ◌≤◌, ◌+◌, ◌++◌, [], not, min, IsTrue, length, IfNone, IfOk, OnErr, OnOk, All, slice_index_or, slice_set, option_to_list};
 ghost use Rattle.std.specs.List.{insert};
-ghost use Rattle.rtk_obs.specs.Cell.{IsInRange};
-ghost use Rattle.rtk_obs.specs.MessageCells.{AreOfOneKind};
 ghost use Rattle.rtk_collect.specs.Key.{KeysRise};
-ghost use Rattle.rtk_collect.specs.EpochSet.{EpochSetView, joined, fresh, conflicts, EpochsFall};
+ghost use Rattle.rtk_collect.specs.EpochSet.{EpochSetView, joined, fresh, conflicts, EpochsFall, AreOfOneSource};
 ghost use Rattle.rtk_collect.specs.Accepted.{no_cells};
 ghost use Rattle.rtk_collect.specs.Steps.OrderedPlaces.{leading};
 ghost use Rattle.rtk_collect.specs.Steps.Room.{room_for, AreSpare};
 ghost use Rattle.rtk_collect.specs.Steps.Observed.{IsAnswerOf, AddsCells, WouldTakeCells};
 
 use crate::conflicts::Conflicts;
+use crate::entry::Entry;
 use crate::gathered_set::{GatheredSet, Room, Spare};
 use crate::legacy_list::LegacyRoom;
 use crate::merging::source_of;
 use crate::outcome::Outcome;
-use rtk_obs::{CellEntry, CellSource, GpsMs};
+use rtk_obs::{CellSource, GpsMs};
 use std::alloc::{AllocError, Global};
 use std::collections::VecDeque;
 
 /// Returns the place of an epoch in the window, which is how many of the window's epochs are
 /// greater.
-pub(crate) fn place_of_epoch(sets: &VecDeque<GatheredSet>, epoch: GpsMs) -> usize
+pub(crate) fn place_of_epoch<E: Entry>(sets: &VecDeque<GatheredSet<E>>, epoch: GpsMs) -> usize
     requires { EpochsFall sets.now.items }
     ensures { result ≡ leading epoch sets.now.items }
 {
@@ -49,37 +48,37 @@ pub(crate) fn place_of_epoch(sets: &VecDeque<GatheredSet>, epoch: GpsMs) -> usiz
 }
 
 /// Returns whether the window has this epoch, whose place is `at`.
-pub(crate) fn has_epoch(sets: &VecDeque<GatheredSet>, at: usize, epoch: GpsMs) -> bool
+pub(crate) fn has_epoch<E: Entry>(sets: &VecDeque<GatheredSet<E>>, at: usize, epoch: GpsMs) -> bool
     requires place { at ≡ leading epoch sets.now.items }
     ensures found { IsTrue result → (at < length sets.now.items)
-        × ((d : EpochSetView) → (slice_index_or sets.now.items at d).epoch ≡ epoch) }
+        × ((d : EpochSetView E) → (slice_index_or sets.now.items at d).epoch ≡ epoch) }
     ensures absent { IsTrue (not result) → (at < length sets.now.items)
-        → ((d : EpochSetView) → (slice_index_or sets.now.items at d).epoch ≢ epoch) }
+        → ((d : EpochSetView E) → (slice_index_or sets.now.items at d).epoch ≢ epoch) }
 {
     at < sets.len() && sets[at].epoch() == epoch
 }
 
 /// Joins cells to the epoch at a place, and says how many are new. Those that conflict are added to
 /// an empty list. If `rises`, the keys of the cells rise. If memory is refused, no epoch changes.
-pub(crate) fn join_at(
-    sets: &mut VecDeque<GatheredSet>,
+pub(crate) fn join_at<E: Entry>(
+    sets: &mut VecDeque<GatheredSet<E>>,
     at: usize,
-    cells: &[CellEntry],
+    cells: &[E],
     rises: bool,
-    found: &mut Conflicts,
+    found: &mut Conflicts<E::Signal>,
 ) -> Result<usize, AllocError>
     requires within { at < length sets.old.items }
     requires few { length cells.now ≤ 64 }
-    requires range { All IsInRange cells.now }
-    requires kind { AreOfOneKind cells.now }
-    requires rising { IsTrue rises → KeysRise cells.now }
+    requires range { All E.InRange cells.now }
+    requires kind { AreOfOneSource E.entries cells.now }
+    requires rising { IsTrue rises → KeysRise E.entries cells.now }
     requires empty { found.old ≡ [] }
-    ensures items { (d : EpochSetView) → IfOk result (λ n. sets.new.items
-        ≡ slice_set sets.old.items at (joined cells.now (slice_index_or sets.old.items at d))) }
-    ensures fresh { (d : EpochSetView) → IfOk result (λ n. n ≡ fresh cells.now (slice_index_or sets.old.items at d).cells) }
-    ensures conflicts { (d : EpochSetView) → IfOk result (λ n. found.new ≡ conflicts cells.now (slice_index_or sets.old.items at d).cells) }
+    ensures items { (d : EpochSetView E) → IfOk result (λ n. sets.new.items
+        ≡ slice_set sets.old.items at (joined E.entries cells.now (slice_index_or sets.old.items at d))) }
+    ensures fresh { (d : EpochSetView E) → IfOk result (λ n. n ≡ fresh E.entries cells.now (slice_index_or sets.old.items at d).cells) }
+    ensures conflicts { (d : EpochSetView E) → IfOk result (λ n. found.new ≡ conflicts E.entries cells.now (slice_index_or sets.old.items at d).cells) }
     ensures err { OnErr result (sets.new.items ≡ sets.old.items) }
-    ensures refused { (d : EpochSetView) → OnErr result (0 < fresh cells.now (slice_index_or sets.old.items at d).cells) }
+    ensures refused { (d : EpochSetView E) → OnErr result (0 < fresh E.entries cells.now (slice_index_or sets.old.items at d).cells) }
 {
     let set = &mut sets[at];
     set.join(cells, rises, found)
@@ -89,8 +88,8 @@ pub(crate) fn join_at(
 // first message, and for as many as the epoch before it has, since messages of each epoch mostly
 // have the same cells.
 #[inline(always)]
-pub(crate) fn first_room(
-    sets: &VecDeque<GatheredSet>,
+pub(crate) fn first_room<E: Entry>(
+    sets: &VecDeque<GatheredSet<E>>,
     at: usize,
     source: CellSource,
     cells: usize,
@@ -125,25 +124,25 @@ pub(crate) fn first_room(
 /// Opens an epoch with cells at its place, in the spare lists if it can. Those that conflict with
 /// one another are added to an empty list. If `rises`, the keys of the cells rise. All memory is
 /// taken before an epoch changes.
-pub(crate) fn open_at(
-    sets: &mut VecDeque<GatheredSet>,
+pub(crate) fn open_at<E: Entry>(
+    sets: &mut VecDeque<GatheredSet<E>>,
     at: usize,
     alloc: Global,
     epoch: GpsMs,
-    cells: &[CellEntry],
+    cells: &[E],
     rises: bool,
-    spare: &mut Spare,
-    found: &mut Conflicts,
+    spare: &mut Spare<E>,
+    found: &mut Conflicts<E::Signal>,
 ) -> Result<(), AllocError>
     requires within { at ≤ length sets.old.items }
     requires few { length cells.now ≤ 64 }
-    requires range { All IsInRange cells.now }
-    requires kind { AreOfOneKind cells.now }
-    requires rising { IsTrue rises → KeysRise cells.now }
+    requires range { All E.InRange cells.now }
+    requires kind { AreOfOneSource E.entries cells.now }
+    requires rising { IsTrue rises → KeysRise E.entries cells.now }
     requires empty { found.old ≡ [] }
     requires spare { AreSpare spare.old }
-    ensures items { OnOk result (sets.new.items ≡ insert sets.old.items at (joined cells.now (no_cells epoch))) }
-    ensures conflicts { OnOk result (found.new ≡ conflicts cells.now []) }
+    ensures items { OnOk result (sets.new.items ≡ insert sets.old.items at (joined E.entries cells.now (no_cells epoch))) }
+    ensures conflicts { OnOk result (found.new ≡ conflicts E.entries cells.now []) }
     ensures err { OnErr result (sets.new.items ≡ sets.old.items) }
     ensures spare { AreSpare spare.new }
 {
@@ -194,29 +193,29 @@ pub(crate) fn take_last<S: Drop>(sets: &mut VecDeque<S>) -> Option<S>
 /// Takes the new cells of an epoch, whose place is `at`, or opens it, in a window that has this
 /// number of places and spare lists. Those that conflict are added to an empty list, which stays
 /// empty if memory is refused. If `rises`, the keys of the cells rise.
-pub(crate) fn offer_cells(
-    sets: &mut VecDeque<GatheredSet>,
+pub(crate) fn offer_cells<E: Entry>(
+    sets: &mut VecDeque<GatheredSet<E>>,
     places: usize,
     alloc: Global,
     at: usize,
     epoch: GpsMs,
-    cells: &[CellEntry],
+    cells: &[E],
     rises: bool,
-    spare: &mut Spare,
-    found: &mut Conflicts,
-) -> Result<Outcome, AllocError>
+    spare: &mut Spare<E>,
+    found: &mut Conflicts<E::Signal>,
+) -> Result<Outcome<E>, AllocError>
     requires fits { length sets.old.items ≤ places }
     requires falls { EpochsFall sets.old.items }
     requires place { at ≡ leading epoch sets.old.items }
     requires few { length cells.now ≤ 64 }
-    requires range { All IsInRange cells.now }
-    requires kind { AreOfOneKind cells.now }
-    requires rising { IsTrue rises → KeysRise cells.now }
+    requires range { All E.InRange cells.now }
+    requires kind { AreOfOneSource E.entries cells.now }
+    requires rising { IsTrue rises → KeysRise E.entries cells.now }
     requires spare { AreSpare spare.old }
     requires empty { found.old ≡ [] }
-    ensures added { IfOk result (λ offer. AddsCells places epoch cells.now sets.old.items sets.new.items offer found.new) }
+    ensures added { IfOk result (λ offer. AddsCells E.entries places epoch cells.now sets.old.items sets.new.items offer found.new) }
     ensures err { OnErr result (sets.new.items ≡ sets.old.items) }
-    ensures refused { OnErr result (WouldTakeCells places epoch cells.now sets.old.items) }
+    ensures refused { OnErr result (WouldTakeCells E.entries places epoch cells.now sets.old.items) }
     ensures none { OnErr result (found.new ≡ []) }
     ensures spare { AreSpare spare.new }
 {
@@ -236,7 +235,7 @@ pub(crate) fn offer_cells(
 
 /// Returns what became of cells that joined an epoch of the window, by how many were new and which
 /// conflict.
-pub(crate) fn answer_of_joined(fresh: usize, found: &Conflicts) -> Outcome
+pub(crate) fn answer_of_joined<E: Entry>(fresh: usize, found: &Conflicts<E::Signal>) -> Outcome<E>
     ensures { IsAnswerOf fresh found.now result }
 {
     if fresh > 0 {

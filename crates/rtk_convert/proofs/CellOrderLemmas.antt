@@ -16,6 +16,7 @@ use Rattle.rtk_obs.specs.Cell.{IsInRange}
 use Rattle.rtk_obs.specs.Code.{place_of}
 use Rattle.rtk_obs.proofs.PublicLaws.{place_bound, same_signal}
 use Rattle.rtk_obs.specs.MessageCells.{AreOfOneKind}
+use Rattle.rtk_collect.specs.Gps.{gps}
 use Rattle.rtk_collect.specs.Key.{key, key_at, rank_of, Above, KeysRise}
 use Rattle.rtk_convert.specs.Rows.{is_signal, first_cell}
 use Rattle.rtk_convert.specs.Steps.ShownCells.{IsPlaceOf}
@@ -36,7 +37,7 @@ rank-few : (k : CellSource) → rank_of k < 2
 rank-few Legacy = omega arith
 rank-few Msm = omega arith
 
-key-signal : (a b : CellEntry) → key a < key b → signal a ≤ signal b
+key-signal : (a b : CellEntry) → key gps a < key gps b → signal a ≤ signal b
 unfolding key key_at
 key-signal a b h =
     let p = rank-few a.cell.source in
@@ -49,32 +50,32 @@ signal-satellite a b h =
     let q = place_bound b.code in
     omega arith
 
-above-all : (k : ℕ) (xs : List CellEntry) (i : ℕ) (d : CellEntry) → Above k xs → KeysRise xs → i < length xs → k < key (get_or xs i d)
+above-all : (k : ℕ) (xs : List CellEntry) (i : ℕ) (d : CellEntry) → Above gps k xs → KeysRise gps xs → i < length xs → k < key gps (get_or xs i d)
 above-all k [] i d a r l = absurd (omega arith)
 above-all k (x ∷ xs) zero d a r l = a
-above-all k (x ∷ xs) (suc i) d a r l = let h = above-all (key x) xs i d r.0 r.1 (omega arith) in omega arith
+above-all k (x ∷ xs) (suc i) d a r l = let h = above-all (key gps x) xs i d r.0 r.1 (omega arith) in omega arith
 
-keys-at : (xs : List CellEntry) (i j : ℕ) (d : CellEntry) → KeysRise xs → i < j → j < length xs → key (get_or xs i d) < key (get_or xs j d)
+keys-at : (xs : List CellEntry) (i j : ℕ) (d : CellEntry) → KeysRise gps xs → i < j → j < length xs → key gps (get_or xs i d) < key gps (get_or xs j d)
 keys-at [] i j d r l m = absurd (omega arith)
 keys-at (x ∷ xs) i zero d r l m = absurd (omega arith)
-keys-at (x ∷ xs) zero (suc j) d r l m = above-all (key x) xs j d r.0 r.1 (omega arith)
+keys-at (x ∷ xs) zero (suc j) d r l m = above-all (key gps x) xs j d r.0 r.1 (omega arith)
 keys-at (x ∷ xs) (suc i) (suc j) d r l m = keys-at xs i j d r.1 (omega arith) (omega arith)
 
-signals-at : (xs : List CellEntry) (i j : ℕ) (d : CellEntry) → KeysRise xs → i < j → j < length xs → signal (get_or xs i d) ≤ signal (get_or xs j d)
+signals-at : (xs : List CellEntry) (i j : ℕ) (d : CellEntry) → KeysRise gps xs → i < j → j < length xs → signal (get_or xs i d) ≤ signal (get_or xs j d)
 signals-at xs i j d r l m = key-signal (get_or xs i d) (get_or xs j d) (keys-at xs i j d r l m)
 
-key-strict : (a b : CellEntry) → a.cell.source ≡ b.cell.source → key a < key b → signal a < signal b
+key-strict : (a b : CellEntry) → a.cell.source ≡ b.cell.source → key gps a < key gps b → signal a < signal b
 unfolding key key_at
 key-strict a b same h =
     let p : rank_of a.cell.source ≡ rank_of b.cell.source = ap rank_of same in
     omega arith
 
 -- of one kind of message, satellites and codes rise
-signals-rise : (xs : List CellEntry) (i j : ℕ) (d : CellEntry) → KeysRise xs → AreOfOneKind xs → i < j → j < length xs → signal (get_or xs i d) < signal (get_or xs j d)
+signals-rise : (xs : List CellEntry) (i j : ℕ) (d : CellEntry) → KeysRise gps xs → AreOfOneKind xs → i < j → j < length xs → signal (get_or xs i d) < signal (get_or xs j d)
 signals-rise xs i j d r one l m = key-strict (get_or xs i d) (get_or xs j d) (one.1 i d (omega arith) ∙ sym (one.1 j d m)) (keys-at xs i j d r l m)
 
 -- the satellites rise
-pub satellites-at : (xs : List CellEntry) (i j : ℕ) (d : CellEntry) → KeysRise xs → i < j → j < length xs → (get_or xs i d).satellite ≤ (get_or xs j d).satellite
+pub satellites-at : (xs : List CellEntry) (i j : ℕ) (d : CellEntry) → KeysRise gps xs → i < j → j < length xs → (get_or xs i d).satellite ≤ (get_or xs j d).satellite
 satellites-at xs i j d r l m = signal-satellite (get_or xs i d) (get_or xs j d) (signals-at xs i j d r l m)
 
 -- ---- the first cell of a satellite and code, by places
@@ -173,7 +174,7 @@ pub range-at : (xs : List CellEntry) (i j k : ℕ) (d : CellEntry) → k < j - i
 range-at xs i j k d l = get_or-take (j - i) (drop i xs) k d l ∙ get_or-drop i xs k d
 
 -- of one kind of message, no cell before another one has its satellite and code
-pub range-new : (xs : List CellEntry) (i j : ℕ) (d : CellEntry) → KeysRise xs → AreOfOneKind xs → j < length xs
+pub range-new : (xs : List CellEntry) (i j : ℕ) (d : CellEntry) → KeysRise gps xs → AreOfOneKind xs → j < length xs
     → first_cell (slice_range xs i j) (get_or xs j d).satellite (get_or xs j d).code ≡ None
 range-new xs i j d r one l =
     let e : CellEntry = get_or xs j d in
@@ -232,7 +233,7 @@ place-first xs ranges = record {
 }
 
 -- cells from a place on are of greater satellites if the first of them is
-all-next : (xs : List CellEntry) (end s : ℕ) (d : CellEntry) → KeysRise xs → (end < length xs → s < (get_or xs end d).satellite) → (k : ℕ) → end ≤ k → k < length xs → s < (get_or xs k d).satellite
+all-next : (xs : List CellEntry) (end s : ℕ) (d : CellEntry) → KeysRise gps xs → (end < length xs → s < (get_or xs end d).satellite) → (k : ℕ) → end ≤ k → k < length xs → s < (get_or xs k d).satellite
 all-next xs end s d r next k m l =
     elim (cases_order end k) [
       | inl e ↦ subst (λ (i : ℕ). s < (get_or xs i d).satellite) e (next (omega arith))
@@ -240,7 +241,7 @@ all-next xs end s d r next k m l =
       | inr (inr gt) ↦ absurd (omega arith)
     ]
 
-pub place-after : (xs : List CellEntry) (begin end s : ℕ) → KeysRise xs → IsPlaceOf s xs begin → begin ≤ end → end ≤ length xs
+pub place-after : (xs : List CellEntry) (begin end s : ℕ) → KeysRise gps xs → IsPlaceOf s xs begin → begin ≤ end → end ≤ length xs
     → ((k : ℕ) (d : CellEntry) → begin ≤ k → k < end → (get_or xs k d).satellite ≡ s) → (end < length xs → (d : CellEntry) → (get_or xs end d).satellite ≢ s) → IsPlaceOf (s + 1) xs end
 place-after xs begin end s r p from within same ne = record {
   within = within;
@@ -257,7 +258,7 @@ place-after xs begin end s r p from within same ne = record {
 }
 
 -- the place of a satellite is that of a later one up to the satellite of the cell there
-pub place-later : (xs : List CellEntry) (at n s : ℕ) → KeysRise xs → IsPlaceOf n xs at → n ≤ s → (at < length xs → (d : CellEntry) → s ≤ (get_or xs at d).satellite) → IsPlaceOf s xs at
+pub place-later : (xs : List CellEntry) (at n s : ℕ) → KeysRise gps xs → IsPlaceOf n xs at → n ≤ s → (at < length xs → (d : CellEntry) → s ≤ (get_or xs at d).satellite) → IsPlaceOf s xs at
 place-later xs at n s r p more least = record {
   within = p.within;
   lesser = λ k d l. let h = p.lesser k d l in omega arith;

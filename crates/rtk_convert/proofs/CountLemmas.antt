@@ -1,6 +1,8 @@
 -- Each found frame is counted in one class.
 use Rattle.std.proofs.Common.{◌≡◌, ℕ, suc, ◌<◌, ◌^◌, List, [], ◌∷◌, length, refl, ap, ◌∙◌, arith}
 use Rattle.rtk_frame.specs.Stream.{count_after}
+use Rattle.rtk_collect.specs.Gps.{gps}
+use Rattle.rtk_obs.specs.MessageCells.{cells_of}
 use Rattle.rtk_collect.specs.Arrival.{Arrival}
 use Rattle.rtk_collect.specs.Answer.{Class, LateClass, TakenClass, RepeatClass, ConflictClass, class_of}
 use Rattle.rtk_convert.specs.declared.frame_class.FrameClass.{FrameClass}
@@ -26,7 +28,7 @@ counted-more : (n : ℕ) (f : FrameClass) (before : List Arrival) (frames : ℕ)
 counted-more n OtherMessage before frames c sum few = omega (arith, sum, one-more c.other frames (omega (arith, sum)) few)
 counted-more n (Refused fault) before frames c sum few = omega (arith, sum, one-more c.refused frames (omega (arith, sum)) few)
 counted-more n Foreign before frames c sum few = omega (arith, sum, one-more c.foreign frames (omega (arith, sum)) few)
-counted-more n (Dated a) before frames c sum few = class-more (class_of n a before) frames c sum few
+counted-more n (Dated a) before frames c sum few = class-more (class_of gps cells_of n a before) frames c sum few
 
 -- it leaves the count of all frames
 class-frames : (class : Class) (c : Counts) → (counted_as class c).frames ≡ c.frames
@@ -39,7 +41,7 @@ counted-frames : (n : ℕ) (f : FrameClass) (before : List Arrival) (c : Counts)
 counted-frames n OtherMessage before c = refl
 counted-frames n (Refused fault) before c = refl
 counted-frames n Foreign before c = refl
-counted-frames n (Dated a) before c = class-frames (class_of n a before) c
+counted-frames n (Dated a) before c = class-frames (class_of gps cells_of n a before) c
 
 counts-of : (n : ℕ) (found : List Found) → length found < 2 ^ 64 → AreCountsOf (length found) (frame_counts n found)
 counts-of n [] few = record { frames_are = refl; classes_are = refl }

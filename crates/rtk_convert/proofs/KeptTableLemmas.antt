@@ -19,6 +19,7 @@ use Rattle.rtk_obs.specs.Dating.{IsReference}
 use Rattle.rtk_obs.specs.Coordinates.{IsCoordinate}
 use Rattle.rtk_obs.proofs.PublicLaws.{cells_of-in_range}
 use Rattle.rtk_obs.specs.MessageCells.{cells_of}
+use Rattle.rtk_collect.specs.Gps.{gps}
 use Rattle.rtk_collect.specs.EpochSet.{EpochSetView, joined}
 use Rattle.rtk_collect.specs.Arrival.{Arrival, At}
 use Rattle.rtk_collect.specs.Late.{late}
@@ -73,28 +74,28 @@ arrivals-good s (f ∷ before) near h = and-good s f.class (arrivals before) nea
 
 -- ---- so are the kept epochs
 
-joined-good : (cs : List CellEntry) (x : EpochSetView) → All IsInRange cs → IsGoodEpoch x → IsGoodEpoch (joined cs x)
-joined-good cs x h g = record { time = g.time; cells = with_cells-all IsInRange cs x.cells h g.cells }
+joined-good : (cs : List CellEntry) (x : EpochSetView CellEntry) → All IsInRange cs → IsGoodEpoch x → IsGoodEpoch (joined gps cs x)
+joined-good cs x h g = record { time = g.time; cells = with_cells-all gps IsInRange cs x.cells h g.cells }
 
-opened-good : (e : ℕ) (cs : List CellEntry) → IsMoment e → All IsInRange cs → IsGoodEpoch (joined cs (no_cells e))
+opened-good : (e : ℕ) (cs : List CellEntry) → IsMoment e → All IsInRange cs → IsGoodEpoch (joined gps cs (no_cells e))
 opened-good e cs m h = joined-good cs (no_cells e) h (record { time = m; cells = All-nil IsInRange })
 
-with_arrival-good : (e : ℕ) (cs : List CellEntry) (xs : List EpochSetView) → IsMoment e → All IsInRange cs → AllByRecursion IsGoodEpoch xs → AllByRecursion IsGoodEpoch (with_arrival e cs xs)
+with_arrival-good : (e : ℕ) (cs : List CellEntry) (xs : List (EpochSetView CellEntry)) → IsMoment e → All IsInRange cs → AllByRecursion IsGoodEpoch xs → AllByRecursion IsGoodEpoch (with_arrival gps e cs xs)
 with_arrival-good e cs [] m h g = (opened-good e cs m h, tt)
 with_arrival-good e cs (x ∷ xs) m h g = elim (cases_order x.epoch e) [
-  | inl same ↦ subst (AllByRecursion IsGoodEpoch) (sym (with_arrival-same e cs x xs (sym same))) (joined-good cs x h g.0, g.1)
+  | inl same ↦ subst (AllByRecursion IsGoodEpoch) (sym (with_arrival-same gps e cs x xs (sym same))) (joined-good cs x h g.0, g.1)
   | inr more ↦ elim more [
-    | inl new ↦ subst (AllByRecursion IsGoodEpoch) (sym (with_arrival-new e cs x xs new)) (opened-good e cs m h, g)
-    | inr below ↦ subst (AllByRecursion IsGoodEpoch) (sym (with_arrival-below e cs x xs below)) (g.0, with_arrival-good e cs xs m h g.1)
+    | inl new ↦ subst (AllByRecursion IsGoodEpoch) (sym (with_arrival-new gps e cs x xs new)) (opened-good e cs m h, g)
+    | inr below ↦ subst (AllByRecursion IsGoodEpoch) (sym (with_arrival-below gps e cs x xs below)) (g.0, with_arrival-good e cs xs m h g.1)
   ]
 ]
 
-kept-good : (n : ℕ) (arrivals : List Arrival) → AllByRecursion IsGoodArrival arrivals → AllByRecursion IsGoodEpoch (kept n arrivals)
+kept-good : (n : ℕ) (arrivals : List Arrival) → AllByRecursion IsGoodArrival arrivals → AllByRecursion IsGoodEpoch (kept gps cells_of n arrivals)
 kept-good n [] h = tt
 kept-good n (At None m ∷ before) h = kept-good n before h.1
 kept-good n (At (Some e) m ∷ before) h = elim (cases_Bool (late n (At (Some e) m) before)) [
-  | inl over ↦ subst (AllByRecursion IsGoodEpoch) (sym (kept-late n e m before over)) (kept-good n before h.1)
-  | inr fresh ↦ subst (AllByRecursion IsGoodEpoch) (sym (kept-new n e m before fresh)) (with_arrival-good e (cells_of m) (kept n before) h.0.1 (cells_of-in_range m h.0.0) (kept-good n before h.1))
+  | inl over ↦ subst (AllByRecursion IsGoodEpoch) (sym (kept-late gps cells_of n e m before over)) (kept-good n before h.1)
+  | inr fresh ↦ subst (AllByRecursion IsGoodEpoch) (sym (kept-new gps cells_of n e m before fresh)) (with_arrival-good e (cells_of m) (kept gps cells_of n before) h.0.1 (cells_of-in_range m h.0.0) (kept-good n before h.1))
 ]
 
 -- ---- and so is the position
@@ -143,14 +144,14 @@ site-good short (Some (any.Msm m)) s t = site_of_1005-good short s
 
 pub kept-file-has_records : FilesAreTables → (s : SetupView) (found : List Found) → IsSetupView s → All (HasPayload s) found
     → (t : WellFormedTable) × IsWellFormedTable t × (kept_file s (arrivals found) ≡ table_text t)
-    × (length (kept s.window (arrivals found)) < 2 ^ 64 → length t.epochs ≡ record_count s.head.listed (kept s.window (arrivals found)))
+    × (length (kept gps cells_of s.window (arrivals found)) < 2 ^ 64 → length t.epochs ≡ record_count s.head.listed (kept gps cells_of s.window (arrivals found)))
 kept-file-has_records law s found good_setup h =
     let n : ℕ = s.window in
     let good = arrivals-good s found good_setup.1 (recursion_from_All (HasPayload s) found h) in
-    file-has_records law s (site_of_kept n (arrivals found)) (kept n (arrivals found)) good_setup
+    file-has_records law s (site_of_kept n (arrivals found)) (kept gps cells_of n (arrivals found)) good_setup
     (site-good (station n 1005 (arrivals found)) (station n 1006 (arrivals found)) (station-good n 1005 (arrivals found) good) (station-good n 1006 (arrivals found) good))
-    (kept-falls n (arrivals found))
-    (All-from_recursion IsGoodEpoch (kept n (arrivals found)) (kept-good n (arrivals found) good))
+    (kept-falls gps cells_of n (arrivals found))
+    (All-from_recursion IsGoodEpoch (kept gps cells_of n (arrivals found)) (kept-good n (arrivals found) good))
 
 pub kept-file-is_table : FilesAreTables → KeptFileIsTable
 kept-file-is_table law s found good_setup h = let t = kept-file-has_records law s found good_setup h in (t.0, t.1, t.2)

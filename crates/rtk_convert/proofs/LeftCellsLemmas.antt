@@ -10,6 +10,8 @@ use Rattle.rtk_obs.specs.declared.code.Code.{Code}
 use Rattle.rtk_obs.specs.Code.{place_of}
 use Rattle.rtk_obs.specs.CellsLeft.{has_cell, cells_left}
 use Rattle.rtk_collect.specs.EpochSet.{AreLeftBeside}
+use Rattle.rtk_collect.specs.Gps.{gps}
+use Rattle.rtk_collect.proofs.PublicLaws.{left-is}
 use Rattle.rtk_convert.specs.Rows.{is_signal, first_cell}
 use Rattle.rtk_convert.proofs.CellOrderLemmas.{or_later, first-append}
 
@@ -45,9 +47,9 @@ left-or None known cells s c e = left-first known cells s c (has-first known s c
 left-or (Some x) known cells s c e = refl
 
 -- after the known cells, those that are left give the same cell as all do
-pub first-left : (known cells left : List CellEntry) (s : ℕ) (c : Code) → AreLeftBeside known cells left → first_cell (known ++ left) s c ≡ first_cell (known ++ cells) s c
+pub first-left : (known cells left : List CellEntry) (s : ℕ) (c : Code) → AreLeftBeside gps known cells left → first_cell (known ++ left) s c ≡ first_cell (known ++ cells) s c
 first-left known cells left s c h = elim h [
   | inl same ↦ ap (λ (xs : List CellEntry). first_cell (known ++ xs) s c) same
-  | inr less ↦ ap (λ (xs : List CellEntry). first_cell (known ++ xs) s c) less
+  | inr less ↦ ap (λ (xs : List CellEntry). first_cell (known ++ xs) s c) (less ∙ sym (left-is known cells))
       ∙ first-append known (cells_left known cells) s c ∙ left-or (first_cell known s c) known cells s c refl ∙ sym (first-append known cells s c)
 ]

@@ -9,6 +9,8 @@ use Rattle.rtk_frame.specs.Stream.{with_more}
 use Rattle.rtk_message.specs.AnyDecoded.{number_of}
 use Rattle.rtk_message.specs.AnyFaultCode.{any_fault_text}
 use Rattle.rtk_obs.specs.declared.code.Code.{Code}
+use Rattle.rtk_collect.specs.Gps.{gps}
+use Rattle.rtk_obs.specs.MessageCells.{cells_of}
 use Rattle.rtk_collect.specs.Arrival.{Arrival, epoch_of, message_of}
 use Rattle.rtk_collect.specs.Answer.{Class, LateClass, TakenClass, RepeatClass, ConflictClass, class_of, conflicts_of}
 use Rattle.rtk_collect.specs.declared.conflicts.SatelliteCode.{SatelliteCode}
@@ -118,8 +120,8 @@ has-late lates text line p = record {
 late-lines : (n link : ℕ) (a : Arrival) (before : List Found) → late n a (arrivals before) ≡ true
     → frame_lines n link (Dated a) (arrivals before) ≡ late_line link (number_of (message_of a)) (epoch_of a)
 late-lines n link a before over =
-    let e : class_of n a (arrivals before) ≡ LateClass = rw over refl in
-    ap (λ k. class_lines link (number_of (message_of a)) (epoch_of a) k (conflicts_of n a (arrivals before))) e
+    let e : class_of gps cells_of n a (arrivals before) ≡ LateClass = rw over refl in
+    ap (λ k. class_lines link (number_of (message_of a)) (epoch_of a) k (conflicts_of gps cells_of n a (arrivals before))) e
 
 late-more : (s : SetupView) (link : ℕ) (a : Arrival) (before : List (ℕ × Arrival)) (b : Bool) → late s.window a (messages_of before) ≡ b
     → late_lines s ((link, a) ∷ before) ≡ late_lines s before ++ (if b then arrival_text link (codes " late ") (number_of (message_of a)) (epoch_of a) ∷ [] else [])
@@ -138,7 +140,7 @@ dated-listed s link a before p =
       | inr in_time ↦ subst (λ (lates : List (List ℕ)). HasLines lates (lines s.window before ++ frame_lines s.window link (Dated a) (arrivals before)))
           (sym (late-more s link a (came_of before) false (same ∙ in_time) ∙ append-nil (late_lines s (came_of before))))
           (has-more (late_lines s (came_of before)) (lines s.window before) (frame_lines s.window link (Dated a) (arrivals before)) p
-          (class-ended link (number_of (message_of a)) (epoch_of a) (class_of s.window a (arrivals before)) (conflicts_of s.window a (arrivals before))))
+          (class-ended link (number_of (message_of a)) (epoch_of a) (class_of gps cells_of s.window a (arrivals before)) (conflicts_of gps cells_of s.window a (arrivals before))))
     ]
 
 frame-listed : (s : SetupView) (link : ℕ) (c : FrameClass) (before : List Found) → HasLines (late_lines s (came_of before)) (lines s.window before)

@@ -16,6 +16,7 @@ use Rattle.rtk_obs.specs.Rollover.{digits_since}
 use Rattle.rtk_obs.specs.Slip.{epoch_cell}
 use Rattle.rtk_obs.specs.Tracks.{IsLater, track_at}
 use Rattle.rtk_obs.specs.MessageCells.{AreOfOneKind}
+use Rattle.rtk_collect.specs.Gps.{gps}
 use Rattle.rtk_collect.specs.Key.{KeysRise}
 use Rattle.rtk_rinex.specs.declared.epoch_table.Observed.{Observed}
 use Rattle.rtk_rinex.specs.declared.epoch_table.SatelliteRow.{SatelliteRow}
@@ -151,7 +152,7 @@ module _ (epoch : ℕ) (earlier xs : List CellEntry) (begin end s : ℕ) (listed
       }
 
   -- no earlier cell and none of this run has the satellite and code of the next one
-  pub takes-free : KeysRise xs → AreOfOneKind xs → first_cell earlier s (get_or xs end any_cell).code ≡ None
+  pub takes-free : KeysRise gps xs → AreOfOneKind xs → first_cell earlier s (get_or xs end any_cell).code ≡ None
       → first_cell (earlier ++ slice_range xs begin end) (get_or xs end any_cell).satellite (get_or xs end any_cell).code ≡ None
   takes-free rises one free =
       let e : CellEntry = get_or xs end any_cell in
@@ -270,14 +271,14 @@ module _ (before : List (Option Track)) (epoch : ℕ) (ms : List CellEntry) (i :
       sym (rows-skip (shown_by before epoch (ms ++ ls)) listed (n - 1) (s - 1) (omega arith) (λ t c a b. ap (observed_after (track_at before t c) c epoch) (absent t c (omega arith) (omega arith))))
 
 -- up to the next satellite that has a cell
-pub fills-next : (before : List (Option Track)) (epoch : ℕ) (ms : List CellEntry) (i : ℕ) (ls : List CellEntry) (j n s : ℕ) (tracks : List (Option Track)) → FillsRows before epoch ms i ls j n tracks → KeysRise ms → KeysRise ls
+pub fills-next : (before : List (Option Track)) (epoch : ℕ) (ms : List CellEntry) (i : ℕ) (ls : List CellEntry) (j n s : ℕ) (tracks : List (Option Track)) → FillsRows before epoch ms i ls j n tracks → KeysRise gps ms → KeysRise gps ls
     → IsLeastAt s ms i ls j → FillsRows before epoch ms i ls j s tracks
 fills-next before epoch ms i ls j n s tracks g m l h =
     let from = next-from g.msm g.legacy h in
     fills-to before epoch ms i ls j n s tracks g from (place-later ms i n s m g.msm from h.msm_least) (place-later ls j n s l g.legacy from h.legacy_least)
 
 -- or up to the last satellite, without another cell
-pub fills-end : (before : List (Option Track)) (epoch : ℕ) (ms : List CellEntry) (i : ℕ) (ls : List CellEntry) (j n : ℕ) (tracks : List (Option Track)) → FillsRows before epoch ms i ls j n tracks → KeysRise ms → KeysRise ls
+pub fills-end : (before : List (Option Track)) (epoch : ℕ) (ms : List CellEntry) (i : ℕ) (ls : List CellEntry) (j n : ℕ) (tracks : List (Option Track)) → FillsRows before epoch ms i ls j n tracks → KeysRise gps ms → KeysRise gps ls
     → n ≤ 33 → length ms ≤ i → length ls ≤ j → FillsRows before epoch ms i ls j 33 tracks
 fills-end before epoch ms i ls j n tracks g m l last a b =
     fills-to before epoch ms i ls j n 33 tracks g last (place-later ms i n 33 m g.msm last (λ k d. absurd (omega arith))) (place-later ls j n 33 l g.legacy last (λ k d. absurd (omega arith)))

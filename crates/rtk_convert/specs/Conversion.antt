@@ -4,6 +4,9 @@ use Rattle.rtk_obs.specs.declared.code.Code.{Code}
 use Rattle.rtk_obs.specs.declared.track.Track.{Track}
 use Rattle.rtk_obs.specs.Cell.{IsSatellite}
 use Rattle.rtk_obs.specs.Tracks.{track_at}
+use Rattle.rtk_collect.specs.Gps.{gps}
+use Rattle.rtk_obs.specs.MessageCells.{cells_of}
+use Rattle.rtk_obs.specs.declared.cell.CellEntry.{CellEntry}
 use Rattle.rtk_collect.specs.Arrival.{Arrival}
 use Rattle.rtk_collect.specs.Accepted.{closed}
 use Rattle.rtk_collect.specs.Collector.{CollectorView, RepresentsArrivals}
@@ -18,7 +21,7 @@ use Rattle.rtk_convert.specs.Setup.{SetupView}
 pub record ConversionView : Type 0 where
   pub setup : SetupView
   -- the open epochs and the station messages
-  pub collector : CollectorView
+  pub collector : CollectorView CellEntry
   -- what is known of the closed epochs
   pub closed_epochs : ClosedEpochsView
   -- the counts of frames
@@ -30,8 +33,8 @@ pub record ConversionView : Type 0 where
 -- knows the last phases of the closed epochs, whether the header is written, and how many records
 -- are; and it has the counts of the frames
 pub record RepresentsFound (s : ConversionView) (found : List Found) : Type 0 where
-  pub window : RepresentsArrivals s.collector (arrivals found)
-  pub closed : HasClosed s.closed_epochs s.setup.head.listed (closed s.setup.window (arrivals found))
+  pub window : RepresentsArrivals gps cells_of s.collector (arrivals found)
+  pub closed : HasClosed s.closed_epochs s.setup.head.listed (closed gps cells_of s.setup.window (arrivals found))
   pub counts : s.counts ≡ frame_counts s.setup.window found
 
 -- a new conversion with this setup: it has found no frame
@@ -42,17 +45,17 @@ pub record IsNewConversion (s : SetupView) (c : ConversionView) : Type 0 where
   pub few : length c.collector.sets ≤ s.window
 
 -- the window holds what is kept of some arrivals
-abbrev pub HoldsArrivals : CollectorView → Type 0
-HoldsArrivals w = (before : List Arrival) × RepresentsArrivals w before
+abbrev pub HoldsArrivals : CollectorView CellEntry → Type 0
+HoldsArrivals w = (before : List Arrival) × RepresentsArrivals gps cells_of w before
 
 -- a satellite and code have a last phase only once the window is full, and then of an epoch below
 -- all open ones
-abbrev pub IsUnder : Option Track → CollectorView → Type 0
+abbrev pub IsUnder : Option Track → CollectorView CellEntry → Type 0
 IsUnder None w = Unit {0}
 IsUnder (Some t) w = (length w.sets ≡ w.places) × All (λ x. t.epoch < x.epoch) w.sets
 
 -- all last phases are of epochs below the window
-abbrev pub IsAhead : CollectorView → ClosedEpochsView → Type 0
+abbrev pub IsAhead : CollectorView CellEntry → ClosedEpochsView → Type 0
 IsAhead w c = (satellite : ℕ) (code : Code) → IsSatellite satellite → IsUnder (track_at c.tracks satellite code) w
 
 -- the window has as many places as the setup says, and no more epochs than places; and unless a

@@ -12,6 +12,7 @@ use Rattle.rtk_message.specs.Accepted.{only, accepts}
 use Rattle.rtk_message.specs.AnyDecoded.{Encodes, number_of, station_of, tow_of}
 use Rattle.rtk_obs.specs.declared.cell.CellEntry.{CellEntry}
 use Rattle.rtk_obs.specs.MessageCells.{cells_of}
+use Rattle.rtk_collect.specs.Gps.{gps}
 use Rattle.rtk_collect.specs.Arrival.{Arrival, At, epoch_of, message_of}
 use Rattle.rtk_collect.specs.EpochSet.{EpochSetView}
 use Rattle.rtk_collect.specs.Key.{key}
@@ -72,7 +73,7 @@ CameInTime s arrivals a = (later : List Arrival) × (before : List Arrival)
 -- cells of one epoch under one key are equal, and so are station messages of one number
 pub record EqualKeysCarryEqualBodies (set : Arrival → Type 0) : Type 0 where
   pub cells : (e : ℕ) (m o : Message) (c d : CellEntry) → set (At (Some e) m) → set (At (Some e) o)
-      → Contains (cells_of m) c → Contains (cells_of o) d → key c ≡ key d → c ≡ d
+      → Contains (cells_of m) c → Contains (cells_of o) d → key gps c ≡ key gps d → c ≡ d
   pub stations : (m o : Message) → set (At None m) → set (At None o) → number_of m ≡ number_of o → m ≡ o
 
 -- ---- "the file written is byte for byte"
@@ -85,7 +86,7 @@ IsWritten before after IsText = (text : List ℕ) × (after ≡ with_more before
 
 -- what a file shows: epochs, each with its cells, and station messages
 pub record Content : Type 0 where
-  pub epochs : List EpochSetView
+  pub epochs : List (EpochSetView CellEntry)
   pub arp1005 : Option Message
   pub arp1006 : Option Message
 
@@ -96,7 +97,7 @@ IsStationOf set number kept = (m : Message) → (kept ≡ Some m) ↔ (set (At N
 -- the epochs, cells and station messages of a set, and no others
 pub record IsContentOf (set : Arrival → Type 0) (c : Content) : Type 0 where
   pub epochs : (e : ℕ) → Contains (map (λ x. x.epoch) c.epochs) e ↔ ((m : Message) × set (At (Some e) m))
-  pub cells : (e : ℕ) (x : CellEntry) → ((of : EpochSetView) × Contains c.epochs of × (of.epoch ≡ e) × Contains of.cells x)
+  pub cells : (e : ℕ) (x : CellEntry) → ((of : EpochSetView CellEntry) × Contains c.epochs of × (of.epoch ≡ e) × Contains of.cells x)
       ↔ ((m : Message) × set (At (Some e) m) × Contains (cells_of m) x)
   pub arp1005 : IsStationOf set 1005 c.arp1005
   pub arp1006 : IsStationOf set 1006 c.arp1006
@@ -106,7 +107,7 @@ pub record IsContentOf (set : Arrival → Type 0) (c : Content) : Type 0 where
 -- no epoch stands twice, since they fall; no two cells of an epoch have one key, since keys rise
 pub record EachOnce (c : Content) : Type 0 where
   pub epochs : AllPairs (λ x y. y.epoch < x.epoch) c.epochs
-  pub cells : All (λ x. AllPairs (λ a b. key a < key b) x.cells) c.epochs
+  pub cells : All (λ x. AllPairs (λ a b. key gps a < key gps b) x.cells) c.epochs
 
 -- the text of a set: the header, and the records of its epochs, rising
 abbrev pub IsFileOf : SetupView → (Arrival → Type 0) → List ℕ → Type 0

@@ -3,6 +3,9 @@
 use Rattle.std.specs.Prelude.{◌≡◌, ◌<◌, ◌^◌, ℕ, Bool, true, false, List, [], ◌∷◌, ◌++◌, length, flat_map, All}
 use Rattle.std.specs.List.{count_by}
 use Rattle.rtk_obs.specs.declared.code.Code.{Code}
+use Rattle.rtk_collect.specs.Gps.{gps}
+use Rattle.rtk_obs.specs.MessageCells.{cells_of}
+use Rattle.rtk_obs.specs.declared.cell.CellEntry.{CellEntry}
 use Rattle.rtk_collect.specs.Accepted.{kept}
 use Rattle.rtk_collect.specs.EpochSet.{EpochSetView}
 use Rattle.rtk_rinex.specs.CheckTable.{HoldsTable}
@@ -43,7 +46,7 @@ ReportTellsCounts =
 -- ---- the count of records
 
 -- the records of epochs, rising; a record may be empty
-abbrev pub record_texts : List Code → List EpochSetView → List (List ℕ)
+abbrev pub record_texts : List Code → List (EpochSetView CellEntry) → List (List ℕ)
 record_texts listed [] = []
 record_texts listed (e ∷ below) = record_texts listed below ++ record_of listed e below ∷ []
 
@@ -52,7 +55,7 @@ has_bytes [] = false
 has_bytes (x ∷ text) = true
 
 -- these texts are the records of the file, and this many of them are not empty
-pub record AreRecordsOf (listed : List Code) (epochs : List EpochSetView) (texts : List (List ℕ)) (count : ℕ) : Type 0 where
+pub record AreRecordsOf (listed : List Code) (epochs : List (EpochSetView CellEntry)) (texts : List (List ℕ)) (count : ℕ) : Type 0 where
   pub file : records listed epochs ≡ flat_map (λ text. text) texts
   pub counted : count ≡ count_by has_bytes texts
 
@@ -60,11 +63,11 @@ pub record AreRecordsOf (listed : List Code) (epochs : List EpochSetView) (texts
 -- hold the number of these epochs
 abbrev pub EpochsAreRecords : Type 0
 EpochsAreRecords =
-    (s : SetupView) (found : List Found) → length (kept s.window (arrivals found)) < 2 ^ 64
-    → AreRecordsOf s.head.listed (kept s.window (arrivals found)) (record_texts s.head.listed (kept s.window (arrivals found))) (all_counts s found).epochs
+    (s : SetupView) (found : List Found) → length (kept gps cells_of s.window (arrivals found)) < 2 ^ 64
+    → AreRecordsOf s.head.listed (kept gps cells_of s.window (arrivals found)) (record_texts s.head.listed (kept gps cells_of s.window (arrivals found))) (all_counts s found).epochs
 
 -- so many records does `check` find in the file of found frames, whatever their payloads
 abbrev pub EpochsAreOfTable : Type 0
 EpochsAreOfTable =
-    (s : SetupView) (found : List Found) (epochs satellites : ℕ) → IsSetupView s → All (HasPayload s) found → length (kept s.window (arrivals found)) < 2 ^ 64
+    (s : SetupView) (found : List Found) (epochs satellites : ℕ) → IsSetupView s → All (HasPayload s) found → length (kept gps cells_of s.window (arrivals found)) < 2 ^ 64
     → HoldsTable (kept_file s (arrivals found)) epochs satellites → (all_counts s found).epochs ≡ epochs

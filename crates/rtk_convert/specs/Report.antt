@@ -5,6 +5,8 @@ use Rattle.rtk_frame.specs.Stream.{count_after}
 use Rattle.rtk_message.specs.declared.any_fault.AnyFault.{AnyFault}
 use Rattle.rtk_message.specs.AnyFaultCode.{any_fault_text}
 use Rattle.rtk_message.specs.AnyDecoded.{number_of}
+use Rattle.rtk_collect.specs.Gps.{gps}
+use Rattle.rtk_obs.specs.MessageCells.{cells_of}
 use Rattle.rtk_collect.specs.declared.conflicts.SatelliteCode.{SatelliteCode}
 use Rattle.rtk_collect.specs.Arrival.{Arrival, epoch_of, message_of}
 use Rattle.rtk_collect.specs.Answer.{Class, LateClass, TakenClass, RepeatClass, ConflictClass, class_of, conflicts_of}
@@ -43,7 +45,7 @@ abbrev pub frame_lines : ℕ → ℕ → FrameClass → List Arrival → List �
 frame_lines n link OtherMessage before = []
 frame_lines n link (Refused fault) before = refused_line link fault
 frame_lines n link Foreign before = []
-frame_lines n link (Dated a) before = class_lines link (number_of (message_of a)) (epoch_of a) (class_of n a before) (conflicts_of n a before)
+frame_lines n link (Dated a) before = class_lines link (number_of (message_of a)) (epoch_of a) (class_of gps cells_of n a before) (conflicts_of gps cells_of n a before)
 
 -- formula
 -- the lines of all found frames, in order
@@ -68,7 +70,7 @@ abbrev pub counted : ℕ → FrameClass → List Arrival → Counts → Counts
 counted n OtherMessage before c = record c { other = count_after c.other }
 counted n (Refused fault) before c = record c { refused = count_after c.refused }
 counted n Foreign before c = record c { foreign = count_after c.foreign }
-counted n (Dated a) before c = counted_as (class_of n a before) c
+counted n (Dated a) before c = counted_as (class_of gps cells_of n a before) c
 
 abbrev pub one_frame_more : Counts → Counts
 one_frame_more c = record c { frames = count_after c.frames }

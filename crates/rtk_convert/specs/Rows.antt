@@ -11,6 +11,7 @@ use Rattle.rtk_obs.specs.declared.track.Digits.{Digits}
 use Rattle.rtk_obs.specs.Code.{place_of, band_of}
 use Rattle.rtk_obs.specs.Slip.{EpochCell, epoch_cell}
 use Rattle.rtk_obs.specs.Rollover.{last_phase, digits_since, rolled_phase}
+use Rattle.rtk_collect.specs.Gps.{gps}
 use Rattle.rtk_collect.specs.EpochSet.{EpochSetView, is_from}
 use Rattle.rtk_rinex.specs.declared.epoch_table.Observed.{Observed}
 use Rattle.rtk_rinex.specs.declared.epoch_table.SatelliteRow.{SatelliteRow}
@@ -20,7 +21,7 @@ use Rattle.rtk_rinex.specs.Record.{EpochTableView}
 
 -- the cells of an epoch: first the cells of an MSM, then the cells of a 1004
 abbrev pub in_turn : List CellEntry → List CellEntry
-in_turn cells = filter (is_from Msm) cells ++ filter (is_from Legacy) cells
+in_turn cells = filter (is_from gps Msm) cells ++ filter (is_from gps Legacy) cells
 
 abbrev pub is_signal : ℕ → Code → CellEntry → Bool
 is_signal satellite code e = (e.satellite == satellite) && (place_of e.code == place_of code)
@@ -40,12 +41,12 @@ and_below epoch None below = below
 and_below epoch (Some cell) below = epoch_cell epoch cell ∷ below
 
 -- the cells of a satellite and code at these epochs, whether the code is listed or not
-abbrev pub cells_at_epochs : List EpochSetView → ℕ → Code → List EpochCell
+abbrev pub cells_at_epochs : List (EpochSetView CellEntry) → ℕ → Code → List EpochCell
 cells_at_epochs [] satellite code = []
 cells_at_epochs (e ∷ below) satellite code = and_below e.epoch (cell_at e.cells satellite code) (cells_at_epochs below satellite code)
 
 -- the last phase of a satellite and code at these epochs
-abbrev pub last_phase_of : List EpochSetView → ℕ → Code → Option Track
+abbrev pub last_phase_of : List (EpochSetView CellEntry) → ℕ → Code → Option Track
 last_phase_of below satellite code = last_phase (band_of code) (cells_at_epochs below satellite code)
 
 -- ---- what a cell shows (RINEX 3.05, Table A3)
@@ -65,7 +66,7 @@ observed_after last code epoch None = None
 observed_after last code epoch (Some c) = Some (observed_with c (digits_since (band_of code) last (epoch_cell epoch c)))
 
 -- what a satellite and code show at an epoch, given the epochs below
-abbrev pub observed_at : EpochSetView → List EpochSetView → ℕ → Code → Option Observed
+abbrev pub observed_at : EpochSetView CellEntry → List (EpochSetView CellEntry) → ℕ → Code → Option Observed
 observed_at e below satellite code = observed_after (last_phase_of below satellite code) code e.epoch (cell_at e.cells satellite code)
 
 -- ---- the table
@@ -91,5 +92,5 @@ rows_to shown listed (suc n) = rows_to shown listed n ++ row_if_any shown listed
 
 -- formula
 -- the table of an epoch for the listed codes, given the epochs below it
-abbrev pub table_of : List Code → EpochSetView → List EpochSetView → EpochTableView
+abbrev pub table_of : List Code → EpochSetView CellEntry → List (EpochSetView CellEntry) → EpochTableView
 table_of listed e below = record { time = e.epoch; rows = rows_to (observed_at e below) listed 32 }

@@ -277,9 +277,9 @@ pub(crate) fn push_rows(
 ) -> Result<(), AllocError>
     requires listed { IsCodeList listed.now }
     requires later { AllBelow tracks.old set.now.epoch }
-    ensures lines { OnOk result ((below : List EpochSetView) → HasLastPhases tracks.old below
+    ensures lines { OnOk result ((below : List (EpochSetView CellEntry)) → HasLastPhases tracks.old below
         → HoldsLines lines.new (table_of listed.now set.now below).rows) }
-    ensures phases { OnOk result ((below : List EpochSetView) → HasLastPhases tracks.old below
+    ensures phases { OnOk result ((below : List (EpochSetView CellEntry)) → HasLastPhases tracks.old below
         → HasLastPhases tracks.new (set.now ∷ below)) }
     ensures later { OnOk result ((later : ℕ) → set.now.epoch < later → AllBelow tracks.new later) }
 {

@@ -23,5 +23,6 @@ mod AnyCodeLemmas
 mod SignalCellLemmas
 mod OwnCodeLemmas
 mod DistinctEntryLemmas
+mod SignalEntryLemmas
 mod LeapLemmas
 mod ClockLemmas

@@ -146,7 +146,7 @@ sixteenths_if : (b : Bool) (n : ℕ) → IfSome (cond b None (Some (250 * min (m
 sixteenths_if true n = tt
 sixteenths_if false n = record { least = omega arith; greatest = omega arith; step = omega arith }
 
-kind_if : (b : Bool) (n : ℕ) → (b ≡ false → n < 64) → IfSome (cond b (strength_of_sixteenths n) (strength_of 1000 n)) IsStrength
+pub kind_if : (b : Bool) (n : ℕ) → (b ≡ false → n < 64) → IfSome (cond b (strength_of_sixteenths n) (strength_of 1000 n)) IsStrength
 kind_if true n h = sixteenths_if (nat_eq n 0) n
 kind_if false n h = strength_in_range n (h refl)
 

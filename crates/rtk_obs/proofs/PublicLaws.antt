@@ -9,3 +9,8 @@ pub use Rattle.rtk_obs.proofs.EqualityLemmas.{code_same}
 pub use Rattle.rtk_obs.proofs.MessageLemmas.{cells_of-distinct, cells_of-in_range, cells_of-satellites, cells_of-kind}
 -- the clauses of `places_are_distinct`: code_bound, signal_bound, distinct
 pub use Rattle.rtk_obs.proofs.TracksLemmas.{place_bound, place_inside, same_signal}
+-- the clauses of `entry_laws`: codes, range, differ, kind, gps and numbers
+pub use Rattle.rtk_obs.proofs.SignalEntryLemmas.{entries_of-own, entries_of-in_range, entries_of-differ, entries_of-kind, entries-of-gps, number-of-gps}
+-- the clauses `bound`, `numbers` and `equality` of `any_code_laws`, and that a number is below 69
+pub use Rattle.rtk_obs.proofs.AnyCodeLemmas.{place_below, same_number, number_below}
+pub use Rattle.rtk_obs.proofs.EqualityLemmas.{any_code_same}

@@ -15,7 +15,7 @@ no a b h = grind (arith, nat_tests)
 
 -- ---- the system of an index
 
-at-gps : (i : ℕ) → i ≤ 32 → system_at i ≡ Gps
+pub at-gps : (i : ℕ) → i ≤ 32 → system_at i ≡ Gps
 at-gps i high = rw (yes i 32 high) refl
 
 at-glonass : (i : ℕ) → 32 < i → i ≤ 59 → system_at i ≡ Glonass

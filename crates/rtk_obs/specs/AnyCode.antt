@@ -7,6 +7,8 @@ use Rattle.rtk_obs.specs.declared.carrier.Carrier.{Carrier}
 use Rattle.rtk_obs.specs.declared.carrier.Carrier.TheVariants.{L1, L2, L5, G1, G2, B1, B3, E6, E5b, E5}
 use Rattle.rtk_obs.specs.declared.any_code.AnyCode.{AnyCode}
 use Rattle.rtk_obs.specs.declared.any_code.AnyCode.TheVariants.{G1C, G1P, G1W, G1S, G1L, G1X, G2C, G2D, G2P, G2W, G2S, G2L, G2X, G5I, G5Q, G5X, R1C, R1P, R2C, R2P, E1C, E1B, E1X, E6C, E6B, E6X, E7I, E7Q, E7X, E8I, E8Q, E8X, E5I, E5Q, E5X, C2I, C2Q, C2X, C6I, C6Q, C6X, C7I, C7Q, C7X, C5D, C5P, C5X, C7D, C1D, C1P, C1X, J1C, J6S, J6L, J6X, J2S, J2L, J2X, J5I, J5Q, J5X, J1S, J1L, J1X, S1C, S5I, S5Q, S5X, I5A}
+use Rattle.rtk_obs.specs.declared.code.Code.{Code}
+use Rattle.rtk_obs.specs.declared.code.Code.TheVariants as gps
 use Rattle.rtk_obs.specs.SatelliteIndex.{IsSatelliteIndex, system_at, letter_of}
 
 -- the system of a code, its place among the codes of the system, from 0, its band and attribute, and its
@@ -146,3 +148,23 @@ all_any_codes =
     J1C ∷ J6S ∷ J6L ∷ J6X ∷ J2S ∷ J2L ∷ J2X ∷ J5I ∷ J5Q ∷ J5X ∷ J1S ∷ J1L ∷ J1X ∷
     S1C ∷ S5I ∷ S5Q ∷ S5X ∷
     I5A ∷ []
+
+-- table
+-- the code of any system that a code of GPS is
+abbrev pub code_of_gps : Code → AnyCode
+code_of_gps gps.G1C = G1C
+code_of_gps gps.G1P = G1P
+code_of_gps gps.G1W = G1W
+code_of_gps gps.G1S = G1S
+code_of_gps gps.G1L = G1L
+code_of_gps gps.G1X = G1X
+code_of_gps gps.G2C = G2C
+code_of_gps gps.G2D = G2D
+code_of_gps gps.G2P = G2P
+code_of_gps gps.G2W = G2W
+code_of_gps gps.G2S = G2S
+code_of_gps gps.G2L = G2L
+code_of_gps gps.G2X = G2X
+code_of_gps gps.G5I = G5I
+code_of_gps gps.G5Q = G5Q
+code_of_gps gps.G5X = G5X

@@ -1,15 +1,22 @@
--- The cells of an MSM of any system.
+-- The cells of messages of any system.
 -- Source: RTCM 10403.3, messages 1071 to 1137
-use Rattle.std.specs.Prelude.{◌≡◌, ◌≢◌, ℕ, ◌==◌, ℤ, pos, ◌+ℤ◌, Bool, ◌||◌, List, [], ◌∷◌, slice_index, slice_index_or, Option, Some, None, nat_le, if◌then◌else◌}
+use Rattle.std.specs.Prelude.{◌≡◌, ◌≢◌, ℕ, ◌==◌, ℤ, pos, ◌+ℤ◌, Bool, ◌||◌, List, [], ◌∷◌, map, slice_index, slice_index_or, Option, Some, None, IfSome, nat_le, if◌then◌else◌}
+use Rattle.std.specs.List.{All}
 use Rattle.std.specs.Ordering.{int_eq}
+use Rattle.rtk_message.specs.declared.any_message.AnyMessage.{AnyMessage}
+use Rattle.rtk_message.specs.declared.any_message.AnyMessage.TheVariants as any
 use Rattle.rtk_message.specs.declared.msm.Msm.{Msm}
 use Rattle.rtk_message.specs.declared.system.System.{System}
 use Rattle.rtk_message.specs.declared.system.System.TheVariants.{Gps, Glonass, Galileo, Beidou, Qzss, Sbas, Navic}
 use Rattle.rtk_obs.specs.declared.any_code.AnyCode.{AnyCode}
+use Rattle.rtk_obs.specs.declared.cell.CellEntry.{CellEntry}
+use Rattle.rtk_obs.specs.declared.cell.CellSource.{CellSource}
 use Rattle.rtk_obs.specs.declared.signal_cells.SignalEntry.{SignalEntry}
-use Rattle.rtk_obs.specs.AnyCode.{carrier_of}
+use Rattle.rtk_obs.specs.AnyCode.{carrier_of, code_of_gps, IsSignal}
 use Rattle.rtk_obs.specs.Carriers.{channel_at, frequency_at}
+use Rattle.rtk_obs.specs.Cell.{IsStrength}
 use Rattle.rtk_obs.specs.Mask.{join_from}
+use Rattle.rtk_obs.specs.MessageCells.{cells_of}
 use Rattle.rtk_obs.specs.MsmCells.{Slot, satellites_of, slots_of, cell_on}
 use Rattle.rtk_obs.specs.SatelliteIndex.{index_in}
 use Rattle.rtk_obs.specs.Signals.{code_in}
@@ -66,3 +73,21 @@ signal_entries channels m = join_from (signal_entry channels m) 0 (slots_of m.he
 -- two entries are of different satellites, or of one satellite and different codes
 abbrev pub AreDifferentEntries : SignalEntry → SignalEntry → Type 0
 AreDifferentEntries a b = a.satellite ≡ b.satellite → a.code ≢ b.code
+
+-- a cell of GPS as one of any system
+abbrev pub signal_of : CellEntry → SignalEntry
+signal_of e = record { satellite = e.satellite; code = code_of_gps e.code; cell = e.cell }
+
+-- the entries of a message, in its order: those of an MSM other than 1074, or of the cells of GPS
+abbrev pub entries_of : List (Option ℤ) → AnyMessage → List SignalEntry
+entries_of channels (any.Message m) = map signal_of (cells_of (any.Message m))
+entries_of channels (any.Msm m) = signal_entries channels m
+
+-- a satellite with a code of its system, and no strength or one that messages give
+pub record IsSignalInRange (e : SignalEntry) : Type 0 where
+  pub signal : IsSignal e.satellite e.code
+  pub strength : IfSome e.cell.strength_millidbhz IsStrength
+
+-- all entries came in one kind of message
+abbrev pub EntriesAreOfOneKind : List SignalEntry → Type 0
+EntriesAreOfOneKind entries = (source : CellSource) × All (λ e. e.cell.source ≡ source) entries

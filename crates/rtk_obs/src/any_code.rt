@@ -4,7 +4,7 @@ ghost use Rattle.std.specs.Prelude.{◌≡◌, ◌≢◌, ◌<◌, MatchOption};
 ghost use Rattle.rtk_obs.specs.declared.any_code.AnyCode.{AnyCode};
 ghost use Rattle.rtk_message.specs.declared.system.System.TheVariants.{Gps};
 ghost use Rattle.rtk_obs.specs.Code as gps;
-ghost use Rattle.rtk_obs.specs.AnyCode.{system_of, place_of, name_of, carrier_of, text_of, number_of, signal_place};
+ghost use Rattle.rtk_obs.specs.AnyCode.{system_of, place_of, name_of, carrier_of, text_of, number_of, signal_place, code_of_gps};
 
 use crate::carrier::Carrier;
 use crate::code::Code;
@@ -308,6 +308,7 @@ pub const ALL_ANY_CODES: [AnyCode; 69] = [
 impl AnyCode {
     /// Returns the code of any system that a code of GPS is.
     pub fn of_gps(code: Code) -> AnyCode
+        ensures code { result ≡ code_of_gps code }
         ensures system { system_of result ≡ Gps }
         ensures place { place_of result ≡ gps.place_of code }
         ensures name { name_of result ≡ gps.name_of code }

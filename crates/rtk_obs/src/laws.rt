@@ -4,7 +4,7 @@
 //! Each function here does nothing. Its contract is the law, and a caller that calls it may cite
 //! it; proofs of other crates cite the same facts from `proofs/PublicLaws.antt`.
 
-ghost use Rattle.std.specs.Prelude.{◌≡◌, ◌≢◌, ◌↔◌, ℕ, ℤ, ◌+◌, ◌<◌, ◌≤◌, List, Option, Some, None, MatchOption, IsTrue};
+ghost use Rattle.std.specs.Prelude.{◌≡◌, ◌≢◌, ◌↔◌, ℕ, ℤ, ◌+◌, ◌<◌, ◌≤◌, List, map, Option, Some, None, MatchOption, IsTrue};
 ghost use Rattle.std.specs.Ordering.{nat_cmp, partial_lt, partial_le};
 ghost use Rattle.std.specs.List.{All, AllPairs};
 ghost use Rattle.rtk_message.specs.declared.any_message.AnyMessage.{AnyMessage};
@@ -13,6 +13,7 @@ ghost use Rattle.rtk_message.specs.declared.obs1004.Obs1004.{Obs1004};
 ghost use Rattle.rtk_message.specs.declared.msm1074.Msm1074.{Msm1074};
 ghost use Rattle.rtk_message.specs.declared.msm.Msm.{Msm};
 ghost use Rattle.rtk_message.specs.declared.system.System.{System};
+ghost use Rattle.rtk_message.specs.declared.system.System.TheVariants.{Gps};
 ghost use Rattle.rtk_message.specs.AnyDecoded.{IsValid};
 ghost use Rattle.rtk_message.specs.Systems.{is_in_week};
 ghost use Rattle.rtk_message.specs.Obs1004.{IsValid as IsValid1004};
@@ -38,7 +39,7 @@ ghost use Rattle.rtk_obs.specs.Rounding.{IsRounded, rounded};
 ghost use Rattle.rtk_obs.specs.Code.{name_of, place_of};
 ghost use Rattle.rtk_obs.specs.declared.any_code.AnyCode.{AnyCode};
 ghost use Rattle.rtk_obs.specs.AnyCode as any;
-ghost use Rattle.rtk_obs.specs.SignalCells.{signal_entries, AreDifferentEntries};
+ghost use Rattle.rtk_obs.specs.SignalCells.{signal_entries, AreDifferentEntries, signal_of, entries_of, IsSignalInRange, EntriesAreOfOneKind};
 ghost use Rattle.rtk_obs.specs.SatelliteIndex.{IsSatelliteIndex, IsOfSystem, index_in, system_at, bit_at, index_name};
 ghost use Rattle.rtk_obs.specs.PositionFields.{HasFields};
 ghost use Rattle.rtk_obs.specs.Cell.{IsSatellite, IsInRange, AreDistinct};
@@ -215,4 +216,17 @@ pub fn signal_laws()
         → All (λ e. any.IsSignal e.satellite e.code) (signal_entries channels m) }
     ensures differ { (channels : List (Option ℤ)) (m : Msm) → IsValidMsm m
         → AllPairs AreDifferentEntries (signal_entries channels m) }
+{}
+
+/// Each entry of a message is of a code of the system of its satellite, and all came in one kind of
+/// message. If the message is valid, an entry with a strength has one that messages give, and no two
+/// entries are of one satellite and code. Those of an MSM of GPS are its cells, whatever the channels are.
+/// The number of a code of GPS among all codes is its place.
+pub fn entry_laws()
+    ensures codes { (channels : List (Option ℤ)) (m : AnyMessage) → All (λ e. any.IsSignal e.satellite e.code) (entries_of channels m) }
+    ensures range { (channels : List (Option ℤ)) (m : AnyMessage) → IsValid m → All IsSignalInRange (entries_of channels m) }
+    ensures differ { (channels : List (Option ℤ)) (m : AnyMessage) → IsValid m → AllPairs AreDifferentEntries (entries_of channels m) }
+    ensures kind { (channels : List (Option ℤ)) (m : AnyMessage) → EntriesAreOfOneKind (entries_of channels m) }
+    ensures gps { (channels : List (Option ℤ)) (m : Msm) → m.system ≡ Gps → signal_entries channels m ≡ map signal_of (cells_of_msm m) }
+    ensures numbers { (c : Code) → any.number_of (any.code_of_gps c) ≡ place_of c }
 {}

@@ -78,8 +78,8 @@ pub use dating::{HALF_WEEK_MS, WEEK_MS, date};
 pub use glonass_time::GlonassTime;
 pub use laws::{
     any_code_laws, cell_laws, cells_are_distinct, cells_are_in_range, civil_laws, clock_laws,
-    code_laws, date_is_unique, leap_laws, moment_laws, places_are_distinct, position_laws,
-    rounded_is_unique, satellite_laws, signal_laws, track_laws, tracks_laws,
+    code_laws, date_is_unique, entry_laws, leap_laws, moment_laws, places_are_distinct,
+    position_laws, rounded_is_unique, satellite_laws, signal_laws, track_laws, tracks_laws,
 };
 pub use leap_seconds::leap_seconds_at;
 pub use legacy_cells::{cells_1004, put_cells_1004};
@@ -91,7 +91,9 @@ pub use position::Position;
 pub use rollover::rolled;
 pub use rounding::round_div;
 pub use satellite_index::{SatelliteIndex, satellite_in, satellite_name, satellite_named};
-pub use signal_cells::{SignalEntry, signal_entries};
+pub use signal_cells::{
+    SignalEntry, put_entries_of, put_signal_entries, put_signals, signal_entries,
+};
 pub use signals::code_of_signal;
 pub use time::{Civil, GpsMs, LAST_MS};
 pub use track::{Digits, Track};

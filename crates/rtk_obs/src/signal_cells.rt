@@ -1,23 +1,29 @@
-//! The cells of an MSM of any system.
+//! The cells of messages of any system.
 
-ghost use Rattle.std.specs.Prelude.{◌≡◌, ◌+◌, ◌%◌, ◌^◌, ◌<◌, ◌≤◌, ◌++◌, length, IfSome};
+ghost use Rattle.std.specs.Prelude.{◌≡◌, ◌+◌, ◌%◌, ◌^◌, ◌<◌, ◌≤◌, ◌++◌, length, map, IfSome};
+ghost use Rattle.std.specs.List.{All};
+ghost use Rattle.rtk_message.specs.declared.any_message.AnyMessage.TheVariants as AnyMessage;
+ghost use Rattle.rtk_message.specs.Decoded.{IsValid as IsValidMessage};
 ghost use Rattle.rtk_message.specs.MsmForm.{IsValid};
 ghost use Rattle.rtk_message.specs.Msm1074.{satellite_count};
+ghost use Rattle.rtk_obs.specs.Cell.{IsSatellite};
 ghost use Rattle.rtk_obs.specs.Mask.{join_from};
+ghost use Rattle.rtk_obs.specs.MessageCells.{cells_of};
 ghost use Rattle.rtk_obs.specs.MsmCells.{row_slots, cell_on};
 ghost use Rattle.rtk_obs.specs.Steps.MsmRows.{cells_in};
-ghost use Rattle.rtk_obs.specs.SignalCells.{unless_other, channel_in, bit_of_row, field_of_row, signal_entry, signal_entries};
+ghost use Rattle.rtk_obs.specs.SignalCells.{unless_other, channel_in, bit_of_row, field_of_row, signal_entry, signal_entries, signal_of};
 
 use crate::any_code::AnyCode;
 use crate::carrier::{Channel, Channels};
-use crate::cell::Cell;
+use crate::cell::{Cell, CellEntry};
 use crate::mask::places_of_bits;
+use crate::message_cells::put_cells_of;
 use crate::msm_cells::set_values;
 use crate::msm_values::rough_range;
 use crate::satellite_index::{SatelliteIndex, satellite_in};
 use crate::signals::code_of_signal;
 use arrayvec::ArrayVec;
-use rtk_message::{Msm, System};
+use rtk_message::{Message, Msm, System};
 
 /// A cell with its satellite and code, of any system.
 #[derive(Clone, Copy, Debug, Default, PartialEq, Eq, Hash)]
@@ -27,6 +33,23 @@ pub struct SignalEntry {
     /// The values. A phase of GLONASS is missing if its slot has no channel, or if the message tells another
     /// one.
     pub cell: Cell,
+}
+
+impl SignalEntry {
+    /// Returns a cell of GPS as one of any system.
+    pub fn of_gps(entry: &CellEntry) -> SignalEntry
+        requires { IsSatellite entry.now.satellite }
+        ensures { result ≡ signal_of entry.now }
+    {
+        let Some(satellite) = SatelliteIndex::new(entry.satellite) else {
+            unreachable!()
+        };
+        SignalEntry {
+            satellite,
+            code: AnyCode::of_gps(entry.code),
+            cell: entry.cell,
+        }
+    }
 }
 
 // The field of a satellite of GLONASS (DF419) that tells no channel.
@@ -164,16 +187,14 @@ fn put_row(
     cell
 }
 
-/// Returns the cells of a message in its order, for the satellites that have an index and the signals
-/// that have a code. A satellite of GLONASS has phases if its slot has a channel, and the message tells no
-/// other one.
-pub fn signal_entries(message: &Msm, channels: &Channels) -> ArrayVec<SignalEntry, 64>
+/// Puts the cells of a message into a list, in place of what it has, as `signal_entries` gives them.
+pub fn put_signal_entries(message: &Msm, channels: &Channels, found: &mut ArrayVec<SignalEntry, 64>)
     requires { IsValid message.now }
-    ensures { result.items ≡ signal_entries channels.now message.now }
+    ensures { found.new.items ≡ signal_entries channels.now message.now }
 {
     let bits_of_satellites = places_of_bits(message.header.satellite_mask, 64);
     let signals = places_of_bits(u64::from(message.header.signal_mask), 32);
-    let mut found = ArrayVec::new();
+    found.clear();
     let mut cell = 0;
     for (place, bits) in message.cell_mask.as_slice().iter().enumerate() {
         let row = Row {
@@ -182,7 +203,7 @@ pub fn signal_entries(message: &Msm, channels: &Channels) -> ArrayVec<SignalEntr
             field: field_of_row(message, place),
         };
         cell = put_row(
-            &mut found,
+            found,
             message,
             channels,
             cell,
@@ -191,5 +212,39 @@ pub fn signal_entries(message: &Msm, channels: &Channels) -> ArrayVec<SignalEntr
             *bits,
         );
     }
+}
+
+/// Returns the cells of a message in its order, for the satellites that have an index and the signals
+/// that have a code. A satellite of GLONASS has phases if its slot has a channel, and the message tells no
+/// other one.
+pub fn signal_entries(message: &Msm, channels: &Channels) -> ArrayVec<SignalEntry, 64>
+    requires { IsValid message.now }
+    ensures { result.items ≡ signal_entries channels.now message.now }
+{
+    let mut found = ArrayVec::new();
+    put_signal_entries(message, channels, &mut found);
     found
+}
+
+/// Puts cells of GPS into a list, in place of what it has, each as one of any system.
+pub fn put_signals(cells: &[CellEntry], found: &mut ArrayVec<SignalEntry, 64>)
+    requires few { length cells.now ≤ 64 }
+    requires satellites { All (λ e. IsSatellite e.satellite) cells.now }
+    ensures { found.new.items ≡ map signal_of cells.now }
+{
+    found.clear();
+    for entry in cells {
+        found.push(SignalEntry::of_gps(entry));
+    }
+}
+
+/// Puts the cells of a message into a list, in place of what it has, as `put_cells_of` gives them: each
+/// as one of any system.
+pub fn put_entries_of(message: &Message, found: &mut ArrayVec<SignalEntry, 64>)
+    requires { IsValidMessage message.now }
+    ensures { found.new.items ≡ map signal_of (cells_of (AnyMessage.Message message.now)) }
+{
+    let mut cells = ArrayVec::new();
+    let _ = put_cells_of(message, &mut cells);
+    put_signals(cells.as_slice(), found);
 }

@@ -1,3 +1,4 @@
+mod ColumnLemmas
 mod CountLemmas
 mod FallLemmas
 mod FileLemmas
@@ -8,6 +9,7 @@ mod HourLemmas
 mod LawLemmas
 mod LineLemmas
 mod ListLemmas
+mod ListTextLemmas
 mod MissingLemmas
 mod OrderLemmas
 mod RowLemmas

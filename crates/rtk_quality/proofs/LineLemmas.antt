@@ -8,10 +8,12 @@ use Rattle.rtk_obs.specs.declared.time.Civil.{Civil}
 use Rattle.rtk_rinex.specs.Reading.{reading_of}
 use Rattle.rtk_quality.specs.Counts.{plus, phases_per_slip, mean_hundredths, mean_tenths}
 use Rattle.rtk_quality.specs.Forms.{value_text, moment_text, start_text, end_text}
-use Rattle.rtk_quality.specs.QualityText.{per_slip_text, locks_text, sums_text, strengths_text, marker_text, satellites_text, station_text, span_text, heading_text}
+use Rattle.rtk_quality.specs.LineText.{per_slip_text, locks_text, sums_text, strengths_text}
+use Rattle.rtk_quality.specs.QualityText.{marker_text, satellites_text, station_text, span_text, heading_text, falls_of}
 use Rattle.rtk_quality.specs.Hours.{start_of}
 use Rattle.rtk_quality.specs.Strengths.{number_of}
-use Rattle.rtk_quality.specs.StationText.{strength_text, hour_counts_text, hour_line, gap_line, fall_line, fall_part, falls_text}
+use Rattle.rtk_quality.specs.StationText.{strength_text, hour_counts_text, hour_line, gap_line, fall_line}
+use Rattle.rtk_quality.specs.Entries.{fall_part}
 use Rattle.rtk_quality.specs.declared.hours.HourCounts.{HourCounts}
 use Rattle.rtk_quality.specs.declared.gaps.Gap.{Gap}
 use Rattle.rtk_quality.specs.declared.falls.Fall.{Fall}
@@ -128,47 +130,47 @@ hour-counts-are form h expected mean t0 t1 t2 t3 t4 t5 is_expected is e1 e2 e3 e
     (e3 ∙ ap (λ (m : Option ℕ). t2 ++ value_text form (codes " mean-satellites ") (codes ",\"mean_satellites_tenths\":") Tenths m) is) e4 e5
 
 pub hour-is : (form : Form) (listed : List Code) (h : HourCounts) (start : Civil) (t0 t1 t2 t3 t4 t5 t6 t7 : List ℕ) → start ≡ reading_of (start_of h.hour)
-    → t1 ≡ t0 ++ start_text form (codes "hour") → t2 ≡ t1 ++ moment_text form (codes " ") (codes ",\"hour\":") start → t3 ≡ t2 ++ hour_counts_text form h
+    → t1 ≡ t0 ++ start_text form (codes "hour") → t2 ≡ t1 ++ moment_text form (codes " ") (codes "\"hour\":") start → t3 ≡ t2 ++ hour_counts_text form h
     → t4 ≡ t3 ++ strength_text form listed h.strengths L1 → t5 ≡ t4 ++ strength_text form listed h.strengths L2 → t6 ≡ t5 ++ strength_text form listed h.strengths L5
     → t7 ≡ t6 ++ end_text form → t7 ≡ t0 ++ hour_line form listed h
 unfolding hour_line
 hour-is form listed h start t0 t1 t2 t3 t4 t5 t6 t7 is e1 e2 e3 e4 e5 e6 e7 =
     let from : List ℕ = start_text form (codes "hour") in
-    let at : List ℕ = moment_text form (codes " ") (codes ",\"hour\":") (reading_of (start_of h.hour)) in
+    let at : List ℕ = moment_text form (codes " ") (codes "\"hour\":") (reading_of (start_of h.hour)) in
     let counts : List ℕ = hour_counts_text form h in
     let one : List ℕ = strength_text form listed h.strengths L1 in
     let two : List ℕ = strength_text form listed h.strengths L2 in
     let three : List ℕ = strength_text form listed h.strengths L5 in
     and-then t0 t6 t7 (((((from ++ at) ++ counts) ++ one) ++ two) ++ three) (end_text form)
-    (six t0 t1 t2 t3 t4 t5 t6 from at counts one two three e1 (e2 ∙ ap (λ (c : Civil). t1 ++ moment_text form (codes " ") (codes ",\"hour\":") c) is) e3 e4 e5 e6) e7
+    (six t0 t1 t2 t3 t4 t5 t6 from at counts one two three e1 (e2 ∙ ap (λ (c : Civil). t1 ++ moment_text form (codes " ") (codes "\"hour\":") c) is) e3 e4 e5 e6) e7
 
 pub gap-is : (form : Form) (g : Gap) (t0 t1 t2 t3 t4 t5 : List ℕ)
-    → t1 ≡ t0 ++ start_text form (codes "gap") → t2 ≡ t1 ++ moment_text form (codes " from ") (codes ",\"from\":") g.from
+    → t1 ≡ t0 ++ start_text form (codes "gap") → t2 ≡ t1 ++ moment_text form (codes " from ") (codes "\"from\":") g.from
     → t3 ≡ t2 ++ moment_text form (codes " until ") (codes ",\"until\":") g.until → t4 ≡ t3 ++ value_text form (codes " missing ") (codes ",\"missing\":") Whole (Some g.missing)
     → t5 ≡ t4 ++ end_text form → t5 ≡ t0 ++ gap_line form g
 unfolding gap_line
 gap-is form g t0 t1 t2 t3 t4 t5 e1 e2 e3 e4 e5 =
-    five t0 t1 t2 t3 t4 t5 (start_text form (codes "gap")) (moment_text form (codes " from ") (codes ",\"from\":") g.from)
+    five t0 t1 t2 t3 t4 t5 (start_text form (codes "gap")) (moment_text form (codes " from ") (codes "\"from\":") g.from)
     (moment_text form (codes " until ") (codes ",\"until\":") g.until) (value_text form (codes " missing ") (codes ",\"missing\":") Whole (Some g.missing)) (end_text form) e1 e2 e3 e4 e5
 
 pub fall-is : (form : Form) (band : Band) (f : Fall) (number : ℕ) (from until : Civil) (t0 t1 t2 t3 t4 t5 t6 : List ℕ)
     → number ≡ number_of band → from ≡ reading_of (start_of f.from) → until ≡ reading_of (start_of f.until)
-    → t1 ≡ t0 ++ start_text form (codes "fall") → t2 ≡ t1 ++ value_text form (codes " band ") (codes ",\"band\":") Whole (Some number)
+    → t1 ≡ t0 ++ start_text form (codes "fall") → t2 ≡ t1 ++ value_text form (codes " band ") (codes "\"band\":") Whole (Some number)
     → t3 ≡ t2 ++ moment_text form (codes " from ") (codes ",\"from\":") from → t4 ≡ t3 ++ moment_text form (codes " until ") (codes ",\"until\":") until
     → t5 ≡ t4 ++ value_text form (codes " mean-strength ") (codes ",\"mean_strength_centidbhz\":") Hundredths (Some f.by) → t6 ≡ t5 ++ end_text form
     → t6 ≡ t0 ++ fall_line form band f
 unfolding fall_line
 fall-is form band f number from until t0 t1 t2 t3 t4 t5 t6 is_number is_from is_until e1 e2 e3 e4 e5 e6 =
-    six t0 t1 t2 t3 t4 t5 t6 (start_text form (codes "fall")) (value_text form (codes " band ") (codes ",\"band\":") Whole (Some (number_of band)))
+    six t0 t1 t2 t3 t4 t5 t6 (start_text form (codes "fall")) (value_text form (codes " band ") (codes "\"band\":") Whole (Some (number_of band)))
     (moment_text form (codes " from ") (codes ",\"from\":") (reading_of (start_of f.from))) (moment_text form (codes " until ") (codes ",\"until\":") (reading_of (start_of f.until)))
     (value_text form (codes " mean-strength ") (codes ",\"mean_strength_centidbhz\":") Hundredths (Some f.by)) (end_text form) e1
-    (e2 ∙ ap (λ (n : ℕ). t1 ++ value_text form (codes " band ") (codes ",\"band\":") Whole (Some n)) is_number)
+    (e2 ∙ ap (λ (n : ℕ). t1 ++ value_text form (codes " band ") (codes "\"band\":") Whole (Some n)) is_number)
     (e3 ∙ ap (λ (c : Civil). t2 ++ moment_text form (codes " from ") (codes ",\"from\":") c) is_from)
     (e4 ∙ ap (λ (c : Civil). t3 ++ moment_text form (codes " until ") (codes ",\"until\":") c) is_until) e5 e6
 
 pub falls-are : (form : Form) (hours : List HourCounts) (t0 t1 t2 t3 : List ℕ)
-    → t1 ≡ t0 ++ fall_part form hours L1 → t2 ≡ t1 ++ fall_part form hours L2 → t3 ≡ t2 ++ fall_part form hours L5 → t3 ≡ t0 ++ falls_text form hours
-unfolding falls_text
+    → t1 ≡ t0 ++ fall_part form hours L1 → t2 ≡ t1 ++ fall_part form hours L2 → t3 ≡ t2 ++ fall_part form hours L5 → t3 ≡ t0 ++ falls_of form hours
+unfolding falls_of
 falls-are form hours t0 t1 t2 t3 e1 e2 e3 = three t0 t1 t2 t3 (fall_part form hours L1) (fall_part form hours L2) (fall_part form hours L5) e1 e2 e3
 
 pub heading-is : (form : Form) (marker : List ℕ) (from until : Civil) (interval : Option ℕ) (satellites : ℕ) (r : RecordCounts) (gaps : ℕ) (s : PassSums) (t0 t1 t2 t3 t4 t5 t6 : List ℕ)

@@ -5,7 +5,8 @@ use Rattle.std.proofs.lemmas.Bool.{eq-eqb, ne_eqb}
 use Rattle.std.proofs.lemmas.List.{append-nil, drop_more, take_more}
 use Rattle.std.proofs.lemmas.Grind.{flat_map-append}
 use Rattle.rtk_obs.specs.declared.code.Code.{Code}
-use Rattle.rtk_quality.specs.QualityText.{code_line, each_code}
+use Rattle.rtk_quality.specs.Entries.{code_entry}
+use Rattle.rtk_quality.specs.QualityText.{each_code}
 use Rattle.rtk_quality.specs.Standing.{newest_pass, older_passes, ended_of}
 use Rattle.rtk_quality.specs.declared.form.Form.{Form}
 use Rattle.rtk_quality.specs.declared.code_numbers.CodeNumbers.{CodeNumbers}
@@ -33,12 +34,12 @@ numbers-more line number i codes d n all mid after within so_far more is =
 
 -- the line of one code of the station more, of so many satellites
 pub station-more : (form : Form) (number : ℕ → CodeNumbers) (i : ℕ) (codes : List Code) (d : Code) (all_tracked tracked : ℕ) (n : CodeNumbers) (all mid after : List ℕ) → i < length codes
-    → all ≡ mid ++ each_code (λ place code. code_line form code all_tracked (number place)) i (drop i codes)
-    → tracked ≡ all_tracked → after ≡ mid ++ code_line form (get_or codes i d) tracked n → n ≡ number i
-    → all ≡ after ++ each_code (λ place code. code_line form code all_tracked (number place)) (i + 1) (drop (i + 1) codes)
+    → all ≡ mid ++ each_code (λ place code. code_entry form code all_tracked (number place)) i (drop i codes)
+    → tracked ≡ all_tracked → after ≡ mid ++ code_entry form (get_or codes i d) tracked n → n ≡ number i
+    → all ≡ after ++ each_code (λ place code. code_entry form code all_tracked (number place)) (i + 1) (drop (i + 1) codes)
 station-more form number i codes d all_tracked tracked n all mid after within so_far is more own =
-    numbers-more (λ code k. code_line form code all_tracked k) number i codes d n all mid after within so_far
-    (more ∙ ap (λ (k : ℕ). mid ++ code_line form (get_or codes i d) k n) is) own
+    numbers-more (λ code k. code_entry form code all_tracked k) number i codes d n all mid after within so_far
+    (more ∙ ap (λ (k : ℕ). mid ++ code_entry form (get_or codes i d) k n) is) own
 
 -- the line of one pass more of a satellite
 pub passes-more : (line : PassCounts → List ℕ) (satellite i : ℕ) (ended : List EndedPass) (d : EndedPass) (own : List PassCounts) (start mid after : List ℕ) → i < length ended

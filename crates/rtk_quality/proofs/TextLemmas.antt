@@ -8,11 +8,10 @@ use Rattle.rtk_rinex.specs.Record.{EpochTableView}
 use Rattle.rtk_quality.specs.Records.{unit_of, record_counts_of}
 use Rattle.rtk_quality.specs.Hours.{hours_of}
 use Rattle.rtk_quality.specs.Gaps.{longest_gaps, gaps_in}
-use Rattle.rtk_quality.specs.StationText.{hours_text, gaps_text, falls_text}
 use Rattle.rtk_quality.specs.declared.hours.HourCounts.{HourCounts}
 use Rattle.rtk_quality.specs.declared.gaps.Gap.{Gap}
-use Rattle.rtk_quality.specs.Quality.{code_of_station, station_sums, satellites_in}
-use Rattle.rtk_quality.specs.QualityText.{marker_text, code_line, each_code, section_text, heading_text, station_part, close_text, quality_text}
+use Rattle.rtk_quality.specs.Quality.{station_sums, satellites_in}
+use Rattle.rtk_quality.specs.QualityText.{marker_text, codes_text, section_text, heading_text, hours_text, gaps_text, falls_text, station_part, close_text, quality_text}
 use Rattle.rtk_quality.specs.Forms.{json_text}
 use Rattle.rtk_quality.specs.declared.form.Form.{Form}
 use Rattle.rtk_quality.specs.declared.form.Form.TheVariants.{Json}
@@ -22,9 +21,9 @@ use Rattle.rtk_quality.specs.declared.record_counts.RecordCounts.{RecordCounts}
 use Rattle.rtk_quality.proofs.ListLemmas.{three}
 
 -- a marker in JSON
-pub json-marker : (marker t0 t1 t2 t3 : List ℕ) → t1 ≡ t0 ++ codes "[{\"line\":\"file\",\"marker\":\"" → t2 ≡ t1 ++ json_text marker → t3 ≡ t2 ++ codes "\"" → t3 ≡ t0 ++ marker_text Json marker
+pub json-marker : (marker t0 t1 t2 t3 : List ℕ) → t1 ≡ t0 ++ codes "{\"file\":{\"marker\":\"" → t2 ≡ t1 ++ json_text marker → t3 ≡ t2 ++ codes "\"" → t3 ≡ t0 ++ marker_text Json marker
 unfolding marker_text
-json-marker marker t0 t1 t2 t3 e1 e2 e3 = three t0 t1 t2 t3 (codes "[{\"line\":\"file\",\"marker\":\"") (json_text marker) (codes "\"") e1 e2 e3
+json-marker marker t0 t1 t2 t3 e1 e2 e3 = three t0 t1 t2 t3 (codes "{\"file\":{\"marker\":\"") (json_text marker) (codes "\"") e1 e2 e3
 
 -- the text of a file with records
 pub text-is : (form : Form) (marker : List ℕ) (listed : List Code) (first last : ℕ) (interval : Option ℕ) (es : List EpochTableView)
@@ -32,14 +31,14 @@ pub text-is : (form : Form) (marker : List ℕ) (listed : List Code) (first last
     → from ≡ reading_of first → until ≡ reading_of last → seen ≡ satellites_in interval es → r ≡ record_counts_of (unit_of interval) es
     → gaps ≡ gaps_in (unit_of interval) es → sums ≡ station_sums interval es
     → t1 ≡ heading_text form marker from until interval seen r gaps sums
-    → t2 ≡ t1 ++ each_code (λ place code. code_line form code (satellites_in interval es) (code_of_station interval es place)) 0 listed
+    → t2 ≡ t1 ++ codes_text form listed interval es
     → t3 ≡ t2 ++ section_text form Codes listed interval es → t4 ≡ t3 ++ section_text form Tracked listed interval es
     → t5 ≡ t4 ++ section_text form Never listed interval es → t6 ≡ t5 ++ section_text form Passes listed interval es
     → t7 ≡ t6 ++ station_part form listed interval (unit_of interval) es
     → t8 ≡ t7 ++ close_text form → t8 ≡ quality_text form marker listed first last interval es
 unfolding quality_text
 text-is form marker listed first last interval es from until seen r gaps sums t1 t2 t3 t4 t5 t6 t7 t8 begins ends count records gap_count adds e1 e2 e3 e4 e5 e6 e7 e8 =
-    let cs : List ℕ = each_code (λ place code. code_line form code (satellites_in interval es) (code_of_station interval es place)) 0 listed in
+    let cs : List ℕ = codes_text form listed interval es in
     let s1 : List ℕ = section_text form Codes listed interval es in
     let s2 : List ℕ = section_text form Tracked listed interval es in
     let s3 : List ℕ = section_text form Never listed interval es in

@@ -1,12 +1,17 @@
+pub mod Columns
 pub mod Counts
+pub mod Entries
 pub mod Falls
 pub mod Forms
 pub mod Gaps
 pub mod Hours
 pub mod Laws
+pub mod LineText
+pub mod Lists
 pub mod Quality
 pub mod QualityText
 pub mod Records
+pub mod Rows
 pub mod SatellitePasses
 pub mod Standing
 pub mod Steps

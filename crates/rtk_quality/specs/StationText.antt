@@ -1,5 +1,5 @@
--- The text of the hours, gaps and falls of a file, in both forms (this project's rule).
-use Rattle.std.specs.Prelude.{ℕ, Bool, List, [], ◌++◌, flat_map, codes, Option, None, Some, if◌then◌else◌}
+-- The lines of the hours, gaps and falls of a file, and what stands for them in JSON (this project's rule).
+use Rattle.std.specs.Prelude.{ℕ, Bool, List, [], ◌++◌, codes, Some, if◌then◌else◌}
 use Rattle.std.specs.List.{list_any}
 use Rattle.rtk_obs.specs.declared.code.Band.{Band}
 use Rattle.rtk_obs.specs.declared.code.Band.TheVariants.{L1, L2, L5}
@@ -7,7 +7,6 @@ use Rattle.rtk_obs.specs.declared.code.Code.{Code}
 use Rattle.rtk_rinex.specs.Reading.{reading_of}
 use Rattle.rtk_quality.specs.Counts.{plus, mean_hundredths, mean_tenths}
 use Rattle.rtk_quality.specs.Hours.{start_of}
-use Rattle.rtk_quality.specs.Falls.{largest_fall}
 use Rattle.rtk_quality.specs.Strengths.{number_of, is_of_band, of_band}
 use Rattle.rtk_quality.specs.Forms.{value_text, moment_text, start_text, end_text}
 use Rattle.rtk_quality.specs.declared.form.Form.{Form}
@@ -53,36 +52,19 @@ hour_counts_text form h =
 -- the line of an hour
 unfoldable pub hour_line : Form → List Code → HourCounts → List ℕ
 hour_line form listed h =
-    start_text form (codes "hour") ++ moment_text form (codes " ") (codes ",\"hour\":") (reading_of (start_of h.hour)) ++ hour_counts_text form h
+    start_text form (codes "hour") ++ moment_text form (codes " ") (codes "\"hour\":") (reading_of (start_of h.hour)) ++ hour_counts_text form h
     ++ strength_text form listed h.strengths L1 ++ strength_text form listed h.strengths L2 ++ strength_text form listed h.strengths L5 ++ end_text form
 
 -- the line of a gap
 unfoldable pub gap_line : Form → Gap → List ℕ
 gap_line form g =
-    start_text form (codes "gap") ++ moment_text form (codes " from ") (codes ",\"from\":") g.from ++ moment_text form (codes " until ") (codes ",\"until\":") g.until
+    start_text form (codes "gap") ++ moment_text form (codes " from ") (codes "\"from\":") g.from ++ moment_text form (codes " until ") (codes ",\"until\":") g.until
     ++ value_text form (codes " missing ") (codes ",\"missing\":") Whole (Some g.missing) ++ end_text form
 
 -- the line of a fall
 unfoldable pub fall_line : Form → Band → Fall → List ℕ
 fall_line form band f =
-    start_text form (codes "fall") ++ value_text form (codes " band ") (codes ",\"band\":") Whole (Some (number_of band))
+    start_text form (codes "fall") ++ value_text form (codes " band ") (codes "\"band\":") Whole (Some (number_of band))
     ++ moment_text form (codes " from ") (codes ",\"from\":") (reading_of (start_of f.from))
     ++ moment_text form (codes " until ") (codes ",\"until\":") (reading_of (start_of f.until))
     ++ value_text form (codes " mean-strength ") (codes ",\"mean_strength_centidbhz\":") Hundredths (Some f.by) ++ end_text form
-
-abbrev pub line_of_fall : Form → Band → Option Fall → List ℕ
-line_of_fall form band None = []
-line_of_fall form band (Some f) = fall_line form band f
-
--- the line of the largest fall of a band, if there is one
-abbrev pub fall_part : Form → List HourCounts → Band → List ℕ
-fall_part form hours band = line_of_fall form band (largest_fall band hours)
-
-abbrev pub hours_text : Form → List Code → List HourCounts → List ℕ
-hours_text form listed hours = flat_map (hour_line form listed) hours
-
-abbrev pub gaps_text : Form → List Gap → List ℕ
-gaps_text form gaps = flat_map (gap_line form) gaps
-
-unfoldable pub falls_text : Form → List HourCounts → List ℕ
-falls_text form hours = fall_part form hours L1 ++ fall_part form hours L2 ++ fall_part form hours L5

@@ -1,18 +1,18 @@
-//! The numbers of a table.
+//! The numbers of a file.
 
 ghost use Rattle.std.specs.Prelude.{◌≡◌, ◌≤◌, ℕ, List, length, ◌++◌, Option, IfOk, OnOk};
 ghost use Rattle.rtk_rinex.specs.Record.{EpochTableView};
 ghost use Rattle.rtk_quality.specs.Hours.{hours_of};
 ghost use Rattle.rtk_quality.specs.Records.{unit_of};
-ghost use Rattle.rtk_quality.specs.QualityText.{close_text, station_part, quality_text, text_of_none, TellsQuality};
+ghost use Rattle.rtk_quality.specs.QualityText.{no_lists, close_text, station_part, quality_text, text_of_none, TellsQuality};
 ghost use Rattle.rtk_quality.specs.Standing.{StandsForFile};
 
-use crate::entries::put_count;
 use crate::file_counts::{FileCounts, count_file, satellites_in, station_sums};
-use crate::form::{Form, put_end};
+use crate::form::{Form, put_either, put_end};
 use crate::heading::{put_heading, put_marker};
+use crate::lines::put_count;
 use crate::sections::{Section, put_codes, put_section};
-use crate::station_lines::{put_falls, put_gaps, put_hours};
+use crate::station::{put_falls, put_gaps, put_hours};
 use rtk_obs::{Code, GpsMs, civil};
 use rtk_rinex::TextTable;
 use rtk_tracking::interval;
@@ -22,9 +22,21 @@ fn put_close(text: &mut Vec<u8>, form: Form) -> Result<(), AllocError>
     ensures { OnOk result (text.new.items ≡ text.old.items ++ close_text form) }
 {
     match form {
-        Form::Lines => Ok(()),
-        Form::Json => text.extend_from_slice(b"\n]\n"),
+        Form::Table | Form::Lines => Ok(()),
+        Form::Json => text.extend_from_slice(b"}\n"),
     }
+}
+
+// Appends the lists of a file without records, which are empty.
+fn put_no_lists(text: &mut Vec<u8>, form: Form) -> Result<(), AllocError>
+    ensures { OnOk result (text.new.items ≡ text.old.items ++ no_lists form) }
+{
+    put_either(
+        text,
+        form,
+        b"",
+        b",\n\"codes\":[],\n\"satellites\":[],\n\"tracked\":[],\n\"never\":[],\n\"passes\":[],\n\"hours\":[],\n\"gaps\":[],\n\"falls\":[]",
+    )
 }
 
 // The numbers of a file without records.
@@ -36,6 +48,7 @@ fn text_of_none(alloc: Global, form: Form, marker: &[u8]) -> Result<Vec<u8>, All
     put_marker(&mut text, form, marker)?;
     put_count(&mut text, form, b"\nrecords ", b",\"records\":", 0)?;
     put_end(&mut text, form)?;
+    put_no_lists(&mut text, form)?;
     put_close(&mut text, form)?;
     Ok(text)
 }
@@ -104,8 +117,8 @@ fn text_of(
     Ok(text)
 }
 
-/// The numbers of a table as text: as lines, each of which begins with a keyword, or as one JSON document
-/// with whole numbers in the units that its keys name.
+/// The numbers of a file as text: as a table for a person, as lines, each of which begins with a keyword, or
+/// as one JSON object with whole numbers in the units that its keys name. All forms tell the same counts.
 ///
 /// It tells nothing of multipath.
 pub fn quality(alloc: Global, form: Form, table: &TextTable<'_>) -> Result<Vec<u8>, AllocError>

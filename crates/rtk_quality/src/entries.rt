@@ -1,296 +1,148 @@
-//! The lines of a code, of a satellite and of a pass.
+//! The entries of lists, each of them a row of a table, a line, or an object in JSON.
 
-ghost use Rattle.std.specs.Prelude.{◌≡◌, ◌++◌, Some, OnOk};
-ghost use Rattle.rtk_quality.specs.Forms.{in_form, value_text};
-ghost use Rattle.rtk_quality.specs.QualityText.{phases_text, having_text, per_slip_text, locks_text, strengths_text, counts_text, code_name, satellite_name, code_line, satellite_line, sums_text, tracked_line, never_line, pass_line};
-ghost use Rattle.rtk_quality.specs.declared.form.Decimals.TheVariants.{Whole};
+ghost use Rattle.std.specs.Prelude.{◌≡◌, ◌++◌, OnOk};
+ghost use Rattle.rtk_quality.specs.Entries.{code_entry, satellite_entry, never_entry, tracked_entry, pass_entry, hour_entry, gap_entry, fall_entry};
 
-use crate::code_counts::CodeCounts;
-use crate::code_numbers::{CodeNumbers, PerSlip, mean_hundredths, percent_tenths, phases_per_slip};
-use crate::form::{
-    Decimals, Form, put_end, put_moment, put_name, put_narrow, put_start, put_value,
+use crate::code_numbers::CodeNumbers;
+use crate::falls::Fall;
+use crate::form::Form;
+use crate::gaps::Gap;
+use crate::hours::HourCounts;
+use crate::lines::{
+    put_code_line, put_never_line, put_pass_line, put_satellite_line, put_tracked_line,
 };
 use crate::pass_sums::PassSums;
+use crate::rows::{
+    put_code_row, put_fall_row, put_gap_row, put_hour_row, put_never_row, put_pass_row,
+    put_signal_row, put_tracked_row,
+};
 use crate::satellite_counts::PassCounts;
-use rtk_obs::{Code, two_digits};
+use crate::station_lines::{put_fall_line, put_gap_line, put_hour_line};
+use crate::strengths::number_of;
+use rtk_obs::{Band, Code};
 use std::alloc::AllocError;
 
-/// Appends a whole number that is always there.
-pub(crate) fn put_count(
+/// Appends a code over all satellites that have it, of so many that are tracked.
+#[tactic(auto, unfolding(crate::specs::Entries::code_entry))]
+pub(crate) fn put_code_entry(
     text: &mut Vec<u8>,
     form: Form,
-    words: &[u8],
-    key: &[u8],
-    number: u64,
-) -> Result<(), AllocError>
-    ensures { OnOk result (text.new.items ≡ text.old.items ++ value_text form words.now key.now Whole (Some number)) }
-{
-    put_value(text, form, words, key, Decimals::Whole, Some(number))
-}
-
-// Appends phases, and of how many that could be there.
-#[tactic(auto, unfolding(crate::specs::QualityText::phases_text))]
-fn put_phases(text: &mut Vec<u8>, form: Form, numbers: &CodeNumbers) -> Result<(), AllocError>
-    ensures { OnOk result (text.new.items ≡ text.old.items ++ phases_text form numbers.now) }
-{
-    let phases = numbers.counts.phases;
-    put_count(text, form, b" phases ", b",\"phases\":", phases)?;
-    put_count(text, form, b" of ", b",\"possible\":", numbers.possible)?;
-    let percent = percent_tenths(phases, numbers.possible);
-    put_value(
-        text,
-        form,
-        b" percent ",
-        b",\"percent_tenths\":",
-        Decimals::Tenths,
-        Some(percent),
-    )
-}
-
-// Appends on how many of the satellites a code is.
-#[tactic(auto, unfolding(crate::specs::QualityText::having_text))]
-fn put_having(
-    text: &mut Vec<u8>,
-    form: Form,
-    satellites: u64,
+    code: Code,
     tracked: u64,
+    numbers: &CodeNumbers,
 ) -> Result<(), AllocError>
-    ensures { OnOk result (text.new.items ≡ text.old.items ++ having_text form satellites tracked) }
-{
-    put_count(text, form, b" satellites ", b",\"satellites\":", satellites)?;
-    put_count(text, form, b" of ", b",\"tracked\":", tracked)
-}
-
-// Appends a text in a line, or another one in JSON.
-fn put_either(text: &mut Vec<u8>, form: Form, line: &[u8], json: &[u8]) -> Result<(), AllocError>
-    ensures { OnOk result (text.new.items ≡ text.old.items ++ in_form form line.now json.now) }
+    ensures { OnOk result (text.new.items ≡ text.old.items ++ code_entry form code tracked numbers.now) }
 {
     match form {
-        Form::Lines => text.extend_from_slice(line),
-        Form::Json => text.extend_from_slice(json),
+        Form::Table => put_code_row(text, code, tracked, numbers),
+        Form::Lines | Form::Json => put_code_line(text, form, code, tracked, numbers),
     }
 }
 
-// Appends how many phases there are for each slip.
-#[tactic(auto, unfolding(crate::specs::QualityText::per_slip_text))]
-fn put_per_slip(text: &mut Vec<u8>, form: Form, per_slip: PerSlip) -> Result<(), AllocError>
-    ensures { OnOk result (text.new.items ≡ text.old.items ++ per_slip_text form per_slip) }
-{
-    match per_slip {
-        PerSlip::NoPhase => put_either(
-            text,
-            form,
-            b" phases-per-slip no-phase",
-            b",\"phases_per_slip\":null",
-        ),
-        PerSlip::NoneLost => put_either(
-            text,
-            form,
-            b" phases-per-slip none-lost",
-            b",\"phases_per_slip\":null",
-        ),
-        PerSlip::Each(number) => put_count(
-            text,
-            form,
-            b" phases-per-slip ",
-            b",\"phases_per_slip\":",
-            number,
-        ),
-    }
-}
-
-// Appends ranges without a phase, bits 0, half cycles, and phases for each slip.
-#[tactic(auto, unfolding(crate::specs::QualityText::locks_text))]
-fn put_locks(text: &mut Vec<u8>, form: Form, counts: &CodeCounts) -> Result<(), AllocError>
-    ensures { OnOk result (text.new.items ≡ text.old.items ++ locks_text form counts.now) }
-{
-    put_count(
-        text,
-        form,
-        b" ranges-only ",
-        b",\"ranges_only\":",
-        counts.ranges,
-    )?;
-    put_count(text, form, b" slips ", b",\"slips\":", counts.slips)?;
-    put_count(text, form, b" returns ", b",\"returns\":", counts.returns)?;
-    put_count(text, form, b" rises ", b",\"rises\":", counts.rises)?;
-    put_count(
-        text,
-        form,
-        b" half-cycles ",
-        b",\"half_cycles\":",
-        counts.halves,
-    )?;
-    let each = phases_per_slip(counts.phases, counts.slips);
-    put_per_slip(text, form, each)?;
-    Ok(())
-}
-
-// Appends strengths.
-#[tactic(auto, unfolding(crate::specs::QualityText::strengths_text))]
-fn put_strengths(text: &mut Vec<u8>, form: Form, counts: &CodeCounts) -> Result<(), AllocError>
-    ensures { OnOk result (text.new.items ≡ text.old.items ++ strengths_text form counts.now) }
-{
-    put_narrow(
-        text,
-        form,
-        b" least-strength ",
-        b",\"least_strength_millidbhz\":",
-        Decimals::Thousandths,
-        counts.least,
-    )?;
-    let mean = mean_hundredths(counts.strength_sum, counts.strengths);
-    put_value(
-        text,
-        form,
-        b" mean-strength ",
-        b",\"mean_strength_centidbhz\":",
-        Decimals::Hundredths,
-        mean,
-    )?;
-    put_narrow(
-        text,
-        form,
-        b" greatest-strength ",
-        b",\"greatest_strength_millidbhz\":",
-        Decimals::Thousandths,
-        counts.greatest,
-    )?;
-    Ok(())
-}
-
-// Appends locks and strengths, up to the end of their line.
-#[tactic(auto, unfolding(crate::specs::QualityText::counts_text))]
-fn put_counts(text: &mut Vec<u8>, form: Form, counts: &CodeCounts) -> Result<(), AllocError>
-    ensures { OnOk result (text.new.items ≡ text.old.items ++ counts_text form counts.now) }
-{
-    put_locks(text, form, counts)?;
-    put_strengths(text, form, counts)?;
-    put_end(text, form)
-}
-
-#[tactic(auto, unfolding(crate::specs::QualityText::code_name))]
-fn put_code_name(text: &mut Vec<u8>, form: Form, code: Code) -> Result<(), AllocError>
-    ensures { OnOk result (text.new.items ≡ text.old.items ++ code_name form code) }
-{
-    put_name(text, form, b",\"code\":\"", &code.name())
-}
-
-#[tactic(auto, unfolding(crate::specs::QualityText::satellite_name))]
-fn put_satellite_name(text: &mut Vec<u8>, form: Form, satellite: u8) -> Result<(), AllocError>
-    ensures { OnOk result (text.new.items ≡ text.old.items ++ satellite_name form satellite) }
-{
-    let digits = two_digits(satellite);
-    put_name(
-        text,
-        form,
-        b",\"satellite\":\"",
-        &[b'G', digits[0], digits[1]],
-    )
-}
-
-/// Appends the line of a code over all satellites that have it, of so many that are tracked.
-#[tactic(auto, unfolding(crate::specs::QualityText::code_line))]
-pub(crate) fn put_code_line(
-    text: &mut Vec<u8>,
-    form: Form,
-    code: Code,
-    tracked: u64,
-    numbers: &CodeNumbers,
-) -> Result<(), AllocError>
-    ensures { OnOk result (text.new.items ≡ text.old.items ++ code_line form code tracked numbers.now) }
-{
-    put_start(text, form, b"code")?;
-    put_code_name(text, form, code)?;
-    put_phases(text, form, numbers)?;
-    put_having(text, form, numbers.satellites, tracked)?;
-    put_counts(text, form, &numbers.counts)
-}
-
-/// Appends the line of a code that a satellite has.
-#[tactic(auto, unfolding(crate::specs::QualityText::satellite_line))]
-pub(crate) fn put_satellite_line(
+/// Appends a code that a satellite has.
+#[tactic(auto, unfolding(crate::specs::Entries::satellite_entry))]
+pub(crate) fn put_satellite_entry(
     text: &mut Vec<u8>,
     form: Form,
     satellite: u8,
     code: Code,
     numbers: &CodeNumbers,
 ) -> Result<(), AllocError>
-    ensures { OnOk result (text.new.items ≡ text.old.items ++ satellite_line form satellite code numbers.now) }
+    ensures { OnOk result (text.new.items ≡ text.old.items ++ satellite_entry form satellite code numbers.now) }
 {
-    put_start(text, form, b"satellite")?;
-    put_satellite_name(text, form, satellite)?;
-    put_code_name(text, form, code)?;
-    put_phases(text, form, numbers)?;
-    put_counts(text, form, &numbers.counts)
+    match form {
+        Form::Table => put_signal_row(text, satellite, code, numbers),
+        Form::Lines | Form::Json => put_satellite_line(text, form, satellite, code, numbers),
+    }
 }
 
-/// Appends the line of a code of the file that a satellite has nowhere.
-#[tactic(auto, unfolding(crate::specs::QualityText::never_line))]
-pub(crate) fn put_never_line(
+/// Appends a code of the file of which a satellite has no phase.
+#[tactic(auto, unfolding(crate::specs::Entries::never_entry))]
+pub(crate) fn put_never_entry(
     text: &mut Vec<u8>,
     form: Form,
     satellite: u8,
     code: Code,
 ) -> Result<(), AllocError>
-    ensures { OnOk result (text.new.items ≡ text.old.items ++ never_line form satellite code) }
+    ensures { OnOk result (text.new.items ≡ text.old.items ++ never_entry form satellite code) }
 {
-    put_start(text, form, b"never")?;
-    put_satellite_name(text, form, satellite)?;
-    put_code_name(text, form, code)?;
-    put_end(text, form)
+    match form {
+        Form::Table => put_never_row(text, satellite, code),
+        Form::Lines | Form::Json => put_never_line(text, form, satellite, code),
+    }
 }
 
-// Appends the sums of a pass or of a satellite.
-#[tactic(auto, unfolding(crate::specs::QualityText::sums_text))]
-fn put_sums(text: &mut Vec<u8>, form: Form, sums: &PassSums) -> Result<(), AllocError>
-    ensures { OnOk result (text.new.items ≡ text.old.items ++ sums_text form sums.now) }
-{
-    put_count(text, form, b" phases ", b",\"phases\":", sums.phases)?;
-    put_count(text, form, b" slips ", b",\"slips\":", sums.slips)?;
-    put_count(text, form, b" moments ", b",\"moments\":", sums.moments)?;
-    put_count(text, form, b" outages ", b",\"outages\":", sums.outages)?;
-    put_value(
-        text,
-        form,
-        b" outage-time ",
-        b",\"outage_time_ms\":",
-        Decimals::Thousandths,
-        Some(sums.outage_ms),
-    )?;
-    Ok(())
-}
-
-/// Appends the line of all codes of a satellite.
-#[tactic(auto, unfolding(crate::specs::QualityText::tracked_line))]
-pub(crate) fn put_tracked_line(
+/// Appends all codes of a satellite.
+#[tactic(auto, unfolding(crate::specs::Entries::tracked_entry))]
+pub(crate) fn put_tracked_entry(
     text: &mut Vec<u8>,
     form: Form,
     satellite: u8,
     sums: &PassSums,
 ) -> Result<(), AllocError>
-    ensures { OnOk result (text.new.items ≡ text.old.items ++ tracked_line form satellite sums.now) }
+    ensures { OnOk result (text.new.items ≡ text.old.items ++ tracked_entry form satellite sums.now) }
 {
-    put_start(text, form, b"tracked")?;
-    put_satellite_name(text, form, satellite)?;
-    put_sums(text, form, sums)?;
-    put_end(text, form)
+    match form {
+        Form::Table => put_tracked_row(text, satellite, sums),
+        Form::Lines | Form::Json => put_tracked_line(text, form, satellite, sums),
+    }
 }
 
-/// Appends the line of a pass.
-#[tactic(auto, unfolding(crate::specs::QualityText::pass_line))]
-pub(crate) fn put_pass_line(
+/// Appends a pass.
+#[tactic(auto, unfolding(crate::specs::Entries::pass_entry))]
+pub(crate) fn put_pass_entry(
     text: &mut Vec<u8>,
     form: Form,
     satellite: u8,
     pass: &PassCounts,
 ) -> Result<(), AllocError>
-    ensures { OnOk result (text.new.items ≡ text.old.items ++ pass_line form satellite pass.now) }
+    ensures { OnOk result (text.new.items ≡ text.old.items ++ pass_entry form satellite pass.now) }
 {
-    put_start(text, form, b"pass")?;
-    put_satellite_name(text, form, satellite)?;
-    put_moment(text, form, b" from ", b",\"from\":", pass.from)?;
-    put_moment(text, form, b" until ", b",\"until\":", pass.until)?;
-    put_sums(text, form, &pass.sums)?;
-    put_end(text, form)
+    match form {
+        Form::Table => put_pass_row(text, satellite, pass),
+        Form::Lines | Form::Json => put_pass_line(text, form, satellite, pass),
+    }
+}
+
+/// Appends an hour.
+#[tactic(auto, unfolding(crate::specs::Entries::hour_entry))]
+pub(crate) fn put_hour_entry(
+    text: &mut Vec<u8>,
+    form: Form,
+    codes: &[Code],
+    hour: &HourCounts,
+) -> Result<(), AllocError>
+    ensures { OnOk result (text.new.items ≡ text.old.items ++ hour_entry form codes.now hour.now) }
+{
+    match form {
+        Form::Table => put_hour_row(text, hour),
+        Form::Lines | Form::Json => put_hour_line(text, form, codes, hour),
+    }
+}
+
+/// Appends a gap.
+#[tactic(auto, unfolding(crate::specs::Entries::gap_entry))]
+pub(crate) fn put_gap_entry(text: &mut Vec<u8>, form: Form, gap: &Gap) -> Result<(), AllocError>
+    ensures { OnOk result (text.new.items ≡ text.old.items ++ gap_entry form gap.now) }
+{
+    match form {
+        Form::Table => put_gap_row(text, gap),
+        Form::Lines | Form::Json => put_gap_line(text, form, gap),
+    }
+}
+
+/// Appends the largest fall of a band.
+#[tactic(auto, unfolding(crate::specs::Entries::fall_entry))]
+pub(crate) fn put_fall_entry(
+    text: &mut Vec<u8>,
+    form: Form,
+    band: Band,
+    fall: &Fall,
+) -> Result<(), AllocError>
+    ensures { OnOk result (text.new.items ≡ text.old.items ++ fall_entry form band fall.now) }
+{
+    match form {
+        Form::Table => put_fall_row(text, number_of(band), fall),
+        Form::Lines | Form::Json => put_fall_line(text, form, band, fall),
+    }
 }

@@ -1,8 +1,10 @@
-//! The two forms of a text: lines, and JSON.
+//! The three forms of a text: a table, lines, and JSON.
 
-ghost use Rattle.std.specs.Prelude.{◌≡◌, ◌++◌, OnOk};
-ghost use Rattle.rtk_quality.specs.Forms.{point_text, line_number, json_number, value_text, moment_text, name_text, start_text, end_text, json_character, json_text};
+ghost use Rattle.std.specs.Prelude.{◌≡◌, ◌≤◌, ◌-◌, ◌++◌, ℕ, List, length, OnOk};
+ghost use Rattle.rtk_obs.specs.CivilText.{civil_text};
+ghost use Rattle.rtk_quality.specs.Forms.{in_form, padded, lined_up, point_text, line_number, json_number, value_text, moment_text, name_text, start_text, end_text, json_character, json_text};
 
+use crate::columns::pad_from;
 use rtk_message::put_number;
 use rtk_obs::{Civil, put_civil, three_digits, two_digits};
 use std::alloc::AllocError;
@@ -10,11 +12,16 @@ use std::alloc::AllocError;
 /// The form of a text.
 #[derive(Clone, Copy, Debug, PartialEq, Eq)]
 pub enum Form {
+    /// A table of at most 80 columns, as long as no number is wider than its column.
+    Table,
     /// Lines, each of which begins with a keyword.
     Lines,
-    /// One JSON document: an array with an object for the file, and one for each further line.
+    /// One JSON object: an object of the file, and arrays of objects that stand for the further lines.
     Json,
 }
+
+/// How wide a word and its value are in the heading of a table, the line end before the word included.
+const HEADING_WIDTH: usize = 44;
 
 /// The unit of a number, by the digits behind its point.
 #[derive(Clone, Copy)]
@@ -48,7 +55,8 @@ fn put_point(text: &mut Vec<u8>, decimals: Decimals, number: u64) -> Result<(), 
     }
 }
 
-fn put_line_number(
+/// Appends a number in decimal, or a hyphen if there is none.
+pub(crate) fn put_line_number(
     text: &mut Vec<u8>,
     decimals: Decimals,
     number: Option<u64>,
@@ -70,7 +78,43 @@ fn put_json_number(text: &mut Vec<u8>, number: Option<u64>) -> Result<(), AllocE
     }
 }
 
-/// Appends a number after its words in a line, or after its key.
+// Moves what was appended after words from a place on to the right, up to the end of its column.
+fn line_up(text: &mut Vec<u8>, at: usize, words: &[u8]) -> Result<(), AllocError>
+    requires { at ≤ length text.old.items }
+    ensures { OnOk result ((before value : List ℕ) → length before ≡ at → text.old.items ≡ before ++ value
+        → text.new.items ≡ before ++ padded (44 - length words.now) value) }
+{
+    pad_from(text, at, HEADING_WIDTH.saturating_sub(words.len()))
+}
+
+// Appends a number of the heading of a table after its words.
+fn put_lined_up(
+    text: &mut Vec<u8>,
+    words: &[u8],
+    decimals: Decimals,
+    number: Option<u64>,
+) -> Result<(), AllocError>
+    ensures { OnOk result (text.new.items ≡ text.old.items ++ lined_up words.now (line_number decimals number)) }
+{
+    text.extend_from_slice(words)?;
+    let at = text.len();
+    put_line_number(text, decimals, number)?;
+    line_up(text, at, words)?;
+    Ok(())
+}
+
+// Appends a moment of the heading of a table after its words.
+fn put_moment_lined_up(text: &mut Vec<u8>, words: &[u8], reading: Civil) -> Result<(), AllocError>
+    ensures { OnOk result (text.new.items ≡ text.old.items ++ lined_up words.now (civil_text reading)) }
+{
+    text.extend_from_slice(words)?;
+    let at = text.len();
+    put_civil(text, reading)?;
+    line_up(text, at, words)?;
+    Ok(())
+}
+
+/// Appends a number after its words in the heading of a table or in a line, or after its key.
 #[tactic(auto, unfolding(crate::specs::Forms::value_text))]
 pub(crate) fn put_value(
     text: &mut Vec<u8>,
@@ -83,6 +127,7 @@ pub(crate) fn put_value(
     ensures { OnOk result (text.new.items ≡ text.old.items ++ value_text form words.now key.now decimals number) }
 {
     match form {
+        Form::Table => put_lined_up(text, words, decimals, number),
         Form::Lines => {
             text.extend_from_slice(words)?;
             put_line_number(text, decimals, number)
@@ -94,8 +139,8 @@ pub(crate) fn put_value(
     }
 }
 
-// Returns the same number in 64 bits.
-fn widened(number: Option<u32>) -> Option<u64>
+/// Returns the same number in 64 bits.
+pub(crate) fn widened(number: Option<u32>) -> Option<u64>
     ensures { result ≡ number }
 {
     match number {
@@ -118,7 +163,7 @@ pub(crate) fn put_narrow(
     put_value(text, form, words, key, decimals, widened(number))
 }
 
-/// Appends a moment after its words in a line, or after its key.
+/// Appends a moment after its words in the heading of a table or in a line, or after its key.
 #[tactic(auto, unfolding(crate::specs::Forms::moment_text))]
 pub(crate) fn put_moment(
     text: &mut Vec<u8>,
@@ -130,6 +175,7 @@ pub(crate) fn put_moment(
     ensures { OnOk result (text.new.items ≡ text.old.items ++ moment_text form words.now key.now reading) }
 {
     match form {
+        Form::Table => put_moment_lined_up(text, words, reading),
         Form::Lines => {
             text.extend_from_slice(words)?;
             put_civil(text, reading)
@@ -155,7 +201,7 @@ pub(crate) fn put_name(
     ensures { OnOk result (text.new.items ≡ text.old.items ++ name_text form key.now name.now) }
 {
     match form {
-        Form::Lines => {
+        Form::Table | Form::Lines => {
             text.push(b' ')?;
             text.extend_from_slice(name)
         }
@@ -168,18 +214,29 @@ pub(crate) fn put_name(
     }
 }
 
+/// Appends a text in a table or a line, or another one in JSON.
+pub(crate) fn put_either(
+    text: &mut Vec<u8>,
+    form: Form,
+    line: &[u8],
+    json: &[u8],
+) -> Result<(), AllocError>
+    ensures { OnOk result (text.new.items ≡ text.old.items ++ in_form form line.now json.now) }
+{
+    match form {
+        Form::Table | Form::Lines => text.extend_from_slice(line),
+        Form::Json => text.extend_from_slice(json),
+    }
+}
+
 /// Appends the start of a line.
 #[tactic(auto, unfolding(crate::specs::Forms::start_text))]
 pub(crate) fn put_start(text: &mut Vec<u8>, form: Form, keyword: &[u8]) -> Result<(), AllocError>
     ensures { OnOk result (text.new.items ≡ text.old.items ++ start_text form keyword.now) }
 {
     match form {
-        Form::Lines => text.extend_from_slice(keyword),
-        Form::Json => {
-            text.extend_from_slice(b",\n{\"line\":\"")?;
-            text.extend_from_slice(keyword)?;
-            text.extend_from_slice(b"\"")
-        }
+        Form::Table | Form::Lines => text.extend_from_slice(keyword),
+        Form::Json => text.extend_from_slice(b",\n{"),
     }
 }
 
@@ -188,7 +245,7 @@ pub(crate) fn put_end(text: &mut Vec<u8>, form: Form) -> Result<(), AllocError>
     ensures { OnOk result (text.new.items ≡ text.old.items ++ end_text form) }
 {
     match form {
-        Form::Lines => text.extend_from_slice(b"\n"),
+        Form::Table | Form::Lines => text.extend_from_slice(b"\n"),
         Form::Json => text.extend_from_slice(b"}"),
     }
 }

@@ -4,8 +4,8 @@ ghost use Rattle.std.specs.Prelude.{◌≡◌, ◌++◌, OnOk};
 ghost use Rattle.rtk_quality.specs.QualityText.{marker_text, span_text, satellites_text, station_text, heading_text};
 
 use crate::code_numbers::mean_tenths;
-use crate::entries::put_count;
 use crate::form::{Decimals, Form, put_end, put_json_text, put_moment, put_narrow, put_value};
+use crate::lines::put_count;
 use crate::pass_sums::PassSums;
 use crate::record_counts::RecordCounts;
 use rtk_obs::Civil;
@@ -17,12 +17,12 @@ pub(crate) fn put_marker(text: &mut Vec<u8>, form: Form, marker: &[u8]) -> Resul
     ensures { OnOk result (text.new.items ≡ text.old.items ++ marker_text form marker.now) }
 {
     match form {
-        Form::Lines => {
+        Form::Table | Form::Lines => {
             text.extend_from_slice(b"marker ")?;
             text.extend_from_slice(marker)
         }
         Form::Json => {
-            text.extend_from_slice(b"[{\"line\":\"file\",\"marker\":\"")?;
+            text.extend_from_slice(b"{\"file\":{\"marker\":\"")?;
             put_json_text(text, marker)?;
             text.extend_from_slice(b"\"")?;
             Ok(())

@@ -50,6 +50,7 @@
 
 mod code_counts;
 mod code_numbers;
+mod columns;
 mod document;
 mod entries;
 mod falls;
@@ -59,10 +60,14 @@ mod gaps;
 mod heading;
 mod hours;
 mod laws;
+mod lines;
+mod lists;
 mod pass_sums;
 mod record_counts;
+mod rows;
 mod satellite_counts;
 mod sections;
+mod station;
 mod station_lines;
 mod strengths;
 

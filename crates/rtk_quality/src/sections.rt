@@ -1,19 +1,21 @@
-//! The lines of all codes and satellites.
+//! The codes and the satellites.
 
 ghost use Rattle.std.specs.Prelude.{◌≡◌, ◌<◌, ◌≤◌, ℕ, ◌+◌, List, ◌++◌, length, reverse, flat_map, OnOk, Option};
 ghost use Rattle.rtk_rinex.specs.Record.{EpochTableView};
 ghost use Rattle.rtk_tracking.specs.Passes.{Sighting};
+ghost use Rattle.rtk_quality.specs.Entries.{code_entry, pass_entry};
 ghost use Rattle.rtk_quality.specs.Quality.{numbers_of, code_of_station, satellites_in};
 ghost use Rattle.rtk_quality.specs.SatellitePasses.{passes_of};
-ghost use Rattle.rtk_quality.specs.QualityText.{code_line, pass_line, each_code, code_in, part_of, section_text};
+ghost use Rattle.rtk_quality.specs.QualityText.{each_code, code_in, part_of, parts_of, section_heading, section_key, section_text, codes_text};
 ghost use Rattle.rtk_quality.specs.Standing.{ended_of, StandsForSatellite, HasEnded, StandForSatellites, StandForEnded};
 
 use crate::code_numbers::CodeNumbers;
 use crate::entries::{
-    put_code_line, put_never_line, put_pass_line, put_satellite_line, put_tracked_line,
+    put_code_entry, put_never_entry, put_pass_entry, put_satellite_entry, put_tracked_entry,
 };
 use crate::file_counts::{EndedPass, possible_in, satellites_in, totals_of};
 use crate::form::Form;
+use crate::lists::{begin_list, end_list};
 use crate::satellite_counts::SatelliteCounts;
 use rtk_obs::Code;
 use std::alloc::AllocError;
@@ -31,7 +33,53 @@ pub(crate) enum Section {
     Passes,
 }
 
-/// Appends the lines of codes over all satellites that have them.
+// The heading of a section in a table. The codes of satellites follow those of the station.
+fn section_heading(section: Section) -> &'static [u8]
+    ensures { result.now ≡ section_heading section }
+{
+    match section {
+        Section::Codes => b"",
+        Section::Tracked => b"\nsat    phases  slips  moments  outages        time\n",
+        Section::Never => b"\nnever a phase\n",
+        Section::Passes => {
+            b"\nsat from                until               phases slips moments outages   time\n"
+        }
+    }
+}
+
+// The key of a section in JSON.
+fn section_key(section: Section) -> &'static [u8]
+    ensures { result.now ≡ section_key section }
+{
+    match section {
+        Section::Codes => b",\n\"satellites\":[",
+        Section::Tracked => b",\n\"tracked\":[",
+        Section::Never => b",\n\"never\":[",
+        Section::Passes => b",\n\"passes\":[",
+    }
+}
+
+// Appends each code over all satellites that have it.
+fn put_each_code(
+    text: &mut Vec<u8>,
+    form: Form,
+    codes: &[Code],
+    satellites: &[SatelliteCounts],
+) -> Result<(), AllocError>
+    requires { length codes.now ≤ 16 }
+    ensures { OnOk result ((interval : Option ℕ) (es : List EpochTableView) → StandForSatellites satellites.now interval es
+        → text.new.items ≡ text.old.items ++ each_code (λ place code. code_entry form code (satellites_in interval es) (code_of_station interval es place)) 0 codes.now) }
+{
+    let tracked = satellites_in(satellites) as u64;
+    let possible = possible_in(satellites);
+    for (at, code) in codes.iter().enumerate() {
+        let numbers = totals_of(satellites, at).of_station(possible);
+        put_code_entry(text, form, *code, tracked, &numbers)?;
+    }
+    Ok(())
+}
+
+/// Appends the codes of the station.
 pub(crate) fn put_codes(
     text: &mut Vec<u8>,
     form: Form,
@@ -40,14 +88,16 @@ pub(crate) fn put_codes(
 ) -> Result<(), AllocError>
     requires { length codes.now ≤ 16 }
     ensures { OnOk result ((interval : Option ℕ) (es : List EpochTableView) → StandForSatellites satellites.now interval es
-        → text.new.items ≡ text.old.items ++ each_code (λ place code. code_line form code (satellites_in interval es) (code_of_station interval es place)) 0 codes.now) }
+        → text.new.items ≡ text.old.items ++ codes_text form codes.now interval es) }
 {
-    let tracked = satellites_in(satellites) as u64;
-    let possible = possible_in(satellites);
-    for (at, code) in codes.iter().enumerate() {
-        let numbers = totals_of(satellites, at).of_station(possible);
-        put_code_line(text, form, *code, tracked, &numbers)?;
-    }
+    let start = begin_list(
+        text,
+        form,
+        b"\nsignal phases     of      % ranges slips returns rises half     min  mean    max\n",
+        b",\n\"codes\":[",
+    )?;
+    put_each_code(text, form, codes, satellites)?;
+    end_list(text, form, start)?;
     Ok(())
 }
 
@@ -64,10 +114,10 @@ fn put_code_in(
 {
     match section {
         Section::Codes if numbers.counts.seen => {
-            put_satellite_line(text, form, satellite, code, numbers)
+            put_satellite_entry(text, form, satellite, code, numbers)
         }
         Section::Never if numbers.counts.phases == 0 => {
-            put_never_line(text, form, satellite, code)
+            put_never_entry(text, form, satellite, code)
         }
         _ => Ok(()),
     }
@@ -99,11 +149,11 @@ fn put_ended(
     satellite: u8,
     ended: &[EndedPass],
 ) -> Result<(), AllocError>
-    ensures { OnOk result (text.new.items ≡ text.old.items ++ flat_map (pass_line form satellite) (ended_of satellite ended.now)) }
+    ensures { OnOk result (text.new.items ≡ text.old.items ++ flat_map (pass_entry form satellite) (ended_of satellite ended.now)) }
 {
     for one in ended {
         if one.satellite == satellite {
-            put_pass_line(text, form, satellite, &one.pass)?;
+            put_pass_entry(text, form, satellite, &one.pass)?;
         }
     }
     Ok(())
@@ -118,12 +168,12 @@ fn put_passes(
     ended: &[EndedPass],
 ) -> Result<(), AllocError>
     ensures { OnOk result ((interval : Option ℕ) (before : List Sighting) → StandsForSatellite counts.now interval before → HasEnded ended.now interval before satellite
-        → text.new.items ≡ text.old.items ++ flat_map (pass_line form satellite) (reverse (passes_of interval before))) }
+        → text.new.items ≡ text.old.items ++ flat_map (pass_entry form satellite) (reverse (passes_of interval before))) }
 {
     put_ended(text, form, satellite, ended)?;
     match counts.last {
         Some(pass) => {
-            put_pass_line(text, form, satellite, &pass)?;
+            put_pass_entry(text, form, satellite, &pass)?;
             Ok(())
         }
         None => Ok(()),
@@ -147,13 +197,34 @@ fn put_part(
     match section {
         Section::Codes => put_codes_in(text, form, section, codes, satellite, counts),
         Section::Tracked | Section::Never if !counts.is_in_file() => Ok(()),
-        Section::Tracked => put_tracked_line(text, form, satellite, &counts.sums()),
+        Section::Tracked => put_tracked_entry(text, form, satellite, &counts.sums()),
         Section::Never => put_codes_in(text, form, section, codes, satellite, counts),
         Section::Passes => put_passes(text, form, satellite, counts, ended),
     }
 }
 
-/// Appends a section: what it has of each satellite.
+// Appends what a section has of each satellite.
+fn put_parts(
+    text: &mut Vec<u8>,
+    form: Form,
+    section: Section,
+    codes: &[Code],
+    satellites: &[SatelliteCounts],
+    ended: &[EndedPass],
+) -> Result<(), AllocError>
+    requires few { length codes.now ≤ 16 }
+    requires size { length satellites.now ≡ 32 }
+    ensures { OnOk result ((interval : Option ℕ) (es : List EpochTableView) → StandForSatellites satellites.now interval es → StandForEnded ended.now interval es
+        → text.new.items ≡ text.old.items ++ parts_of form section codes.now interval es) }
+{
+    for (place, counts) in satellites.iter().enumerate() {
+        let satellite = place as u8 + 1;
+        put_part(text, form, section, codes, satellite, counts, ended)?;
+    }
+    Ok(())
+}
+
+/// Appends a section.
 pub(crate) fn put_section(
     text: &mut Vec<u8>,
     form: Form,
@@ -167,9 +238,10 @@ pub(crate) fn put_section(
     ensures { OnOk result ((interval : Option ℕ) (es : List EpochTableView) → StandForSatellites satellites.now interval es → StandForEnded ended.now interval es
         → text.new.items ≡ text.old.items ++ section_text form section codes.now interval es) }
 {
-    for (place, counts) in satellites.iter().enumerate() {
-        let satellite = place as u8 + 1;
-        put_part(text, form, section, codes, satellite, counts, ended)?;
-    }
+    let heading = section_heading(section);
+    let key = section_key(section);
+    let start = begin_list(text, form, heading, key)?;
+    put_parts(text, form, section, codes, satellites, ended)?;
+    end_list(text, form, start)?;
     Ok(())
 }

@@ -1,7 +1,7 @@
 //! The strengths of bands.
 
 ghost use Rattle.std.specs.Prelude.{◌≡◌, Option};
-ghost use Rattle.rtk_quality.specs.Strengths.{of_band};
+ghost use Rattle.rtk_quality.specs.Strengths.{number_of, of_band};
 ghost use Rattle.rtk_quality.specs.Steps.Noted.{no_strengths, all_without, with_one, with_strength, with_row, with_rows};
 
 use rtk_obs::{Band, Code};
@@ -20,6 +20,17 @@ pub(crate) struct Strengths {
     pub(crate) l1: BandStrengths,
     pub(crate) l2: BandStrengths,
     pub(crate) l5: BandStrengths,
+}
+
+/// The number of a band in the names of codes.
+pub(crate) fn number_of(band: Band) -> u64
+    ensures { result ≡ number_of band }
+{
+    match band {
+        Band::L1 => 1,
+        Band::L2 => 2,
+        Band::L5 => 5,
+    }
 }
 
 impl BandStrengths {

@@ -339,21 +339,21 @@ solid-if o cells true is h e rest =
 solid-if o cells false is h e rest =
     are_blanks-append (observations o) (flat_map observations cells) ∙ and-right (are_blanks (observations o)) (are_blanks (flat_map observations cells)) (rest e)
 
-solid-cells : (cells : List Observed) → All IsObserved cells → list_any has_observation cells ≡ true → are_blanks (flat_map observations cells) ≡ false
+pub solid-cells : (cells : List Observed) → All IsObserved cells → list_any has_observation cells ≡ true → are_blanks (flat_map observations cells) ≡ false
 solid-cells [] h e = cc
 solid-cells (o ∷ cells) h e =
     solid-if o cells (has_observation o) refl (All-head IsObserved o cells h) e (λ more. solid-cells cells (All-tail IsObserved o cells h) more)
 
 -- ---- the line of a row
 
-trim_end-blanks : (xs : List ℕ) (k : ℕ) → trim_end (xs ++ replicate k 32) ≡ trim_end xs
+pub trim_end-blanks : (xs : List ℕ) (k : ℕ) → trim_end (xs ++ replicate k 32) ≡ trim_end xs
 trim_end-blanks xs zero = ap trim_end (append-nil xs)
 trim_end-blanks xs (suc k) =
     let one : xs ++ 32 ∷ replicate {A = ℕ} k 32 ≡ (xs ++ 32 ∷ []) ++ replicate k 32 = sym (append_assoc xs (32 ∷ []) (replicate k 32)) in
     ap trim_end one ∙ trim_end-blanks (xs ++ 32 ∷ []) k ∙ trim_end-blank xs
 
 -- a text whose last character is no blank
-trim_end-solid : (xs : List ℕ) → 0 < length xs → get_or xs (length xs - 1) 0 ≢ 32 → trim_end xs ≡ xs
+pub trim_end-solid : (xs : List ℕ) → 0 < length xs → get_or xs (length xs - 1) 0 ≢ 32 → trim_end xs ≡ xs
 trim_end-solid xs some last =
     let all : take (length xs) xs ≡ xs = take_all (length xs) xs (omega arith) in
     ap trim_end (sym all) ∙ trim_end-done xs (length xs) some (omega arith) last ∙ all
@@ -417,12 +417,12 @@ shows-if n front cells s false h e long is =
     let size : length front ≡ 3 = ap length (sym e ∙ short) in
     absurd (omega (arith, size, long))
 
-same_end : (xs ys : List ℕ) → xs ++ 10 ∷ [] ≡ ys ++ 10 ∷ [] → xs ≡ ys
+pub same_end : (xs ys : List ℕ) → xs ++ 10 ∷ [] ≡ ys ++ 10 ∷ [] → xs ≡ ys
 same_end xs ys e =
     let size : length xs ≡ length ys = omega (arith, ap length e, length-append xs (10 ∷ []), length-append ys (10 ∷ [])) in
     sym (take-exact (length xs) xs (10 ∷ []) refl) ∙ ap (take (length xs)) e ∙ take-exact (length xs) ys (10 ∷ []) (sym size)
 
-some-columns : (columns : List ℕ) (k : ℕ) (text : List ℕ) → length columns ≡ 0 → columns ++ replicate k 32 ≡ text → are_blanks text ≡ false → ⊥
+pub some-columns : (columns : List ℕ) (k : ℕ) (text : List ℕ) → length columns ≡ 0 → columns ++ replicate k 32 ≡ text → are_blanks text ≡ false → ⊥
 some-columns [] k text z e h = clash (are_blanks text) h (ap are_blanks (sym e) ∙ are_blanks-replicate k)
 some-columns (x ∷ columns) k text z e h = omega (arith, z)
 

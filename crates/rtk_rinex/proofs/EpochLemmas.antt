@@ -4,7 +4,6 @@ use Rattle.std.proofs.lemmas.List.{take_at, drop_at, drop-drop}
 use borrow.Rule.Slice.PartMut.{put_mid}
 use Rattle.rtk_obs.specs.CivilText.{last_digits}
 use Rattle.rtk_rinex.proofs.ColumnsLemmas.{right-front}
-use Rattle.std.specs.Int.{IsInRange}
 use Rattle.std.proofs.lemmas.Fmt.{length-decimal-le}
 use Rattle.rtk_obs.specs.declared.time.Civil.{Civil}
 use Rattle.rtk_rinex.specs.Columns.{right, decimals}
@@ -122,24 +121,23 @@ pub record ShowsEpoch (line : List ℕ) (t n : ℕ) : Type 0 where
   pub reading : civil_in line ≡ reading_of t
   pub count : count_in line ≡ n
 
-pub epoch-shows : (line : List ℕ) (t n : ℕ) → IsMoment t → IsInRange 1 32 n → line ≡ epoch_columns (reading_of t) n → ShowsEpoch line t n
+pub epoch-shows : (line : List ℕ) (t n : ℕ) → IsMoment t → n < 1000 → line ≡ epoch_columns (reading_of t) n → ShowsEpoch line t n
 epoch-shows line t n h k e =
     let fits = FitsColumns-reading_of t h in
-    let few : n < 1000 = omega arith in
     record {
-      length = rw e (length-columns (reading_of t) n fits few);
+      length = rw e (length-columns (reading_of t) n fits k);
       seconds = rw (e, seconds_in-columns (reading_of t) n fits) (omega (arith, fits.second, fits.millisecond));
       reading = rw e (civil_of-columns (reading_of t) n fits);
-      count = rw e (count_of-columns (reading_of t) n fits few);
+      count = rw e (count_of-columns (reading_of t) n fits k);
     }
 
 -- an epoch line has 36 bytes, and the last one is LF
-pub length-line : (line : List ℕ) (t n : ℕ) → IsMoment t → IsInRange 1 32 n → line ≡ epoch_line (reading_of t) n → length line ≡ 36
+pub length-line : (line : List ℕ) (t n : ℕ) → IsMoment t → n < 1000 → line ≡ epoch_line (reading_of t) n → length line ≡ 36
 length-line line t n h k e =
-    let long = length-columns (reading_of t) n (FitsColumns-reading_of t h) (omega arith) in
+    let long = length-columns (reading_of t) n (FitsColumns-reading_of t h) k in
     rw e (length-append (epoch_columns (reading_of t) n) (10 ∷ []) ∙ omega arith)
 
-pub line-columns : (line : List ℕ) (t n : ℕ) → IsMoment t → IsInRange 1 32 n → line ≡ epoch_line (reading_of t) n
+pub line-columns : (line : List ℕ) (t n : ℕ) → IsMoment t → n < 1000 → line ≡ epoch_line (reading_of t) n
     → take 35 line ≡ epoch_columns (reading_of t) n
 line-columns line t n h k e =
-    rw e (take-exact 35 (epoch_columns (reading_of t) n) (10 ∷ []) (length-columns (reading_of t) n (FitsColumns-reading_of t h) (omega arith)))
+    rw e (take-exact 35 (epoch_columns (reading_of t) n) (10 ∷ []) (length-columns (reading_of t) n (FitsColumns-reading_of t h) k))

@@ -37,7 +37,7 @@ solid_front x [] k h long = solid_if x k (x == 32) refl long
 solid_front x (y ∷ ys) zero h long = absurd (omega (arith, long))
 solid_front x (y ∷ ys) (suc k) h long = h k (omega (arith, long))
 
-solid : (xs : List ℕ) (k : ℕ) → length (trim_end xs) ≡ suc k → get_or (trim_end xs) k 0 ≢ 32
+pub solid : (xs : List ℕ) (k : ℕ) → length (trim_end xs) ≡ suc k → get_or (trim_end xs) k 0 ≢ 32
 unfolding trim_end
 solid [] k long = absurd (omega (arith, long))
 solid (x ∷ xs) k long = solid_front x (trim_end xs) k (λ j e. solid xs j e) long
@@ -99,7 +99,7 @@ no_epoch_fault n first last text Order a y b h next e =
     let same = same_line b.0 (epoch_line (reading_of a.time) (length a.rows)) b.1 y b.2 (epoch_line-of n a h) (sym b.3 ∙ e) in
     let t : ℕ = b.4.0 in
     let is = b.4.2 in
-    let one = one_epoch_line a.time t (length a.rows) b.4.1 h.time is.0 (count-of n a h) is.1 (sym same.0 ∙ is.2) in
+    let one = one_epoch_line a.time t (length a.rows) b.4.1 h.time is.0 (let count = count-of n a h in omega (arith, count)) (omega (arith, is.1)) (sym same.0 ∙ is.2) in
     b.4.3 (rw one.0 at next)
 no_epoch_fault n first last text Truncated a y b h next e = no_line text (epoch_line (reading_of a.time) (length a.rows)) y b (epoch_line-of n a h) e
 no_epoch_fault n first last text OutOfMemory a y b h next e = b.4

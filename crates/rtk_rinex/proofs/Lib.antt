@@ -39,6 +39,15 @@ mod KeptLemmas
 mod MixedListLemmas
 mod MixedRoomLemmas
 mod GpsHeaderLemmas
+mod GpsRecordLemmas
+mod MixedRecordLemmas
+mod SatelliteRangeLemmas
+mod MixedRowLemmas
+mod MixedCountLemmas
+mod MixedCheckLemmas
+mod MixedOneLemmas
+mod MixedFormLemmas
+mod MixedTextLemmas
 mod TextPartLemmas
 mod TypesPieceLemmas
 mod SlotsPieceLemmas

@@ -86,7 +86,7 @@ of_observations o =
     (both a b (of_observation o.range_mm 32 digit blank (strength_is o.strength_millidbhz)) (of_observation o.phase_millicycles lli digit (lli_is o.slip o.half) (strength_is o.strength_millidbhz)))
     (of_observation (strength_value o.strength_millidbhz) 32 32 blank blank)
 
-of_all : (os : List Observed) → HasNoEnd (flat_map observations os)
+pub of_all : (os : List Observed) → HasNoEnd (flat_map observations os)
 of_all [] = All-nil IsNoEnd
 of_all (o ∷ os) = both (observations o) (flat_map observations os) (of_observations o) (of_all os)
 
@@ -98,7 +98,7 @@ front_of : (x : ℕ) (xs : List ℕ) → x ≢ 10 → HasNoEnd xs → HasNoEnd (
 front_of x [] h g = trimmed_if x h (x == 32)
 front_of x (y ∷ ys) h g = All-cons IsNoEnd x (y ∷ ys) h g
 
-of_trimmed : (xs : List ℕ) → HasNoEnd xs → HasNoEnd (trim_end xs)
+pub of_trimmed : (xs : List ℕ) → HasNoEnd xs → HasNoEnd (trim_end xs)
 unfolding trim_end
 of_trimmed [] h = h
 of_trimmed (x ∷ xs) h = front_of x (trim_end xs) (All-head IsNoEnd x xs h) (of_trimmed xs (All-tail IsNoEnd x xs h))

@@ -7,9 +7,9 @@ use Rattle.std.proofs.lemmas.List.{append-nil, append_cancel_left}
 use Rattle.std.proofs.lemmas.List.Elements.{All-nil, All-cons, All-append}
 use Rattle.rtk_rinex.specs.HeaderFault.{AreLines}
 use Rattle.rtk_rinex.specs.Lines.{HasNoEnd, text_of}
-use Rattle.rtk_rinex.specs.MixedHeaderFault.{IsMixedHeader, BeginsMixedHeader, BeginsWithMixedHeader, IsMixedLineFault, IsFaultOfMixedHeader}
+use Rattle.rtk_rinex.specs.MixedHeaderFault.{IsMixedHeader, BeginsMixedHeader, BeginsWithMixedHeader, IsMixedLineFault, IsFaultOfMixedHeader, IsOnlyMixedHeader}
 use Rattle.rtk_rinex.specs.Steps.HeaderRead.{BeginAlike, IsLineCause, IsUnlike}
-use Rattle.rtk_rinex.specs.Steps.MixedHeaderRead.{Goes, Reads, IsOnlyMixedHeader, ShowsMixedHeader}
+use Rattle.rtk_rinex.specs.Steps.MixedHeaderRead.{Goes, Reads, ShowsMixedHeader}
 use Rattle.rtk_rinex.specs.declared.check_fault.Cause.{Cause}
 use Rattle.rtk_rinex.specs.declared.check_fault.Cause.TheVariants.{HeaderLine, Columns, Value, Order, Truncated, OutOfMemory}
 use Rattle.rtk_rinex.specs.declared.check_fault.CheckFault.{CheckFault}

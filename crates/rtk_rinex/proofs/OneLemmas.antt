@@ -24,7 +24,7 @@ use Rattle.rtk_rinex.proofs.LineLemmas.{satellite_line-line, epoch_line-line, sa
 
 -- ---- one line
 
-pub one_epoch_line : (t u n m : ℕ) → IsMoment t → IsMoment u → IsInRange 1 32 n → IsInRange 1 32 m
+pub one_epoch_line : (t u n m : ℕ) → IsMoment t → IsMoment u → n < 1000 → m < 1000
     → epoch_line (reading_of t) n ≡ epoch_line (reading_of u) m → (t ≡ u) × (n ≡ m)
 one_epoch_line t u n m h k a b e =
     let line : List ℕ = epoch_line (reading_of t) n in
@@ -126,7 +126,7 @@ one_record n e f x y le h g same =
     let d = count-of n f g in
     let line = same_line (epoch_line (reading_of e.time) (length e.rows)) (epoch_line (reading_of f.time) (length f.rows)) (flat_map satellite_line e.rows ++ x) (flat_map satellite_line f.rows ++ y)
     (epoch_line-of n e h) (epoch_line-of n f g) (sym (epoch-front n e x h) ∙ same ∙ epoch-front n f y g) in
-    let one = one_epoch_line e.time f.time (length e.rows) (length f.rows) h.time g.time c d line.0 in
+    let one = one_epoch_line e.time f.time (length e.rows) (length f.rows) h.time g.time (omega (arith, c)) (omega (arith, d)) line.0 in
     let rows = same_rows n e.rows f.rows x y le h.rows g.rows (omega (arith, one.1)) line.1 in
     let none : rows.more ≡ [] = no_more e.rows rows.more (ap length (sym rows.list) ∙ sym one.1) in
     let list : e.rows ≡ f.rows = sym (append-nil e.rows) ∙ (rw (none) at (sym rows.list)) in
@@ -135,7 +135,7 @@ one_record n e f x y le h g same =
 pub some_text : (n : ℕ) (e : EpochTableView) (x : List ℕ) → IsTableEpoch n e → record_text e ++ x ≢ []
 some_text n e x h z =
     let c = count-of n e h in
-    let long = length-line (epoch_line (reading_of e.time) (length e.rows)) e.time (length e.rows) h.time c refl in
+    let long = length-line (epoch_line (reading_of e.time) (length e.rows)) e.time (length e.rows) h.time (omega (arith, c)) refl in
     let zero = ap length (sym (epoch-front n e x h) ∙ z) in
     omega (arith, long, length-append (epoch_line (reading_of e.time) (length e.rows)) (flat_map satellite_line e.rows ++ x), zero)
 

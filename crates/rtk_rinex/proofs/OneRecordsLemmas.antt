@@ -156,7 +156,7 @@ good_line first last text Value t n y b m range next e = b.4
 good_line first last text Order t n y b m range next e =
     let same = same_line b.0 (epoch_line (reading_of t) n) b.1 y b.2 (epoch_line-line t n m (omega (arith, range))) (sym b.3 ∙ e) in
     let is = b.4.2 in
-    let one = one_epoch_line t b.4.0 n b.4.1 m is.0 range is.1 (sym same.0 ∙ is.2) in
+    let one = one_epoch_line t b.4.0 n b.4.1 m is.0 (omega (arith, range)) (omega (arith, is.1)) (sym same.0 ∙ is.2) in
     b.4.3 (rw one.0 at next)
 good_line first last text Truncated t n y b m range next e =
     no_line text (epoch_line (reading_of t) n) y b (epoch_line-line t n m (omega (arith, range))) e
@@ -172,7 +172,7 @@ one_after_line : (n first : ℕ) (last : Option ℕ) (before : ℕ) (text : List
 one_after_line n first last before text f g le a b =
     let line = same_line (epoch_line (reading_of a.time) a.count) (epoch_line (reading_of b.time) b.count) a.rest b.rest
     (epoch_line-line a.time a.count a.moment (omega (arith, a.range))) (epoch_line-line b.time b.count b.moment (omega (arith, b.range))) (sym a.text ∙ b.text) in
-    let one = one_epoch_line a.time b.time a.count b.count a.moment b.moment a.range b.range line.0 in
+    let one = one_epoch_line a.time b.time a.count b.count a.moment b.moment (omega (arith, a.range)) (omega (arith, b.range)) line.0 in
     let rows : IsFaultOfRows n a.count (before + 1) a.rest g = rw (← one.1, ← line.1) at b.rows in
     one_of_rows n a.count (before + 1) a.rest f g le a.rows rows
 

@@ -149,10 +149,10 @@ lines-before text len at (suc count) none some e =
     let place : at ≡ len = omega (arith, e, some (omega arith)) in
     rw place refl
 
-filter-some : (rows : List SatelliteRow) (r : SatelliteRow) → has_line r ≡ true → filter has_line (rows ++ r ∷ []) ≡ filter has_line rows ++ r ∷ []
+pub filter-some : (rows : List SatelliteRow) (r : SatelliteRow) → has_line r ≡ true → filter has_line (rows ++ r ∷ []) ≡ filter has_line rows ++ r ∷ []
 filter-some rows r has = filter-append has_line rows (r ∷ []) ∙ rw has refl
 
-filter-none : (rows : List SatelliteRow) (r : SatelliteRow) → has_line r ≡ false → filter has_line (rows ++ r ∷ []) ≡ filter has_line rows
+pub filter-none : (rows : List SatelliteRow) (r : SatelliteRow) → has_line r ≡ false → filter has_line (rows ++ r ∷ []) ≡ filter has_line rows
 filter-none rows r none = filter-append has_line rows (r ∷ []) ∙ (rw none (append-nil (filter has_line rows)))
 
 pub line-added : (old new : RecordLinesView) (rows : List SatelliteRow) (r : SatelliteRow) → HoldsLines old rows → has_line r ≡ true

@@ -151,7 +151,7 @@ rows-due n t count bytes line after moment range is split line_is has =
     let due = epoch_line-due n bytes has in
     let e = due.epoch in
     let same = same_line line (epoch_line (reading_of e.time) (length e.rows)) after (flat_map satellite_line e.rows ++ due.rest) is due.line (sym split ∙ due.text) in
-    let one = one_epoch_line t e.time count (length e.rows) moment due.is_epoch.time range due.count (sym line_is ∙ same.0) in (
+    let one = one_epoch_line t e.time count (length e.rows) moment due.is_epoch.time (omega (arith, range)) (omega (arith, due.count)) (sym line_is ∙ same.0) in (
       due.rest,
       record { rows = e.rows; are_rows = are_rows-of n e.rows due.is_epoch.rows due.is_epoch.rise; count = sym one.1; text = same.1 },
     )

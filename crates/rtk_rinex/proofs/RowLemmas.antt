@@ -65,7 +65,7 @@ length-observations o h =
     let c16 : length c ≡ 16 = length-observation (strength_value o.strength_millidbhz) 32 32 (IsValue-strength o.strength_millidbhz h.strength) in
     length-append (a ++ b) c ∙ omega (arith, length-append a b)
 
-length-all : (os : List Observed) → All IsObserved os → length (flat_map observations os) ≡ 48 * length os
+pub length-all : (os : List Observed) → All IsObserved os → length (flat_map observations os) ≡ 48 * length os
 length-all [] h = refl
 length-all (o ∷ os) h =
     length-append (observations o) (flat_map observations os)
@@ -87,7 +87,7 @@ piece (o ∷ os) rest (suc k) d h lt =
 no_observed : Observed
 no_observed = record { range_mm = None; phase_millicycles = None; strength_millidbhz = None; slip = false; half = false }
 
-cells : (n : ℕ) (os : List Observed) (rest : List ℕ) → All IsObserved os → n ≤ length os
+pub cells : (n : ℕ) (os : List Observed) (rest : List ℕ) → All IsObserved os → n ≤ length os
     → observations_in n (flat_map observations os ++ rest) ≡ take n os
 cells zero os rest h le = refl
 cells (suc n) os rest h le =

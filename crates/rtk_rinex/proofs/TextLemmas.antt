@@ -41,7 +41,7 @@ line_bytes [] = omega arith
 line_bytes (l ∷ lines) =
     omega (arith, line_bytes lines, length-append (l ++ 10 ∷ []) (flat_map (λ (line : List ℕ). line ++ 10 ∷ []) lines), length-append l (10 ∷ []))
 
-more_bytes : (text : List ℕ) (lines : List (List ℕ)) → get_or text 0 0 ≡ 32 → text ≡ flat_map (λ (line : List ℕ). line ++ 10 ∷ []) lines → length lines < length text
+pub more_bytes : (text : List ℕ) (lines : List (List ℕ)) → get_or text 0 0 ≡ 32 → text ≡ flat_map (λ (line : List ℕ). line ++ 10 ∷ []) lines → length lines < length text
 more_bytes text [] h e = absurd (let none : get_or text 0 0 ≡ 0 = ap (λ (xs : List ℕ). get_or xs 0 0) e in omega (arith, none, h))
 more_bytes text ([] ∷ lines) h e = absurd (let lf : get_or text 0 0 ≡ 10 = ap (λ (xs : List ℕ). get_or xs 0 0) e in omega (arith, lf, h))
 more_bytes text ((x ∷ l) ∷ lines) h e =
@@ -140,7 +140,7 @@ fault-after-line n first last before text f a y le b h e =
     let c = count-of n a h in
     let line = same_line (epoch_line (reading_of b.time) b.count) (epoch_line (reading_of a.time) (length a.rows)) b.rest (flat_map satellite_line a.rows ++ y)
     (epoch_line-line b.time b.count b.moment (omega (arith, b.range))) (epoch_line-of n a h) (sym b.text ∙ e ∙ epoch-front n a y h) in
-    let one = one_epoch_line b.time a.time b.count (length a.rows) b.moment h.time b.range c line.0 in
+    let one = one_epoch_line b.time a.time b.count (length a.rows) b.moment h.time (omega (arith, b.range)) (omega (arith, c)) line.0 in
     let w = b.rows in
     let less : length w.rows < length a.rows = omega (arith, w.due, one.1) in
     let goes = same_rows n w.rows a.rows w.rest y le (rows-all n None w.rows w.are_rows) h.rows (omega (arith, less)) (sym w.text ∙ line.1) in
@@ -157,7 +157,7 @@ end-fault : (n first : ℕ) (last : Option ℕ) (before : ℕ) (text : List ℕ)
 end-fault n first last before text f b e =
     ⊎_elim (λ line. line.some e)
     (λ after.
-    let long = length-line (epoch_line (reading_of after.time) after.count) after.time after.count after.moment after.range refl in
+    let long = length-line (epoch_line (reading_of after.time) after.count) after.time after.count after.moment (omega (arith, after.range)) refl in
     let zero = ap length (sym after.text ∙ e) in
     omega (arith, long, length-append (epoch_line (reading_of after.time) after.count) after.rest, zero))
     b

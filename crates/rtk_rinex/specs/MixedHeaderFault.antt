@@ -25,6 +25,12 @@ BeginsMixedHeader text = (rest : List ℕ) × IsMixedHeader (text ++ rest)
 abbrev pub BeginsWithMixedHeader : List ℕ → Type 0
 BeginsWithMixedHeader text = (header : List ℕ) × (rest : List ℕ) × IsMixedHeader header × (text ≡ header ++ rest)
 
+-- the text begins with the header of these parts, and with no other
+abbrev pub IsOnlyMixedHeader : List ℕ → MixedHeadView → PositionView → ℕ → Type 0
+IsOnlyMixedHeader bytes head site first =
+    (h : MixedHeadView) (s : PositionView) (f : ℕ) (rest : List ℕ) → IsMixedHead h → IsPositionView s → IsMoment f
+    → bytes ≡ mixed_header_text h s f ++ rest → (h ≡ head) × (s ≡ site) × (f ≡ first)
+
 -- formula
 -- what is wrong with the next line, which begins `rest`: no LF ends it; or no header begins with the
 -- lines before it and this one

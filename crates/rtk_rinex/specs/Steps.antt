@@ -6,3 +6,4 @@ pub mod CheckValues
 pub mod ReadRecords
 pub mod MixedRoom
 pub mod MixedHeaderRead
+pub mod MixedReadRecords

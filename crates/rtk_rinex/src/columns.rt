@@ -16,6 +16,9 @@ pub(crate) const CODE_COLUMNS: usize = 48;
 /// The bytes of an epoch line, its LF included.
 pub(crate) const EPOCH_LINE: usize = 36;
 
+/// The satellites of GPS.
+pub(crate) const GPS_SATELLITES: usize = 32;
+
 // The two digits of each number below 100, one number after another.
 static PAIRS: [u8; 200] = [
     48, 48, 48, 49, 48, 50, 48, 51, 48, 52, 48, 53, 48, 54, 48, 55, 48, 56, 48, 57, 49, 48, 49, 49,

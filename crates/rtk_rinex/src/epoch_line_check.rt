@@ -18,7 +18,7 @@ pub(crate) struct EpochStamp {
     pub time: GpsMs,
     /// The date and time of this moment.
     pub reading: Civil,
-    /// How many satellite lines follow, 1 to 32.
+    /// How many satellite lines follow, from 1.
     pub count: usize,
 }
 
@@ -40,14 +40,15 @@ fn reading_in(line: &[u8], seconds: u64) -> Civil
     }
 }
 
-/// Returns the moment and count in the columns of an epoch line, read without a test of their form.
-/// If the columns are an epoch line, they are the line of this moment and this count.
-pub(crate) fn stamp_in(columns: &[u8]) -> Option<EpochStamp>
-    requires { length columns.now ≡ 35 }
+/// Returns the moment and count in the columns of an epoch line of at most `most` satellites, read without
+/// a test of their form. If the columns are an epoch line, they are the line of this moment and this count.
+pub(crate) fn stamp_in(columns: &[u8], most: usize) -> Option<EpochStamp>
+    requires columns { length columns.now ≡ 35 }
+    requires most { most < 1000 }
     ensures { MatchOption result
-        ((t n : ℕ) → IsMoment t → IsInRange 1 32 n → columns.now ≢ epoch_columns (reading_of t) n)
-        (λ s. IsMoment s.time × IsInRange 1 32 s.count × (s.reading ≡ reading_of s.time)
-        × ((t n : ℕ) → IsMoment t → IsInRange 1 32 n → columns.now ≡ epoch_columns (reading_of t) n → (s.time ≡ t) × (s.count ≡ n))) }
+        ((t n : ℕ) → IsMoment t → IsInRange 1 most n → columns.now ≢ epoch_columns (reading_of t) n)
+        (λ s. IsMoment s.time × IsInRange 1 most s.count × (s.reading ≡ reading_of s.time)
+        × ((t n : ℕ) → IsMoment t → IsInRange 1 most n → columns.now ≡ epoch_columns (reading_of t) n → (s.time ≡ t) × (s.count ≡ n))) }
 {
     let seconds = number_of_digits(&columns[18..29]);
     if seconds >= 600_000_000 {
@@ -56,7 +57,7 @@ pub(crate) fn stamp_in(columns: &[u8]) -> Option<EpochStamp>
     let reading = reading_in(columns, seconds);
     let time = of_civil(reading)?;
     let count = number_of_digits(columns.split_at(32).1) as usize;
-    if count == 0 || count > 32 {
+    if count == 0 || count > most {
         return None;
     }
     Some(EpochStamp {
@@ -67,16 +68,17 @@ pub(crate) fn stamp_in(columns: &[u8]) -> Option<EpochStamp>
 }
 
 /// Returns the moment and count of an epoch line, which ends in LF, or `None` exactly if the line
-/// is no epoch line.
-pub(crate) fn read_epoch_line(line: &[u8]) -> Option<EpochStamp>
+/// is no epoch line of at most `most` satellites.
+pub(crate) fn read_epoch_line(line: &[u8], most: usize) -> Option<EpochStamp>
+    requires { most < 1000 }
     ensures { MatchOption result
-        ((t n : ℕ) → IsMoment t → IsInRange 1 32 n → line.now ≢ epoch_line (reading_of t) n)
-        (λ s. IsMoment s.time × IsInRange 1 32 s.count × (line.now ≡ epoch_line (reading_of s.time) s.count)) }
+        ((t n : ℕ) → IsMoment t → IsInRange 1 most n → line.now ≢ epoch_line (reading_of t) n)
+        (λ s. IsMoment s.time × IsInRange 1 most s.count × (line.now ≡ epoch_line (reading_of s.time) s.count)) }
 {
     if line.len() != EPOCH_LINE {
         return None;
     }
-    let stamp = stamp_in(line.split_at(EPOCH_LINE - 1).0)?;
+    let stamp = stamp_in(line.split_at(EPOCH_LINE - 1).0, most)?;
     if is_same(&epoch_line(stamp.reading, stamp.count), line) {
         Some(stamp)
     } else {

@@ -9,6 +9,7 @@ ghost use Rattle.rtk_obs.specs.Calendar.{ReadsAs};
 ghost use Rattle.rtk_rinex.specs.CheckTable.{OneFault, FaultMeansNoTable, OneTable, TextIsAccepted};
 ghost use Rattle.rtk_rinex.specs.KeptTable.{TextIsKept};
 ghost use Rattle.rtk_rinex.specs.MixedHeader.{GpsFilesStay};
+ghost use Rattle.rtk_rinex.specs.MixedRecord.{GpsRecordsStay};
 ghost use Rattle.rtk_rinex.specs.Reading.{IsMoment, reading_of};
 ghost use Rattle.rtk_rinex.specs.Table.{RecordsAreOfTables, FilesAreTables};
 ghost use Rattle.rtk_rinex.specs.declared.check_fault.Cause.{Cause};
@@ -55,9 +56,11 @@ pub fn text_of_a_table()
     code_laws();
 }
 
-/// The header of a file of any systems, if its codes are of GPS alone, is the header of a file of GPS.
+/// In a file of any systems the header of codes of GPS alone, and the record of satellites of GPS alone,
+/// are those of a file of GPS.
 pub fn gps_files_stay()
-    ensures { GpsFilesStay }
+    ensures header { GpsFilesStay }
+    ensures records { GpsRecordsStay }
 {}
 
 /// `==` says whether two causes are the same, whether two faults of a text are the same in line and

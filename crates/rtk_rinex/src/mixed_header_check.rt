@@ -6,10 +6,10 @@ ghost use Rattle.rtk_rinex.specs.Header.{IsPositionView, position_view};
 ghost use Rattle.rtk_rinex.specs.HeaderFault.{AreLines};
 ghost use Rattle.rtk_rinex.specs.MixedHead.{GlonassView, IsMixedHead, TellsGlonass};
 ghost use Rattle.rtk_rinex.specs.MixedHeader.{mixed_version_line, leap_line, glonass_lines, mixed_header_text};
-ghost use Rattle.rtk_rinex.specs.MixedHeaderFault.{IsFaultOfMixedHeader, BeginsWithMixedHeader};
+ghost use Rattle.rtk_rinex.specs.MixedHeaderFault.{IsFaultOfMixedHeader, BeginsWithMixedHeader, IsOnlyMixedHeader};
 ghost use Rattle.rtk_rinex.specs.Reading.{IsMoment};
 ghost use Rattle.rtk_rinex.specs.Steps.HeaderShown.{StartsWith};
-ghost use Rattle.rtk_rinex.specs.Steps.MixedHeaderRead.{Reads, IsOnlyMixedHeader, ShowsMixedHeader};
+ghost use Rattle.rtk_rinex.specs.Steps.MixedHeaderRead.{Reads, ShowsMixedHeader};
 ghost use Rattle.rtk_rinex.specs.Steps.MixedRoom.{IsFileLetter};
 
 use crate::check_fault::CheckFault;
@@ -158,6 +158,7 @@ pub fn check_mixed_header(text: &[u8]) -> Result<MixedHeading<'_>, CheckFault>
     ensures good { IfOk result (λ h. IsMixedHead h.head × IsPositionView (position_view h.position) × IsMoment h.first) }
     ensures text { IfOk result (λ h. text.now ≡ mixed_header_text h.head (position_view h.position) h.first ++ h.records.now) }
     ensures lines { IfOk result (λ h. AreLines h.lines (mixed_header_text h.head (position_view h.position) h.first)) }
+    ensures only { IfOk result (λ h. IsOnlyMixedHeader text.now h.head (position_view h.position) h.first) }
     ensures fault { IfErr result (IsFaultOfMixedHeader text.now) }
     ensures none { OnErr result (¬ (BeginsWithMixedHeader text.now)) }
 {

@@ -11,16 +11,13 @@ ghost use Rattle.rtk_rinex.specs.declared.epoch_table.SatelliteRow.{SatelliteRow
 ghost use Rattle.rtk_rinex.specs.Record.{HasWidth, observations, record_text, no_observation};
 ghost use Rattle.rtk_rinex.specs.RecordLines.{HasOpenLine, HasFreeCode, HoldsLines, IsFreeIn, KeepsLines, ended};
 
-use crate::columns::{CODE_COLUMNS, EPOCH_LINE};
+use crate::columns::{CODE_COLUMNS, EPOCH_LINE, GPS_SATELLITES};
 use crate::epoch_table::{EpochTable, Observed};
 use crate::head::Head;
 use crate::record_text::{end_line, has_line, has_observation, put_columns, put_epoch_line};
 use rtk_obs::{GpsMs, civil};
 use std::alloc::{AllocError, Global};
 use std::marker::Model;
-
-// The satellites of GPS.
-const MOST_SATELLITES: usize = 32;
 
 /// The text of a record that is written satellite by satellite, and kept from record to record; a
 /// contract sees its `RecordLinesView`.
@@ -82,7 +79,7 @@ fn make_room(text: &mut Vec<u8>, at: usize, room: usize) -> Result<(), AllocErro
     if text.len() >= at + room {
         return Ok(());
     }
-    let all = EPOCH_LINE + MOST_SATELLITES * room;
+    let all = EPOCH_LINE + GPS_SATELLITES * room;
     lengthen(text, all.max(at + room))
 }
 
@@ -280,7 +277,7 @@ pub fn record(alloc: Global, head: &Head, table: &EpochTable) -> Result<Vec<u8>,
     ensures { IfOk result (λ text. text.items ≡ record_text table.now) }
 {
     let mut lines = RecordLines::new(alloc);
-    let most = table.rows().len().min(MOST_SATELLITES);
+    let most = table.rows().len().min(GPS_SATELLITES);
     for row in table.rows() {
         if has_line(row) {
             lines.make_room_for(most, row.observed.len())?;

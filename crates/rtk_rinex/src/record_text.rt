@@ -1,6 +1,7 @@
 //! The lines of a record: the epoch line, and a line for each satellite that shows something.
 
 ghost use Rattle.std.specs.Prelude.{◌≡◌, ◌+◌, ◌<◌, ◌≤◌, ◌-◌, [], ◌∷◌, ◌++◌, length, take, drop, replicate, codes, decimal, false, IsTrue};
+ghost use Rattle.std.specs.List.{list_any};
 ghost use Rattle.rtk_rinex.specs.Record.{is_written, is_present, observation, observations, strength_digit, strength_value, lli_digit, has_observation, has_line, trim_end, epoch_date_text, epoch_line};
 ghost use Rattle.rtk_rinex.specs.Columns.{right, decimals};
 ghost use Rattle.rtk_rinex.specs.Reading.{seconds_of};
@@ -175,16 +176,23 @@ pub(crate) fn has_observation(observed: &Observed) -> bool
         || is_present(observed.phase_millicycles)
 }
 
-/// Returns whether an observation of the satellite is written, so that it has a line.
-pub(crate) fn has_line(row: &SatelliteRow) -> bool
-    ensures { result ≡ has_line row.now }
+/// Returns whether an observation of these codes is written.
+pub(crate) fn shows_observation(codes: &[Observed]) -> bool
+    ensures { result ≡ list_any has_observation codes.now }
 {
-    for observed in row.observed.as_slice() {
+    for observed in codes {
         if has_observation(observed) {
             return true;
         }
     }
     false
+}
+
+/// Returns whether an observation of the satellite is written, so that it has a line.
+pub(crate) fn has_line(row: &SatelliteRow) -> bool
+    ensures { result ≡ has_line row.now }
+{
+    shows_observation(row.observed.as_slice())
 }
 
 /// Ends the line of a satellite, whose columns end here, and returns how long it is.

@@ -11,7 +11,7 @@ ghost use Rattle.rtk_rinex.specs.CheckText.{AreRows};
 ghost use Rattle.rtk_rinex.specs.Steps.ReadRecords.{ReadsRows, BeginsWithRows, BeginsWithRecord};
 ghost use Rattle.rtk_rinex.specs.Records.{IsRecordsView};
 
-use crate::columns::EPOCH_LINE;
+use crate::columns::{EPOCH_LINE, GPS_SATELLITES};
 use crate::epoch_line_check::{read_epoch_line, stamp_in};
 use crate::epoch_table::{EpochTable, SatelliteRow};
 use crate::records_check::next_line;
@@ -75,7 +75,7 @@ fn read_record<'a>(text: &'a [u8], code_count: usize, epoch: &mut EpochTable) ->
     let Some((line, after)) = next_line(text) else {
         unreachable!();
     };
-    let Some(stamp) = read_epoch_line(line) else {
+    let Some(stamp) = read_epoch_line(line, GPS_SATELLITES) else {
         unreachable!();
     };
     epoch.restart(stamp.time);
@@ -108,7 +108,7 @@ fn skip_record<'a>(text: &'a [u8]) -> (GpsMs, &'a [u8])
     let Some((line, after)) = next_line(text) else {
         unreachable!();
     };
-    let Some(stamp) = stamp_in(line.split_at(EPOCH_LINE - 1).0) else {
+    let Some(stamp) = stamp_in(line.split_at(EPOCH_LINE - 1).0, GPS_SATELLITES) else {
         unreachable!();
     };
     (stamp.time, skip_rows(after, stamp.count))

@@ -11,16 +11,16 @@ ghost use Rattle.std.specs.Int.{IsInRange};
 ghost use Rattle.std.specs.Prelude.{◌≡◌, ◌≢◌, ℕ, ◌+◌, ◌-◌, ◌*◌, ◌<◌, ◌≤◌, ◌++◌, [], ◌∷◌, length, take, slice_get, Option, Some, IsTrue, ◌↔◌, IfOk, IfErr, MatchOption, ◌^◌, List, flat_map, None};
 
 use crate::check_fault::{Cause, CheckFault};
-use crate::columns::CODE_COLUMNS;
+use crate::columns::{CODE_COLUMNS, GPS_SATELLITES};
 use crate::digits::number_of_digits;
 use crate::epoch_line_check::{EpochStamp, read_epoch_line};
 use crate::header_check::line_end;
 use crate::satellite_line_check::is_row_line;
 use rtk_obs::GpsMs;
 
-// Returns whether a record at this time may follow the record `last`, or be the first one at the
-// time `first`.
-fn is_next_time(first: GpsMs, last: Option<GpsMs>, time: GpsMs) -> bool
+/// Returns whether a record at this time may follow the record `last`, or be the first one at the
+/// time `first`.
+pub(crate) fn is_next_time(first: GpsMs, last: Option<GpsMs>, time: GpsMs) -> bool
     ensures { IsTrue result ↔ IsNextTime first last time }
 {
     match last {
@@ -35,7 +35,7 @@ fn check_epoch_line(line: &[u8], first: GpsMs, last: Option<GpsMs>) -> Result<Ep
     ensures line { IfOk result (λ s. IsEpochLine line.now s.time s.count × IsNextTime first last s.time) }
     ensures fault { IfErr result (IsEpochFault first last line.now) }
 {
-    let Some(stamp) = read_epoch_line(line) else {
+    let Some(stamp) = read_epoch_line(line, GPS_SATELLITES) else {
         return Err(Cause::Columns);
     };
     if !is_next_time(first, last, stamp.time) {
@@ -77,8 +77,8 @@ pub(crate) fn satellite_of_form(line: &[u8], code_count: usize) -> Option<u8>
     Some(satellite)
 }
 
-// Returns whether the line of this satellite may follow the line of the satellite `last`.
-fn is_next_satellite(last: Option<u8>, satellite: u8) -> bool
+/// Returns whether the line of this satellite may follow the line of the satellite `last`.
+pub(crate) fn is_next_satellite(last: Option<u8>, satellite: u8) -> bool
     ensures { IsTrue result ↔ IsNextSatellite last satellite }
 {
     match last {

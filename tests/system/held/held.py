@@ -394,6 +394,7 @@ def inputs_held_once(runs: Runs, tests: Tests) -> None:
         ("chart", "file", MIB),
         ("chart --text", "file", MIB),
         ("quality", "file", MIB + QUALITY),
+        ("quality --lines", "file", MIB + QUALITY),
         ("quality --json", "file", MIB + QUALITY),
         ("label --blank", "file", MIB),
         ("label --observer me", "file", MIB),

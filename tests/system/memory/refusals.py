@@ -275,7 +275,7 @@ def scenes() -> Iterator[Scene]:
         yield Scene(words.split())
     for words in ("check examples/base.rnx", "chart examples/marks.rnx", "chart --text examples/marks.rnx"):
         yield Scene(words.split())
-    for words in ("quality examples/marks.rnx", "quality --json examples/marks.rnx"):
+    for words in ("quality examples/marks.rnx", "quality --lines examples/marks.rnx", "quality --json examples/marks.rnx"):
         yield Scene(words.split())
     yield Scene(["show", "--hex", "stdin"], given="examples/arp1005.hex")
     # refuses: a search for a place that calls itself, or a body that takes much of the stack for what few messages need

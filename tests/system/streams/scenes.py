@@ -19,7 +19,8 @@ import signal
 import struct
 import subprocess
 import sys
-from concurrent.futures import ThreadPoolExecutor
+from concurrent.futures import ProcessPoolExecutor, ThreadPoolExecutor
+from concurrent.futures.process import BrokenProcessPool
 from dataclasses import dataclass, field, replace
 from datetime import datetime, timedelta
 
@@ -193,7 +194,7 @@ BESIDE_A_FILE = "convert of standard input and a file"
 
 # Each command that takes one file.
 COMMANDS = [("show",), ("show", "--hex"), ("check",), ("summary",), ("chart",), ("chart", "--text"), ("cut", "--every", "1"),
-            ("quality",), ("quality", "--json"), ("label", "--blank")]
+            ("quality",), ("quality", "--lines"), ("quality", "--json"), ("label", "--blank")]
 
 
 def convert(name, *words, given=NOTHING):
@@ -1394,9 +1395,13 @@ def main():
         count.scene("a full tmpfs", map(attempt, tmpfs_scenes()))
     else:
         chosen = [(name, function) for name, function in SCENES if not WORDS or any(word in name for word in WORDS)]
-        with multiprocessing.get_context("fork").Pool(os.cpu_count()) as pool:
-            for name, answers in [(name, pool.imap_unordered(attempt, list(function()), 16)) for name, function in chosen]:
-                count.scene(name, answers)
+        try:
+            with ProcessPoolExecutor(os.cpu_count(), multiprocessing.get_context("fork")) as pool:
+                for name, answers in [(name, pool.map(attempt, list(function()), chunksize=16)) for name, function in chosen]:
+                    count.scene(name, answers)
+        except BrokenProcessPool:  # a pool of `multiprocessing` would wait for ever
+            print("FAILED: a worker was killed, as where memory ends")
+            count.failed += 1
     print(f"{count.passed} passed, {count.failed} failed")
     return 1 if count.failed else 0
 

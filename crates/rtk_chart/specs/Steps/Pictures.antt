@@ -9,18 +9,20 @@ use Rattle.rtk_chart.specs.declared.grid.Grid.{Grid}
 
 -- the numbers in the heading of a picture in characters
 abbrev pub numbers_of_grid : Scale → Survey → Grid → List ℕ
-numbers_of_grid s survey grid = number_lines s survey.records (satellites_in grid.bins.items) grid.slips grid.rises grid.missing
+numbers_of_grid s survey grid = number_lines s survey.records (satellites_in grid.bins.items) grid.slips grid.returns grid.rises grid.missing
 
 -- what stands below the heading
 abbrev pub body_of_grid : List Code → Scale → ℕ → Grid → List ℕ
-body_of_grid listed s width grid = text_body listed s width grid.bins.items grid.gaps.items
+body_of_grid listed s width grid = text_body listed s width grid.bins.items grid.outages.items grid.gaps.items
 
 -- a picture in characters
 abbrev pub text_of_grid : List ℕ → List Code → Scale → ℕ → Survey → Grid → List ℕ
 text_of_grid marker listed s width survey grid =
-    text_picture marker listed s width survey.records grid.slips grid.rises grid.missing grid.bins.items grid.gaps.items
+    text_picture marker listed s width survey.records grid.slips grid.returns grid.rises grid.missing
+    grid.bins.items grid.outages.items grid.gaps.items
 
 -- a picture in SVG
 abbrev pub svg_of_grid : List ℕ → List Code → Scale → Survey → Grid → List ℕ
 svg_of_grid marker listed s survey grid =
-    svg_picture marker listed s survey.records grid.slips grid.rises grid.missing grid.bins.items grid.gaps.items
+    svg_picture marker listed s survey.records grid.slips grid.returns grid.rises grid.missing
+    grid.bins.items grid.outages.items grid.gaps.items

@@ -4,7 +4,7 @@ use Rattle.std.specs.List.{range_with_len}
 use Rattle.rtk_rinex.specs.Record.{EpochTableView}
 use Rattle.rtk_rinex.specs.declared.epoch_table.Observed.{Observed}
 use Rattle.rtk_tracking.specs.Extremes.{lesser}
-use Rattle.rtk_tracking.specs.Passes.{Sighting, sightings_of, has_phase, is_kept}
+use Rattle.rtk_tracking.specs.Passes.{Sighting, sightings_of, has_phase, is_known, is_kept}
 use Rattle.rtk_tracking.specs.Epochs.{shown_at}
 use Rattle.rtk_chart.specs.Epochs.{sighting_of, is_seen, level_of}
 use Rattle.rtk_chart.specs.Grid.{no_marks, no_tracking}
@@ -13,21 +13,22 @@ use Rattle.rtk_chart.specs.declared.tracking.Tracking.{Tracking}
 use Rattle.rtk_chart.specs.declared.time_bin.TimeBin.{TimeBin}
 
 -- what an epoch calls for of a code: the satellite has a phase or none, and the code had one earlier in
--- the pass or had none
-abbrev pub called_for : Observed → Bool → Bool → CodeMarks
-called_for o has_phase kept =
+-- the pass or had none, and since the last outage in it
+abbrev pub called_for : Observed → Bool → Bool → Bool → CodeMarks
+called_for o has_phase known kept =
     record {
       phase = is_some o.phase_millicycles;
       missing = has_phase && not (is_some o.phase_millicycles);
       slip = o.slip && kept;
-      rise = o.slip && not kept;
+      returned = o.slip && (known && not kept);
+      rise = o.slip && not known;
       half = o.half;
       least = level_of o.strength_millidbhz;
     }
 
 -- the same of the code at a place, of codes that had a phase by their marks
-abbrev pub called_at : List Observed → List Bool → ℕ → CodeMarks
-called_at os kept code = called_for (shown_at code os) (has_phase os) (get_or kept code false)
+abbrev pub called_at : List Observed → List Bool → List Bool → ℕ → CodeMarks
+called_at os had kept code = called_for (shown_at code os) (has_phase os) (get_or had code false) (get_or kept code false)
 
 -- the marks of two
 abbrev pub both_marks : CodeMarks → CodeMarks → CodeMarks
@@ -36,6 +37,7 @@ both_marks a b =
       phase = a.phase || b.phase;
       missing = a.missing || b.missing;
       slip = a.slip || b.slip;
+      returned = a.returned || b.returned;
       rise = a.rise || b.rise;
       half = a.half || b.half;
       least = lesser a.least b.least;
@@ -59,7 +61,8 @@ both_bins a b = record { satellites = map (both_satellites a.satellites b.satell
 unfoldable pub tracking_of : Option ℕ → List Sighting → Sighting → Tracking
 tracking_of interval before s =
     record {
-      codes = map (λ code. called_for (shown_at code s.observed) (has_phase s.observed) (is_kept interval code before s)) (range_with_len 0 16);
+      codes = map (λ code. called_for (shown_at code s.observed) (has_phase s.observed) (is_known interval code before s) (is_kept interval code before s))
+          (range_with_len 0 16);
       seen = is_seen s.observed;
     }
 

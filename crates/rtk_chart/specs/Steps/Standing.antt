@@ -5,10 +5,10 @@ use Rattle.rtk_tracking.specs.Epochs.{capped, newest_moment}
 use Rattle.rtk_tracking.specs.Passes.{sightings_of}
 use Rattle.rtk_tracking.specs.Standing.{StandsForPass}
 use Rattle.rtk_tracking.specs.declared.passes.Pass.{Pass}
-use Rattle.rtk_chart.specs.Chart.{slips_at, rises_at}
+use Rattle.rtk_chart.specs.Chart.{slips_at, returns_at, rises_at}
 use Rattle.rtk_tracking.specs.Interval.{missing_in}
 use Rattle.rtk_tracking.specs.Standing.{StandsForStepsBetween}
-use Rattle.rtk_chart.specs.Grid.{bins_of, gaps_of}
+use Rattle.rtk_chart.specs.Grid.{bins_of, outages_of, gaps_of}
 use Rattle.rtk_chart.specs.declared.survey.Survey.{Survey}
 use Rattle.rtk_chart.specs.declared.scale.Scale.{Scale}
 use Rattle.rtk_chart.specs.declared.grid.Grid.{Grid}
@@ -41,5 +41,7 @@ pub record StandsForGrid (g : Grid) (s : Scale) (es : List EpochTableView) : Typ
   pub missing : StandsForMissing g s es
   pub last : g.last ≡ newest_moment es
   pub passes : StandForPasses g.passes s.interval es
+  pub outages : g.outages.items ≡ outages_of s es
   pub slips : g.slips ≡ slips_at s es
+  pub returns : g.returns ≡ returns_at s es
   pub rises : g.rises ≡ rises_at s es

@@ -11,5 +11,5 @@ room_for Legacy room = room.legacy.cells
 room_for Msm room = room.msm
 
 -- lists without cells
-abbrev pub AreSpare : Spare → Type 0
+abbrev pub AreSpare : {E S : Type 0} → Spare E S → Type 0
 AreSpare spare = (spare.msm.items ≡ []) × (spare.legacy ≡ [])

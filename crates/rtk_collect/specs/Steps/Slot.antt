@@ -8,11 +8,11 @@ use Rattle.rtk_collect.specs.declared.outcome.Outcome.{Outcome}
 use Rattle.rtk_collect.specs.declared.outcome.Outcome.TheVariants.{Taken, Conflict, Repeat, Late}
 
 -- a window of n places with these epochs and station messages
-abbrev pub window_of : ℕ → List EpochSetView → StationMessages → CollectorView
+abbrev pub window_of : {E : Type 0} → ℕ → List (EpochSetView E) → StationMessages → CollectorView E
 window_of n sets stations = record { places = n; sets = sets; arp1005 = stations.arp1005; arp1006 = stations.arp1006 }
 
 -- the answer to a station message, and what is kept after it
-abbrev pub AnswersStationMessage : {T : Type 0} → (T → T → Bool) → Option T → T → Bool → Outcome → Option T → Type 0
+abbrev pub AnswersStationMessage : {T E S : Type 0} → (T → T → Bool) → Option T → T → Bool → Outcome E S → Option T → Type 0
 AnswersStationMessage eq old m full Late new = (full ≡ true) × (is_first eq old m ≡ false) × (new ≡ old)
 AnswersStationMessage eq old m full (Taken done) new = (full ≡ false) × (old ≡ None) × (new ≡ Some m) × (done ≡ None)
 AnswersStationMessage eq None m full Conflict new = ⊥

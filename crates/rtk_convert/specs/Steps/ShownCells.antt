@@ -13,6 +13,7 @@ use Rattle.rtk_obs.specs.Rollover.{last_after, digits_since}
 use Rattle.rtk_obs.specs.Cell.{IsSatellite, IsInRange}
 use Rattle.rtk_obs.specs.Tracks.{IsLater, track_at, place_of_signal}
 use Rattle.rtk_obs.specs.MessageCells.{AreOfOneKind}
+use Rattle.rtk_collect.specs.Gps.{gps}
 use Rattle.rtk_collect.specs.Key.{KeysRise}
 use Rattle.rtk_rinex.specs.declared.epoch_table.Observed.{Observed}
 use Rattle.rtk_rinex.specs.Record.{has_observation}
@@ -46,7 +47,7 @@ pub record IsPlaceOf (satellite : ℕ) (cells : List CellEntry) (place : ℕ) : 
 
 -- the cells rise, and this is the place of a satellite in them
 pub record RiseFrom (satellite : ℕ) (cells : List CellEntry) (at : ℕ) : Type 0 where
-  pub rises : KeysRise cells
+  pub rises : KeysRise gps cells
   pub place : IsPlaceOf satellite cells at
 
 -- cells of one kind, in range, that rise, and the place of a satellite in them

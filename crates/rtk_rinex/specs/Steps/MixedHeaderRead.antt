@@ -5,20 +5,13 @@ use Rattle.std.specs.List.{count_by}
 use Rattle.rtk_obs.specs.declared.any_code.AnyCode.{AnyCode}
 use Rattle.rtk_obs.specs.AnyCode.{name_of}
 use Rattle.rtk_obs.specs.Carriers.{AreChannels}
-use Rattle.rtk_rinex.specs.Reading.{IsMoment}
-use Rattle.rtk_rinex.specs.Header.{PositionView, IsPositionView, unit_line}
+use Rattle.rtk_rinex.specs.Header.{unit_line}
 use Rattle.rtk_rinex.specs.Lines.{HasNoEnd, text_of}
-use Rattle.rtk_rinex.specs.MixedHead.{MixedHeadView, IsMixedHead, IsMixedList, letter}
-use Rattle.rtk_rinex.specs.MixedHeader.{version_letter, by_system, system_types_lines, slots_text, mixed_header_text}
+use Rattle.rtk_rinex.specs.MixedHead.{IsMixedList, letter}
+use Rattle.rtk_rinex.specs.MixedHeader.{version_letter, by_system, system_types_lines, slots_text}
 use Rattle.rtk_rinex.specs.MixedHeaderFault.{BeginsMixedHeader}
 use Rattle.rtk_rinex.specs.Steps.HeaderShown.{line_at, name_at, number_at}
 use Rattle.rtk_rinex.specs.Steps.MixedRoom.{codes_of_letter}
-
--- a text begins with this header, and with no other
-abbrev pub IsOnlyMixedHeader : List ℕ → MixedHeadView → PositionView → ℕ → Type 0
-IsOnlyMixedHeader bytes head site first =
-    (h : MixedHeadView) (s : PositionView) (f : ℕ) (rest : List ℕ) → IsMixedHead h → IsPositionView s → IsMoment f
-    → bytes ≡ mixed_header_text h s f ++ rest → (h ≡ head) × (s ≡ site) × (f ≡ first)
 
 -- whatever lines of a header begin the text, begin what is written too
 abbrev pub ShowsMixedHeader : List ℕ → List ℕ → Type 0

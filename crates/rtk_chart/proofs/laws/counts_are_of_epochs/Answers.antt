@@ -7,4 +7,4 @@ pub returns-clause-missing : goal.returns-clause-missing
 returns-clause-missing c = missing-of-steps
 
 pub returns-clause-slips : goal.returns-clause-slips
-returns-clause-slips c = λ interval n es few are. slips-and-rises interval es ∙ digits-counted n es few are
+returns-clause-slips c = λ interval n es few are. slips-and-rises c.bits_are_of_three_kinds.ensures.one interval es ∙ digits-counted n es few are

@@ -1,4 +1,4 @@
-use Rattle.rtk_chart.proofs.MarkLemmas.{codes-show, satellites-show, gaps-missing}
+use Rattle.rtk_chart.proofs.MarkLemmas.{codes-show, satellites-show, gaps-missing, outages-shown}
 use Rattle.rtk_chart.proofs.SeenLemmas.{codes-are}
 use Rattle.rtk_chart.proofs.laws.marks_are_of_epochs.Goals as goal
 
@@ -13,3 +13,6 @@ returns-clause-codes c = codes-are
 
 pub returns-clause-gaps : goal.returns-clause-gaps
 returns-clause-gaps c = gaps-missing
+
+pub returns-clause-outages : goal.returns-clause-outages
+returns-clause-outages c = outages-shown

@@ -6,6 +6,7 @@ use Rattle.rtk_chart.proofs.passes.fill_grid.Goals as goal
 pub loop-record-init : goal.loop-record-init
 loop-record-init c = record {
   bins = c.in_ok-grid.ensures.bins;
+  outages = c.in_ok-grid.ensures.outages;
   gaps = c.in_ok-grid.ensures.gaps;
   grid = λ t is text. ([], t.epochs, (c.records-records.ensures.records t is text).1, refl, c.in_ok-grid.ensures.grid);
 }
@@ -13,6 +14,7 @@ loop-record-init c = record {
 pub loop-record-preserved : goal.loop-record-preserved
 loop-record-preserved c = record {
   bins = c.place_record.ensures.bins ∙ c.loop-record.invariant.bins;
+  outages = c.place_record.ensures.outages ∙ c.loop-record.invariant.outages;
   gaps = c.place_record.ensures.gaps ∙ c.loop-record.invariant.gaps;
   grid = λ t is text.
       come-more (λ grid es. StandsForGrid grid c.args.scale.now es) c.loop-record.records c.next.new.self c.loop-record.grid c.place_record.new.self t.epochs c.in-Some._record.now c.next.new.epoch

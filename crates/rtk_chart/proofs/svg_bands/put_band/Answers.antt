@@ -8,6 +8,7 @@ returns c =
     rw (
       c.in_ok-extend_from_slice.ensures.items,
       c.in_ok-put_code_lines.ensures,
+      c.in_ok-put_outages.ensures,
       c.in_ok-put_band_start.ensures,
       c.band_height-height.ensures.value,
     ) (simp append_assoc)

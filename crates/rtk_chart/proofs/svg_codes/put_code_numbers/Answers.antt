@@ -9,6 +9,7 @@ returns c =
       c.in_ok-put_column_numbers.ensures,
       c.in_ok-halves.ensures,
       c.in_ok-rises.ensures,
+      c.in_ok-returns.ensures,
       c.in_ok-slips.ensures,
       c.in_ok-missing.ensures,
       c.in_ok-phases.ensures,

@@ -12,7 +12,7 @@ returns c =
       c.in_ok-put_satellites.ensures,
       c.in_ok-put_gaps.ensures,
       c.in_ok-put_bands.ensures,
-      c.as_slice-3.ensures.value,
-      c.as_slice-2.ensures.value,
       c.as_slice.ensures.value,
+      c.as_slice-outages.ensures.value,
+      c.as_slice-bins.ensures.value,
     ) (simp append_assoc)

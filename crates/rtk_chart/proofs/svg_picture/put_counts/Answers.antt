@@ -13,11 +13,14 @@ returns c =
     let l3 : List ℕ = c.put_between-3.new.text.items in
     let l4 : List ℕ = c.put_between-4.new.text.items in
     let l5 : List ℕ = c.put_between-5.new.text.items in
-    and-then l0 l4 l5 _ (number_between [] c.args.missing (codes "</text>\n"))
-    (and-then l0 l3 l4 _ (number_between [] c.args.rises (codes ", missing epochs "))
-    (and-then l0 l2 l3 _ (number_between [] c.args.slips (codes ", rises "))
+    let l6 : List ℕ = c.put_between-6.new.text.items in
+    and-then l0 l5 l6 _ (number_between [] c.args.missing (codes "</text>\n"))
+    (and-then l0 l4 l5 _ (number_between [] c.args.rises (codes ", missing epochs "))
+    (and-then l0 l3 l4 _ (number_between [] c.args.returns (codes ", rises "))
+    (and-then l0 l2 l3 _ (number_between [] c.args.slips (codes ", returns "))
     (and-then l0 l1 l2 (number_between (codes "<text x='110' y='98'>records ") c.args.records (codes ", satellites ")) (number_between [] c.args.satellites (codes ", slips "))
     c.in_ok-put_between.ensures c.in_ok-put_between-2.ensures)
     c.in_ok-put_between-3.ensures)
     c.in_ok-put_between-4.ensures)
-    c.in_ok-put_between-5.ensures
+    c.in_ok-put_between-5.ensures)
+    c.in_ok-put_between-6.ensures

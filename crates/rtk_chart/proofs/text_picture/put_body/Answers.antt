@@ -12,6 +12,7 @@ returns c =
       c.in_ok-put_time.ensures,
       c.in_ok-put_gap_row.ensures,
       c.in_ok-put_rows.ensures,
+      c.as_slice-4.ensures.value,
       c.as_slice-3.ensures.value,
       c.as_slice-2.ensures.value,
       c.as_slice.ensures.value,

@@ -16,9 +16,11 @@ returns c =
     let l4 : List ℕ = c.put_line-3.new.text.items in
     let l5 : List ℕ = c.put_line-4.new.text.items in
     let l6 : List ℕ = c.put_line-5.new.text.items in
+    let l7 : List ℕ = c.put_line-6.new.text.items in
     let satellites : List TimeBin → List ℕ = λ bins. named_count_line (codes "satellites ") (satellites_in bins) in
-    and-then l0 l5 l6 _ (named_count_line (codes "missing ") c.args.grid.now.missing)
-    (and-then l0 l4 l5 _ (named_count_line (codes "rises ") c.args.grid.now.rises)
+    and-then l0 l6 l7 _ (named_count_line (codes "missing ") c.args.grid.now.missing)
+    (and-then l0 l5 l6 _ (named_count_line (codes "rises ") c.args.grid.now.rises)
+    (and-then l0 l4 l5 _ (named_count_line (codes "returns ") c.args.grid.now.returns)
     (and-then l0 l3 l4 _ (named_count_line (codes "slips ") c.args.grid.now.slips)
     (and-then l0 l2 l3 _ (satellites c.args.grid.now.bins.items)
     (and-then l0 l1 l2 (interval_lines c.args.scale.now.interval c.args.scale.now.bin_ms) (named_count_line (codes "records ") c.args.survey.now.records)
@@ -26,4 +28,5 @@ returns c =
     (c.in_ok-put_line-2.ensures ∙ ap (λ (n : ℕ). l2 ++ named_count_line (codes "satellites ") n) c.drawn_before.ensures.value ∙ ap (λ (bins : List TimeBin). l2 ++ satellites bins) c.as_slice.ensures.value))
     c.in_ok-put_line-3.ensures)
     c.in_ok-put_line-4.ensures)
-    c.in_ok-put_line-5.ensures
+    c.in_ok-put_line-5.ensures)
+    c.in_ok-put_line-6.ensures

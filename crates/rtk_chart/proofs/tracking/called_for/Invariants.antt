@@ -6,5 +6,5 @@ use Rattle.rtk_chart.proofs.tracking.called_for.Given as goal
 abbrev pub invariant-loop-code : goal.invariant-loop-code
 invariant-loop-code l = record {
   size : length l.codes ≡ 16;
-  filled : (k : ℕ) → k < l.code → get_or l.codes k no_marks ≡ called_at l.observed l.kept k;
+  filled : (k : ℕ) → k < l.code → get_or l.codes k no_marks ≡ called_at l.observed l.known.had l.known.kept k;
 }

@@ -4,11 +4,11 @@ use Rattle.rtk_collect.specs.EpochSet.{fresh, conflicts}
 use Rattle.rtk_collect.proofs.merging.count_new.Given as goal
 
 abbrev pub invariant-loop-entry : goal.invariant-loop-entry
-invariant-loop-entry l = record {
+invariant-loop-entry g l = record {
   at : l.at ≤ length l.kept;
   bound : l.count ≤ l.entry-index;
-  count : l.count + fresh (drop l.entry-index l.cells) l.kept ≡ fresh l.cells l.kept;
+  count : l.count + fresh g.E.Entry.entries (drop l.entry-index l.cells) l.kept ≡ fresh g.E.Entry.entries l.cells l.kept;
   few : length l.found ≤ l.entry-index;
-  rising : KeysRise l.cells → l.found ++ conflicts (drop l.entry-index l.cells) l.kept ≡ conflicts l.cells l.kept;
-  conflicts : l.count ≡ 0 → l.found ++ conflicts (drop l.entry-index l.cells) l.kept ≡ conflicts l.cells l.kept;
+  rising : KeysRise g.E.Entry.entries l.cells → l.found ++ conflicts g.E.Entry.entries (drop l.entry-index l.cells) l.kept ≡ conflicts g.E.Entry.entries l.cells l.kept;
+  conflicts : l.count ≡ 0 → l.found ++ conflicts g.E.Entry.entries (drop l.entry-index l.cells) l.kept ≡ conflicts g.E.Entry.entries l.cells l.kept;
 }

@@ -1,4 +1,5 @@
 use Rattle.std.proofs.Common.{◌≡◌, ℕ, ◌+◌, ◌-◌, ◌*◌, arith, ap, ◌∙◌}
+use Rattle.rtk_obs.specs.declared.cell.Cell.{Cell}
 use Rattle.rtk_obs.specs.declared.cell.CellSource.{CellSource}
 use Rattle.rtk_obs.specs.declared.cell.CellSource.TheVariants.{Legacy, Msm}
 use Rattle.rtk_obs.specs.contracts.cell.CellSource.{the_type}
@@ -12,8 +13,7 @@ by-kind Msm n = omega arith
 
 pub returns : goal.returns
 unfolding key key_at
-returns c =
-    let source = c.args.entry.now.cell.source in
-    by-kind source ((c.from.result * 16 + c.place.result) * 2)
-    ∙ ap (λ t. (t * 16 + c.place.result) * 2 + rank_of source) c.from.ensures
-    ∙ ap (λ t. (c.args.entry.now.satellite * 16 + t) * 2 + rank_of source) c.place.ensures.value
+returns g c =
+    ap (λ (x : Cell). c.place.result * 2 + 1 - denote.Enum.Declared.tag_of the_type x.source) c.cell.ensures
+    ∙ by-kind (g.E.Entry.entries.cell c.args.entry.now).source (c.place.result * 2)
+    ∙ ap (λ t. t * 2 + rank_of (g.E.Entry.entries.cell c.args.entry.now).source) c.place.ensures.value

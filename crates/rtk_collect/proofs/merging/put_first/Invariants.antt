@@ -2,10 +2,10 @@ use Rattle.std.proofs.Common.{◌≡◌, ◌≤◌, ◌-◌, ◌++◌, length, t
 use Rattle.rtk_collect.proofs.merging.put_first.Given as goal
 
 abbrev pub invariant-loop-at : goal.invariant-loop-at
-invariant-loop-at l = record {
+invariant-loop-at g l = record {
   few : l.at ≤ length l.cells;
   list : l.list ≡ take l.at l.cells ++ drop l.at l.fn.list;
 }
 
 abbrev pub decreases-loop-at : goal.decreases-loop-at
-decreases-loop-at l = length l.cells - l.at
+decreases-loop-at g l = length l.cells - l.at

@@ -6,6 +6,7 @@ use Rattle.rtk_obs.specs.declared.code.Code.{Code}
 use Rattle.rtk_obs.specs.declared.cell.CellSource.TheVariants.{Legacy, Msm}
 use Rattle.rtk_obs.specs.declared.track.Track.{Track}
 use Rattle.rtk_obs.specs.Tracks.{IsLater, track_at}
+use Rattle.rtk_collect.specs.Gps.{gps}
 use Rattle.rtk_collect.specs.EpochSet.{is_from}
 use Rattle.rtk_rinex.specs.declared.epoch_table.Observed.{Observed}
 use Rattle.rtk_rinex.specs.declared.epoch_table.SatelliteRow.{SatelliteRow}
@@ -135,7 +136,7 @@ returns-clause-lines c =
     let ms = c.msm_cells-msm.result.now in
     let ls = c.legacy_left-legacy.result.now in
     let turn = λ (s : ℕ) (k : Code). ap (λ (xs : List CellEntry). first_cell (xs ++ ls) s k) c.msm_cells-msm.ensures.value
-    ∙ first-left (filter (is_from Msm) set.cells) (filter (is_from Legacy) set.cells) ls s k c.legacy_left-legacy.ensures.left in
+    ∙ first-left (filter (is_from gps Msm) set.cells) (filter (is_from gps Legacy) set.cells) ls s k c.legacy_left-legacy.ensures.left in
     let none = c.in_default.ensures.none in
     let end = fills-end c.args.tracks.now c.epoch-epoch.result c.msm_cells-msm.result.now c.satellites.at.msm c.legacy_left-legacy.result.now c.satellites.at.legacy c.satellites.invariant.from c.satellites.tracks c.satellites.invariant.fills
     c.msm_cells-msm.ensures.rises c.legacy_left-legacy.ensures.rises c.satellites.invariant.last none.0 none.1 in
@@ -156,7 +157,7 @@ returns-clause-phases c =
     let ms = c.msm_cells-msm.result.now in
     let ls = c.legacy_left-legacy.result.now in
     let turn = λ (s : ℕ) (k : Code). ap (λ (xs : List CellEntry). first_cell (xs ++ ls) s k) c.msm_cells-msm.ensures.value
-    ∙ first-left (filter (is_from Msm) set.cells) (filter (is_from Legacy) set.cells) ls s k c.legacy_left-legacy.ensures.left in
+    ∙ first-left (filter (is_from gps Msm) set.cells) (filter (is_from gps Legacy) set.cells) ls s k c.legacy_left-legacy.ensures.left in
     let none = c.in_default.ensures.none in
     let end = fills-end c.args.tracks.now c.epoch-epoch.result c.msm_cells-msm.result.now c.satellites.at.msm c.legacy_left-legacy.result.now c.satellites.at.legacy c.satellites.invariant.from c.satellites.tracks c.satellites.invariant.fills
     c.msm_cells-msm.ensures.rises c.legacy_left-legacy.ensures.rises c.satellites.invariant.last none.0 none.1 in

@@ -1,26 +1,14 @@
-use Rattle.std.proofs.Common.{◌≡◌, ◌≤◌, ◌++◌, ℕ, List, length, sym, ap, ◌∙◌, arith}
-use Rattle.std.proofs.lemmas.List.{append-nil, drop_all}
-use Rattle.rtk_obs.specs.declared.code.Code.{Code}
-use Rattle.rtk_quality.specs.Quality.{possible_in, satellites_in, station_numbers, code_of_station}
-use Rattle.rtk_quality.specs.QualityText.{code_line, each_code}
-use Rattle.rtk_quality.specs.declared.code_numbers.CodeNumbers.{CodeNumbers}
-use Rattle.rtk_quality.proofs.SectionLemmas.{station-more}
+use Rattle.std.specs.Prelude.{codes}
+use Rattle.rtk_quality.specs.Entries.{code_entry}
+use Rattle.rtk_quality.specs.Quality.{code_of_station, satellites_in}
+use Rattle.rtk_quality.specs.QualityText.{each_code, codes_heading, codes_text}
+use Rattle.rtk_quality.proofs.ListTextLemmas.{list-is}
 use Rattle.rtk_quality.proofs.sections.put_codes.Goals as goal
 
-pub loop-at-preserved : goal.loop-at-preserved
-loop-at-preserved c = λ interval es stand.
-    let tracked : c.satellites_in-tracked.result ≡ satellites_in interval es = c.satellites_in-tracked.ensures interval es stand in
-    let possible : c.possible_in-possible.result ≡ possible_in interval es = c.possible_in-possible.ensures interval es stand in
-    let numbers : c.of_station-numbers.result ≡ code_of_station interval es c.loop-at.at =
-    c.of_station-numbers.ensures
-    ∙ ap (λ (n : ℕ). station_numbers n c.totals_of.result) possible
-    ∙ ap (λ (t : CodeNumbers). station_numbers (possible_in interval es) t) (c.totals_of.ensures interval es stand) in
-    station-more c.args.form (code_of_station interval es) c.loop-at.at c.args.codes.now _ (satellites_in interval es) c.satellites_in-tracked.result c.of_station-numbers.result _ c.loop-at.text.items c.put_code_line.new.text.items
-    c.loop-at-test.true (c.loop-at.invariant interval es stand) tracked c.in_ok-put_code_line.ensures numbers
-
 pub returns : goal.returns
+unfolding codes_text
 returns c = λ interval es stand.
-    let end : length c.args.codes.now ≤ c.loop-at.at = omega (arith, c.loop-at-test.false) in
-    let line : ℕ → Code → List ℕ = λ place code. code_line c.args.form code (satellites_in interval es) (code_of_station interval es place) in
-    sym (c.loop-at.invariant interval es stand ∙ ap (λ cs. c.loop-at.text.items ++ each_code line c.loop-at.at cs) (drop_all c.loop-at.at c.args.codes.now end)
-    ∙ append-nil c.loop-at.text.items)
+    list-is c.args.form codes_heading (codes ",\n\"codes\":[")
+    (each_code (λ place code. code_entry c.args.form code (satellites_in interval es) (code_of_station interval es place)) 0 c.args.codes.now)
+    c.args.text.now.items c.begin_list.new.text.items c.put_each_code.new.text.items c.end_list.new.text.items _ _
+    c.in_ok-start.ensures.text c.in_ok-start.ensures.list c.in_ok-start.ensures.entries (c.in_ok-put_each_code.ensures interval es stand) c.in_ok-end_list.ensures

@@ -4,7 +4,8 @@ use Rattle.rtk_rinex.specs.Header.{IsPositionView, position_view}
 use Rattle.rtk_rinex.specs.HeaderFault.{AreLines}
 use Rattle.rtk_rinex.specs.MixedHead.{IsMixedHead}
 use Rattle.rtk_rinex.specs.Reading.{IsMoment}
-use Rattle.rtk_rinex.specs.Steps.MixedHeaderRead.{ShowsMixedHeader, IsOnlyMixedHeader}
+use Rattle.rtk_rinex.specs.MixedHeaderFault.{IsOnlyMixedHeader}
+use Rattle.rtk_rinex.specs.Steps.MixedHeaderRead.{ShowsMixedHeader}
 use Rattle.rtk_rinex.specs.declared.mixed_header_check.MixedHeaderParts.{MixedHeaderParts}
 use Rattle.rtk_rinex.proofs.HeaderVerdictLemmas.{HasAll}
 use Rattle.rtk_rinex.proofs.MixedPartsLemmas.{MixedValues, IsGoodMixed, mixed_values, mixed_text, whole_mixed}
@@ -67,3 +68,6 @@ returns-in_err-lines-clause-none c =
     let f = c.in_err-lines.field-0.0 in
     on_err c.from_residual.result (no_mixed c.args.text.now c.as_slice.result.now v f
     (read c.read_mixed_header-parts.result c.args.text.now c.read_mixed_header-parts.new.out.items c.as_slice.result.now e.good c.as_slice.ensures.value e.written e.shown e.only) c.in_err-lines.ensures.unlike)
+
+pub returns-clause-only : goal.returns-clause-only
+returns-clause-only c = c.read_mixed_header-parts.ensures.only

@@ -20,7 +20,7 @@ split_at-requires c =
     below 34 (length c.in-Some.line.now) c.requires (λ has.
     let due = epoch_line-due has.0 c.args.text.now has.1 in
     let same = same_line c.in-Some.line.now _ c.in-Some.after.now _ line.0 due.line (sym line.1 ∙ due.text) in
-    omega (arith, length-line c.in-Some.line.now due.epoch.time (length due.epoch.rows) due.is_epoch.time due.count same.0)) in
+    omega (arith, length-line c.in-Some.line.now due.epoch.time (length due.epoch.rows) due.is_epoch.time (omega (arith, due.count)) same.0)) in
     omega (arith, long)
 
 pub unreachable-requires-in_default-stamp_in : goal.unreachable-requires-in_default-stamp_in
@@ -30,7 +30,7 @@ unreachable-requires-in_default-stamp_in c =
     let line = c.in-Some.ensures in
     let same = same_line c.in-Some.line.now _ c.in-Some.after.now _ line.0 due.line (sym line.1 ∙ due.text) in
     c.in_default-stamp_in.ensures due.epoch.time _ due.is_epoch.time due.count
-    (c.split_at.ensures.front ∙ line-columns c.in-Some.line.now due.epoch.time _ due.is_epoch.time due.count same.0))
+    (c.split_at.ensures.front ∙ line-columns c.in-Some.line.now due.epoch.time _ due.is_epoch.time (omega (arith, due.count)) same.0))
 
 pub skip_rows-requires : goal.skip_rows-requires
 skip_rows-requires c =
@@ -39,7 +39,7 @@ skip_rows-requires c =
     let due = epoch_line-due has.0 c.args.text.now has.1 in
     let same = same_line c.in-Some.line.now _ c.in-Some.after.now _ line.0 due.line (sym line.1 ∙ due.text) in
     let one = c.in-Some-stamp_in.ensures.3 due.epoch.time _ due.is_epoch.time due.count
-    (c.split_at.ensures.front ∙ line-columns c.in-Some.line.now due.epoch.time _ due.is_epoch.time due.count same.0) in
+    (c.split_at.ensures.front ∙ line-columns c.in-Some.line.now due.epoch.time _ due.is_epoch.time (omega (arith, due.count)) same.0) in
     (due.epoch.rows, due.rest, sym one.1, same.1))
 
 pub returns : goal.returns
@@ -47,5 +47,5 @@ returns c = λ n e rest is text.
     let line = c.in-Some.ensures in
     let count = count-of n e is in
     let same = same_line c.in-Some.line.now _ c.in-Some.after.now _ line.0 (epoch_line-of n e is) (sym line.1 ∙ text ∙ epoch-front n e rest is) in
-    let one = c.in-Some-stamp_in.ensures.3 e.time _ is.time count (c.split_at.ensures.front ∙ line-columns c.in-Some.line.now e.time _ is.time count same.0) in
+    let one = c.in-Some-stamp_in.ensures.3 e.time _ is.time count (c.split_at.ensures.front ∙ line-columns c.in-Some.line.now e.time _ is.time (omega (arith, count)) same.0) in
     (one.0, c.skip_rows.ensures e.rows rest (sym one.1) same.1)

@@ -1,12 +1,12 @@
 use Rattle.std.proofs.Common.{◌≡◌, ◌∷◌, ℕ, List, Some, sym, ap, subst, ◌∙◌, Option}
 use Rattle.rtk_rinex.specs.Record.{EpochTableView}
 use Rattle.rtk_tracking.specs.Epochs.{newest_moment}
-use Rattle.rtk_tracking.specs.Passes.{is_slip, is_rise_or_return}
+use Rattle.rtk_tracking.specs.Passes.{is_slip, is_rise, is_return}
 use Rattle.rtk_tracking.specs.declared.passes.Pass.{Pass}
 use Rattle.rtk_chart.specs.Epochs.{times_in, times_in_epoch}
 use Rattle.rtk_chart.specs.Steps.Standing.{StandForPasses}
 use Rattle.rtk_chart.specs.Steps.Shown.{bin_of}
-use Rattle.rtk_chart.proofs.GridLemmas.{slips-called, rises-called, capped-more}
+use Rattle.rtk_chart.proofs.GridLemmas.{slips-called, returns-called, rises-called, capped-more}
 use Rattle.rtk_chart.proofs.grid.Grid.place_record.Goals as goal
 
 pub returns-clause-grid : goal.returns-clause-grid
@@ -22,9 +22,13 @@ returns-clause-grid c = λ es stands.
       bins = c.note_in_bin.ensures.noted e es (c.ms.ensures.value ∙ c.time.ensures) called (ap (λ v. v.items) t.bins ∙ stands.bins);
       missing = record { gaps = missing.gaps; count = missing.count };
       last = ap Some c.time-2.ensures;
+      outages = c.note_outages.ensures.noted es (subst (λ (ps : List Pass). StandForPasses ps interval es) (sym t.passes) stands.passes) record_is
+          (ap (λ v. v.items) t.outages ∙ stands.outages);
       passes = c.note_passes.ensures es (subst (λ (ps : List Pass). StandForPasses ps interval es) (sym t.passes) stands.passes) record_is;
       slips = capped-more c.saturating_add-self.result c.count_missing.new.self.slips c.slips.result (times_in (is_slip interval) es) (times_in_epoch (is_slip interval) es e)
           c.saturating_add-self.ensures (t.slips ∙ stands.slips) (c.slips.ensures ∙ slips-called interval es e c.of-called.result called);
-      rises = capped-more c.saturating_add-self-2.result c.count_missing.new.self.rises c.rises.result (times_in (is_rise_or_return interval) es) (times_in_epoch (is_rise_or_return interval) es e)
-          c.saturating_add-self-2.ensures (t.rises ∙ stands.rises) (c.rises.ensures ∙ rises-called interval es e c.of-called.result called);
+      returns = capped-more c.saturating_add-self-2.result c.count_missing.new.self.returns c.returns.result (times_in (is_return interval) es) (times_in_epoch (is_return interval) es e)
+          c.saturating_add-self-2.ensures (t.returns ∙ stands.returns) (c.returns.ensures ∙ returns-called interval es e c.of-called.result called);
+      rises = capped-more c.saturating_add-self-3.result c.count_missing.new.self.rises c.rises.result (times_in (is_rise interval) es) (times_in_epoch (is_rise interval) es e)
+          c.saturating_add-self-3.ensures (t.rises ∙ stands.rises) (c.rises.ensures ∙ rises-called interval es e c.of-called.result called);
     }

@@ -8,5 +8,5 @@ returns-then-not-is_seen c = λ before stands last.
 
 pub returns : goal.returns
 returns c = λ before stands last.
-    codes-called c.args.interval before (record { time = c.args.time_ms; observed = c.args.observed.now }) c.args.observed.now c.known-known.result.kept c.of.result
-    refl ((c.known-known.ensures before stands last).kept) c.of.ensures.codes c.of.ensures.seen
+    codes-called c.args.interval before (record { time = c.args.time_ms; observed = c.args.observed.now }) c.args.observed.now c.known-known.result.had c.known-known.result.kept c.of.result
+    refl ((c.known-known.ensures before stands last).had) ((c.known-known.ensures before stands last).kept) c.of.ensures.codes c.of.ensures.seen

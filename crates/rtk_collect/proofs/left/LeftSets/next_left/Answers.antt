@@ -18,7 +18,7 @@ invariant_of-self g c = (
 
 pub returns-clause-not_below : goal.returns-clause-not_below
 returns-clause-not_below g c =
-    subst (λ (r : LeftView). IfSome c.take_last.result (λ s. NotBelow (g.S.KeptSet.epoch_set s) r.sets)) c.self.view_is
+    subst (λ (r : LeftView _). IfSome c.take_last.result (λ s. NotBelow (g.S.KeptSet.epoch_set s) r.sets)) c.self.view_is
     (not-below-left g.S.KeptSet.epoch_set c.self.inside.sets.items c.take_last.new.sets.items c.take_last.result c.take_last.ensures.order)
 
 pub returns-clause-least : goal.returns-clause-least

@@ -1,6 +1,7 @@
 use Rattle.std.proofs.Common.{rules, ℕ, true, List, Option, refl, sym, ap, subst, ◌∙◌}
 use Rattle.rtk_obs.specs.declared.code.Code.{Code}
 use Rattle.rtk_obs.specs.declared.track.Track.{Track}
+use Rattle.rtk_obs.specs.declared.cell.CellEntry.{CellEntry}
 use Rattle.rtk_collect.specs.EpochSet.{EpochSetView}
 use Rattle.rtk_rinex.specs.Header.{HeadView}
 use Rattle.rtk_rinex.specs.Record.{record_text}
@@ -15,7 +16,7 @@ use Rattle.rtk_convert.proofs.closed_epochs.ClosedEpochs.close.Goals as goal
 pub returns-then-not-has_record-clause-closes : goal.returns-then-not-has_record-clause-closes
 returns-then-not-has_record-clause-closes g c = record {
   follows = λ below f.
-      let e : EpochSetView = c.args.set.now in
+      let e : EpochSetView CellEntry = c.args.set.now in
       let listed = c.codes-listed.ensures.value ∙ ap (λ (h : HeadView). h.listed) c.head.ensures.value in
       let old : ClosedEpochsView = record { tracks = c.self.inside.tracks.value; is_header_out = c.self.inside.is_header_out; count = c.self.inside.count } in
       let before = subst (λ (x : ClosedEpochsView). HasClosed x c.args.setup.now.head.listed below) (sym c.self.view_is) f in
@@ -33,7 +34,7 @@ returns-then-not-has_record-clause-closes g c = record {
 pub returns-clause-closes : goal.returns-clause-closes
 returns-clause-closes g c = record {
   follows = λ below f.
-      let e : EpochSetView = c.args.set.now in
+      let e : EpochSetView CellEntry = c.args.set.now in
       let listed = c.codes-listed.ensures.value ∙ ap (λ (h : HeadView). h.listed) c.head.ensures.value in
       let old : ClosedEpochsView = record { tracks = c.self.inside.tracks.value; is_header_out = c.self.inside.is_header_out; count = c.self.inside.count } in
       let before = subst (λ (x : ClosedEpochsView). HasClosed x c.args.setup.now.head.listed below) (sym c.self.view_is) f in

@@ -1,9 +1,11 @@
 use Rattle.std.proofs.Common.{◌≡◌, ℕ, suc, arith, List, Option, None, Some, refl, sym, ap, subst, ◌∙◌}
 use Rattle.std.proofs.lemmas.Result.{err_from_is_err_and}
 use Rattle.rtk_message.specs.AnyDecoded.{number_of}
+use Rattle.rtk_obs.specs.declared.cell.CellEntry.{CellEntry}
 use Rattle.rtk_collect.specs.EpochSet.{EpochSetView}
 use Rattle.rtk_collect.specs.Arrival.{epoch_of, message_of}
 use Rattle.rtk_frame.specs.Stream.{with_more, TakesPart}
+use Rattle.rtk_obs.specs.MessageCells.{cells_of}
 use Rattle.rtk_convert.specs.declared.fault.ConvertFault.TheVariants.{OutOfMemory}
 use Rattle.rtk_convert.specs.Steps.AddedMessage.{closed_by}
 use Rattle.rtk_convert.specs.Steps.OfferLines.{offer_lines}
@@ -48,7 +50,7 @@ returns-in_default-clause-failed g c = record {
 
 pub close-requires : goal.close-requires
 close-requires g c =
-    let e : EpochSetView = c.in-Some.set in
+    let e : EpochSetView CellEntry = c.in-Some.set in
     let some : closed_by c.in_ok-offer.offer ≡ Some e = sym c.closed_by.ensures ∙ c.in-Some.is in
     ahead-closes c.self.inside.collector c.self.inside.closed_epochs c.in_ok-offer.offer e some c.in_ok-offer.ensures.least_closes (ahead-seen c.self.view_is c.requires.under_way)
 
@@ -58,7 +60,7 @@ returns-in_err-close-clause-handles g c =
     let some : closed_by c.in_ok-offer.offer ≡ Some c.in-Some.set = sym c.closed_by.ensures ∙ c.in-Some.is in
     let size = c.in_ok-offer.ensures.places ∙ c.self.invariant.1.places in
     rw (p.1, p.2) (message-err _ c.self.view_is (out-frame _ c.in_err-close.ensures.failed.fault)
-    (part-record c.in_ok-offer.offer c.offer.new.conflicts c.self.invariant.1.places size some c.in_ok-offer.ensures.answer c.station-position.ensures.kept (λ below h. (c.close.ensures.closes.puts below h).part)))
+    (part-record c.in_ok-offer.offer c.offer.new.conflicts c.self.invariant.1.places size some c.in_ok-offer.ensures.answer (c.station-position.ensures.kept cells_of) (λ below h. (c.close.ensures.closes.puts below h).part)))
 
 pub returns-in_err-close-clause-failed : goal.returns-in_err-close-clause-failed
 returns-in_err-close-clause-failed g c =
@@ -74,10 +76,10 @@ returns-clause-handles g c =
     let some : closed_by c.in_ok-offer.offer ≡ Some c.in-Some.set = sym c.closed_by.ensures ∙ c.in-Some.is in
     let size = c.in_ok-offer.ensures.places ∙ c.self.invariant.1.places in
     rw c.hand_back.ensures (message-lines c.write_lines-2.result c.self.view_is c.write_lines-2.ensures.fault
-    (on_ok-map c.write_lines-2.result (λ wrote. takes-some-closed c.in_ok-offer.offer c.offer.new.conflicts c.self.invariant.1.places size some c.in_ok-offer.ensures.answer c.station-position.ensures.kept c.count_message.ensures c.in_ok-close.ensures.closes.follows (λ below h. (c.in_ok-close.ensures.closes.puts below h).all)
+    (on_ok-map c.write_lines-2.result (λ wrote. takes-some-closed c.in_ok-offer.offer c.offer.new.conflicts c.self.invariant.1.places size some c.in_ok-offer.ensures.answer (c.station-position.ensures.kept cells_of) c.count_message.ensures c.in_ok-close.ensures.closes.follows (λ below h. (c.in_ok-close.ensures.closes.puts below h).all)
     (wrote ∙ ap (with_more (g.L.Sink.taken c.args.log.now)) (c.deref-2.ensures.value ∙ text))) c.write_lines-2.ensures.puts.all)
     (part-lines c.in_ok-offer.offer c.offer.new.conflicts c.self.invariant.1.places c.in_ok-offer.ensures.answer
-    (takes-some-closed c.in_ok-offer.offer c.offer.new.conflicts c.self.invariant.1.places size some c.in_ok-offer.ensures.answer c.station-position.ensures.kept c.count_message.ensures c.in_ok-close.ensures.closes.follows (λ below h. (c.in_ok-close.ensures.closes.puts below h).all) refl)
+    (takes-some-closed c.in_ok-offer.offer c.offer.new.conflicts c.self.invariant.1.places size some c.in_ok-offer.ensures.answer (c.station-position.ensures.kept cells_of) c.count_message.ensures c.in_ok-close.ensures.closes.follows (λ below h. (c.in_ok-close.ensures.closes.puts below h).all) refl)
     (subst (λ (t : List ℕ). TakesPart (g.L.Sink.taken c.args.log.now) (g.L.Sink.taken c.write_lines-2.new.log) t) (c.deref-2.ensures.value ∙ text) c.write_lines-2.ensures.puts.part)))
 
 pub returns-clause-failed : goal.returns-clause-failed
@@ -109,7 +111,7 @@ returns-in_err-close-clause-stays g c =
 
 pub returns-clause-stays : goal.returns-clause-stays
 returns-clause-stays g c =
-    let e : EpochSetView = c.in-Some.set in
+    let e : EpochSetView CellEntry = c.in-Some.set in
     let some : closed_by c.in_ok-offer.offer ≡ Some e = sym c.closed_by.ensures ∙ c.in-Some.is in
     let ahead = ahead-after c.self.inside.collector c.offer.new.self c.close.new.self c.in_ok-offer.offer e some c.in_ok-offer.ensures.least_closes c.in_ok-offer.ensures.closed c.offer.ensures.least (c.in_ok-close.ensures.closes.later (suc e.epoch) (omega arith)) in
     rw c.hand_back.ensures (stays-seen c.self.view_is c.requires.under_way (record { same_setup = refl; few = omega (arith, c.self.invariant.1.few, c.self.invariant.1.places); held = λ h. held-offered c.self.inside.collector c.offer.new.self c.args.dated c.in_ok-offer.offer c.offer.new.conflicts c.in_ok-offer.ensures.answer h }) refl

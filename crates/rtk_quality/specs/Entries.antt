@@ -1,0 +1,56 @@
+-- The entries of the lists: a row of the table, a line, or an object in JSON, each with the same numbers (this
+-- project's rule).
+use Rattle.std.specs.Prelude.{ℕ, List, [], Option, None, Some}
+use Rattle.rtk_obs.specs.declared.code.Band.{Band}
+use Rattle.rtk_obs.specs.declared.code.Code.{Code}
+use Rattle.rtk_quality.specs.Falls.{largest_fall}
+use Rattle.rtk_quality.specs.Strengths.{number_of}
+use Rattle.rtk_quality.specs.LineText.{code_line, satellite_line, never_line, tracked_line, pass_line}
+use Rattle.rtk_quality.specs.StationText.{hour_line, gap_line, fall_line}
+use Rattle.rtk_quality.specs.Rows.{code_row, signal_row, never_row, tracked_row, pass_row, hour_row, gap_row, fall_row}
+use Rattle.rtk_quality.specs.declared.form.Form.{Form}
+use Rattle.rtk_quality.specs.declared.form.Form.TheVariants.{Table, Lines, Json}
+use Rattle.rtk_quality.specs.declared.code_numbers.CodeNumbers.{CodeNumbers}
+use Rattle.rtk_quality.specs.declared.pass_sums.PassSums.{PassSums}
+use Rattle.rtk_quality.specs.declared.satellite_counts.PassCounts.{PassCounts}
+use Rattle.rtk_quality.specs.declared.hours.HourCounts.{HourCounts}
+use Rattle.rtk_quality.specs.declared.gaps.Gap.{Gap}
+use Rattle.rtk_quality.specs.declared.falls.Fall.{Fall}
+
+-- a row of the table, or else a line or an object
+abbrev pub in_table : Form → List ℕ → List ℕ → List ℕ
+in_table Table row line = row
+in_table Lines row line = line
+in_table Json row line = line
+
+unfoldable pub code_entry : Form → Code → ℕ → CodeNumbers → List ℕ
+code_entry form code tracked n = in_table form (code_row code tracked n) (code_line form code tracked n)
+
+unfoldable pub satellite_entry : Form → ℕ → Code → CodeNumbers → List ℕ
+satellite_entry form satellite code n = in_table form (signal_row satellite code n) (satellite_line form satellite code n)
+
+unfoldable pub never_entry : Form → ℕ → Code → List ℕ
+never_entry form satellite code = in_table form (never_row satellite code) (never_line form satellite code)
+
+unfoldable pub tracked_entry : Form → ℕ → PassSums → List ℕ
+tracked_entry form satellite s = in_table form (tracked_row satellite s) (tracked_line form satellite s)
+
+unfoldable pub pass_entry : Form → ℕ → PassCounts → List ℕ
+pass_entry form satellite p = in_table form (pass_row satellite p) (pass_line form satellite p)
+
+unfoldable pub hour_entry : Form → List Code → HourCounts → List ℕ
+hour_entry form listed h = in_table form (hour_row h) (hour_line form listed h)
+
+unfoldable pub gap_entry : Form → Gap → List ℕ
+gap_entry form g = in_table form (gap_row g) (gap_line form g)
+
+unfoldable pub fall_entry : Form → Band → Fall → List ℕ
+fall_entry form band f = in_table form (fall_row (number_of band) f) (fall_line form band f)
+
+abbrev pub entry_of_fall : Form → Band → Option Fall → List ℕ
+entry_of_fall form band None = []
+entry_of_fall form band (Some f) = fall_entry form band f
+
+-- the largest fall of a band, if there is one
+abbrev pub fall_part : Form → List HourCounts → Band → List ℕ
+fall_part form hours band = entry_of_fall form band (largest_fall band hours)

@@ -1,0 +1,23 @@
+-- Lists of entries in the three forms (this project's rule).
+use Rattle.std.specs.Prelude.{ℕ, List, [], ◌∷◌, ◌++◌, drop, codes}
+use Rattle.rtk_quality.specs.declared.form.Form.{Form}
+use Rattle.rtk_quality.specs.declared.form.Form.TheVariants.{Table, Lines, Json}
+
+-- what stands before the entries: a heading in a table, and a key in JSON
+abbrev pub opening : Form → List ℕ → List ℕ → List ℕ
+opening Table heading key = heading
+opening Lines heading key = []
+opening Json heading key = key
+
+-- formula
+-- a list whose entries follow its first text: in a table no list is empty, and in JSON, where a comma stands
+-- before each entry, the first comma is left out
+abbrev pub closed : Form → List ℕ → List ℕ → List ℕ
+closed Table first [] = []
+closed Table first (x ∷ xs) = first ++ x ∷ xs
+closed Lines first entries = first ++ entries
+closed Json first entries = first ++ drop 1 entries ++ codes "\n]"
+
+-- a list of entries, with its heading in a table, and its key in JSON
+unfoldable pub list_text : Form → List ℕ → List ℕ → List ℕ → List ℕ
+list_text form heading key entries = closed form (opening form heading key) entries

@@ -1,0 +1,111 @@
+-- The rows of a table (this project's rule).
+use Rattle.std.specs.Prelude.{ℕ, List, [], ◌∷◌, ◌++◌, take, codes, Some}
+use Rattle.rtk_obs.specs.declared.code.Code.{Code}
+use Rattle.rtk_obs.specs.Code.{name_of}
+use Rattle.rtk_obs.specs.CivilText.{last_digits, civil_text}
+use Rattle.rtk_obs.specs.declared.time.Civil.{Civil}
+use Rattle.rtk_rinex.specs.Reading.{reading_of}
+use Rattle.rtk_quality.specs.Counts.{plus, percent_tenths, phases_per_slip, mean_hundredths, mean_tenths}
+use Rattle.rtk_quality.specs.Hours.{start_of}
+use Rattle.rtk_quality.specs.Columns.{column, cells_text}
+use Rattle.rtk_quality.specs.LineText.{having_text, per_slip_text}
+use Rattle.rtk_quality.specs.declared.columns.Cell.{Cell}
+use Rattle.rtk_quality.specs.declared.form.Form.TheVariants.{Lines}
+use Rattle.rtk_quality.specs.declared.form.Decimals.TheVariants.{Whole, Tenths, Hundredths, Thousandths}
+use Rattle.rtk_quality.specs.declared.code_numbers.CodeNumbers.{CodeNumbers}
+use Rattle.rtk_quality.specs.declared.pass_sums.PassSums.{PassSums}
+use Rattle.rtk_quality.specs.declared.satellite_counts.PassCounts.{PassCounts}
+use Rattle.rtk_quality.specs.declared.strengths.BandStrengths.{BandStrengths}
+use Rattle.rtk_quality.specs.declared.hours.HourCounts.{HourCounts}
+use Rattle.rtk_quality.specs.declared.gaps.Gap.{Gap}
+use Rattle.rtk_quality.specs.declared.falls.Fall.{Fall}
+
+-- formula
+-- a satellite, as in G05
+abbrev pub satellite_mark : ℕ → List ℕ
+satellite_mark satellite = 71 ∷ last_digits 2 satellite
+
+-- table
+-- the columns of a code: phases, of how many, and how many percent; ranges without a phase; slips, returns,
+-- rises and half cycles; the least, mean and greatest strength
+abbrev pub numbers_columns : CodeNumbers → List Cell
+numbers_columns n =
+    column 7 Whole (Some n.counts.phases)
+    ∷ column 7 Whole (Some n.possible)
+    ∷ column 7 Tenths (Some (percent_tenths n.counts.phases n.possible))
+    ∷ column 7 Whole (Some n.counts.ranges)
+    ∷ column 6 Whole (Some n.counts.slips)
+    ∷ column 8 Whole (Some n.counts.returns)
+    ∷ column 6 Whole (Some n.counts.rises)
+    ∷ column 5 Whole (Some n.counts.halves)
+    ∷ column 8 Thousandths n.counts.least
+    ∷ column 6 Hundredths (mean_hundredths n.counts.strength_sum n.counts.strengths)
+    ∷ column 7 Thousandths n.counts.greatest
+    ∷ []
+
+-- the numbers of a code, up to the end of their row
+unfoldable pub numbers_text : CodeNumbers → List ℕ
+numbers_text n = cells_text (numbers_columns n) ++ codes "\n"
+
+-- the row of a code that a satellite has
+unfoldable pub signal_row : ℕ → Code → CodeNumbers → List ℕ
+signal_row satellite code n = satellite_mark satellite ++ codes " " ++ name_of code ++ numbers_text n
+
+-- formula
+-- the two rows of a code over all satellites that have it, of so many that are tracked
+unfoldable pub code_row : Code → ℕ → CodeNumbers → List ℕ
+code_row code tracked n =
+    codes "all " ++ name_of code ++ numbers_text n
+    ++ codes "      " ++ having_text Lines n.satellites tracked ++ per_slip_text Lines (phases_per_slip n.counts.phases n.counts.slips) ++ codes "\n"
+
+-- the row of a code of the file of which a satellite has no phase
+unfoldable pub never_row : ℕ → Code → List ℕ
+never_row satellite code = satellite_mark satellite ++ codes " " ++ name_of code ++ codes "\n"
+
+-- table
+-- the row of all codes of a satellite: phases, slips and their moments, outages and their time in seconds
+unfoldable pub tracked_row : ℕ → PassSums → List ℕ
+tracked_row satellite s =
+    satellite_mark satellite
+    ++ cells_text (column 10 Whole (Some s.phases) ∷ column 7 Whole (Some s.slips) ∷ column 9 Whole (Some s.moments)
+    ∷ column 9 Whole (Some s.outages) ∷ column 12 Thousandths (Some s.outage_ms) ∷ [])
+    ++ codes "\n"
+
+-- formula
+-- two moments, each of them cut off behind so many characters
+unfoldable pub span_part : Civil → Civil → ℕ → List ℕ
+span_part from until width = codes " " ++ take width (civil_text from) ++ codes " " ++ take width (civil_text until)
+
+-- table
+-- the row of a pass: its span in whole seconds, and the same numbers
+unfoldable pub pass_row : ℕ → PassCounts → List ℕ
+pass_row satellite p =
+    satellite_mark satellite ++ span_part p.from p.until 19
+    ++ cells_text (column 7 Whole (Some p.sums.phases) ∷ column 6 Whole (Some p.sums.slips) ∷ column 8 Whole (Some p.sums.moments)
+    ∷ column 5 Whole (Some p.sums.outages) ∷ column 10 Thousandths (Some p.sums.outage_ms) ∷ [])
+    ++ codes "\n"
+
+-- the mean strength of a band
+abbrev pub strength_column : BandStrengths → Cell
+strength_column b = column 8 Hundredths (mean_hundredths b.sum b.count)
+
+-- table
+-- the row of an hour: records, and how many there would be without missing epochs; satellites in the mean; slips
+-- and returns; the mean strength of each band
+unfoldable pub hour_row : HourCounts → List ℕ
+hour_row h =
+    take 16 (civil_text (reading_of (start_of h.hour)))
+    ++ cells_text (column 8 Whole (Some h.records) ∷ column 6 Whole (Some (plus h.records h.missing)) ∷ column 11 Tenths (mean_tenths h.rows h.records)
+    ∷ column 7 Whole (Some h.locks.slips) ∷ column 8 Whole (Some h.locks.returns)
+    ∷ strength_column h.strengths.l1 ∷ strength_column h.strengths.l2 ∷ strength_column h.strengths.l5 ∷ [])
+    ++ codes "\n"
+
+-- the row of a gap
+unfoldable pub gap_row : Gap → List ℕ
+gap_row g = civil_text g.from ++ codes " " ++ civil_text g.until ++ cells_text (column 10 Whole (Some g.missing) ∷ []) ++ codes "\n"
+
+-- the row of the largest fall of a band, by the number of the band
+unfoldable pub fall_row : ℕ → Fall → List ℕ
+fall_row band f =
+    cells_text (column 4 Whole (Some band) ∷ []) ++ span_part (reading_of (start_of f.from)) (reading_of (start_of f.until)) 16
+    ++ cells_text (column 8 Hundredths (Some f.by) ∷ []) ++ codes "\n"
