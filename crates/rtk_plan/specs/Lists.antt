@@ -43,7 +43,7 @@ capture_line words name look = words_and_name words name ++ look_text look ++ li
 -- formula
 -- words, a message number and its count; a count of 0 has no line
 abbrev pub count_line_of : List ℕ → ℕ → ℕ → List ℕ
-count_line_of words number count = if count == 0 then [] else words ++ decimal number ++ codes " " ++ decimal count ++ line_end
+count_line_of words number count = if count == 0 then [] else words ++ decimal number ++ codes ", " ++ decimal count ++ codes " messages\n"
 
 -- formula
 -- a line for each of so many message numbers from a first one, with how many such messages were not read
@@ -57,7 +57,7 @@ unread_lines_from words ss first count = flat_map (unread_line words ss) (range_
 -- GPS observations that are not read: 1001 to 1003, and MSM 1071 to 1073
 -- Source: RTCM 10403.3, message types
 unfoldable pub unread_gps : List CaptureSurvey → List ℕ
-unread_gps ss = unread_lines_from (codes " untaken GPS ") ss 1001 3 ++ unread_lines_from (codes " untaken GPS ") ss 1071 3
+unread_gps ss = unread_lines_from (codes " not in the file: GPS ") ss 1001 3 ++ unread_lines_from (codes " not in the file: GPS ") ss 1071 3
 
 -- table
 -- observations of GLONASS: 1009 to 1012, and MSM 1081 to 1087; of Galileo: MSM 1091 to 1097; of SBAS: MSM
@@ -65,16 +65,16 @@ unread_gps ss = unread_lines_from (codes " untaken GPS ") ss 1001 3 ++ unread_li
 -- Source: RTCM 10403.3, message types
 unfoldable pub unread_glonass_to_sbas : List CaptureSurvey → List ℕ
 unread_glonass_to_sbas ss =
-    unread_lines_from (codes " untaken GLONASS ") ss 1009 4 ++ unread_lines_from (codes " untaken GLONASS ") ss 1081 7
-    ++ unread_lines_from (codes " untaken Galileo ") ss 1091 7 ++ unread_lines_from (codes " untaken SBAS ") ss 1101 7
+    unread_lines_from (codes " not in the file: GLONASS ") ss 1009 4 ++ unread_lines_from (codes " not in the file: GLONASS ") ss 1081 7
+    ++ unread_lines_from (codes " not in the file: Galileo ") ss 1091 7 ++ unread_lines_from (codes " not in the file: SBAS ") ss 1101 7
 
 -- table
 -- observations of QZSS: MSM 1111 to 1117; of BeiDou: MSM 1121 to 1127; of NavIC: MSM 1131 to 1137
 -- Source: RTCM 10403.3, message types
 unfoldable pub unread_qzss_to_navic : List CaptureSurvey → List ℕ
 unread_qzss_to_navic ss =
-    unread_lines_from (codes " untaken QZSS ") ss 1111 7 ++ unread_lines_from (codes " untaken BeiDou ") ss 1121 7
-    ++ unread_lines_from (codes " untaken NavIC ") ss 1131 7
+    unread_lines_from (codes " not in the file: QZSS ") ss 1111 7 ++ unread_lines_from (codes " not in the file: BeiDou ") ss 1121 7
+    ++ unread_lines_from (codes " not in the file: NavIC ") ss 1131 7
 
 -- formula
 -- all observations that are not read
@@ -86,11 +86,18 @@ all_unread ss = unread_gps ss ++ unread_glonass_to_sbas ss ++ unread_qzss_to_nav
 abbrev pub msm_line : MsmKind → List CaptureSurvey → ℕ → MsmKind → List ℕ
 msm_line taken ss station kind =
     if number_of_kind kind == number_of_kind taken then [] else
-    count_line_of (codes " untaken GPS ") (number_of_kind kind) (messages_in_captures ss station kind)
+    count_line_of (codes " not in the file: GPS ") (number_of_kind kind) (messages_in_captures ss station kind)
 
 unfoldable pub msm_lines : MsmKind → List CaptureSurvey → ℕ → List ℕ
 msm_lines taken ss station =
     msm_line taken ss station Msm4 ++ msm_line taken ss station Msm5 ++ msm_line taken ss station Msm6 ++ msm_line taken ss station Msm7
+
+-- formula
+-- the Doppler of 1075 and 1077
+abbrev pub doppler_line : MsmKind → List CaptureSurvey → ℕ → List ℕ
+doppler_line Msm4 ss station = []
+doppler_line Msm6 ss station = []
+doppler_line kind ss station = count_line_of (codes " not in the file: Doppler of ") (number_of_kind kind) (messages_in_captures ss station kind)
 
 -- formula
 -- a number of epochs
