@@ -45,9 +45,9 @@ done 3<<'ROWS'
 3|zip one.rnx text nmea empty|the captures have no frame of RTCM 3\n zip looks like zip\n one.rnx looks like RINEX\n text looks like hex-text\n nmea looks like NMEA\n empty is empty
 3|one one.gz empty stations|several stations have GPS observations; choose one by --station\n station 7 in stations: 1 epochs\n station 2003 in one: 2 epochs\n station 2003 in stations: 2 epochs
 3|one one.gz "a b" empty|captures have nothing of station 2003; --skip-empty leaves them out\n one.gz looks like gzip\n empty is empty
-3|unread|the captures have no GPS observations that are read\n untaken GPS 1001 1\n untaken GPS 1003 12\n untaken GPS 1072 1\n untaken GLONASS 1009 1\n untaken GLONASS 1012 1\n untaken GLONASS 1081 1\n untaken GLONASS 1087 1\n untaken Galileo 1091 1\n untaken Galileo 1097 1\n untaken SBAS 1101 1\n untaken SBAS 1107 1\n untaken QZSS 1111 1\n untaken QZSS 1117 1\n untaken BeiDou 1121 1\n untaken BeiDou 1127 1\n untaken NavIC 1131 1\n untaken NavIC 1137 1
-3|reserved|the captures have no GPS observations that are read\n holds 1080 1\n holds 1088 1\n holds 1089 1\n holds 1090 1\n holds 1098 1\n holds 1099 1\n holds 1100 1\n holds 1108 1\n holds 1109 1\n holds 1110 1\n holds 1118 1\n holds 1119 1\n holds 1120 1\n holds 1128 1\n holds 1129 1\n holds 1130 1\n holds 1138 1
-3|no_value position|the captures have no GPS observations that are read\n holds 1004 1\n holds 1005 1\n holds 1013 1
+3|unread|the captures have no GPS observations that are read\n holds GPS 1001, 1 messages\n holds GPS 1003, 12 messages\n holds GLONASS 1009, 1 messages\n holds GLONASS 1012, 1 messages\n holds GPS 1072, 1 messages\n holds GLONASS 1081, 1 messages\n holds GLONASS 1087, 1 messages\n holds Galileo 1091, 1 messages\n holds Galileo 1097, 1 messages\n holds SBAS 1101, 1 messages\n holds SBAS 1107, 1 messages\n holds QZSS 1111, 1 messages\n holds QZSS 1117, 1 messages\n holds BeiDou 1121, 1 messages\n holds BeiDou 1127, 1 messages\n holds NavIC 1131, 1 messages\n holds NavIC 1137, 1 messages
+3|reserved|the captures have no GPS observations that are read\n holds 1080, 1 messages\n holds 1088, 1 messages\n holds 1089, 1 messages\n holds 1090, 1 messages\n holds 1098, 1 messages\n holds 1099, 1 messages\n holds 1100, 1 messages\n holds 1108, 1 messages\n holds 1109, 1 messages\n holds 1110, 1 messages\n holds 1118, 1 messages\n holds 1119, 1 messages\n holds 1120, 1 messages\n holds 1128, 1 messages\n holds 1129, 1 messages\n holds 1130, 1 messages\n holds 1138, 1 messages
+3|no_value position|the captures have no GPS observations that are read\n holds GPS 1004, 1 messages\n holds 1005, 1 messages\n holds 1013, 1 messages
 3|--station 7 one|station 7 has no GPS observations that are read\n station 2003 in one: 2 epochs
 3|--station 7 foreign|station 7 has no GPS observations that are read\n station 2003 in foreign: 2 epochs
 3|differ|the captures tell dates that differ; choose one by --near\n 2024-05-17T12:00:00 by 1013 of station 2003 in differ\n 2024-05-10T12:00:00 by 1013 of station 2003 in differ
@@ -87,11 +87,12 @@ for option in 'station 4096 4096 is not in 0..=4095' 'window 1 1 is not in 2..=4
 done
 
 # says SPAN COMMAND COUNTS LINE..: standard error of a run that is done, of captures that have a position or not
-no_position=' no-position: no 1005 or 1006 came, and the header has zeros'
+no_position=' no-position: no 1005 or 1006 came in time, and the header has zeros'
 position=$no_position
 says() {
-    printf ' from %s\n the same by hand:\n%s\n' "$1" "$2"
+    printf ' the same by hand:\n%s\n' "$2"
     report $3
+    [ "${3##* }" = 0 ] || echo " from $1"
     [ ! "$position" ] || echo "$position"
     shift 3
     [ $# -eq 0 ] || printf '%s\n' "$@"
@@ -116,12 +117,14 @@ auto one
 # pins: span_line, time_text, value_words, convert_words, command_text, no_position_line
 leaves one 0 one.rnx want_err; as_said one one.rnx
 cp want_err one.err
-auto -o file one; leaves one_to_a_file 0 /dev/null one.err; same one_in_its_file file one.rnx; rm file
+# written NAME: standard error of `auto -o NAME one`
+written() { cat one.err; echo "wrote $1: 2 epochs, G 2 satellites"; } >written.err
+written file; auto -o file one; leaves one_to_a_file 0 /dev/null written.err; same one_in_its_file file one.rnx; rm file
 [ "$(ls | grep '^file')" ] && wrong nothing_beside_the_file "$(ls file*)" || right nothing_beside_the_file
 run auto --made 2024-05-17T13:00:00 --marker BASE "$examples/dated.rtcm"
 leaves the_dated_example 0 "$examples/session.rnx" err
 sed 's/^frames 54/frames 55/; s/^other 1/other 2/' "$examples/session.report" >want
-tail -n 9 err >counts; same counts_of_the_dated_example counts want
+grep -E '^(frames|other|refused|foreign|taken|repeat|conflict|late|epochs) ' err >counts; same counts_of_the_dated_example counts want
 for links in "1 2" "2 1"; do
     run auto --made 2024-05-17T13:00:00 --marker BASE "$examples/dated_link${links% *}.rtcm" "$examples/dated_link${links#* }.rtcm"
     leaves "the_dated_links_$links" 0 "$examples/session.rnx" err
@@ -153,7 +156,7 @@ finds by_other "$noon until $noon by 1013 of station 7" "$one_command by_other" 
 finds by_week "$noon until $noon by 1019 (or 2004-10-01, 2044-01-01)" "$one_command by_week" '2 1 0 0 1 0 0 0 1' 0 ''
 for row in '1981-01-01 1980-01-20 1999-09-05' '2024-06-01 2019-04-21 1999-09-05, 2038-12-05' '2100-12-31 2097-10-20 2078-03-06'; do
     set -- $row
-    run auto --made "$1T00:00:00" early_week; head -n 1 err >told
+    run auto --made "$1T00:00:00" early_week; grep "^ from" err >told
     echo " from $2T00:01:00 until $2T00:01:00 by 1019 (or $3${4+ $4})" >want
     # pins: neighbours_text, weeks_ms
     same "week_of_$1" told want
@@ -177,16 +180,22 @@ finds 'one position' "$two 1013" "cat position one | $one_command stdin" '4 1 0 
 # a capture that begins with another station, before the one that tells which station is converted
 finds 'positions one' "$two 1013" "cat positions one | $one_command stdin" '5 1 0 1 3 0 0 0 2' 0 '' ' no-epoch positions'
 position=$no_position
+finds gaps "$noon until 2024-05-17T12:16:19 by 1013" "$one_command gaps" '28 1 0 0 27 0 0 0 27' 0 '' \
+    ' gap 2024-05-17T12:13:57 until 2024-05-17T12:15:18\n gap 2024-05-17T12:12:36 until 2024-05-17T12:13:56\n gap 2024-05-17T12:11:16 until 2024-05-17T12:12:35\n gap 2024-05-17T12:09:57 until 2024-05-17T12:11:15\n gap 2024-05-17T12:08:39 until 2024-05-17T12:09:56\n gap 2024-05-17T12:07:22 until 2024-05-17T12:08:38\n gap 2024-05-17T12:06:06 until 2024-05-17T12:07:21\n gap 2024-05-17T12:04:51 until 2024-05-17T12:06:05\n gap 2024-05-17T12:03:37 until 2024-05-17T12:04:50\n gap 2024-05-17T12:02:24 until 2024-05-17T12:03:36\n more-gaps 2'
+finds slow "$noon until 2024-05-17T12:11:30 by 1013" "$one_command slow" '6 1 0 0 5 0 0 0 5' 0 '' ' gap 2024-05-17T12:06:00 until 2024-05-17T12:11:30'
 # pins: IsNearOf
 finds falls "$noon until 2024-05-17T12:00:02 by 1013" "$(command 2024-05-17T12:00:01) falls" '4 1 0 0 3 0 0 0 3' 0 '' ' time-falls falls'
 finds few "$noon until 2024-05-17T12:00:03 by 1013" "$one_command few" '5 1 0 0 4 0 0 0 4' 0 '' \
     ' few-phases 2W: its satellites have more than twice as many in another code'
 # pins: msm_line
-finds stray "$two 1013" "$one_command stray" '5 2 0 0 3 0 0 0 2' 0 '' ' untaken GPS 1077 1'
-finds '--msm 7 stray' "$two 1013" "$(command $noon 1C,2W ' --msm 7') stray" '5 3 0 0 2 0 0 0 1' 0 '' ' untaken GPS 1074 2'
-finds of_1077 "$two 1013" "$(command $noon 1C ' --msm 7') of_1077" "$counts" 0 ''
+finds stray "$two 1013" "$one_command stray" '5 2 0 0 3 0 0 0 2' 0 '' ' not in the file: GPS 1077, 1 messages'
+# The epochs are those of the file: the second epoch has a 1074 alone.
+# pins: doppler_line
+finds '--msm 7 stray' "$noon until $noon by 1013" "$(command $noon 1C,2W ' --msm 7') stray" '5 3 0 0 2 0 0 0 1' 0 '' \
+    ' not in the file: GPS 1074, 2 messages\n not in the file: Doppler of 1077, 1 messages'
+finds of_1077 "$two 1013" "$(command $noon 1C ' --msm 7') of_1077" "$counts" 0 '' ' not in the file: Doppler of 1077, 2 messages'
 finds '--msm 4 --codes 1C of_1077' "$two 1013" "$(command $noon 1C) of_1077" '3 3 0 0 0 0 0 0 0' 3 '' \
-    ' untaken GPS 1077 2\nrtcm2rinex: no record came; the file is a header alone'
+    ' not in the file: GPS 1077, 2 messages\nrtcm2rinex: no record came; the file is a header alone'
 finds '--codes 5X one' "$two 1013" "$(command $noon 5X) one" '3 1 0 0 2 0 0 0 0' 3 '' \
     'rtcm2rinex: no record came; the file is a header alone'
 finds '--skip-empty one.gz one empty zip' "$two 1013" "$one_command one" "$counts" 0 one.rnx \
@@ -239,8 +248,10 @@ finds '--window 2 --near 2024-05-17T12:00:00 '"$examples/late.rtcm" "$noon until
 finds week_end "2024-05-18T23:59:50 until 2024-05-19T00:00:09 by 1013" "$(command 2024-05-18T23:59:50) week_end" '21 1 0 0 20 0 0 0 20' 0 week_end.rnx
 position=
 links='here.0 here.1' # 100 m apart
-finds "here.1 here.0" "$noon until 2024-05-17T12:00:10 by 1013" "$one_command $links" '8 2 0 0 5 0 1 0 4' 0 ''
-finds "--links-as-given here.2 here.0" "$noon until 2024-05-17T12:00:11 by 1013" "$one_command here.2 here.0" '8 2 0 0 5 0 1 0 4' 0 ''
+conflict=' conflict 1: later copies differ from the first, which the file has'
+# pins: conflicts_line
+finds "here.1 here.0" "$noon until 2024-05-17T12:00:10 by 1013" "$one_command $links" '8 2 0 0 5 0 1 0 4' 0 '' "$conflict"
+finds "--links-as-given here.2 here.0" "$noon until 2024-05-17T12:00:11 by 1013" "$one_command here.2 here.0" '8 2 0 0 5 0 1 0 4' 0 '' "$conflict"
 sed "s/^frames 8/link 2 conflict 1005 -\n&/" want_err >want; auto --report --links-as-given here.2 here.0; leaves report 0 any want
 position=$no_position
 finds "$(seq -s ' ' -f 'same.%02.0f' 0 15)" "$two 1013" "$one_command $(seq -s ' ' -f 'same.%02.0f' 0 15)" '48 16 0 0 32 0 0 0 2' 0 ''
@@ -261,7 +272,7 @@ auto -o file $(echo "$hours" | sed 's|day/7|&.gz|'); unfinished
 expect a_day_with_an_hour_that_is_compressed 3 '' 'rtcm2rinex: captures have nothing of station 2003; --skip-empty leaves them out
  day/7.gz looks like gzip'
 sed 's/^> 2024 05 17 07/#&/; /^#/,/^> 2024 05 17 08/{/^> 2024 05 17 08/!d}' day.rnx >want
-says "$span" "cat $(echo "$hours" | sed 's|day/7 ||') | $day_command stdin" '2806 23 0 0 2761 22 0 0 2760' ' skipped day/7.gz looks like gzip'
+says "$span" "cat $(echo "$hours" | sed 's|day/7 ||') | $day_command stdin" '2806 23 0 0 2761 22 0 0 2760' ' gap 2024-05-17T06:59:30 until 2024-05-17T08:00:00' ' skipped day/7.gz looks like gzip'
 auto --skip-empty $(echo "$hours" | sed 's|day/7|&.gz|'); leaves a_day_without_an_hour 0 want want_err
 even=$(seq -s ' ' -f 'overlapping/%.0f' 0 2 22) odd=$(seq -s ' ' -f 'overlapping/%.0f' 1 2 23)
 says '2024-05-17T00:00:00 until 2024-05-18T00:00:30 by 1013' "mkdir joined &&
@@ -285,7 +296,7 @@ run auto --made 2024-05-16T00:00:00 one; [ "$status" = 0 ] && right a_date_of_to
 # A FILE that is there stays, but with -f; an output that is a capture is never taken, by whatever name.
 echo old >file; echo old >want
 auto -o file one; expect a_file_that_is_there 1 '' 'rtcm2rinex: file is there, and -f would replace it'; same it_stays file want
-chmod 640 file; auto -f -o file one; leaves a_file_that_is_replaced 0 /dev/null one.err; same it_is_replaced file one.rnx
+chmod 640 file; auto -f -o file one; leaves a_file_that_is_replaced 0 /dev/null written.err; same it_is_replaced file one.rnx
 # Its permissions stay. A file without a record does not replace it; where no FILE is, it is written.
 [ "$(stat -c %a file)" = 640 ] && right it_keeps_its_permissions || wrong it_keeps_its_permissions "$(stat -c %a file)"
 says "$two 1013" "$(command $noon 5X) one" '3 1 0 0 2 0 0 0 0' 'rtcm2rinex: no record came; file stays as it was'
@@ -294,9 +305,10 @@ auto -f -o file --codes 5X one; leaves a_file_and_no_record 3 /dev/null want_err
 mv file 'a file'; auto -f -o 'a file' --codes 5X one; tail -n 1 err >told; echo "rtcm2rinex: no record came; 'a file' stays as it was" >want
 same a_file_with_a_blank_and_no_record told want; rm 'a file'
 says "$two 1013" "$(command $noon 5X) one" '3 1 0 0 2 0 0 0 0' 'rtcm2rinex: no record came; the file is a header alone'
+echo 'wrote file: no epochs' >>want_err
 auto --codes 5X one; cp out want; auto -f -o file --codes 5X one; leaves no_file_and_no_record 3 /dev/null want_err; same the_header_alone file want; rm file
 auto -o - one; expect an_output_of_a_hyphen 2 '' 'rtcm2rinex: -o - names no file; leave out -o for standard output, or say -o ./-'
-auto -o ./- one; leaves an_output_of_this_name 0 /dev/null one.err; same it_has_this_name ./- one.rnx; rm ./-
+written ./-; auto -o ./- one; leaves an_output_of_this_name 0 /dev/null written.err; same it_has_this_name ./- one.rnx; rm ./-
 cp one kept
 for name in one ./one linked other_name folder/../one; do
     for force in '' -f; do
@@ -313,13 +325,13 @@ auto -o dangling one; expect an_output_that_is_a_link 1 '' 'rtcm2rinex: dangling
 auto -f -o dangling one; expect an_output_that_is_a_link_and_force 1 '' 'rtcm2rinex: dangling is no regular file'
 # A file that another run began stays.
 echo begun >new.part; cp new.part want
-auto -o new one; leaves beside_another_run 0 /dev/null one.err; same its_file new one.rnx; same the_other_run new.part want
+written new; auto -o new one; leaves beside_another_run 0 /dev/null written.err; same its_file new one.rnx; same the_other_run new.part want
 [ "$(ls new*)" = "$(printf 'new\nnew.part')" ] && right no_file_more || wrong no_file_more "$(ls new*)"
 # No file is made there, which is seen before a capture is read: this one would be refused.
 auto -o nowhere/file one.gz; expect no_folder 1 '' 'rtcm2rinex: cannot write beside nowhere/file'
 auto -o 'no where/file' one; expect a_folder_with_a_blank 1 '' "rtcm2rinex: cannot write beside 'no where/file'"
 echo old >'a file'; auto -o 'a file' one; expect a_file_with_a_blank 1 '' "rtcm2rinex: 'a file' is there, and -f would replace it"
-head -n 3 one.err >lines
+head -n 2 one.err >lines
 # A full disk: nothing is left of FILE, and a FILE that is there stays. Without a reader of standard error FILE is written.
 install
 { cat lines; echo 'rtcm2rinex: write failed'; } >want
