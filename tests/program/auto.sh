@@ -293,6 +293,7 @@ if [ "$before" -le "$shown" ] && [ "$shown" -le "$after" ]; then right a_present
 run auto --made 2024-05-15T23:59:59 one; [ "$status" = 3 ] && right a_date_after_the_present || wrong a_date_after_the_present "$status"
 run auto --made 2024-05-16T00:00:00 one; [ "$status" = 0 ] && right a_date_of_tomorrow || wrong a_date_of_tomorrow "$status"
 
+position=$no_position
 # A FILE that is there stays, but with -f; an output that is a capture is never taken, by whatever name.
 echo old >file; echo old >want
 auto -o file one; expect a_file_that_is_there 1 '' 'rtcm2rinex: file is there, and -f would replace it'; same it_stays file want
