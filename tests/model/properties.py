@@ -352,8 +352,8 @@ def auto_text(found: Found, said: Setup, due: Conversion, texts: list[bytes], is
     lines += [f" few-phases {code}: its satellites have more than twice as many in another code" for code in found.few]
     lines += [f" late {counts['late']}: messages after {said.window} newer epochs are left out"] * (counts["late"] != "0")
     looks = {at: look_of(texts[at]) for at in found.skipped if not frames_of(texts[at])}
-    shown = {"unknown": "", "empty": " is empty", "gzip": " looks like gzip"}
-    lines += [f" skipped link{at + 1}{shown.get(looks.get(at), '')}" for at in found.skipped]
+    shown = {"unknown": "", "empty": " is empty", "gzip": " looks like gzip; unpack it: gzip -dc NAME >NAME.rtcm"}
+    lines += [f" skipped link{at + 1}{shown.get(looks.get(at), '').replace('NAME', f'link{at + 1}')}" for at in found.skipped]
     falls = [at for at, of in zip(kept, found.epochs) if of != sorted(of)]
     lines += [f" {'no-epoch' if at in found.without else 'time-falls'} link{at + 1}" for link in found.links for at in link
               if at in found.without + falls]

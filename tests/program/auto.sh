@@ -4,7 +4,7 @@
 examples=$root/examples
 made=2024-06-01T13:00:00
 python3 -B "$root/tests/program/auto_captures.py" || exit 1
-gzip -k one && ln -s one linked && ln one other_name && mkdir folder && mkfifo pipe && cp one 'a b' && cp one ./-5
+gzip -k one && bzip2 -k one && xz -c one >'one 2.xz' && ln -s one linked && ln one other_name && mkdir folder && mkfifo pipe && cp one 'a b' && cp one ./-5
 
 # auto WORD..: made at a known time
 auto() { run auto --made $made "$@"; }
@@ -16,7 +16,7 @@ unfinished() { ls | grep '^file' >>err; rm -f file*; }
 while IFS='|' read -r want words lines <&3; do
     eval "auto -o file.rnx $words"
     unfinished
-    # pins: words_and_name, look_text, count_line_of, unread_line, unread_gps, unread_glonass_to_sbas, unread_qzss_to_navic, all_unread, station_line, epochs_text, epochs_heard, number_and_station, date_message_text, is_told_later
+    # pins: words_and_name, look_text, unpacker, unpacking, count_line_of, unread_line, unread_gps, unread_glonass_to_sbas, unread_qzss_to_navic, all_unread, station_line, epochs_text, epochs_heard, number_and_station, date_message_text, is_told_later
     expect "refused_$(echo "$words" | tr ' ' _)" "$want" '' "rtcm2rinex: $(printf '%b' "$lines")"
 done 3<<'ROWS'
 1|nowhere|cannot open nowhere
@@ -41,11 +41,12 @@ done 3<<'ROWS'
 2|--codes 1c,2w one|bad --codes
 2|--codes "1C, 2W" one|bad --codes
 2|--marker ZÜRICH one|bad --marker
-3|one.gz|the captures have no frame of RTCM 3\n one.gz looks like gzip
-3|zip one.rnx text nmea empty|the captures have no frame of RTCM 3\n zip looks like zip\n one.rnx looks like RINEX\n text looks like hex-text\n nmea looks like NMEA\n empty is empty
+3|one.gz|the captures have no frame of RTCM 3\n one.gz looks like gzip; unpack it: gzip -dc one.gz >one.gz.rtcm
+3|zip one.rnx text nmea empty|the captures have no frame of RTCM 3\n empty is empty\n nmea looks like NMEA\n one.rnx looks like RINEX\n text looks like hex-text\n zip looks like zip; unpack it: unzip -p zip >zip.rtcm
 3|one one.gz empty stations|several stations have GPS observations; choose one by --station\n station 7 in stations: 1 epochs\n station 2003 in one: 2 epochs\n station 2003 in stations: 2 epochs
-3|one one.gz "a b" empty|captures have nothing of station 2003; --skip-empty leaves them out\n one.gz looks like gzip\n empty is empty
+3|one one.gz "a b" empty|captures have nothing of station 2003; --skip-empty leaves them out\n empty is empty\n one.gz looks like gzip; unpack it: gzip -dc one.gz >one.gz.rtcm
 3|unread|the captures have no GPS observations that are read\n holds GPS 1001, 1 messages\n holds GPS 1003, 12 messages\n holds GLONASS 1009, 1 messages\n holds GLONASS 1012, 1 messages\n holds GPS 1072, 1 messages\n holds GLONASS 1081, 1 messages\n holds GLONASS 1087, 1 messages\n holds Galileo 1091, 1 messages\n holds Galileo 1097, 1 messages\n holds SBAS 1101, 1 messages\n holds SBAS 1107, 1 messages\n holds QZSS 1111, 1 messages\n holds QZSS 1117, 1 messages\n holds BeiDou 1121, 1 messages\n holds BeiDou 1127, 1 messages\n holds NavIC 1131, 1 messages\n holds NavIC 1137, 1 messages
+3|one.bz2 "one 2.xz" sbf novatel jps|the captures have no frame of RTCM 3\n jps looks like JPS\n novatel looks like NovAtel\n 'one 2.xz' looks like xz; unpack it: xz -dc 'one 2.xz' >'one 2.xz'.rtcm\n one.bz2 looks like bzip2; unpack it: bzip2 -dc one.bz2 >one.bz2.rtcm\n sbf looks like SBF
 3|reserved|the captures have no GPS observations that are read\n holds 1080, 1 messages\n holds 1088, 1 messages\n holds 1089, 1 messages\n holds 1090, 1 messages\n holds 1098, 1 messages\n holds 1099, 1 messages\n holds 1100, 1 messages\n holds 1108, 1 messages\n holds 1109, 1 messages\n holds 1110, 1 messages\n holds 1118, 1 messages\n holds 1119, 1 messages\n holds 1120, 1 messages\n holds 1128, 1 messages\n holds 1129, 1 messages\n holds 1130, 1 messages\n holds 1138, 1 messages
 3|no_value position|the captures have no GPS observations that are read\n holds GPS 1004, 1 messages\n holds 1005, 1 messages\n holds 1013, 1 messages
 3|--station 7 one|station 7 has no GPS observations that are read\n station 2003 in one: 2 epochs
@@ -53,19 +54,21 @@ done 3<<'ROWS'
 3|differ|the captures tell dates that differ; choose one by --near\n 2024-05-17T12:00:00 by 1013 of station 2003 in differ\n 2024-05-10T12:00:00 by 1013 of station 2003 in differ
 3|weeks|the captures tell dates that differ; choose one by --near\n 2024-05-17T12:00:00 by 1019 in weeks\n 2024-05-10T12:00:00 by 1019 in weeks
 3|last_week one|the captures tell dates that differ; choose one by --near\n 2024-05-10T12:00:02 by 1019 in last_week\n 2024-05-17T12:00:00 by 1013 of station 2003 in one
-3|one half_week|the captures are longer than half a week; convert them in parts\n 2024-05-17T12:00:00 until 2024-05-17T12:00:01 in one: 2 epochs\n 2024-05-21T00:00:00 until 2024-05-21T00:00:00 in half_week: 1 epochs
+3|one half_week|the captures are longer than half a week; convert them in parts\n 2024-05-21T00:00:00 until 2024-05-21T00:00:00 in half_week: 1 epochs\n 2024-05-17T12:00:00 until 2024-05-17T12:00:01 in one: 2 epochs
 3|one over_half_week|the captures tell dates that differ; choose one by --near\n 2024-05-17T12:00:00 by 1013 of station 2003 in one\n 2024-05-21T00:00:01 by 1019 in over_half_week
 3|undated|the captures tell no date; give one, as in --near GPS-TIME-WITHIN-HALF-A-WEEK
 3|passed_over|the captures tell no date; give one, as in --near GPS-TIME-WITHIN-HALF-A-WEEK
-3|one next_week|the captures are longer than half a week; convert them in parts\n 2024-05-17T12:00:00 until 2024-05-17T12:00:01 in one: 2 epochs\n 2024-05-26T23:59:50 until 2024-05-26T23:59:50 in next_week: 1 epochs
+3|one next_week|the captures are longer than half a week; convert them in parts\n 2024-05-26T23:59:50 until 2024-05-26T23:59:50 in next_week: 1 epochs\n 2024-05-17T12:00:00 until 2024-05-17T12:00:01 in one: 2 epochs
 3|--codes 5X --msm 7 --near 2099-12-31T23:59:59 --skip-empty empty nmea|the captures have no frame of RTCM 3\n empty is empty\n nmea looks like NMEA
 3|same.*|more than 16 captures are of the same time, and 16 links are taken\n same.00\n same.01\n same.02\n same.03\n same.04\n same.05\n same.06\n same.07\n same.08\n same.09\n same.10\n same.11\n same.12\n same.13\n same.14\n same.15\n same.16
 3|here.0 here.2|the station stands at positions that differ; --links-as-given takes them for one\n position 1114104.5999 -4850729.7108 3975521.4643 in here.0\n position 1114204.6000 -4850729.7108 3975521.4643 in here.2
 3|far_and_later here.1 here.0|the station stands at positions that differ; --links-as-given takes them for one\n position 1114204.6000 -4850729.7108 3975521.4643 in far_and_later\n position 1114104.5999 -4850729.7108 3975521.4643 in here.0
-3|here.0 far|the station stands at positions that differ; --links-as-given takes them for one\n position 1114104.5999 -4850729.7108 3975521.4643 in here.0\n position 1114204.6000 -4850729.7108 3975521.4643 in far
+3|here.0 far|the station stands at positions that differ; --links-as-given takes them for one\n position 1114204.6000 -4850729.7108 3975521.4643 in far\n position 1114104.5999 -4850729.7108 3975521.4643 in here.0
 ROWS
 run auto --made 2024-06-01 one; expect form_of_made 2 '' 'rtcm2rinex: bad --made
  --made takes YYYY-MM-DDTHH:MM:SS (UTC), from 1980-01-06T00:00:00 to 2100-12-31T23:59:59'
+# The command that unpacks a capture, pasted, makes one that is converted.
+auto 'one 2.xz'; sed -n "s/.*; unpack it: //p" err >said; . ./said; auto -o file 'one 2.xz.rtcm'; same unpacked_as_said file one.rnx; rm file
 auto -o '' one; expect an_output_without_a_name 2 '' "$(error "a value is required for '--output <FILE>' but none was supplied")"
 auto -o folder one; expect an_output_that_is_a_folder 1 '' 'rtcm2rinex: folder is there, and -f would replace it'
 auto -f -o folder one; expect an_output_that_is_a_folder_and_force 1 '' 'rtcm2rinex: folder is no regular file'
@@ -179,7 +182,11 @@ position=
 finds 'one position' "$two 1013" "cat position one | $one_command stdin" '4 1 0 0 3 0 0 0 2' 0 '' ' no-epoch position'
 # a capture that begins with another station, before the one that tells which station is converted
 finds 'positions one' "$two 1013" "cat positions one | $one_command stdin" '5 1 0 1 3 0 0 0 2' 0 '' ' no-epoch positions'
+# Captures without an epoch, and those of the same time, go by their names.
+finds 'positions one position' "$two 1013" "cat position positions one | $one_command stdin" '6 1 0 1 3 1 0 0 2' 0 '' ' no-epoch position\n no-epoch positions'
 position=$no_position
+finds 'same.01 same.00' "$two 1013" "$one_command same.00 same.01" '6 2 0 0 4 0 0 0 2' 0 ''
+finds '--links-as-given same.01 same.00' "$two 1013" "$one_command same.01 same.00" '6 2 0 0 4 0 0 0 2' 0 ''
 finds gaps "$noon until 2024-05-17T12:16:19 by 1013" "$one_command gaps" '28 1 0 0 27 0 0 0 27' 0 '' \
     ' gap 2024-05-17T12:13:57 until 2024-05-17T12:15:18\n gap 2024-05-17T12:12:36 until 2024-05-17T12:13:56\n gap 2024-05-17T12:11:16 until 2024-05-17T12:12:35\n gap 2024-05-17T12:09:57 until 2024-05-17T12:11:15\n gap 2024-05-17T12:08:39 until 2024-05-17T12:09:56\n gap 2024-05-17T12:07:22 until 2024-05-17T12:08:38\n gap 2024-05-17T12:06:06 until 2024-05-17T12:07:21\n gap 2024-05-17T12:04:51 until 2024-05-17T12:06:05\n gap 2024-05-17T12:03:37 until 2024-05-17T12:04:50\n gap 2024-05-17T12:02:24 until 2024-05-17T12:03:36\n more-gaps 2'
 finds slow "$noon until 2024-05-17T12:11:30 by 1013" "$one_command slow" '6 1 0 0 5 0 0 0 5' 0 '' ' gap 2024-05-17T12:06:00 until 2024-05-17T12:11:30'
@@ -199,7 +206,7 @@ finds '--msm 4 --codes 1C of_1077' "$two 1013" "$(command $noon 1C) of_1077" '3 
 finds '--codes 5X one' "$two 1013" "$(command $noon 5X) one" '3 1 0 0 2 0 0 0 0' 3 '' \
     'rtcm2rinex: no record came; the file is a header alone'
 finds '--skip-empty one.gz one empty zip' "$two 1013" "$one_command one" "$counts" 0 one.rnx \
-    ' skipped one.gz looks like gzip\n skipped empty is empty\n skipped zip looks like zip'
+    ' skipped empty is empty\n skipped one.gz looks like gzip; unpack it: gzip -dc one.gz >one.gz.rtcm\n skipped zip looks like zip; unpack it: unzip -p zip >zip.rtcm'
 finds '--skip-empty --station 7 one stations' "$noon until $noon by 1013 of station 2003" \
     "$(echo "$one_command" | sed 's/2003/0007/g; s/station 0007/station 7/') stations" '4 1 0 2 1 0 0 0 1' 0 '' ' skipped one'
 # labelled OPTIONS: the command of `label` for FILE
@@ -270,9 +277,9 @@ as_said a_day day.rnx
 gzip -k day/7
 auto -o file $(echo "$hours" | sed 's|day/7|&.gz|'); unfinished
 expect a_day_with_an_hour_that_is_compressed 3 '' 'rtcm2rinex: captures have nothing of station 2003; --skip-empty leaves them out
- day/7.gz looks like gzip'
+ day/7.gz looks like gzip; unpack it: gzip -dc day/7.gz >day/7.gz.rtcm'
 sed 's/^> 2024 05 17 07/#&/; /^#/,/^> 2024 05 17 08/{/^> 2024 05 17 08/!d}' day.rnx >want
-says "$span" "cat $(echo "$hours" | sed 's|day/7 ||') | $day_command stdin" '2806 23 0 0 2761 22 0 0 2760' ' gap 2024-05-17T06:59:30 until 2024-05-17T08:00:00' ' skipped day/7.gz looks like gzip'
+says "$span" "cat $(echo "$hours" | sed 's|day/7 ||') | $day_command stdin" '2806 23 0 0 2761 22 0 0 2760' ' gap 2024-05-17T06:59:30 until 2024-05-17T08:00:00' ' skipped day/7.gz looks like gzip; unpack it: gzip -dc day/7.gz >day/7.gz.rtcm'
 auto --skip-empty $(echo "$hours" | sed 's|day/7|&.gz|'); leaves a_day_without_an_hour 0 want want_err
 even=$(seq -s ' ' -f 'overlapping/%.0f' 0 2 22) odd=$(seq -s ' ' -f 'overlapping/%.0f' 1 2 23)
 says '2024-05-17T00:00:00 until 2024-05-18T00:00:30 by 1013' "mkdir joined &&

@@ -411,6 +411,20 @@ fn begin_planned<'a, R: Eprint + AllocGlobal, W: Write>(
     Ok(work)
 }
 
+// The captures by the bytes of their names, so that the order in which they are given makes no difference; or as
+// they are given.
+fn in_order_of_names<'a>(
+    alloc: Global,
+    names: &[&'a str],
+    as_given: bool,
+) -> Result<Vec<&'a str>, AllocError> {
+    let mut ordered = Vec::from_slice(alloc, names)?;
+    if !as_given {
+        ordered.sort()?;
+    }
+    Ok(ordered)
+}
+
 // Looks at the files, surveys the captures, plans their conversion, and says it. The surveys are let go
 // here, before the conversion begins.
 #[inline(never)]
@@ -428,10 +442,14 @@ fn begin<'a, R: Env + Clock + Files + Input + Eprint + AllocGlobal, W: Write>(
         station: words.wanted.station.map(Station::number),
         present: made.moment(),
     };
-    let surveys = survey_captures(rt, &target, names)?;
+    let as_given = words.ways.links_as_given;
+    let Ok(names) = in_order_of_names(rt.alloc(), names, as_given) else {
+        return Err(fail(rt, ToolFault::OutOfMemory));
+    };
+    let surveys = survey_captures(rt, &target, names.as_slice())?;
     let captures = Captures {
         surveys: surveys.as_slice(),
-        names,
+        names: names.as_slice(),
     };
     begin_planned(rt, report, words, &captures, made)
 }

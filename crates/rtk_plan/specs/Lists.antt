@@ -1,5 +1,5 @@
 -- The lines that list what a refusal or a warning speaks of (this project's rule).
-use Rattle.std.specs.Prelude.{ℕ, ◌==◌, List, [], ◌∷◌, ◌++◌, flat_map, codes, decimal, Option, None, Some, if◌then◌else◌}
+use Rattle.std.specs.Prelude.{ℕ, ◌==◌, List, [], ◌∷◌, ◌++◌, length, flat_map, codes, decimal, Option, None, Some, if◌then◌else◌}
 use Rattle.std.specs.List.{range_with_len}
 use Rattle.rtk_message.specs.declared.msm_kind.MsmKind.{MsmKind}
 use Rattle.rtk_message.specs.declared.msm_kind.MsmKind.TheVariants.{Msm4, Msm5, Msm6, Msm7}
@@ -11,7 +11,7 @@ use Rattle.rtk_plan.specs.StationCaptures.{epochs_heard, station_in}
 use Rattle.rtk_plan.specs.Values.{messages_in_captures, others_in_captures}
 use Rattle.rtk_survey.specs.Look.{look_name}
 use Rattle.rtk_survey.specs.declared.look.Look.{Look}
-use Rattle.rtk_survey.specs.declared.look.Look.TheVariants.{Unknown, Empty}
+use Rattle.rtk_survey.specs.declared.look.Look.TheVariants.{Unknown, Empty, Gzip, Bzip2, Xz, Zip}
 
 abbrev pub line_end : List ℕ
 line_end = 10 ∷ []
@@ -29,16 +29,32 @@ name_line words name = words_and_name words name ++ line_end
 abbrev pub undated_line : List ℕ → List ℕ
 undated_line name = words_and_name (codes " undated ") name ++ codes ": dated near the others\n"
 
+-- table
+-- the command that unpacks a file that looks so, before its name
+abbrev pub unpacker : Look → List ℕ
+unpacker Gzip = codes "gzip -dc"
+unpacker Bzip2 = codes "bzip2 -dc"
+unpacker Xz = codes "xz -dc"
+unpacker Zip = codes "unzip -p"
+unpacker look = []
+
 -- formula
--- what a capture without a frame looks like
-abbrev pub look_text : Option Look → List ℕ
-look_text None = []
-look_text (Some Unknown) = []
-look_text (Some Empty) = codes " is empty"
-look_text (Some look) = codes " looks like " ++ look_name look
+-- a command that unpacks a file of this name to another one, if there is such a command
+abbrev pub unpacking : List ℕ → List ℕ → List ℕ
+unpacking command name =
+    if length command == 0 then [] else
+    codes "; unpack it: " ++ command ++ words_and_name (codes " ") name ++ words_and_name (codes " >") name ++ codes ".rtcm"
+
+-- formula
+-- what a capture without a frame looks like, and how it is unpacked
+abbrev pub look_text : List ℕ → Option Look → List ℕ
+look_text name None = []
+look_text name (Some Unknown) = []
+look_text name (Some Empty) = codes " is empty"
+look_text name (Some look) = codes " looks like " ++ look_name look ++ unpacking (unpacker look) name
 
 abbrev pub capture_line : List ℕ → List ℕ → Option Look → List ℕ
-capture_line words name look = words_and_name words name ++ look_text look ++ line_end
+capture_line words name look = words_and_name words name ++ look_text name look ++ line_end
 
 -- formula
 -- words, a message number and its count; a count of 0 has no line

@@ -50,16 +50,48 @@ pub(crate) fn put_undated_line(lines: &mut Vec<u8>, name: &str) -> Result<(), Al
     lines.extend_from_slice(b": dated near the others\n")
 }
 
-// What a capture without a frame looks like.
-fn put_look(lines: &mut Vec<u8>, look: Option<Look>) -> Result<(), AllocError>
-    ensures { OnOk result (lines.new.items ≡ lines.old.items ++ spec.look_text look) }
+// The command that unpacks a file that looks so, before its name; nothing if none does.
+fn unpacker(look: Look) -> &'static [u8]
+    ensures { result.now ≡ spec.unpacker look }
+{
+    match look {
+        Look::Gzip => b"gzip -dc",
+        Look::Bzip2 => b"bzip2 -dc",
+        Look::Xz => b"xz -dc",
+        Look::Zip => b"unzip -p",
+        _ => b"",
+    }
+}
+
+// Appends the command that unpacks a file, if there is one.
+fn put_unpacking(
+    lines: &mut Vec<u8>,
+    command: &[u8],
+    name: &str,
+) -> Result<(), AllocError>
+    ensures { OnOk result (lines.new.items ≡ lines.old.items ++ spec.unpacking command.now name.now) }
+{
+    if command.len() == 0 {
+        return Ok(());
+    }
+    lines.extend_from_slice(b"; unpack it: ")?;
+    lines.extend_from_slice(command)?;
+    put_words_and_name(lines, b" ", name)?;
+    put_words_and_name(lines, b" >", name)?;
+    lines.extend_from_slice(b".rtcm")
+}
+
+// What a capture without a frame looks like, and how it is unpacked.
+fn put_look(lines: &mut Vec<u8>, name: &str, look: Option<Look>) -> Result<(), AllocError>
+    ensures { OnOk result (lines.new.items ≡ lines.old.items ++ spec.look_text name.now look) }
 {
     match look {
         None | Some(Look::Unknown) => Ok(()),
         Some(Look::Empty) => lines.extend_from_slice(b" is empty"),
         Some(look) => {
             lines.extend_from_slice(b" looks like ")?;
-            lines.extend_from_slice(look.name())
+            lines.extend_from_slice(look.name())?;
+            put_unpacking(lines, unpacker(look), name)
         }
     }
 }
@@ -74,7 +106,7 @@ pub(crate) fn put_capture_line(
     ensures { OnOk result (lines.new.items ≡ lines.old.items ++ spec.capture_line words.now name.now look) }
 {
     put_words_and_name(lines, words, name)?;
-    put_look(lines, look)?;
+    put_look(lines, name, look)?;
     end_line(lines)
 }
 
