@@ -13,11 +13,13 @@ reason text =
     if (length text == 0) || fits_field text then [] else
     if list_all is_printed text then codes " has more than 20 characters: " else codes " has characters that are no printable ASCII: "
 
+abbrev pub field_and_reason : List ℕ → List ℕ → List ℕ
+field_and_reason field why = codes " not-in-label " ++ field ++ why
+
 -- formula
 -- a field, a reason and a text; without a reason there is no line
 abbrev pub left_out_line : List ℕ → List ℕ → List ℕ → List ℕ
-left_out_line field why text =
-    if length why == 0 then [] else codes " not-in-label " ++ field ++ why ++ flat_map shown_byte text ++ 10 ∷ []
+left_out_line field why text = if length why == 0 then [] else field_and_reason field why ++ flat_map shown_byte text ++ 10 ∷ []
 
 -- a text that a field can't have
 abbrev pub unfit_line : List ℕ → Option (ArrayVec ℕ) → List ℕ

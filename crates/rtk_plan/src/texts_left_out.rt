@@ -23,6 +23,18 @@ fn reason(text: &[u8]) -> &'static [u8]
     }
 }
 
+fn put_field_and_reason(
+    lines: &mut Vec<u8>,
+    field: &[u8],
+    reason: &[u8],
+) -> Result<(), AllocError>
+    ensures { OnOk result (lines.new.items ≡ lines.old.items ++ spec.field_and_reason field.now reason.now) }
+{
+    lines.extend_from_slice(b" not-in-label ")?;
+    lines.extend_from_slice(field)?;
+    lines.extend_from_slice(reason)
+}
+
 // Appends a field, a reason and a text as a line, if there is a reason.
 fn put_line_of(
     lines: &mut Vec<u8>,
@@ -35,9 +47,7 @@ fn put_line_of(
     if reason.len() == 0 {
         return Ok(());
     }
-    lines.extend_from_slice(b" not-in-label ")?;
-    lines.extend_from_slice(field)?;
-    lines.extend_from_slice(reason)?;
+    put_field_and_reason(lines, field, reason)?;
     put_shown(lines, text)?;
     lines.push(b'\n')?;
     Ok(())
@@ -75,6 +85,7 @@ fn put_without_antenna(
     put_line_of(lines, field, reason, text)
 }
 
+#[tactic(auto, unfolding(crate::specs::TextsLeftOut::antenna_left_out))]
 fn put_antenna(lines: &mut Vec<u8>, told: &Equipment) -> Result<(), AllocError>
     ensures { OnOk result (lines.new.items ≡ lines.old.items ++ spec.antenna_left_out told.now) }
 {
