@@ -344,7 +344,7 @@ def assessed_as_modelled(case: Case) -> Answer:
     text = any_file(case)
     forms = (((), qualities.table), (("--lines",), qualities.lines), (("--json",), qualities.in_json))
     answers = (ends_with(case.program.on(text.encode(), "quality", *words), 0, due(text).encode(), b"") for words, due in forms)
-    return next((it for it in answers if it), None)
+    return next((it for it in answers if it), HOLDS)
 
 
 def cut_as_modelled(case: Case) -> Answer:

@@ -259,7 +259,7 @@ done
 quality --json --json "$file"
 expect quality_json_twice 2 '' "$(error "the argument '--json' cannot be used multiple times" 'quality [OPTIONS] <FILE>')"
 quality --lines --json "$file"
-expect quality_in_two_forms 2 '' "$(error "the argument '--lines' cannot be used with '--json'" 'quality [OPTIONS] <FILE>')"
+expect quality_in_two_forms 2 '' "$(error "the argument '--lines' cannot be used with '--json'" 'quality --lines <FILE>')"
 quality --json=yes "$file"; head -n 1 err >line
 echo "error: unexpected value 'yes' for '--json' found; no more were expected" >want
 same quality_json_with_a_value line want
