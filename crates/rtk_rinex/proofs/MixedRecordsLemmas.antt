@@ -1,6 +1,7 @@
 -- The records of a text of any systems, read one by one, and the rows of each.
-use Rattle.std.proofs.Common.{◌≡◌, ◌≢◌, ℕ, suc, ◌-◌, ◌*◌, ◌<◌, ◌≤◌, Option, Some, None, false, List, [], ◌∷◌, ◌++◌, length, take, flat_map, refl, sym, ◌∙◌, ap, arith, append_assoc, length-append}
+use Rattle.std.proofs.Common.{◌≡◌, ◌≢◌, ℕ, zero, suc, ◌-◌, ◌*◌, ◌<◌, Bool, false, Option, Some, None, List, [], ◌∷◌, ◌++◌, length, take, drop, flat_map, refl, sym, ◌∙◌, ap, arith, length-append}
 use Rattle.std.specs.Prelude.{All, ℤ}
+use Rattle.std.specs.Int.{IsInRange}
 use mathlib.Core.Logic.{∥∥₁_map}
 use Rattle.std.proofs.lemmas.Grind.{not_there}
 use Rattle.std.proofs.lemmas.List.Elements.{All-head, All-tail}
@@ -9,24 +10,28 @@ use Rattle.rtk_rinex.specs.declared.epoch_table.SatelliteRow.{SatelliteRow}
 use Rattle.rtk_rinex.specs.Columns.{left}
 use Rattle.rtk_rinex.specs.Reading.{reading_of}
 use Rattle.rtk_rinex.specs.Header.{PositionView}
-use Rattle.rtk_rinex.specs.Record.{EpochTableView, observations, epoch_line}
+use Rattle.rtk_rinex.specs.Record.{EpochTableView, observations, epoch_columns, epoch_line}
 use Rattle.rtk_rinex.specs.Table.{IsObserved}
 use Rattle.rtk_rinex.specs.Lines.{HasNoEnd, IsLine}
 use Rattle.rtk_rinex.specs.MixedHead.{MixedHeadView}
 use Rattle.rtk_rinex.specs.MixedHeader.{mixed_header_text}
 use Rattle.rtk_rinex.specs.MixedHeaderFault.{IsOnlyMixedHeader}
 use Rattle.rtk_rinex.specs.MixedRecord.{mixed_satellite_line, mixed_record_text}
-use Rattle.rtk_rinex.specs.MixedForm.{FormView, width_at, has_phases, form_of_head}
+use Rattle.rtk_rinex.specs.MixedForm.{FormView, width_at, has_phases, most_satellites, form_of_head}
 use Rattle.rtk_rinex.specs.MixedTable.{MixedTable, IsMixedTable, IsMixedRow, IsMixedEpoch, HasNoPhase, mixed_table_text}
+use Rattle.rtk_rinex.specs.MixedCheckLine.{IsMixedForm}
 use Rattle.rtk_rinex.specs.MixedCheckTable.{HoldsMixedTable}
 use Rattle.rtk_rinex.specs.MixedRecords.{MixedRecordsView, AreMixedLeft, IsMixedRecordsView, MixedRowsView, AreRowsLeft, IsRecordOf, IsNextRecordOf, IsNextRowOf}
+use Rattle.rtk_rinex.specs.Steps.CheckValues.{AreCells}
 use Rattle.rtk_rinex.specs.Steps.MixedReadRecords.{AreMixedCells, BeginsWithMixedRecord}
-use Rattle.rtk_rinex.proofs.DigitsLemmas.{take-exact}
+use Rattle.rtk_rinex.proofs.EpochLemmas.{length-line, line-columns}
 use Rattle.rtk_rinex.proofs.FieldLemmas.{none_of}
 use Rattle.rtk_rinex.proofs.LineLemmas.{no_line, same_line}
-use Rattle.rtk_rinex.proofs.MixedOneLemmas.{some_text}
-use Rattle.rtk_rinex.proofs.MixedRowLemmas.{mixed_line-line, one-mixed-row}
+use Rattle.rtk_rinex.proofs.MixedCountLemmas.{count-few}
+use Rattle.rtk_rinex.proofs.MixedOneLemmas.{count-of, epoch-front, epoch_line-of, some_text}
+use Rattle.rtk_rinex.proofs.MixedRowLemmas.{HasMixedRowForm, IsMixedLineOf, mixed_line-line, mixed-named, mixed-cells-of, mixed-cells-of-row, mixed-row-shown, one-satellite, one-mixed-row, same-columns}
 use Rattle.rtk_rinex.proofs.MixedTextLemmas.{epochs-after-header}
+use Rattle.rtk_rinex.proofs.RecordsLemmas.{below}
 
 -- ---- the records that are left
 
@@ -138,12 +143,88 @@ pub no-rows : (r : MixedRowsView) (rows : List SatelliteRow) → AreRowsLeft r r
 no-rows r [] left none = refl
 no-rows r (row ∷ rows) left none = absurd (omega (arith, left.count, none))
 
--- ---- the phases of a row
+-- ---- the columns of a row
+
+-- the columns of codes are such columns without a rule for phases
+pub plain-cells : (phases : Bool) (n : ℕ) (columns : List ℕ) → AreMixedCells phases n columns → AreCells n columns
+plain-cells phases zero columns h = h
+plain-cells phases (suc n) columns h = ((h.0.0, h.0.1, h.0.2), plain-cells phases n (drop 48 columns) h.1)
+
+-- what the columns show has no phase if they may show none
+phases-of : (phases : Bool) (n : ℕ) (columns : List ℕ) (cells : List Observed) → All IsObserved cells → length cells ≡ n → left (48 * n) columns ≡ flat_map observations cells
+    → AreMixedCells phases n columns → phases ≡ false → All HasNoPhase cells
+phases-of phases n columns cells h count text mixed none =
+    let m = mixed-cells-of phases n columns mixed in
+    let same : m.cells ≡ cells = same-columns m.cells cells m.observed h (m.count ∙ sym count) (sym m.text ∙ text) in
+    rw same at (m.none none)
 
 none-there : {P : Type 0} (v : Option ℤ) → ∥ P ∥₁ → (P → v ≡ None) → v ≡ None
 none-there None h f = refl
 none-there (Some x) h f = absurd (not_there h (λ p. let same = f p in cc))
 
--- what columns show is what any cells show whose text they are
-pub no-phases : {P : Type 0} (cells : List Observed) → ∥ P ∥₁ → (P → All HasNoPhase cells) → All HasNoPhase cells
+no-phases : {P : Type 0} (cells : List Observed) → ∥ P ∥₁ → (P → All HasNoPhase cells) → All HasNoPhase cells
 no-phases cells h f = λ k d less. none-there _ h (λ p. f p k d less)
+
+-- a row of a file has this line
+abbrev pub HasRowOf : FormView → List ℕ → Type 0
+HasRowOf f line = (r : SatelliteRow) × IsMixedRow f r × (line ≡ mixed_satellite_line r)
+
+-- the columns of the line of a row whose satellite was read
+pub columns-of : (f : FormView) (line columns : List ℕ) (s : ℕ) (form : HasMixedRowForm f line columns s) → IsMixedForm f line s → HasRowOf f line
+    → (0 < length columns) × AreMixedCells (has_phases f s) (width_at f s) columns
+columns-of f line columns s form is r =
+    mixed-cells-of-row f line columns s form r.0 r.1 (one-satellite line r.0.satellite s r.1.satellite form.satellite (mixed-named line r.0 r.2) is.1) r.2
+
+-- the row that was read has this line
+pub row-is : (f : FormView) (line columns : List ℕ) (s : ℕ) (cells : List Observed) → HasMixedRowForm f line columns s → IsMixedForm f line s → ∥ HasRowOf f line ∥₁
+    → All IsObserved cells → length cells ≡ width_at f s → left (48 * width_at f s) columns ≡ flat_map observations cells
+    → IsMixedLineOf f line (record { satellite = s; observed = record { items = cells } })
+row-is f line columns s cells form is has observed count shown =
+    let some = below 0 (length columns) has (λ r. (columns-of f line columns s form is r).0) in
+    mixed-row-shown f line columns s cells form some observed count shown (λ none.
+    no-phases cells has (λ r.
+    phases-of (has_phases f s) (width_at f s) columns cells observed count shown (columns-of f line columns s form is r).1 none))
+
+-- ---- the epoch line
+
+-- the epoch line that was read is that of this epoch
+pub record IsEpochLineOf (f : FormView) (e : EpochTableView) (line after rest : List ℕ) : Type 0 where
+  pub count : IsInRange 1 (most_satellites f) (length e.rows)
+  pub line : line ≡ epoch_line (reading_of e.time) (length e.rows)
+  pub columns : take 35 line ≡ epoch_columns (reading_of e.time) (length e.rows)
+  pub long : length line ≡ 36
+  pub after : after ≡ flat_map mixed_satellite_line e.rows ++ rest
+
+pub line-read : (f : FormView) (e : EpochTableView) (bytes rest line after : List ℕ) → IsMixedEpoch f e → bytes ≡ mixed_record_text e ++ rest → IsLine line
+    → bytes ≡ line ++ after → IsEpochLineOf f e line after rest
+line-read f e bytes rest line after is text line_is split =
+    let count = count-of f e is in
+    let few = count-few f (length e.rows) count in
+    let same = same_line line (epoch_line (reading_of e.time) (length e.rows)) after (flat_map mixed_satellite_line e.rows ++ rest) line_is (epoch_line-of f e is)
+    (sym split ∙ text ∙ epoch-front f e rest is) in
+    record {
+      count = count;
+      line = same.0;
+      columns = line-columns line e.time (length e.rows) is.time few same.0;
+      long = length-line line e.time (length e.rows) is.time few same.0;
+      after = same.1;
+    }
+
+-- such a line is there
+pub line-there : (f : FormView) (bytes : List ℕ) → BeginsWithMixedRecord f bytes → HasNoEnd bytes → ⊥
+line-there f bytes has none = no_line bytes _ _ none (epoch_line-of f has.0 has.2) (has.3 ∙ epoch-front f has.0 has.1 has.2)
+
+-- the record whose rows were not read
+pub record-parts : (f : FormView) (e : EpochTableView) (bytes text lines lines_of rest after : List ℕ) (time count : ℕ) → IsMixedEpoch f e → bytes ≡ mixed_record_text e ++ after
+    → time ≡ e.time → count ≡ length e.rows → lines ≡ flat_map mixed_satellite_line e.rows ++ after → rest ≡ after
+    → ((front : List ℕ) → bytes ≡ front ++ rest → text ≡ front) → ((front : List ℕ) → lines ≡ front ++ rest → lines_of ≡ front)
+    → IsRecordOf e (rows_view f time text lines_of count)
+record-parts f e bytes text lines lines_of rest after time count is whole time_is count_is lines_are same front_of rows_of = record {
+  time = time_is;
+  text = front_of (mixed_record_text e) (whole ∙ ap (λ (xs : List ℕ). mixed_record_text e ++ xs) (sym same));
+  rows = record {
+    are_rows = is.rows;
+    count = sym count_is;
+    text = rows_of (flat_map mixed_satellite_line e.rows) (lines_are ∙ ap (λ (xs : List ℕ). flat_map mixed_satellite_line e.rows ++ xs) (sym same));
+  };
+}

@@ -110,27 +110,41 @@ fn read_mixed_row(
 // Returns the record that begins a text, and the text after it.
 fn first_record<'a>(text: &'a [u8], form: &RecordForm) -> (MixedRows<'a>, &'a [u8])
     requires { ∥ BeginsWithMixedRecord form.now text.now ∥₁ }
-    ensures { (e : EpochTableView) (rest : List ℕ) → IsMixedEpoch form.now e → text.now ≡ mixed_record_text e ++ rest
+    ensures parts { (e : EpochTableView) (rest : List ℕ) → IsMixedEpoch form.now e → text.now ≡ mixed_record_text e ++ rest
         → IsRecordOf e result.0 × (result.1.now ≡ rest) }
     ensures few { result.0.count ≤ 221 }
 {
     let (stamp, lines) = read_stamp(text, form);
     let rest = skip_rows(lines, stamp.count);
-    let rows = MixedRows {
-        form: *form,
-        time: stamp.time,
-        text: before(text, rest),
-        lines: before(lines, rest),
-        count: stamp.count,
-    };
+    let whole = before(text, rest);
+    let rows = MixedRows::of_lines(*form, stamp, whole, before(lines, rest));
     (rows, rest)
 }
 
 impl<'a> MixedRows<'a> {
-    ghost use Rattle.std.specs.Prelude.{◌≡◌, ◌≤◌, List, [], ◌×◌, IfSome, MatchOption};
+    ghost use Rattle.std.specs.Prelude.{◌≡◌, ◌≤◌, List, [], IfSome, MatchOption};
     ghost use Rattle.rtk_rinex.specs.declared.epoch_table.SatelliteRow.{SatelliteRow};
     ghost use Rattle.rtk_rinex.specs.MixedTable.{IsMixedRow};
-    ghost use Rattle.rtk_rinex.specs.MixedRecords.{AreRowsLeft, IsNextRowOf, ReadsRow};
+    ghost use Rattle.rtk_rinex.specs.MixedRecords.{IsMixedRowsView, AreRowsLeft, IsNextRowOf, ReadsRow};
+
+    // Makes the iteration over the rows of which these are the lines.
+    fn of_lines(
+        form: RecordForm,
+        stamp: EpochStamp,
+        text: &'a [u8],
+        lines: &'a [u8],
+    ) -> MixedRows<'a>
+        requires { IsMixedRowsView (record { form = form; time = stamp.time; text = text.now; lines = lines.now; count = stamp.count }) }
+        ensures { result ≡ record { form = form; time = stamp.time; text = text.now; lines = lines.now; count = stamp.count } }
+    {
+        MixedRows {
+            form,
+            time: stamp.time,
+            text,
+            lines,
+            count: stamp.count,
+        }
+    }
 
     /// Returns the moment of the record.
     pub fn time(&self) -> GpsMs
