@@ -24,6 +24,7 @@ use Rattle.rtk_rinex.specs.MixedCheckTable.{HoldsMixedTable}
 use Rattle.rtk_rinex.specs.MixedRecords.{MixedRecordsView, AreMixedLeft, IsMixedRecordsView, MixedRowsView, AreRowsLeft, IsRecordOf, IsNextRecordOf, IsNextRowOf}
 use Rattle.rtk_rinex.specs.Steps.CheckValues.{AreCells}
 use Rattle.rtk_rinex.specs.Steps.MixedReadRecords.{AreMixedCells, BeginsWithMixedRecord}
+use Rattle.rtk_rinex.proofs.DigitsLemmas.{take-exact, drop-exact}
 use Rattle.rtk_rinex.proofs.EpochLemmas.{length-line, line-columns}
 use Rattle.rtk_rinex.proofs.FieldLemmas.{none_of}
 use Rattle.rtk_rinex.proofs.LineLemmas.{no_line, same_line}
@@ -214,17 +215,24 @@ line-read f e bytes rest line after is text line_is split =
 pub line-there : (f : FormView) (bytes : List ℕ) → BeginsWithMixedRecord f bytes → HasNoEnd bytes → ⊥
 line-there f bytes has none = no_line bytes _ _ none (epoch_line-of f has.0 has.2) (has.3 ∙ epoch-front f has.0 has.1 has.2)
 
--- the record whose rows were not read
-pub record-parts : (f : FormView) (e : EpochTableView) (bytes text lines lines_of rest after : List ℕ) (time count : ℕ) → IsMixedEpoch f e → bytes ≡ mixed_record_text e ++ after
-    → time ≡ e.time → count ≡ length e.rows → lines ≡ flat_map mixed_satellite_line e.rows ++ after → rest ≡ after
-    → ((front : List ℕ) → bytes ≡ front ++ rest → text ≡ front) → ((front : List ℕ) → lines ≡ front ++ rest → lines_of ≡ front)
-    → IsRecordOf e (rows_view f time text lines_of count)
-record-parts f e bytes text lines lines_of rest after time count is whole time_is count_is lines_are same front_of rows_of = record {
-  time = time_is;
-  text = front_of (mixed_record_text e) (whole ∙ ap (λ (xs : List ℕ). mixed_record_text e ++ xs) (sym same));
-  rows = record {
-    are_rows = is.rows;
-    count = sym count_is;
-    text = rows_of (flat_map mixed_satellite_line e.rows) (lines_are ∙ ap (λ (xs : List ℕ). flat_map mixed_satellite_line e.rows ++ xs) (sym same));
-  };
-}
+-- a text that is split before this rest of it
+pub split-parts : (text front rest : List ℕ) → text ≡ front ++ rest → (take (length text - length rest) text ≡ front) × (drop (length text - length rest) text ≡ rest)
+split-parts text front rest e =
+    let size : length text - length rest ≡ length front = omega (arith, ap length e, length-append front rest) in
+    (rw (size, e) (take-exact (length front) front rest refl), rw (size, e) (drop-exact (length front) front rest refl))
+
+-- how a text is split before this rest of it
+abbrev pub SplitsBefore : List ℕ → List ℕ → List ℕ → List ℕ → Type 0
+SplitsBefore text rest front back = (first : List ℕ) → text ≡ first ++ rest → (front ≡ first) × (back ≡ rest)
+
+-- the record whose rows were not read, and the text after it
+pub record-parts : (f : FormView) (e : EpochTableView) (bytes whole lines rows skipped back others after : List ℕ) (time count : ℕ) → IsMixedEpoch f e → bytes ≡ mixed_record_text e ++ after
+    → (time ≡ e.time) × (count ≡ length e.rows) × (lines ≡ flat_map mixed_satellite_line e.rows ++ after) → skipped ≡ after
+    → SplitsBefore bytes skipped whole back → SplitsBefore lines skipped rows others
+    → IsRecordOf e (rows_view f time whole rows count) × (back ≡ after)
+record-parts f e bytes whole lines rows skipped back others after time count is text stamp same of_bytes of_lines =
+    let first = of_bytes (mixed_record_text e) (text ∙ ap (λ (xs : List ℕ). mixed_record_text e ++ xs) (sym same)) in
+    let second = of_lines (flat_map mixed_satellite_line e.rows) (stamp.2 ∙ ap (λ (xs : List ℕ). flat_map mixed_satellite_line e.rows ++ xs) (sym same)) in (
+      record { time = stamp.0; text = first.0; rows = record { are_rows = is.rows; count = sym stamp.1; text = second.0 } },
+      first.1 ∙ same,
+    )

@@ -81,12 +81,13 @@ fn read_stamp<'a>(text: &'a [u8], form: &RecordForm) -> (EpochStamp, &'a [u8])
     (stamp, after)
 }
 
-// Returns the part of a text before the rest of it.
-fn before<'a>(text: &'a [u8], rest: &[u8]) -> &'a [u8]
+// Returns the part of a text before this rest of it, and the rest.
+fn split_before<'a>(text: &'a [u8], rest: &[u8]) -> (&'a [u8], &'a [u8])
     requires { length rest.now ≤ length text.now }
-    ensures { (front : List ℕ) → text.now ≡ front ++ rest.now → result.now ≡ front }
+    ensures whole { text.now ≡ result.0.now ++ result.1.now }
+    ensures parts { (front : List ℕ) → text.now ≡ front ++ rest.now → (result.0.now ≡ front) × (result.1.now ≡ rest.now) }
 {
-    text.split_at(text.len() - rest.len()).0
+    text.split_at(text.len() - rest.len())
 }
 
 // Reads the satellite and what its codes show from the line of a row.
@@ -112,13 +113,14 @@ fn first_record<'a>(text: &'a [u8], form: &RecordForm) -> (MixedRows<'a>, &'a [u
     requires { ∥ BeginsWithMixedRecord form.now text.now ∥₁ }
     ensures parts { (e : EpochTableView) (rest : List ℕ) → IsMixedEpoch form.now e → text.now ≡ mixed_record_text e ++ rest
         → IsRecordOf e result.0 × (result.1.now ≡ rest) }
+    ensures whole { text.now ≡ result.0.text ++ result.1.now }
     ensures few { result.0.count ≤ 221 }
 {
     let (stamp, lines) = read_stamp(text, form);
-    let rest = skip_rows(lines, stamp.count);
-    let whole = before(text, rest);
-    let rows = MixedRows::of_lines(*form, stamp, whole, before(lines, rest));
-    (rows, rest)
+    let skipped = skip_rows(lines, stamp.count);
+    let (whole, rest) = split_before(text, skipped);
+    let (rows, _) = split_before(lines, skipped);
+    (MixedRows::of_lines(*form, stamp, whole, rows), rest)
 }
 
 impl<'a> MixedRows<'a> {
