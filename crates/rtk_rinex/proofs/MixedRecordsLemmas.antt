@@ -191,10 +191,9 @@ row-is f line columns s cells form is has observed count shown =
 -- the epoch line that was read is that of this epoch
 pub record IsEpochLineOf (f : FormView) (e : EpochTableView) (line after rest : List ℕ) : Type 0 where
   pub count : IsInRange 1 (most_satellites f) (length e.rows)
-  pub line : line ≡ epoch_line (reading_of e.time) (length e.rows)
   pub columns : take 35 line ≡ epoch_columns (reading_of e.time) (length e.rows)
   pub long : length line ≡ 36
-  pub after : after ≡ flat_map mixed_satellite_line e.rows ++ rest
+  pub lines : after ≡ flat_map mixed_satellite_line e.rows ++ rest
 
 pub line-read : (f : FormView) (e : EpochTableView) (bytes rest line after : List ℕ) → IsMixedEpoch f e → bytes ≡ mixed_record_text e ++ rest → IsLine line
     → bytes ≡ line ++ after → IsEpochLineOf f e line after rest
@@ -205,10 +204,9 @@ line-read f e bytes rest line after is text line_is split =
     (sym split ∙ text ∙ epoch-front f e rest is) in
     record {
       count = count;
-      line = same.0;
       columns = line-columns line e.time (length e.rows) is.time few same.0;
       long = length-line line e.time (length e.rows) is.time few same.0;
-      after = same.1;
+      lines = same.1;
     }
 
 -- such a line is there

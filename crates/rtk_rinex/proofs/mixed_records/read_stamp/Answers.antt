@@ -27,4 +27,4 @@ returns-clause-stamp c = λ e rest is text.
     let line = c.in-Some.ensures in
     let read = line-read c.args.form.now e c.args.text.now rest c.in-Some.line.now c.in-Some.after.now is text line.0 line.1 in
     let one = c.in-Some-stamp_in.ensures.3 e.time (length e.rows) is.time (rw c.most_satellites.ensures.value read.count) (c.split_at.ensures.front ∙ read.columns) in
-    (one.0, one.1, read.after)
+    (one.0, one.1, read.lines)

@@ -41,7 +41,7 @@ skip_rows-requires c =
     let same = same_line c.in-Some.line.now _ c.in-Some.after.now _ line.0 due.line (sym line.1 ∙ due.text) in
     let one = c.in-Some-stamp_in.ensures.3 due.epoch.time _ due.is_epoch.time due.count
     (c.split_at.ensures.front ∙ line-columns c.in-Some.line.now due.epoch.time _ due.is_epoch.time (omega (arith, due.count)) same.0) in
-    (satellite_line, satellite_line-line, due.epoch.rows, due.rest, sym one.1, same.1))
+    (satellite_line, satellite_line-line, (due.epoch.rows, due.rest, sym one.1, same.1)))
 
 pub returns : goal.returns
 returns c = λ n e rest is text.

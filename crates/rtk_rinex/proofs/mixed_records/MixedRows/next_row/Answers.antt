@@ -1,6 +1,7 @@
 use Rattle.std.proofs.Common.{refl, arith}
 use Rattle.std.proofs.lemmas.Grind.{not_there}
 use mathlib.Core.Logic.{∥∥₁_map}
+use Rattle.rtk_rinex.specs.declared.epoch_table.SatelliteRow.{SatelliteRow}
 use Rattle.rtk_rinex.specs.MixedRecord.{mixed_satellite_line}
 use Rattle.rtk_rinex.proofs.LineLemmas.{no_line}
 use Rattle.rtk_rinex.proofs.MixedRowLemmas.{mixed_line-line}
@@ -27,7 +28,7 @@ pub invariant_of-self : goal.invariant_of-self
 invariant_of-self c =
     let line = c.in-Some.ensures in
     let read = c.read_mixed_row-satellite in
-    let row = record { satellite = read.result; observed = read.new.observed } in (
+    let row : SatelliteRow = record { satellite = read.result; observed = read.new.observed } in (
       omega (arith, c.self.invariant.0),
       ∥∥₁_map c.self.invariant.1 (λ left.
       others-of-rows row _ left.0
