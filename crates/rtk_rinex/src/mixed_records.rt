@@ -72,10 +72,7 @@ fn read_stamp<'a>(text: &'a [u8], form: &RecordForm) -> (EpochStamp, &'a [u8])
     let Some((line, after)) = next_line(text) else {
         unreachable!();
     };
-    let Some(stamp) = stamp_in(
-        line.split_at(EPOCH_LINE - 1).0,
-        form.most_satellites(),
-    ) else {
+    let Some(stamp) = stamp_in(line.split_at(EPOCH_LINE - 1).0, form.most_satellites()) else {
         unreachable!();
     };
     (stamp, after)

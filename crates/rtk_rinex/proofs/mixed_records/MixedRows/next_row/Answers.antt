@@ -31,9 +31,9 @@ invariant_of-self c =
     let row : SatelliteRow = record { satellite = read.result; observed = read.new.observed } in (
       omega (arith, c.self.invariant.0),
       ∥∥₁_map c.self.invariant.1 (λ left.
-      others-of-rows row _ left.0
-      (row-read c.self.inside.form c.self.inside.time c.self.inside.text.now c.self.inside.lines.now c.in-Some.line.now c.in-Some.after.now c.self.inside.count row left.0
-      c.if-self-eq0.false line.0 line.1 read.ensures.row read.ensures.text left.1)),
+          others-of-rows row _ left.0
+          (row-read c.self.inside.form c.self.inside.time c.self.inside.text.now c.self.inside.lines.now c.in-Some.line.now c.in-Some.after.now c.self.inside.count row left.0
+          c.if-self-eq0.false line.0 line.1 read.ensures.row read.ensures.text left.1)),
     )
 
 pub returns-clause-next : goal.returns-clause-next
