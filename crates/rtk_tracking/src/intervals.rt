@@ -29,10 +29,7 @@ pub fn interval(alloc: Global, table: &TextTable<'_>) -> Result<Option<u64>, All
 }
 
 /// Returns the interval in ms of a table of any systems, as `interval` does for GPS.
-pub fn mixed_interval(
-    alloc: Global,
-    table: &MixedTextTable<'_>,
-) -> Result<Option<u64>, AllocError>
+pub fn mixed_interval(alloc: Global, table: &MixedTextTable<'_>) -> Result<Option<u64>, AllocError>
     // Fails only if memory is refused: tests/system/calls, row mixed_interval.
     ensures { IfOk result (λ interval. (t : MixedTable) → IsMixedTable t → table.now.text ≡ mixed_table_text t
         → interval ≡ interval_of_epochs t.epochs) }
