@@ -65,6 +65,7 @@ mod svg_axis;
 mod svg_bands;
 mod svg_codes;
 mod svg_layers;
+mod svg_never;
 mod svg_path;
 mod svg_picture;
 mod svg_steps;

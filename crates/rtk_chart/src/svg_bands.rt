@@ -1,12 +1,12 @@
 //! The bands of the satellites in an SVG picture.
 
 ghost use Rattle.std.specs.Prelude.{◌≡◌, ◌≤◌, ◌<◌, ◌+◌, ◌/◌, ◌++◌, length, OnOk};
-ghost use Rattle.rtk_chart.specs.SvgPicture.{band_height, band_start, outage_boxes, band_text, band_if_drawn, bands_text};
+ghost use Rattle.rtk_chart.specs.SvgPicture.{height_of, height_if_drawn, band_top, band_start, outage_boxes, band_text, band_if_drawn, bands_text};
 
 use crate::never::put_label;
 use crate::outages::outage_flags;
 use crate::signs::is_drawn;
-use crate::svg_codes::put_code_lines;
+use crate::svg_codes::{codes_before, put_code_lines};
 use crate::svg_layers::put_runs_layer;
 use crate::svg_text::put_between;
 use crate::text_picture::drawn_before;
@@ -14,20 +14,48 @@ use crate::time_bin::TimeBin;
 use rtk_obs::Code;
 use std::alloc::{AllocError, Global};
 
-/// Where the first band begins, from the top, in units of SVG.
-pub(crate) const TOP: u64 = 112;
+// Where the first band begins, from the top, in units of SVG.
+const TOP: u64 = 140;
 
 const STRIPE_START: &[u8] = b"</title>\n<rect class='b";
 
 const NAME_START: &[u8] = b"<text class='name' x='-40' y='";
 
-/// The height of a band with these codes, in units of SVG.
-pub(crate) fn band_height(codes: &[Code]) -> u64
-    requires { length codes.now ≤ 16 }
-    ensures value { result ≡ band_height (length codes.now) }
-    ensures bound { result ≤ band_height 16 }
+// The height of the band of a satellite with so many codes, in units of SVG.
+fn height_of(bins: &[TimeBin], listed: usize, place: usize) -> u64
+    requires listed { listed ≤ 16 }
+    requires place { place < 32 }
+    ensures value { result ≡ height_of bins.now listed place }
+    ensures least { 36 ≤ result }
+    ensures bound { result ≤ 366 }
 {
-    22 * codes.len() as u64 + 14
+    22 * codes_before(bins, place, listed).max(1) + 14
+}
+
+fn height_if_drawn(bins: &[TimeBin], listed: usize, place: usize) -> u64
+    requires listed { listed ≤ 16 }
+    requires place { place < 32 }
+    ensures value { result ≡ height_if_drawn bins.now listed place }
+    ensures bound { result ≤ 366 }
+{
+    if is_drawn(bins, place) {
+        return height_of(bins, listed, place);
+    }
+    0
+}
+
+/// How far from the top the band of a satellite begins, or behind the last satellite the bands end.
+pub(crate) fn band_top(bins: &[TimeBin], listed: usize, place: usize) -> u64
+    requires listed { listed ≤ 16 }
+    requires place { place ≤ 32 }
+    ensures value { result ≡ band_top bins.now listed place }
+    ensures bound { result ≤ 11_852 }
+{
+    let mut top = TOP;
+    for before in 0..place {
+        top += height_if_drawn(bins, listed, before);
+    }
+    top
 }
 
 // The stripe and the label of a band.
@@ -39,7 +67,7 @@ fn put_band_start(
     height: u64,
 ) -> Result<(), AllocError>
     requires satellite { satellite ≤ 32 }
-    requires height { height ≤ band_height 16 }
+    requires height { height ≤ 366 }
     ensures { OnOk result (text.new.items ≡ text.old.items ++ band_start top satellite stripe height) }
 {
     put_between(text, b"<g transform='translate(110 ", top, b")'>\n<title>")?;
@@ -91,13 +119,12 @@ fn put_band(
     before: u64,
 ) -> Result<(), AllocError>
     requires place { place < 32 }
-    requires before { before ≤ 32 }
     requires few { length bins.now ≤ 1440 }
     requires listed { length codes.now ≤ 16 }
     ensures { OnOk result (text.new.items ≡ text.old.items ++ band_text codes.now bins.now outages.now place before) }
 {
-    let height = band_height(codes);
-    let top = TOP + before * height;
+    let height = height_of(bins, codes.len(), place);
+    let top = band_top(bins, codes.len(), place);
     put_band_start(text, top, place as u8 + 1, before % 2, height)?;
     put_outages(alloc, text, outages, bins.len(), place, height - 8)?;
     put_code_lines(alloc, text, bins, place, codes)?;

@@ -1,7 +1,7 @@
 //! The lines of a satellite's codes in an SVG picture.
 
 ghost use Rattle.std.specs.Prelude.{◌≡◌, ◌≤◌, ◌<◌, ◌++◌, length, OnOk};
-ghost use Rattle.rtk_chart.specs.SvgPicture.{column_numbers, code_numbers, drawn_bar, bar_text, code_line, code_lines};
+ghost use Rattle.rtk_chart.specs.SvgPicture.{column_numbers, code_numbers, drawn_bar, codes_before, code_line, line_if_had, code_lines};
 
 use crate::layer::Layer;
 use crate::never::put_label;
@@ -11,11 +11,6 @@ use crate::svg_text::put_between;
 use crate::time_bin::TimeBin;
 use rtk_obs::Code;
 use std::alloc::{AllocError, Global};
-
-// constant
-/// What stands in the place of the numbers and the bar of a code that the satellite has nowhere.
-pub(crate) const NEVER: &[u8] = b": never a phase</title>\n\
-<text class='never' x='4' y='16'>never</text>\n";
 
 // How many columns have what of a code.
 fn put_column_numbers(
@@ -78,28 +73,23 @@ fn put_drawn_bar(
     Ok(())
 }
 
-// A code that the satellite never has gets words in place of a bar: it is missing nowhere, since many
-// satellites don't send L2C or L5.
-fn put_bar(
-    alloc: Global,
-    text: &mut Vec<u8>,
-    bins: &[TimeBin],
-    place: usize,
-    code: usize,
-) -> Result<(), AllocError>
+// How many codes before a place a satellite has.
+pub(crate) fn codes_before(bins: &[TimeBin], place: usize, at: usize) -> u64
     requires place { place < 32 }
-    requires few { length bins.now ≤ 1440 }
-    ensures { OnOk result (text.new.items ≡ text.old.items ++ bar_text bins.now place code) }
+    requires at { at ≤ 16 }
+    ensures value { result ≡ codes_before bins.now place at }
+    ensures bound { result ≤ 16 }
 {
-    if has_code(bins, place, code) {
-        put_drawn_bar(alloc, text, bins, place, code)?;
-    } else {
-        text.extend_from_slice(NEVER)?;
+    let mut count = 0;
+    for before in 0..at {
+        if has_code(bins, place, before) {
+            count += 1;
+        }
     }
-    Ok(())
+    count
 }
 
-// The line of a code. The lines lie 22 apart, and the first one 7 below the top of the band.
+// The line of a code that the satellite has. The lines lie 22 apart, and the first one 7 below the top of the band.
 fn put_code_line(
     alloc: Global,
     text: &mut Vec<u8>,
@@ -113,15 +103,36 @@ fn put_code_line(
     requires listed { at < 16 }
     ensures { OnOk result (text.new.items ≡ text.old.items ++ code_line bins.now place at code) }
 {
-    let top = 22 * at as u64 + 7;
+    let top = 22 * codes_before(bins, place, at) + 7;
     put_between(text, b"<g transform='translate(0 ", top, b")'>\n<title>")?;
     put_label(text, place as u8 + 1)?;
     text.extend_from_slice(b" ")?;
     text.extend_from_slice(&code.name())?;
-    put_bar(alloc, text, bins, place, at)?;
+    put_drawn_bar(alloc, text, bins, place, at)?;
     text.extend_from_slice(b"<text class='code' x='-6' y='16'>")?;
     text.extend_from_slice(&code.name())?;
     text.extend_from_slice(b"</text>\n</g>\n")?;
+    Ok(())
+}
+
+// A code that the satellite never has gets no line: it is missing nowhere, since many satellites don't send
+// L2C or L5.
+fn put_line_if_had(
+    alloc: Global,
+    text: &mut Vec<u8>,
+    bins: &[TimeBin],
+    place: usize,
+    at: usize,
+    code: Code,
+) -> Result<(), AllocError>
+    requires place { place < 32 }
+    requires few { length bins.now ≤ 1440 }
+    requires listed { at < 16 }
+    ensures { OnOk result (text.new.items ≡ text.old.items ++ line_if_had bins.now place at code) }
+{
+    if has_code(bins, place, at) {
+        put_code_line(alloc, text, bins, place, at, code)?;
+    }
     Ok(())
 }
 
@@ -139,7 +150,7 @@ pub(crate) fn put_code_lines(
     ensures { OnOk result (text.new.items ≡ text.old.items ++ code_lines bins.now place 0 codes.now) }
 {
     for (at, code) in codes.iter().enumerate() {
-        put_code_line(alloc, text, bins, place, at, *code)?;
+        put_line_if_had(alloc, text, bins, place, at, *code)?;
     }
     Ok(())
 }

@@ -9,11 +9,12 @@ returns c =
       c.in_ok-extend_from_slice-5.ensures.items,
       c.in_ok-extend_from_slice-4.ensures.items,
       c.in_ok-extend_from_slice-3.ensures.items,
-      c.in_ok-put_bar.ensures,
+      c.in_ok-put_drawn_bar.ensures,
       c.in_ok-extend_from_slice-2.ensures.items,
       c.in_ok-extend_from_slice.ensures.items,
       c.in_ok-put_label.ensures,
       c.in_ok-put_between.ensures,
+      c.codes_before.ensures.value,
       c.name-2.ensures,
       c.name.ensures,
     ) (simp append_assoc)
