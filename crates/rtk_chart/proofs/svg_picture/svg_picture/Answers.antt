@@ -11,6 +11,7 @@ returns c =
       c.in_ok-put_span.ensures,
       c.in_ok-put_start.ensures,
       c.never_end-end.ensures.value,
+      c.of-spacing.ensures,
       c.drawn_before-satellites.ensures.value,
       c.as_slice-2.ensures.value,
       c.as_slice.ensures.value,
