@@ -23,7 +23,8 @@ pub fn chart_text(alloc: Global, table: &TextTable<'_>, width: u16) -> Result<Ve
     // Fails only if memory is refused: tests/system/calls, row chart_text.
     ensures { IfOk result (λ text. ShowsTable table.now.text width text.items) }
 {
-    chosen_text(alloc, table, &Choice::All, width)
+    let text = chosen_text(alloc, table, &Choice::All, width)?;
+    Ok(text)
 }
 
 /// The same of the satellites of a choice. The records of other satellites count for nothing: the picture is that
@@ -59,7 +60,8 @@ pub fn chart_svg(alloc: Global, table: &TextTable<'_>) -> Result<Vec<u8>, AllocE
     // Fails only if memory is refused: tests/system/calls, row chart_svg.
     ensures { IfOk result (λ svg. ShowsTableInSvg table.now.text svg.items) }
 {
-    chosen_svg(alloc, table, &Choice::All)
+    let svg = chosen_svg(alloc, table, &Choice::All)?;
+    Ok(svg)
 }
 
 /// The same of the satellites of a choice.

@@ -8,5 +8,5 @@ use Rattle.rtk_chart.proofs.chart.chart_text.Goals as goal
 
 pub returns : goal.returns
 returns c = λ t is file.
-    c.in_ok-chosen_text.ensures t is file
+    c.in_ok-text.ensures t is file
     ∙ ap (λ (es : List EpochTableView). text_of_epochs t.head.marker t.head.listed t.first (interval_of_file t) c.args.width es) (all-chosen (newest_first t.epochs))
