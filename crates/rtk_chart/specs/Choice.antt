@@ -1,5 +1,5 @@
 -- Which satellites are drawn (this project's rule).
-use Rattle.std.specs.Prelude.{ℕ, ◌-◌, ◌==◌, Bool, false, not, List, length, map, get_or}
+use Rattle.std.specs.Prelude.{ℕ, ◌-◌, Bool, true, false, List, get_or}
 use Rattle.std.specs.List.{filter, list_any}
 use Rattle.rtk_rinex.specs.Record.{EpochTableView}
 use Rattle.rtk_chart.specs.declared.choice.Chosen.{Chosen}
@@ -20,8 +20,13 @@ abbrev pub narrowed : Choice → EpochTableView → EpochTableView
 narrowed All e = e
 narrowed (These chosen) e = chosen_rows chosen e
 
+-- an epoch has a row of a chosen satellite
+abbrev pub has_row : Chosen → EpochTableView → Bool
+has_row chosen e = list_any (λ r. is_chosen chosen r.satellite) e.rows
+
 -- formula
--- an epoch has a row of a satellite of the choice
-abbrev pub has_row : Choice → EpochTableView → Bool
-has_row All e = not (length e.rows == 0)
-has_row (These chosen) e = list_any (λ r. is_chosen chosen r.satellite) e.rows
+-- there is something to draw: some epoch has a row of a satellite that is chosen. All that a file has is drawn even
+-- if it has nothing
+abbrev pub is_there : Choice → List EpochTableView → Bool
+is_there All es = true
+is_there (These chosen) es = list_any (has_row chosen) es

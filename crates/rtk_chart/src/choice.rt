@@ -55,15 +55,12 @@ pub(crate) fn narrow_to(narrow: &mut EpochTable, chosen: &Chosen, epoch: &EpochT
     push_chosen(narrow, chosen, epoch.rows());
 }
 
-/// Some row of an epoch is of a satellite of the choice.
-pub(crate) fn has_row(choice: &Choice, epoch: &EpochTable) -> bool
-    ensures { result ≡ has_row choice.now epoch.now }
+/// Some row of an epoch is of a chosen satellite.
+pub(crate) fn has_row(chosen: &Chosen, epoch: &EpochTable) -> bool
+    ensures { result ≡ has_row chosen.now epoch.now }
 {
-    match choice {
-        Choice::All => !epoch.rows().is_empty(),
-        Choice::These(chosen) => epoch
-            .rows()
-            .iter()
-            .any(|row| is_chosen(chosen, row.satellite)),
-    }
+    epoch
+        .rows()
+        .iter()
+        .any(|row| is_chosen(chosen, row.satellite))
 }

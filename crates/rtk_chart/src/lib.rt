@@ -85,4 +85,4 @@ pub use laws::{
     bins_are_least, bins_fill_room, counts_are_of_epochs, files_have_numbers, marks_are_of_epochs,
     missing_marks_are_epochs, svg_headings_tell_numbers, text_headings_tell_numbers,
 };
-pub use passes::has_chosen;
+pub use passes::is_there;

@@ -7,11 +7,11 @@ ghost use Rattle.std.specs.Prelude.{◌≡◌, ◌*◌, List, ◌∷◌, map, le
 ghost use Rattle.std.specs.List.{list_any};
 ghost use Rattle.rtk_rinex.specs.Record.{EpochTableView};
 ghost use Rattle.rtk_chart.specs.Scale.{IsScale};
-ghost use Rattle.rtk_chart.specs.Choice.{narrowed, has_row};
+ghost use Rattle.rtk_chart.specs.Choice.{narrowed, has_row, is_there};
 ghost use Rattle.rtk_chart.specs.Steps.Standing.{StandsForSurvey, StandsForGrid};
 ghost use Rattle.rtk_tracking.specs.Epochs.{HoldsOfEpochs};
 
-use crate::choice::{Choice, has_row, narrow_to};
+use crate::choice::{Choice, Chosen, has_row, narrow_to};
 use crate::grid::Grid;
 use crate::scale::Scale;
 use crate::survey::Survey;
@@ -36,18 +36,29 @@ pub(crate) fn survey_records(
     Ok(survey)
 }
 
-/// Some record of a table has a row of a satellite of the choice.
-pub fn has_chosen(table: &TextTable<'_>, choice: &Choice) -> bool
-    ensures { HoldsOfEpochs table.now.text (λ es. result ≡ list_any (has_row choice.now) es) }
+// Some record of a table has a row of a chosen satellite.
+fn has_chosen(table: &TextTable<'_>, chosen: &Chosen) -> bool
+    ensures { HoldsOfEpochs table.now.text (λ es. result ≡ list_any (has_row chosen.now) es) }
 {
     let mut epoch = EpochTable::new(table.heading().first);
     let mut records = table.records();
     let mut found = false;
     while let Some(_record) = records.next(&mut epoch) {
-        let here = has_row(choice, &epoch);
+        let here = has_row(chosen, &epoch);
         found = here || found;
     }
     found
+}
+
+/// There is something to draw of a table: some record has a row of a satellite that is chosen. All of a table can be
+/// drawn, even if it has no record.
+pub fn is_there(table: &TextTable<'_>, choice: &Choice) -> bool
+    ensures { HoldsOfEpochs table.now.text (λ es. result ≡ is_there choice.now es) }
+{
+    match choice {
+        Choice::All => true,
+        Choice::These(chosen) => has_chosen(table, chosen),
+    }
 }
 
 // Notes one more record, narrowed to the choice; this takes the place of another narrowed one.

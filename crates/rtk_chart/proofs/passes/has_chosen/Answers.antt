@@ -10,10 +10,10 @@ loop-record-init c = λ t is text. ([], t.epochs, (c.records-records.ensures.rec
 
 pub loop-record-preserved : goal.loop-record-preserved
 loop-record-preserved c = λ t is text.
-    come-more (λ found es. found ≡ list_any (has_row c.args.choice.now) es) c.loop-record.records c.next.new.self c.loop-record.found (c.has_row-here.result || c.loop-record.found) t.epochs c.in-Some._record.now c.next.new.epoch
+    come-more (λ found es. found ≡ list_any (has_row c.args.chosen.now) es) c.loop-record.records c.next.new.self c.loop-record.found (c.has_row-here.result || c.loop-record.found) t.epochs c.in-Some._record.now c.next.new.epoch
     (c.loop-record.invariant t is text) c.in-Some.ensures.next
-    (λ es is. ap (λ (b : Bool). b || c.loop-record.found) c.has_row-here.ensures ∙ ap (λ (b : Bool). has_row c.args.choice.now c.next.new.epoch || b) is)
+    (λ es is. ap (λ (b : Bool). b || c.loop-record.found) c.has_row-here.ensures ∙ ap (λ (b : Bool). has_row c.args.chosen.now c.next.new.epoch || b) is)
 
 pub returns : goal.returns
 returns c = λ t is text.
-    come-all (λ found es. found ≡ list_any (has_row c.args.choice.now) es) c.loop-record.records c.loop-record.found t.epochs (c.loop-record.invariant t is text) c.in_default.ensures.next
+    come-all (λ found es. found ≡ list_any (has_row c.args.chosen.now) es) c.loop-record.records c.loop-record.found t.epochs (c.loop-record.invariant t is text) c.in_default.ensures.next
