@@ -25,6 +25,7 @@ mod auto_reading;
 mod auto_refusing;
 mod auto_running;
 mod auto_words;
+mod chart_words;
 mod clap_words;
 mod code_list;
 mod command_line;
