@@ -1,6 +1,6 @@
 //! Which satellites are drawn.
 
-ghost use Rattle.std.specs.Prelude.{◌≡◌, ◌<◌, ◌≤◌, ◌++◌, [], length, All, AllPairs};
+ghost use Rattle.std.specs.Prelude.{◌≡◌, ◌<◌, ◌≤◌, [], length, All, AllPairs};
 ghost use Rattle.std.specs.List.{filter};
 ghost use Rattle.rtk_rinex.specs.Record.{IsSatelliteRow};
 ghost use Rattle.rtk_chart.specs.Choice.{is_chosen, chosen_rows, has_row};

@@ -3,7 +3,7 @@
 //! The first pass finds their number and steps, which give the bins. The second one notes each record in
 //! its bin.
 
-ghost use Rattle.std.specs.Prelude.{◌≡◌, ◌*◌, List, ◌∷◌, map, length, IfOk};
+ghost use Rattle.std.specs.Prelude.{◌≡◌, ◌*◌, ◌||◌, List, ◌∷◌, map, length, IfOk};
 ghost use Rattle.std.specs.List.{list_any};
 ghost use Rattle.rtk_rinex.specs.Record.{EpochTableView};
 ghost use Rattle.rtk_chart.specs.Scale.{IsScale};
@@ -36,6 +36,13 @@ pub(crate) fn survey_records(
     Ok(survey)
 }
 
+// One of two holds.
+fn is_either(one: bool, other: bool) -> bool
+    ensures { result ≡ (one || other) }
+{
+    one || other
+}
+
 // Some record of a table has a row of a chosen satellite.
 fn has_chosen(table: &TextTable<'_>, chosen: &Chosen) -> bool
     ensures { HoldsOfEpochs table.now.text (λ es. result ≡ list_any (has_row chosen.now) es) }
@@ -45,7 +52,7 @@ fn has_chosen(table: &TextTable<'_>, chosen: &Chosen) -> bool
     let mut found = false;
     while let Some(_record) = records.next(&mut epoch) {
         let here = has_row(chosen, &epoch);
-        found = here || found;
+        found = is_either(here, found);
     }
     found
 }

@@ -1,6 +1,7 @@
 use Rattle.std.proofs.Common.{◌≡◌, ◌<◌, ◌++◌, ℕ, Bool, List, [], ◌∷◌, length, get_or, take, sym, ap, subst, ◌∙◌, arith}
 use Rattle.std.specs.Prelude.{All}
 use Rattle.std.specs.List.{filter}
+use Rattle.rtk_rinex.specs.declared.epoch_table.Observed.{Observed}
 use Rattle.rtk_rinex.specs.declared.epoch_table.SatelliteRow.{SatelliteRow}
 use Rattle.rtk_rinex.specs.Record.{EpochTableView, IsSatelliteRow}
 use Rattle.rtk_chart.specs.Choice.{is_chosen}
@@ -11,7 +12,8 @@ use Rattle.rtk_chart.proofs.choice.push_chosen.Goals.{then-is_chosen, else-is_ch
 pub push_row-requires-clause-good : goal.push_row-requires-clause-good
 push_row-requires-clause-good c =
     let r = c.row-item.result in
-    subst (λ (x : SatelliteRow). IsSatelliteRow x) (sym c.row-item.is) (c.requires.good c.loop-row.row-index r c.loop-row-test.true)
+    let good : IsSatelliteRow r = subst (λ (x : SatelliteRow). IsSatelliteRow x) (sym c.row-item.is) (c.requires.good c.loop-row.row-index r c.loop-row-test.true) in
+    subst (λ (xs : List Observed). IsSatelliteRow (record { satellite = r.satellite; observed = record { items = xs } })) (sym c.as_slice.ensures.value) good
 
 pub push_row-requires-clause-later : goal.push_row-requires-clause-later
 push_row-requires-clause-later c =
@@ -36,7 +38,8 @@ loop-row-preserved c =
     let i = c.loop-row.invariant in
     elim c.if-is_chosen.branch [
       | then-is_chosen w ↦
-          let pushed : w.push_row.new.self.rows ≡ c.loop-row.narrow.rows ++ r ∷ [] = ap (λ (e : EpochTableView). e.rows) w.push_row.ensures in
+          let same : record { satellite = r.satellite; observed = record { items = w.as_slice.result.now } } ≡ r = ap (λ (xs : List Observed). record { satellite = r.satellite; observed = record { items = xs } }) w.as_slice.ensures.value in
+          let pushed : w.push_row.new.self.rows ≡ c.loop-row.narrow.rows ++ r ∷ [] = ap (λ (e : EpochTableView). e.rows) w.push_row.ensures ∙ ap (λ (x : SatelliteRow). c.loop-row.narrow.rows ++ x ∷ []) same in
           record {
             time = ap (λ (e : EpochTableView). e.time) (w.narrow-is ∙ w.push_row.ensures) ∙ i.time;
             rows = ap (λ (e : EpochTableView). e.rows) w.narrow-is ∙ pushed ∙ ap (λ xs. xs ++ r ∷ []) i.rows

@@ -10,9 +10,9 @@ loop-record-init c = λ t is text. ([], t.epochs, (c.records-records.ensures.rec
 
 pub loop-record-preserved : goal.loop-record-preserved
 loop-record-preserved c = λ t is text.
-    come-more (λ found es. found ≡ list_any (has_row c.args.chosen.now) es) c.loop-record.records c.next.new.self c.loop-record.found (c.has_row-here.result || c.loop-record.found) t.epochs c.in-Some._record.now c.next.new.epoch
+    come-more (λ found es. found ≡ list_any (has_row c.args.chosen.now) es) c.loop-record.records c.next.new.self c.loop-record.found c.is_either-found.result t.epochs c.in-Some._record.now c.next.new.epoch
     (c.loop-record.invariant t is text) c.in-Some.ensures.next
-    (λ es is. ap (λ (b : Bool). b || c.loop-record.found) c.has_row-here.ensures ∙ ap (λ (b : Bool). has_row c.args.chosen.now c.next.new.epoch || b) is)
+    (λ es is. c.is_either-found.ensures ∙ ap (λ (b : Bool). b || c.loop-record.found) c.has_row-here.ensures ∙ ap (λ (b : Bool). has_row c.args.chosen.now c.next.new.epoch || b) is)
 
 pub returns : goal.returns
 returns c = λ t is text.
