@@ -8,8 +8,8 @@ pub loop-before-preserved : goal.loop-before-preserved
 loop-before-preserved c =
     let i = c.loop-before.invariant in
     let more = sum-more (λ (before : ℕ). codes_before c.args.bins.now before c.args.listed) c.loop-before.before in
-    let few = c.codes_before.ensures.bound in
-    let is = c.codes_before.ensures.value in
+    let few = c.codes_before-lines.ensures.bound in
+    let is = c.codes_before-lines.ensures.value in
     record { few = omega (arith, i.few, few); sum = omega (arith, i.sum, more, is) }
 
 pub returns : goal.returns

@@ -8,8 +8,8 @@ pub loop-before-preserved : goal.loop-before-preserved
 loop-before-preserved c =
     let i = c.loop-before.invariant in
     let more = sum-more (height_if_drawn c.args.spacing c.args.bins.now c.args.listed) c.loop-before.before in
-    let high = c.height_if_drawn.ensures.bound in
-    let is = c.height_if_drawn.ensures.value in
+    let high = c.height_if_drawn-top.ensures.bound in
+    let is = c.height_if_drawn-top.ensures.value in
     record { few = omega (arith, i.few, high); sum = omega (arith, i.sum, more, is) }
 
 pub returns-clause-value : goal.returns-clause-value
