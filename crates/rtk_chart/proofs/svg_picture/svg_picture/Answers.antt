@@ -13,6 +13,7 @@ returns c =
       c.never_end-end.ensures.value,
       c.of-spacing.ensures,
       c.drawn_before-satellites.ensures.value,
+      c.as_slice-3.ensures.value,
       c.as_slice-2.ensures.value,
       c.as_slice.ensures.value,
       c.new-text.ensures.items,
