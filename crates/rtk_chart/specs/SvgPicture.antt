@@ -1,6 +1,6 @@
 -- A picture in SVG (this project's rule). Lengths are in units of the picture, which is 1620 wide:
--- bands begin 110 from the left and 112 from the top, and are 1440 wide.
-use Rattle.std.specs.Prelude.{ℕ, ◌+◌, ◌-◌, ◌*◌, ◌/◌, ◌%◌, ◌==◌, Bool, not, List, [], ◌∷◌, ◌++◌, length, max, map, flat_map, count_by, codes, decimal, Option, None, Some, if◌then◌else◌}
+-- bands begin 110 from the left and 140 from the top, and are 1440 wide.
+use Rattle.std.specs.Prelude.{ℕ, ◌+◌, ◌-◌, ◌*◌, ◌/◌, ◌%◌, ◌==◌, nat_lt, Bool, not, List, [], ◌∷◌, ◌++◌, length, max, map, flat_map, count_by, codes, decimal, Option, None, Some, if◌then◌else◌}
 use Rattle.std.specs.List.{list_any, range_with_len, sum_by}
 use Rattle.rtk_obs.specs.declared.code.Code.{Code}
 use Rattle.rtk_obs.specs.Code.{name_of}
@@ -17,6 +17,8 @@ use Rattle.rtk_chart.specs.declared.svg_picture.TheConstants.{STYLE, SYSTEM, LEG
 use Rattle.rtk_chart.specs.declared.scale.Scale.{Scale}
 use Rattle.rtk_chart.specs.declared.time_bin.TimeBin.{TimeBin}
 use Rattle.rtk_chart.specs.declared.layer.Layer.{Layer}
+use Rattle.rtk_chart.specs.declared.spacing.Spacing.{Spacing}
+use Rattle.rtk_chart.specs.declared.spacing.Spacing.TheVariants.{Wide, Close}
 use Rattle.rtk_chart.specs.declared.layer.Layer.TheVariants.{Phase, Level, Missing, Part, Absent, Slip, Return, Rise, Half}
 
 -- ---- text
@@ -116,51 +118,92 @@ drawn_bar bins place code = code_numbers bins place code ++ level_paths bins pla
 unfoldable pub codes_before : List TimeBin → ℕ → ℕ → ℕ
 codes_before bins place at = count_by (has_code bins place) (range_with_len 0 at)
 
+-- how many lines the satellites before a place have: one for each code of theirs
+unfoldable pub lines_before : List TimeBin → ℕ → ℕ → ℕ
+lines_before bins listed place = sum_by (λ before. codes_before bins before listed) (range_with_len 0 place)
+
+-- constant
+-- more than 48 lines lie close, so that a day of all satellites fits a screen
+abbrev pub spacing_of : List TimeBin → ℕ → Spacing
+spacing_of bins listed = if nat_lt 48 (lines_before bins listed 32) then Close else Wide
+
 -- formula
--- the line of a code of a satellite, 22 units high, as in G05 1C
-unfoldable pub code_line : List TimeBin → ℕ → ℕ → Code → List ℕ
-code_line bins place at code =
-    number_between (codes "<g transform='translate(0 ") (22 * codes_before bins place at + 7) (codes ")'>\n<title>") ++ satellite_label (place + 1)
-    ++ codes " " ++ name_of code ++ drawn_bar bins place at ++ codes "<text class='code' x='-6' y='16'>" ++ name_of code ++ codes "</text>\n</g>\n"
+-- how far from the top of its band a line lies, after so many others: they are 22 units apart, or 10
+abbrev pub line_top : Spacing → ℕ → ℕ
+line_top Wide lines = 22 * lines + 7
+line_top Close lines = 10 * lines + 2
+
+-- table
+-- what stands between the place of a line and its title: close lines have bars of half the height
+abbrev pub line_start : Spacing → List ℕ
+line_start Wide = codes ")'>\n<title>"
+line_start Close = codes ")scale(1 .5)'>\n<title>"
+
+-- table
+-- what stands before the name of a code at its line
+abbrev pub code_start : Spacing → List ℕ
+code_start Wide = codes "<text class='code' x='-6' y='16'>"
+code_start Close = codes "<text class='code tiny' transform='scale(1 2)' x='-6' y='9'>"
+
+-- formula
+-- the line of a code of a satellite, as in G05 1C
+unfoldable pub code_line : Spacing → List TimeBin → ℕ → ℕ → Code → List ℕ
+code_line spacing bins place at code =
+    number_between (codes "<g transform='translate(0 ") (line_top spacing (codes_before bins place at)) (line_start spacing) ++ satellite_label (place + 1)
+    ++ codes " " ++ name_of code ++ drawn_bar bins place at ++ code_start spacing ++ name_of code ++ codes "</text>\n</g>\n"
 
 -- formula
 -- a code that the satellite has nowhere has no line
-abbrev pub line_if_had : List TimeBin → ℕ → ℕ → Code → List ℕ
-line_if_had bins place at code = if has_code bins place at then code_line bins place at code else []
+abbrev pub line_if_had : Spacing → List TimeBin → ℕ → ℕ → Code → List ℕ
+line_if_had spacing bins place at code = if has_code bins place at then code_line spacing bins place at code else []
 
 -- the codes from a place on
-abbrev pub code_lines : List TimeBin → ℕ → ℕ → List Code → List ℕ
-code_lines bins place at [] = []
-code_lines bins place at (c ∷ cs) = line_if_had bins place at c ++ code_lines bins place (at + 1) cs
+abbrev pub code_lines : Spacing → List TimeBin → ℕ → ℕ → List Code → List ℕ
+code_lines spacing bins place at [] = []
+code_lines spacing bins place at (c ∷ cs) = line_if_had spacing bins place at c ++ code_lines spacing bins place (at + 1) cs
 
 -- ---- bands
 
 -- formula
--- each line has 22 units, with seven units above and below them; a satellite without a line has the room of one
-abbrev pub band_height : ℕ → ℕ
-band_height lines = 22 * max lines 1 + 14
+-- the lines, with seven units above and below them, or two; a satellite without a line has the room of one, or of
+-- two close ones, so that its name has room
+abbrev pub band_height : Spacing → ℕ → ℕ
+band_height Wide lines = 22 * max lines 1 + 14
+band_height Close lines = 10 * max lines 2 + 4
 
 -- how high the band of a satellite is, in a file of so many codes
-abbrev pub height_of : List TimeBin → ℕ → ℕ → ℕ
-height_of bins listed place = band_height (codes_before bins place listed)
+abbrev pub height_of : Spacing → List TimeBin → ℕ → ℕ → ℕ
+height_of spacing bins listed place = band_height spacing (codes_before bins place listed)
 
 -- a satellite without a row has none
-abbrev pub height_if_drawn : List TimeBin → ℕ → ℕ → ℕ
-height_if_drawn bins listed place = if is_drawn bins place then height_of bins listed place else 0
+abbrev pub height_if_drawn : Spacing → List TimeBin → ℕ → ℕ → ℕ
+height_if_drawn spacing bins listed place = if is_drawn bins place then height_of spacing bins listed place else 0
 
 -- formula
 -- how far from the top the band of a satellite begins: below the name of its system and the bands before it
-unfoldable pub band_top : List TimeBin → ℕ → ℕ → ℕ
-band_top bins listed place = 140 + sum_by (height_if_drawn bins listed) (range_with_len 0 place)
+unfoldable pub band_top : Spacing → List TimeBin → ℕ → ℕ → ℕ
+band_top spacing bins listed place = 140 + sum_by (height_if_drawn spacing bins listed) (range_with_len 0 place)
+
+-- table
+-- what stands before the height at which the name of a satellite lies
+abbrev pub name_start : Spacing → List ℕ
+name_start Wide = codes "<text class='name' x='-40' y='"
+name_start Close = codes "<text class='name low' x='-40' y='"
+
+-- table
+-- how far below the middle of its band that name stands
+abbrev pub name_drop : Spacing → ℕ
+name_drop Wide = 9
+name_drop Close = 7
 
 -- formula
 -- the beginning of a band: its satellite, and its stripe, 0 for none
-unfoldable pub band_start : ℕ → ℕ → ℕ → ℕ → List ℕ
-band_start top satellite stripe height =
+unfoldable pub band_start : Spacing → ℕ → ℕ → ℕ → ℕ → List ℕ
+band_start spacing top satellite stripe height =
     number_between (codes "<g transform='translate(110 ") top (codes ")'>\n<title>") ++ satellite_label satellite
     ++ number_between (codes "</title>\n<rect class='b") stripe (codes "' x='-110' width='1620'")
     ++ number_between (codes " height='") height (codes "'/>\n")
-    ++ number_between (codes "<text class='name' x='-40' y='") (height / 2 + 9) (codes "'>") ++ satellite_label satellite ++ codes "</text>\n"
+    ++ number_between (name_start spacing) (height / 2 + name_drop spacing) (codes "'>") ++ satellite_label satellite ++ codes "</text>\n"
 
 -- the bins of so many in which a satellite has an outage
 abbrev pub outage_flags : List Bool → ℕ → ℕ → List Bool
@@ -175,20 +218,20 @@ outage_boxes outages n place high =
 
 -- formula
 -- the band of a satellite after so many others: every other one has a stripe
-unfoldable pub band_text : List Code → List TimeBin → List Bool → ℕ → ℕ → List ℕ
-band_text listed bins outages place before =
-    band_start (band_top bins (length listed) place) (place + 1) (before % 2) (height_of bins (length listed) place)
-    ++ outage_boxes outages (length bins) place (height_of bins (length listed) place - 8)
-    ++ code_lines bins place 0 listed ++ codes "</g>\n"
+unfoldable pub band_text : Spacing → List Code → List TimeBin → List Bool → ℕ → ℕ → List ℕ
+band_text spacing listed bins outages place before =
+    band_start spacing (band_top spacing bins (length listed) place) (place + 1) (before % 2) (height_of spacing bins (length listed) place)
+    ++ outage_boxes outages (length bins) place (height_of spacing bins (length listed) place - 8)
+    ++ code_lines spacing bins place 0 listed ++ codes "</g>\n"
 
 -- formula
-abbrev pub band_if_drawn : List Code → List TimeBin → List Bool → ℕ → List ℕ
-band_if_drawn listed bins outages place =
-    if is_drawn bins place then band_text listed bins outages place (drawn_before bins place) else []
+abbrev pub band_if_drawn : Spacing → List Code → List TimeBin → List Bool → ℕ → List ℕ
+band_if_drawn spacing listed bins outages place =
+    if is_drawn bins place then band_text spacing listed bins outages place (drawn_before bins place) else []
 
 -- formula
-unfoldable pub bands_text : List Code → List TimeBin → List Bool → List ℕ
-bands_text listed bins outages = flat_map (band_if_drawn listed bins outages) (range_with_len 0 32)
+unfoldable pub bands_text : Spacing → List Code → List TimeBin → List Bool → List ℕ
+bands_text spacing listed bins outages = flat_map (band_if_drawn spacing listed bins outages) (range_with_len 0 32)
 
 -- ---- codes that satellites have nowhere
 
@@ -296,19 +339,19 @@ svg_legend top = number_between (codes "<g transform='translate(110 ") top (code
 -- ---- the picture
 
 -- how far from the top the bands end
-abbrev pub bands_end : List TimeBin → ℕ → ℕ
-bands_end bins listed = band_top bins listed 32
+abbrev pub bands_end : Spacing → List TimeBin → ℕ → ℕ
+bands_end spacing bins listed = band_top spacing bins listed 32
 
 -- formula
 -- how far from the top the lines of the codes end that satellites have nowhere
-abbrev pub never_end : List TimeBin → ℕ → ℕ
-never_end bins listed = bands_end bins listed + 24 * lacked_before bins listed
+abbrev pub never_end : Spacing → List TimeBin → ℕ → ℕ
+never_end spacing bins listed = bands_end spacing bins listed + 24 * lacked_before bins listed
 
 -- formula
 -- what stands below the heading: the name of the system, its satellites, and so far from the top what is of all
-unfoldable pub svg_body : List Code → Scale → List TimeBin → List Bool → List Bool → ℕ → List ℕ
-svg_body listed s bins outages gaps end =
-    SYSTEM.now ++ bands_text listed bins outages ++ never_texts bins (bands_end bins (length listed) + 18) 0 listed ++ gaps_band end gaps ++ satellites_band (end + 26) bins
+unfoldable pub svg_body : Spacing → List Code → Scale → List TimeBin → List Bool → List Bool → ℕ → List ℕ
+svg_body spacing listed s bins outages gaps end =
+    SYSTEM.now ++ bands_text spacing listed bins outages ++ never_texts bins (bands_end spacing bins (length listed) + 18) 0 listed ++ gaps_band end gaps ++ satellites_band (end + 26) bins
     ++ ticks_text s (svg_tick_step s) (end + 72) ++ svg_legend (end + 104) ++ codes "</svg>\n"
 
 -- formula
@@ -317,9 +360,9 @@ svg_body listed s bins outages gaps end =
 unfoldable pub svg_picture
     : List ℕ → List Code → Scale → ℕ → ℕ → ℕ → ℕ → ℕ → List TimeBin → List Bool → List Bool → List ℕ
 svg_picture marker listed s records slips returns rises missing bins outages gaps =
-    svg_start marker (never_end bins (length listed) + 230)
+    svg_start marker (never_end (spacing_of bins (length listed)) bins (length listed) + 230)
     ++ svg_span s ++ svg_numbers records (satellites_in bins) slips returns rises missing
-    ++ svg_body listed s bins outages gaps (never_end bins (length listed))
+    ++ svg_body (spacing_of bins (length listed)) listed s bins outages gaps (never_end (spacing_of bins (length listed)) bins (length listed))
 
 -- formula
 -- the picture of a file without records

@@ -60,6 +60,7 @@ mod outages;
 mod passes;
 mod scale;
 mod signs;
+mod spacing;
 mod survey;
 mod svg_axis;
 mod svg_bands;

@@ -6,6 +6,7 @@ ghost use Rattle.rtk_chart.specs.SvgPicture.{height_of, height_if_drawn, band_to
 use crate::never::put_label;
 use crate::outages::outage_flags;
 use crate::signs::is_drawn;
+use crate::spacing::Spacing;
 use crate::svg_codes::{codes_before, put_code_lines};
 use crate::svg_layers::put_runs_layer;
 use crate::svg_text::put_between;
@@ -19,41 +20,39 @@ const TOP: u64 = 140;
 
 const STRIPE_START: &[u8] = b"</title>\n<rect class='b";
 
-const NAME_START: &[u8] = b"<text class='name' x='-40' y='";
-
-// The height of the band of a satellite with so many codes, in units of SVG.
-fn height_of(bins: &[TimeBin], listed: usize, place: usize) -> u64
+// The height of the band of a satellite in a file of so many codes, in units of SVG.
+fn height_of(spacing: Spacing, bins: &[TimeBin], listed: usize, place: usize) -> u64
     requires listed { listed ≤ 16 }
     requires place { place < 32 }
-    ensures value { result ≡ height_of bins.now listed place }
-    ensures least { 36 ≤ result }
+    ensures value { result ≡ height_of spacing bins.now listed place }
+    ensures least { 24 ≤ result }
     ensures bound { result ≤ 366 }
 {
-    22 * codes_before(bins, place, listed).max(1) + 14
+    spacing.band_height(codes_before(bins, place, listed))
 }
 
-fn height_if_drawn(bins: &[TimeBin], listed: usize, place: usize) -> u64
+fn height_if_drawn(spacing: Spacing, bins: &[TimeBin], listed: usize, place: usize) -> u64
     requires listed { listed ≤ 16 }
     requires place { place < 32 }
-    ensures value { result ≡ height_if_drawn bins.now listed place }
+    ensures value { result ≡ height_if_drawn spacing bins.now listed place }
     ensures bound { result ≤ 366 }
 {
     if is_drawn(bins, place) {
-        return height_of(bins, listed, place);
+        return height_of(spacing, bins, listed, place);
     }
     0
 }
 
 /// How far from the top the band of a satellite begins, or behind the last satellite the bands end.
-pub(crate) fn band_top(bins: &[TimeBin], listed: usize, place: usize) -> u64
+pub(crate) fn band_top(spacing: Spacing, bins: &[TimeBin], listed: usize, place: usize) -> u64
     requires listed { listed ≤ 16 }
     requires place { place ≤ 32 }
-    ensures value { result ≡ band_top bins.now listed place }
+    ensures value { result ≡ band_top spacing bins.now listed place }
     ensures bound { result ≤ 11_852 }
 {
     let mut top = TOP;
     for before in 0..place {
-        top += height_if_drawn(bins, listed, before);
+        top += height_if_drawn(spacing, bins, listed, before);
     }
     top
 }
@@ -61,6 +60,7 @@ pub(crate) fn band_top(bins: &[TimeBin], listed: usize, place: usize) -> u64
 // The stripe and the label of a band.
 fn put_band_start(
     text: &mut Vec<u8>,
+    spacing: Spacing,
     top: u64,
     satellite: u8,
     stripe: u64,
@@ -68,13 +68,14 @@ fn put_band_start(
 ) -> Result<(), AllocError>
     requires satellite { satellite ≤ 32 }
     requires height { height ≤ 366 }
-    ensures { OnOk result (text.new.items ≡ text.old.items ++ band_start top satellite stripe height) }
+    ensures { OnOk result (text.new.items ≡ text.old.items ++ band_start spacing top satellite stripe height) }
 {
     put_between(text, b"<g transform='translate(110 ", top, b")'>\n<title>")?;
     put_label(text, satellite)?;
     put_between(text, STRIPE_START, stripe, b"' x='-110' width='1620'")?;
     put_between(text, b" height='", height, b"'/>\n")?;
-    put_between(text, NAME_START, height / 2 + 9, b"'>")?;
+    let name_y = height / 2 + spacing.name_drop();
+    put_between(text, spacing.name_start(), name_y, b"'>")?;
     put_label(text, satellite)?;
     text.extend_from_slice(b"</text>\n")?;
     Ok(())
@@ -112,6 +113,7 @@ fn put_outages(
 fn put_band(
     alloc: Global,
     text: &mut Vec<u8>,
+    spacing: Spacing,
     codes: &[Code],
     bins: &[TimeBin],
     outages: &[bool],
@@ -121,13 +123,13 @@ fn put_band(
     requires place { place < 32 }
     requires few { length bins.now ≤ 1440 }
     requires listed { length codes.now ≤ 16 }
-    ensures { OnOk result (text.new.items ≡ text.old.items ++ band_text codes.now bins.now outages.now place before) }
+    ensures { OnOk result (text.new.items ≡ text.old.items ++ band_text spacing codes.now bins.now outages.now place before) }
 {
-    let height = height_of(bins, codes.len(), place);
-    let top = band_top(bins, codes.len(), place);
-    put_band_start(text, top, place as u8 + 1, before % 2, height)?;
+    let height = height_of(spacing, bins, codes.len(), place);
+    let top = band_top(spacing, bins, codes.len(), place);
+    put_band_start(text, spacing, top, place as u8 + 1, before % 2, height)?;
     put_outages(alloc, text, outages, bins.len(), place, height - 8)?;
-    put_code_lines(alloc, text, bins, place, codes)?;
+    put_code_lines(alloc, text, spacing, bins, place, codes)?;
     text.extend_from_slice(b"</g>\n")?;
     Ok(())
 }
@@ -135,6 +137,7 @@ fn put_band(
 fn put_band_if_drawn(
     alloc: Global,
     text: &mut Vec<u8>,
+    spacing: Spacing,
     codes: &[Code],
     bins: &[TimeBin],
     outages: &[bool],
@@ -143,11 +146,11 @@ fn put_band_if_drawn(
     requires place { place < 32 }
     requires few { length bins.now ≤ 1440 }
     requires listed { length codes.now ≤ 16 }
-    ensures { OnOk result (text.new.items ≡ text.old.items ++ band_if_drawn codes.now bins.now outages.now place) }
+    ensures { OnOk result (text.new.items ≡ text.old.items ++ band_if_drawn spacing codes.now bins.now outages.now place) }
 {
     if is_drawn(bins, place) {
         let before = drawn_before(bins, place);
-        put_band(alloc, text, codes, bins, outages, place, before)?;
+        put_band(alloc, text, spacing, codes, bins, outages, place, before)?;
     }
     Ok(())
 }
@@ -156,16 +159,17 @@ fn put_band_if_drawn(
 pub(crate) fn put_bands(
     alloc: Global,
     text: &mut Vec<u8>,
+    spacing: Spacing,
     codes: &[Code],
     bins: &[TimeBin],
     outages: &[bool],
 ) -> Result<(), AllocError>
     requires few { length bins.now ≤ 1440 }
     requires listed { length codes.now ≤ 16 }
-    ensures { OnOk result (text.new.items ≡ text.old.items ++ bands_text codes.now bins.now outages.now) }
+    ensures { OnOk result (text.new.items ≡ text.old.items ++ bands_text spacing codes.now bins.now outages.now) }
 {
     for place in 0..32 {
-        put_band_if_drawn(alloc, text, codes, bins, outages, place)?;
+        put_band_if_drawn(alloc, text, spacing, codes, bins, outages, place)?;
     }
     Ok(())
 }

@@ -6,6 +6,7 @@ ghost use Rattle.rtk_chart.specs.SvgPicture.{column_numbers, code_numbers, drawn
 use crate::layer::Layer;
 use crate::never::put_label;
 use crate::signs::has_code;
+use crate::spacing::Spacing;
 use crate::svg_layers::{columns_of, put_levels, put_locks, put_missing};
 use crate::svg_text::put_between;
 use crate::time_bin::TimeBin;
@@ -89,10 +90,11 @@ pub(crate) fn codes_before(bins: &[TimeBin], place: usize, at: usize) -> u64
     count
 }
 
-// The line of a code that the satellite has. The lines lie 22 apart, and the first one 7 below the top of the band.
+// The line of a code that the satellite has.
 fn put_code_line(
     alloc: Global,
     text: &mut Vec<u8>,
+    spacing: Spacing,
     bins: &[TimeBin],
     place: usize,
     at: usize,
@@ -101,15 +103,20 @@ fn put_code_line(
     requires place { place < 32 }
     requires few { length bins.now ≤ 1440 }
     requires listed { at < 16 }
-    ensures { OnOk result (text.new.items ≡ text.old.items ++ code_line bins.now place at code) }
+    ensures { OnOk result (text.new.items ≡ text.old.items ++ code_line spacing bins.now place at code) }
 {
-    let top = 22 * codes_before(bins, place, at) + 7;
-    put_between(text, b"<g transform='translate(0 ", top, b")'>\n<title>")?;
+    let top = spacing.line_top(codes_before(bins, place, at));
+    put_between(
+        text,
+        b"<g transform='translate(0 ",
+        top,
+        spacing.line_start(),
+    )?;
     put_label(text, place as u8 + 1)?;
     text.extend_from_slice(b" ")?;
     text.extend_from_slice(&code.name())?;
     put_drawn_bar(alloc, text, bins, place, at)?;
-    text.extend_from_slice(b"<text class='code' x='-6' y='16'>")?;
+    text.extend_from_slice(spacing.code_start())?;
     text.extend_from_slice(&code.name())?;
     text.extend_from_slice(b"</text>\n</g>\n")?;
     Ok(())
@@ -120,6 +127,7 @@ fn put_code_line(
 fn put_line_if_had(
     alloc: Global,
     text: &mut Vec<u8>,
+    spacing: Spacing,
     bins: &[TimeBin],
     place: usize,
     at: usize,
@@ -128,10 +136,10 @@ fn put_line_if_had(
     requires place { place < 32 }
     requires few { length bins.now ≤ 1440 }
     requires listed { at < 16 }
-    ensures { OnOk result (text.new.items ≡ text.old.items ++ line_if_had bins.now place at code) }
+    ensures { OnOk result (text.new.items ≡ text.old.items ++ line_if_had spacing bins.now place at code) }
 {
     if has_code(bins, place, at) {
-        put_code_line(alloc, text, bins, place, at, code)?;
+        put_code_line(alloc, text, spacing, bins, place, at, code)?;
     }
     Ok(())
 }
@@ -140,6 +148,7 @@ fn put_line_if_had(
 pub(crate) fn put_code_lines(
     alloc: Global,
     text: &mut Vec<u8>,
+    spacing: Spacing,
     bins: &[TimeBin],
     place: usize,
     codes: &[Code],
@@ -147,10 +156,10 @@ pub(crate) fn put_code_lines(
     requires place { place < 32 }
     requires few { length bins.now ≤ 1440 }
     requires listed { length codes.now ≤ 16 }
-    ensures { OnOk result (text.new.items ≡ text.old.items ++ code_lines bins.now place 0 codes.now) }
+    ensures { OnOk result (text.new.items ≡ text.old.items ++ code_lines spacing bins.now place 0 codes.now) }
 {
     for (at, code) in codes.iter().enumerate() {
-        put_line_if_had(alloc, text, bins, place, at, *code)?;
+        put_line_if_had(alloc, text, spacing, bins, place, at, *code)?;
     }
     Ok(())
 }

@@ -7,6 +7,7 @@ ghost use Rattle.rtk_chart.specs.Steps.Pictures.{svg_of_grid};
 
 use crate::grid::Grid;
 use crate::scale::Scale;
+use crate::spacing::Spacing;
 use crate::survey::Survey;
 use crate::svg_axis::{put_gaps, put_satellites, put_ticks};
 use crate::svg_bands::{band_top, put_bands};
@@ -39,11 +40,12 @@ pub(crate) const STYLE: &[u8] = b"<style>\
 @media (max-width:700px){\
 text{font-size:30px!important}.tick{font-size:32px!important}.tick:nth-of-type(2n+1){display:none!important}\
 .marker{font-size:38px!important}.name{font-size:34px!important}\
-.code{font-size:19px!important}g>g>.code,.never{font-size:22px!important}}\
+.code{font-size:19px!important}g>g>.code{font-size:22px!important}.never{font-size:20px!important}\
+.low{font-size:24px!important}.tiny{display:none!important}}\
 .page{fill:#fff}.b0{fill:none}.b1{fill:#f0f0f0}\
 text{font-family:sans-serif;font-size:24px;fill:#222}\
 .marker{font-size:32px;font-weight:bold}.name{font-size:30px}\
-.system{font-weight:bold}.name,.code{text-anchor:end}.code,.never{font-size:19px}.tick{font-size:24px;text-anchor:middle}\
+.system{font-weight:bold}.name,.code{text-anchor:end}.code,.never{font-size:19px}.low{font-size:19px}.tiny{font-size:10px;display:inline}.tick{font-size:24px;text-anchor:middle}\
 path{fill:none}\
 .l0,.l1,.l2,.l3,.l4,.l5,.l6,.l7,.l8,.l9{stroke-width:14}\
 .l0{stroke:#ccc}.l1{stroke:#e9d57e}.l2{stroke:#cfcf7a}.l3{stroke:#a9c07c}.l4{stroke:#83b083}\
@@ -178,6 +180,7 @@ fn put_legend(text: &mut Vec<u8>, top: u64) -> Result<(), AllocError>
 fn put_body(
     alloc: Global,
     text: &mut Vec<u8>,
+    spacing: Spacing,
     codes: &[Code],
     scale: &Scale,
     grid: &Grid,
@@ -189,12 +192,12 @@ fn put_body(
     requires gaps { length grid.now.gaps.items ≡ scale.now.bins }
     requires end { end ≤ 12_236 }
     ensures { OnOk result (text.new.items
-        ≡ text.old.items ++ svg_body codes.now scale.now grid.now.bins.items grid.now.outages.items grid.now.gaps.items end) }
+        ≡ text.old.items ++ svg_body spacing codes.now scale.now grid.now.bins.items grid.now.outages.items grid.now.gaps.items end) }
 {
     let (bins, outages) = (grid.bins.as_slice(), grid.outages.as_slice());
     text.extend_from_slice(SYSTEM)?;
-    put_bands(alloc, text, codes, bins, outages)?;
-    let bands_end = band_top(bins, codes.len(), 32);
+    put_bands(alloc, text, spacing, codes, bins, outages)?;
+    let bands_end = band_top(spacing, bins, codes.len(), 32);
     put_never_texts(text, bins, bands_end + 18, codes)?;
     put_gaps(text, end, grid.gaps.as_slice())?;
     put_satellites(text, end + 26, bins)?;
@@ -205,12 +208,12 @@ fn put_body(
 }
 
 // How far from the top the lines end that name the codes that satellites have nowhere, below the bands.
-fn never_end(bins: &[TimeBin], listed: usize) -> u64
+fn never_end(spacing: Spacing, bins: &[TimeBin], listed: usize) -> u64
     requires { listed ≤ 16 }
-    ensures value { result ≡ never_end bins.now listed }
+    ensures value { result ≡ never_end spacing bins.now listed }
     ensures bound { result ≤ 12_236 }
 {
-    band_top(bins, listed, 32) + 24 * lacked_before(bins, listed)
+    band_top(spacing, bins, listed, 32) + 24 * lacked_before(bins, listed)
 }
 
 /// The picture of a file with records.
@@ -229,7 +232,8 @@ pub(crate) fn svg_picture(
     ensures { IfOk result (λ text. text.items ≡ svg_of_grid marker.now codes.now scale.now survey.now grid.now) }
 {
     let satellites = drawn_before(grid.bins.as_slice(), 32);
-    let end = never_end(grid.bins.as_slice(), codes.len());
+    let spacing = Spacing::of(grid.bins.as_slice(), codes.len());
+    let end = never_end(spacing, grid.bins.as_slice(), codes.len());
     let mut text = Vec::new(alloc);
     put_start(&mut text, marker, end + 230)?;
     put_span(&mut text, scale)?;
@@ -242,7 +246,7 @@ pub(crate) fn svg_picture(
         grid.rises,
         grid.missing,
     )?;
-    put_body(alloc, &mut text, codes, scale, grid, end)?;
+    put_body(alloc, &mut text, spacing, codes, scale, grid, end)?;
     Ok(text)
 }
 
