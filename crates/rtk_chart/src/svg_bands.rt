@@ -44,12 +44,7 @@ fn height_if_drawn(spacing: Spacing, bins: &[TimeBin], listed: usize, place: usi
 }
 
 /// How far from the top the band of a satellite begins, or behind the last satellite the bands end.
-pub(crate) fn band_top(
-    spacing: Spacing,
-    bins: &[TimeBin],
-    listed: usize,
-    place: usize,
-) -> u64
+pub(crate) fn band_top(spacing: Spacing, bins: &[TimeBin], listed: usize, place: usize) -> u64
     requires listed { listed ≤ 16 }
     requires place { place ≤ 32 }
     ensures value { result ≡ band_top spacing bins.now listed place }

@@ -106,7 +106,12 @@ fn put_code_line(
     ensures { OnOk result (text.new.items ≡ text.old.items ++ code_line spacing bins.now place at code) }
 {
     let top = spacing.line_top(codes_before(bins, place, at));
-    put_between(text, b"<g transform='translate(0 ", top, spacing.line_start())?;
+    put_between(
+        text,
+        b"<g transform='translate(0 ",
+        top,
+        spacing.line_start(),
+    )?;
     put_label(text, place as u8 + 1)?;
     text.extend_from_slice(b" ")?;
     text.extend_from_slice(&code.name())?;

@@ -33,12 +33,7 @@ pub(crate) fn lacked_before(bins: &[TimeBin], at: usize) -> u64
     count
 }
 
-fn put_name(
-    text: &mut Vec<u8>,
-    bins: &[TimeBin],
-    at: usize,
-    place: usize,
-) -> Result<(), AllocError>
+fn put_name(text: &mut Vec<u8>, bins: &[TimeBin], at: usize, place: usize) -> Result<(), AllocError>
     requires { place < 32 }
     ensures { OnOk result (text.new.items ≡ text.old.items ++ never_name bins.now at place) }
 {
