@@ -67,6 +67,7 @@ twice() {
     expect "chart_$1_twice" 2 '' "$(error "the argument '$option' cannot be used multiple times" "chart [OPTIONS] <FILE>")"
 }
 # The picture of chosen satellites is that of the file without the rows of the others.
+# pins: narrowed, is_there, is_named
 for form in '' --text; do
     chart $form "$marks" --satellites G05,G12,G21
     cp out want
