@@ -67,13 +67,13 @@ twice() {
     expect "chart_$1_twice" 2 '' "$(error "the argument '$option' cannot be used multiple times" "chart [OPTIONS] <FILE>")"
 }
 # The picture of chosen satellites is that of the file without the rows of the others.
-# pins: narrowed, is_there, is_named
 for form in '' --text; do
     chart $form "$marks" --satellites G05,G12,G21
     cp out want
     chart $form --systems G "$marks"; leaves "chart_of_gps$form" 0 want /dev/null
     chart $form --systems EG --satellites R09 "$marks"; leaves "chart_of_either$form" 0 want /dev/null
 done
+# pins: narrowed, is_there, is_named
 chart --text --satellites G05,R09 "$marks"
 grep -c '^G' out >got && echo 2 >want # the heading and G05
 same one_satellite_is_drawn got want
