@@ -2,6 +2,7 @@
 
 from __future__ import annotations
 
+import fcntl
 import os
 import subprocess
 import threading
@@ -56,11 +57,23 @@ def write_all(descriptor: int, piece: bytes) -> None:
         left = left[os.write(descriptor, left) :]
 
 
+def above_standard(descriptor: int) -> int:
+    """The same end of a pipe with another number than those of standard input, output and error, which the program gets anew. An end has
+    such a number where Python was started without these three."""
+    if descriptor > 2:
+        return descriptor
+    try:
+        return fcntl.fcntl(descriptor, fcntl.F_DUPFD_CLOEXEC, 3)
+    finally:
+        os.close(descriptor)
+
+
 class Pipe:
     """A pipe that the program reads. Each end is closed once."""
 
     def __init__(self) -> None:
-        self.reading, self.writing = os.pipe()
+        reading, writing = os.pipe()
+        self.reading, self.writing = above_standard(reading), above_standard(writing)
 
     def close_reading(self) -> None:
         """Closes the end of the program, which has a copy of it."""

@@ -6,6 +6,7 @@ import gzip
 import io
 import os
 import subprocess
+import sys
 import time
 from datetime import datetime, timedelta, timezone
 from pathlib import Path
@@ -81,6 +82,14 @@ class Inputs(Case):
         Path("base.gz").write_bytes(gzip.compress(BASE))
         with gzip.open("base.gz") as packed, open(EXAMPLES / "base.rtcm", "rb") as plain:
             self.converts(packed, plain, io.BytesIO(P), EXAMPLES / "base.rtcm")
+
+    def test_several_open_files_without_standard_streams(self) -> None:
+        """As in a service: the pipes of the links would else get the numbers of standard input, output and error."""
+        script = (f"import io, os, rtcm2rinex; done = rtcm2rinex.convert([io.BytesIO({BASE!r}) for _ in range(3)], **{TWO_CODES!r}); "
+            "open('made.rnx', 'wb').write(done.text)")
+        words = ["sh", "-c", 'exec "$@" <&- >&- 2>&-', "sh", sys.executable, "-B", "-c", script]
+        ran = subprocess.run(words, timeout=PATIENCE / 10)
+        self.assertEqual((ran.returncode, Path("made.rnx").read_bytes()), (0, example("base.rnx")))
 
     def test_a_file_that_is_read_from_its_place_on(self) -> None:
         with open(EXAMPLES / "base.rtcm", "rb") as file:
