@@ -10,7 +10,7 @@ from pathlib import Path
 from typing import Dict, List, Optional, Sequence, Tuple, Union, cast
 
 from .faults import PREFIX, CapturesError, FormError, NoRecordError
-from .inputs import PIECE, Input, Name, Readable, is_open, listed, word_of
+from .inputs import Input, Name, Readable, is_open, listed, pieces_of, word_of
 from .program import Location, Ran, fail, lines_of, run
 from .reports import COUNTS, Report, read_report
 from .words import Codes, Time, Value, code_word, gps_word, option_words, present, utc_word
@@ -115,7 +115,7 @@ def named(given: Input, folder: Path, number: int) -> Name:
         return cast(Name, given)
     copy = folder / f"{number}.rtcm"
     with open(copy, "wb") as file:
-        while piece := cast(Readable, given).read(PIECE):
+        for piece in pieces_of(cast(Readable, given)):
             file.write(piece)
     return copy
 

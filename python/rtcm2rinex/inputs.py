@@ -2,12 +2,13 @@
 
 from __future__ import annotations
 
+import errno
 import fcntl
 import os
 import subprocess
 import threading
 from types import TracebackType
-from typing import List, Optional, Protocol, Sequence, Tuple, Type, Union, cast
+from typing import Iterator, List, Optional, Protocol, Sequence, Tuple, Type, Union, cast
 
 PIECE = 65_536  # bytes
 PATIENCE = 1.0  # seconds to wait for a file that is no longer needed
@@ -48,6 +49,14 @@ def listed(given: Union[Input, Sequence[Input]]) -> List[Input]:
     if isinstance(given, (str, bytes, os.PathLike)) or is_open(cast(Input, given)):
         return [cast(Input, given)]
     return list(cast(Sequence[Input], given))
+
+
+def pieces_of(source: Readable) -> Iterator[bytes]:
+    """The bytes of an open file to its end. A file that does not wait gives None where nothing has come yet, which is no end."""
+    while piece := source.read(PIECE):
+        yield piece
+    if piece is None:
+        raise BlockingIOError(errno.EAGAIN, "the open file does not wait for its bytes, so its end is not known")
 
 
 def write_all(descriptor: int, piece: bytes) -> None:
@@ -99,7 +108,7 @@ class Pump(threading.Thread):
     def run(self) -> None:
         """Copies to the end. A program that has ended reads no more, which is no fault here."""
         try:
-            while piece := self.source.read(PIECE):
+            for piece in pieces_of(self.source):
                 write_all(self.pipe.writing, piece)
         except BrokenPipeError:
             pass

@@ -110,6 +110,16 @@ class Inputs(Case):
             rtcm2rinex.convert(io.StringIO("text"), **TWO_CODES, output="made.rnx")
         self.assertEqual(self.there(), ["cut.gz"])
 
+    def test_an_open_file_that_does_not_wait(self) -> None:
+        """Half a capture in a pipe whose sender has more is no whole capture."""
+        for call in (lambda it: rtcm2rinex.convert(it, **TWO_CODES, output="made.rnx"), rtcm2rinex.auto, rtcm2rinex.summary):
+            reading, writing = os.pipe()
+            os.set_blocking(reading, False)
+            os.write(writing, P)
+            with open(reading, "rb", buffering=0) as file, open(writing, "wb"), self.assertRaises(BlockingIOError):
+                call(file)
+        self.assertEqual(self.there(), [])
+
     def test_bytes_are_no_name(self) -> None:
         text = (EXAMPLES / "base.rnx").read_bytes()
         calls = {
