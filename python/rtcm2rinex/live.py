@@ -2,6 +2,8 @@
 
 from __future__ import annotations
 
+import errno
+import io
 import subprocess
 import threading
 from queue import Empty, SimpleQueue
@@ -71,11 +73,21 @@ class Outlet(threading.Thread):
         line = self.source.readline(limit)
         try:
             if self.copy is not None and line and self.fault_of_copy is None:
-                self.copy.write(line)
-                self.copy.flush()
+                write_whole(self.copy, line)
         except Exception as fault:
             self.fault_of_copy = fault
         return line
+
+
+def write_whole(file: IO[bytes], text: bytes) -> None:
+    """Writes all of a text to an open file and flushes it. A file without a buffer may take a part at a time, or nothing if it does not
+    wait."""
+    while text:
+        taken = file.write(text)
+        if taken is None and isinstance(file, io.RawIOBase):
+            raise BlockingIOError(errno.EAGAIN, "the output does not wait until there is room")
+        text = text[len(text) if taken is None else taken :]
+    file.flush()
 
 
 class Told(threading.Thread):

@@ -110,6 +110,29 @@ class Flow(Case):
             with open("made.rnx", "rb") as grown:
                 self.assertEqual([it.time for it in rtcm2rinex.epochs(grown)], [NOON])
 
+    def test_an_output_that_takes_a_few_bytes_at_a_time(self) -> None:
+        class Narrow(io.RawIOBase):
+            text = b""
+
+            def write(self, piece: bytes) -> int:
+                self.text += piece[:10]
+                return min(len(piece), 10)
+
+        class Mute(list):
+            """A file that does not say how many bytes it takes."""
+
+            def write(self, piece: bytes) -> None:
+                self.append(piece)
+
+            def flush(self) -> None:
+                pass
+
+        narrow, mute = Narrow(), Mute()
+        for output in narrow, mute:
+            with Converter(**TWO_CODES, output=output) as converter:
+                converter.feed(BASE)
+        self.assertEqual([narrow.text, b"".join(mute)], [(EXAMPLES / "base.rnx").read_bytes()] * 2)
+
     def test_an_interrupt_leaves_the_last_records(self) -> None:
         """Ctrl+C in a terminal sends SIGINT to all processes of a group, which are here the script and what it starts."""
         with subprocess.Popen([sys.executable, "-c", INTERRUPTED], stdin=subprocess.PIPE, stdout=subprocess.PIPE,
@@ -165,6 +188,14 @@ class Faults(Case):
             converter._process.kill()
             converter.finish()
         self.assertEqual((raised.exception.status, raised.exception.line), (-9, "ended by signal 9"))
+        self.closed()
+
+    def test_an_output_that_does_not_wait(self) -> None:
+        reading, writing = os.pipe()
+        os.set_blocking(writing, False)
+        with open(reading, "rb"), open(writing, "wb", buffering=0) as full:
+            with self.assertRaises(BlockingIOError), Converter(**TWO_CODES, output=full) as converter:
+                converter.feed(observations_at(*range(3600)))
         self.closed()
 
     def test_an_output_that_fails(self) -> None:
