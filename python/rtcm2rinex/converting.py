@@ -9,10 +9,10 @@ from datetime import datetime
 from pathlib import Path
 from typing import Dict, List, Optional, Sequence, Tuple, Union, cast
 
-from .faults import PREFIX, CapturesError, FormError, NoRecordError
+from .faults import CapturesError, FormError, NoRecordError
 from .inputs import Input, Name, Readable, is_open, listed, pieces_of, word_of
 from .program import Location, Ran, fail, lines_of, run
-from .reports import COUNTS, Report, read_report
+from .reports import COUNTS, Report, read_report, time_in
 from .words import Codes, Time, Value, code_word, gps_word, option_words, present, utc_word
 from .writing import Written, output_of
 
@@ -153,8 +153,8 @@ def found_of(lines: Sequence[str], notes: Tuple[str, ...]) -> Found:
     match = SPAN.fullmatch(lines[0])
     if match is None:
         raise FormError(1, f"{lines[0]!r} has no first and last epoch")
+    first, last = (time_in(1, lines[0], it) for it in (match[1], match[2]))
     commands = list(lines[1:])
     label = commands.pop() if commands and commands[-1].startswith("rtcm2rinex label ") else None
     others = tuple(match[4].split(", ")) if match[4] else ()
-    first, last = (datetime.fromisoformat(it) for it in (match[1], match[2]))
     return Found(first, last, match[3], others, "\n".join(commands), label, notes)
