@@ -124,7 +124,6 @@ class Inputs:
     def __init__(self, given: Sequence[Input]) -> None:
         self.pumps: List[Pump] = []
         self.words: List[str] = []
-        self.has_begun = False
         try:
             for it in given:
                 self.words.append(self.open_word(cast(Readable, it)) if is_open(it) else word_of(cast(Name, it)))
@@ -149,7 +148,6 @@ class Inputs:
 
     def begin(self) -> None:
         """Begins to copy, once the program has the ends that it reads."""
-        self.has_begun = True
         for pump in self.pumps:
             pump.pipe.close_reading()
             pump.start()
@@ -171,7 +169,7 @@ class Inputs:
         """Closes all ends. Once a program has ended, a thread closes its end with its next write, and may wait for its file until then."""
         for pump in self.pumps:
             pump.pipe.close_reading()
-            if self.has_begun:
-                pump.join(PATIENCE)
-            else:
+            if pump.ident is None:  # it was never started
                 pump.pipe.close_writing()
+            else:
+                pump.join(PATIENCE)

@@ -140,11 +140,15 @@ class Converter:
         except BaseException:
             self._inputs.close()
             raise
-        self._inputs.begin()
         self._outlet = Outlet(cast("IO[bytes]", self._process.stdout), self._output)
         self._told = Told(cast("IO[bytes]", self._process.stderr))
-        self._outlet.start()
-        self._told.start()
+        try:
+            self._inputs.begin()
+            self._outlet.start()
+            self._told.start()
+        except BaseException:  # as where there are too many threads
+            self._close()
+            raise
         return self
 
     def __exit__(self, kind: Optional[Type[BaseException]], fault: Optional[BaseException], trace: Optional[TracebackType]) -> None:
@@ -240,8 +244,10 @@ class Converter:
         process.wait()
         for link in self._links:
             link.end()
+        self._inputs.close()
         for thread in (*self._inputs.pumps, self._outlet, self._told):
-            thread.join()
+            if thread.ident is not None:  # it was started
+                thread.join()
         for source in (process.stdout, process.stderr):
             if source is not None:
                 source.close()

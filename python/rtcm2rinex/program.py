@@ -100,8 +100,8 @@ def run(program: Optional[Location], words: Sequence[str], given: Sequence[Input
     """Runs the program to its end. Another status than these raises a fault, and status 3 the class `third`."""
     with Inputs(given) as inputs:
         process = start(program, words, inputs, subprocess.PIPE if out is None else out)
-        inputs.begin()
         try:
+            inputs.begin()
             text, told = process.communicate()
         except BaseException:
             process.kill()

@@ -9,6 +9,7 @@ import subprocess
 import sys
 import threading
 import time
+from unittest import mock
 
 import rtcm2rinex
 from rtcm2rinex import Converter, Counts, LateMessage
@@ -31,6 +32,11 @@ with rtcm2rinex.Converter(**{TWO_CODES}) as converter:
     except KeyboardInterrupt:
         print(converter.finish().counts.epochs, [str(it.time) for it in converter.records()])
 """
+
+
+def refused(thread: threading.Thread) -> None:
+    """What starting a thread does where the system has no room for one."""
+    raise RuntimeError("can't start new thread")
 
 
 def first_record(converter: Converter) -> rtcm2rinex.Epoch:
@@ -167,6 +173,22 @@ class Faults(Case):
         with self.assertRaises(KeyboardInterrupt), Converter(**TWO_CODES, links=3) as converter:
             converter.feed(observations_at(*range(3000)), link=3)
             raise KeyboardInterrupt
+        self.closed()
+
+    def test_too_many_threads(self) -> None:
+        """Whichever thread cannot be started, nothing is left."""
+        for count in range(4):
+            starts = iter([threading.Thread.start] * count)
+
+            def start(thread: threading.Thread) -> None:
+                next(starts, refused)(thread)
+
+            with self.subTest(count), mock.patch.object(threading.Thread, "start", start), self.assertRaises(RuntimeError):
+                with Converter(**TWO_CODES, links=2):
+                    pass
+            self.closed()
+        with mock.patch.object(threading.Thread, "start", refused), self.assertRaises(RuntimeError):
+            rtcm2rinex.convert(io.BytesIO(BASE), **TWO_CODES)
         self.closed()
 
     def test_refused_words(self) -> None:
