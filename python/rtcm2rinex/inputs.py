@@ -5,6 +5,7 @@ from __future__ import annotations
 import errno
 import fcntl
 import os
+import signal
 import subprocess
 import threading
 from types import TracebackType
@@ -106,7 +107,9 @@ class Pump(threading.Thread):
         self.fault: Optional[BaseException] = None
 
     def run(self) -> None:
-        """Copies to the end. A program that has ended reads no more, which is no fault here."""
+        """Copies to the end. A program that has ended reads no more, which is no fault here, and does not end a script whose SIGPIPE has its
+        first meaning again."""
+        signal.pthread_sigmask(signal.SIG_BLOCK, [signal.SIGPIPE])  # of this thread
         try:
             for piece in pieces_of(self.source):
                 write_all(self.pipe.writing, piece)

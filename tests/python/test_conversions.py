@@ -91,6 +91,19 @@ class Inputs(Case):
         ran = subprocess.run(words, timeout=PATIENCE / 10)
         self.assertEqual((ran.returncode, Path("made.rnx").read_bytes()), (0, example("base.rnx")))
 
+    def test_a_script_that_a_closed_pipe_ends(self) -> None:
+        """As scripts are that write to `head`. The program that refuses its words reads nothing of the pipe."""
+        script = f"""
+import io, signal, rtcm2rinex
+signal.signal(signal.SIGPIPE, signal.SIG_DFL)
+try:
+    rtcm2rinex.convert(io.BytesIO(bytes(1_000_000)), **{({**TWO_CODES, "codes": "9Z"})!r})
+except rtcm2rinex.WordsError as fault:
+    print(fault.line)
+"""
+        ran = subprocess.run([sys.executable, "-B", "-c", script], capture_output=True, text=True)
+        self.assertEqual((ran.stdout, ran.returncode), ("bad --codes\n", 0))
+
     def test_a_file_that_is_read_from_its_place_on(self) -> None:
         with open(EXAMPLES / "base.rtcm", "rb") as file:
             file.seek(len(P))
