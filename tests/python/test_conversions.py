@@ -178,6 +178,20 @@ class Outputs(Case):
             rtcm2rinex.convert([EXAMPLES / "base.rtcm", self.folder], **TWO_CODES, output="made.rnx")
         self.assertEqual(self.there(), [])
 
+    def test_an_output_that_is_no_regular_file(self) -> None:
+        """It is not replaced, as by the program itself: a call with /dev/null would take it from all others."""
+        Path("target").write_text("old")
+        Path("link").symlink_to("target")
+        Path("folder").mkdir()
+        os.mkfifo("pipe")
+        for name in "link", "folder", "pipe", "":
+            with self.subTest(name), self.assertRaises(FileExistsError):
+                rtcm2rinex.convert(EXAMPLES / "base.rtcm", **TWO_CODES, output=name, force=True)
+            with self.subTest(name), self.assertRaises(rtcm2rinex.WorkError):
+                rtcm2rinex.auto(EXAMPLES / "dated.rtcm", output=name, force=True)
+        self.assertEqual(self.there(), ["folder", "link", "pipe", "target"])
+        self.assertTrue(Path("link").is_symlink() and Path("pipe").is_fifo())
+
     def test_an_output_that_is_an_input(self) -> None:
         Path("base").write_bytes(BASE)
         os.link("base", "linked")
