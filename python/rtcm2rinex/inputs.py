@@ -107,8 +107,8 @@ class Pump(threading.Thread):
         self.fault: Optional[BaseException] = None
 
     def run(self) -> None:
-        """Copies to the end. A program that has ended reads no more, which is no fault here, and does not end a script whose SIGPIPE has its
-        first meaning again."""
+        """Copies to the end. A program that has ended reads no more, which is no fault here, and does not end a script whose SIGPIPE has
+        its first meaning again."""
         signal.pthread_sigmask(signal.SIG_BLOCK, [signal.SIGPIPE])  # of this thread
         try:
             for piece in pieces_of(self.source):

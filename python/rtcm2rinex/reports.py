@@ -103,7 +103,8 @@ def read_report(lines: Sequence[str], first: int = 1) -> Report:
         if match := LATE.fullmatch(line):
             late.append(LateMessage(int(match[1]), int(match[2]), time_in(number, line, match[3]) if match[3] else None))
         elif match := CONFLICT.fullmatch(line):
-            conflicts.append(Conflict(int(match[1]), int(match[2]), time_in(number, line, match[3]) if match[3] else None, match[4], match[5]))
+            epoch = time_in(number, line, match[3]) if match[3] else None
+            conflicts.append(Conflict(int(match[1]), int(match[2]), epoch, match[4], match[5]))
         elif match := REFUSED.fullmatch(line):
             refused.append(RefusedMessage(int(match[1]), match[2], whole(match[3])))
         else:
