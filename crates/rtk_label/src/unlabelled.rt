@@ -106,22 +106,23 @@ struct Reading {
     front: ArrayVec<u8, FRONT>,
 }
 
-// Reads a text of ten lines at least, whatever follows it, of which this is the marker's number. Where
-// the lines after the third stand depends on the number, since its line may be absent.
-fn reading_of(text: &[u8], number: Field) -> Reading
+// Reads a text of ten lines at least, whatever follows it. Of its lines the fourth is that of this
+// marker's number, with so many bytes, or is absent.
+fn reading_of(text: &[u8], number: Field, from: usize) -> Reading
     requires ten { 810 ≤ length text.now }
     requires number { IsNumberIn (take 81 (drop 243 text.now)) number.items }
+    requires blank { length number.items ≡ 0 → from ≡ 0 }
+    requires filled { 0 < length number.items → from ≡ 81 }
     ensures labelled { (rest : List ℕ)
-        → WasLabelled (text.now ++ rest) (result.front.items ++ (drop (result.unlabelled.from + 729) text.now ++ rest)) result.unlabelled.label }
+        → WasLabelled (text.now ++ rest) (result.front.items ++ (drop (from + 729) text.now ++ rest)) result.unlabelled.label }
     ensures every { (rest : List ℕ)
-        → IsOfEveryTable (text.now ++ rest) (result.front.items ++ (drop (result.unlabelled.from + 729) text.now ++ rest)) result.unlabelled.label }
+        → IsOfEveryTable (text.now ++ rest) (result.front.items ++ (drop (from + 729) text.now ++ rest)) result.unlabelled.label }
     ensures good { IsLabel result.unlabelled.label }
-    ensures from { result.unlabelled.from ≡ length (marker_number_line result.unlabelled.label.marker_number) }
-    ensures number { result.unlabelled.label.marker_number ≡ number.items }
-    ensures line { result.unlabelled.from ≤ 81 }
+    ensures from { from ≡ length (marker_number_line result.unlabelled.label.marker_number) }
+    ensures same { result.unlabelled.from ≡ from }
+    ensures line { from ≤ 81 }
     ensures len { length result.front.items ≡ 729 }
 {
-    let from = line_len(number.as_slice());
     let top = columns_at(text, 0, THREE_LINES);
     let middle = columns_at(text, from + THREE_LINES, 486);
     let label = read_label(top, number, middle);
@@ -170,12 +171,12 @@ fn unlabel_cut(text: &mut [u8]) -> Unlabelled
     ensures good { IsLabel result.label }
     ensures cut { IsCutText text.old (drop result.from text.new) result.label }
 {
-    let whole = text.len() / LINE * LINE;
+    let whole = LINE * (text.len() / LINE);
     let lines = columns_at(text, 0, whole);
     let number = number_in(lines);
-    let front = completed(lines, line_len(number.as_slice()));
-    let reading = reading_of(front.as_slice(), number);
-    let from = reading.unlabelled.from;
+    let from = line_len(number.as_slice());
+    let ten = completed(lines, from);
+    let reading = reading_of(ten.as_slice(), number, from);
     text[from..whole].copy_from_slice(columns_at(reading.front.as_slice(), 0, whole - from));
     reading.unlabelled
 }
@@ -195,8 +196,9 @@ pub fn unlabel(text: &mut [u8]) -> Unlabelled
     if text.len() < 810 {
         return unlabel_cut(text);
     }
-    let reading = reading_of(text, read_number(columns_at(text, THREE_LINES, LINE)));
-    let from = reading.unlabelled.from;
+    let number = read_number(columns_at(text, THREE_LINES, LINE));
+    let from = line_len(number.as_slice());
+    let reading = reading_of(text, number, from);
     text[from..from + 729].copy_from_slice(reading.front.as_slice());
     reading.unlabelled
 }
