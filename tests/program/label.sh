@@ -80,6 +80,8 @@ refused() {
     expect "refused_part_$1_of_$(wc -c <"$2")" 3 '' "line $1"
     run chart "$2"
     expect "refused_picture_$1_of_$(wc -c <"$2")" 3 '' "line $1"
+    run quality "$2"
+    expect "refused_numbers_$1_of_$(wc -c <"$2")" 3 '' "line $1"
 }
 sed '20s/^/x/' "$file" >wrong;             refused '20: C2 Columns' wrong
 sed '20s/^/x/' labelled >wrong;            refused '20: C2 Columns' wrong
