@@ -144,6 +144,18 @@ fn number_in(lines: &[u8]) -> Field
     read_number(columns_at(lines, THREE_LINES, 81))
 }
 
+// The bytes of the line of a marker's number, which is absent if there is none; it is one of these
+// lines.
+fn len_in(lines: &[u8], number: &[u8]) -> usize
+    requires { length lines.now < 324 → number.now ≡ [] }
+    ensures blank { length number.now ≡ 0 → result ≡ 0 }
+    ensures filled { 0 < length number.now → result ≡ 81 }
+    ensures within { result ≤ length lines.now }
+    ensures small { result ≤ 81 }
+{
+    line_len(number)
+}
+
 // Whole lines, of which so many bytes are the line of a marker's number, and then lines of a file
 // without a label, ten in all.
 fn completed(lines: &[u8], from: usize) -> ArrayVec<u8, FRONT>
@@ -174,7 +186,7 @@ fn unlabel_cut(text: &mut [u8]) -> Unlabelled
     let whole = LINE * (text.len() / LINE);
     let lines = columns_at(text, 0, whole);
     let number = number_in(lines);
-    let from = line_len(number.as_slice());
+    let from = len_in(lines, number.as_slice());
     let ten = completed(lines, from);
     let reading = reading_of(ten.as_slice(), number, from);
     text[from..whole].copy_from_slice(columns_at(reading.front.as_slice(), 0, whole - from));

@@ -94,7 +94,7 @@ fn put_words(
 fn is_standard_input(name: &[u8]) -> bool
     ensures { result ≡ is_standard_input name.now }
 {
-    name == b"stdin"
+    name == b"stdin".as_slice()
 }
 
 // The command that finds the other options by itself. It reads a capture twice, so that there is none

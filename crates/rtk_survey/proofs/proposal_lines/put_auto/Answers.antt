@@ -5,7 +5,7 @@ use Rattle.rtk_obs.specs.CivilText.{last_digits}
 use Rattle.rtk_survey.specs.SummaryText.{is_standard_input, auto_line}
 use Rattle.rtk_survey.proofs.proposal_lines.put_auto.Goals as goal
 
-words : List ℕ → ℕ → List ℕ
+abbrev words : List ℕ → ℕ → List ℕ
 words name station =
     codes " auto rtcm2rinex auto --station " ++ decimal station ++ codes " -o " ++ last_digits 4 station ++ codes ".rnx " ++ sh_quoted name ++ 10 ∷ []
 
