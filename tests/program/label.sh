@@ -91,11 +91,12 @@ sed '7s/^4/ 4/; 7s/ 9.20 /9.20 /' labelled >wrong; refused '7: C1 HeaderLine' wr
 sed '4s/M0/\tM/' labelled >wrong;          refused '4: C1 HeaderLine' wrong
 head -c 820 labelled >wrong;               refused '11: C5 Truncated' wrong
 # In a header each line has 81 bytes, so the line that is cut follows from the number of bytes.
-# refuses: a file that is cut short and is blamed on a field in a line before
 for row in '1 0' '1 80' '2 81' '4 323' '5 324' '8 600' '10 729' '10 809' '11 810'; do
     head -c "${row#* }" labelled >wrong;   refused "${row% *}: C5 Truncated" wrong
 done
 label --agency A "$file"; head -c 790 out >wrong; refused '10: C5 Truncated' wrong
+# refuses: a file that is cut short and is blamed on a field in a line before
+label --blank wrong; expect a_cut_file 3 '' 'line 10: C5 Truncated'
 run check wrong; expect a_field_in_a_cut_file_of_check 3 'line 5: C1 HeaderLine' ''
 sed '5s/^G/H/' labelled | head -c 790 >wrong;  refused '5: C1 HeaderLine' wrong
 sed '7s/^4/ 4/; 7s/ 9.20 /9.20 /' labelled | head -c 809 >wrong; refused '7: C1 HeaderLine' wrong
