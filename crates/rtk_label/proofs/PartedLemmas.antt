@@ -1,11 +1,12 @@
 -- A text that is parted into a label and a plain text.
 use Rattle.std.proofs.Common.{◌≡◌, ◌<◌, ◌≤◌, ℕ, ◌+◌, ◌-◌, ◌*◌, List, [], ◌++◌, length, take, drop, codes, ap, sym, arith, refl, ◌∙◌, append_assoc, length-append, inl, inr}
 use Rattle.std.proofs.Math.Seq.{take-append-add}
+use Rattle.std.specs.Fmt.{digits}
 use Rattle.std.proofs.lemmas.Bool.{cases_order}
 use Rattle.std.proofs.lemmas.List.{take_at, drop_at, drop-drop, take-append-drop, take-append-le, drop-append-le, length-take-le, length-drop, append-nil, append_cancel_left}
 use Rattle.rtk_rinex.specs.Columns.{left, IsField}
 use Rattle.rtk_rinex.specs.Header.{header_line, header_text}
-use Rattle.rtk_rinex.specs.Reading.{reading_of}
+use Rattle.rtk_rinex.specs.Reading.{date_after, reading_of}
 use Rattle.rtk_rinex.specs.Table.{WellFormedTable, IsWellFormedTable, table_text}
 use Rattle.rtk_label.specs.Fields.{marker_number_line}
 use Rattle.rtk_label.specs.Labelled.{LabelView, IsLabel, IsFor, blank_label, top_lines, middle_lines, labelled_text}
@@ -391,7 +392,7 @@ number_within lines number from few blank filled =
     ]
 
 plain_long : length (take 810 plain_file) ≡ 810
-unfolding header_text header_line left
+unfolding header_text header_line left date_after digits
 plain_long = refl
 
 -- the first lines of the plain file

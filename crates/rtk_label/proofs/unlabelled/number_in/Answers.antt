@@ -1,4 +1,3 @@
-use Rattle.std.proofs.Common.{arith}
 use Rattle.rtk_label.proofs.unlabelled.number_in.Goals as goal
 
 pub returns-clause-some : goal.returns-clause-some

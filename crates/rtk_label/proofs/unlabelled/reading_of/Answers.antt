@@ -1,4 +1,4 @@
-use Rattle.std.proofs.Common.{◌≡◌, ◌∙◌, ◌+◌, List, ℕ, length, take, drop, ap, refl}
+use Rattle.std.proofs.Common.{◌≡◌, ◌∙◌, ◌+◌, length, take, drop, ap, refl}
 use Rattle.rtk_label.specs.Steps.Shown.{IsLabelIn}
 use Rattle.rtk_label.proofs.PartedLemmas.{IsRead, front_of, within, from_is, label_good, length-front, labelled_more, every_more}
 use Rattle.rtk_label.proofs.unlabelled.reading_of.Goals as goal
