@@ -134,5 +134,7 @@ def next_lines(name: str, near: str, station: int, shown: list[Shown]) -> list[s
     words = f"--station {station} --near {near} {MADE} --marker {station:04} --codes {','.join(codes)}{option}"
     second = [" second-frequency 2P"] if "2P" in codes and "2W" not in codes else []
     others = [f" other-msm {msm} {n}" for msm, n in epochs.items() if n and msm != most]
-    auto = f"--station {station} -o {station:04}.rnx {sh_quoted(name)}"
-    return [*second, *others, f" next rtcm2rinex convert {words} {sh_quoted(name)}", f" auto rtcm2rinex auto {auto}"]
+    auto = f" auto rtcm2rinex auto --station {station} -o {station:04}.rnx {sh_quoted(name)}"
+    # `auto` reads a capture twice, and standard input has its bytes once.
+    found = [] if name == "stdin" else [auto]
+    return [*second, *others, f" next rtcm2rinex convert {words} {sh_quoted(name)}", *found]
