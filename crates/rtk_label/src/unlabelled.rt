@@ -18,10 +18,12 @@ use arrayvec::ArrayVec;
 
 /// The bytes of a line, and of three.
 const LINE: usize = 81;
+
 const THREE_LINES: usize = 243;
 
 /// The first ten lines of a file without a label.
-const PLAIN_LINES: &[u8] = b"     3.05           OBSERVATION DATA    G                   RINEX VERSION / TYPE\n\
+const PLAIN_LINES: &[u8] =
+    b"     3.05           OBSERVATION DATA    G                   RINEX VERSION / TYPE\n\
 rtcm2rinex                              19800106 000000 UTC PGM / RUN BY / DATE \n\
 -                                                           MARKER NAME         \n\
 GEODETIC                                                    MARKER TYPE         \n\
