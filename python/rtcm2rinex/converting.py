@@ -17,6 +17,7 @@ from .words import Codes, Time, Value, code_word, gps_word, option_words, presen
 from .writing import Written, output_of
 
 SPAN = re.compile(r" from (\S{19}) until (\S{19}) by (\S+(?: of station \d+)?)(?: \(or (.*)\))?", re.ASCII)
+BY_HAND = " the same by hand:"
 
 
 @dataclass(frozen=True)
@@ -95,16 +96,22 @@ def auto(captures: Union[Input, Sequence[Input]], *, output: Optional[Name] = No
     The file goes to `output`, which gets its name when it is whole, or else into `text` of the result. A file that is there is
     replaced only with `force`.
 
-    Raises `CapturesError` if the captures do not tell enough, `NoRecordError` if the file is a header alone, and `WorkError` or
-    `WordsError` for other faults.
+    Raises `CapturesError` if the captures do not tell enough, `NoRecordError` if no record came, and `WorkError` or `WordsError` for
+    other faults. Without a record the file is a header alone, but a file that is there stays.
     """
-    options: Dict[str, Value] = {"output": None if output is None else str(Path(output)), "force": force, "label": label,
+    options: Dict[str, Value] = {"output": None if output is None else file_word(output), "force": force, "label": label,
         "near": gps_word(near), "made": utc_word(made), "marker": marker, "station": station, "codes": code_word(codes), "msm": msm,
         "window": window, "links_as_given": links_as_given, "skip_empty": skip_empty, "report": report}
     with tempfile.TemporaryDirectory(prefix="rtcm2rinex-") as folder:
         given = [named(it, Path(folder), number) for number, it in enumerate(listed(captures), 1)]
         ran = run(program, ["auto", *option_words(options)], given, accepted=(0, 3), third=CapturesError)
     return conversion_of(ran, output)
+
+
+def file_word(output: Name) -> str:
+    """The name of a file as the program takes it, which refuses `-`."""
+    name = str(Path(output))
+    return "./-" if name == "-" else name
 
 
 def named(given: Input, folder: Path, number: int) -> Name:
@@ -121,7 +128,7 @@ def named(given: Input, folder: Path, number: int) -> Name:
 
 
 def conversion_of(ran: Ran, output: Optional[Name]) -> AutoConversion:
-    """What `auto` wrote and said. Status 3 is a fault, also if the file is a header alone."""
+    """What `auto` wrote and said. Status 3 is a fault, also if no record came."""
     lines = lines_of(ran.told)
     if ran.status == 3 and not lines[0].startswith(" from "):
         fail(ran.status, ran.told, CapturesError)
@@ -153,7 +160,7 @@ def found_of(lines: Sequence[str], notes: Tuple[str, ...]) -> Found:
     match = SPAN.fullmatch(lines[0])
     if match is None:
         raise FormError(1, f"{lines[0]!r} has no first and last epoch")
-    commands = list(lines[1:])
+    commands = [line for line in lines[1:] if line != BY_HAND]
     label = commands.pop() if commands and commands[-1].startswith("rtcm2rinex label ") else None
     others = tuple(match[4].split(", ")) if match[4] else ()
     first, last = (datetime.fromisoformat(it) for it in (match[1], match[2]))

@@ -14,7 +14,7 @@ import re
 from collections import Counter
 from dataclasses import dataclass
 from datetime import timedelta
-from itertools import zip_longest
+from itertools import groupby, zip_longest
 from random import Random
 from typing import Callable, Iterable, NamedTuple, Optional
 
@@ -214,7 +214,7 @@ def auto_as_modelled(case: Case) -> Answer:
     try:
         found = find(texts, now, station, near, as_given, skip_empty)
     except Stopped as stopped:
-        listed = "".join(f" station {it}\n" for it in stopped.about) if "station" in STOPPED[stopped.cause] else ""
+        listed = stations_text(stopped.about, texts) if "station" in STOPPED[stopped.cause] else ""
         line = f"rtcm2rinex: {STOPPED[stopped.cause]}\n".replace("STATION", str(station)) + listed
         is_said = re.match(line.encode(), run.err)
         return ends_with(run, 3, b"", None) or (HOLDS if is_said else f"{run.err!r} and not {line!r}")
@@ -232,6 +232,14 @@ def auto_as_modelled(case: Case) -> Answer:
     return ends_with(run, 0 if due.epochs else 3, due.file.encode(), text)
 
 
+def stations_text(stations: tuple[object, ...], texts: list[bytes]) -> str:
+    """A line for each of these stations and each capture with observations of it, with how many epochs its messages have."""
+    captures = [finding.Capture.of(text) for text in texts]
+    times = {(it, at): [of.header["tow"] for of in capture.of_station(it) if "tow" in of.header]
+             for it in stations for at, capture in enumerate(captures, 1) if it in capture.observing()}
+    return "".join(f" station {it} in link{at}: {len(list(groupby(of)))} epochs\n" for (it, at), of in times.items())
+
+
 STOPPED = {
     "no frame": "the captures have no frame of RTCM 3",
     "no observation": "the captures have no GPS observations that are read",
@@ -239,7 +247,7 @@ STOPPED = {
     "several stations": "several stations have GPS observations; choose one by --station",
     "nothing of the station": r"captures have nothing of [^;]*; --skip-empty leaves them out",
     "dates differ": "the captures tell dates that differ; choose one by --near",
-    "no date": "the captures tell no date; give one, as in --near 2024-05-17T12:00:00",
+    "no date": "the captures tell no date; give one, as in --near GPS-TIME-WITHIN-HALF-A-WEEK",
     "give them in parts": "the captures are longer than half a week; convert them in parts",
     "outside the dates": "the epochs are not dated from 1980-01-13 to 2099-12-31; see --near",
     "too many links": "more than 16 captures are of the same time, and 16 links are taken",
@@ -271,6 +279,11 @@ def with_dates(rng: Random, setup: Setup, text: bytes) -> bytes:
     return b"".join(pieces)
 
 
+def distinct(told: list[finding.Told]) -> list[finding.Told]:
+    """The first message that tells each first epoch, of the first 16 that differ."""
+    return list({it.first: it for it in told[::-1]}[first] for first in dict.fromkeys(it.first for it in told))[:16]
+
+
 SYSTEMS = {108: "GLONASS", 109: "Galileo", 110: "SBAS", 111: "QZSS", 112: "BeiDou", 113: "NavIC"}
 
 
@@ -283,7 +296,7 @@ def auto_text(found: Found, said: Setup, due: Conversion, texts: list[bytes], is
         source = f"1019 (or {', '.join(others)})"
     elif is_told:
         source = str(found.by["number"]) + (f" of station {found.by['station']}" if found.by["station"] != said.station else "")
-    lines = [f" from {civil(first):%Y-%m-%dT%H:%M:%S} until {civil(last):%Y-%m-%dT%H:%M:%S} by {source}"]
+    lines = [f" from {civil(first):%Y-%m-%dT%H:%M:%S} until {civil(last):%Y-%m-%dT%H:%M:%S} by {source}", " the same by hand:"]
     marker = said.marker.lstrip("-")
     words = (f"rtcm2rinex convert --station {said.station} --near {civil(said.near):%Y-%m-%dT%H:%M:%S}"
              f" --made {civil(said.made):%Y-%m-%dT%H:%M:%S} --marker {'-' * (len(said.marker) - len(marker))}{sh_quoted(marker)}"
@@ -302,11 +315,13 @@ def auto_text(found: Found, said: Setup, due: Conversion, texts: list[bytes], is
     captures = {at: finding.Capture.of(texts[at]) for at in kept}
     if not any(it.point(said.station) for it in captures.values()):
         lines.append(" no-position: no 1005 or 1006 came, and the header has zeros")
-    if not is_told:
-        told = {at: finding.counting(finding.tellings(said.made, it, said.station), said.station)[:1] for at, it in captures.items()}
+    told = {at: distinct(finding.counting(finding.tellings(said.made, it, said.station), said.station)) for at, it in captures.items()}
+    if is_told:
+        lines += [f" undated link{at + 1}: dated near the others" for (at, of), epochs in zip(told.items(), found.epochs) if epochs and not of]
+    else:
         others = [(at, it) for (at, of), epochs in zip(told.items(), found.epochs) for it in of if it.first != epochs[0]]
         lines += [f" other-date {civil(it.first):%Y-%m-%dT%H:%M:%S} by {it.fields['number']}"
-                  + (f" of station {it.fields['station']}" if "station" in it.fields else "") + f" in link{at + 1}" for at, it in others[:1]]
+                  + (f" of station {it.fields['station']}" if "station" in it.fields else "") + f" in link{at + 1}" for at, it in others]
     lines += [f" few-phases {code}: its satellites have more than twice as many in another code" for code in found.few]
     lines += [f" late {counts['late']}: messages after {said.window} newer epochs are left out"] * (counts["late"] != "0")
     looks = {at: look_of(texts[at]) for at in found.skipped if not frames_of(texts[at])}

@@ -84,6 +84,14 @@ CAPTURES = {
     "null_antenna": ONE + equipment(1033, b"ADVNULLANTENNA  NONE", 0, b"12", b"LEICA GRX1200+GNSS", b"9.20", b"496710"),
     "only_null": ONE + equipment(1007, b"GPPNULLANTENNA", 0),
     "unfit": ONE + equipment(1033, b"GPPNULLANTENNAS", 0, b"blank ", b"of 21 characters here", b"tab\t", b"--it's"),
+    "padded": ONE + equipment(1033, b" TRM55971.00     NONE   ", 0, b"144  ", b"  TRIMBLE NETR9", b"   ", b"5148K72868 "),
+    # an antenna A, then another one without a serial number, then A again
+    "antenna_1": ONE + equipment(1008, b"A", 0, b"1"),
+    "antenna_2": date(43_202) + epochs(NOON + 2, NOON + 3) + equipment(1007, b"B", 0),
+    "antenna_3": date(43_204) + epochs(NOON + 4) + equipment(1007, b"A", 0),
+    # the last of the long one tells another antenna and receiver, after the short one
+    "long": date(43_200) + equipment(1033, b"OLD", 0, b"1", b"R1", b"", b"") + epochs(NOON, NOON + 9) + equipment(1033, b"NEW", 0, b"2", b"R2", b"", b""),
+    "short": date(43_201) + epochs(NOON + 1, NOON + 2) + equipment(1033, b"OLD", 0, b"1", b"R1", b"", b""),
     "no_value": date(43_200) + capture(legacy_of(1000 * NOON, [])),
     **{f"here.{it}": date(43_200 + it) + place(x) + epochs(NOON + it, NOON + it + 9) for it, x in ((0, 0), (1, 1_000_000), (2, 1_000_001))},
     **{f"same.{it:02}": date(43_200) + epochs(NOON, NOON + 1, satellites=(it + 1,)) for it in range(17)},

@@ -256,8 +256,8 @@ class Auto(Case):
     def test_captures_that_tell_too_little(self) -> None:
         names = self.captures("one", "stations", "undated", "zip")
         rows = {
-            "undated": ("the captures tell no date; give one, as in --near 2024-05-17T12:00:00", ()),
-            "stations": ("several stations have GPS observations; choose one by --station", ("station 7", "station 2003")),
+            "undated": ("the captures tell no date; give one, as in --near GPS-TIME-WITHIN-HALF-A-WEEK", ()),
+            "stations": ("several stations have GPS observations; choose one by --station", ("station 7 in stations: 1 epochs", "station 2003 in stations: 2 epochs")),
             "zip": ("the captures have no frame of RTCM 3", ("zip looks like zip",)),
         }
         for name, told in rows.items():

@@ -3,10 +3,10 @@
 
 ghost use Rattle.std.specs.Prelude.{◌≡◌, ◌≤◌, IfOk, IsUtf8, string_bytes};
 ghost use Rattle.rtk_message.specs.ShellText.{sh_quoted};
-ghost use Rattle.rtk_streams.specs.declared.exit_status.TheConstants.{FAILED, REFUSED};
+ghost use Rattle.rtk_streams.specs.declared.exit_status.TheConstants.{FAILED, REFUSED, NOT_VALID};
 
 use rtk_message::put_sh_quoted;
-use rtk_streams::{FAILED, OutputFault, REFUSED, ToolFault, fail, fail_to_open};
+use rtk_streams::{FAILED, NOT_VALID, OutputFault, REFUSED, ToolFault, fail, fail_to_open};
 use std::alloc::{AllocError, Global};
 
 // The name of a file as sh takes it.
@@ -55,6 +55,17 @@ pub(crate) fn refuse_twice<R: Eprint + AllocGlobal>(rt: &R, name: &str) -> u8
     };
     let _told = eprintln!(rt; "rtcm2rinex: {name} is named twice");
     REFUSED
+}
+
+/// Says that no record came, so that the file that has the name keeps it.
+pub(crate) fn keep_named<R: Eprint + AllocGlobal>(rt: &R, name: &str) -> u8
+    ensures { result ≤ NOT_VALID }
+{
+    let Ok(name) = quoted(rt.alloc(), name) else {
+        return fail(rt, ToolFault::OutOfMemory);
+    };
+    let _told = eprintln!(rt; "rtcm2rinex: no record came; {name} stays as it was");
+    NOT_VALID
 }
 
 /// Says why a file does not get its name.

@@ -1,26 +1,27 @@
 //! The command `auto`: it reads the captures, finds what their conversion is told, converts them, and
 //! says how it went.
 
-ghost use Rattle.std.specs.Prelude.{◌≡◌, ◌≤◌, Ok, None, IfOk, IfErr, IsOk, IsTrue};
+ghost use Rattle.std.specs.Prelude.{◌≡◌, ◌≤◌, Ok, None, true, false, IfOk, IfErr, IsOk, IsTrue};
 ghost use Rattle.rtk_convert.specs.Failure.{IsRunFault};
-ghost use Rattle.rtk_streams.specs.declared.exit_status.TheConstants.{NOT_VALID};
+ghost use Rattle.rtk_streams.specs.declared.exit_status.TheConstants.{FAILED, NOT_VALID};
 
 use crate::auto_converting::convert_joined;
 use crate::auto_labelling::label_beside;
 use crate::auto_looking::{look_at_files, made_at};
 use crate::auto_reading::survey_captures;
-use crate::auto_refusing::fail_output;
+use crate::auto_refusing::{fail_output, keep_named};
 use crate::converting::{Converted, conversion_status};
 use crate::words::AutoWords;
 use rtk_convert::{Counts, Setup, Station};
 use rtk_label::Label;
 use rtk_plan::{
-    Captures, Known, Plan, PlanFault, Ways, label_wanted, plan_of, put_command, put_counts,
-    put_known, put_label_command, put_span, what_is_known,
+    Captures, Known, Plan, PlanFault, Ways, equipment_in_captures, label_wanted, plan_of,
+    put_command, put_counts, put_known, put_label_command, put_span, what_is_known,
 };
 use rtk_rinex::CreationTime;
 use rtk_streams::{
-    Beside, DONE, Later, NOT_VALID, Quiet, ToolFault, fail, let_go, make_beside, name_whole,
+    Beside, DONE, FAILED, Later, NOT_VALID, Quiet, ToolFault, Unbroken, fail, is_there, let_go,
+    make_beside, name_whole,
 };
 use rtk_survey::Target;
 use std::alloc::{AllocError, Global};
@@ -30,25 +31,20 @@ use std::io;
 use std::io::Write;
 use std::time::Clock;
 
-// Writes lines to standard error.
-fn tell<R: Eprint, W: Write>(rt: &R, report: &mut W, lines: &[u8]) -> Result<(), u8>
-    ensures { IfErr result (λ status. status ≤ NOT_VALID) }
-{
-    match report.write_all(lines) {
-        Ok(()) => Ok(()),
-        Err(_) => Err(fail(rt, ToolFault::Output)),
-    }
+// Writes lines to standard error. If nobody reads it the work goes on: its status tells it.
+fn tell<W: Write>(report: &mut Unbroken<W>, lines: &[u8]) {
+    let _told = report.write_all(lines);
 }
 
 // Says why the captures have no plan.
-fn fail_plan<R: Eprint, W: Write>(rt: &R, report: &mut W, fault: PlanFault) -> u8
+fn fail_plan<R: Eprint, W: Write>(rt: &R, report: &mut Unbroken<W>, fault: PlanFault) -> u8
     ensures { result ≤ NOT_VALID }
 {
     let PlanFault::Refused { refusal, list } = fault else {
         return fail(rt, ToolFault::OutOfMemory);
     };
     let _told = eprintln!(rt; "rtcm2rinex: {refusal}");
-    let _listed = report.write_all(list.as_slice());
+    tell(report, list.as_slice());
     NOT_VALID
 }
 
@@ -131,11 +127,15 @@ fn said_after(
 }
 
 // The exit status of a conversion that is done.
-fn done_status<R: Eprint>(rt: &R, counts: &Counts) -> u8
-    ensures no_epoch { counts.now.epochs ≡ 0 → result ≡ NOT_VALID }
+fn done_status<R: Eprint>(rt: &R, outcome: &Outcome) -> u8
+    ensures unheard { outcome.now.is_heard ≡ false → result ≡ FAILED }
+    ensures no_epoch { outcome.now.is_heard ≡ true → outcome.now.counts.epochs ≡ 0 → result ≡ NOT_VALID }
     ensures bound { result ≤ NOT_VALID }
 {
-    if counts.epochs == 0 {
+    if !outcome.is_heard {
+        return FAILED;
+    }
+    if outcome.counts.epochs == 0 {
         let _told = eprintln!(rt; "rtcm2rinex: no record came; the file is a header alone");
         return NOT_VALID;
     }
@@ -153,14 +153,22 @@ struct Work<'a> {
     label: Option<Label>,
 }
 
+// How a conversion went that is done.
+#[derive(Drop)]
+struct Outcome {
+    counts: Counts,
+    /// Standard error took all that was said.
+    is_heard: bool,
+}
+
 // Converts to a writer, which is handed back with the counts, and says how it went.
 fn convert_to<R: Files + Eprint + AllocGlobal, O: Write + Drop, W: Write + Drop>(
     rt: &R,
     work: Work<'_>,
     out: O,
-    report: W,
+    report: Unbroken<W>,
     is_reported: bool,
-) -> Result<(O, Counts), u8>
+) -> Result<(O, Outcome), u8>
     ensures { IfErr result (λ status. status ≤ NOT_VALID) }
 {
     let Ok(files) = files_of_links(rt.alloc(), rt, work.links.as_slice()) else {
@@ -177,10 +185,10 @@ fn convert_to<R: Files + Eprint + AllocGlobal, O: Write + Drop, W: Write + Drop>
 // Says how a conversion went.
 fn finish<R: Eprint + AllocGlobal, O: Write + Drop, W: Write + Drop>(
     rt: &R,
-    converted: Converted<O, Quiet<W>>,
+    converted: Converted<O, Quiet<Unbroken<W>>>,
     known: &Known,
     is_reported: bool,
-) -> Result<(O, Counts), u8>
+) -> Result<(O, Outcome), u8>
     requires { IfErr converted.done IsRunFault }
     ensures whole { IsOk result → IsOk converted.done × IsTrue converted.is_out }
     ensures status { IfErr result (λ status. status ≤ NOT_VALID) }
@@ -193,18 +201,22 @@ fn finish<R: Eprint + AllocGlobal, O: Write + Drop, W: Write + Drop>(
         return Err(fail(rt, ToolFault::OutOfMemory));
     };
     let mut report = converted.report.into_inner();
-    tell(rt, &mut report, lines.as_slice())?;
-    Ok((converted.out, counts))
+    tell(&mut report, lines.as_slice());
+    let outcome = Outcome {
+        counts,
+        is_heard: !report.has_failed(),
+    };
+    Ok((converted.out, outcome))
 }
 
 // Converts to a file beside this name. If that is not whole, it is let go.
 fn convert_beside<R: Files + Eprint + AllocGlobal, W: Write + Drop>(
     rt: &R,
     work: Work<'_>,
-    report: W,
+    report: Unbroken<W>,
     name: &str,
     is_reported: bool,
-) -> Result<(Beside<R::File>, Counts), u8>
+) -> Result<(Beside<R::File>, Outcome), u8>
     ensures { IfErr result (λ status. status ≤ NOT_VALID) }
 {
     let beside = match make_beside(rt, name) {
@@ -212,12 +224,12 @@ fn convert_beside<R: Files + Eprint + AllocGlobal, W: Write + Drop>(
         Err(fault) => return Err(fail_output(rt, name, fault)),
     };
     match convert_to(rt, work, beside.file, report, is_reported) {
-        Ok((file, counts)) => Ok((
+        Ok((file, outcome)) => Ok((
             Beside {
                 file,
                 name: beside.name,
             },
-            counts,
+            outcome,
         )),
         Err(status) => {
             let_go(rt, beside.name.as_str());
@@ -242,30 +254,62 @@ fn whole_beside<R: Files + Input + Eprint + AllocGlobal>(
     }
 }
 
+// The file that was converted has no record, so it does not replace the one that has the name.
+fn keep_status<R: Files + Eprint + AllocGlobal, F: Drop>(
+    rt: &R,
+    plain: Beside<F>,
+    name: &str,
+    outcome: &Outcome,
+) -> u8
+    ensures { result ≤ NOT_VALID }
+{
+    let_go(rt, plain.name.as_str());
+    if !outcome.is_heard {
+        return FAILED;
+    }
+    keep_named(rt, name)
+}
+
+// Gives a file that was converted its name, once it has its label. A file without a record replaces none.
+fn name_converted<R: Files + Input + Eprint + AllocGlobal>(
+    rt: &R,
+    label: Option<Label>,
+    plain: Beside<R::File>,
+    outcome: &Outcome,
+    name: &str,
+    force: bool,
+) -> u8
+    ensures { result ≤ NOT_VALID }
+{
+    if force && outcome.counts.epochs == 0 && is_there(rt, name) {
+        return keep_status(rt, plain, name, outcome);
+    }
+    let whole = match whole_beside(rt, label, plain, name) {
+        Ok(whole) => whole,
+        Err(status) => return status,
+    };
+    match name_whole(rt, whole.file, whole.name.as_str(), name, force) {
+        Ok(()) => done_status(rt, outcome),
+        Err(fault) => fail_output(rt, name, fault),
+    }
+}
+
 // Converts to a file beside this name, which gets the name once it is whole, or once the file with its
 // label is.
 #[inline(never)]
 fn convert_to_file<R: Files + Input + Eprint + AllocGlobal, W: Write + Drop>(
     rt: &R,
     mut work: Work<'_>,
-    report: W,
+    report: Unbroken<W>,
     name: &str,
     ways: &Ways<'_>,
 ) -> u8
     ensures { result ≤ NOT_VALID }
 {
     let label = work.label.take();
-    let (plain, counts) = match convert_beside(rt, work, report, name, ways.report) {
-        Ok(done) => done,
-        Err(status) => return status,
-    };
-    let whole = match whole_beside(rt, label, plain, name) {
-        Ok(whole) => whole,
-        Err(status) => return status,
-    };
-    match name_whole(rt, whole.file, whole.name.as_str(), name, ways.force) {
-        Ok(()) => done_status(rt, &counts),
-        Err(fault) => fail_output(rt, name, fault),
+    match convert_beside(rt, work, report, name, ways.report) {
+        Ok((plain, outcome)) => name_converted(rt, label, plain, &outcome, name, ways.force),
+        Err(status) => status,
     }
 }
 
@@ -274,13 +318,13 @@ fn convert_to_file<R: Files + Input + Eprint + AllocGlobal, W: Write + Drop>(
 fn convert_to_output<R: Files + Print + Eprint + AllocGlobal, W: Write + Drop>(
     rt: &R,
     work: Work<'_>,
-    report: W,
+    report: Unbroken<W>,
     ways: &Ways<'_>,
 ) -> u8
     ensures { result ≤ NOT_VALID }
 {
     match convert_to(rt, work, io::writer(rt), report, ways.report) {
-        Ok((_out, counts)) => done_status(rt, &counts),
+        Ok((_out, outcome)) => done_status(rt, &outcome),
         Err(status) => status,
     }
 }
@@ -295,11 +339,13 @@ fn work_of<'a>(
 ) -> Result<Work<'a>, AllocError> {
     let links = names_of_links(alloc, plan.links.as_slice(), captures.names)?;
     put_span(lines, &plan.span)?;
+    lines.extend_from_slice(b" the same by hand:\n")?;
     put_command(lines, &plan.setup, links.as_slice())?;
-    let station = plan.setup.station();
-    put_label_command(alloc, lines, captures.surveys, station, ways.output)?;
-    let label = label_wanted(captures.surveys, station, ways);
-    let known = what_is_known(alloc, captures, &plan)?;
+    let (station, near) = (plan.setup.station(), plan.setup.near());
+    let told = equipment_in_captures(alloc, captures.surveys, station, near)?;
+    put_label_command(alloc, lines, &told, ways.output)?;
+    let label = label_wanted(&told, ways);
+    let known = what_is_known(alloc, captures, &plan, &told)?;
     Ok(Work {
         setup: plan.setup,
         links,
@@ -311,7 +357,7 @@ fn work_of<'a>(
 // The conversion of captures that were surveyed, once it is said what it is.
 fn begin_planned<'a, R: Eprint + AllocGlobal, W: Write>(
     rt: &R,
-    report: &mut W,
+    report: &mut Unbroken<W>,
     words: &AutoWords<'_>,
     captures: &Captures<'_, 'a>,
     made: CreationTime,
@@ -335,7 +381,7 @@ fn begin_planned<'a, R: Eprint + AllocGlobal, W: Write>(
     let Ok(work) = work_of(rt.alloc(), captures, plan, ways, &mut lines) else {
         return Err(fail(rt, ToolFault::OutOfMemory));
     };
-    tell(rt, report, lines.as_slice())?;
+    tell(report, lines.as_slice());
     Ok(work)
 }
 
@@ -344,7 +390,7 @@ fn begin_planned<'a, R: Eprint + AllocGlobal, W: Write>(
 #[inline(never)]
 fn begin<'a, R: Env + Clock + Files + Input + Eprint + AllocGlobal, W: Write>(
     rt: &R,
-    report: &mut W,
+    report: &mut Unbroken<W>,
     words: &AutoWords<'_>,
     names: &[&'a str],
 ) -> Result<Work<'a>, u8>
@@ -372,7 +418,7 @@ pub(crate) fn auto_captures<
 >(rt: &R, report: W, words: &AutoWords<'_>, names: &[&str]) -> u8
     ensures { result ≤ NOT_VALID }
 {
-    let mut report = report;
+    let mut report = Unbroken::new(report);
     let work = match begin(rt, &mut report, words, names) {
         Ok(work) => work,
         Err(status) => return status,

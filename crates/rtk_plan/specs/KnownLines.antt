@@ -1,19 +1,20 @@
 -- What a person should know of a conversion that is done (this project's rule).
-use Rattle.std.specs.Prelude.{ℕ, ◌==◌, List, [], ◌++◌, Option, None, Some, codes, decimal, if◌then◌else◌}
+use Rattle.std.specs.Prelude.{ℕ, ◌==◌, Bool, not, ◌&&◌, List, [], ◌++◌, None, is_some, codes, decimal, if◌then◌else◌}
+use Rattle.std.specs.Option.{is_none}
 use Rattle.rtk_survey.specs.Placing.{placed}
 use Rattle.rtk_survey.specs.declared.span.Span.{Span}
 use Rattle.rtk_survey.specs.declared.tellings.Told.{Told}
 use Rattle.rtk_plan.specs.declared.known_lines.Known.{Known}
+use Rattle.rtk_plan.specs.declared.station_capture.StationCapture.{StationCapture}
 
--- what a capture with these epochs tells of its first one, if a conversion near this moment dates it
--- otherwise; as both have one time of week, they are a week or more apart
-abbrev pub told_if_other : ℕ → Told → Span → Option Told
-told_if_other near t s = if t.first == (placed near (record { told = None; span = s })).first then None else Some t
+-- a capture with these epochs tells another first one than a conversion near this moment gives it; as both
+-- have one time of week, they are a week or more apart
+abbrev pub is_told_otherwise : ℕ → Span → Told → Bool
+is_told_otherwise near s t = not (t.first == (placed near (record { told = None; span = s })).first)
 
-abbrev pub told_otherwise : ℕ → Option Told → Option Span → Option Told
-told_otherwise near None span = None
-told_otherwise near (Some t) None = None
-told_otherwise near (Some t) (Some s) = told_if_other near t s
+-- a capture has epochs, and tells no date
+abbrev pub is_undated : StationCapture → Bool
+is_undated c = is_some c.span && is_none c.told
 
 -- formula
 -- how many messages were late, if some were; the window is the number of epochs that are kept open

@@ -1,12 +1,13 @@
 -- The lines that list what a refusal or a warning speaks of (this project's rule).
 use Rattle.std.specs.Prelude.{ℕ, ◌==◌, List, [], ◌∷◌, ◌++◌, flat_map, codes, decimal, Option, None, Some, if◌then◌else◌}
-use Rattle.std.specs.List.{list_any, range_with_len}
+use Rattle.std.specs.List.{range_with_len}
 use Rattle.rtk_message.specs.declared.msm_kind.MsmKind.{MsmKind}
 use Rattle.rtk_message.specs.declared.msm_kind.MsmKind.TheVariants.{Msm4, Msm5, Msm6, Msm7}
 use Rattle.rtk_message.specs.Systems.{number_of_kind}
 use Rattle.rtk_message.specs.ShellText.{sh_quoted}
 use Rattle.rtk_survey.specs.declared.survey.CaptureSurvey.{CaptureSurvey}
 use Rattle.rtk_plan.specs.ChosenStation.{observes}
+use Rattle.rtk_plan.specs.StationCaptures.{epochs_heard, station_in}
 use Rattle.rtk_plan.specs.Values.{messages_in_captures, others_in_captures}
 use Rattle.rtk_survey.specs.Look.{look_name}
 use Rattle.rtk_survey.specs.declared.look.Look.{Look}
@@ -22,6 +23,11 @@ words_and_name words name = words ++ sh_quoted name
 
 abbrev pub name_line : List ℕ → List ℕ → List ℕ
 name_line words name = words_and_name words name ++ line_end
+
+-- formula
+-- a capture that is dated near the others
+abbrev pub undated_line : List ℕ → List ℕ
+undated_line name = words_and_name (codes " undated ") name ++ codes ": dated near the others\n"
 
 -- formula
 -- what a capture without a frame looks like
@@ -87,9 +93,14 @@ msm_lines taken ss station =
     msm_line taken ss station Msm4 ++ msm_line taken ss station Msm5 ++ msm_line taken ss station Msm6 ++ msm_line taken ss station Msm7
 
 -- formula
--- a station with observations
-abbrev pub observed_line : List CaptureSurvey → ℕ → List ℕ
-observed_line ss station = if list_any (observes station) ss then codes " station " ++ decimal station ++ line_end else []
+-- a number of epochs
+abbrev pub epochs_text : ℕ → List ℕ
+epochs_text epochs = codes ": " ++ decimal epochs ++ codes " epochs\n"
 
-unfoldable pub observed_lines : List CaptureSurvey → List ℕ
-observed_lines ss = flat_map (observed_line ss) (range_with_len 0 4096)
+-- formula
+-- a station with observations in a capture
+abbrev pub station_line : CaptureSurvey → ℕ → List ℕ → List ℕ
+station_line s station name =
+    if observes station s then
+    codes " station " ++ decimal station ++ words_and_name (codes " in ") name ++ epochs_text (epochs_heard (station_in station s))
+    else []

@@ -1,5 +1,5 @@
 -- What a capture tells of a station, by its survey (this project's rule).
-use Rattle.std.specs.Prelude.{ℕ, ◌==◌, Bool, false, not, List, [], ◌∷◌, length, Option, None, Some, if◌then◌else◌}
+use Rattle.std.specs.Prelude.{ℕ, ◌+◌, ◌==◌, Bool, false, not, is_some, min, List, [], ◌∷◌, length, Option, None, Some, if◌then◌else◌}
 use Rattle.std.specs.BTreeMap.{get}
 use Rattle.std.specs.List.{list_any}
 use Rattle.std.specs.Ordering.{nat_cmp}
@@ -34,6 +34,13 @@ is_marked mark = mark
 abbrev pub has_observation : Option StationSurvey → Bool
 has_observation None = false
 has_observation (Some t) = list_any is_marked t.signals.codes.marks
+
+-- formula
+-- how many epochs the observation messages of the station have: one more than their time changes; the count
+-- stays at the greatest value of a u64
+abbrev pub epochs_heard : Option StationSurvey → ℕ
+epochs_heard None = 0
+epochs_heard (Some t) = if is_some t.times.first then min (t.times.changes + 1) 18_446_744_073_709_551_615 else 0
 
 -- ---- its epochs, if the capture was surveyed for it
 

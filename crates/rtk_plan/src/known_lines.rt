@@ -5,43 +5,82 @@ ghost use Rattle.rtk_plan.specs.KnownLines as spec;
 
 use crate::captures::Captures;
 use crate::few_phases::CapturePhases;
-use crate::lists::{put_capture_line, put_date_line, put_msms, put_name_line, put_unread};
+use crate::lists::{
+    put_capture_line, put_date_line, put_msms, put_name_line, put_undated_line, put_unread,
+};
 use crate::planning::Plan;
 use crate::positions::put_no_position;
+use crate::span_line::DateSource;
+use crate::station_capture::{StationCapture, told_in};
+use crate::texts_left_out::put_texts_left_out;
 use rtk_convert::{Counts, Setup};
 use rtk_message::put_named;
 use rtk_obs::GpsMs;
-use rtk_survey::{CaptureEpochs, Span, Told, place};
+use rtk_survey::{CaptureEpochs, Equipment, Span, Told, place};
 use std::alloc::{AllocError, Global};
 
-// What a capture with these epochs tells of its first one, if a conversion near this moment dates it
-// otherwise.
-fn told_otherwise(near: GpsMs, told: Option<Told>, span: Option<Span>) -> Option<Told>
-    ensures { result ≡ spec.told_otherwise near told span }
+// Is this another first epoch than a conversion near this moment gives a capture with these epochs?
+fn is_told_otherwise(near: GpsMs, told: &Told, span: Span) -> bool
+    ensures { result ≡ spec.is_told_otherwise near span told.now }
 {
-    let told = told?;
-    let epochs = CaptureEpochs {
-        told: None,
-        span: span?,
-    };
-    if told.first == place(near, &epochs).first {
-        None
-    } else {
-        Some(told)
-    }
+    let epochs = CaptureEpochs { told: None, span };
+    told.first != place(near, &epochs).first
 }
 
-// Appends the date of the first capture that tells another one than the conversion gives it.
-fn put_other_date(
+// Appends the dates of a capture that tell another first epoch than the conversion gives it.
+fn put_other_dates_of(
+    lines: &mut Vec<u8>,
+    captures: &Captures<'_, '_>,
+    plan: &Plan,
+    at: usize,
+    span: Span,
+) -> Result<(), AllocError> {
+    let (station, near) = (plan.setup.station(), plan.setup.near());
+    let Some(survey) = captures.surveys.get(at) else {
+        return Ok(());
+    };
+    for told in told_in(station, survey) {
+        if is_told_otherwise(near, told, span) {
+            lines.extend_from_slice(b" other-date")?;
+            put_date_line(lines, told, captures.name(at))?;
+        }
+    }
+    Ok(())
+}
+
+// Appends the dates of all captures that tell another first epoch than the conversion gives them.
+fn put_other_dates(
     lines: &mut Vec<u8>,
     captures: &Captures<'_, '_>,
     plan: &Plan,
 ) -> Result<(), AllocError> {
-    let near = plan.setup.near();
     for (at, capture) in plan.captures.iter().enumerate() {
-        if let Some(told) = told_otherwise(near, capture.told, capture.span) {
-            lines.extend_from_slice(b" other-date")?;
-            return put_date_line(lines, &told, captures.name(at));
+        if let Some(span) = capture.span {
+            put_other_dates_of(lines, captures, plan, at, span)?;
+        }
+    }
+    Ok(())
+}
+
+// Has a capture epochs, and does it tell no date?
+fn is_undated(capture: &StationCapture) -> bool
+    ensures { result ≡ spec.is_undated capture.now }
+{
+    capture.span.is_some() && capture.told.is_none()
+}
+
+// Appends the captures that are dated near the others.
+fn put_undated(
+    lines: &mut Vec<u8>,
+    captures: &Captures<'_, '_>,
+    plan: &Plan,
+) -> Result<(), AllocError> {
+    if plan.span.source == DateSource::Words {
+        return Ok(());
+    }
+    for (at, capture) in plan.captures.iter().enumerate() {
+        if is_undated(capture) {
+            put_undated_line(lines, captures.name(at))?;
         }
     }
     Ok(())
@@ -140,19 +179,23 @@ pub struct Known {
 }
 
 /// What a person should know of a conversion, a line each, only where it is so: no reference point of the
-/// station; a date that is told and does not count; codes with few phases; captures that are left out,
-/// that have no epoch or whose time falls; and observations that are not taken.
+/// station; captures that are dated near the others; a date that is told and does not count; codes with few phases; texts that messages told and
+/// that a label does not have; captures that are left out, that have no epoch or whose time falls; and
+/// observations that are not taken.
 pub fn what_is_known(
     alloc: Global,
     captures: &Captures<'_, '_>,
     plan: &Plan,
+    told: &Equipment,
 ) -> Result<Known, AllocError> {
     let setup = &plan.setup;
     let surveys = captures.surveys;
     let mut first = Vec::new(alloc);
     put_no_position(&mut first, plan.captures.as_slice())?;
-    put_other_date(&mut first, captures, plan)?;
+    put_undated(&mut first, captures, plan)?;
+    put_other_dates(&mut first, captures, plan)?;
     put_few_phases(&mut first, captures, setup)?;
+    put_texts_left_out(&mut first, told)?;
     let mut last = Vec::new(alloc);
     put_skipped(&mut last, captures, plan)?;
     put_epochs(&mut last, captures, plan)?;

@@ -86,10 +86,12 @@ mod refusal;
 mod said_command;
 mod span_line;
 mod station_capture;
+mod texts_left_out;
 mod told_label;
 mod values;
 mod wanted;
 
+pub use capture_equipment::equipment_in_captures;
 pub use captures::Captures;
 pub use chosen_station::{OnlyStation, only_station};
 pub use count_lines::put_counts;

@@ -5,14 +5,18 @@
 ghost use Rattle.std.specs.Prelude.{◌≡◌, ◌≤◌, ◌+◌, ◌++◌, OnOk};
 ghost use Rattle.rtk_plan.specs.Lists as spec;
 
-use crate::chosen_station::{STATIONS, is_observed};
+use crate::chosen_station::observes;
 use crate::said_command::put_time;
 use crate::span_line::put_message;
-use crate::values::{messages_in_captures, others_in_captures};
+use crate::station_capture::epochs_heard;
+use crate::values::{held_in_captures, messages_in_captures, others_in_captures};
 use rtk_message::{MsmKind, put_named, put_number, put_sh_quoted};
 use rtk_obs::GpsMs;
-use rtk_survey::{CaptureSurvey, Look, ReferencePoint, Told};
+use rtk_survey::{CaptureSurvey, Look, Placed, ReferencePoint, Told};
 use std::alloc::AllocError;
+
+/// How many message numbers there are: DF002 has 12 bits.
+const NUMBERS: u16 = 4096;
 
 // Appends a line feed.
 fn end_line(lines: &mut Vec<u8>) -> Result<(), AllocError>
@@ -36,6 +40,14 @@ pub(crate) fn put_name_line(lines: &mut Vec<u8>, words: &[u8], name: &str) -> Re
 {
     put_words_and_name(lines, words, name)?;
     end_line(lines)
+}
+
+/// Appends the line of a capture that is dated near the others.
+pub(crate) fn put_undated_line(lines: &mut Vec<u8>, name: &str) -> Result<(), AllocError>
+    ensures { OnOk result (lines.new.items ≡ lines.old.items ++ spec.undated_line name.now) }
+{
+    put_words_and_name(lines, b" undated ", name)?;
+    lines.extend_from_slice(b": dated near the others\n")
 }
 
 // What a capture without a frame looks like.
@@ -180,27 +192,61 @@ pub(crate) fn put_msms(
     Ok(())
 }
 
-// Appends the line of a station, if it has observations.
-fn put_station(
+/// Appends the line of a station in a capture, if it has observations there.
+pub(crate) fn put_station_line(
     lines: &mut Vec<u8>,
-    surveys: &[CaptureSurvey],
+    survey: &CaptureSurvey,
     station: u16,
+    name: &str,
 ) -> Result<(), AllocError>
-    ensures { OnOk result (lines.new.items ≡ lines.old.items ++ spec.observed_line surveys.now station) }
+    ensures { OnOk result (lines.new.items ≡ lines.old.items ++ spec.station_line survey.now station name.now) }
 {
-    if !is_observed(surveys, station) {
+    if !observes(station, survey) {
         return Ok(());
     }
     put_named(lines, b" station ", u64::from(station))?;
-    end_line(lines)
+    put_words_and_name(lines, b" in ", name)?;
+    put_epochs(lines, epochs_heard(survey.contents.stations.get(&station)))
 }
 
-/// Appends the lines of the stations with observations.
-pub(crate) fn put_stations(lines: &mut Vec<u8>, surveys: &[CaptureSurvey]) -> Result<(), AllocError>
-    ensures { OnOk result (lines.new.items ≡ lines.old.items ++ spec.observed_lines surveys.now) }
+// Appends a number of epochs, and ends the line.
+fn put_epochs(lines: &mut Vec<u8>, epochs: u64) -> Result<(), AllocError>
+    ensures { OnOk result (lines.new.items ≡ lines.old.items ++ spec.epochs_text epochs) }
 {
-    for station in 0..STATIONS {
-        put_station(lines, surveys, station)?;
+    put_named(lines, b": ", epochs)?;
+    lines.extend_from_slice(b" epochs\n")
+}
+
+/// Appends the line of the epochs of a capture, if they can be written.
+pub(crate) fn put_reach_line(
+    lines: &mut Vec<u8>,
+    reach: &Placed,
+    epochs: u64,
+    name: &str,
+) -> Result<(), AllocError> {
+    let (Some(from), Some(until)) = (GpsMs::new(reach.from), GpsMs::new(reach.until)) else {
+        return Ok(());
+    };
+    lines.push(b' ')?;
+    put_time(lines, from)?;
+    lines.extend_from_slice(b" until ")?;
+    put_time(lines, until)?;
+    put_words_and_name(lines, b" in ", name)?;
+    put_epochs(lines, epochs)
+}
+
+// Are messages of this number observations that `put_unread` lists?
+fn is_listed(number: u16) -> bool {
+    matches!(number, 1001..=1003 | 1009..=1012 | 1071..=1073)
+        || 1081 <= number && number <= 1137 && matches!(number % 10, 1..=7)
+}
+
+/// Appends a line for each number of messages that captures have, but those of `put_unread`.
+pub(crate) fn put_held(lines: &mut Vec<u8>, surveys: &[CaptureSurvey]) -> Result<(), AllocError> {
+    for number in 0..NUMBERS {
+        if !is_listed(number) {
+            put_count_line(lines, b" holds ", number, held_in_captures(surveys, number))?;
+        }
     }
     Ok(())
 }

@@ -68,7 +68,7 @@ fn named_station(
         return Ok(station);
     }
     match only_station(captures.surveys) {
-        OnlyStation::None => refused(Refusal::NoObservation, captures.list_unread(alloc)?),
+        OnlyStation::None => refused(Refusal::NoObservation, captures.list_held(alloc)?),
         _ => refused(
             Refusal::NoStation { station },
             captures.list_stations(alloc)?,
@@ -94,7 +94,7 @@ fn station_to_convert(
         OnlyStation::Several => {
             refused(Refusal::SeveralStations, captures.list_stations(alloc)?)
         }
-        OnlyStation::None => refused(Refusal::NoObservation, captures.list_unread(alloc)?),
+        OnlyStation::None => refused(Refusal::NoObservation, captures.list_held(alloc)?),
     }
 }
 

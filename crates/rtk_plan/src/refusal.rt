@@ -37,7 +37,7 @@ pub enum Refusal {
     #[error("the epochs are not dated from 1980-01-13 to 2099-12-31; see --near")]
     OutsideDates,
     /// No message tells a date.
-    #[error("the captures tell no date; give one, as in --near 2024-05-17T12:00:00")]
+    #[error("the captures tell no date; give one, as in --near GPS-TIME-WITHIN-HALF-A-WEEK")]
     NoDate,
     /// Epochs are more than half a week from the first one.
     #[error("the captures are longer than half a week; convert them in parts")]

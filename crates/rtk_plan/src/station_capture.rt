@@ -62,6 +62,18 @@ pub(crate) fn has_observation(station: Option<&StationSurvey>) -> bool
     }
 }
 
+/// How many epochs the observation messages of a station have: one more than their time changes.
+pub(crate) fn epochs_heard(station: Option<&StationSurvey>) -> u64
+    ensures { result ≡ spec.epochs_heard (option_copied station.entry) }
+{
+    match station {
+        Some(station) if station.times.first.is_some() => {
+            station.times.changes.saturating_add(1)
+        }
+        _ => 0,
+    }
+}
+
 /// Is this the station?
 pub(crate) fn is_station(station: u16, other: Option<u16>) -> bool
     ensures { result ≡ spec.is_station station other }
@@ -72,7 +84,8 @@ pub(crate) fn is_station(station: u16, other: Option<u16>) -> bool
     }
 }
 
-fn span_in(station: u16, survey: &CaptureSurvey) -> Option<Span>
+/// The epochs of a station in a capture, if it was surveyed for the station.
+pub(crate) fn span_in(station: u16, survey: &CaptureSurvey) -> Option<Span>
     ensures { result ≡ (spec.dates_in station survey.now).span }
 {
     match &survey.contents.target {

@@ -162,3 +162,35 @@ pub(crate) fn others_in_captures(surveys: &[CaptureSurvey], number: u16) -> u64
     }
     count
 }
+
+// How many messages of a number that is read captures have of a station.
+fn read_of_station(number: u16, station: &StationSurvey) -> u64 {
+    match number {
+        1004 => station.counts.obs_1004,
+        1005 => station.counts.arp_1005,
+        1006 => station.counts.arp_1006,
+        1074 => station.msm.msm4.messages,
+        1075 => station.msm.msm5.messages,
+        1076 => station.msm.msm6.messages,
+        1077 => station.msm.msm7.messages,
+        _ => 0,
+    }
+}
+
+// How many messages of a number that is read a capture has, of all stations.
+fn read_in_capture(survey: &CaptureSurvey, number: u16) -> u64 {
+    let mut count = 0u64;
+    for station in survey.contents.stations.values() {
+        count = count.saturating_add(read_of_station(number, station));
+    }
+    count
+}
+
+/// How many messages of a number captures have, whether they are read or not.
+pub(crate) fn held_in_captures(surveys: &[CaptureSurvey], number: u16) -> u64 {
+    let mut count = others_in_captures(surveys, number);
+    for survey in surveys {
+        count = count.saturating_add(read_in_capture(survey, number));
+    }
+    count
+}

@@ -29,9 +29,10 @@ mod links;
 mod present_time;
 mod quiet;
 mod resuming;
+mod unbroken;
 
 pub use before::Before;
-pub use beside::{Beside, OutputFault, can_get_name, let_go, make_beside, name_whole};
+pub use beside::{Beside, OutputFault, can_get_name, is_there, let_go, make_beside, name_whole};
 pub use exit_status::{DONE, FAILED, NOT_VALID, REFUSED, fail, fail_to_end, fail_to_open};
 pub use fault::ToolFault;
 pub use files::{
@@ -45,3 +46,4 @@ pub use links::{Link, OpenFault, fail_to_open_links, has_standard_input, open_li
 pub use present_time::{PresentFault, PresentTime, present};
 pub use quiet::Quiet;
 pub use resuming::Resumed;
+pub use unbroken::Unbroken;
