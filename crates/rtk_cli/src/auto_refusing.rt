@@ -68,6 +68,23 @@ pub(crate) fn keep_named<R: Eprint + AllocGlobal>(rt: &R, name: &str) -> u8
     NOT_VALID
 }
 
+/// Says what a file has that has its name now. The work is done, whether or not it can be said.
+pub(crate) fn say_written<R: Eprint + AllocGlobal>(
+    rt: &R,
+    name: &str,
+    epochs: u64,
+    satellites: usize,
+) {
+    let Ok(name) = quoted(rt.alloc(), name) else {
+        return;
+    };
+    let _told = if epochs == 0 {
+        eprintln!(rt; "wrote {name}: no epochs")
+    } else {
+        eprintln!(rt; "wrote {name}: {epochs} epochs, G {satellites} satellites")
+    };
+}
+
 /// Says why a file does not get its name.
 pub(crate) fn fail_output<R: Eprint + AllocGlobal>(rt: &R, name: &str, fault: OutputFault) -> u8
     ensures { result ≡ FAILED }

@@ -9,14 +9,16 @@ use crate::auto_converting::convert_joined;
 use crate::auto_labelling::label_beside;
 use crate::auto_looking::{look_at_files, made_at};
 use crate::auto_reading::survey_captures;
-use crate::auto_refusing::{fail_output, keep_named};
+use crate::auto_refusing::{fail_output, keep_named, say_written};
 use crate::converting::{Converted, conversion_status};
+use crate::watching::Watched;
 use crate::words::AutoWords;
 use rtk_convert::{Counts, Setup, Station};
 use rtk_label::Label;
 use rtk_plan::{
-    Captures, Known, Plan, PlanFault, Ways, equipment_in_captures, label_wanted, plan_of,
-    put_command, put_counts, put_known, put_label_command, put_span, what_is_known,
+    Captures, Conflicts, Known, Plan, PlanFault, Ways, WrittenFile, equipment_in_captures,
+    label_wanted, plan_of, put_command, put_counts, put_file, put_known, put_label_command,
+    what_is_known,
 };
 use rtk_rinex::CreationTime;
 use rtk_streams::{
@@ -110,19 +112,20 @@ fn files_of_links<'a, R: Files>(
     grouped(alloc, files, links)
 }
 
-// What is said after the conversion: the counts, unless the report has them, and what a person should
-// know.
+// What is said after the conversion: the counts, unless the report has them, what the file has, and what a
+// person should know.
 fn said_after(
     alloc: Global,
-    counts: &Counts,
+    outcome: &Outcome,
     known: &Known,
     is_reported: bool,
 ) -> Result<Vec<u8>, AllocError> {
     let mut lines = Vec::new(alloc);
     if !is_reported {
-        put_counts(&mut lines, counts)?;
+        put_counts(&mut lines, &outcome.counts)?;
     }
-    put_known(&mut lines, known, counts)?;
+    put_file(&mut lines, known, &outcome.file, outcome.conflicts)?;
+    put_known(&mut lines, known, &outcome.counts)?;
     Ok(lines)
 }
 
@@ -157,6 +160,10 @@ struct Work<'a> {
 #[derive(Drop)]
 struct Outcome {
     counts: Counts,
+    /// What the file has.
+    file: WrittenFile,
+    /// How many conflicts the report lists.
+    conflicts: u64,
     /// Standard error took all that was said.
     is_heard: bool,
 }
@@ -174,7 +181,8 @@ fn convert_to<R: Files + Eprint + AllocGlobal, O: Write + Drop, W: Write + Drop>
     let Ok(files) = files_of_links(rt.alloc(), rt, work.links.as_slice()) else {
         return Err(fail(rt, ToolFault::OutOfMemory));
     };
-    let report = Quiet::new(report, !is_reported);
+    let out = Watched::new(out, WrittenFile::new(rt.alloc()));
+    let report = Watched::new(Quiet::new(report, !is_reported), Conflicts::new());
     let converted = match convert_joined(rt.alloc(), work.setup, files, out, report) {
         Ok(converted) => converted,
         Err(fault) => return Err(fail(rt, fault)),
@@ -185,7 +193,7 @@ fn convert_to<R: Files + Eprint + AllocGlobal, O: Write + Drop, W: Write + Drop>
 // Says how a conversion went.
 fn finish<R: Eprint + AllocGlobal, O: Write + Drop, W: Write + Drop>(
     rt: &R,
-    converted: Converted<O, Quiet<Unbroken<W>>>,
+    converted: Converted<Watched<O, WrittenFile>, Watched<Quiet<Unbroken<W>>, Conflicts>>,
     known: &Known,
     is_reported: bool,
 ) -> Result<(O, Outcome), u8>
@@ -197,16 +205,24 @@ fn finish<R: Eprint + AllocGlobal, O: Write + Drop, W: Write + Drop>(
         Ok(counts) if converted.is_out => counts,
         done => return Err(conversion_status(rt, done, converted.is_out)),
     };
-    let Ok(lines) = said_after(rt.alloc(), &counts, known, is_reported) else {
+    let (out, file) = converted.out.into_parts();
+    let (report, conflicts) = converted.report.into_parts();
+    let (Some(file), Some(conflicts)) = (file, conflicts) else {
         return Err(fail(rt, ToolFault::OutOfMemory));
     };
-    let mut report = converted.report.into_inner();
-    tell(&mut report, lines.as_slice());
-    let outcome = Outcome {
+    let mut outcome = Outcome {
         counts,
-        is_heard: !report.has_failed(),
+        file,
+        conflicts: conflicts.count(),
+        is_heard: true,
     };
-    Ok((converted.out, outcome))
+    let Ok(lines) = said_after(rt.alloc(), &outcome, known, is_reported) else {
+        return Err(fail(rt, ToolFault::OutOfMemory));
+    };
+    let mut report = report.into_inner();
+    tell(&mut report, lines.as_slice());
+    outcome.is_heard = !report.has_failed();
+    Ok((out, outcome))
 }
 
 // Converts to a file beside this name. If that is not whole, it is let go.
@@ -289,9 +305,20 @@ fn name_converted<R: Files + Input + Eprint + AllocGlobal>(
         Err(status) => return status,
     };
     match name_whole(rt, whole.file, whole.name.as_str(), name, force) {
-        Ok(()) => done_status(rt, outcome),
+        Ok(()) => named_status(rt, outcome, name),
         Err(fault) => fail_output(rt, name, fault),
     }
+}
+
+// The exit status once a file has its name, which is said last.
+fn named_status<R: Eprint + AllocGlobal>(rt: &R, outcome: &Outcome, name: &str) -> u8
+    ensures { result ≤ NOT_VALID }
+{
+    let status = done_status(rt, outcome);
+    if outcome.is_heard {
+        say_written(rt, name, outcome.counts.epochs, outcome.file.satellites());
+    }
+    status
 }
 
 // Converts to a file beside this name, which gets the name once it is whole, or once the file with its
@@ -338,7 +365,6 @@ fn work_of<'a>(
     lines: &mut Vec<u8>,
 ) -> Result<Work<'a>, AllocError> {
     let links = names_of_links(alloc, plan.links.as_slice(), captures.names)?;
-    put_span(lines, &plan.span)?;
     lines.extend_from_slice(b" the same by hand:\n")?;
     put_command(lines, &plan.setup, links.as_slice())?;
     let (station, near) = (plan.setup.station(), plan.setup.near());
@@ -385,6 +411,20 @@ fn begin_planned<'a, R: Eprint + AllocGlobal, W: Write>(
     Ok(work)
 }
 
+// The captures by the bytes of their names, so that the order in which they are given makes no difference; or as
+// they are given.
+fn in_order_of_names<'a>(
+    alloc: Global,
+    names: &[&'a str],
+    as_given: bool,
+) -> Result<Vec<&'a str>, AllocError> {
+    let mut ordered = Vec::from_slice(alloc, names)?;
+    if !as_given {
+        ordered.sort()?;
+    }
+    Ok(ordered)
+}
+
 // Looks at the files, surveys the captures, plans their conversion, and says it. The surveys are let go
 // here, before the conversion begins.
 #[inline(never)]
@@ -402,10 +442,14 @@ fn begin<'a, R: Env + Clock + Files + Input + Eprint + AllocGlobal, W: Write>(
         station: words.wanted.station.map(Station::number),
         present: made.moment(),
     };
-    let surveys = survey_captures(rt, &target, names)?;
+    let as_given = words.ways.links_as_given;
+    let Ok(names) = in_order_of_names(rt.alloc(), names, as_given) else {
+        return Err(fail(rt, ToolFault::OutOfMemory));
+    };
+    let surveys = survey_captures(rt, &target, names.as_slice())?;
     let captures = Captures {
         surveys: surveys.as_slice(),
-        names,
+        names: names.as_slice(),
     };
     begin_planned(rt, report, words, &captures, made)
 }

@@ -41,6 +41,7 @@ mod option_texts;
 mod options;
 mod refusing;
 mod running;
+mod watching;
 mod words;
 
 pub use auto_converting::convert_joined;

@@ -24,6 +24,13 @@ late_count_line late window =
     codes " late " ++ decimal late ++ codes ": messages after " ++ decimal window ++ codes " newer epochs are left out\n"
 
 -- formula
+-- how many conflicts there were, if there were some
+unfoldable pub conflicts_line : ℕ → List ℕ
+conflicts_line conflicts =
+    if conflicts == 0 then [] else
+    codes " conflict " ++ decimal conflicts ++ codes ": later copies differ from the first, which the file has\n"
+
+-- formula
 -- what was known before the conversion, and between it the line of late messages
 unfoldable pub known_lines : Known → ℕ → List ℕ
 known_lines k late = k.first.items ++ late_count_line late k.window ++ k.last.items

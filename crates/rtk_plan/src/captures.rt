@@ -3,7 +3,6 @@
 use crate::chosen_station::STATIONS;
 use crate::lists::{
     put_capture_line, put_date_line, put_held, put_name_line, put_reach_line, put_station_line,
-    put_unread,
 };
 use crate::station_capture::{StationCapture, epochs_heard, told_in};
 use rtk_survey::{CaptureSurvey, Placed};
@@ -61,10 +60,9 @@ impl<'n> Captures<'_, 'n> {
         Ok(lines)
     }
 
-    /// A line for each number of messages: of observations that are not read first, then of all others.
+    /// A line for each number of messages.
     pub(crate) fn list_held(&self, alloc: Global) -> Result<Vec<u8>, AllocError> {
         let mut lines = Vec::new(alloc);
-        put_unread(&mut lines, self.surveys)?;
         put_held(&mut lines, self.surveys)?;
         Ok(lines)
     }
