@@ -249,7 +249,7 @@ STOPPED = {
     "dates differ": "the captures tell dates that differ; choose one by --near",
     "no date": "the captures tell no date; give one, as in --near GPS-TIME-WITHIN-HALF-A-WEEK",
     "give them in parts": "the captures are longer than half a week; convert them in parts",
-    "outside the dates": "the epochs are not dated from 1980-01-13 to 2099-12-31; see --near",
+    "outside the dates": "the first epoch is not dated from 1980-01-13 to 2099-12-31; choose a date by --near",
     "too many links": "more than 16 captures are of the same time, and 16 links are taken",
     "positions differ": "the station stands at positions that differ; --links-as-given takes them for one",
 }

@@ -64,6 +64,9 @@ done 3<<'ROWS'
 3|here.0 here.2|the station stands at positions that differ; --links-as-given takes them for one\n position 1114104.5999 -4850729.7108 3975521.4643 in here.0\n position 1114204.6000 -4850729.7108 3975521.4643 in here.2
 3|far_and_later here.1 here.0|the station stands at positions that differ; --links-as-given takes them for one\n position 1114204.6000 -4850729.7108 3975521.4643 in far_and_later\n position 1114104.5999 -4850729.7108 3975521.4643 in here.0
 3|here.0 far|the station stands at positions that differ; --links-as-given takes them for one\n position 1114204.6000 -4850729.7108 3975521.4643 in far\n position 1114104.5999 -4850729.7108 3975521.4643 in here.0
+3|--msm 4 of_1077|neither a 1004 nor the MSM of --msm has a GPS observation; choose another MSM\n holds 1013, 1 messages\n holds GPS 1077, 2 messages
+3|--near 1980-01-13T00:00:00 one|the first epoch is not dated from 1980-01-13 to 2099-12-31; choose a date by --near
+3|--near 2099-12-31T23:59:59 one|the first epoch is not dated from 1980-01-13 to 2099-12-31; choose a date by --near
 ROWS
 run auto --made 2024-06-01 one; expect form_of_made 2 '' 'rtcm2rinex: bad --made
  --made takes YYYY-MM-DDTHH:MM:SS (UTC), from 1980-01-06T00:00:00 to 2100-12-31T23:59:59'
@@ -356,6 +359,39 @@ for force in '' -f; do
     "$program" auto --made $made $force -o file --codes 5X one >out 2>&-; status=$?; : >err
     leaves "a_header_and_closed_standard_error_$force" 1 /dev/null /dev/null; rm file
 done
+# A capture that changes between its two readings. reread CHANGE WORD..: `auto`, while this command changes the capture `grows`.
+reread() {
+    cp one grows
+    change=$1
+    shift
+    python3 -B "$root/tests/program/rereading.py" "$change" grows "$program" auto --made $made "$@" >out 2>err
+    status=$?
+}
+sed 's/ one$/ grows/' lines >said
+# Its bytes are others, or fewer: a byte of its first frame, its first byte alone, its end, or all of it.
+{ cat said; echo 'rtcm2rinex: grows has changed since it was read first'; } >want
+while IFS='|' read -r name change <&3; do
+    reread "$change" -o file grows; unfinished; leaves "a_capture_$name" 1 /dev/null want
+done 3<<'ROWS'
+with_another_byte|printf x | dd of="$1" bs=1 seek=10 conv=notrunc status=none
+that_begins_otherwise|printf x | dd of="$1" bs=1 conv=notrunc status=none
+that_ends_otherwise|size=$(wc -c <"$1"); printf x | dd of="$1" bs=1 seek=$((size - 1)) conv=notrunc status=none
+that_lacks_a_byte|truncate -s -1 "$1"
+that_is_empty|: >"$1"
+that_is_longer_and_another|cat one >>"$1"; printf x | dd of="$1" bs=1 seek=10 conv=notrunc status=none
+ROWS
+reread 'printf x | dd of="$1" bs=1 seek=10 conv=notrunc status=none' grows; [ "$status" = 1 ] && cmp -s err want && right a_capture_with_another_byte_to_standard_output || wrong a_capture_with_another_byte_to_standard_output "$status $(cat err)"
+{ cat said; echo 'rtcm2rinex: read failed'; } >want
+reread 'rm "$1"' -o file grows; unfinished; leaves a_capture_that_is_gone 1 /dev/null want
+# It has grown: the file has what its first bytes told, and a line says so; the same with a name as sh takes it.
+{ cat said; sed '1,2d' one.err; echo " grown grows: what came after its first $(wc -c <one | tr -d ' ') bytes is not in the file"; echo 'wrote file: 2 epochs, G 2 satellites'; } >want
+reread 'cat one >>"$1"' -o file grows; leaves a_capture_that_has_grown 0 /dev/null want; same its_first_bytes file one.rnx; rm file
+# It is as it was, though it was written again.
+{ cat said; sed '1,2d' one.err; echo 'wrote file: 2 epochs, G 2 satellites'; } >want
+reread 'cp one "$1"' -o file grows; leaves a_capture_that_is_written_again 0 /dev/null want; same the_same_bytes file one.rnx; rm file
+# Of two captures of a link the second one changes.
+cp 'one' grows; reread 'printf x >>"$1"; truncate -s 10 "$1"' -o file here.0 grows; tail -n 1 err >told; echo 'rtcm2rinex: grows has changed since it was read first' >want
+same the_second_capture told want; [ ! -e file ] && right no_file_of_the_second || wrong no_file_of_the_second "$(ls file*)"
 "$program" auto --made $made one >out 2>&-; status=$?; : >err; leaves an_output_and_closed_standard_error 1 one.rnx /dev/null
 "$program" auto --made $made one >/dev/full 2>err; status=$?; : >out
 leaves a_full_output 1 /dev/null want

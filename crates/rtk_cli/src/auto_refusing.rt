@@ -57,6 +57,17 @@ pub(crate) fn refuse_twice<R: Eprint + AllocGlobal>(rt: &R, name: &str) -> u8
     REFUSED
 }
 
+/// Says that a capture is not as it was when it was read first.
+pub(crate) fn fail_differing<R: Eprint + AllocGlobal>(rt: &R, name: &str) -> u8
+    ensures { result ≡ FAILED }
+{
+    let Ok(name) = quoted(rt.alloc(), name) else {
+        return fail(rt, ToolFault::OutOfMemory);
+    };
+    let _told = eprintln!(rt; "rtcm2rinex: {name} has changed since it was read first");
+    FAILED
+}
+
 /// Says that no record came, so that the file that has the name keeps it.
 pub(crate) fn keep_named<R: Eprint + AllocGlobal>(rt: &R, name: &str) -> u8
     ensures { result ≤ NOT_VALID }

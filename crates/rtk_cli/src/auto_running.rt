@@ -9,7 +9,8 @@ use crate::auto_converting::convert_joined;
 use crate::auto_labelling::label_beside;
 use crate::auto_looking::{look_at_files, made_at};
 use crate::auto_reading::survey_captures;
-use crate::auto_refusing::{fail_output, keep_named, say_written};
+use crate::auto_refusing::{fail_differing, fail_output, keep_named, say_written};
+use crate::auto_rereading::{CaptureRead, captures_at, files_of_links, put_grown};
 use crate::converting::{Converted, conversion_status};
 use crate::watching::Watched;
 use crate::words::AutoWords;
@@ -22,11 +23,12 @@ use rtk_plan::{
 };
 use rtk_rinex::CreationTime;
 use rtk_streams::{
-    Beside, DONE, FAILED, Later, NOT_VALID, Quiet, ToolFault, Unbroken, fail, is_there, let_go,
+    Beside, DONE, Digest, FAILED, NOT_VALID, Quiet, ToolFault, Unbroken, fail, is_there, let_go,
     make_beside, name_whole,
 };
 use rtk_survey::Target;
 use std::alloc::{AllocError, Global};
+use std::cell::Cell;
 use std::env::Env;
 use std::fs::Files;
 use std::io;
@@ -67,65 +69,36 @@ fn names_of_links<'a>(
     Ok(all)
 }
 
-// The files of the captures of all links, one after another.
-fn files_of<'a, R: Files>(
+// The captures of each link, as they were read.
+fn captures_of_links<'a>(
     alloc: Global,
-    rt: &'a R,
-    links: &[Vec<&'a str>],
-) -> Result<Vec<Later<'a, R>>, AllocError> {
-    let mut files = Vec::new(alloc);
+    links: &[Vec<usize>],
+    names: &[&'a str],
+    digests: &[Digest],
+) -> Result<Vec<Vec<CaptureRead<'a>>>, AllocError> {
+    let mut all = Vec::new(alloc);
     for link in links {
-        for name in link {
-            files.push(Later::new(rt, *name))?;
-        }
+        all.push(captures_at(alloc, link.as_slice(), names, digests)?)?;
     }
-    Ok(files)
-}
-
-// Values in groups as large as the links.
-fn grouped<T: Drop>(
-    alloc: Global,
-    values: Vec<T>,
-    links: &[Vec<&str>],
-) -> Result<Vec<Vec<T>>, AllocError> {
-    let mut groups = Vec::new(alloc);
-    let mut rest = values.into_iter();
-    for link in links {
-        let mut group = Vec::new(alloc);
-        for _name in link {
-            if let Some(value) = rest.next() {
-                group.push(value)?;
-            }
-        }
-        groups.push(group)?;
-    }
-    Ok(groups)
-}
-
-// The files of the captures of each link.
-fn files_of_links<'a, R: Files>(
-    alloc: Global,
-    rt: &'a R,
-    links: &[Vec<&'a str>],
-) -> Result<Vec<Vec<Later<'a, R>>>, AllocError> {
-    let files = files_of(alloc, rt, links)?;
-    grouped(alloc, files, links)
+    Ok(all)
 }
 
 // What is said after the conversion: the counts, unless the report has them, what the file has, and what a
 // person should know.
-fn said_after(
-    alloc: Global,
+fn said_after<R: Files + AllocGlobal>(
+    rt: &R,
     outcome: &Outcome,
     known: &Known,
+    links: &[Vec<CaptureRead<'_>>],
     is_reported: bool,
 ) -> Result<Vec<u8>, AllocError> {
-    let mut lines = Vec::new(alloc);
+    let mut lines = Vec::new(rt.alloc());
     if !is_reported {
         put_counts(&mut lines, &outcome.counts)?;
     }
     put_file(&mut lines, known, &outcome.file, outcome.conflicts)?;
     put_known(&mut lines, known, &outcome.counts)?;
+    put_grown(rt, &mut lines, links)?;
     Ok(lines)
 }
 
@@ -149,8 +122,8 @@ fn done_status<R: Eprint>(rt: &R, outcome: &Outcome) -> u8
 #[derive(Drop)]
 struct Work<'a> {
     setup: Setup,
-    /// The names of the captures of each link.
-    links: Vec<Vec<&'a str>>,
+    /// The captures of each link.
+    links: Vec<Vec<CaptureRead<'a>>>,
     known: Known,
     /// The label that the file gets.
     label: Option<Label>,
@@ -178,7 +151,8 @@ fn convert_to<R: Files + Eprint + AllocGlobal, O: Write + Drop, W: Write + Drop>
 ) -> Result<(O, Outcome), u8>
     ensures { IfErr result (λ status. status ≤ NOT_VALID) }
 {
-    let Ok(files) = files_of_links(rt.alloc(), rt, work.links.as_slice()) else {
+    let differing = Cell::new(None);
+    let Ok(files) = files_of_links(rt.alloc(), rt, work.links.as_slice(), &differing) else {
         return Err(fail(rt, ToolFault::OutOfMemory));
     };
     let out = Watched::new(out, WrittenFile::new(rt.alloc()));
@@ -187,14 +161,18 @@ fn convert_to<R: Files + Eprint + AllocGlobal, O: Write + Drop, W: Write + Drop>
         Ok(converted) => converted,
         Err(fault) => return Err(fail(rt, fault)),
     };
-    finish(rt, converted, &work.known, is_reported)
+    if let Some(name) = differing.get() {
+        return Err(fail_differing(rt, name));
+    }
+    finish(rt, converted, &work.known, work.links.as_slice(), is_reported)
 }
 
 // Says how a conversion went.
-fn finish<R: Eprint + AllocGlobal, O: Write + Drop, W: Write + Drop>(
+fn finish<R: Files + Eprint + AllocGlobal, O: Write + Drop, W: Write + Drop>(
     rt: &R,
     converted: Converted<Watched<O, WrittenFile>, Watched<Quiet<Unbroken<W>>, Conflicts>>,
     known: &Known,
+    links: &[Vec<CaptureRead<'_>>],
     is_reported: bool,
 ) -> Result<(O, Outcome), u8>
     requires { IfErr converted.done IsRunFault }
@@ -216,7 +194,7 @@ fn finish<R: Eprint + AllocGlobal, O: Write + Drop, W: Write + Drop>(
         conflicts: conflicts.count(),
         is_heard: true,
     };
-    let Ok(lines) = said_after(rt.alloc(), &outcome, known, is_reported) else {
+    let Ok(lines) = said_after(rt, &outcome, known, links, is_reported) else {
         return Err(fail(rt, ToolFault::OutOfMemory));
     };
     let mut report = report.into_inner();
@@ -360,13 +338,15 @@ fn convert_to_output<R: Files + Print + Eprint + AllocGlobal, W: Write + Drop>(
 fn work_of<'a>(
     alloc: Global,
     captures: &Captures<'_, 'a>,
+    digests: &[Digest],
     plan: Plan,
     ways: &Ways<'_>,
     lines: &mut Vec<u8>,
 ) -> Result<Work<'a>, AllocError> {
-    let links = names_of_links(alloc, plan.links.as_slice(), captures.names)?;
+    let named = names_of_links(alloc, plan.links.as_slice(), captures.names)?;
+    let links = captures_of_links(alloc, plan.links.as_slice(), captures.names, digests)?;
     lines.extend_from_slice(b" the same by hand:\n")?;
-    put_command(lines, &plan.setup, links.as_slice())?;
+    put_command(lines, &plan.setup, named.as_slice())?;
     let (station, near) = (plan.setup.station(), plan.setup.near());
     let told = equipment_in_captures(alloc, captures.surveys, station, near)?;
     put_label_command(alloc, lines, &told, ways.output)?;
@@ -386,6 +366,7 @@ fn begin_planned<'a, R: Eprint + AllocGlobal, W: Write>(
     report: &mut Unbroken<W>,
     words: &AutoWords<'_>,
     captures: &Captures<'_, 'a>,
+    digests: &[Digest],
     made: CreationTime,
 ) -> Result<Work<'a>, u8>
     ensures { IfErr result (λ status. status ≤ NOT_VALID) }
@@ -404,7 +385,7 @@ fn begin_planned<'a, R: Eprint + AllocGlobal, W: Write>(
         Err(fault) => return Err(fail_plan(rt, report, fault)),
     };
     let mut lines = Vec::new(rt.alloc());
-    let Ok(work) = work_of(rt.alloc(), captures, plan, ways, &mut lines) else {
+    let Ok(work) = work_of(rt.alloc(), captures, digests, plan, ways, &mut lines) else {
         return Err(fail(rt, ToolFault::OutOfMemory));
     };
     tell(report, lines.as_slice());
@@ -446,12 +427,12 @@ fn begin<'a, R: Env + Clock + Files + Input + Eprint + AllocGlobal, W: Write>(
     let Ok(names) = in_order_of_names(rt.alloc(), names, as_given) else {
         return Err(fail(rt, ToolFault::OutOfMemory));
     };
-    let surveys = survey_captures(rt, &target, names.as_slice())?;
+    let read = survey_captures(rt, &target, names.as_slice())?;
     let captures = Captures {
-        surveys: surveys.as_slice(),
+        surveys: read.surveys.as_slice(),
         names: names.as_slice(),
     };
-    begin_planned(rt, report, words, &captures, made)
+    begin_planned(rt, report, words, &captures, read.digests.as_slice(), made)
 }
 
 /// Converts captures of one station; what the conversion is told is found in them.

@@ -23,6 +23,7 @@ mod auto_labelling;
 mod auto_looking;
 mod auto_reading;
 mod auto_refusing;
+mod auto_rereading;
 mod auto_running;
 mod auto_words;
 mod clap_words;

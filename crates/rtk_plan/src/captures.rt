@@ -24,6 +24,13 @@ pub(crate) struct StationCaptures<'c, 's, 'n> {
     pub(crate) captures: &'c [StationCapture],
 }
 
+/// A line for each number of messages that captures have.
+pub(crate) fn list_held(alloc: Global, surveys: &[CaptureSurvey]) -> Result<Vec<u8>, AllocError> {
+    let mut lines = Vec::new(alloc);
+    put_held(&mut lines, surveys)?;
+    Ok(lines)
+}
+
 impl<'n> Captures<'_, 'n> {
     /// The name of a capture.
     pub(crate) fn name(&self, place: usize) -> &'n str {
@@ -57,13 +64,6 @@ impl<'n> Captures<'_, 'n> {
         for station in 0..STATIONS {
             self.put_station_lines(&mut lines, station)?;
         }
-        Ok(lines)
-    }
-
-    /// A line for each number of messages.
-    pub(crate) fn list_held(&self, alloc: Global) -> Result<Vec<u8>, AllocError> {
-        let mut lines = Vec::new(alloc);
-        put_held(&mut lines, self.surveys)?;
         Ok(lines)
     }
 

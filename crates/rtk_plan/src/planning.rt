@@ -12,7 +12,7 @@ ghost use Rattle.rtk_plan.specs.Positions.{some_are_far};
 ghost use Rattle.rtk_plan.specs.Plan.{IsChosenStation, msm_chosen, codes_chosen, marker_chosen, captures_of, IsNearOf, ArePlaced, IsInReach, IsSetupFor};
 ghost use Rattle.rtk_plan.specs.Values.{codes_in_captures};
 
-use crate::captures::{Captures, StationCaptures};
+use crate::captures::{Captures, StationCaptures, list_held};
 use crate::chosen_station::{OnlyStation, is_observed, only_station};
 use crate::dating::{Dating, date_captures};
 use crate::kept::empty_captures;
@@ -68,7 +68,9 @@ fn named_station(
         return Ok(station);
     }
     match only_station(captures.surveys) {
-        OnlyStation::None => refused(Refusal::NoObservation, captures.list_held(alloc)?),
+        OnlyStation::None => {
+            refused(Refusal::NoObservation, list_held(alloc, captures.surveys)?)
+        }
         _ => refused(
             Refusal::NoStation { station },
             captures.list_stations(alloc)?,
@@ -94,7 +96,9 @@ fn station_to_convert(
         OnlyStation::Several => {
             refused(Refusal::SeveralStations, captures.list_stations(alloc)?)
         }
-        OnlyStation::None => refused(Refusal::NoObservation, captures.list_held(alloc)?),
+        OnlyStation::None => {
+            refused(Refusal::NoObservation, list_held(alloc, captures.surveys)?)
+        }
     }
 }
 
@@ -135,7 +139,7 @@ fn codes_to_convert(
     }
     let codes = codes_in_captures(alloc, surveys, station, msm)?;
     if codes.is_empty() {
-        return refused(Refusal::NoCode, Vec::new(alloc));
+        return refused(Refusal::NoCode, list_held(alloc, surveys)?);
     }
     Ok(codes)
 }
