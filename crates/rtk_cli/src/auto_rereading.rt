@@ -1,9 +1,6 @@
 //! The captures of a conversion, which are read a second time: as far as they were read at first, and only if
 //! they are as they were.
 
-ghost use Rattle.std.specs.Prelude.{◌≡◌};
-ghost use Rattle.rtk_streams.specs.declared.exit_status.TheConstants.{FAILED};
-
 use rtk_message::{put_named, put_sh_quoted};
 use rtk_streams::{Again, Digest, Later, is_longer};
 use std::alloc::{AllocError, Global};
@@ -91,7 +88,11 @@ pub(crate) fn files_of_links<'a, R: Files>(
 fn put_grown_line(lines: &mut Vec<u8>, capture: &CaptureRead<'_>) -> Result<(), AllocError> {
     lines.extend_from_slice(b" grown ")?;
     put_sh_quoted(lines, capture.name.as_bytes())?;
-    put_named(lines, b": what came after its first ", capture.digest.bytes())?;
+    put_named(
+        lines,
+        b": what came after its first ",
+        capture.digest.bytes(),
+    )?;
     lines.extend_from_slice(b" bytes is not in the file\n")
 }
 

@@ -151,7 +151,7 @@ fn convert_to<R: Files + Eprint + AllocGlobal, O: Write + Drop, W: Write + Drop>
 ) -> Result<(O, Outcome), u8>
     ensures { IfErr result (λ status. status ≤ NOT_VALID) }
 {
-    let differing = Cell::new(None);
+    let differing: Cell<Option<&str>> = Cell::new(None);
     let Ok(files) = files_of_links(rt.alloc(), rt, work.links.as_slice(), &differing) else {
         return Err(fail(rt, ToolFault::OutOfMemory));
     };
@@ -164,7 +164,13 @@ fn convert_to<R: Files + Eprint + AllocGlobal, O: Write + Drop, W: Write + Drop>
     if let Some(name) = differing.get() {
         return Err(fail_differing(rt, name));
     }
-    finish(rt, converted, &work.known, work.links.as_slice(), is_reported)
+    finish(
+        rt,
+        converted,
+        &work.known,
+        work.links.as_slice(),
+        is_reported,
+    )
 }
 
 // Says how a conversion went.
@@ -183,11 +189,14 @@ fn finish<R: Files + Eprint + AllocGlobal, O: Write + Drop, W: Write + Drop>(
         Ok(counts) if converted.is_out => counts,
         done => return Err(conversion_status(rt, done, converted.is_out)),
     };
-    let (out, file) = converted.out.into_parts();
-    let (report, conflicts) = converted.report.into_parts();
-    let (Some(file), Some(conflicts)) = (file, conflicts) else {
+    let Ok(written) = converted.out.into_parts() else {
         return Err(fail(rt, ToolFault::OutOfMemory));
     };
+    let Ok(reported) = converted.report.into_parts() else {
+        return Err(fail(rt, ToolFault::OutOfMemory));
+    };
+    let (out, file) = written;
+    let (report, conflicts) = reported;
     let mut outcome = Outcome {
         counts,
         file,

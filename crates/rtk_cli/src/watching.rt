@@ -1,6 +1,7 @@
 //! A writer whose text is looked at as it passes.
 
 use rtk_plan::TakesText;
+use std::alloc::AllocError;
 use std::io;
 use std::io::Write;
 
@@ -9,8 +10,8 @@ use std::io::Write;
 pub(crate) struct Watched<W, T> {
     inner: W,
     watch: T,
-    // Memory was refused, and the text is no longer looked at.
-    is_cut: bool,
+    // Once memory is refused, the text is no longer looked at.
+    taken: Result<(), AllocError>,
 }
 
 impl<W: Drop, T: Drop> Watched<W, T> {
@@ -19,17 +20,14 @@ impl<W: Drop, T: Drop> Watched<W, T> {
         Watched {
             inner,
             watch,
-            is_cut: false,
+            taken: Ok(()),
         }
     }
 
-    /// The writer behind, and what looked at the whole text; `None` if memory was refused.
-    pub(crate) fn into_parts(self) -> (W, Option<T>) {
-        if self.is_cut {
-            (self.inner, None)
-        } else {
-            (self.inner, Some(self.watch))
-        }
+    /// The writer behind, and what looked at the whole text.
+    pub(crate) fn into_parts(self) -> Result<(W, T), AllocError> {
+        self.taken?;
+        Ok((self.inner, self.watch))
     }
 }
 
@@ -40,8 +38,8 @@ impl<W: Write, T: TakesText> Write for Watched<W, T> {
 
     fn write(&mut self, buf: &[u8]) -> io::Result<usize> {
         let count = self.inner.write(buf)?;
-        if !self.is_cut && count <= buf.len() {
-            self.is_cut = self.watch.take(&buf[..count]).is_err();
+        if self.taken.is_ok() && count <= buf.len() {
+            self.taken = self.watch.take(&buf[..count]);
         }
         Ok(count)
     }

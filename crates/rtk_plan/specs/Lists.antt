@@ -125,5 +125,5 @@ epochs_text epochs = codes ": " ++ decimal epochs ++ codes " epochs\n"
 abbrev pub station_line : CaptureSurvey → ℕ → List ℕ → List ℕ
 station_line s station name =
     if observes station s then
-      codes " station " ++ decimal station ++ words_and_name (codes " in ") name ++ epochs_text (epochs_heard (station_in station s))
+    codes " station " ++ decimal station ++ words_and_name (codes " in ") name ++ epochs_text (epochs_heard (station_in station s))
     else []

@@ -37,8 +37,8 @@ line_without_antenna field why (Some text) =
 unfoldable pub antenna_left_out : Equipment → List ℕ
 antenna_left_out e =
     if is_null_told e.antenna_type.last then
-      line_without_antenna (codes "antenna-type") (codes " names no antenna: ") e.antenna_type.last
-      ++ line_without_antenna (codes "antenna-serial") (codes " is of no antenna: ") e.antenna_serial.last
+    line_without_antenna (codes "antenna-type") (codes " names no antenna: ") e.antenna_type.last
+    ++ line_without_antenna (codes "antenna-serial") (codes " is of no antenna: ") e.antenna_serial.last
     else unfit_line (codes "antenna-type") e.antenna_type.last ++ unfit_line (codes "antenna-serial") e.antenna_serial.last
 
 -- formula

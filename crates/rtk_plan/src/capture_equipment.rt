@@ -158,7 +158,19 @@ pub fn equipment_in_captures(
     let antennas = order_told(alloc, Part::Antenna, surveys, station, near)?;
     let receivers = order_told(alloc, Part::Receiver, surveys, station, near)?;
     let mut told = Equipment::new();
-    take_captures(&mut told, Part::Antenna, surveys, station, antennas.as_slice());
-    take_captures(&mut told, Part::Receiver, surveys, station, receivers.as_slice());
+    take_captures(
+        &mut told,
+        Part::Antenna,
+        surveys,
+        station,
+        antennas.as_slice(),
+    );
+    take_captures(
+        &mut told,
+        Part::Receiver,
+        surveys,
+        station,
+        receivers.as_slice(),
+    );
     Ok(told)
 }

@@ -64,11 +64,7 @@ fn unpacker(look: Look) -> &'static [u8]
 }
 
 // Appends the command that unpacks a file, if there is one.
-fn put_unpacking(
-    lines: &mut Vec<u8>,
-    command: &[u8],
-    name: &str,
-) -> Result<(), AllocError>
+fn put_unpacking(lines: &mut Vec<u8>, command: &[u8], name: &str) -> Result<(), AllocError>
     ensures { OnOk result (lines.new.items ≡ lines.old.items ++ spec.unpacking command.now name.now) }
 {
     if command.len() == 0 {
@@ -303,7 +299,12 @@ pub(crate) fn put_doppler(
         return Ok(());
     }
     let count = messages_in_captures(surveys, station, taken);
-    put_count_line(lines, b" not in the file: Doppler of ", taken.number(), count)
+    put_count_line(
+        lines,
+        b" not in the file: Doppler of ",
+        taken.number(),
+        count,
+    )
 }
 
 /// Appends the line of a first epoch that a capture tells.

@@ -23,11 +23,7 @@ fn reason(text: &[u8]) -> &'static [u8]
     }
 }
 
-fn put_field_and_reason(
-    lines: &mut Vec<u8>,
-    field: &[u8],
-    reason: &[u8],
-) -> Result<(), AllocError>
+fn put_field_and_reason(lines: &mut Vec<u8>, field: &[u8], reason: &[u8]) -> Result<(), AllocError>
     ensures { OnOk result (lines.new.items ≡ lines.old.items ++ spec.field_and_reason field.now reason.now) }
 {
     lines.extend_from_slice(b" not-in-label ")?;
@@ -111,10 +107,7 @@ fn put_receiver(lines: &mut Vec<u8>, told: &Equipment) -> Result<(), AllocError>
 }
 
 /// Appends a line for each text that was told last and that the label of the station does not have.
-pub(crate) fn put_texts_left_out(
-    lines: &mut Vec<u8>,
-    told: &Equipment,
-) -> Result<(), AllocError>
+pub(crate) fn put_texts_left_out(lines: &mut Vec<u8>, told: &Equipment) -> Result<(), AllocError>
     ensures { OnOk result (lines.new.items ≡ lines.old.items ++ spec.texts_left_out told.now) }
 {
     put_antenna(lines, told)?;

@@ -167,9 +167,5 @@ pub fn label_wanted(told: &Equipment, ways: &Ways<'_>) -> Option<Label>
     ensures asked { ways.now.label ≡ true → result ≡ spec.label_if_any told.now }
     ensures not_asked { ways.now.label ≡ false → result ≡ None }
 {
-    if ways.label {
-        label_if_any(told)
-    } else {
-        None
-    }
+    if ways.label { label_if_any(told) } else { None }
 }

@@ -3,18 +3,18 @@ use Rattle.std.specs.Prelude.{ℕ, List, [], ◌∷◌, ◌+◌, ◌-◌, ◌*�
 use Rattle.rtk_streams.specs.declared.rereading.Digest.{Digest}
 
 -- formula
--- the sum with a byte more, as a u64
+-- the checksum with a byte more, as a u64
 abbrev pub with_byte : ℕ → ℕ → ℕ
-with_byte sum byte = ((sum * 1099511628211) % (2 ^ 64) + byte) % (2 ^ 64)
+with_byte check byte = ((check * 1099511628211) % (2 ^ 64) + byte) % (2 ^ 64)
 
--- the sum with more bytes, the first of them first
-abbrev pub sum_with : ℕ → List ℕ → ℕ
-sum_with sum [] = sum
-sum_with sum (byte ∷ bytes) = sum_with (with_byte sum byte) bytes
+-- the checksum with more bytes, the first of them first
+abbrev pub check_with : ℕ → List ℕ → ℕ
+check_with check [] = check
+check_with check (byte ∷ bytes) = check_with (with_byte check byte) bytes
 
 abbrev pub no_digest : Digest
-no_digest = record { bytes = 0; sum = 0 }
+no_digest = record { bytes = 0; check = 0 }
 
 -- what was read, and a part more
 abbrev pub digest_with : Digest → List ℕ → Digest
-digest_with digest part = record { bytes = min (digest.bytes + length part) (2 ^ 64 - 1); sum = sum_with digest.sum part }
+digest_with digest part = record { bytes = min (digest.bytes + length part) (2 ^ 64 - 1); check = check_with digest.check part }

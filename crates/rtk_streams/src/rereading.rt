@@ -7,32 +7,32 @@ use std::cell::Cell;
 use std::io;
 use std::io::{Error, Read};
 
-/// By this a sum is multiplied for each byte. It is odd, so no change of a single byte gets lost.
+/// By this a checksum is multiplied for each byte. It is odd, so no change of a single byte gets lost.
 const FACTOR: u64 = 1_099_511_628_211;
 
-/// What was read: how many bytes, and a sum in which each byte counts by its place.
+/// What was read: how many bytes, and a checksum in which each byte counts by its place.
 #[derive(Clone, Copy, Debug, PartialEq, Eq)]
 pub struct Digest {
     bytes: u64,
-    sum: u64,
+    check: u64,
 }
 
-// The sum with a byte more.
-fn with_byte(sum: u64, byte: u8) -> u64
-    ensures { result ≡ spec.with_byte sum byte }
+// The checksum with a byte more.
+fn with_byte(check: u64, byte: u8) -> u64
+    ensures { result ≡ spec.with_byte check byte }
 {
-    sum.wrapping_mul(FACTOR).wrapping_add(u64::from(byte))
+    check.wrapping_mul(FACTOR).wrapping_add(u64::from(byte))
 }
 
-// The sum with more bytes.
-fn sum_with(before: u64, part: &[u8]) -> u64
-    ensures { result ≡ spec.sum_with before part.now }
+// The checksum with more bytes.
+fn check_with(before: u64, part: &[u8]) -> u64
+    ensures { result ≡ spec.check_with before part.now }
 {
-    let mut sum = before;
+    let mut check = before;
     for byte in part {
-        sum = with_byte(sum, *byte);
+        check = with_byte(check, *byte);
     }
-    sum
+    check
 }
 
 impl Digest {
@@ -40,7 +40,7 @@ impl Digest {
     pub fn new() -> Digest
         ensures { result ≡ spec.no_digest }
     {
-        Digest { bytes: 0, sum: 0 }
+        Digest { bytes: 0, check: 0 }
     }
 
     /// How many bytes were read. Stays at the greatest `u64`.
@@ -51,12 +51,12 @@ impl Digest {
     }
 
     /// What was read, and a part more. In how many parts the bytes come makes no difference.
-    pub fn with(&self, part: &[u8]) -> Digest
+    pub fn followed_by(&self, part: &[u8]) -> Digest
         ensures { result ≡ spec.digest_with self.now part.now }
     {
         Digest {
             bytes: self.bytes.saturating_add(part.len() as u64),
-            sum: sum_with(self.sum, part),
+            check: check_with(self.check, part),
         }
     }
 }
@@ -83,7 +83,7 @@ impl<R: Read> Read for Digested<'_, R> {
     fn read(&mut self, buf: &mut [u8]) -> io::Result<usize> {
         let count = self.inner.read(buf)?;
         let digest = self.digest.get();
-        self.digest.set(digest.with(&buf[..count]));
+        self.digest.set(digest.followed_by(&buf[..count]));
         Ok(count)
     }
 }
@@ -94,7 +94,7 @@ pub struct Again<'a, R> {
     inner: R,
     name: &'a str,
     before: Digest,
-    now: Digest,
+    given: Digest,
     differing: &'a Cell<Option<&'a str>>,
 }
 
@@ -112,7 +112,7 @@ impl<'a, R> Again<'a, R> {
             inner,
             name,
             before,
-            now: Digest::new(),
+            given: Digest::new(),
             differing,
         }
     }
@@ -123,8 +123,8 @@ impl<R: Read> Read for Again<'_, R> {
 
     fn read(&mut self, buf: &mut [u8]) -> io::Result<usize> {
         let count = self.inner.read(buf)?;
-        self.now = self.now.with(&buf[..count]);
-        if count == 0 && !buf.is_empty() && self.now != self.before {
+        self.given = self.given.followed_by(&buf[..count]);
+        if count == 0 && !buf.is_empty() && self.given != self.before {
             self.differing.set(Some(self.name));
             return Err(Error::other("the file has changed"));
         }
