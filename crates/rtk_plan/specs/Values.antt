@@ -53,6 +53,8 @@ epochs_after e n kind ss (place ∷ places) =
 abbrev pub epochs_in_link : List CaptureSurvey → ℕ → MsmKind → List ℕ → ℕ
 epochs_in_link ss n kind link = (epochs_after no_epochs n kind ss link).count
 
+-- formula
+-- the most epochs of an MSM that a link has, if one before them has so many
 abbrev pub most_after : ℕ → List CaptureSurvey → ℕ → MsmKind → List (List ℕ) → ℕ
 most_after most ss n kind [] = most
 most_after most ss n kind (link ∷ links) = most_after (max most (epochs_in_link ss n kind link)) ss n kind links
