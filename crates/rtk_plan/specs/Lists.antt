@@ -1,5 +1,5 @@
 -- The lines that list what a refusal or a warning speaks of (this project's rule).
-use Rattle.std.specs.Prelude.{ℕ, ◌==◌, List, [], ◌∷◌, ◌++◌, length, flat_map, codes, decimal, Option, None, Some, if◌then◌else◌}
+use Rattle.std.specs.Prelude.{ℕ, ◌==◌, List, [], ◌∷◌, ◌++◌, length, nat_lt, flat_map, codes, decimal, Option, None, Some, if◌then◌else◌}
 use Rattle.std.specs.List.{range_with_len}
 use Rattle.rtk_message.specs.declared.msm_kind.MsmKind.{MsmKind}
 use Rattle.rtk_message.specs.declared.msm_kind.MsmKind.TheVariants.{Msm4, Msm5, Msm6, Msm7}
@@ -9,6 +9,10 @@ use Rattle.rtk_survey.specs.declared.survey.CaptureSurvey.{CaptureSurvey}
 use Rattle.rtk_plan.specs.ChosenStation.{observes}
 use Rattle.rtk_plan.specs.StationCaptures.{epochs_heard, station_in}
 use Rattle.rtk_plan.specs.Values.{messages_in_captures, others_in_captures}
+use Rattle.rtk_obs.specs.declared.time.TheConstants.{LAST_MS}
+use Rattle.rtk_survey.specs.declared.tellings.Told.{Told}
+use Rattle.rtk_plan.specs.SaidCommand.{time_text}
+use Rattle.rtk_plan.specs.SpanLine.{date_message_text}
 use Rattle.rtk_survey.specs.Look.{look_name}
 use Rattle.rtk_survey.specs.declared.look.Look.{Look}
 use Rattle.rtk_survey.specs.declared.look.Look.TheVariants.{Unknown, Empty, Gzip, Bzip2, Xz, Zip}
@@ -114,6 +118,12 @@ abbrev pub doppler_line : MsmKind → List CaptureSurvey → ℕ → List ℕ
 doppler_line Msm4 ss station = []
 doppler_line Msm6 ss station = []
 doppler_line kind ss station = count_line_of (codes " not in the file: Doppler of ") (number_of_kind kind) (messages_in_captures ss station kind)
+
+-- formula
+-- a first epoch that a message tells, if it can be written
+unfoldable pub date_line : Told → List ℕ → List ℕ
+date_line t name =
+    if nat_lt LAST_MS t.first then [] else codes " " ++ time_text t.first ++ date_message_text t.message ++ name_line (codes " in ") name
 
 -- formula
 -- a number of epochs

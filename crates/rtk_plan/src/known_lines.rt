@@ -12,13 +12,13 @@ use crate::lists::{
 use crate::planning::Plan;
 use crate::positions::put_no_position;
 use crate::span_line::{DateSource, DatedSpan, put_span};
-use crate::station_capture::{StationCapture, told_in};
+use crate::station_capture::{StationCapture, passed_over_in, span_in, told_in};
 use crate::texts_left_out::put_texts_left_out;
 use crate::written_file::WrittenFile;
 use rtk_convert::{Counts, Setup};
 use rtk_message::put_named;
 use rtk_obs::GpsMs;
-use rtk_survey::{CaptureEpochs, Equipment, Span, Told, place};
+use rtk_survey::{CaptureEpochs, CaptureSurvey, Equipment, Span, Told, place};
 use std::alloc::{AllocError, Global};
 
 // Is this another first epoch than a conversion near this moment gives a capture with these epochs?
@@ -29,25 +29,53 @@ fn is_told_otherwise(near: GpsMs, told: &Told, span: Span) -> bool
     told.first != place(near, &epochs).first
 }
 
-// Appends the dates of a capture that tell another first epoch than the conversion gives it.
-fn put_other_dates_of(
+// Appends a date, if it is another first epoch than a conversion near this moment gives the capture.
+fn put_other_date(
     lines: &mut Vec<u8>,
-    captures: &Captures<'_, '_>,
-    plan: &Plan,
-    at: usize,
+    near: GpsMs,
     span: Span,
-) -> Result<(), AllocError> {
-    let (station, near) = (plan.setup.station(), plan.setup.near());
-    let Some(survey) = captures.surveys.get(at) else {
+    name: &str,
+    told: &Told,
+) -> Result<(), AllocError>
+    ensures { OnOk result (lines.new.items ≡ lines.old.items ++ spec.other_date_line near span name.now told.now) }
+{
+    if !is_told_otherwise(near, told, span) {
         return Ok(());
-    };
-    for told in told_in(station, survey) {
-        if is_told_otherwise(near, told, span) {
-            lines.extend_from_slice(b" other-date")?;
-            put_date_line(lines, told, captures.name(at))?;
-        }
+    }
+    lines.extend_from_slice(b" other-date")?;
+    put_date_line(lines, told, name)
+}
+
+fn put_those_of(
+    lines: &mut Vec<u8>,
+    near: GpsMs,
+    span: Span,
+    name: &str,
+    dates: &[Told],
+) -> Result<(), AllocError>
+    ensures { OnOk result (lines.new.items ≡ lines.old.items ++ spec.other_date_lines near span name.now dates.now) }
+{
+    for told in dates {
+        put_other_date(lines, near, span, name, told)?;
     }
     Ok(())
+}
+
+// Appends the dates of a capture that tell another first epoch than the conversion gives it: those by the
+// messages that date, and those by 1019 beside them.
+fn put_other_dates_of(
+    lines: &mut Vec<u8>,
+    survey: &CaptureSurvey,
+    setup: &Setup,
+    span: Span,
+    name: &str,
+) -> Result<(), AllocError>
+    ensures { OnOk result (lines.new.items ≡ lines.old.items
+        ++ spec.other_dates setup.now.station setup.now.near span survey.now name.now) }
+{
+    let (station, near) = (setup.station(), setup.near());
+    put_those_of(lines, near, span, name, told_in(station, survey))?;
+    put_those_of(lines, near, span, name, passed_over_in(station, survey))
 }
 
 // Appends the dates of all captures that tell another first epoch than the conversion gives them.
@@ -56,9 +84,10 @@ fn put_other_dates(
     captures: &Captures<'_, '_>,
     plan: &Plan,
 ) -> Result<(), AllocError> {
-    for (at, capture) in plan.captures.iter().enumerate() {
-        if let Some(span) = capture.span {
-            put_other_dates_of(lines, captures, plan, at, span)?;
+    for (at, survey) in captures.surveys.iter().enumerate() {
+        let setup = &plan.setup;
+        if let Some(span) = span_in(setup.station(), survey) {
+            put_other_dates_of(lines, survey, setup, span, captures.name(at))?;
         }
     }
     Ok(())

@@ -11,7 +11,7 @@ use crate::span_line::put_message;
 use crate::station_capture::epochs_heard;
 use crate::values::{held_in_captures, messages_in_captures, others_in_captures};
 use rtk_message::{MsmKind, put_named, put_number, put_sh_quoted};
-use rtk_obs::GpsMs;
+use rtk_obs::{GpsMs, LAST_MS};
 use rtk_survey::{CaptureSurvey, Look, Placed, ReferencePoint, Told};
 use std::alloc::AllocError;
 
@@ -307,16 +307,22 @@ pub(crate) fn put_doppler(
     )
 }
 
-/// Appends the line of a first epoch that a capture tells.
+/// Appends the line of a first epoch that a capture tells, if it can be written.
+#[tactic(auto, unfolding(crate::specs::Lists::date_line))]
 pub(crate) fn put_date_line(
     lines: &mut Vec<u8>,
     told: &Told,
     name: &str,
-) -> Result<(), AllocError> {
-    let Some(first) = GpsMs::new(told.first) else {
+) -> Result<(), AllocError>
+    ensures { OnOk result (lines.new.items ≡ lines.old.items ++ spec.date_line told.now name.now) }
+{
+    if LAST_MS < told.first {
         return Ok(());
+    }
+    let Some(first) = GpsMs::new(told.first) else {
+        unreachable!();
     };
-    lines.push(b' ')?;
+    lines.extend_from_slice(b" ")?;
     put_time(lines, first)?;
     put_message(lines, told.message)?;
     put_name_line(lines, b" in ", name)
