@@ -1,6 +1,6 @@
 //! The links of the captures that are converted.
 
-ghost use Rattle.std.specs.Prelude.{◌≡◌, ◌<◌, ◌≤◌, length, map, IfOk, IfErr};
+ghost use Rattle.std.specs.Prelude.{◌≡◌, ◌<◌, ◌≤◌, length, map, IfOk, IfErr, IsOk};
 ghost use Rattle.rtk_plan.specs.Causes.{IfRefused, AreTooMany};
 ghost use Rattle.rtk_plan.specs.Linking as spec;
 
@@ -81,19 +81,19 @@ fn last_captures(alloc: Global, links: &[Vec<usize>]) -> Result<Vec<usize>, Allo
     Ok(places)
 }
 
-/// The links, if a conversion takes so many.
-pub(crate) fn few_links(
+/// The links are refused if there are more than a conversion takes.
+pub(crate) fn limit_links(
     alloc: Global,
     captured: &StationCaptures<'_, '_, '_>,
-    links: Vec<Vec<usize>>,
-) -> Result<Vec<Vec<usize>>, PlanFault>
-    ensures few { IfOk result (λ few. (few ≡ links) × (length few.items ≤ 16)) }
-    ensures refused { IfErr result (IfRefused (AreTooMany (spec.places_of links.items))) }
+    links: &[Vec<usize>],
+) -> Result<(), PlanFault>
+    ensures few { IsOk result → length links.now ≤ 16 }
+    ensures refused { IfErr result (IfRefused (AreTooMany (spec.places_of links.now))) }
 {
     if links.len() <= MOST_LINKS {
-        return Ok(links);
+        return Ok(());
     }
-    let places = last_captures(alloc, links.as_slice())?;
+    let places = last_captures(alloc, links)?;
     refused(
         Refusal::TooManyLinks,
         captured.all.list_names(alloc, places.as_slice())?,

@@ -16,7 +16,7 @@ use crate::captures::{Captures, StationCaptures, list_held};
 use crate::chosen_station::{OnlyStation, is_observed, only_station};
 use crate::dating::date_captures;
 use crate::kept::empty_captures;
-use crate::linking::{few_links, links_as_given, links_found};
+use crate::linking::{limit_links, links_as_given, links_found};
 use crate::positions::agree_on_position;
 use crate::refusal::{PlanFault, Refusal, refused};
 use crate::span_line::DatedSpan;
@@ -302,7 +302,7 @@ fn plan_of_station(
         captured.station,
         dating.near,
     )?;
-    let links = few_links(alloc, captured, links)?;
+    limit_links(alloc, captured, links.as_slice())?;
     agree_unless(alloc, captured, as_given)?;
     Ok(Planned {
         setup,
