@@ -1,11 +1,11 @@
 //! What a conversion of captures is told, from what they tell and what words say.
 
-ghost use Rattle.std.specs.Prelude.{◌≡◌, ◌<◌, ◌≤◌, ℕ, List, None, Some, [], true, false, length, IfOk, IfErr, IsOk};
+ghost use Rattle.std.specs.Prelude.{◌≡◌, ◌<◌, ◌≤◌, None, Some, [], true, false, length, IfOk, IfErr, IsOk};
 ghost use Rattle.std.specs.List.{list_any};
 ghost use Rattle.std.specs.Option.{ForSome};
 ghost use Rattle.rtk_obs.specs.CivilText.{last_digits};
 ghost use Rattle.rtk_rinex.specs.Header.{IsCodeList};
-ghost use Rattle.rtk_plan.specs.Causes.{IfRefused, IsStationCause, IsEmptyCause, IsSetupCause, AreTooMany, IsCaptureCause, IsCauseOf, has_frames};
+ghost use Rattle.rtk_plan.specs.Causes.{IfRefused, IsStationCause, IsEmptyCause, IsSetupCause, IsCaptureCause, IsCauseOf, has_frames};
 ghost use Rattle.rtk_plan.specs.Kept.{empty_captures};
 ghost use Rattle.rtk_plan.specs.Linking.{places_of, AreLinksOf};
 ghost use Rattle.rtk_plan.specs.Positions.{some_are_far};
