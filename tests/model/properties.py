@@ -345,10 +345,10 @@ def auto_text(found: Found, said: Setup, due: Conversion, texts: list[bytes], is
     told = {at: distinct(finding.counting(finding.tellings(said.made, it, said.station), said.station)) for at, it in captures.items()}
     if is_told:
         lines += [f" undated link{at + 1}: dated near the others" for (at, of), epochs in zip(told.items(), found.epochs) if epochs and not of]
-    else:
-        others = [(at, it) for (at, of), epochs in zip(told.items(), found.epochs) for it in of if it.first != epochs[0]]
-        lines += [f" other-date {civil(it.first):%Y-%m-%dT%H:%M:%S} by {it.fields['number']}"
-                  + (f" of station {it.fields['station']}" if "station" in it.fields else "") + f" in link{at + 1}" for at, it in others]
+    passed = {at: distinct(finding.passed_over(finding.tellings(said.made, it, said.station), said.station)) for at, it in captures.items()}
+    others = [(at, it) for at, epochs in zip(kept, found.epochs) for it in told[at] + passed[at] if it.first != epochs[0]]
+    lines += [f" other-date {civil(it.first):%Y-%m-%dT%H:%M:%S} by {it.fields['number']}"
+              + (f" of station {it.fields['station']}" if "station" in it.fields else "") + f" in link{at + 1}" for at, it in others]
     lines += [f" few-phases {code}: its satellites have more than twice as many in another code" for code in found.few]
     lines += [f" late {counts['late']}: messages after {said.window} newer epochs are left out"] * (counts["late"] != "0")
     looks = {at: look_of(texts[at]) for at in found.skipped if not frames_of(texts[at])}
