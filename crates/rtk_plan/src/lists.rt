@@ -309,11 +309,7 @@ pub(crate) fn put_doppler(
 
 /// Appends the line of a first epoch that a capture tells, if it can be written.
 #[tactic(auto, unfolding(crate::specs::Lists::date_line))]
-pub(crate) fn put_date_line(
-    lines: &mut Vec<u8>,
-    told: &Told,
-    name: &str,
-) -> Result<(), AllocError>
+pub(crate) fn put_date_line(lines: &mut Vec<u8>, told: &Told, name: &str) -> Result<(), AllocError>
     ensures { OnOk result (lines.new.items ≡ lines.old.items ++ spec.date_line told.now name.now) }
 {
     if LAST_MS < told.first {

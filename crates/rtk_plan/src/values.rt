@@ -56,12 +56,7 @@ fn joined_epochs(before: Epochs, more: Epochs) -> Epochs
 }
 
 // The epochs of an MSM that a capture at a place has of a station.
-fn epochs_of_capture(
-    surveys: &[CaptureSurvey],
-    station: u16,
-    kind: MsmKind,
-    place: usize,
-) -> Epochs
+fn epochs_of_capture(surveys: &[CaptureSurvey], station: u16, kind: MsmKind, place: usize) -> Epochs
     ensures { result ≡ spec.epochs_of_capture station kind (slice_get surveys.now place) }
 {
     match surveys.get(place) {
@@ -83,12 +78,7 @@ fn epochs_in_link(surveys: &[CaptureSurvey], station: u16, kind: MsmKind, link: 
 }
 
 // How many epochs of an MSM have a value in the link that has most of them.
-fn most_epochs(
-    surveys: &[CaptureSurvey],
-    links: &[Vec<usize>],
-    station: u16,
-    kind: MsmKind,
-) -> u64
+fn most_epochs(surveys: &[CaptureSurvey], links: &[Vec<usize>], station: u16, kind: MsmKind) -> u64
     ensures { result ≡ spec.most_epochs surveys.now (places_of links.now) station kind }
 {
     let mut most = 0u64;
@@ -117,11 +107,7 @@ fn better_of(
 
 /// The MSM of which the station has most epochs with a value: of each MSM the link counts that has most
 /// of them, so that copies of a capture on several links do not add up.
-pub(crate) fn msm_of_links(
-    surveys: &[CaptureSurvey],
-    links: &[Vec<usize>],
-    station: u16,
-) -> MsmKind
+pub(crate) fn msm_of_links(surveys: &[CaptureSurvey], links: &[Vec<usize>], station: u16) -> MsmKind
     ensures { result ≡ proposal.proposed (spec.most_epochs surveys.now (places_of links.now) station) }
 {
     let first = better_of(surveys, links, station, MsmKind::Msm4, MsmKind::Msm5);
