@@ -9,8 +9,8 @@ use rtk_message::put_sh_quoted;
 use rtk_streams::{FAILED, NOT_VALID, OutputFault, REFUSED, ToolFault, fail, fail_to_open};
 use std::alloc::{AllocError, Global};
 
-// The name of a file as sh takes it.
-fn quoted(alloc: Global, name: &str) -> Result<String, AllocError>
+/// The name of a file as sh takes it.
+pub(crate) fn quoted(alloc: Global, name: &str) -> Result<String, AllocError>
     ensures { IfOk result (λ text. IsUtf8 (sh_quoted name.now) → string_bytes text ≡ sh_quoted name.now) }
 {
     let mut bytes = Vec::new(alloc);
@@ -79,16 +79,9 @@ pub(crate) fn keep_named<R: Eprint + AllocGlobal>(rt: &R, name: &str) -> u8
     NOT_VALID
 }
 
-/// Says what a file has that has its name now. The work is done, whether or not it can be said.
-pub(crate) fn say_written<R: Eprint + AllocGlobal>(
-    rt: &R,
-    name: &str,
-    epochs: u64,
-    satellites: usize,
-) {
-    let Ok(name) = quoted(rt.alloc(), name) else {
-        return;
-    };
+/// Says what a file has that has its name now, which is shown so. The work is done, whether or not it can be
+/// said.
+pub(crate) fn say_written<R: Eprint>(rt: &R, name: &str, epochs: u64, satellites: usize) {
     let _told = if epochs == 0 {
         eprintln!(rt; "wrote {name}: no epochs")
     } else {

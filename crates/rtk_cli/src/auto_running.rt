@@ -9,7 +9,7 @@ use crate::auto_converting::convert_joined;
 use crate::auto_labelling::label_beside;
 use crate::auto_looking::{look_at_files, made_at};
 use crate::auto_reading::survey_captures;
-use crate::auto_refusing::{fail_differing, fail_output, keep_named, say_written};
+use crate::auto_refusing::{fail_differing, fail_output, keep_named, quoted, say_written};
 use crate::auto_rereading::{CaptureRead, captures_at, files_of_links, put_grown};
 use crate::converting::{Converted, conversion_status};
 use crate::watching::Watched;
@@ -273,7 +273,8 @@ fn keep_status<R: Files + Eprint + AllocGlobal, F: Drop>(
     keep_named(rt, name)
 }
 
-// Gives a file that was converted its name, once it has its label. A file without a record replaces none.
+// Gives a file that was converted its name, once it has its label; or else says why not. A file without a record
+// replaces none.
 fn name_converted<R: Files + Input + Eprint + AllocGlobal>(
     rt: &R,
     label: Option<Label>,
@@ -281,24 +282,21 @@ fn name_converted<R: Files + Input + Eprint + AllocGlobal>(
     outcome: &Outcome,
     name: &str,
     force: bool,
-) -> u8
-    ensures { result ≤ NOT_VALID }
+) -> Result<(), u8>
+    ensures { IfErr result (λ status. status ≤ NOT_VALID) }
 {
     if force && outcome.counts.epochs == 0 && is_there(rt, name) {
-        return keep_status(rt, plain, name, outcome);
+        return Err(keep_status(rt, plain, name, outcome));
     }
-    let whole = match whole_beside(rt, label, plain, name) {
-        Ok(whole) => whole,
-        Err(status) => return status,
-    };
+    let whole = whole_beside(rt, label, plain, name)?;
     match name_whole(rt, whole.file, whole.name.as_str(), name, force) {
-        Ok(()) => named_status(rt, outcome, name),
-        Err(fault) => fail_output(rt, name, fault),
+        Ok(()) => Ok(()),
+        Err(fault) => Err(fail_output(rt, name, fault)),
     }
 }
 
-// The exit status once a file has its name, which is said last.
-fn named_status<R: Eprint + AllocGlobal>(rt: &R, outcome: &Outcome, name: &str) -> u8
+// The exit status once a file has its name, which is said last. The name is as sh takes it.
+fn named_status<R: Eprint>(rt: &R, outcome: &Outcome, name: &str) -> u8
     ensures { result ≤ NOT_VALID }
 {
     let status = done_status(rt, outcome);
@@ -320,9 +318,17 @@ fn convert_to_file<R: Files + Input + Eprint + AllocGlobal, W: Write + Drop>(
 ) -> u8
     ensures { result ≤ NOT_VALID }
 {
+    // Once FILE has its name, no memory is asked for.
+    let Ok(shown) = quoted(rt.alloc(), name) else {
+        return fail(rt, ToolFault::OutOfMemory);
+    };
     let label = work.label.take();
-    match convert_beside(rt, work, report, name, ways.report) {
-        Ok((plain, outcome)) => name_converted(rt, label, plain, &outcome, name, ways.force),
+    let (plain, outcome) = match convert_beside(rt, work, report, name, ways.report) {
+        Ok(done) => done,
+        Err(status) => return status,
+    };
+    match name_converted(rt, label, plain, &outcome, name, ways.force) {
+        Ok(()) => named_status(rt, &outcome, shown.as_str()),
         Err(status) => status,
     }
 }

@@ -1,6 +1,8 @@
 //! Files that are read twice: whether the second reading gives what the first one gave.
 
-ghost use Rattle.std.specs.Prelude.{◌≡◌};
+ghost use Rattle.std.specs.Prelude.{◌≡◌, ◌<◌, length, IfOk};
+ghost use Rattle.std.specs.Io.{ReadsAtMost};
+ghost use Rattle.std.specs.Io.KnownBytes.{ReadConsumes};
 ghost use Rattle.rtk_streams.specs.Digests as spec;
 
 use std::cell::Cell;
@@ -121,7 +123,11 @@ impl<'a, R> Again<'a, R> {
 impl<R: Read> Read for Again<'_, R> {
     ghost remaining = { λ reader. R.remaining reader.inner };
 
-    fn read(&mut self, buf: &mut [u8]) -> io::Result<usize> {
+    fn read(&mut self, buf: &mut [u8]) -> io::Result<usize>
+        ensures bound { ReadsAtMost result buf.new }
+        ensures bytes { ReadConsumes (R.remaining self.old.inner) (R.remaining self.new.inner) result buf.new }
+        ensures same { IfOk result (λ n. n ≡ 0 → 0 < length buf.new → self.new.given ≡ self.new.before) }
+    {
         let count = self.inner.read(buf)?;
         self.given = self.given.followed_by(&buf[..count]);
         if count == 0 && !buf.is_empty() && self.given != self.before {
