@@ -60,6 +60,15 @@ dates_in n s = dates_for n s.contents.target
 abbrev pub told_in : ℕ → CaptureSurvey → List Told
 told_in n s = counting (dates_in n s).told
 
+-- the first epochs that ephemerides tell, if messages of the station tell some, which count
+abbrev pub beside_own : List Told → List Told → List Told
+beside_own [] weeks = []
+beside_own (x ∷ xs) weeks = weeks
+
+-- the first epochs that messages tell and that do not count
+abbrev pub passed_over_in : ℕ → CaptureSurvey → List Told
+passed_over_in n s = beside_own (dates_in n s).told.own.items (dates_in n s).told.weeks.items
+
 abbrev pub first_told : List Told → Option Told
 first_told [] = None
 first_told (t ∷ ts) = Some t

@@ -3,7 +3,6 @@
 use crate::chosen_station::STATIONS;
 use crate::lists::{
     put_capture_line, put_date_line, put_held, put_name_line, put_reach_line, put_station_line,
-    put_unread,
 };
 use crate::station_capture::{StationCapture, epochs_heard, told_in};
 use rtk_survey::{CaptureSurvey, Placed};
@@ -23,6 +22,13 @@ pub(crate) struct StationCaptures<'c, 's, 'n> {
     pub(crate) all: Captures<'s, 'n>,
     pub(crate) station: u16,
     pub(crate) captures: &'c [StationCapture],
+}
+
+/// A line for each number of messages that captures have.
+pub(crate) fn list_held(alloc: Global, surveys: &[CaptureSurvey]) -> Result<Vec<u8>, AllocError> {
+    let mut lines = Vec::new(alloc);
+    put_held(&mut lines, surveys)?;
+    Ok(lines)
 }
 
 impl<'n> Captures<'_, 'n> {
@@ -58,14 +64,6 @@ impl<'n> Captures<'_, 'n> {
         for station in 0..STATIONS {
             self.put_station_lines(&mut lines, station)?;
         }
-        Ok(lines)
-    }
-
-    /// A line for each number of messages: of observations that are not read first, then of all others.
-    pub(crate) fn list_held(&self, alloc: Global) -> Result<Vec<u8>, AllocError> {
-        let mut lines = Vec::new(alloc);
-        put_unread(&mut lines, self.surveys)?;
-        put_held(&mut lines, self.surveys)?;
         Ok(lines)
     }
 

@@ -6,17 +6,19 @@ ghost use Rattle.rtk_plan.specs.KnownLines as spec;
 use crate::captures::Captures;
 use crate::few_phases::CapturePhases;
 use crate::lists::{
-    put_capture_line, put_date_line, put_msms, put_name_line, put_undated_line, put_unread,
+    put_capture_line, put_date_line, put_doppler, put_msms, put_name_line, put_undated_line,
+    put_unread,
 };
 use crate::planning::Plan;
 use crate::positions::put_no_position;
-use crate::span_line::DateSource;
-use crate::station_capture::{StationCapture, told_in};
+use crate::span_line::{DateSource, DatedSpan, put_span};
+use crate::station_capture::{StationCapture, passed_over_in, span_in, told_in};
 use crate::texts_left_out::put_texts_left_out;
+use crate::written_file::WrittenFile;
 use rtk_convert::{Counts, Setup};
 use rtk_message::put_named;
 use rtk_obs::GpsMs;
-use rtk_survey::{CaptureEpochs, Equipment, Span, Told, place};
+use rtk_survey::{CaptureEpochs, CaptureSurvey, Equipment, Span, Told, place};
 use std::alloc::{AllocError, Global};
 
 // Is this another first epoch than a conversion near this moment gives a capture with these epochs?
@@ -27,25 +29,53 @@ fn is_told_otherwise(near: GpsMs, told: &Told, span: Span) -> bool
     told.first != place(near, &epochs).first
 }
 
-// Appends the dates of a capture that tell another first epoch than the conversion gives it.
-fn put_other_dates_of(
+// Appends a date, if it is another first epoch than a conversion near this moment gives the capture.
+fn put_other_date(
     lines: &mut Vec<u8>,
-    captures: &Captures<'_, '_>,
-    plan: &Plan,
-    at: usize,
+    near: GpsMs,
     span: Span,
-) -> Result<(), AllocError> {
-    let (station, near) = (plan.setup.station(), plan.setup.near());
-    let Some(survey) = captures.surveys.get(at) else {
+    name: &str,
+    told: &Told,
+) -> Result<(), AllocError>
+    ensures { OnOk result (lines.new.items ≡ lines.old.items ++ spec.other_date_line near span name.now told.now) }
+{
+    if !is_told_otherwise(near, told, span) {
         return Ok(());
-    };
-    for told in told_in(station, survey) {
-        if is_told_otherwise(near, told, span) {
-            lines.extend_from_slice(b" other-date")?;
-            put_date_line(lines, told, captures.name(at))?;
-        }
+    }
+    lines.extend_from_slice(b" other-date")?;
+    put_date_line(lines, told, name)
+}
+
+fn put_those_of(
+    lines: &mut Vec<u8>,
+    near: GpsMs,
+    span: Span,
+    name: &str,
+    dates: &[Told],
+) -> Result<(), AllocError>
+    ensures { OnOk result (lines.new.items ≡ lines.old.items ++ spec.other_date_lines near span name.now dates.now) }
+{
+    for told in dates {
+        put_other_date(lines, near, span, name, told)?;
     }
     Ok(())
+}
+
+// Appends the dates of a capture that tell another first epoch than the conversion gives it: those by the
+// messages that date, and those by 1019 beside them.
+fn put_other_dates_of(
+    lines: &mut Vec<u8>,
+    survey: &CaptureSurvey,
+    setup: &Setup,
+    span: Span,
+    name: &str,
+) -> Result<(), AllocError>
+    ensures { OnOk result (lines.new.items ≡ lines.old.items
+        ++ spec.other_dates setup.now.station setup.now.near span survey.now name.now) }
+{
+    let (station, near) = (setup.station(), setup.near());
+    put_those_of(lines, near, span, name, told_in(station, survey))?;
+    put_those_of(lines, near, span, name, passed_over_in(station, survey))
 }
 
 // Appends the dates of all captures that tell another first epoch than the conversion gives them.
@@ -54,9 +84,10 @@ fn put_other_dates(
     captures: &Captures<'_, '_>,
     plan: &Plan,
 ) -> Result<(), AllocError> {
-    for (at, capture) in plan.captures.iter().enumerate() {
-        if let Some(span) = capture.span {
-            put_other_dates_of(lines, captures, plan, at, span)?;
+    for (at, survey) in captures.surveys.iter().enumerate() {
+        let setup = &plan.setup;
+        if let Some(span) = span_in(setup.station(), survey) {
+            put_other_dates_of(lines, survey, setup, span, captures.name(at))?;
         }
     }
     Ok(())
@@ -176,10 +207,11 @@ pub struct Known {
     last: Vec<u8>,
     /// How many epochs are kept open.
     window: usize,
+    /// By what the epochs are dated.
+    source: DateSource,
 }
 
-/// What a person should know of a conversion, a line each, only where it is so: no reference point of the
-/// station; captures that are dated near the others; a date that is told and does not count; codes with few phases; texts that messages told and
+/// What a person should know of a conversion, a line each, only where it is so: captures that are dated near the others; a date that is told and does not count; codes with few phases; texts that messages told and
 /// that a label does not have; captures that are left out, that have no epoch or whose time falls; and
 /// observations that are not taken.
 pub fn what_is_known(
@@ -191,7 +223,6 @@ pub fn what_is_known(
     let setup = &plan.setup;
     let surveys = captures.surveys;
     let mut first = Vec::new(alloc);
-    put_no_position(&mut first, plan.captures.as_slice())?;
     put_undated(&mut first, captures, plan)?;
     put_other_dates(&mut first, captures, plan)?;
     put_few_phases(&mut first, captures, setup)?;
@@ -200,12 +231,59 @@ pub fn what_is_known(
     put_skipped(&mut last, captures, plan)?;
     put_epochs(&mut last, captures, plan)?;
     put_msms(&mut last, surveys, setup.station(), setup.msm())?;
+    put_doppler(&mut last, surveys, setup.station(), setup.msm())?;
     put_unread(&mut last, surveys)?;
     Ok(Known {
         first,
         last,
         window: setup.window(),
+        source: plan.span.source,
     })
+}
+
+// Appends the epochs of a file, and by what they are dated.
+fn put_span_of(
+    lines: &mut Vec<u8>,
+    file: &WrittenFile,
+    source: DateSource,
+) -> Result<(), AllocError> {
+    let Some(span) = file.span() else {
+        return Ok(());
+    };
+    put_span(
+        lines,
+        &DatedSpan {
+            from: span.from,
+            until: span.until,
+            source,
+        },
+    )
+}
+
+// Appends how many conflicts there were.
+#[tactic(auto, unfolding(crate::specs::KnownLines::conflicts_line))]
+fn put_conflicts(lines: &mut Vec<u8>, conflicts: u64) -> Result<(), AllocError>
+    ensures { OnOk result (lines.new.items ≡ lines.old.items ++ spec.conflicts_line conflicts) }
+{
+    if conflicts == 0 {
+        return Ok(());
+    }
+    put_named(lines, b" conflict ", conflicts)?;
+    lines.extend_from_slice(b": later copies differ from the first, which the file has\n")
+}
+
+/// Appends what a file has that was written: its epochs, its gaps, that it has no position, and how many
+/// conflicts the report has.
+pub fn put_file(
+    lines: &mut Vec<u8>,
+    known: &Known,
+    file: &WrittenFile,
+    conflicts: u64,
+) -> Result<(), AllocError> {
+    put_span_of(lines, file, known.source)?;
+    put_no_position(lines, file.has_position())?;
+    file.put_gaps(lines)?;
+    put_conflicts(lines, conflicts)
 }
 
 /// Appends what a person should know of a conversion that is done, with its late messages.

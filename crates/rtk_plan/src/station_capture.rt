@@ -5,7 +5,7 @@ ghost use Rattle.std.specs.List.{list_any};
 ghost use Rattle.std.specs.Option.{option_copied};
 ghost use Rattle.rtk_plan.specs.StationCaptures as spec;
 
-use rtk_survey::{CaptureSurvey, Look, ReferencePoint, Span, StationSurvey, Told};
+use rtk_survey::{CaptureSurvey, Look, ReferencePoint, Span, StationSurvey, Tellings, Told};
 use std::alloc::{AllocError, Global};
 
 /// What a capture tells of a station. It has at most 200 bytes.
@@ -101,6 +101,29 @@ pub(crate) fn told_in(station: u16, survey: &CaptureSurvey) -> &[Told]
     match &survey.contents.target {
         Some(target) if is_station(station, target.dates.station) => {
             target.dates.capture.told.counting()
+        }
+        _ => &[],
+    }
+}
+
+// The first epochs that 1019 tell, if 1013 or 1029 of the station tell some, which count.
+fn beside_own(told: &Tellings) -> &[Told]
+    ensures { result.now ≡ spec.beside_own told.now.own.items told.now.weeks.items }
+{
+    if told.own.is_empty() {
+        return &[];
+    }
+    told.weeks.as_slice()
+}
+
+/// The first epochs that messages of a capture told of the station and that do not count: those by 1019
+/// beside 1013 or 1029 of the station.
+pub(crate) fn passed_over_in(station: u16, survey: &CaptureSurvey) -> &[Told]
+    ensures { result.now ≡ spec.passed_over_in station survey.now }
+{
+    match &survey.contents.target {
+        Some(target) if is_station(station, target.dates.station) => {
+            beside_own(&target.dates.capture.told)
         }
         _ => &[],
     }
