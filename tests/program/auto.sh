@@ -359,6 +359,9 @@ for force in '' -f; do
     "$program" auto --made $made $force -o file --codes 5X one >out 2>&-; status=$?; : >err
     leaves "a_header_and_closed_standard_error_$force" 1 /dev/null /dev/null; rm file
 done
+"$program" auto --made $made one >out 2>&-; status=$?; : >err; leaves an_output_and_closed_standard_error 1 one.rnx /dev/null
+"$program" auto --made $made one >/dev/full 2>err; status=$?; : >out
+leaves a_full_output 1 /dev/null want
 # A capture that changes between its two readings. reread CHANGE WORD..: `auto`, while this command changes the capture `grows`.
 reread() {
     cp one grows
@@ -392,8 +395,5 @@ reread 'cp one "$1"' -o file grows; leaves a_capture_that_is_written_again 0 /de
 # Of two captures of a link the second one changes.
 cp 'one' grows; reread 'printf x >>"$1"; truncate -s 10 "$1"' -o file here.0 grows; tail -n 1 err >told; echo 'rtcm2rinex: grows has changed since it was read first' >want
 same the_second_capture told want; [ ! -e file ] && right no_file_of_the_second || wrong no_file_of_the_second "$(ls file*)"
-"$program" auto --made $made one >out 2>&-; status=$?; : >err; leaves an_output_and_closed_standard_error 1 one.rnx /dev/null
-"$program" auto --made $made one >/dev/full 2>err; status=$?; : >out
-leaves a_full_output 1 /dev/null want
 
 ends
