@@ -386,13 +386,13 @@ ROWS
 reread 'printf x | dd of="$1" bs=1 seek=10 conv=notrunc status=none' grows; [ "$status" = 1 ] && cmp -s err want && right a_capture_with_another_byte_to_standard_output || wrong a_capture_with_another_byte_to_standard_output "$status $(cat err)"
 { cat said; echo 'rtcm2rinex: read failed'; } >want
 reread 'rm "$1"' -o file grows; unfinished; leaves a_capture_that_is_gone 1 /dev/null want
-# It has grown: the file has what its first bytes told, and a line says so; the same with a name as sh takes it.
+# It has grown: the file has what its first bytes told, and a line says so.
 { cat said; sed '1,2d' one.err; echo " grown grows: what came after its first $(wc -c <one | tr -d ' ') bytes is not in the file"; echo 'wrote file: 2 epochs, G 2 satellites'; } >want
 reread 'cat one >>"$1"' -o file grows; leaves a_capture_that_has_grown 0 /dev/null want; same its_first_bytes file one.rnx; rm file
 # It is as it was, though it was written again.
 { cat said; sed '1,2d' one.err; echo 'wrote file: 2 epochs, G 2 satellites'; } >want
 reread 'cp one "$1"' -o file grows; leaves a_capture_that_is_written_again 0 /dev/null want; same the_same_bytes file one.rnx; rm file
-# Of two captures of a link the second one changes.
+# Of two captures one changes.
 cp 'one' grows; reread 'printf x >>"$1"; truncate -s 10 "$1"' -o file here.0 grows; tail -n 1 err >told; echo 'rtcm2rinex: grows has changed since it was read first' >want
 same the_second_capture told want; [ ! -e file ] && right no_file_of_the_second || wrong no_file_of_the_second "$(ls file*)"
 
