@@ -171,11 +171,14 @@ finds '--near 2024-05-20T12:00:00 one' "$two --near" "$one_command one" "$counts
 finds '--near 2024-06-18T12:00:00 one' "2024-06-21T12:00:00 until 2024-06-21T12:00:01 by --near" "$(command 2024-06-21T12:00:00) one" "$counts" 0 '' \
     ' other-date 2024-05-17T12:00:00 by 1013 of station 2003 in one'
 finds '--near 2024-05-11T12:00:00 differ' "2024-05-10T12:00:00 until 2024-05-10T12:00:01 by --near" "$(command 2024-05-10T12:00:00) differ" '5 3 0 0 2 0 0 0 2' 0 '' \
-    ' other-date 2024-05-17T12:00:00 by 1013 of station 2003 in differ'
+    ' other-date 2024-05-17T12:00:00 by 1013 of station 2003 in differ\n other-date 2019-06-21T12:00:00 by 1019 in differ'
 finds '--near 2024-05-17T12:00:00 differ' "$two --near" "$one_command differ" '5 3 0 0 2 0 0 0 2' 0 one.rnx \
-    ' other-date 2024-05-10T12:00:00 by 1013 of station 2003 in differ'
+    ' other-date 2024-05-10T12:00:00 by 1013 of station 2003 in differ\n other-date 2019-06-21T12:00:00 by 1019 in differ'
 finds '--near 2024-06-18T12:00:00 differ' "2024-06-21T12:00:00 until 2024-06-21T12:00:01 by --near" "$(command 2024-06-21T12:00:00) differ" '5 3 0 0 2 0 0 0 2' 0 '' \
-    ' other-date 2024-05-17T12:00:00 by 1013 of station 2003 in differ\n other-date 2024-05-10T12:00:00 by 1013 of station 2003 in differ'
+    ' other-date 2024-05-17T12:00:00 by 1013 of station 2003 in differ\n other-date 2024-05-10T12:00:00 by 1013 of station 2003 in differ\n other-date 2019-06-21T12:00:00 by 1019 in differ'
+# Without --near the 1013 of the station counts, and a 1019 of another week is told.
+finds other_week "$two 1013" "$one_command other_week" '4 2 0 0 2 0 0 0 2' 0 one.rnx ' other-date 2024-05-10T12:00:00 by 1019 in other_week'
+finds same_week "$two 1013" "$one_command same_week" '4 2 0 0 2 0 0 0 2' 0 one.rnx
 # With --near all captures are dated by it, and none is undated.
 finds '--near 2024-05-17T12:00:00 later one' "$noon until 2024-05-17T12:00:03 by --near" "cat one later | $one_command stdin" '5 1 0 0 4 0 0 0 4' 0 ''
 # pins: joined_bytes, cat_words, one_link_text, no_position_line

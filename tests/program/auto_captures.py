@@ -66,6 +66,8 @@ CAPTURES = {
     # numbers that no message has
     "reserved": b"".join(frame_of((it << 4).to_bytes(2, "big")) for it in range(1080, 1139) if it % 10 in (8, 9, 0)),
     "differ": ONE + date(43_202, 60_440) + week(10, NOON),
+    "other_week": ONE + week(2313 % 1024, NOON),
+    "same_week": ONE + week(2314 % 1024, NOON),
     "weeks": week(2314 % 1024, NOON) + week(2313 % 1024, NOON) + epochs(NOON),
     "by_week": week(2314 % 1024, NOON) + epochs(NOON),
     "last_week": week(2313 % 1024, NOON) + epochs(NOON + 2),
