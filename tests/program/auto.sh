@@ -224,7 +224,7 @@ finds unfit "$two 1013" "$one_command unfit$(labelled " --antenna-type GPPNULLAN
     ' not-in-label receiver-type has more than 20 characters: of 21 characters here\n not-in-label receiver-version has characters that are no printable ASCII: tab\\x09'
 finds padded "$two 1013" "$one_command padded$(labelled " --antenna-type 'TRM55971.00     NONE' --antenna-number 144 --receiver-type 'TRIMBLE NETR9' --receiver-number 5148K72868")" '4 2 0 0 2 0 0 0 2' 0 one.rnx
 # What was told last counts by its time, and not by the order of the captures or of their begins.
-# pins: time_or_first, moment_told
+# pins: time_or_first, CaptureEquipment.moment_told
 finds 'antenna_2 antenna_1' "$noon until 2024-05-17T12:00:03 by 1013" "cat antenna_1 antenna_2 | $one_command stdin$(labelled ' --antenna-type B')" '8 4 0 0 4 0 0 0 4' 0 ''
 finds 'antenna_3 antenna_1' "$noon until 2024-05-17T12:00:04 by 1013" "cat antenna_1 antenna_3 | $one_command stdin$(labelled ' --antenna-type A --antenna-number 1')" '7 4 0 0 3 0 0 0 3' 0 ''
 finds 'antenna_3 antenna_2 antenna_1' "$noon until 2024-05-17T12:00:04 by 1013" "cat antenna_1 antenna_2 antenna_3 | $one_command stdin$(labelled ' --antenna-type A')" '11 6 0 0 5 0 0 0 5' 0 ''
@@ -359,6 +359,9 @@ for force in '' -f; do
     "$program" auto --made $made $force -o file --codes 5X one >out 2>&-; status=$?; : >err
     leaves "a_header_and_closed_standard_error_$force" 1 /dev/null /dev/null; rm file
 done
+"$program" auto --made $made one >out 2>&-; status=$?; : >err; leaves an_output_and_closed_standard_error 1 one.rnx /dev/null
+"$program" auto --made $made one >/dev/full 2>err; status=$?; : >out
+leaves a_full_output 1 /dev/null want
 # A capture that changes between its two readings. reread CHANGE WORD..: `auto`, while this command changes the capture `grows`.
 reread() {
     cp one grows
@@ -383,17 +386,14 @@ ROWS
 reread 'printf x | dd of="$1" bs=1 seek=10 conv=notrunc status=none' grows; [ "$status" = 1 ] && cmp -s err want && right a_capture_with_another_byte_to_standard_output || wrong a_capture_with_another_byte_to_standard_output "$status $(cat err)"
 { cat said; echo 'rtcm2rinex: read failed'; } >want
 reread 'rm "$1"' -o file grows; unfinished; leaves a_capture_that_is_gone 1 /dev/null want
-# It has grown: the file has what its first bytes told, and a line says so; the same with a name as sh takes it.
+# It has grown: the file has what its first bytes told, and a line says so.
 { cat said; sed '1,2d' one.err; echo " grown grows: what came after its first $(wc -c <one | tr -d ' ') bytes is not in the file"; echo 'wrote file: 2 epochs, G 2 satellites'; } >want
 reread 'cat one >>"$1"' -o file grows; leaves a_capture_that_has_grown 0 /dev/null want; same its_first_bytes file one.rnx; rm file
 # It is as it was, though it was written again.
 { cat said; sed '1,2d' one.err; echo 'wrote file: 2 epochs, G 2 satellites'; } >want
 reread 'cp one "$1"' -o file grows; leaves a_capture_that_is_written_again 0 /dev/null want; same the_same_bytes file one.rnx; rm file
-# Of two captures of a link the second one changes.
+# Of two captures one changes.
 cp 'one' grows; reread 'printf x >>"$1"; truncate -s 10 "$1"' -o file here.0 grows; tail -n 1 err >told; echo 'rtcm2rinex: grows has changed since it was read first' >want
 same the_second_capture told want; [ ! -e file ] && right no_file_of_the_second || wrong no_file_of_the_second "$(ls file*)"
-"$program" auto --made $made one >out 2>&-; status=$?; : >err; leaves an_output_and_closed_standard_error 1 one.rnx /dev/null
-"$program" auto --made $made one >/dev/full 2>err; status=$?; : >out
-leaves a_full_output 1 /dev/null want
 
 ends

@@ -2,7 +2,6 @@
 use Rattle.std.specs.Prelude.{ℕ, List, [], ◌∷◌, ◌+◌, ◌-◌, ◌*◌, ◌%◌, ◌^◌, min, length}
 use Rattle.rtk_streams.specs.declared.rereading.Digest.{Digest}
 
--- formula
 -- the checksum with a byte more, as a u64
 abbrev pub with_byte : ℕ → ℕ → ℕ
 with_byte check byte = ((check * 1099511628211) % (2 ^ 64) + byte) % (2 ^ 64)
