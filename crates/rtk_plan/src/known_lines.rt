@@ -22,10 +22,13 @@ use rtk_survey::{CaptureEpochs, CaptureSurvey, Equipment, Span, Told, place};
 use std::alloc::{AllocError, Global};
 
 // Is this another first epoch than a conversion near this moment gives a capture with these epochs?
-fn is_told_otherwise(near: GpsMs, told: &Told, span: Span) -> bool
-    ensures { result ≡ spec.is_told_otherwise near span told.now }
+fn is_told_otherwise(near: GpsMs, told: &Told, span: &Span) -> bool
+    ensures { result ≡ spec.is_told_otherwise near span.now told.now }
 {
-    let epochs = CaptureEpochs { told: None, span };
+    let epochs = CaptureEpochs {
+        told: None,
+        span: *span,
+    };
     told.first != place(near, &epochs).first
 }
 
@@ -33,11 +36,11 @@ fn is_told_otherwise(near: GpsMs, told: &Told, span: Span) -> bool
 fn put_other_date(
     lines: &mut Vec<u8>,
     near: GpsMs,
-    span: Span,
+    span: &Span,
     name: &str,
     told: &Told,
 ) -> Result<(), AllocError>
-    ensures { OnOk result (lines.new.items ≡ lines.old.items ++ spec.other_date_line near span name.now told.now) }
+    ensures { OnOk result (lines.new.items ≡ lines.old.items ++ spec.other_date_line near span.now name.now told.now) }
 {
     if !is_told_otherwise(near, told, span) {
         return Ok(());
@@ -49,11 +52,11 @@ fn put_other_date(
 fn put_those_of(
     lines: &mut Vec<u8>,
     near: GpsMs,
-    span: Span,
+    span: &Span,
     name: &str,
     dates: &[Told],
 ) -> Result<(), AllocError>
-    ensures { OnOk result (lines.new.items ≡ lines.old.items ++ spec.other_date_lines near span name.now dates.now) }
+    ensures { OnOk result (lines.new.items ≡ lines.old.items ++ spec.other_date_lines near span.now name.now dates.now) }
 {
     for told in dates {
         put_other_date(lines, near, span, name, told)?;
@@ -67,11 +70,11 @@ fn put_other_dates_of(
     lines: &mut Vec<u8>,
     survey: &CaptureSurvey,
     setup: &Setup,
-    span: Span,
+    span: &Span,
     name: &str,
 ) -> Result<(), AllocError>
     ensures { OnOk result (lines.new.items ≡ lines.old.items
-        ++ spec.other_dates setup.now.station setup.now.near span survey.now name.now) }
+        ++ spec.other_dates setup.now.station setup.now.near span.now survey.now name.now) }
 {
     let (station, near) = (setup.station(), setup.near());
     put_those_of(lines, near, span, name, told_in(station, survey))?;
@@ -87,7 +90,7 @@ fn put_other_dates(
     for (at, survey) in captures.surveys.iter().enumerate() {
         let setup = &plan.setup;
         if let Some(span) = span_in(setup.station(), survey) {
-            put_other_dates_of(lines, survey, setup, span, captures.name(at))?;
+            put_other_dates_of(lines, survey, setup, &span, captures.name(at))?;
         }
     }
     Ok(())

@@ -1,6 +1,8 @@
 //! What a file and a report have that are written, by their texts as they pass: the epochs and satellites of
 //! the file, whether its header has a position, and the conflicts of the report.
 
+ghost use Rattle.std.specs.Prelude.{◌<◌};
+
 use crate::said_command::put_time;
 use arrayvec::ArrayVec;
 use memchr::memchr;
