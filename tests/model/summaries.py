@@ -16,7 +16,8 @@ from wire import MSMS, Fields, Message
 UNTAKEN = (1001, 1002, 1003, 1071, 1072, 1073)
 NO_DATE = "GPS-TIME-WITHIN-HALF-A-WEEK"
 MADE = '--made "$(date -u +%FT%T)"'
-MARKS = {b"": "empty", b"\x1f\x8b": "gzip", b"PK\3\4": "zip", b"\xb5b": "u-blox"}
+MARKS = {b"": "empty", b"\x1f\x8b": "gzip", b"BZh": "bzip2", b"\xfd7zXZ\0": "xz", b"PK\3\4": "zip", b"\xb5b": "u-blox", b"$@": "SBF",
+         b"\xaaD\x12": "NovAtel", b"\xaaD\x13": "NovAtel", b"JP055": "JPS"}
 
 
 def summary_of(text: bytes, name: str = "file") -> str:

@@ -273,7 +273,7 @@ class Auto(Case):
         done = rtcm2rinex.auto("examples/late.rtcm", near=NOON, window=2)
         self.assertEqual(done.report.late, (LateMessage(1, 1004, second(2)),))
         self.assertEqual(done.found.dated_by, "--near")
-        self.assertEqual(done.found.notes, ("no-position: no 1005 or 1006 came, and the header has zeros",
+        self.assertEqual(done.found.notes, ("no-position: no 1005 or 1006 came in time, and the header has zeros",
             "late 1: messages after 2 newer epochs are left out", "time-falls examples/late.rtcm"))
         short = rtcm2rinex.auto("examples/late.rtcm", near=NOON, window=2, report=False).report
         self.assertEqual((short.late, short.counts), ((), done.report.counts))
@@ -302,9 +302,9 @@ class Auto(Case):
     def test_captures_that_tell_too_little(self) -> None:
         names = self.captures("one", "stations", "undated", "zip")
         rows = {
-            "undated": ("the captures tell no date; give one, as in --near 2024-05-17T12:00:00", ()),
-            "stations": ("several stations have GPS observations; choose one by --station", ("station 7", "station 2003")),
-            "zip": ("the captures have no frame of RTCM 3", ("zip looks like zip",)),
+            "undated": ("the captures tell no date; give one, as in --near GPS-TIME-WITHIN-HALF-A-WEEK", ()),
+            "stations": ("several stations have GPS observations; choose one by --station", ("station 7 in stations: 1 epochs", "station 2003 in stations: 2 epochs")),
+            "zip": ("the captures have no frame of RTCM 3", ("zip looks like zip; unpack it: unzip -p zip >zip.rtcm",)),
         }
         for name, told in rows.items():
             with self.subTest(name), self.assertRaises(rtcm2rinex.CapturesError) as raised:
@@ -313,7 +313,7 @@ class Auto(Case):
             self.assertEqual((fault.status, fault.line, fault.details), (3, *told))
         self.assertEqual(self.there(), names)
         done = rtcm2rinex.auto(["one", "zip"], skip_empty=True)
-        self.assertEqual(done.found.notes[-1], "skipped zip looks like zip")
+        self.assertEqual(done.found.notes[-1], "skipped zip looks like zip; unpack it: unzip -p zip >zip.rtcm")
         self.assertEqual(rtcm2rinex.auto("stations", station=7).report.counts.foreign, 2)
 
     def test_a_header_alone(self) -> None:
