@@ -124,7 +124,7 @@ with_later_antenna later e =
     record e {
       antenna_type = with_text_if_any later.antenna_type.last e.antenna_type;
       antenna_serial =
-        with_serial (is_other_if_told e.antenna_type.last later.antenna_type.last) later.antenna_serial.last e.antenna_serial;
+          with_serial (is_other_if_told e.antenna_type.last later.antenna_type.last) later.antenna_serial.last e.antenna_serial;
       antenna_setup = with_setup_if_any later.antenna_setup.last e.antenna_setup;
     }
 
