@@ -43,19 +43,28 @@ unpacker Zip = codes "unzip -p"
 unpacker look = []
 
 -- formula
--- a command that unpacks a file of this name to another one, if there is such a command
-abbrev pub unpacking : List ℕ → List ℕ → List ℕ
-unpacking command name =
-    if length command == 0 then [] else
+-- a command that unpacks a file of this name to another one
+abbrev pub unpacking_by : List ℕ → List ℕ → List ℕ
+unpacking_by command name =
     codes "; unpack it: " ++ command ++ words_and_name (codes " ") name ++ words_and_name (codes " >") name ++ codes ".rtcm"
 
 -- formula
--- what a capture without a frame looks like, and how it is unpacked
+-- the same, if there is such a command
+abbrev pub unpacking : List ℕ → List ℕ → List ℕ
+unpacking command name = if length command == 0 then [] else unpacking_by command name
+
+-- formula
+-- what a capture looks like, and how it is unpacked
+abbrev pub looks_like : List ℕ → Look → List ℕ
+looks_like name look = codes " looks like " ++ look_name look ++ unpacking (unpacker look) name
+
+-- formula
+-- the same of a capture without a frame, if it is known
 abbrev pub look_text : List ℕ → Option Look → List ℕ
 look_text name None = []
 look_text name (Some Unknown) = []
 look_text name (Some Empty) = codes " is empty"
-look_text name (Some look) = codes " looks like " ++ look_name look ++ unpacking (unpacker look) name
+look_text name (Some look) = looks_like name look
 
 abbrev pub capture_line : List ℕ → List ℕ → Option Look → List ℕ
 capture_line words name look = words_and_name words name ++ look_text name look ++ line_end
@@ -113,11 +122,16 @@ msm_lines taken ss station =
     msm_line taken ss station Msm4 ++ msm_line taken ss station Msm5 ++ msm_line taken ss station Msm6 ++ msm_line taken ss station Msm7
 
 -- formula
--- the Doppler of 1075 and 1077
+-- the Doppler of the messages of an MSM
+abbrev pub doppler_of : MsmKind → List CaptureSurvey → ℕ → List ℕ
+doppler_of kind ss station = count_line_of (codes " not in the file: Doppler of ") (number_of_kind kind) (messages_in_captures ss station kind)
+
+-- formula
+-- 1075 and 1077 have Doppler
 abbrev pub doppler_line : MsmKind → List CaptureSurvey → ℕ → List ℕ
 doppler_line Msm4 ss station = []
 doppler_line Msm6 ss station = []
-doppler_line kind ss station = count_line_of (codes " not in the file: Doppler of ") (number_of_kind kind) (messages_in_captures ss station kind)
+doppler_line kind ss station = doppler_of kind ss station
 
 -- formula
 -- a first epoch that a message tells, if it can be written

@@ -272,7 +272,8 @@ fn put_conflicts(lines: &mut Vec<u8>, conflicts: u64) -> Result<(), AllocError>
         return Ok(());
     }
     put_named(lines, b" conflict ", conflicts)?;
-    lines.extend_from_slice(b": later copies differ from the first, which the file has\n")
+    lines.extend_from_slice(b": later copies differ from the first, which the file has\n")?;
+    Ok(())
 }
 
 /// Appends what a file has that was written: its epochs, its gaps, that it has no position, and how many

@@ -63,6 +63,18 @@ fn unpacker(look: Look) -> &'static [u8]
     }
 }
 
+// Appends a command that unpacks a file of this name to another one.
+fn put_unpacking_by(lines: &mut Vec<u8>, command: &[u8], name: &str) -> Result<(), AllocError>
+    ensures { OnOk result (lines.new.items ≡ lines.old.items ++ spec.unpacking_by command.now name.now) }
+{
+    lines.extend_from_slice(b"; unpack it: ")?;
+    lines.extend_from_slice(command)?;
+    put_words_and_name(lines, b" ", name)?;
+    put_words_and_name(lines, b" >", name)?;
+    lines.extend_from_slice(b".rtcm")?;
+    Ok(())
+}
+
 // Appends the command that unpacks a file, if there is one.
 fn put_unpacking(lines: &mut Vec<u8>, command: &[u8], name: &str) -> Result<(), AllocError>
     ensures { OnOk result (lines.new.items ≡ lines.old.items ++ spec.unpacking command.now name.now) }
@@ -70,25 +82,27 @@ fn put_unpacking(lines: &mut Vec<u8>, command: &[u8], name: &str) -> Result<(), 
     if command.len() == 0 {
         return Ok(());
     }
-    lines.extend_from_slice(b"; unpack it: ")?;
-    lines.extend_from_slice(command)?;
-    put_words_and_name(lines, b" ", name)?;
-    put_words_and_name(lines, b" >", name)?;
-    lines.extend_from_slice(b".rtcm")
+    put_unpacking_by(lines, command, name)
 }
 
-// What a capture without a frame looks like, and how it is unpacked.
+// Appends what a capture looks like, and how it is unpacked.
+fn put_looks_like(lines: &mut Vec<u8>, name: &str, look: Look) -> Result<(), AllocError>
+    ensures { OnOk result (lines.new.items ≡ lines.old.items ++ spec.looks_like name.now look) }
+{
+    lines.extend_from_slice(b" looks like ")?;
+    lines.extend_from_slice(look.name())?;
+    put_unpacking(lines, unpacker(look), name)?;
+    Ok(())
+}
+
+// Appends what a capture without a frame looks like, if that is known.
 fn put_look(lines: &mut Vec<u8>, name: &str, look: Option<Look>) -> Result<(), AllocError>
     ensures { OnOk result (lines.new.items ≡ lines.old.items ++ spec.look_text name.now look) }
 {
     match look {
         None | Some(Look::Unknown) => Ok(()),
         Some(Look::Empty) => lines.extend_from_slice(b" is empty"),
-        Some(look) => {
-            lines.extend_from_slice(b" looks like ")?;
-            lines.extend_from_slice(look.name())?;
-            put_unpacking(lines, unpacker(look), name)
-        }
+        Some(look) => put_looks_like(lines, name, look),
     }
 }
 
@@ -286,6 +300,24 @@ fn system_words(number: u16) -> &'static [u8] {
     }
 }
 
+// Appends the line of the Doppler of an MSM that is taken, if there is a message of it.
+fn put_doppler_of(
+    lines: &mut Vec<u8>,
+    surveys: &[CaptureSurvey],
+    station: u16,
+    taken: MsmKind,
+) -> Result<(), AllocError>
+    ensures { OnOk result (lines.new.items ≡ lines.old.items ++ spec.doppler_of taken surveys.now station) }
+{
+    let count = messages_in_captures(surveys, station, taken);
+    put_count_line(
+        lines,
+        b" not in the file: Doppler of ",
+        taken.number(),
+        count,
+    )
+}
+
 /// Appends a line if the MSM that is taken has Doppler, which no file has.
 pub(crate) fn put_doppler(
     lines: &mut Vec<u8>,
@@ -295,16 +327,10 @@ pub(crate) fn put_doppler(
 ) -> Result<(), AllocError>
     ensures { OnOk result (lines.new.items ≡ lines.old.items ++ spec.doppler_line taken surveys.now station) }
 {
-    if taken == MsmKind::Msm4 || taken == MsmKind::Msm6 {
-        return Ok(());
+    match taken {
+        MsmKind::Msm4 | MsmKind::Msm6 => Ok(()),
+        MsmKind::Msm5 | MsmKind::Msm7 => put_doppler_of(lines, surveys, station, taken),
     }
-    let count = messages_in_captures(surveys, station, taken);
-    put_count_line(
-        lines,
-        b" not in the file: Doppler of ",
-        taken.number(),
-        count,
-    )
 }
 
 /// Appends the line of a first epoch that a capture tells, if it can be written.

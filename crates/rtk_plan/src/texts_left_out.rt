@@ -28,7 +28,8 @@ fn put_field_and_reason(lines: &mut Vec<u8>, field: &[u8], reason: &[u8]) -> Res
 {
     lines.extend_from_slice(b" not-in-label ")?;
     lines.extend_from_slice(field)?;
-    lines.extend_from_slice(reason)
+    lines.extend_from_slice(reason)?;
+    Ok(())
 }
 
 // Appends a field, a reason and a text as a line, if there is a reason.

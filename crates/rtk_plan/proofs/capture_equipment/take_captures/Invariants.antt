@@ -4,4 +4,4 @@ use Rattle.rtk_plan.proofs.capture_equipment.take_captures.Given as goal
 
 abbrev pub invariant-loop-capture : goal.invariant-loop-capture
 invariant-loop-capture l =
-    with_captures l.part l.surveys l.station l.equipment (drop l.capture-index l.ordered) ≡ with_captures l.part l.surveys l.station l.equipment.old l.ordered
+    with_captures l.part l.surveys l.station l.equipment (drop l.capture-index l.ordered) ≡ with_captures l.part l.surveys l.station l.fn.equipment l.ordered
