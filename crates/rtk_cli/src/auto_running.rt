@@ -10,7 +10,7 @@ use crate::auto_labelling::label_beside;
 use crate::auto_looking::{look_at_files, made_at};
 use crate::auto_reading::survey_captures;
 use crate::auto_refusing::{fail_differing, fail_output, keep_named, quoted, say_written};
-use crate::auto_rereading::{CaptureRead, captures_at, files_of_links, put_grown};
+use crate::auto_rereading::{CaptureRead, captures_at, files_of_links, name_at, put_grown};
 use crate::converting::{Converted, conversion_status};
 use crate::watching::Watched;
 use crate::words::AutoWords;
@@ -141,6 +141,27 @@ struct Outcome {
     is_heard: bool,
 }
 
+// Converts captures that are read again. The place of one that is not as it was is put into `differing`.
+fn convert_again<'a, R: Files + Eprint + AllocGlobal, O: Write + Drop, W: Write + Drop>(
+    rt: &'a R,
+    setup: Setup,
+    links: &[Vec<CaptureRead<'a>>],
+    differing: &'a Cell<Option<usize>>,
+    out: O,
+    report: W,
+) -> Result<Converted<O, W>, u8>
+    ensures faults { IfOk result (λ converted. IfErr converted.done IsRunFault) }
+    ensures status { IfErr result (λ status. status ≤ NOT_VALID) }
+{
+    let Ok(files) = files_of_links(rt.alloc(), rt, links, differing) else {
+        return Err(fail(rt, ToolFault::OutOfMemory));
+    };
+    match convert_joined(rt.alloc(), setup, files, out, report) {
+        Ok(converted) => Ok(converted),
+        Err(fault) => Err(fail(rt, fault)),
+    }
+}
+
 // Converts to a writer, which is handed back with the counts, and says how it went.
 fn convert_to<R: Files + Eprint + AllocGlobal, O: Write + Drop, W: Write + Drop>(
     rt: &R,
@@ -151,18 +172,19 @@ fn convert_to<R: Files + Eprint + AllocGlobal, O: Write + Drop, W: Write + Drop>
 ) -> Result<(O, Outcome), u8>
     ensures { IfErr result (λ status. status ≤ NOT_VALID) }
 {
-    let differing: Cell<Option<&str>> = Cell::new(None);
-    let Ok(files) = files_of_links(rt.alloc(), rt, work.links.as_slice(), &differing) else {
-        return Err(fail(rt, ToolFault::OutOfMemory));
-    };
+    let differing: Cell<Option<usize>> = Cell::new(None);
     let out = Watched::new(out, WrittenFile::new(rt.alloc()));
     let report = Watched::new(Quiet::new(report, !is_reported), Conflicts::new());
-    let converted = match convert_joined(rt.alloc(), work.setup, files, out, report) {
-        Ok(converted) => converted,
-        Err(fault) => return Err(fail(rt, fault)),
-    };
-    if let Some(name) = differing.get() {
-        return Err(fail_differing(rt, name));
+    let converted = convert_again(
+        rt,
+        work.setup,
+        work.links.as_slice(),
+        &differing,
+        out,
+        report,
+    )?;
+    if let Some(place) = differing.get() {
+        return Err(fail_differing(rt, name_at(work.links.as_slice(), place)));
     }
     finish(
         rt,
