@@ -10,7 +10,7 @@ from typing import Dict, List, Match, Optional, Tuple, cast
 from .faults import FormError
 from .inputs import Input, is_open, word_of
 from .program import Location, lines_of, run
-from .reports import whole
+from .reports import time_in, whole
 
 
 @dataclass(frozen=True)
@@ -131,7 +131,9 @@ def read_summary(text: str) -> Summary:
         match = re.fullmatch(form, rest, re.ASCII) if form else None
         if match is None or (is_of_station and station is None):
             raise FormError(number, f"{line!r} is no line of a summary")
-        if station and is_of_station:
+        if station and is_of_station and word == "date":
+            station.dates.append(Date(time_in(number, line, match[1]), int(match[2]), int(match[3])))
+        elif station and is_of_station:
             keep_of_station(station, word, match)
         elif word == "station":
             station = found.stations[int(match[1])] = StationSummary(int(match[1]))
@@ -168,8 +170,6 @@ def keep_of_station(found: StationSummary, word: str, match: Match[str]) -> None
         found.first_tow, found.last_tow = whole(match[1]), whole(match[2])
     elif word == "changes-of-time":
         found.changes_of_time = int(match[1])
-    elif word == "date":
-        found.dates.append(Date(datetime.fromisoformat(match[1]), int(match[2]), int(match[3])))
     elif word in EQUIPMENT:
         found.equipment[word] = match[1]
     elif word.startswith("changes-of-"):

@@ -9,14 +9,16 @@ from datetime import datetime
 from pathlib import Path
 from typing import Dict, List, Optional, Sequence, Tuple, Union, cast
 
-from .faults import PREFIX, CapturesError, FormError, NoRecordError
-from .inputs import PIECE, Input, Name, Readable, is_open, listed, word_of
+from .faults import CapturesError, FormError, NoRecordError
+from .inputs import Input, Name, Readable, is_open, listed, pieces_of, word_of
 from .program import Location, Ran, fail, lines_of, run
-from .reports import COUNTS, Report, read_report
+from .reports import COUNTS, Report, read_report, time_in
 from .words import Codes, Time, Value, code_word, gps_word, option_words, present, utc_word
 from .writing import Written, output_of
 
 SPAN = re.compile(r" from (\S{19}) until (\S{19}) by (\S+(?: of station \d+)?)(?: \(or (.*)\))?", re.ASCII)
+BY_HAND = " the same by hand:"
+WROTE = "wrote "
 
 
 @dataclass(frozen=True)
@@ -30,16 +32,16 @@ class Conversion(Written):
 class Found:
     """What `auto` found in the captures.
 
-    `first` and `last` are the GPS times of the first and the last epoch. `dated_by` names what dated them, such as `1013`, `1029 of
-    station 7` or `--near`. A 1019 names the week only modulo 1,024, and then `other_dates` has the days 1,024 weeks before and after.
+    `first` and `last` are the GPS times of the first and the last epoch, or None without a record. `dated_by` names what dated them, such
+    as `1013`, `1029 of station 7` or `--near`. A 1019 names the week only modulo 1,024, and then `other_dates` has the days 1,024 weeks before and after.
 
     `convert` is the command of the shell that writes the same file, and `label` the command that labels it, or None. `notes` has the
-    lines of the program about what is not in the file, such as `late 3: ..` or `untaken GLONASS 1012 83`.
+    lines of the program about the file, such as `late 3: ..` or `not in the file: GLONASS 1012, 84 messages`.
     """
 
-    first: datetime
-    last: datetime
-    dated_by: str
+    first: Optional[datetime]
+    last: Optional[datetime]
+    dated_by: Optional[str]
     other_dates: Tuple[str, ...]
     convert: str
     label: Optional[str]
@@ -95,16 +97,22 @@ def auto(captures: Union[Input, Sequence[Input]], *, output: Optional[Name] = No
     The file goes to `output`, which gets its name when it is whole, or else into `text` of the result. A file that is there is
     replaced only with `force`.
 
-    Raises `CapturesError` if the captures do not tell enough, `NoRecordError` if the file is a header alone, and `WorkError` or
-    `WordsError` for other faults.
+    Raises `CapturesError` if the captures do not tell enough, `NoRecordError` if no record came, and `WorkError` or `WordsError` for
+    other faults. Without a record the file is a header alone, but a file that is there stays.
     """
-    options: Dict[str, Value] = {"output": None if output is None else str(Path(output)), "force": force, "label": label,
+    options: Dict[str, Value] = {"output": None if output is None else file_word(output), "force": force, "label": label,
         "near": gps_word(near), "made": utc_word(made), "marker": marker, "station": station, "codes": code_word(codes), "msm": msm,
         "window": window, "links_as_given": links_as_given, "skip_empty": skip_empty, "report": report}
     with tempfile.TemporaryDirectory(prefix="rtcm2rinex-") as folder:
         given = [named(it, Path(folder), number) for number, it in enumerate(listed(captures), 1)]
         ran = run(program, ["auto", *option_words(options)], given, accepted=(0, 3), third=CapturesError)
     return conversion_of(ran, output)
+
+
+def file_word(output: Name) -> str:
+    """The name of a file as the program takes it, which refuses `-`."""
+    name = str(Path(output))
+    return "./-" if name == "-" else name
 
 
 def named(given: Input, folder: Path, number: int) -> Name:
@@ -115,16 +123,18 @@ def named(given: Input, folder: Path, number: int) -> Name:
         return cast(Name, given)
     copy = folder / f"{number}.rtcm"
     with open(copy, "wb") as file:
-        while piece := cast(Readable, given).read(PIECE):
+        for piece in pieces_of(cast(Readable, given)):
             file.write(piece)
     return copy
 
 
 def conversion_of(ran: Ran, output: Optional[Name]) -> AutoConversion:
-    """What `auto` wrote and said. Status 3 is a fault, also if the file is a header alone."""
+    """What `auto` wrote and said. Status 3 is a fault, also if no record came."""
     lines = lines_of(ran.told)
-    if ran.status == 3 and not lines[0].startswith(" from "):
+    if ran.status == 3 and lines[0] != BY_HAND:
         fail(ran.status, ran.told, CapturesError)
+    if lines[-1].startswith(WROTE):
+        lines.pop()
     if ran.status == 3:
         lines.pop()
     begin = first_line(lines, ("link ", "frames "))
@@ -149,12 +159,14 @@ def first_line(lines: Sequence[str], starts: Tuple[str, ...]) -> int:
 
 
 def found_of(lines: Sequence[str], notes: Tuple[str, ...]) -> Found:
-    """What the lines before the report say."""
-    match = SPAN.fullmatch(lines[0])
-    if match is None:
-        raise FormError(1, f"{lines[0]!r} has no first and last epoch")
+    """What the lines before the report say, and those behind it."""
+    if not lines or lines[0] != BY_HAND:
+        raise FormError(1, f"{lines[:1]!r} does not introduce the commands")
     commands = list(lines[1:])
     label = commands.pop() if commands and commands[-1].startswith("rtcm2rinex label ") else None
+    match = SPAN.fullmatch(f" {notes[0]}") if notes else None
+    if match is None:
+        return Found(None, None, None, (), "\n".join(commands), label, notes)
     others = tuple(match[4].split(", ")) if match[4] else ()
-    first, last = (datetime.fromisoformat(it) for it in (match[1], match[2]))
-    return Found(first, last, match[3], others, "\n".join(commands), label, notes)
+    first, last = (time_in(1, notes[0], it) for it in (match[1], match[2]))
+    return Found(first, last, match[3], others, "\n".join(commands), label, notes[1:])

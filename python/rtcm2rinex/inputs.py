@@ -2,11 +2,14 @@
 
 from __future__ import annotations
 
+import errno
+import fcntl
 import os
+import signal
 import subprocess
 import threading
 from types import TracebackType
-from typing import List, Optional, Protocol, Sequence, Tuple, Type, Union, cast
+from typing import Iterator, List, Optional, Protocol, Sequence, Tuple, Type, Union, cast
 
 PIECE = 65_536  # bytes
 PATIENCE = 1.0  # seconds to wait for a file that is no longer needed
@@ -49,6 +52,14 @@ def listed(given: Union[Input, Sequence[Input]]) -> List[Input]:
     return list(cast(Sequence[Input], given))
 
 
+def pieces_of(source: Readable) -> Iterator[bytes]:
+    """The bytes of an open file to its end. A file that does not wait gives None where nothing has come yet, which is no end."""
+    while piece := source.read(PIECE):
+        yield piece
+    if piece is None:
+        raise BlockingIOError(errno.EAGAIN, "the open file does not wait for its bytes, so its end is not known")
+
+
 def write_all(descriptor: int, piece: bytes) -> None:
     """Writes all of these bytes."""
     left = memoryview(piece)
@@ -56,11 +67,23 @@ def write_all(descriptor: int, piece: bytes) -> None:
         left = left[os.write(descriptor, left) :]
 
 
+def above_standard(descriptor: int) -> int:
+    """The same end of a pipe with another number than those of standard input, output and error, which the program gets anew. An end has
+    such a number where Python was started without these three."""
+    if descriptor > 2:
+        return descriptor
+    try:
+        return fcntl.fcntl(descriptor, fcntl.F_DUPFD_CLOEXEC, 3)
+    finally:
+        os.close(descriptor)
+
+
 class Pipe:
     """A pipe that the program reads. Each end is closed once."""
 
     def __init__(self) -> None:
-        self.reading, self.writing = os.pipe()
+        reading, writing = os.pipe()
+        self.reading, self.writing = above_standard(reading), above_standard(writing)
 
     def close_reading(self) -> None:
         """Closes the end of the program, which has a copy of it."""
@@ -84,9 +107,11 @@ class Pump(threading.Thread):
         self.fault: Optional[BaseException] = None
 
     def run(self) -> None:
-        """Copies to the end. A program that has ended reads no more, which is no fault here."""
+        """Copies to the end. A program that has ended reads no more, which is no fault here, and does not end a script whose SIGPIPE has
+        its first meaning again."""
+        signal.pthread_sigmask(signal.SIG_BLOCK, [signal.SIGPIPE])  # of this thread
         try:
-            while piece := self.source.read(PIECE):
+            for piece in pieces_of(self.source):
                 write_all(self.pipe.writing, piece)
         except BrokenPipeError:
             pass
@@ -102,7 +127,6 @@ class Inputs:
     def __init__(self, given: Sequence[Input]) -> None:
         self.pumps: List[Pump] = []
         self.words: List[str] = []
-        self.has_begun = False
         try:
             for it in given:
                 self.words.append(self.open_word(cast(Readable, it)) if is_open(it) else word_of(cast(Name, it)))
@@ -127,7 +151,6 @@ class Inputs:
 
     def begin(self) -> None:
         """Begins to copy, once the program has the ends that it reads."""
-        self.has_begun = True
         for pump in self.pumps:
             pump.pipe.close_reading()
             pump.start()
@@ -149,7 +172,7 @@ class Inputs:
         """Closes all ends. Once a program has ended, a thread closes its end with its next write, and may wait for its file until then."""
         for pump in self.pumps:
             pump.pipe.close_reading()
-            if self.has_begun:
-                pump.join(PATIENCE)
-            else:
+            if pump.ident is None:  # it was never started
                 pump.pipe.close_writing()
+            else:
+                pump.join(PATIENCE)

@@ -2,6 +2,8 @@
 
 from __future__ import annotations
 
+import errno
+import io
 import subprocess
 import threading
 from queue import Empty, SimpleQueue
@@ -71,11 +73,21 @@ class Outlet(threading.Thread):
         line = self.source.readline(limit)
         try:
             if self.copy is not None and line and self.fault_of_copy is None:
-                self.copy.write(line)
-                self.copy.flush()
+                write_whole(self.copy, line)
         except Exception as fault:
             self.fault_of_copy = fault
         return line
+
+
+def write_whole(file: IO[bytes], text: bytes) -> None:
+    """Writes all of a text to an open file and flushes it. A file without a buffer may take a part at a time, or nothing if it does not
+    wait."""
+    while text:
+        taken = file.write(text)
+        if taken is None and isinstance(file, io.RawIOBase):
+            raise BlockingIOError(errno.EAGAIN, "the output does not wait until there is room")
+        text = text[len(text) if taken is None else taken :]
+    file.flush()
 
 
 class Told(threading.Thread):
@@ -128,11 +140,15 @@ class Converter:
         except BaseException:
             self._inputs.close()
             raise
-        self._inputs.begin()
         self._outlet = Outlet(cast("IO[bytes]", self._process.stdout), self._output)
         self._told = Told(cast("IO[bytes]", self._process.stderr))
-        self._outlet.start()
-        self._told.start()
+        try:
+            self._inputs.begin()
+            self._outlet.start()
+            self._told.start()
+        except BaseException:  # as where there are too many threads
+            self._close()
+            raise
         return self
 
     def __exit__(self, kind: Optional[Type[BaseException]], fault: Optional[BaseException], trace: Optional[TracebackType]) -> None:
@@ -228,8 +244,10 @@ class Converter:
         process.wait()
         for link in self._links:
             link.end()
+        self._inputs.close()
         for thread in (*self._inputs.pumps, self._outlet, self._told):
-            thread.join()
+            if thread.ident is not None:  # it was started
+                thread.join()
         for source in (process.stdout, process.stderr):
             if source is not None:
                 source.close()

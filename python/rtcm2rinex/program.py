@@ -4,13 +4,14 @@ from __future__ import annotations
 
 import os
 import platform
+import re
 import shutil
 import subprocess
 from functools import lru_cache
 from pathlib import Path
 from typing import IO, Dict, List, NamedTuple, NoReturn, Optional, Sequence, Type, Union
 
-from .faults import ProgramError, ProgramNotFound, WordsError, WorkError
+from .faults import FormError, ProgramError, ProgramNotFound, WordsError, WorkError
 from .inputs import Input, Inputs
 
 NAME = "rtcm2rinex"
@@ -72,8 +73,11 @@ def does_run(copy: str) -> bool:
 
 def version(program: Optional[Location] = None) -> str:
     """Gives the version of the program, such as `0.4.0`."""
-    ran = run(program, ["--version"], [])
-    return ran.text().split()[-1]
+    text = run(program, ["--version"], []).text()
+    match = re.fullmatch(rf"{NAME} (\S+)\n", text)
+    if match is None:
+        raise FormError(1, f"{text!r} is no line with a version")
+    return match[1]
 
 
 def start(program: Optional[Location], words: Sequence[str], inputs: Inputs, out: Union[int, IO[bytes]],
@@ -96,8 +100,8 @@ def run(program: Optional[Location], words: Sequence[str], given: Sequence[Input
     """Runs the program to its end. Another status than these raises a fault, and status 3 the class `third`."""
     with Inputs(given) as inputs:
         process = start(program, words, inputs, subprocess.PIPE if out is None else out)
-        inputs.begin()
         try:
+            inputs.begin()
             text, told = process.communicate()
         except BaseException:
             process.kill()

@@ -101,9 +101,10 @@ def read_report(lines: Sequence[str], first: int = 1) -> Report:
     refused: List[RefusedMessage] = []
     for number, line in enumerate(lines, first):
         if match := LATE.fullmatch(line):
-            late.append(LateMessage(int(match[1]), int(match[2]), moment_of(match[3])))
+            late.append(LateMessage(int(match[1]), int(match[2]), time_in(number, line, match[3]) if match[3] else None))
         elif match := CONFLICT.fullmatch(line):
-            conflicts.append(Conflict(int(match[1]), int(match[2]), moment_of(match[3]), match[4], match[5]))
+            epoch = time_in(number, line, match[3]) if match[3] else None
+            conflicts.append(Conflict(int(match[1]), int(match[2]), epoch, match[4], match[5]))
         elif match := REFUSED.fullmatch(line):
             refused.append(RefusedMessage(int(match[1]), match[2], whole(match[3])))
         else:
@@ -111,6 +112,14 @@ def read_report(lines: Sequence[str], first: int = 1) -> Report:
     if len(found) != len(COUNTS):
         raise FormError(first + len(lines), "the report ends before its last count")
     return Report(Counts(**found), tuple(late), tuple(conflicts), tuple(refused))
+
+
+def time_in(number: int, line: str, text: str) -> datetime:
+    """The time that this text of a line is."""
+    try:
+        return datetime.fromisoformat(text)
+    except ValueError as fault:
+        raise FormError(number, f"{line!r} has no time") from fault
 
 
 def count_of(number: int, line: str, before: int) -> Tuple[str, int]:

@@ -5,6 +5,7 @@ from __future__ import annotations
 import errno
 import io
 import os
+import stat
 from contextlib import contextmanager
 from dataclasses import dataclass, field
 from itertools import count
@@ -60,8 +61,11 @@ def output_of(output: Optional[Name], force: bool, given: Sequence[Input]) -> It
     path = Path(output)
     if any(is_same(path, it) for it in given):
         raise ValueError(f"the output {path} is one of the inputs")
-    if not force and os.path.lexists(path):
-        raise FileExistsError(errno.EEXIST, "the file is there, and force=True would replace it", str(path))
+    if os.path.lexists(path):
+        if not stat.S_ISREG(os.lstat(path).st_mode):  # as a device or a link, which the program leaves too
+            raise FileExistsError(errno.EEXIST, "the output is there and is no regular file", str(path))
+        if not force:
+            raise FileExistsError(errno.EEXIST, "the file is there, and force=True would replace it", str(path))
     part, file = part_of(path)
     try:
         with file:

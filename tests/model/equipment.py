@@ -33,11 +33,22 @@ def equipment_of(payload: bytes) -> tuple[int, Told] | None:
     return (head["station"], told) if told else None
 
 
+def numbered(told: list[Told]) -> list[Told]:
+    """The messages, and an empty serial number in each one that has none and names another antenna than the message before it."""
+    messages: list[Told] = []
+    for it in told:
+        was_told = any("antenna-serial" in before for before in messages)
+        is_other = was_told and messages[-1]["antenna-type"] != it["antenna-type"]
+        messages.append({"antenna-serial": "", **it} if is_other else it)
+    return messages
+
+
 def equipment_lines(told: list[Told]) -> list[str]:
     """The last value of each field, and how often it is another than before."""
     lines = []
+    messages = numbered(told)
     for name in LINES:
-        values = [it[name] for it in told if name in it]
+        values = [it[name] for it in messages if name in it]
         changes = sum(before != after for before, after in zip(values, values[1:]))
         lines += [f" {name} {it}" for it in values[-1:] if it] + [f" changes-of-{name} {changes}"] * (changes > 0)
     return lines

@@ -199,6 +199,12 @@ def counting(told: list[Told], station: int) -> list[Told]:
     return own or weeks or others
 
 
+def passed_over(told: list[Told], station: int) -> list[Told]:
+    """Those by 1019, if the station tells its own date, which counts."""
+    own = [it for it in told if it.fields.get("station") == station]
+    return [it for it in told if "week" in it.fields] if own else []
+
+
 def chain(first: int, times: list[int]) -> list[int]:
     """The moments of epochs, each dated near the one before it."""
     moments = [first]
@@ -244,12 +250,14 @@ def station_of(captures: list[Capture], named: int | None) -> int:
     return stations.pop() if named is None else named
 
 
-def msm_of(messages: list[Message]) -> int:
-    """The MSM with most epochs with a value, of two alike the greater; 1074 if there is none."""
-    times = {
-        number: [it.header["tow"] for it in messages if it.header["number"] == number and codes_in(it)] for number in MSMS
-    }
-    epochs = {number: len(list(groupby(of))) for number, of in times.items()}
+def epochs_with_value(messages: list[Message], number: int) -> int:
+    """How many epochs of an MSM have a value, where its time changes."""
+    return len(list(groupby(it.header["tow"] for it in messages if it.header["number"] == number and codes_in(it))))
+
+
+def msm_of(links: list[list[Message]]) -> int:
+    """The MSM with most epochs with a value on one of the links, of two alike the greater; 1074 if there is none."""
+    epochs = {number: max(epochs_with_value(link, number) for link in links) for number in MSMS}
     if not any(epochs.values()):
         return 1074
     return max(MSMS, key=lambda number: (epochs[number], number))
@@ -295,10 +303,6 @@ def find(texts: list[bytes], now: int, station: int | None = None, near: int | N
     if skipped and not skip_empty:
         raise Stopped("nothing of the station", *skipped)
     captures = [it for at, it in enumerate(everything) if at not in skipped]
-    messages = [it for capture in captures for it in capture.of_station(number)]
-    msm = msm_of(messages)
-    taken = [it for it in messages if it.header["number"] in (1004, msm)]
-    codes = [it for it in CODES if it in set().union(*map(codes_in, taken))]
     times = [capture.times(number) for capture in captures]
     told = {} if near is not None else first_told(now, captures, number)
     if near is None and not told:
@@ -321,6 +325,10 @@ def find(texts: list[bytes], now: int, station: int | None = None, near: int | N
     if not as_given and any(dist(a, b) > METRES_100 for a, b in combinations(points, 2)):
         raise Stopped("positions differ")
     places = [at for at in range(len(texts)) if at not in skipped]
+    msm = msm_of([[it for at in link for it in captures[at].of_station(number)] for link in links])
+    messages = [it for capture in captures for it in capture.of_station(number)]
+    taken = [it for it in messages if it.header["number"] in (1004, msm)]
+    codes = [it for it in CODES if it in set().union(*map(codes_in, taken))]
     return Found(
         number, msm, codes, near, None if by is None else by.fields, [[places[at] for at in link] for link in links], epochs,
         [places[at] for at, of in enumerate(epochs) if not of], skipped, few_phases(taken, codes),

@@ -62,6 +62,7 @@ def largest_in_characters() -> bytes:
     lines += ["interval 1.000", "column 1.000", f"records {3 * CHARACTERS}", f"satellites {SATELLITES}"]
     lines.append(f"slips {(CHARACTERS - 1) * SATELLITES * len(CODES)}")
     lines += ["returns 0", f"rises {SATELLITES * len(CODES)}", f"missing {CHARACTERS - 1}"]
+    lines.append("GPS")
     lines += [f"G{number:02}|{row}|" for number in range(1, SATELLITES + 1)]
     lines.append(f"gap|{('   x' * CHARACTERS)[:-1]}|")
     lines.append("    " + "".join("+" if it in ticks else "-" for it in range(len(row))))

@@ -196,6 +196,7 @@ def text_picture(text: str, width: int) -> str:
         out += [f"interval {fixed(it.interval, 3)}", f"column {fixed(it.length, 3)}"]
     out += [f"records {len(it.epochs)}", f"satellites {len(it.names)}"]
     out += [f"slips {it.kinds['slip']}", f"returns {it.kinds['return']}", f"rises {it.kinds['rise']}", f"missing {it.missing}"]
+    out.append("GPS")
     for name in it.names:
         out.append(f"{name}|{''.join(character(part, name, it.had[name], c in it.out[name]) for c, part in enumerate(it.parts))}|")
     out.append(f"gap|{''.join('x' if c in it.gaps else ' ' for c in range(it.columns))}|")
@@ -225,15 +226,19 @@ SIGNS = [
 
 
 # pins: edge_of, middle_of, run_part, mark_part, path_start, runs_path, marks_path, level_path
-# pins: outage_boxes, missing_paths, lock_paths, shows, column_numbers, drawn_bar, bar_text, SvgPicture.code_line, band_height, band_start, band_text
+# pins: outage_boxes, missing_paths, lock_paths, shows, column_numbers, drawn_bar, SvgPicture.code_line, line_if_had, band_height, band_top, band_start, band_text
+# pins: spacing_of, line_top, line_start, code_start, name_start, name_drop
 # pins: band_if_drawn, bands_text, gaps_band, satellites_band, step_part, tick_text, ticks_text, svg_tick_step
-# pins: interval_text, svg_span, svg_numbers, civil_text, svg_picture, svg_start, svg_body, svg_legend, bands_end
+# pins: interval_text, svg_span, svg_numbers, civil_text, svg_picture, svg_start, svg_body, svg_legend, never_end, never_text, never_name, never_if_lacked
 def svg_picture(text: str) -> str:
     """The picture of a file in SVG."""
     it = Drawn(text, UNITS)
     marker = it.marker.replace("&", "&amp;").replace("<", "&lt;").replace(">", "&gt;")
-    high = 14 + 22 * len(it.codes)
-    end = 112 + high * len(it.names) if it.epochs else -120
+    close = bool(it.epochs) and sum(map(len, it.had.values())) > MOST_WIDE
+    highs = {name: band_height(len(it.had[name]), close) for name in it.names} if it.epochs else {}
+    never = [[name for name in it.names if at not in it.had[name]] for at in range(len(it.codes))] if it.epochs else []
+    bands = 140 + sum(highs.values())
+    end = bands + 24 * sum(map(bool, never)) if it.epochs else -120
     out = [f"<svg xmlns='http://www.w3.org/2000/svg' viewBox='0 0 1620 {end + 230}'>", f"<title>{marker}</title>", STYLE]
     out += [f"<rect class='page' width='1620' height='{end + 230}'/>", f"<text class='marker' x='110' y='42'>{marker}</text>"]
     if not it.epochs:
@@ -243,12 +248,21 @@ def svg_picture(text: str) -> str:
     counts = f"records {len(it.epochs)}, satellites {len(it.names)}, slips {it.kinds['slip']}, returns {it.kinds['return']}"
     counts += f", rises {it.kinds['rise']}, missing epochs {it.missing}"
     out.append(f"<text x='110' y='98'>{counts}</text>")
+    out.append(SYSTEM)
+    top = 140
     for at, name in enumerate(it.names):
+        high = highs[name]
         ground = f"<rect class='b{at % 2}' x='-110' width='1620' height='{high}'/>"
-        label = f"<text class='name' x='-40' y='{16 + 11 * len(it.codes)}'>{name}</text>"
-        lines = [line for code in range(len(it.codes)) for line in code_line(it, name, code)]
+        label = f"<text class='{'name low' if close else 'name'}' x='-40' y='{high // 2 + (7 if close else 9)}'>{name}</text>"
+        lines = [line for row, code in enumerate(sorted(it.had[name])) for line in code_line(it, name, code, row, close)]
         outages = path("o", (f"M{begin} 4v{high - 8}H{end}v-{high - 8}z" for begin, end in runs(it, it.out[name])))
-        out += group(110, 112 + high * at, [f"<title>{name}</title>", ground, label, *outages, *lines])
+        out += group(110, top, [f"<title>{name}</title>", ground, label, *outages, *lines])
+        top += high
+    y = bands + 18
+    for code, names in zip(it.codes, never):
+        if names:
+            out.append(f"<text class='never' x='110' y='{y}'>{' '.join([f'never {code}:', *names])}</text>")
+            y += 24
     out += group(110, end, ["<title>missing epochs</title>", "<text class='code' x='-6' y='18'>missing</text>", *bars(it, "g", it.gaps, 12)])
     out += group(110, end + 26, satellites(it))
     for c, label in it.ticks((it.columns // 10 + 1) * it.length).items():
@@ -258,6 +272,8 @@ def svg_picture(text: str) -> str:
 
 
 UNITS = 1440  # how wide the columns are together
+MOST_WIDE = 48  # more lines lie close
+SYSTEM = "<text class='system' x='110' y='134'>GPS</text>"
 STYLE, LEGEND = (
     next(line for line in (ROOT / "examples/marks.svg").read_text().splitlines() if line.startswith(begin))
     for begin in ("<style>", "<text y='16'>GPS time")
@@ -269,12 +285,16 @@ def edge(it: Drawn, column: int) -> int:
     return int(Fraction(UNITS * column, it.columns))
 
 
-def code_line(it: Drawn, name: str, code: int) -> list[str]:
-    """The lines of a code of a satellite."""
+def band_height(lines: int, close: bool) -> int:
+    """How high the band of a satellite with so many lines is."""
+    return 4 + 10 * max(2, lines) if close else 14 + 22 * max(1, lines)
+
+
+def code_line(it: Drawn, name: str, code: int, row: int, close: bool) -> list[str]:
+    """The lines of a code of a satellite, which has so many codes before it."""
     title = f"<title>{name} {it.codes[code]}: "
-    label = f"<text class='code' x='-6' y='16'>{it.codes[code]}</text>"
-    if code not in it.had[name]:
-        return group(0, 7 + 22 * code, [title + "never a phase</title>", "<text class='never' x='4' y='16'>never</text>", label])
+    place = "class='code tiny' transform='scale(1 2)' x='-6' y='9'" if close else "class='code' x='-6' y='16'"
+    label = f"<text {place}>{it.codes[code]}</text>"
     rows = {c: [epoch.satellites[name] for epoch in part if name in epoch.satellites] for c, part in enumerate(it.parts)}
     cells = {c: [row[code] for row in part] for c, part in rows.items()}
     phases = {c for c, part in cells.items() if any(shown.phase for shown in part)}
@@ -290,7 +310,8 @@ def code_line(it: Drawn, name: str, code: int) -> list[str]:
     lines += boxes(it, "p", missing & phases, 10, 6) + boxes(it, "m", missing - phases, 16, 12)
     lines += forms(it, "r", rises, "5l9 5l-9 5z") + forms(it, "a", returns, "5l9 5l-9 5z")
     lines += forms(it, "s", slips, "20l-7-21h14z") + forms(it, "h", halves, "8l6 6l-6 6l-6-6z")
-    return group(0, 7 + 22 * code, [*lines, label])
+    start = f"<g transform='translate(0 {2 + 10 * row})scale(1 .5)'>" if close else f"<g transform='translate(0 {7 + 22 * row})'>"
+    return [start, *lines, label, "</g>"]
 
 
 def runs(it: Drawn, columns: set[int]) -> list[tuple[int, int]]:

@@ -14,7 +14,7 @@ import re
 from collections import Counter
 from dataclasses import dataclass
 from datetime import timedelta
-from itertools import zip_longest
+from itertools import groupby, zip_longest
 from random import Random
 from typing import Callable, Iterable, NamedTuple, Optional
 
@@ -25,7 +25,7 @@ from checker import fault
 from damages import damaged_file
 from finding import EPHEMERIS, FIRST_DAY, SYSTEM_PARAMETERS, TEXT, Found, Stopped, find
 from messages import Placed, Refusal, frames_of, read_message, show_line
-from model import COUNTS, KINDS, Conversion, Judged, Setup, civil, convert, report_of
+from model import COUNTS, KINDS, Conversion, Judged, Setup, civil, convert, moment, report_of
 from parts import Part, part_of, records_of
 from passes import file_of_passes
 from pictures import svg_picture, text_picture
@@ -214,7 +214,7 @@ def auto_as_modelled(case: Case) -> Answer:
     try:
         found = find(texts, now, station, near, as_given, skip_empty)
     except Stopped as stopped:
-        listed = "".join(f" station {it}\n" for it in stopped.about) if "station" in STOPPED[stopped.cause] else ""
+        listed = stations_text(stopped.about, texts) if "station" in STOPPED[stopped.cause] else ""
         line = f"rtcm2rinex: {STOPPED[stopped.cause]}\n".replace("STATION", str(station)) + listed
         is_said = re.match(line.encode(), run.err)
         return ends_with(run, 3, b"", None) or (HOLDS if is_said else f"{run.err!r} and not {line!r}")
@@ -232,6 +232,14 @@ def auto_as_modelled(case: Case) -> Answer:
     return ends_with(run, 0 if due.epochs else 3, due.file.encode(), text)
 
 
+def stations_text(stations: tuple[object, ...], texts: list[bytes]) -> str:
+    """A line for each of these stations and each capture with observations of it, with how many epochs its messages have."""
+    captures = [finding.Capture.of(text) for text in texts]
+    times = {(it, at): [of.header["tow"] for of in capture.of_station(it) if "tow" in of.header]
+             for it in stations for at, capture in enumerate(captures, 1) if it in capture.observing()}
+    return "".join(f" station {it} in link{at}: {len(list(groupby(of)))} epochs\n" for (it, at), of in times.items())
+
+
 STOPPED = {
     "no frame": "the captures have no frame of RTCM 3",
     "no observation": "the captures have no GPS observations that are read",
@@ -239,9 +247,9 @@ STOPPED = {
     "several stations": "several stations have GPS observations; choose one by --station",
     "nothing of the station": r"captures have nothing of [^;]*; --skip-empty leaves them out",
     "dates differ": "the captures tell dates that differ; choose one by --near",
-    "no date": "the captures tell no date; give one, as in --near 2024-05-17T12:00:00",
+    "no date": "the captures tell no date; give one, as in --near GPS-TIME-WITHIN-HALF-A-WEEK",
     "give them in parts": "the captures are longer than half a week; convert them in parts",
-    "outside the dates": "the epochs are not dated from 1980-01-13 to 2099-12-31; see --near",
+    "outside the dates": "the first epoch is not dated from 1980-01-13 to 2099-12-31; choose a date by --near",
     "too many links": "more than 16 captures are of the same time, and 16 links are taken",
     "positions differ": "the station stands at positions that differ; --links-as-given takes them for one",
 }
@@ -271,19 +279,47 @@ def with_dates(rng: Random, setup: Setup, text: bytes) -> bytes:
     return b"".join(pieces)
 
 
+def epochs_of(file: str) -> list[int]:
+    """The moments of the records of a file."""
+    lines = file.split("END OF HEADER")[1].splitlines()
+    times = [(f"{line[2:6]}-{line[7:9]}-{line[10:12]}T{line[13:15]}:{line[16:18]}:{line[19:21].replace(' ', '0')}", line[22:25])
+             for line in lines if line.startswith(">")]
+    return [moment(time) + int(ms) for time, ms in times]
+
+
+def gap_lines(epochs: list[int]) -> list[str]:
+    """The ten longest steps that are longer than 60 s and than ten intervals, and how many more there are."""
+    steps = [(after - before, before, after) for before, after in zip(epochs, epochs[1:])]
+    counts = Counter(step for step, *_ in steps)
+    interval = min(counts, key=lambda step: (-counts[step], step), default=0)
+    gaps = sorted((it for it in steps if it[0] > max(60_000, 10 * interval)), key=lambda it: (-it[0], it[1]))
+    lines = [f" gap {shown_time(before)} until {shown_time(after)}" for _, before, after in gaps[:10]]
+    return lines + [f" more-gaps {len(gaps) - 10}"] * (len(gaps) > 10)
+
+
+def shown_time(at: int) -> str:
+    return f"{civil(at):%Y-%m-%dT%H:%M:%S}"
+
+
+def distinct(told: list[finding.Told]) -> list[finding.Told]:
+    """The first message that tells each first epoch, of the first 16 that differ."""
+    return list({it.first: it for it in told[::-1]}[first] for first in dict.fromkeys(it.first for it in told))[:16]
+
+
 SYSTEMS = {108: "GLONASS", 109: "Galileo", 110: "SBAS", 111: "QZSS", 112: "BeiDou", 113: "NavIC"}
 
 
 def auto_text(found: Found, said: Setup, due: Conversion, texts: list[bytes], is_told: bool) -> str:
     """What `auto` says of a conversion that is done."""
-    first, last = min(it for of in found.epochs for it in of), max(it for of in found.epochs for it in of)
+    epochs = epochs_of(due.file)
     source = "--near"
     if is_told and "week" in found.by:
+        first = min(epochs, default=said.near)
         others = [f"{civil(at):%Y-%m-%d}" for at in (first - 1024 * WEEK_MS, first + 1024 * WEEK_MS) if 0 <= at <= LAST_MADE + 999]
         source = f"1019 (or {', '.join(others)})"
     elif is_told:
         source = str(found.by["number"]) + (f" of station {found.by['station']}" if found.by["station"] != said.station else "")
-    lines = [f" from {civil(first):%Y-%m-%dT%H:%M:%S} until {civil(last):%Y-%m-%dT%H:%M:%S} by {source}"]
+    lines = [" the same by hand:"]
     marker = said.marker.lstrip("-")
     words = (f"rtcm2rinex convert --station {said.station} --near {civil(said.near):%Y-%m-%dT%H:%M:%S}"
              f" --made {civil(said.made):%Y-%m-%dT%H:%M:%S} --marker {'-' * (len(said.marker) - len(marker))}{sh_quoted(marker)}"
@@ -298,20 +334,26 @@ def auto_text(found: Found, said: Setup, due: Conversion, texts: list[bytes], is
         lines.append(f"{words} {' '.join(files)}")
     lines += due.report.splitlines()[-9:]
     counts = dict(line.split(" ") for line in lines[-9:])
+    lines += [f" from {shown_time(epochs[0])} until {shown_time(epochs[-1])} by {source}"] * bool(epochs)
+    if re.search(r"^ {8}0\.0000 {8}0\.0000 {8}0\.0000 +APPROX POSITION XYZ", due.file, re.M):
+        lines.append(" no-position: no 1005 or 1006 came in time, and the header has zeros")
+    lines += gap_lines(epochs)
+    conflicts = sum(" conflict " in line for line in due.report.splitlines()[:-9])
+    lines += [f" conflict {conflicts}: later copies differ from the first, which the file has"] * (conflicts > 0)
     kept = [at for at in range(len(texts)) if at not in found.skipped]
     captures = {at: finding.Capture.of(texts[at]) for at in kept}
-    if not any(it.point(said.station) for it in captures.values()):
-        lines.append(" no-position: no 1005 or 1006 came, and the header has zeros")
-    if not is_told:
-        told = {at: finding.counting(finding.tellings(said.made, it, said.station), said.station)[:1] for at, it in captures.items()}
-        others = [(at, it) for (at, of), epochs in zip(told.items(), found.epochs) for it in of if it.first != epochs[0]]
-        lines += [f" other-date {civil(it.first):%Y-%m-%dT%H:%M:%S} by {it.fields['number']}"
-                  + (f" of station {it.fields['station']}" if "station" in it.fields else "") + f" in link{at + 1}" for at, it in others[:1]]
+    told = {at: distinct(finding.counting(finding.tellings(said.made, it, said.station), said.station)) for at, it in captures.items()}
+    if is_told:
+        lines += [f" undated link{at + 1}: dated near the others" for (at, of), epochs in zip(told.items(), found.epochs) if epochs and not of]
+    passed = {at: distinct(finding.passed_over(finding.tellings(said.made, it, said.station), said.station)) for at, it in captures.items()}
+    others = [(at, it) for at, epochs in zip(kept, found.epochs) for it in told[at] + passed[at] if it.first != epochs[0]]
+    lines += [f" other-date {civil(it.first):%Y-%m-%dT%H:%M:%S} by {it.fields['number']}"
+              + (f" of station {it.fields['station']}" if "station" in it.fields else "") + f" in link{at + 1}" for at, it in others]
     lines += [f" few-phases {code}: its satellites have more than twice as many in another code" for code in found.few]
     lines += [f" late {counts['late']}: messages after {said.window} newer epochs are left out"] * (counts["late"] != "0")
     looks = {at: look_of(texts[at]) for at in found.skipped if not frames_of(texts[at])}
-    shown = {"unknown": "", "empty": " is empty", "gzip": " looks like gzip"}
-    lines += [f" skipped link{at + 1}{shown.get(looks.get(at), '')}" for at in found.skipped]
+    shown = {"unknown": "", "empty": " is empty", "gzip": " looks like gzip; unpack it: gzip -dc NAME >NAME.rtcm"}
+    lines += [f" skipped link{at + 1}{shown.get(looks.get(at), '').replace('NAME', f'link{at + 1}')}" for at in found.skipped]
     falls = [at for at, of in zip(kept, found.epochs) if of != sorted(of)]
     lines += [f" {'no-epoch' if at in found.without else 'time-falls'} link{at + 1}" for link in found.links for at in link
               if at in found.without + falls]
@@ -320,7 +362,12 @@ def auto_text(found: Found, said: Setup, due: Conversion, texts: list[bytes], is
     others.update(it.header["number"] for it in read if isinstance(it, Message) and it.header["station"] == said.station
                   and it.header["number"] in MSMS and it.header["number"] != found.msm)
     numbers = [*sorted(set(others) & set(MSMS)), *(it for it in sorted(others) if it in UNTAKEN or 1009 <= it <= 1012 or 1081 <= it <= 1137)]
-    lines += [f" untaken {SYSTEMS.get(it // 10, 'GLONASS') if it > 1080 or 1009 <= it <= 1012 else 'GPS'} {it} {others[it]}" for it in numbers]
+    left_out = [f" not in the file: {SYSTEMS.get(it // 10, 'GLONASS') if it > 1080 or 1009 <= it <= 1012 else 'GPS'} {it}, {others[it]} messages"
+                for it in numbers]
+    doppler = sum(isinstance(it, Message) and it.header["station"] == said.station and it.header["number"] == found.msm for it in read)
+    at = sum(it in MSMS for it in numbers)
+    left_out[at:at] = [f" not in the file: Doppler of {found.msm}, {doppler} messages"] * (found.msm in (1075, 1077) and doppler > 0)
+    lines += left_out
     lines += ["rtcm2rinex: no record came; the file is a header alone"] * (due.epochs == 0)
     return "".join(f"{line}\n" for line in lines)
 

@@ -337,7 +337,7 @@ TABLES = {
 
 
 def row_of(keyword: str, fields: list[Field]) -> str:
-    """A row of the table: names and moments stand to the left, with a blank between, and numbers to the right."""
+    """A row of the table: names and moments stand to the left, with a blank between, and numbers to the right, behind a blank."""
     by_key = {it.key: it for it in fields}
     name = " ".join(str(by_key[it].value) for it in ("satellite", "code") if it in by_key)
     row = f"all {name}" if keyword == "code" else name
@@ -346,7 +346,7 @@ def row_of(keyword: str, fields: list[Field]) -> str:
         if field.digits is None:
             row += (" " if row else "") + str(field.value)[: int(width)]
         else:
-            row += field._replace(word="").in_line().rjust(int(width))
+            row += (" " + field._replace(word="").in_line().lstrip()).rjust(int(width))
     if keyword == "code":
         on = [it.in_line() for it in fields if it.key in ("satellites", "tracked", "phases_per_slip")]
         row += "\n       " + " ".join(on)

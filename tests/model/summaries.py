@@ -16,7 +16,8 @@ from wire import MSMS, Fields, Message
 UNTAKEN = (1001, 1002, 1003, 1071, 1072, 1073)
 NO_DATE = "GPS-TIME-WITHIN-HALF-A-WEEK"
 MADE = '--made "$(date -u +%FT%T)"'
-MARKS = {b"": "empty", b"\x1f\x8b": "gzip", b"PK\3\4": "zip", b"\xb5b": "u-blox"}
+MARKS = {b"": "empty", b"\x1f\x8b": "gzip", b"BZh": "bzip2", b"\xfd7zXZ\0": "xz", b"PK\3\4": "zip", b"\xb5b": "u-blox", b"$@": "SBF",
+         b"\xaaD\x12": "NovAtel", b"\xaaD\x13": "NovAtel", b"JP055": "JPS"}
 
 
 def summary_of(text: bytes, name: str = "file") -> str:
@@ -134,5 +135,7 @@ def next_lines(name: str, near: str, station: int, shown: list[Shown]) -> list[s
     words = f"--station {station} --near {near} {MADE} --marker {station:04} --codes {','.join(codes)}{option}"
     second = [" second-frequency 2P"] if "2P" in codes and "2W" not in codes else []
     others = [f" other-msm {msm} {n}" for msm, n in epochs.items() if n and msm != most]
-    auto = f"--station {station} -o {station:04}.rnx {sh_quoted(name)}"
-    return [*second, *others, f" next rtcm2rinex convert {words} {sh_quoted(name)}", f" auto rtcm2rinex auto {auto}"]
+    auto = f" auto rtcm2rinex auto --station {station} -o {station:04}.rnx {sh_quoted(name)}"
+    # `auto` reads a capture twice, and standard input has its bytes once.
+    found = [] if name == "stdin" else [auto]
+    return [*second, *others, f" next rtcm2rinex convert {words} {sh_quoted(name)}", *found]

@@ -4,7 +4,7 @@
 examples=$root/examples
 made=2024-06-01T13:00:00
 python3 -B "$root/tests/program/auto_captures.py" || exit 1
-gzip -k one && ln -s one linked && ln one other_name && mkdir folder && mkfifo pipe && cp one 'a b' && cp one ./-5
+gzip -k one && bzip2 -k one && xz -c one >'one 2.xz' && ln -s one linked && ln one other_name && mkdir folder && mkfifo pipe && cp one 'a b' && cp one ./-5
 
 # auto WORD..: made at a known time
 auto() { run auto --made $made "$@"; }
@@ -16,7 +16,7 @@ unfinished() { ls | grep '^file' >>err; rm -f file*; }
 while IFS='|' read -r want words lines <&3; do
     eval "auto -o file.rnx $words"
     unfinished
-    # pins: words_and_name, look_text, count_line_of, unread_line, unread_gps, unread_glonass_to_sbas, unread_qzss_to_navic, all_unread, observed_line, number_and_station, date_message_text, is_told_later
+    # pins: words_and_name, look_text, looks_like, unpacker, unpacking, unpacking_by, count_line_of, unread_line, unread_gps, unread_glonass_to_sbas, unread_qzss_to_navic, all_unread, station_line, epochs_text, epochs_heard, number_and_station, date_message_text, is_told_later
     expect "refused_$(echo "$words" | tr ' ' _)" "$want" '' "rtcm2rinex: $(printf '%b' "$lines")"
 done 3<<'ROWS'
 1|nowhere|cannot open nowhere
@@ -33,37 +33,45 @@ done 3<<'ROWS'
 2|one linked|linked is named twice
 2|other_name later one|one is named twice
 2|"a b" "./a b"|'./a b' is named twice
-2|--near 2024-05-17 one|bad --near
-2|--near 2024-05-17T12:00:00Z one|bad --near
-2|--near "2024/05/17 12:00:00" one|bad --near
-2|--near 1980-01-12T23:59:59 one|bad --near
+2|--near 2024-05-17 one|bad --near\n --near takes YYYY-MM-DDTHH:MM:SS (GPS), from 1980-01-13T00:00:00 to 2099-12-31T23:59:59
+2|--near 2024-05-17T12:00:00Z one|bad --near\n --near takes YYYY-MM-DDTHH:MM:SS (GPS), from 1980-01-13T00:00:00 to 2099-12-31T23:59:59
+2|--near "2024/05/17 12:00:00" one|bad --near\n --near takes YYYY-MM-DDTHH:MM:SS (GPS), from 1980-01-13T00:00:00 to 2099-12-31T23:59:59
+2|--near 1980-01-12T23:59:59 one|bad --near\n --near takes YYYY-MM-DDTHH:MM:SS (GPS), from 1980-01-13T00:00:00 to 2099-12-31T23:59:59
 2|--codes C1C,C2W one|bad --codes
 2|--codes 1c,2w one|bad --codes
 2|--codes "1C, 2W" one|bad --codes
 2|--marker ZÜRICH one|bad --marker
-3|one.gz|the captures have no frame of RTCM 3\n one.gz looks like gzip
-3|zip one.rnx text nmea empty|the captures have no frame of RTCM 3\n zip looks like zip\n one.rnx looks like RINEX\n text looks like hex-text\n nmea looks like NMEA\n empty is empty
-3|one one.gz empty stations|several stations have GPS observations; choose one by --station\n station 7\n station 2003
-3|one one.gz "a b" empty|captures have nothing of station 2003; --skip-empty leaves them out\n one.gz looks like gzip\n empty is empty
-3|unread|the captures have no GPS observations that are read\n untaken GPS 1001 1\n untaken GPS 1003 12\n untaken GPS 1072 1\n untaken GLONASS 1009 1\n untaken GLONASS 1012 1\n untaken GLONASS 1081 1\n untaken GLONASS 1087 1\n untaken Galileo 1091 1\n untaken Galileo 1097 1\n untaken SBAS 1101 1\n untaken SBAS 1107 1\n untaken QZSS 1111 1\n untaken QZSS 1117 1\n untaken BeiDou 1121 1\n untaken BeiDou 1127 1\n untaken NavIC 1131 1\n untaken NavIC 1137 1
-3|reserved|the captures have no GPS observations that are read
-3|no_value position|the captures have no GPS observations that are read
-3|--station 7 one|station 7 has no GPS observations that are read\n station 2003
-3|--station 7 foreign|station 7 has no GPS observations that are read\n station 2003
+3|one.gz|the captures have no frame of RTCM 3\n one.gz looks like gzip; unpack it: gzip -dc one.gz >one.gz.rtcm
+3|zip one.rnx text nmea empty|the captures have no frame of RTCM 3\n empty is empty\n nmea looks like NMEA\n one.rnx looks like RINEX\n text looks like hex-text\n zip looks like zip; unpack it: unzip -p zip >zip.rtcm
+3|one one.gz empty stations|several stations have GPS observations; choose one by --station\n station 7 in stations: 1 epochs\n station 2003 in one: 2 epochs\n station 2003 in stations: 2 epochs
+3|one one.gz "a b" empty|captures have nothing of station 2003; --skip-empty leaves them out\n empty is empty\n one.gz looks like gzip; unpack it: gzip -dc one.gz >one.gz.rtcm
+3|unread|the captures have no GPS observations that are read\n holds GPS 1001, 1 messages\n holds GPS 1003, 12 messages\n holds GLONASS 1009, 1 messages\n holds GLONASS 1012, 1 messages\n holds GPS 1072, 1 messages\n holds GLONASS 1081, 1 messages\n holds GLONASS 1087, 1 messages\n holds Galileo 1091, 1 messages\n holds Galileo 1097, 1 messages\n holds SBAS 1101, 1 messages\n holds SBAS 1107, 1 messages\n holds QZSS 1111, 1 messages\n holds QZSS 1117, 1 messages\n holds BeiDou 1121, 1 messages\n holds BeiDou 1127, 1 messages\n holds NavIC 1131, 1 messages\n holds NavIC 1137, 1 messages
+3|one.bz2 "one 2.xz" sbf novatel jps|the captures have no frame of RTCM 3\n jps looks like JPS\n novatel looks like NovAtel\n 'one 2.xz' looks like xz; unpack it: xz -dc 'one 2.xz' >'one 2.xz'.rtcm\n one.bz2 looks like bzip2; unpack it: bzip2 -dc one.bz2 >one.bz2.rtcm\n sbf looks like SBF
+3|reserved|the captures have no GPS observations that are read\n holds 1080, 1 messages\n holds 1088, 1 messages\n holds 1089, 1 messages\n holds 1090, 1 messages\n holds 1098, 1 messages\n holds 1099, 1 messages\n holds 1100, 1 messages\n holds 1108, 1 messages\n holds 1109, 1 messages\n holds 1110, 1 messages\n holds 1118, 1 messages\n holds 1119, 1 messages\n holds 1120, 1 messages\n holds 1128, 1 messages\n holds 1129, 1 messages\n holds 1130, 1 messages\n holds 1138, 1 messages
+3|no_value position|the captures have no GPS observations that are read\n holds GPS 1004, 1 messages\n holds 1005, 1 messages\n holds 1013, 1 messages
+3|--station 7 one|station 7 has no GPS observations that are read\n station 2003 in one: 2 epochs
+3|--station 7 foreign|station 7 has no GPS observations that are read\n station 2003 in foreign: 2 epochs
 3|differ|the captures tell dates that differ; choose one by --near\n 2024-05-17T12:00:00 by 1013 of station 2003 in differ\n 2024-05-10T12:00:00 by 1013 of station 2003 in differ
 3|weeks|the captures tell dates that differ; choose one by --near\n 2024-05-17T12:00:00 by 1019 in weeks\n 2024-05-10T12:00:00 by 1019 in weeks
 3|last_week one|the captures tell dates that differ; choose one by --near\n 2024-05-10T12:00:02 by 1019 in last_week\n 2024-05-17T12:00:00 by 1013 of station 2003 in one
-3|one half_week|the captures are longer than half a week; convert them in parts
+3|one half_week|the captures are longer than half a week; convert them in parts\n 2024-05-21T00:00:00 until 2024-05-21T00:00:00 in half_week: 1 epochs\n 2024-05-17T12:00:00 until 2024-05-17T12:00:01 in one: 2 epochs
 3|one over_half_week|the captures tell dates that differ; choose one by --near\n 2024-05-17T12:00:00 by 1013 of station 2003 in one\n 2024-05-21T00:00:01 by 1019 in over_half_week
-3|undated|the captures tell no date; give one, as in --near 2024-05-17T12:00:00
-3|passed_over|the captures tell no date; give one, as in --near 2024-05-17T12:00:00
-3|one next_week|the captures are longer than half a week; convert them in parts
+3|undated|the captures tell no date; give one, as in --near GPS-TIME-WITHIN-HALF-A-WEEK
+3|passed_over|the captures tell no date; give one, as in --near GPS-TIME-WITHIN-HALF-A-WEEK
+3|one next_week|the captures are longer than half a week; convert them in parts\n 2024-05-26T23:59:50 until 2024-05-26T23:59:50 in next_week: 1 epochs\n 2024-05-17T12:00:00 until 2024-05-17T12:00:01 in one: 2 epochs
 3|--codes 5X --msm 7 --near 2099-12-31T23:59:59 --skip-empty empty nmea|the captures have no frame of RTCM 3\n empty is empty\n nmea looks like NMEA
 3|same.*|more than 16 captures are of the same time, and 16 links are taken\n same.00\n same.01\n same.02\n same.03\n same.04\n same.05\n same.06\n same.07\n same.08\n same.09\n same.10\n same.11\n same.12\n same.13\n same.14\n same.15\n same.16
 3|here.0 here.2|the station stands at positions that differ; --links-as-given takes them for one\n position 1114104.5999 -4850729.7108 3975521.4643 in here.0\n position 1114204.6000 -4850729.7108 3975521.4643 in here.2
 3|far_and_later here.1 here.0|the station stands at positions that differ; --links-as-given takes them for one\n position 1114204.6000 -4850729.7108 3975521.4643 in far_and_later\n position 1114104.5999 -4850729.7108 3975521.4643 in here.0
-3|here.0 far|the station stands at positions that differ; --links-as-given takes them for one\n position 1114104.5999 -4850729.7108 3975521.4643 in here.0\n position 1114204.6000 -4850729.7108 3975521.4643 in far
+3|here.0 far|the station stands at positions that differ; --links-as-given takes them for one\n position 1114204.6000 -4850729.7108 3975521.4643 in far\n position 1114104.5999 -4850729.7108 3975521.4643 in here.0
+3|--msm 4 of_1077|neither a 1004 nor the MSM of --msm has a GPS observation; choose another MSM\n holds 1013, 1 messages\n holds GPS 1077, 2 messages
+3|--near 1980-01-13T00:00:00 one|the first epoch is not dated from 1980-01-13 to 2099-12-31; choose a date by --near
+3|--near 2099-12-31T23:59:59 one|the first epoch is not dated from 1980-01-13 to 2099-12-31; choose a date by --near
 ROWS
+run auto --made 2024-06-01 one; expect form_of_made 2 '' 'rtcm2rinex: bad --made
+ --made takes YYYY-MM-DDTHH:MM:SS (UTC), from 1980-01-06T00:00:00 to 2100-12-31T23:59:59'
+# The command that unpacks a capture, pasted, makes one that is converted.
+auto 'one 2.xz'; sed -n "s/.*; unpack it: //p" err >said; . ./said; auto -o file 'one 2.xz.rtcm'; same unpacked_as_said file one.rnx; rm file
 auto -o '' one; expect an_output_without_a_name 2 '' "$(error "a value is required for '--output <FILE>' but none was supplied")"
 auto -o folder one; expect an_output_that_is_a_folder 1 '' 'rtcm2rinex: folder is there, and -f would replace it'
 auto -f -o folder one; expect an_output_that_is_a_folder_and_force 1 '' 'rtcm2rinex: folder is no regular file'
@@ -85,11 +93,12 @@ for option in 'station 4096 4096 is not in 0..=4095' 'window 1 1 is not in 2..=4
 done
 
 # says SPAN COMMAND COUNTS LINE..: standard error of a run that is done, of captures that have a position or not
-no_position=' no-position: no 1005 or 1006 came, and the header has zeros'
+no_position=' no-position: no 1005 or 1006 came in time, and the header has zeros'
 position=$no_position
 says() {
-    printf ' from %s\n%s\n' "$1" "$2"
+    printf ' the same by hand:\n%s\n' "$2"
     report $3
+    [ "${3##* }" = 0 ] || echo " from $1"
     [ ! "$position" ] || echo "$position"
     shift 3
     [ $# -eq 0 ] || printf '%s\n' "$@"
@@ -114,12 +123,14 @@ auto one
 # pins: span_line, time_text, value_words, convert_words, command_text, no_position_line
 leaves one 0 one.rnx want_err; as_said one one.rnx
 cp want_err one.err
-auto -o file one; leaves one_to_a_file 0 /dev/null one.err; same one_in_its_file file one.rnx; rm file
+# written NAME: standard error of `auto -o NAME one`
+written() { cat one.err; echo "wrote $1: 2 epochs, G 2 satellites"; } >written.err
+written file; auto -o file one; leaves one_to_a_file 0 /dev/null written.err; same one_in_its_file file one.rnx; rm file
 [ "$(ls | grep '^file')" ] && wrong nothing_beside_the_file "$(ls file*)" || right nothing_beside_the_file
 run auto --made 2024-05-17T13:00:00 --marker BASE "$examples/dated.rtcm"
 leaves the_dated_example 0 "$examples/session.rnx" err
 sed 's/^frames 54/frames 55/; s/^other 1/other 2/' "$examples/session.report" >want
-tail -n 9 err >counts; same counts_of_the_dated_example counts want
+grep -E '^(frames|other|refused|foreign|taken|repeat|conflict|late|epochs) ' err >counts; same counts_of_the_dated_example counts want
 for links in "1 2" "2 1"; do
     run auto --made 2024-05-17T13:00:00 --marker BASE "$examples/dated_link${links% *}.rtcm" "$examples/dated_link${links#* }.rtcm"
     leaves "the_dated_links_$links" 0 "$examples/session.rnx" err
@@ -151,7 +162,7 @@ finds by_other "$noon until $noon by 1013 of station 7" "$one_command by_other" 
 finds by_week "$noon until $noon by 1019 (or 2004-10-01, 2044-01-01)" "$one_command by_week" '2 1 0 0 1 0 0 0 1' 0 ''
 for row in '1981-01-01 1980-01-20 1999-09-05' '2024-06-01 2019-04-21 1999-09-05, 2038-12-05' '2100-12-31 2097-10-20 2078-03-06'; do
     set -- $row
-    run auto --made "$1T00:00:00" early_week; head -n 1 err >told
+    run auto --made "$1T00:00:00" early_week; grep "^ from" err >told
     echo " from $2T00:01:00 until $2T00:01:00 by 1019 (or $3${4+ $4})" >want
     # pins: neighbours_text, weeks_ms
     same "week_of_$1" told want
@@ -160,37 +171,67 @@ finds '--near 2024-05-20T12:00:00 one' "$two --near" "$one_command one" "$counts
 finds '--near 2024-06-18T12:00:00 one' "2024-06-21T12:00:00 until 2024-06-21T12:00:01 by --near" "$(command 2024-06-21T12:00:00) one" "$counts" 0 '' \
     ' other-date 2024-05-17T12:00:00 by 1013 of station 2003 in one'
 finds '--near 2024-05-11T12:00:00 differ' "2024-05-10T12:00:00 until 2024-05-10T12:00:01 by --near" "$(command 2024-05-10T12:00:00) differ" '5 3 0 0 2 0 0 0 2' 0 '' \
-    ' other-date 2024-05-17T12:00:00 by 1013 of station 2003 in differ'
+    ' other-date 2024-05-17T12:00:00 by 1013 of station 2003 in differ\n other-date 2019-06-21T12:00:00 by 1019 in differ'
+finds '--near 2024-05-17T12:00:00 differ' "$two --near" "$one_command differ" '5 3 0 0 2 0 0 0 2' 0 one.rnx \
+    ' other-date 2024-05-10T12:00:00 by 1013 of station 2003 in differ\n other-date 2019-06-21T12:00:00 by 1019 in differ'
+finds '--near 2024-06-18T12:00:00 differ' "2024-06-21T12:00:00 until 2024-06-21T12:00:01 by --near" "$(command 2024-06-21T12:00:00) differ" '5 3 0 0 2 0 0 0 2' 0 '' \
+    ' other-date 2024-05-17T12:00:00 by 1013 of station 2003 in differ\n other-date 2024-05-10T12:00:00 by 1013 of station 2003 in differ\n other-date 2019-06-21T12:00:00 by 1019 in differ'
+# Without --near the 1013 of the station counts, and a 1019 of another week is told.
+finds other_week "$two 1013" "$one_command other_week" '4 2 0 0 2 0 0 0 2' 0 one.rnx ' other-date 2024-05-10T12:00:00 by 1019 in other_week'
+finds same_week "$two 1013" "$one_command same_week" '4 2 0 0 2 0 0 0 2' 0 one.rnx
+# With --near all captures are dated by it, and none is undated.
+finds '--near 2024-05-17T12:00:00 later one' "$noon until 2024-05-17T12:00:03 by --near" "cat one later | $one_command stdin" '5 1 0 0 4 0 0 0 4' 0 ''
 # pins: joined_bytes, cat_words, one_link_text, no_position_line
-finds 'later one' "$noon until 2024-05-17T12:00:03 by 1013" "cat one later | $one_command stdin" '5 1 0 0 4 0 0 0 4' 0 ''
+# pins: undated_line
+finds 'later one' "$noon until 2024-05-17T12:00:03 by 1013" "cat one later | $one_command stdin" '5 1 0 0 4 0 0 0 4' 0 '' ' undated later: dated near the others'
 position=
 finds 'one position' "$two 1013" "cat position one | $one_command stdin" '4 1 0 0 3 0 0 0 2' 0 '' ' no-epoch position'
 # a capture that begins with another station, before the one that tells which station is converted
 finds 'positions one' "$two 1013" "cat positions one | $one_command stdin" '5 1 0 1 3 0 0 0 2' 0 '' ' no-epoch positions'
+# Captures without an epoch, and those of the same time, go by their names.
+finds 'positions one position' "$two 1013" "cat position positions one | $one_command stdin" '6 1 0 1 3 1 0 0 2' 0 '' ' no-epoch position\n no-epoch positions'
 position=$no_position
+finds 'same.01 same.00' "$two 1013" "$one_command same.00 same.01" '6 2 0 0 4 0 0 0 2' 0 ''
+finds '--links-as-given same.01 same.00' "$two 1013" "$one_command same.01 same.00" '6 2 0 0 4 0 0 0 2' 0 ''
+finds gaps "$noon until 2024-05-17T12:16:19 by 1013" "$one_command gaps" '28 1 0 0 27 0 0 0 27' 0 '' \
+    ' gap 2024-05-17T12:13:57 until 2024-05-17T12:15:18\n gap 2024-05-17T12:12:36 until 2024-05-17T12:13:56\n gap 2024-05-17T12:11:16 until 2024-05-17T12:12:35\n gap 2024-05-17T12:09:57 until 2024-05-17T12:11:15\n gap 2024-05-17T12:08:39 until 2024-05-17T12:09:56\n gap 2024-05-17T12:07:22 until 2024-05-17T12:08:38\n gap 2024-05-17T12:06:06 until 2024-05-17T12:07:21\n gap 2024-05-17T12:04:51 until 2024-05-17T12:06:05\n gap 2024-05-17T12:03:37 until 2024-05-17T12:04:50\n gap 2024-05-17T12:02:24 until 2024-05-17T12:03:36\n more-gaps 2'
+finds slow "$noon until 2024-05-17T12:11:30 by 1013" "$one_command slow" '6 1 0 0 5 0 0 0 5' 0 '' ' gap 2024-05-17T12:06:00 until 2024-05-17T12:11:30'
 # pins: IsNearOf
 finds falls "$noon until 2024-05-17T12:00:02 by 1013" "$(command 2024-05-17T12:00:01) falls" '4 1 0 0 3 0 0 0 3' 0 '' ' time-falls falls'
 finds few "$noon until 2024-05-17T12:00:03 by 1013" "$one_command few" '5 1 0 0 4 0 0 0 4' 0 '' \
     ' few-phases 2W: its satellites have more than twice as many in another code'
 # pins: msm_line
-finds stray "$two 1013" "$one_command stray" '5 2 0 0 3 0 0 0 2' 0 '' ' untaken GPS 1077 1'
-finds '--msm 7 stray' "$two 1013" "$(command $noon 1C,2W ' --msm 7') stray" '5 3 0 0 2 0 0 0 1' 0 '' ' untaken GPS 1074 2'
-finds of_1077 "$two 1013" "$(command $noon 1C ' --msm 7') of_1077" "$counts" 0 ''
+finds stray "$two 1013" "$one_command stray" '5 2 0 0 3 0 0 0 2' 0 '' ' not in the file: GPS 1077, 1 messages'
+# The epochs are those of the file: the second epoch has a 1074 alone.
+# pins: doppler_line, doppler_of
+finds '--msm 7 stray' "$noon until $noon by 1013" "$(command $noon 1C,2W ' --msm 7') stray" '5 3 0 0 2 0 0 0 1' 0 '' \
+    ' not in the file: GPS 1074, 2 messages\n not in the file: Doppler of 1077, 1 messages'
+finds of_1077 "$two 1013" "$(command $noon 1C ' --msm 7') of_1077" "$counts" 0 '' ' not in the file: Doppler of 1077, 2 messages'
 finds '--msm 4 --codes 1C of_1077' "$two 1013" "$(command $noon 1C) of_1077" '3 3 0 0 0 0 0 0 0' 3 '' \
-    ' untaken GPS 1077 2\nrtcm2rinex: no record came; the file is a header alone'
+    ' not in the file: GPS 1077, 2 messages\nrtcm2rinex: no record came; the file is a header alone'
 finds '--codes 5X one' "$two 1013" "$(command $noon 5X) one" '3 1 0 0 2 0 0 0 0' 3 '' \
     'rtcm2rinex: no record came; the file is a header alone'
 finds '--skip-empty one.gz one empty zip' "$two 1013" "$one_command one" "$counts" 0 one.rnx \
-    ' skipped one.gz looks like gzip\n skipped empty is empty\n skipped zip looks like zip'
+    ' skipped empty is empty\n skipped one.gz looks like gzip; unpack it: gzip -dc one.gz >one.gz.rtcm\n skipped zip looks like zip; unpack it: unzip -p zip >zip.rtcm'
 finds '--skip-empty --station 7 one stations' "$noon until $noon by 1013 of station 2003" \
     "$(echo "$one_command" | sed 's/2003/0007/g; s/station 0007/station 7/') stations" '4 1 0 2 1 0 0 0 1' 0 '' ' skipped one'
 # labelled OPTIONS: the command of `label` for FILE
 labelled() { printf '\nrtcm2rinex label%s FILE' "$1"; }
-# pins: option_words, label_words, file_word, command_with, field_of, antenna_field, label_told, is_null_antenna, fits_field, ToldLabel.is_printed
+# pins: option_words, label_words, file_word, command_with, field_if_fits, antenna_field, label_told, is_null_antenna, fits_field, ToldLabel.is_printed
 finds equipped "$two 1013" "$one_command equipped$(labelled " --antenna-type 'TRM55971.00     NONE' --antenna-number 1440911917 --receiver-type 'TRIMBLE NETR9' --receiver-version 4.48 --receiver-number 5148K72868")" '6 4 0 0 2 0 0 0 2' 0 one.rnx
-finds null_antenna "$two 1013" "$one_command null_antenna$(labelled " --receiver-type 'LEICA GRX1200+GNSS' --receiver-version 9.20 --receiver-number 496710")" '4 2 0 0 2 0 0 0 2' 0 one.rnx
-finds only_null "$two 1013" "$one_command only_null" '4 2 0 0 2 0 0 0 2' 0 one.rnx
-finds unfit "$two 1013" "$one_command unfit$(labelled " --antenna-type GPPNULLANTENNAS --receiver-number --'it'\\''s'")" '4 2 0 0 2 0 0 0 2' 0 one.rnx
+finds null_antenna "$two 1013" "$one_command null_antenna$(labelled " --receiver-type 'LEICA GRX1200+GNSS' --receiver-version 9.20 --receiver-number 496710")" '4 2 0 0 2 0 0 0 2' 0 one.rnx \
+    ' not-in-label antenna-type names no antenna: ADVNULLANTENNA  NONE\n not-in-label antenna-serial is of no antenna: 12'
+# pins: TextsLeftOut.reason, left_out_line, antenna_left_out, receiver_left_out, ToldLabel.is_blank, without_leading
+finds only_null "$two 1013" "$one_command only_null" '4 2 0 0 2 0 0 0 2' 0 one.rnx ' not-in-label antenna-type names no antenna: GPPNULLANTENNA'
+finds unfit "$two 1013" "$one_command unfit$(labelled " --antenna-type GPPNULLANTENNAS --antenna-number blank --receiver-number --'it'\\''s'")" '4 2 0 0 2 0 0 0 2' 0 one.rnx \
+    ' not-in-label receiver-type has more than 20 characters: of 21 characters here\n not-in-label receiver-version has characters that are no printable ASCII: tab\\x09'
+finds padded "$two 1013" "$one_command padded$(labelled " --antenna-type 'TRM55971.00     NONE' --antenna-number 144 --receiver-type 'TRIMBLE NETR9' --receiver-number 5148K72868")" '4 2 0 0 2 0 0 0 2' 0 one.rnx
+# What was told last counts by its time, and not by the order of the captures or of their begins.
+# pins: time_or_first, CaptureEquipment.moment_told
+finds 'antenna_2 antenna_1' "$noon until 2024-05-17T12:00:03 by 1013" "cat antenna_1 antenna_2 | $one_command stdin$(labelled ' --antenna-type B')" '8 4 0 0 4 0 0 0 4' 0 ''
+finds 'antenna_3 antenna_1' "$noon until 2024-05-17T12:00:04 by 1013" "cat antenna_1 antenna_3 | $one_command stdin$(labelled ' --antenna-type A --antenna-number 1')" '7 4 0 0 3 0 0 0 3' 0 ''
+finds 'antenna_3 antenna_2 antenna_1' "$noon until 2024-05-17T12:00:04 by 1013" "cat antenna_1 antenna_2 antenna_3 | $one_command stdin$(labelled ' --antenna-type A')" '11 6 0 0 5 0 0 0 5' 0 ''
+finds 'long short' "$noon until 2024-05-17T12:00:09 by 1013" "$one_command long short$(labelled ' --antenna-type NEW --antenna-number 2 --receiver-type R2')" '9 5 0 0 4 0 0 0 4' 0 ''
 auto -o 'a file' equipped; cp err equipped.err; grep '^rtcm2rinex label' err >said
 (PATH=$work/bin:$PATH && . ./said) >labelled_file 2>again_err
 run label --blank labelled_file; leaves the_label_as_said 0 one.rnx /dev/null
@@ -199,7 +240,7 @@ rm 'a file'
 # --label puts it on, and leaves nothing beside. A file of a header alone gets it too; without one that fits it is the plain file.
 # pins: label_if_any
 auto --label -o 'a file' equipped; leaves label 0 /dev/null equipped.err; same the_file_with_its_label 'a file' labelled_file
-auto -f --label -o 'a file' --codes 5X equipped; [ "$status" = 3 ] && right label_of_a_header || wrong label_of_a_header "$status"
+rm 'a file'; auto --label -o 'a file' --codes 5X equipped; [ "$status" = 3 ] && right label_of_a_header || wrong label_of_a_header "$status"
 run label --blank 'a file'; cp out plain; auto --codes 5X equipped; same the_header_with_its_label plain out
 for capture in only_null one; do
     auto -f --label -o 'a file' $capture; [ "$status" = 0 ] && same "no_label_of_$capture" 'a file' one.rnx || wrong "no_label_of_$capture" "$status"
@@ -220,8 +261,10 @@ finds '--window 2 --near 2024-05-17T12:00:00 '"$examples/late.rtcm" "$noon until
 finds week_end "2024-05-18T23:59:50 until 2024-05-19T00:00:09 by 1013" "$(command 2024-05-18T23:59:50) week_end" '21 1 0 0 20 0 0 0 20' 0 week_end.rnx
 position=
 links='here.0 here.1' # 100 m apart
-finds "here.1 here.0" "$noon until 2024-05-17T12:00:10 by 1013" "$one_command $links" '8 2 0 0 5 0 1 0 4' 0 ''
-finds "--links-as-given here.2 here.0" "$noon until 2024-05-17T12:00:11 by 1013" "$one_command here.2 here.0" '8 2 0 0 5 0 1 0 4' 0 ''
+conflict=' conflict 1: later copies differ from the first, which the file has'
+# pins: conflicts_line
+finds "here.1 here.0" "$noon until 2024-05-17T12:00:10 by 1013" "$one_command $links" '8 2 0 0 5 0 1 0 4' 0 '' "$conflict"
+finds "--links-as-given here.2 here.0" "$noon until 2024-05-17T12:00:11 by 1013" "$one_command here.2 here.0" '8 2 0 0 5 0 1 0 4' 0 '' "$conflict"
 sed "s/^frames 8/link 2 conflict 1005 -\n&/" want_err >want; auto --report --links-as-given here.2 here.0; leaves report 0 any want
 position=$no_position
 finds "$(seq -s ' ' -f 'same.%02.0f' 0 15)" "$two 1013" "$one_command $(seq -s ' ' -f 'same.%02.0f' 0 15)" '48 16 0 0 32 0 0 0 2' 0 ''
@@ -240,9 +283,9 @@ as_said a_day day.rnx
 gzip -k day/7
 auto -o file $(echo "$hours" | sed 's|day/7|&.gz|'); unfinished
 expect a_day_with_an_hour_that_is_compressed 3 '' 'rtcm2rinex: captures have nothing of station 2003; --skip-empty leaves them out
- day/7.gz looks like gzip'
+ day/7.gz looks like gzip; unpack it: gzip -dc day/7.gz >day/7.gz.rtcm'
 sed 's/^> 2024 05 17 07/#&/; /^#/,/^> 2024 05 17 08/{/^> 2024 05 17 08/!d}' day.rnx >want
-says "$span" "cat $(echo "$hours" | sed 's|day/7 ||') | $day_command stdin" '2806 23 0 0 2761 22 0 0 2760' ' skipped day/7.gz looks like gzip'
+says "$span" "cat $(echo "$hours" | sed 's|day/7 ||') | $day_command stdin" '2806 23 0 0 2761 22 0 0 2760' ' gap 2024-05-17T06:59:30 until 2024-05-17T08:00:00' ' skipped day/7.gz looks like gzip; unpack it: gzip -dc day/7.gz >day/7.gz.rtcm'
 auto --skip-empty $(echo "$hours" | sed 's|day/7|&.gz|'); leaves a_day_without_an_hour 0 want want_err
 even=$(seq -s ' ' -f 'overlapping/%.0f' 0 2 22) odd=$(seq -s ' ' -f 'overlapping/%.0f' 1 2 23)
 says '2024-05-17T00:00:00 until 2024-05-18T00:00:30 by 1013' "mkdir joined &&
@@ -263,10 +306,23 @@ if [ "$before" -le "$shown" ] && [ "$shown" -le "$after" ]; then right a_present
 run auto --made 2024-05-15T23:59:59 one; [ "$status" = 3 ] && right a_date_after_the_present || wrong a_date_after_the_present "$status"
 run auto --made 2024-05-16T00:00:00 one; [ "$status" = 0 ] && right a_date_of_tomorrow || wrong a_date_of_tomorrow "$status"
 
+position=$no_position
 # A FILE that is there stays, but with -f; an output that is a capture is never taken, by whatever name.
 echo old >file; echo old >want
 auto -o file one; expect a_file_that_is_there 1 '' 'rtcm2rinex: file is there, and -f would replace it'; same it_stays file want
-auto -f -o file one; leaves a_file_that_is_replaced 0 /dev/null one.err; same it_is_replaced file one.rnx; rm file
+chmod 640 file; auto -f -o file one; leaves a_file_that_is_replaced 0 /dev/null written.err; same it_is_replaced file one.rnx
+# Its permissions stay. A file without a record does not replace it; where no FILE is, it is written.
+[ "$(stat -c %a file)" = 640 ] && right it_keeps_its_permissions || wrong it_keeps_its_permissions "$(stat -c %a file)"
+says "$two 1013" "$(command $noon 5X) one" '3 1 0 0 2 0 0 0 0' 'rtcm2rinex: no record came; file stays as it was'
+auto -f -o file --codes 5X one; leaves a_file_and_no_record 3 /dev/null want_err; same the_good_file_stays file one.rnx
+[ "$(ls file*)" = file ] && right no_header_beside || wrong no_header_beside "$(ls file*)"
+mv file 'a file'; auto -f -o 'a file' --codes 5X one; tail -n 1 err >told; echo "rtcm2rinex: no record came; 'a file' stays as it was" >want
+same a_file_with_a_blank_and_no_record told want; rm 'a file'
+says "$two 1013" "$(command $noon 5X) one" '3 1 0 0 2 0 0 0 0' 'rtcm2rinex: no record came; the file is a header alone'
+echo 'wrote file: no epochs' >>want_err
+auto --codes 5X one; cp out want; auto -f -o file --codes 5X one; leaves no_file_and_no_record 3 /dev/null want_err; same the_header_alone file want; rm file
+auto -o - one; expect an_output_of_a_hyphen 2 '' 'rtcm2rinex: -o - names no file; leave out -o for standard output, or say -o ./-'
+written ./-; auto -o ./- one; leaves an_output_of_this_name 0 /dev/null written.err; same it_has_this_name ./- one.rnx; rm ./-
 cp one kept
 for name in one ./one linked other_name folder/../one; do
     for force in '' -f; do
@@ -283,25 +339,64 @@ auto -o dangling one; expect an_output_that_is_a_link 1 '' 'rtcm2rinex: dangling
 auto -f -o dangling one; expect an_output_that_is_a_link_and_force 1 '' 'rtcm2rinex: dangling is no regular file'
 # A file that another run began stays.
 echo begun >new.part; cp new.part want
-auto -o new one; leaves beside_another_run 0 /dev/null one.err; same its_file new one.rnx; same the_other_run new.part want
+written new; auto -o new one; leaves beside_another_run 0 /dev/null written.err; same its_file new one.rnx; same the_other_run new.part want
 [ "$(ls new*)" = "$(printf 'new\nnew.part')" ] && right no_file_more || wrong no_file_more "$(ls new*)"
 # No file is made there, which is seen before a capture is read: this one would be refused.
 auto -o nowhere/file one.gz; expect no_folder 1 '' 'rtcm2rinex: cannot write beside nowhere/file'
 auto -o 'no where/file' one; expect a_folder_with_a_blank 1 '' "rtcm2rinex: cannot write beside 'no where/file'"
 echo old >'a file'; auto -o 'a file' one; expect a_file_with_a_blank 1 '' "rtcm2rinex: 'a file' is there, and -f would replace it"
 head -n 2 one.err >lines
-# A full disk, and no standard error: nothing is left of FILE, and a FILE that is there stays.
+# A full disk: nothing is left of FILE, and a FILE that is there stays. Without a reader of standard error FILE is written.
 install
 { cat lines; echo 'rtcm2rinex: write failed'; } >want
 for force in '' -f; do
+    [ "$force" ] && echo old >file
     limited 600 installed/bin/rtcm2rinex auto --made $made $force -o file one >out 2>err; status=$?
     leaves "a_full_disk_$force" 1 /dev/null want
-    "$program" auto --made $made $force -o file one >out 2>&-; status=$?; : >err
-    leaves "closed_standard_error_$force" 1 /dev/null /dev/null
     [ "$(cat file* 2>&1)" = "$([ "$force" ] && echo old || cat 'file*' 2>&1)" ] && right "no_part_$force" || wrong "no_part_$force" "$(ls)"
-    echo old >file
+    "$program" auto --made $made $force -o file one >out 2>&-; status=$?; : >err
+    leaves "closed_standard_error_$force" 1 /dev/null /dev/null; same "its_file_$force" file one.rnx; rm file
+    [ "$force" ] && echo old >file
+    "$program" auto --made $made $force --report -o file one >out 2>/dev/full; status=$?; : >err
+    leaves "full_standard_error_$force" 1 /dev/null /dev/null; same "its_file_with_a_report_$force" file one.rnx; rm file
+    "$program" auto --made $made $force -o file --codes 5X one >out 2>&-; status=$?; : >err
+    leaves "a_header_and_closed_standard_error_$force" 1 /dev/null /dev/null; rm file
 done
+"$program" auto --made $made one >out 2>&-; status=$?; : >err; leaves an_output_and_closed_standard_error 1 one.rnx /dev/null
 "$program" auto --made $made one >/dev/full 2>err; status=$?; : >out
 leaves a_full_output 1 /dev/null want
+# A capture that changes between its two readings. reread CHANGE WORD..: `auto`, while this command changes the capture `grows`.
+reread() {
+    cp one grows
+    change=$1
+    shift
+    python3 -B "$root/tests/program/rereading.py" "$change" grows "$program" auto --made $made "$@" >out 2>err
+    status=$?
+}
+sed 's/ one$/ grows/' lines >said
+# Its bytes are others, or fewer: a byte of its first frame, its first byte alone, its end, or all of it.
+{ cat said; echo 'rtcm2rinex: grows has changed since it was read first'; } >want
+while IFS='|' read -r name change <&3; do
+    reread "$change" -o file grows; unfinished; leaves "a_capture_$name" 1 /dev/null want
+done 3<<'ROWS'
+with_another_byte|printf x | dd of="$1" bs=1 seek=10 conv=notrunc status=none
+that_begins_otherwise|printf x | dd of="$1" bs=1 conv=notrunc status=none
+that_ends_otherwise|size=$(wc -c <"$1"); printf x | dd of="$1" bs=1 seek=$((size - 1)) conv=notrunc status=none
+that_lacks_a_byte|truncate -s -1 "$1"
+that_is_empty|: >"$1"
+that_is_longer_and_another|cat one >>"$1"; printf x | dd of="$1" bs=1 seek=10 conv=notrunc status=none
+ROWS
+reread 'printf x | dd of="$1" bs=1 seek=10 conv=notrunc status=none' grows; [ "$status" = 1 ] && cmp -s err want && right a_capture_with_another_byte_to_standard_output || wrong a_capture_with_another_byte_to_standard_output "$status $(cat err)"
+{ cat said; echo 'rtcm2rinex: read failed'; } >want
+reread 'rm "$1"' -o file grows; unfinished; leaves a_capture_that_is_gone 1 /dev/null want
+# It has grown: the file has what its first bytes told, and a line says so.
+{ cat said; sed '1,2d' one.err; echo " grown grows: what came after its first $(wc -c <one | tr -d ' ') bytes is not in the file"; echo 'wrote file: 2 epochs, G 2 satellites'; } >want
+reread 'cat one >>"$1"' -o file grows; leaves a_capture_that_has_grown 0 /dev/null want; same its_first_bytes file one.rnx; rm file
+# It is as it was, though it was written again.
+{ cat said; sed '1,2d' one.err; echo 'wrote file: 2 epochs, G 2 satellites'; } >want
+reread 'cp one "$1"' -o file grows; leaves a_capture_that_is_written_again 0 /dev/null want; same the_same_bytes file one.rnx; rm file
+# Of two captures one changes.
+cp 'one' grows; reread 'printf x >>"$1"; truncate -s 10 "$1"' -o file here.0 grows; tail -n 1 err >told; echo 'rtcm2rinex: grows has changed since it was read first' >want
+same the_second_capture told want; [ ! -e file ] && right no_file_of_the_second || wrong no_file_of_the_second "$(ls file*)"
 
 ends

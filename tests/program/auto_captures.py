@@ -48,6 +48,9 @@ CAPTURES = {
     "nmea": b"$GPGGA,120000,,,,,0*4A\r\n",
     "empty": b"",
     "zip": b"PK\3\4",
+    "sbf": b"$@\x12\x34\xAB\x0F",
+    "novatel": b"\xAA\x44\x12\x1C\x2B\0",
+    "jps": b"JP055RLOGF JPS ALPHA",
     "text": b"D30013 3ED7",
     "position": place(),
     "positions": place(1_000_001, station=7) + place(),
@@ -63,6 +66,8 @@ CAPTURES = {
     # numbers that no message has
     "reserved": b"".join(frame_of((it << 4).to_bytes(2, "big")) for it in range(1080, 1139) if it % 10 in (8, 9, 0)),
     "differ": ONE + date(43_202, 60_440) + week(10, NOON),
+    "other_week": ONE + week(2313 % 1024, NOON),
+    "same_week": ONE + week(2314 % 1024, NOON),
     "weeks": week(2314 % 1024, NOON) + week(2313 % 1024, NOON) + epochs(NOON),
     "by_week": week(2314 % 1024, NOON) + epochs(NOON),
     "last_week": week(2313 % 1024, NOON) + epochs(NOON + 2),
@@ -84,6 +89,18 @@ CAPTURES = {
     "null_antenna": ONE + equipment(1033, b"ADVNULLANTENNA  NONE", 0, b"12", b"LEICA GRX1200+GNSS", b"9.20", b"496710"),
     "only_null": ONE + equipment(1007, b"GPPNULLANTENNA", 0),
     "unfit": ONE + equipment(1033, b"GPPNULLANTENNAS", 0, b"blank ", b"of 21 characters here", b"tab\t", b"--it's"),
+    "padded": ONE + equipment(1033, b" TRM55971.00     NONE   ", 0, b"144  ", b"  TRIMBLE NETR9", b"   ", b"5148K72868 "),
+    # an antenna A, then another one without a serial number, then A again
+    "antenna_1": ONE + equipment(1008, b"A", 0, b"1"),
+    "antenna_2": date(43_202) + epochs(NOON + 2, NOON + 3) + equipment(1007, b"B", 0),
+    "antenna_3": date(43_204) + epochs(NOON + 4) + equipment(1007, b"A", 0),
+    # the last of the long one tells another antenna and receiver, after the short one
+    "long": date(43_200) + equipment(1033, b"OLD", 0, b"1", b"R1", b"", b"") + epochs(NOON, NOON + 9) + equipment(1033, b"NEW", 0, b"2", b"R2", b"", b""),
+    "short": date(43_201) + epochs(NOON + 1, NOON + 2) + equipment(1033, b"OLD", 0, b"1", b"R1", b"", b""),
+    # twelve gaps, of 70 to 81 s, between pairs of epochs, and a step of 60 s that is none
+    "gaps": date(43_200) + epochs(*(NOON + sum(range(70, 70 + it)) + it + more for it in range(13) for more in (0, 1)), NOON + 906 + 13 + 60),
+    # an interval of 30 s: a step of ten intervals is no gap, one of eleven is
+    "slow": date(43_200) + epochs(*(NOON + it for it in (0, 30, 60, 360, 690))),
     "no_value": date(43_200) + capture(legacy_of(1000 * NOON, [])),
     **{f"here.{it}": date(43_200 + it) + place(x) + epochs(NOON + it, NOON + it + 9) for it, x in ((0, 0), (1, 1_000_000), (2, 1_000_001))},
     **{f"same.{it:02}": date(43_200) + epochs(NOON, NOON + 1, satellites=(it + 1,)) for it in range(17)},

@@ -76,7 +76,11 @@ quoted() {
 # well TEST NAME: the last run left what is due of a file of this name, which is that of `base`
 well() {
     [ "$command" != summary ] || sed 's/ BASE$//' "$root/tests/program/base.summary" | while IFS= read -r line; do
-        case $line in ' next '* | ' auto '*) printf '%s %s\n' "$line" "$(quoted "$2")" ;; *) printf '%s\n' "$line" ;; esac
+        case $line in
+        ' auto '*) [ "$2" = stdin ] || printf '%s %s\n' "$line" "$(quoted "$2")" ;; # auto would read standard input twice
+        ' next '*) printf '%s %s\n' "$line" "$(quoted "$2")" ;;
+        *) printf '%s\n' "$line" ;;
+        esac
     done >good_out
     leaves "$1" 0 good_out good_err
 }

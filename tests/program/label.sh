@@ -80,6 +80,8 @@ refused() {
     expect "refused_part_$1_of_$(wc -c <"$2")" 3 '' "line $1"
     run chart "$2"
     expect "refused_picture_$1_of_$(wc -c <"$2")" 3 '' "line $1"
+    run quality "$2"
+    expect "refused_numbers_$1_of_$(wc -c <"$2")" 3 '' "line $1"
 }
 sed '20s/^/x/' "$file" >wrong;             refused '20: C2 Columns' wrong
 sed '20s/^/x/' labelled >wrong;            refused '20: C2 Columns' wrong
@@ -88,7 +90,16 @@ sed '5s/^G/H/' labelled >wrong;            refused '5: C1 HeaderLine' wrong
 sed '7s/^4/ 4/; 7s/ 9.20 /9.20 /' labelled >wrong; refused '7: C1 HeaderLine' wrong
 sed '4s/M0/\tM/' labelled >wrong;          refused '4: C1 HeaderLine' wrong
 head -c 820 labelled >wrong;               refused '11: C5 Truncated' wrong
-head -c 809 labelled >wrong;               refused '2: C1 HeaderLine' wrong # too short for a label
+# In a header each line has 81 bytes, so the line that is cut follows from the number of bytes.
+for row in '1 0' '1 80' '2 81' '4 323' '5 324' '8 600' '10 729' '10 809' '11 810'; do
+    head -c "${row#* }" labelled >wrong;   refused "${row% *}: C5 Truncated" wrong
+done
+label --agency A "$file"; head -c 790 out >wrong; refused '10: C5 Truncated' wrong
+# refuses: a file that is cut short and is blamed on a field in a line before
+label --blank wrong; expect a_cut_file 3 '' 'line 10: C5 Truncated'
+run check wrong; expect a_field_in_a_cut_file_of_check 3 'line 5: C1 HeaderLine' ''
+sed '5s/^G/H/' labelled | head -c 790 >wrong;  refused '5: C1 HeaderLine' wrong
+sed '7s/^4/ 4/; 7s/ 9.20 /9.20 /' labelled | head -c 809 >wrong; refused '7: C1 HeaderLine' wrong
 run check labelled; expect no_file_of_check 3 'line 2: C1 HeaderLine' ''
 
 # bad NAME VALUE: it does not fit

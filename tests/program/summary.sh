@@ -14,6 +14,16 @@ leaves summary_of_a_file 0 want /dev/null
 : >empty
 run summary empty; expect summary_of_nothing 0 "$(nothing 0 empty)" ''
 
+# Standard input can't be read again, as `auto` does. A file may have the name, and goes by another one.
+for name in stdin ./stdin; do
+    cp "$base" stdin
+    sed "s#BASE\$#$name#" "$root/tests/program/base.summary" >want
+    [ "$name" = ./stdin ] || sed -i '/^ auto /d' want
+    "$program" summary "$name" <"$base" >out 2>err; status=$?
+    # refuses: a summary of standard input that names a command which can't read it
+    leaves "summary_of_$name" 0 want /dev/null
+done
+
 # The command that it names, with what the capture doesn't tell put in, and the time and the marker of the example.
 "$program" summary "$base" | sed -n 's/^ next rtcm2rinex //p' |
     sed 's/GPS-TIME-WITHIN-HALF-A-WEEK/2024-05-17T12:00:00/; s/"$(date -u +%FT%T)"/2024-05-17T13:00:00/; s/--marker 2003/--marker BASE/' >next

@@ -6,6 +6,7 @@ import gzip
 import io
 import os
 import subprocess
+import sys
 import time
 from datetime import datetime, timedelta, timezone
 from pathlib import Path
@@ -82,6 +83,27 @@ class Inputs(Case):
         with gzip.open("base.gz") as packed, open(EXAMPLES / "base.rtcm", "rb") as plain:
             self.converts(packed, plain, io.BytesIO(P), EXAMPLES / "base.rtcm")
 
+    def test_several_open_files_without_standard_streams(self) -> None:
+        """As in a service: the pipes of the links would else get the numbers of standard input, output and error."""
+        script = (f"import io, os, rtcm2rinex; done = rtcm2rinex.convert([io.BytesIO({BASE!r}) for _ in range(3)], **{TWO_CODES!r}); "
+            "open('made.rnx', 'wb').write(done.text)")
+        words = ["sh", "-c", 'exec "$@" <&- >&- 2>&-', "sh", sys.executable, "-B", "-c", script]
+        ran = subprocess.run(words, timeout=PATIENCE / 10)
+        self.assertEqual((ran.returncode, Path("made.rnx").read_bytes()), (0, example("base.rnx")))
+
+    def test_a_script_that_a_closed_pipe_ends(self) -> None:
+        """As scripts are that write to `head`. The program that refuses its words reads nothing of the pipe."""
+        script = f"""
+import io, signal, rtcm2rinex
+signal.signal(signal.SIGPIPE, signal.SIG_DFL)
+try:
+    rtcm2rinex.convert(io.BytesIO(bytes(1_000_000)), **{({**TWO_CODES, "codes": "9Z"})!r})
+except rtcm2rinex.WordsError as fault:
+    print(fault.line)
+"""
+        ran = subprocess.run([sys.executable, "-B", "-c", script], capture_output=True, text=True)
+        self.assertEqual((ran.stdout, ran.returncode), ("bad --codes\n", 0))
+
     def test_a_file_that_is_read_from_its_place_on(self) -> None:
         with open(EXAMPLES / "base.rtcm", "rb") as file:
             file.seek(len(P))
@@ -100,6 +122,16 @@ class Inputs(Case):
         with self.assertRaises(TypeError):
             rtcm2rinex.convert(io.StringIO("text"), **TWO_CODES, output="made.rnx")
         self.assertEqual(self.there(), ["cut.gz"])
+
+    def test_an_open_file_that_does_not_wait(self) -> None:
+        """Half a capture in a pipe whose sender has more is no whole capture."""
+        for call in (lambda it: rtcm2rinex.convert(it, **TWO_CODES, output="made.rnx"), rtcm2rinex.auto, rtcm2rinex.summary):
+            reading, writing = os.pipe()
+            os.set_blocking(reading, False)
+            os.write(writing, P)
+            with open(reading, "rb", buffering=0) as file, open(writing, "wb"), self.assertRaises(BlockingIOError):
+                call(file)
+        self.assertEqual(self.there(), [])
 
     def test_bytes_are_no_name(self) -> None:
         text = (EXAMPLES / "base.rnx").read_bytes()
@@ -145,6 +177,20 @@ class Outputs(Case):
         with self.assertRaises(rtcm2rinex.WorkError):
             rtcm2rinex.convert([EXAMPLES / "base.rtcm", self.folder], **TWO_CODES, output="made.rnx")
         self.assertEqual(self.there(), [])
+
+    def test_an_output_that_is_no_regular_file(self) -> None:
+        """It is not replaced, as by the program itself: a call with /dev/null would take it from all others."""
+        Path("target").write_text("old")
+        Path("link").symlink_to("target")
+        Path("folder").mkdir()
+        os.mkfifo("pipe")
+        for name in "link", "folder", "pipe", "":
+            with self.subTest(name), self.assertRaises(FileExistsError):
+                rtcm2rinex.convert(EXAMPLES / "base.rtcm", **TWO_CODES, output=name, force=True)
+            with self.subTest(name), self.assertRaises(rtcm2rinex.WorkError):
+                rtcm2rinex.auto(EXAMPLES / "dated.rtcm", output=name, force=True)
+        self.assertEqual(self.there(), ["folder", "link", "pipe", "target"])
+        self.assertTrue(Path("link").is_symlink() and Path("pipe").is_fifo())
 
     def test_an_output_that_is_an_input(self) -> None:
         Path("base").write_bytes(BASE)
@@ -227,7 +273,7 @@ class Auto(Case):
         done = rtcm2rinex.auto("examples/late.rtcm", near=NOON, window=2)
         self.assertEqual(done.report.late, (LateMessage(1, 1004, second(2)),))
         self.assertEqual(done.found.dated_by, "--near")
-        self.assertEqual(done.found.notes, ("no-position: no 1005 or 1006 came, and the header has zeros",
+        self.assertEqual(done.found.notes, ("no-position: no 1005 or 1006 came in time, and the header has zeros",
             "late 1: messages after 2 newer epochs are left out", "time-falls examples/late.rtcm"))
         short = rtcm2rinex.auto("examples/late.rtcm", near=NOON, window=2, report=False).report
         self.assertEqual((short.late, short.counts), ((), done.report.counts))
@@ -256,9 +302,9 @@ class Auto(Case):
     def test_captures_that_tell_too_little(self) -> None:
         names = self.captures("one", "stations", "undated", "zip")
         rows = {
-            "undated": ("the captures tell no date; give one, as in --near 2024-05-17T12:00:00", ()),
-            "stations": ("several stations have GPS observations; choose one by --station", ("station 7", "station 2003")),
-            "zip": ("the captures have no frame of RTCM 3", ("zip looks like zip",)),
+            "undated": ("the captures tell no date; give one, as in --near GPS-TIME-WITHIN-HALF-A-WEEK", ()),
+            "stations": ("several stations have GPS observations; choose one by --station", ("station 7 in stations: 1 epochs", "station 2003 in stations: 2 epochs")),
+            "zip": ("the captures have no frame of RTCM 3", ("zip looks like zip; unpack it: unzip -p zip >zip.rtcm",)),
         }
         for name, told in rows.items():
             with self.subTest(name), self.assertRaises(rtcm2rinex.CapturesError) as raised:
@@ -267,7 +313,7 @@ class Auto(Case):
             self.assertEqual((fault.status, fault.line, fault.details), (3, *told))
         self.assertEqual(self.there(), names)
         done = rtcm2rinex.auto(["one", "zip"], skip_empty=True)
-        self.assertEqual(done.found.notes[-1], "skipped zip looks like zip")
+        self.assertEqual(done.found.notes[-1], "skipped zip looks like zip; unpack it: unzip -p zip >zip.rtcm")
         self.assertEqual(rtcm2rinex.auto("stations", station=7).report.counts.foreign, 2)
 
     def test_a_header_alone(self) -> None:

@@ -56,9 +56,14 @@ class Summaries(Case):
         self.assertEqual(raised.exception.line, "cannot open nowhere")
 
     def test_names_in_the_commands(self) -> None:
-        for name, word in {"it's": r"'it'\''s'", "a\nb": "stdin", "-5": "./-5"}.items():
+        for name, word in {"it's": r"'it'\''s'", "-5": "./-5"}.items():
             Path(name).write_bytes(BASE)
             self.assertEqual(rtcm2rinex.summary(name).stations[2003].auto, f"rtcm2rinex auto --station 2003 -o 2003.rnx {word}")
+
+    def test_no_command_reads_a_pipe_twice(self) -> None:
+        """A capture with such a name is read through standard input."""
+        Path("a\nb").write_bytes(BASE)
+        self.assertIsNone(rtcm2rinex.summary("a\nb").stations[2003].auto)
 
 
 class Checks(Case):

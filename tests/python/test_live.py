@@ -9,6 +9,7 @@ import subprocess
 import sys
 import threading
 import time
+from unittest import mock
 
 import rtcm2rinex
 from rtcm2rinex import Converter, Counts, LateMessage
@@ -31,6 +32,11 @@ with rtcm2rinex.Converter(**{TWO_CODES}) as converter:
     except KeyboardInterrupt:
         print(converter.finish().counts.epochs, [str(it.time) for it in converter.records()])
 """
+
+
+def refused(thread: threading.Thread) -> None:
+    """What starting a thread does where the system has no room for one."""
+    raise RuntimeError("can't start new thread")
 
 
 def first_record(converter: Converter) -> rtcm2rinex.Epoch:
@@ -110,6 +116,29 @@ class Flow(Case):
             with open("made.rnx", "rb") as grown:
                 self.assertEqual([it.time for it in rtcm2rinex.epochs(grown)], [NOON])
 
+    def test_an_output_that_takes_a_few_bytes_at_a_time(self) -> None:
+        class Narrow(io.RawIOBase):
+            text = b""
+
+            def write(self, piece: bytes) -> int:
+                self.text += piece[:10]
+                return min(len(piece), 10)
+
+        class Mute(list):
+            """A file that does not say how many bytes it takes."""
+
+            def write(self, piece: bytes) -> None:
+                self.append(piece)
+
+            def flush(self) -> None:
+                pass
+
+        narrow, mute = Narrow(), Mute()
+        for output in narrow, mute:
+            with Converter(**TWO_CODES, output=output) as converter:
+                converter.feed(BASE)
+        self.assertEqual([narrow.text, b"".join(mute)], [(EXAMPLES / "base.rnx").read_bytes()] * 2)
+
     def test_an_interrupt_leaves_the_last_records(self) -> None:
         """Ctrl+C in a terminal sends SIGINT to all processes of a group, which are here the script and what it starts."""
         with subprocess.Popen([sys.executable, "-c", INTERRUPTED], stdin=subprocess.PIPE, stdout=subprocess.PIPE,
@@ -146,6 +175,22 @@ class Faults(Case):
             raise KeyboardInterrupt
         self.closed()
 
+    def test_too_many_threads(self) -> None:
+        """Whichever thread cannot be started, nothing is left."""
+        for count in range(4):
+            starts = iter([threading.Thread.start] * count)
+
+            def start(thread: threading.Thread) -> None:
+                next(starts, refused)(thread)
+
+            with self.subTest(count), mock.patch.object(threading.Thread, "start", start), self.assertRaises(RuntimeError):
+                with Converter(**TWO_CODES, links=2):
+                    pass
+            self.closed()
+        with mock.patch.object(threading.Thread, "start", refused), self.assertRaises(RuntimeError):
+            rtcm2rinex.convert(io.BytesIO(BASE), **TWO_CODES)
+        self.closed()
+
     def test_refused_words(self) -> None:
         with self.assertRaises(rtcm2rinex.WordsError) as raised, Converter(**{**TWO_CODES, "codes": "9Z"}) as converter:
             while True:
@@ -165,6 +210,14 @@ class Faults(Case):
             converter._process.kill()
             converter.finish()
         self.assertEqual((raised.exception.status, raised.exception.line), (-9, "ended by signal 9"))
+        self.closed()
+
+    def test_an_output_that_does_not_wait(self) -> None:
+        reading, writing = os.pipe()
+        os.set_blocking(writing, False)
+        with open(reading, "rb"), open(writing, "wb", buffering=0) as full:
+            with self.assertRaises(BlockingIOError), Converter(**TWO_CODES, output=full) as converter:
+                converter.feed(observations_at(*range(3600)))
         self.closed()
 
     def test_an_output_that_fails(self) -> None:

@@ -122,13 +122,17 @@ class Texts(Case):
         self.refuses(10, read_report, [*counts, "more 0"])
         self.refuses(1, read_report, ["link 1 lost 1074 2024-05-17 12:00:00.000", *counts])
         self.refuses(9, read_report, [*counts[:-1], "epochs -1"])
+        self.refuses(1, read_report, ["link 1 late 1074 2024-13-17 12:00:00.000", *counts])
 
     def test_other_texts(self) -> None:
         self.refuses(2, read_summary, "bytes 1\nframes x\n")
         self.refuses(1, read_summary, " message 1004 1\n")
+        self.refuses(2, read_summary, "station 1\n date 2024-13-17T12:00:00 1 1\n")
         self.refuses(1, found_of, ["from 2024"], ())
+        self.refuses(1, found_of, [" from 2024-13-17T12:00:00 until 2024-05-17T12:00:00 by 1013"], ())
         self.refuses(1, read_quality, '{"file":{"marker":"BASE"}}\n')
         self.refuses(1, read_quality, "[]\n")
         self.refuses(1, read_quality, "marker BASE\n")
         with self.assertRaises(rtcm2rinex.FormError):
             rtcm2rinex.check(EXAMPLES / "base.rnx", program=stand_in("./program", "fine"))
+        self.refuses(1, rtcm2rinex.version, stand_in("./program", ""))

@@ -149,6 +149,11 @@ count-more p n =
     let here : 0 + n ≡ n = omega arith in
     ap (λ t. count_by p t) (range-more 0 n) ∙ sum_by_push (λ x. cond (p x) 1 0) (range_with_len 0 n) (0 + n) ∙ ap (λ k. count_by p (range_with_len 0 n) + cond (p k) 1 0) here
 
+pub sum-more : (f : ℕ → ℕ) (n : ℕ) → sum_by f (range_with_len 0 (n + 1)) ≡ sum_by f (range_with_len 0 n) + f n
+sum-more f n =
+    let here : 0 + n ≡ n = omega arith in
+    ap (λ t. sum_by f t) (range-more 0 n) ∙ sum_by_push f (range_with_len 0 n) (0 + n) ∙ ap (λ k. sum_by f (range_with_len 0 n) + f k) here
+
 pub count-bound : (p : ℕ → Bool) (n : ℕ) → count_by p (range_with_len 0 n) ≤ n
 count-bound p n =
     let most = count_by-le-length p (range_with_len 0 n) in

@@ -1,7 +1,7 @@
 -- A picture in SVG (this project's rule). Lengths are in units of the picture, which is 1620 wide:
--- bands begin 110 from the left and 112 from the top, and are 1440 wide.
-use Rattle.std.specs.Prelude.{ℕ, ◌+◌, ◌-◌, ◌*◌, ◌/◌, ◌%◌, ◌==◌, Bool, List, [], ◌∷◌, ◌++◌, length, map, flat_map, count_by, codes, decimal, Option, None, Some, if◌then◌else◌}
-use Rattle.std.specs.List.{list_any, range_with_len}
+-- bands begin 110 from the left and 140 from the top, and are 1440 wide.
+use Rattle.std.specs.Prelude.{ℕ, ◌+◌, ◌-◌, ◌*◌, ◌/◌, ◌%◌, ◌==◌, nat_lt, Bool, not, List, [], ◌∷◌, ◌++◌, length, max, map, flat_map, count_by, codes, decimal, Option, None, Some, if◌then◌else◌}
+use Rattle.std.specs.List.{list_any, range_with_len, sum_by}
 use Rattle.rtk_obs.specs.declared.code.Code.{Code}
 use Rattle.rtk_obs.specs.Code.{name_of}
 use Rattle.rtk_rinex.specs.Reading.{reading_of}
@@ -9,15 +9,16 @@ use Rattle.rtk_obs.specs.CivilText.{civil_text}
 use Rattle.rtk_chart.specs.Heading.{seconds_text}
 use Rattle.rtk_chart.specs.Ticks.{tick_step, tick_at, tick_label}
 use Rattle.rtk_chart.specs.Grid.{tracking_at, marks_at, is_out}
-use Rattle.rtk_chart.specs.Signs.{is_drawn, has_code}
-use Rattle.rtk_chart.specs.TextPicture.{satellite_label, drawn_before, satellites_in}
+use Rattle.rtk_chart.specs.Signs.{is_drawn, has_code, is_never}
+use Rattle.rtk_chart.specs.TextPicture.{satellite_label, never_before, drawn_before, satellites_in}
 use Rattle.rtk_chart.specs.SvgPath.{edge_of, runs_text, marks_text, most_tracked, steps_text}
 use Rattle.rtk_chart.specs.Layers.{shows}
-use Rattle.rtk_chart.specs.declared.svg_picture.TheConstants.{STYLE, LEGEND}
-use Rattle.rtk_chart.specs.declared.svg_codes.TheConstants.{NEVER}
+use Rattle.rtk_chart.specs.declared.svg_picture.TheConstants.{STYLE, SYSTEM, LEGEND}
 use Rattle.rtk_chart.specs.declared.scale.Scale.{Scale}
 use Rattle.rtk_chart.specs.declared.time_bin.TimeBin.{TimeBin}
 use Rattle.rtk_chart.specs.declared.layer.Layer.{Layer}
+use Rattle.rtk_chart.specs.declared.spacing.Spacing.{Spacing}
+use Rattle.rtk_chart.specs.declared.spacing.Spacing.TheVariants.{Wide, Close}
 use Rattle.rtk_chart.specs.declared.layer.Layer.TheVariants.{Phase, Level, Missing, Part, Absent, Slip, Return, Rise, Half}
 
 -- ---- text
@@ -113,38 +114,96 @@ code_numbers bins place code =
 unfoldable pub drawn_bar : List TimeBin → ℕ → ℕ → List ℕ
 drawn_bar bins place code = code_numbers bins place code ++ level_paths bins place code ++ missing_paths bins place code ++ lock_paths bins place code
 
--- formula
--- one that it has nowhere: a word in the place of the bar
-abbrev pub bar_text : List TimeBin → ℕ → ℕ → List ℕ
-bar_text bins place code = if has_code bins place code then drawn_bar bins place code else NEVER.now
+-- how many codes before a place a satellite has
+unfoldable pub codes_before : List TimeBin → ℕ → ℕ → ℕ
+codes_before bins place at = count_by (has_code bins place) (range_with_len 0 at)
+
+-- how many lines the satellites before a place have: one for each code of theirs
+unfoldable pub lines_before : List TimeBin → ℕ → ℕ → ℕ
+lines_before bins listed place = sum_by (λ before. codes_before bins before listed) (range_with_len 0 place)
+
+-- constant
+-- more than 48 lines lie close, so that a day of all satellites fits a screen
+abbrev pub spacing_of : List TimeBin → ℕ → Spacing
+spacing_of bins listed = if nat_lt 48 (lines_before bins listed 32) then Close else Wide
 
 -- formula
--- the line of a code of a satellite, 22 units high, as in G05 1C
-unfoldable pub code_line : List TimeBin → ℕ → ℕ → Code → List ℕ
-code_line bins place at code =
-    number_between (codes "<g transform='translate(0 ") (22 * at + 7) (codes ")'>\n<title>") ++ satellite_label (place + 1) ++ codes " " ++ name_of code
-    ++ bar_text bins place at ++ codes "<text class='code' x='-6' y='16'>" ++ name_of code ++ codes "</text>\n</g>\n"
+-- how far from the top of its band a line lies, after so many others: they are 22 units apart, or 10
+abbrev pub line_top : Spacing → ℕ → ℕ
+line_top Wide lines = 22 * lines + 7
+line_top Close lines = 10 * lines + 2
+
+-- table
+-- what stands between the place of a line and its title: close lines have bars of half the height
+abbrev pub line_start : Spacing → List ℕ
+line_start Wide = codes ")'>\n<title>"
+line_start Close = codes ")scale(1 .5)'>\n<title>"
+
+-- table
+-- what stands before the name of a code at its line
+abbrev pub code_start : Spacing → List ℕ
+code_start Wide = codes "<text class='code' x='-6' y='16'>"
+code_start Close = codes "<text class='code tiny' transform='scale(1 2)' x='-6' y='9'>"
+
+-- formula
+-- the line of a code of a satellite, as in G05 1C
+unfoldable pub code_line : Spacing → List TimeBin → ℕ → ℕ → Code → List ℕ
+code_line spacing bins place at code =
+    number_between (codes "<g transform='translate(0 ") (line_top spacing (codes_before bins place at)) (line_start spacing) ++ satellite_label (place + 1)
+    ++ codes " " ++ name_of code ++ drawn_bar bins place at ++ code_start spacing ++ name_of code ++ codes "</text>\n</g>\n"
+
+-- formula
+-- a code that the satellite has nowhere has no line
+abbrev pub line_if_had : Spacing → List TimeBin → ℕ → ℕ → Code → List ℕ
+line_if_had spacing bins place at code = if has_code bins place at then code_line spacing bins place at code else []
 
 -- the codes from a place on
-abbrev pub code_lines : List TimeBin → ℕ → ℕ → List Code → List ℕ
-code_lines bins place at [] = []
-code_lines bins place at (c ∷ cs) = code_line bins place at c ++ code_lines bins place (at + 1) cs
+abbrev pub code_lines : Spacing → List TimeBin → ℕ → ℕ → List Code → List ℕ
+code_lines spacing bins place at [] = []
+code_lines spacing bins place at (c ∷ cs) = line_if_had spacing bins place at c ++ code_lines spacing bins place (at + 1) cs
 
 -- ---- bands
 
 -- formula
--- each code has a line, with seven units above and below them
-abbrev pub band_height : ℕ → ℕ
-band_height listed = 22 * listed + 14
+-- the lines, with seven units above and below them, or two; a satellite without a line has the room of one, or of
+-- two close ones, so that its name has room
+abbrev pub band_height : Spacing → ℕ → ℕ
+band_height Wide lines = 22 * max lines 1 + 14
+band_height Close lines = 10 * max lines 2 + 4
+
+-- how high the band of a satellite is, in a file of so many codes
+abbrev pub height_of : Spacing → List TimeBin → ℕ → ℕ → ℕ
+height_of spacing bins listed place = band_height spacing (codes_before bins place listed)
+
+-- a satellite without a row has none
+abbrev pub height_if_drawn : Spacing → List TimeBin → ℕ → ℕ → ℕ
+height_if_drawn spacing bins listed place = if is_drawn bins place then height_of spacing bins listed place else 0
+
+-- formula
+-- how far from the top the band of a satellite begins: below the name of its system and the bands before it
+unfoldable pub band_top : Spacing → List TimeBin → ℕ → ℕ → ℕ
+band_top spacing bins listed place = 140 + sum_by (height_if_drawn spacing bins listed) (range_with_len 0 place)
+
+-- table
+-- what stands before the height at which the name of a satellite lies
+abbrev pub name_start : Spacing → List ℕ
+name_start Wide = codes "<text class='name' x='-40' y='"
+name_start Close = codes "<text class='name low' x='-40' y='"
+
+-- table
+-- how far below the middle of its band that name stands
+abbrev pub name_drop : Spacing → ℕ
+name_drop Wide = 9
+name_drop Close = 7
 
 -- formula
 -- the beginning of a band: its satellite, and its stripe, 0 for none
-unfoldable pub band_start : ℕ → ℕ → ℕ → ℕ → List ℕ
-band_start top satellite stripe height =
+unfoldable pub band_start : Spacing → ℕ → ℕ → ℕ → ℕ → List ℕ
+band_start spacing top satellite stripe height =
     number_between (codes "<g transform='translate(110 ") top (codes ")'>\n<title>") ++ satellite_label satellite
     ++ number_between (codes "</title>\n<rect class='b") stripe (codes "' x='-110' width='1620'")
     ++ number_between (codes " height='") height (codes "'/>\n")
-    ++ number_between (codes "<text class='name' x='-40' y='") (height / 2 + 9) (codes "'>") ++ satellite_label satellite ++ codes "</text>\n"
+    ++ number_between (name_start spacing) (height / 2 + name_drop spacing) (codes "'>") ++ satellite_label satellite ++ codes "</text>\n"
 
 -- the bins of so many in which a satellite has an outage
 abbrev pub outage_flags : List Bool → ℕ → ℕ → List Bool
@@ -159,22 +218,52 @@ outage_boxes outages n place high =
 
 -- formula
 -- the band of a satellite after so many others: every other one has a stripe
-unfoldable pub band_text : List Code → List TimeBin → List Bool → ℕ → ℕ → List ℕ
-band_text listed bins outages place before =
-    band_start (112 + before * band_height (length listed)) (place + 1) (before % 2) (band_height (length listed))
-    ++ outage_boxes outages (length bins) place (band_height (length listed) - 8)
-    ++ code_lines bins place 0 listed ++ codes "</g>\n"
+unfoldable pub band_text : Spacing → List Code → List TimeBin → List Bool → ℕ → ℕ → List ℕ
+band_text spacing listed bins outages place before =
+    band_start spacing (band_top spacing bins (length listed) place) (place + 1) (before % 2) (height_of spacing bins (length listed) place)
+    ++ outage_boxes outages (length bins) place (height_of spacing bins (length listed) place - 8)
+    ++ code_lines spacing bins place 0 listed ++ codes "</g>\n"
 
 -- formula
-abbrev pub band_if_drawn : List Code → List TimeBin → List Bool → ℕ → List ℕ
-band_if_drawn listed bins outages place =
-    if is_drawn bins place then band_text listed bins outages place (drawn_before bins place) else []
+abbrev pub band_if_drawn : Spacing → List Code → List TimeBin → List Bool → ℕ → List ℕ
+band_if_drawn spacing listed bins outages place =
+    if is_drawn bins place then band_text spacing listed bins outages place (drawn_before bins place) else []
 
 -- formula
-unfoldable pub bands_text : List Code → List TimeBin → List Bool → List ℕ
-bands_text listed bins outages = flat_map (band_if_drawn listed bins outages) (range_with_len 0 32)
+unfoldable pub bands_text : Spacing → List Code → List TimeBin → List Bool → List ℕ
+bands_text spacing listed bins outages = flat_map (band_if_drawn spacing listed bins outages) (range_with_len 0 32)
 
--- ---- below the bands, so far from the top
+-- ---- codes that satellites have nowhere
+
+-- formula
+abbrev pub never_name : List TimeBin → ℕ → ℕ → List ℕ
+never_name bins at place = if is_never bins at place then 32 ∷ satellite_label (place + 1) else []
+
+-- some satellite has the code at a place nowhere
+abbrev pub is_lacked : List TimeBin → ℕ → Bool
+is_lacked bins at = not (never_before bins at 32 == 0)
+
+-- how many such codes stand before a place
+unfoldable pub lacked_before : List TimeBin → ℕ → ℕ
+lacked_before bins at = count_by (is_lacked bins) (range_with_len 0 at)
+
+-- formula
+-- the satellites that have a code nowhere, as in never 5X: G03 G06
+unfoldable pub never_text : List TimeBin → ℕ → ℕ → Code → List ℕ
+never_text bins top at code =
+    number_between (codes "<text class='never' x='110' y='") (top + 24 * lacked_before bins at) (codes "'>never ") ++ name_of code ++ codes ":"
+    ++ flat_map (never_name bins at) (range_with_len 0 32) ++ codes "</text>\n"
+
+-- formula
+abbrev pub never_if_lacked : List TimeBin → ℕ → ℕ → Code → List ℕ
+never_if_lacked bins top at code = if is_lacked bins at then never_text bins top at code else []
+
+-- the codes from a place on, with the first line so far from the top
+abbrev pub never_texts : List TimeBin → ℕ → ℕ → List Code → List ℕ
+never_texts bins top at [] = []
+never_texts bins top at (c ∷ cs) = never_if_lacked bins top at c ++ never_texts bins top (at + 1) cs
+
+-- ---- below these lines, so far from the top
 
 -- formula
 -- the bins with missing epochs
@@ -249,16 +338,20 @@ svg_legend top = number_between (codes "<g transform='translate(110 ") top (code
 
 -- ---- the picture
 
--- formula
 -- how far from the top the bands end
-abbrev pub bands_end : ℕ → ℕ → ℕ
-bands_end listed satellites = 112 + satellites * band_height listed
+abbrev pub bands_end : Spacing → List TimeBin → ℕ → ℕ
+bands_end spacing bins listed = band_top spacing bins listed 32
 
 -- formula
--- what stands below the heading
-unfoldable pub svg_body : List Code → Scale → List TimeBin → List Bool → List Bool → ℕ → List ℕ
-svg_body listed s bins outages gaps end =
-    bands_text listed bins outages ++ gaps_band end gaps ++ satellites_band (end + 26) bins
+-- how far from the top the lines of the codes end that satellites have nowhere
+abbrev pub never_end : Spacing → List TimeBin → ℕ → ℕ
+never_end spacing bins listed = bands_end spacing bins listed + 24 * lacked_before bins listed
+
+-- formula
+-- what stands below the heading: the name of the system, its satellites, and so far from the top what is of all
+unfoldable pub svg_body : Spacing → List Code → Scale → List TimeBin → List Bool → List Bool → ℕ → List ℕ
+svg_body spacing listed s bins outages gaps end =
+    SYSTEM.now ++ bands_text spacing listed bins outages ++ never_texts bins (bands_end spacing bins (length listed) + 18) 0 listed ++ gaps_band end gaps ++ satellites_band (end + 26) bins
     ++ ticks_text s (svg_tick_step s) (end + 72) ++ svg_legend (end + 104) ++ codes "</svg>\n"
 
 -- formula
@@ -267,9 +360,9 @@ svg_body listed s bins outages gaps end =
 unfoldable pub svg_picture
     : List ℕ → List Code → Scale → ℕ → ℕ → ℕ → ℕ → ℕ → List TimeBin → List Bool → List Bool → List ℕ
 svg_picture marker listed s records slips returns rises missing bins outages gaps =
-    svg_start marker (bands_end (length listed) (satellites_in bins) + 230)
+    svg_start marker (never_end (spacing_of bins (length listed)) bins (length listed) + 230)
     ++ svg_span s ++ svg_numbers records (satellites_in bins) slips returns rises missing
-    ++ svg_body listed s bins outages gaps (bands_end (length listed) (satellites_in bins))
+    ++ svg_body (spacing_of bins (length listed)) listed s bins outages gaps (never_end (spacing_of bins (length listed)) bins (length listed))
 
 -- formula
 -- the picture of a file without records

@@ -207,7 +207,7 @@ time_rows s width = axis_row s (text_tick_step s) ++ label_row s width (text_tic
 -- what stands below the heading of a picture of this width: what the bins show, and what the signs mean
 unfoldable pub text_body : List Code → Scale → ℕ → List TimeBin → List Bool → List Bool → List ℕ
 text_body listed s width bins outages gaps =
-    satellite_rows bins outages ++ gap_row gaps ++ time_rows s width ++ all_never_lines bins (never_in_line width) 0 listed ++ SIGNS.now
+    codes "GPS\n" ++ satellite_rows bins outages ++ gap_row gaps ++ time_rows s width ++ all_never_lines bins (never_in_line width) 0 listed ++ SIGNS.now
 
 -- the picture of a file with records: its marker, its codes, its scale, its width, the numbers of its
 -- records, slips, returns, rises and missing epochs, and what its bins show

@@ -49,8 +49,8 @@ fn put_start(text: &mut Vec<u8>, code: Code, in_line: u64, count: u64) -> Result
     text.extend_from_slice(b":")
 }
 
-// How many satellites before a place have the code at a place nowhere.
-fn never_before(bins: &[TimeBin], at: usize, place: usize) -> u64
+/// How many satellites before a place have the code at a place nowhere.
+pub(crate) fn never_before(bins: &[TimeBin], at: usize, place: usize) -> u64
     requires { place ≤ 32 }
     ensures { result ≡ never_before bins.now at place }
 {

@@ -2,7 +2,7 @@
 
 ghost use Rattle.std.specs.Prelude.{◌≡◌, ◌≤◌, ◌<◌, ◌+◌, ◌*◌, ◌/◌, ◌++◌, length, OnOk};
 ghost use Rattle.rtk_chart.specs.Scale.{IsScale, longest_bin};
-ghost use Rattle.rtk_chart.specs.SvgPicture.{gaps_band, satellites_band, tick_text, svg_tick_step, ticks_text, bands_end};
+ghost use Rattle.rtk_chart.specs.SvgPicture.{gaps_band, satellites_band, tick_text, svg_tick_step, ticks_text};
 
 use crate::scale::Scale;
 use crate::svg_layers::put_runs_layer;
@@ -64,7 +64,7 @@ fn put_tick(
     x: u64,
     tick: Option<GpsMs>,
 ) -> Result<(), AllocError>
-    requires { top ≤ bands_end 16 32 + 72 }
+    requires { top ≤ 12_308 }
     ensures { OnOk result (text.new.items ≡ text.old.items ++ tick_text top step x tick) }
 {
     let Some(moment) = tick else {
@@ -94,7 +94,7 @@ fn least_step(bins: u64, bin_ms: u64) -> u64
 /// Appends the ticks of the bins.
 pub(crate) fn put_ticks(text: &mut Vec<u8>, scale: &Scale, top: u64) -> Result<(), AllocError>
     requires good { IsScale scale.now }
-    requires top { top ≤ bands_end 16 32 + 72 }
+    requires top { top ≤ 12_308 }
     ensures { OnOk result (text.new.items ≡ text.old.items ++ ticks_text scale.now (svg_tick_step scale.now) top) }
 {
     let step = tick_step(least_step(scale.bins, scale.bin_ms));

@@ -1,12 +1,13 @@
 //! The bands of the satellites in an SVG picture.
 
 ghost use Rattle.std.specs.Prelude.{◌≡◌, ◌≤◌, ◌<◌, ◌+◌, ◌/◌, ◌++◌, length, OnOk};
-ghost use Rattle.rtk_chart.specs.SvgPicture.{band_height, band_start, outage_boxes, band_text, band_if_drawn, bands_text};
+ghost use Rattle.rtk_chart.specs.SvgPicture.{height_of, height_if_drawn, band_top, band_start, outage_boxes, band_text, band_if_drawn, bands_text};
 
 use crate::never::put_label;
 use crate::outages::outage_flags;
 use crate::signs::is_drawn;
-use crate::svg_codes::put_code_lines;
+use crate::spacing::Spacing;
+use crate::svg_codes::{codes_before, put_code_lines};
 use crate::svg_layers::put_runs_layer;
 use crate::svg_text::put_between;
 use crate::text_picture::drawn_before;
@@ -14,39 +15,67 @@ use crate::time_bin::TimeBin;
 use rtk_obs::Code;
 use std::alloc::{AllocError, Global};
 
-/// Where the first band begins, from the top, in units of SVG.
-pub(crate) const TOP: u64 = 112;
+// Where the first band begins, from the top, in units of SVG.
+const TOP: u64 = 140;
 
 const STRIPE_START: &[u8] = b"</title>\n<rect class='b";
 
-const NAME_START: &[u8] = b"<text class='name' x='-40' y='";
-
-/// The height of a band with these codes, in units of SVG.
-pub(crate) fn band_height(codes: &[Code]) -> u64
-    requires { length codes.now ≤ 16 }
-    ensures value { result ≡ band_height (length codes.now) }
-    ensures bound { result ≤ band_height 16 }
+// The height of the band of a satellite in a file of so many codes, in units of SVG.
+fn height_of(spacing: Spacing, bins: &[TimeBin], listed: usize, place: usize) -> u64
+    requires listed { listed ≤ 16 }
+    requires place { place < 32 }
+    ensures value { result ≡ height_of spacing bins.now listed place }
+    ensures least { 24 ≤ result }
+    ensures bound { result ≤ 366 }
 {
-    22 * codes.len() as u64 + 14
+    spacing.band_height(codes_before(bins, place, listed))
+}
+
+fn height_if_drawn(spacing: Spacing, bins: &[TimeBin], listed: usize, place: usize) -> u64
+    requires listed { listed ≤ 16 }
+    requires place { place < 32 }
+    ensures value { result ≡ height_if_drawn spacing bins.now listed place }
+    ensures bound { result ≤ 366 }
+{
+    if is_drawn(bins, place) {
+        return height_of(spacing, bins, listed, place);
+    }
+    0
+}
+
+/// How far from the top the band of a satellite begins, or behind the last satellite the bands end.
+pub(crate) fn band_top(spacing: Spacing, bins: &[TimeBin], listed: usize, place: usize) -> u64
+    requires listed { listed ≤ 16 }
+    requires place { place ≤ 32 }
+    ensures value { result ≡ band_top spacing bins.now listed place }
+    ensures bound { result ≤ 11_852 }
+{
+    let mut top = TOP;
+    for before in 0..place {
+        top += height_if_drawn(spacing, bins, listed, before);
+    }
+    top
 }
 
 // The stripe and the label of a band.
 fn put_band_start(
     text: &mut Vec<u8>,
+    spacing: Spacing,
     top: u64,
     satellite: u8,
     stripe: u64,
     height: u64,
 ) -> Result<(), AllocError>
     requires satellite { satellite ≤ 32 }
-    requires height { height ≤ band_height 16 }
-    ensures { OnOk result (text.new.items ≡ text.old.items ++ band_start top satellite stripe height) }
+    requires height { height ≤ 366 }
+    ensures { OnOk result (text.new.items ≡ text.old.items ++ band_start spacing top satellite stripe height) }
 {
     put_between(text, b"<g transform='translate(110 ", top, b")'>\n<title>")?;
     put_label(text, satellite)?;
     put_between(text, STRIPE_START, stripe, b"' x='-110' width='1620'")?;
     put_between(text, b" height='", height, b"'/>\n")?;
-    put_between(text, NAME_START, height / 2 + 9, b"'>")?;
+    let name_y = height / 2 + spacing.name_drop();
+    put_between(text, spacing.name_start(), name_y, b"'>")?;
     put_label(text, satellite)?;
     text.extend_from_slice(b"</text>\n")?;
     Ok(())
@@ -84,6 +113,7 @@ fn put_outages(
 fn put_band(
     alloc: Global,
     text: &mut Vec<u8>,
+    spacing: Spacing,
     codes: &[Code],
     bins: &[TimeBin],
     outages: &[bool],
@@ -91,16 +121,15 @@ fn put_band(
     before: u64,
 ) -> Result<(), AllocError>
     requires place { place < 32 }
-    requires before { before ≤ 32 }
     requires few { length bins.now ≤ 1440 }
     requires listed { length codes.now ≤ 16 }
-    ensures { OnOk result (text.new.items ≡ text.old.items ++ band_text codes.now bins.now outages.now place before) }
+    ensures { OnOk result (text.new.items ≡ text.old.items ++ band_text spacing codes.now bins.now outages.now place before) }
 {
-    let height = band_height(codes);
-    let top = TOP + before * height;
-    put_band_start(text, top, place as u8 + 1, before % 2, height)?;
+    let height = height_of(spacing, bins, codes.len(), place);
+    let top = band_top(spacing, bins, codes.len(), place);
+    put_band_start(text, spacing, top, place as u8 + 1, before % 2, height)?;
     put_outages(alloc, text, outages, bins.len(), place, height - 8)?;
-    put_code_lines(alloc, text, bins, place, codes)?;
+    put_code_lines(alloc, text, spacing, bins, place, codes)?;
     text.extend_from_slice(b"</g>\n")?;
     Ok(())
 }
@@ -108,6 +137,7 @@ fn put_band(
 fn put_band_if_drawn(
     alloc: Global,
     text: &mut Vec<u8>,
+    spacing: Spacing,
     codes: &[Code],
     bins: &[TimeBin],
     outages: &[bool],
@@ -116,11 +146,11 @@ fn put_band_if_drawn(
     requires place { place < 32 }
     requires few { length bins.now ≤ 1440 }
     requires listed { length codes.now ≤ 16 }
-    ensures { OnOk result (text.new.items ≡ text.old.items ++ band_if_drawn codes.now bins.now outages.now place) }
+    ensures { OnOk result (text.new.items ≡ text.old.items ++ band_if_drawn spacing codes.now bins.now outages.now place) }
 {
     if is_drawn(bins, place) {
         let before = drawn_before(bins, place);
-        put_band(alloc, text, codes, bins, outages, place, before)?;
+        put_band(alloc, text, spacing, codes, bins, outages, place, before)?;
     }
     Ok(())
 }
@@ -129,16 +159,17 @@ fn put_band_if_drawn(
 pub(crate) fn put_bands(
     alloc: Global,
     text: &mut Vec<u8>,
+    spacing: Spacing,
     codes: &[Code],
     bins: &[TimeBin],
     outages: &[bool],
 ) -> Result<(), AllocError>
     requires few { length bins.now ≤ 1440 }
     requires listed { length codes.now ≤ 16 }
-    ensures { OnOk result (text.new.items ≡ text.old.items ++ bands_text codes.now bins.now outages.now) }
+    ensures { OnOk result (text.new.items ≡ text.old.items ++ bands_text spacing codes.now bins.now outages.now) }
 {
     for place in 0..32 {
-        put_band_if_drawn(alloc, text, codes, bins, outages, place)?;
+        put_band_if_drawn(alloc, text, spacing, codes, bins, outages, place)?;
     }
     Ok(())
 }

@@ -1,21 +1,17 @@
 //! The lines of a satellite's codes in an SVG picture.
 
 ghost use Rattle.std.specs.Prelude.{◌≡◌, ◌≤◌, ◌<◌, ◌++◌, length, OnOk};
-ghost use Rattle.rtk_chart.specs.SvgPicture.{column_numbers, code_numbers, drawn_bar, bar_text, code_line, code_lines};
+ghost use Rattle.rtk_chart.specs.SvgPicture.{column_numbers, code_numbers, drawn_bar, codes_before, code_line, line_if_had, code_lines};
 
 use crate::layer::Layer;
 use crate::never::put_label;
 use crate::signs::has_code;
+use crate::spacing::Spacing;
 use crate::svg_layers::{columns_of, put_levels, put_locks, put_missing};
 use crate::svg_text::put_between;
 use crate::time_bin::TimeBin;
 use rtk_obs::Code;
 use std::alloc::{AllocError, Global};
-
-// constant
-/// What stands in the place of the numbers and the bar of a code that the satellite has nowhere.
-pub(crate) const NEVER: &[u8] = b": never a phase</title>\n\
-<text class='never' x='4' y='16'>never</text>\n";
 
 // How many columns have what of a code.
 fn put_column_numbers(
@@ -78,31 +74,27 @@ fn put_drawn_bar(
     Ok(())
 }
 
-// A code that the satellite never has gets words in place of a bar: it is missing nowhere, since many
-// satellites don't send L2C or L5.
-fn put_bar(
-    alloc: Global,
-    text: &mut Vec<u8>,
-    bins: &[TimeBin],
-    place: usize,
-    code: usize,
-) -> Result<(), AllocError>
+// How many codes before a place a satellite has.
+pub(crate) fn codes_before(bins: &[TimeBin], place: usize, at: usize) -> u64
     requires place { place < 32 }
-    requires few { length bins.now ≤ 1440 }
-    ensures { OnOk result (text.new.items ≡ text.old.items ++ bar_text bins.now place code) }
+    requires at { at ≤ 16 }
+    ensures value { result ≡ codes_before bins.now place at }
+    ensures bound { result ≤ 16 }
 {
-    if has_code(bins, place, code) {
-        put_drawn_bar(alloc, text, bins, place, code)?;
-    } else {
-        text.extend_from_slice(NEVER)?;
+    let mut count = 0;
+    for before in 0..at {
+        if has_code(bins, place, before) {
+            count += 1;
+        }
     }
-    Ok(())
+    count
 }
 
-// The line of a code. The lines lie 22 apart, and the first one 7 below the top of the band.
+// The line of a code that the satellite has.
 fn put_code_line(
     alloc: Global,
     text: &mut Vec<u8>,
+    spacing: Spacing,
     bins: &[TimeBin],
     place: usize,
     at: usize,
@@ -111,17 +103,44 @@ fn put_code_line(
     requires place { place < 32 }
     requires few { length bins.now ≤ 1440 }
     requires listed { at < 16 }
-    ensures { OnOk result (text.new.items ≡ text.old.items ++ code_line bins.now place at code) }
+    ensures { OnOk result (text.new.items ≡ text.old.items ++ code_line spacing bins.now place at code) }
 {
-    let top = 22 * at as u64 + 7;
-    put_between(text, b"<g transform='translate(0 ", top, b")'>\n<title>")?;
+    let top = spacing.line_top(codes_before(bins, place, at));
+    put_between(
+        text,
+        b"<g transform='translate(0 ",
+        top,
+        spacing.line_start(),
+    )?;
     put_label(text, place as u8 + 1)?;
     text.extend_from_slice(b" ")?;
     text.extend_from_slice(&code.name())?;
-    put_bar(alloc, text, bins, place, at)?;
-    text.extend_from_slice(b"<text class='code' x='-6' y='16'>")?;
+    put_drawn_bar(alloc, text, bins, place, at)?;
+    text.extend_from_slice(spacing.code_start())?;
     text.extend_from_slice(&code.name())?;
     text.extend_from_slice(b"</text>\n</g>\n")?;
+    Ok(())
+}
+
+// A code that the satellite never has gets no line: it is missing nowhere, since many satellites don't send
+// L2C or L5.
+fn put_line_if_had(
+    alloc: Global,
+    text: &mut Vec<u8>,
+    spacing: Spacing,
+    bins: &[TimeBin],
+    place: usize,
+    at: usize,
+    code: Code,
+) -> Result<(), AllocError>
+    requires place { place < 32 }
+    requires few { length bins.now ≤ 1440 }
+    requires listed { at < 16 }
+    ensures { OnOk result (text.new.items ≡ text.old.items ++ line_if_had spacing bins.now place at code) }
+{
+    if has_code(bins, place, at) {
+        put_code_line(alloc, text, spacing, bins, place, at, code)?;
+    }
     Ok(())
 }
 
@@ -129,6 +148,7 @@ fn put_code_line(
 pub(crate) fn put_code_lines(
     alloc: Global,
     text: &mut Vec<u8>,
+    spacing: Spacing,
     bins: &[TimeBin],
     place: usize,
     codes: &[Code],
@@ -136,10 +156,10 @@ pub(crate) fn put_code_lines(
     requires place { place < 32 }
     requires few { length bins.now ≤ 1440 }
     requires listed { length codes.now ≤ 16 }
-    ensures { OnOk result (text.new.items ≡ text.old.items ++ code_lines bins.now place 0 codes.now) }
+    ensures { OnOk result (text.new.items ≡ text.old.items ++ code_lines spacing bins.now place 0 codes.now) }
 {
     for (at, code) in codes.iter().enumerate() {
-        put_code_line(alloc, text, bins, place, at, *code)?;
+        put_line_if_had(alloc, text, spacing, bins, place, at, *code)?;
     }
     Ok(())
 }

@@ -2,16 +2,19 @@
 
 ghost use Rattle.std.specs.Prelude.{◌≡◌, ◌≤◌, ◌<◌, ◌++◌, length, IfOk, OnOk};
 ghost use Rattle.rtk_chart.specs.Scale.{IsScale};
-ghost use Rattle.rtk_chart.specs.SvgPicture.{interval_text, svg_span, svg_numbers, svg_start, svg_legend, bands_end, svg_body, svg_of_none};
+ghost use Rattle.rtk_chart.specs.SvgPicture.{interval_text, svg_span, svg_numbers, svg_start, svg_legend, never_end, svg_body, svg_of_none};
 ghost use Rattle.rtk_chart.specs.Steps.Pictures.{svg_of_grid};
 
 use crate::grid::Grid;
 use crate::scale::Scale;
+use crate::spacing::Spacing;
 use crate::survey::Survey;
 use crate::svg_axis::{put_gaps, put_satellites, put_ticks};
-use crate::svg_bands::{TOP, band_height, put_bands};
+use crate::svg_bands::{band_top, put_bands};
+use crate::svg_never::{lacked_before, put_never_texts};
 use crate::svg_text::{put_between, put_xml};
 use crate::text_picture::drawn_before;
+use crate::time_bin::TimeBin;
 use crate::time_text::put_seconds;
 use rtk_obs::{Code, civil, put_civil};
 use std::alloc::{AllocError, Global};
@@ -37,11 +40,12 @@ pub(crate) const STYLE: &[u8] = b"<style>\
 @media (max-width:700px){\
 text{font-size:30px!important}.tick{font-size:32px!important}.tick:nth-of-type(2n+1){display:none!important}\
 .marker{font-size:38px!important}.name{font-size:34px!important}\
-.code{font-size:19px!important}g>g>.code,.never{font-size:22px!important}}\
+.code{font-size:19px!important}g>g>.code{font-size:22px!important}.never{font-size:20px!important}\
+.low{font-size:24px!important}.tiny{display:none!important}}\
 .page{fill:#fff}.b0{fill:none}.b1{fill:#f0f0f0}\
 text{font-family:sans-serif;font-size:24px;fill:#222}\
 .marker{font-size:32px;font-weight:bold}.name{font-size:30px}\
-.name,.code{text-anchor:end}.code,.never{font-size:19px}.tick{font-size:24px;text-anchor:middle}\
+.system{font-weight:bold}.name,.code{text-anchor:end}.code,.never{font-size:19px}.low{font-size:19px}.tiny{font-size:10px;display:inline}.tick{font-size:24px;text-anchor:middle}\
 path{fill:none}\
 .l0,.l1,.l2,.l3,.l4,.l5,.l6,.l7,.l8,.l9{stroke-width:14}\
 .l0{stroke:#ccc}.l1{stroke:#e9d57e}.l2{stroke:#cfcf7a}.l3{stroke:#a9c07c}.l4{stroke:#83b083}\
@@ -55,6 +59,10 @@ path{fill:none}\
 .t{stroke:#888;stroke-opacity:.5}\
 @media not all{.page{}.s{stroke:#8a1c00}.r{stroke:none}}\
 </style>\n";
+
+// constant
+/// The name of the system above its satellites.
+pub(crate) const SYSTEM: &[u8] = b"<text class='system' x='110' y='134'>GPS</text>\n";
 
 // constant
 /// The name of the time, what the forms mean, and the strengths of the colours.
@@ -168,10 +176,11 @@ fn put_legend(text: &mut Vec<u8>, top: u64) -> Result<(), AllocError>
     Ok(())
 }
 
-// What stands below the heading; the bands end so far from the top.
+// What stands below the heading. The system ends so far from the top.
 fn put_body(
     alloc: Global,
     text: &mut Vec<u8>,
+    spacing: Spacing,
     codes: &[Code],
     scale: &Scale,
     grid: &Grid,
@@ -181,12 +190,15 @@ fn put_body(
     requires few { length codes.now ≤ 16 }
     requires bins { length grid.now.bins.items ≡ scale.now.bins }
     requires gaps { length grid.now.gaps.items ≡ scale.now.bins }
-    requires end { end ≤ bands_end 16 32 }
+    requires end { end ≤ 12_236 }
     ensures { OnOk result (text.new.items
-        ≡ text.old.items ++ svg_body codes.now scale.now grid.now.bins.items grid.now.outages.items grid.now.gaps.items end) }
+        ≡ text.old.items ++ svg_body spacing codes.now scale.now grid.now.bins.items grid.now.outages.items grid.now.gaps.items end) }
 {
     let (bins, outages) = (grid.bins.as_slice(), grid.outages.as_slice());
-    put_bands(alloc, text, codes, bins, outages)?;
+    text.extend_from_slice(SYSTEM)?;
+    put_bands(alloc, text, spacing, codes, bins, outages)?;
+    let bands_end = band_top(spacing, bins, codes.len(), 32);
+    put_never_texts(text, bins, bands_end + 18, codes)?;
     put_gaps(text, end, grid.gaps.as_slice())?;
     put_satellites(text, end + 26, bins)?;
     put_ticks(text, scale, end + 72)?;
@@ -195,14 +207,13 @@ fn put_body(
     Ok(())
 }
 
-// How far from the top the bands of so many satellites end.
-fn bands_end(codes: &[Code], satellites: u64) -> u64
-    requires few { length codes.now ≤ 16 }
-    requires satellites { satellites ≤ 32 }
-    ensures value { result ≡ bands_end (length codes.now) satellites }
-    ensures bound { result ≤ bands_end 16 32 }
+// How far from the top the lines end that name the codes that satellites have nowhere, below the bands.
+fn never_end(spacing: Spacing, bins: &[TimeBin], listed: usize) -> u64
+    requires { listed ≤ 16 }
+    ensures value { result ≡ never_end spacing bins.now listed }
+    ensures bound { result ≤ 12_236 }
 {
-    TOP + satellites * band_height(codes)
+    band_top(spacing, bins, listed, 32) + 24 * lacked_before(bins, listed)
 }
 
 /// The picture of a file with records.
@@ -221,7 +232,8 @@ pub(crate) fn svg_picture(
     ensures { IfOk result (λ text. text.items ≡ svg_of_grid marker.now codes.now scale.now survey.now grid.now) }
 {
     let satellites = drawn_before(grid.bins.as_slice(), 32);
-    let end = bands_end(codes, satellites);
+    let spacing = Spacing::of(grid.bins.as_slice(), codes.len());
+    let end = never_end(spacing, grid.bins.as_slice(), codes.len());
     let mut text = Vec::new(alloc);
     put_start(&mut text, marker, end + 230)?;
     put_span(&mut text, scale)?;
@@ -234,7 +246,7 @@ pub(crate) fn svg_picture(
         grid.rises,
         grid.missing,
     )?;
-    put_body(alloc, &mut text, codes, scale, grid, end)?;
+    put_body(alloc, &mut text, spacing, codes, scale, grid, end)?;
     Ok(text)
 }
 

@@ -206,6 +206,7 @@ fn put_body(
     requires width { 40 ≤ width }
     ensures { OnOk result (text.new.items ≡ text.old.items ++ body_of_grid codes.now scale.now width grid.now) }
 {
+    text.extend_from_slice(b"GPS\n")?;
     put_rows(text, grid.bins.as_slice(), grid.outages.as_slice())?;
     put_gap_row(text, grid.gaps.as_slice())?;
     put_time(text, scale, width)?;

@@ -3,5 +3,6 @@ pub mod ConvertsBytes
 pub mod FaultLines
 pub mod JoinedLinks
 pub mod SurveysText
+pub mod Watched
 pub mod Words
 pub mod Steps

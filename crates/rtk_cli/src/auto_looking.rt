@@ -86,6 +86,12 @@ pub(crate) fn look_at_files<R: Files + Eprint + AllocGlobal>(
 ) -> Result<(), u8>
     ensures { IfErr result (λ status. status ≤ NOT_VALID) }
 {
+    if output == Some("-") {
+        let _told = eprintln!(rt;
+            "rtcm2rinex: -o - names no file; leave out -o for standard output, or say -o ./-"
+        );
+        return Err(REFUSED);
+    }
     let identities = identities_of(rt, names)?;
     let found = output_identity(rt, output);
     if place_among(identities.as_slice(), found).is_some() {

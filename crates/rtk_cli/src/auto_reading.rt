@@ -6,9 +6,12 @@ ghost use Rattle.rtk_cli.specs.SurveysText.{SurveysText, IsSurvey, AreSurveys};
 ghost use Rattle.rtk_streams.specs.declared.exit_status.TheConstants.{NOT_VALID};
 
 use rtk_commands::summary_status;
-use rtk_streams::{Before, MOST_READS, Reads, ToolFault, fail, fail_to_open, open_input};
+use rtk_streams::{
+    Before, Digest, Digested, MOST_READS, Reads, ToolFault, fail, fail_to_open, open_input,
+};
 use rtk_survey::{CaptureSurvey, SurveyFault, Target, survey_capture};
 use std::alloc::Global;
+use std::cell::Cell;
 use std::fs::Files;
 use std::io::Read;
 use std::marker::Brand;
@@ -41,11 +44,20 @@ pub fn survey_through<R: Read + Drop>(
     survey_by::<R, Brand>(alloc, reader, target)
 }
 
-// Surveys the capture of this name.
+/// The captures that were read.
+#[derive(Drop)]
+pub(crate) struct Surveyed {
+    pub(crate) surveys: Vec<CaptureSurvey>,
+    /// A digest of the bytes of each.
+    pub(crate) digests: Vec<Digest>,
+}
+
+// Surveys the capture of this name, and adds its digest to the others.
 fn survey_named<R: Files + Input + Eprint + AllocGlobal>(
     rt: &R,
     target: &Target,
     name: &str,
+    digests: &mut Vec<Digest>,
 ) -> Result<CaptureSurvey, u8>
     ensures survey { IfOk result (IsSurvey (Some target.now)) }
     ensures status { IfErr result (λ status. status ≤ NOT_VALID) }
@@ -53,10 +65,15 @@ fn survey_named<R: Files + Input + Eprint + AllocGlobal>(
     let Some(capture) = open_input(rt, name) else {
         return Err(fail_to_open(rt, name));
     };
-    match survey_through(rt.alloc(), capture, *target) {
-        Ok(survey) => Ok(survey),
-        Err(fault) => Err(summary_status(rt, Err(fault))),
+    let digest = Cell::new(Digest::new());
+    let survey = match survey_through(rt.alloc(), Digested::new(capture, &digest), *target) {
+        Ok(survey) => survey,
+        Err(fault) => return Err(summary_status(rt, Err(fault))),
+    };
+    if digests.push(digest.get()).is_err() {
+        return Err(fail(rt, ToolFault::OutOfMemory));
     }
+    Ok(survey)
 }
 
 /// Surveys the captures of these names for the station that is named, or else for the first one that has
@@ -66,17 +83,18 @@ pub(crate) fn survey_captures<R: Files + Input + Eprint + AllocGlobal>(
     rt: &R,
     target: &Target,
     names: &[&str],
-) -> Result<Vec<CaptureSurvey>, u8>
-    ensures surveys { IfOk result (λ surveys. AreSurveys (Some target.now) surveys.items) }
-    ensures count { IfOk result (λ surveys. length surveys.items ≡ length names.now) }
+) -> Result<Surveyed, u8>
+    ensures surveys { IfOk result (λ read. AreSurveys (Some target.now) read.surveys.items) }
+    ensures count { IfOk result (λ read. length read.surveys.items ≡ length names.now) }
     ensures status { IfErr result (λ status. status ≤ NOT_VALID) }
 {
     let mut surveys = Vec::new(rt.alloc());
+    let mut digests = Vec::new(rt.alloc());
     for name in names {
-        let survey = survey_named(rt, target, *name)?;
+        let survey = survey_named(rt, target, *name, &mut digests)?;
         let Ok(()) = surveys.push(survey) else {
             return Err(fail(rt, ToolFault::OutOfMemory));
         };
     }
-    Ok(surveys)
+    Ok(Surveyed { surveys, digests })
 }

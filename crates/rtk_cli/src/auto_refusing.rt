@@ -3,14 +3,14 @@
 
 ghost use Rattle.std.specs.Prelude.{◌≡◌, ◌≤◌, IfOk, IsUtf8, string_bytes};
 ghost use Rattle.rtk_message.specs.ShellText.{sh_quoted};
-ghost use Rattle.rtk_streams.specs.declared.exit_status.TheConstants.{FAILED, REFUSED};
+ghost use Rattle.rtk_streams.specs.declared.exit_status.TheConstants.{FAILED, REFUSED, NOT_VALID};
 
 use rtk_message::put_sh_quoted;
-use rtk_streams::{FAILED, OutputFault, REFUSED, ToolFault, fail, fail_to_open};
+use rtk_streams::{FAILED, NOT_VALID, OutputFault, REFUSED, ToolFault, fail, fail_to_open};
 use std::alloc::{AllocError, Global};
 
-// The name of a file as sh takes it.
-fn quoted(alloc: Global, name: &str) -> Result<String, AllocError>
+/// The name of a file as sh takes it.
+pub(crate) fn quoted(alloc: Global, name: &str) -> Result<String, AllocError>
     ensures { IfOk result (λ text. IsUtf8 (sh_quoted name.now) → string_bytes text ≡ sh_quoted name.now) }
 {
     let mut bytes = Vec::new(alloc);
@@ -55,6 +55,38 @@ pub(crate) fn refuse_twice<R: Eprint + AllocGlobal>(rt: &R, name: &str) -> u8
     };
     let _told = eprintln!(rt; "rtcm2rinex: {name} is named twice");
     REFUSED
+}
+
+/// Says that a capture is not as it was when it was read first.
+pub(crate) fn fail_differing<R: Eprint + AllocGlobal>(rt: &R, name: &str) -> u8
+    ensures { result ≡ FAILED }
+{
+    let Ok(name) = quoted(rt.alloc(), name) else {
+        return fail(rt, ToolFault::OutOfMemory);
+    };
+    let _told = eprintln!(rt; "rtcm2rinex: {name} has changed since it was read first");
+    FAILED
+}
+
+/// Says that no record came, so that the file that has the name keeps it.
+pub(crate) fn keep_named<R: Eprint + AllocGlobal>(rt: &R, name: &str) -> u8
+    ensures { result ≤ NOT_VALID }
+{
+    let Ok(name) = quoted(rt.alloc(), name) else {
+        return fail(rt, ToolFault::OutOfMemory);
+    };
+    let _told = eprintln!(rt; "rtcm2rinex: no record came; {name} stays as it was");
+    NOT_VALID
+}
+
+/// Says what a file has that has its name now, which is shown so. The work is done, whether or not it can be
+/// said.
+pub(crate) fn say_written<R: Eprint>(rt: &R, name: &str, epochs: u64, satellites: usize) {
+    let _told = if epochs == 0 {
+        eprintln!(rt; "wrote {name}: no epochs")
+    } else {
+        eprintln!(rt; "wrote {name}: {epochs} epochs, G {satellites} satellites")
+    };
 }
 
 /// Says why a file does not get its name.

@@ -1,54 +1,54 @@
 //! The command `auto`: it reads the captures, finds what their conversion is told, converts them, and
 //! says how it went.
 
-ghost use Rattle.std.specs.Prelude.{◌≡◌, ◌≤◌, Ok, None, IfOk, IfErr, IsOk, IsTrue};
+ghost use Rattle.std.specs.Prelude.{◌≡◌, ◌≤◌, Ok, None, true, false, IfOk, IfErr, IsOk, IsTrue};
 ghost use Rattle.rtk_convert.specs.Failure.{IsRunFault};
-ghost use Rattle.rtk_streams.specs.declared.exit_status.TheConstants.{NOT_VALID};
+ghost use Rattle.rtk_streams.specs.declared.exit_status.TheConstants.{FAILED, NOT_VALID};
 
 use crate::auto_converting::convert_joined;
 use crate::auto_labelling::label_beside;
 use crate::auto_looking::{look_at_files, made_at};
 use crate::auto_reading::survey_captures;
-use crate::auto_refusing::fail_output;
+use crate::auto_refusing::{fail_differing, fail_output, keep_named, quoted, say_written};
+use crate::auto_rereading::{CaptureRead, captures_at, files_of_links, name_at, put_grown};
 use crate::converting::{Converted, conversion_status};
+use crate::watching::Watched;
 use crate::words::AutoWords;
 use rtk_convert::{Counts, Setup, Station};
 use rtk_label::Label;
 use rtk_plan::{
-    Captures, Known, Plan, PlanFault, Ways, label_wanted, plan_of, put_command, put_counts,
-    put_known, put_label_command, put_span, what_is_known,
+    Captures, Conflicts, Known, Plan, PlanFault, Ways, WrittenFile, equipment_in_captures,
+    label_wanted, plan_of, put_command, put_counts, put_file, put_known, put_label_command,
+    what_is_known,
 };
 use rtk_rinex::CreationTime;
 use rtk_streams::{
-    Beside, DONE, Later, NOT_VALID, Quiet, ToolFault, fail, let_go, make_beside, name_whole,
+    Beside, DONE, Digest, FAILED, NOT_VALID, Quiet, ToolFault, Unbroken, fail, is_there, let_go,
+    make_beside, name_whole,
 };
 use rtk_survey::Target;
 use std::alloc::{AllocError, Global};
+use std::cell::Cell;
 use std::env::Env;
 use std::fs::Files;
 use std::io;
 use std::io::Write;
 use std::time::Clock;
 
-// Writes lines to standard error.
-fn tell<R: Eprint, W: Write>(rt: &R, report: &mut W, lines: &[u8]) -> Result<(), u8>
-    ensures { IfErr result (λ status. status ≤ NOT_VALID) }
-{
-    match report.write_all(lines) {
-        Ok(()) => Ok(()),
-        Err(_) => Err(fail(rt, ToolFault::Output)),
-    }
+// Writes lines to standard error. If nobody reads it the work goes on: its status tells it.
+fn tell<W: Write>(report: &mut Unbroken<W>, lines: &[u8]) {
+    let _told = report.write_all(lines);
 }
 
 // Says why the captures have no plan.
-fn fail_plan<R: Eprint, W: Write>(rt: &R, report: &mut W, fault: PlanFault) -> u8
+fn fail_plan<R: Eprint, W: Write>(rt: &R, report: &mut Unbroken<W>, fault: PlanFault) -> u8
     ensures { result ≤ NOT_VALID }
 {
     let PlanFault::Refused { refusal, list } = fault else {
         return fail(rt, ToolFault::OutOfMemory);
     };
     let _told = eprintln!(rt; "rtcm2rinex: {refusal}");
-    let _listed = report.write_all(list.as_slice());
+    tell(report, list.as_slice());
     NOT_VALID
 }
 
@@ -69,73 +69,49 @@ fn names_of_links<'a>(
     Ok(all)
 }
 
-// The files of the captures of all links, one after another.
-fn files_of<'a, R: Files>(
+// The captures of each link, as they were read.
+fn captures_of_links<'a>(
     alloc: Global,
-    rt: &'a R,
-    links: &[Vec<&'a str>],
-) -> Result<Vec<Later<'a, R>>, AllocError> {
-    let mut files = Vec::new(alloc);
+    links: &[Vec<usize>],
+    names: &[&'a str],
+    digests: &[Digest],
+) -> Result<Vec<Vec<CaptureRead<'a>>>, AllocError> {
+    let mut all = Vec::new(alloc);
     for link in links {
-        for name in link {
-            files.push(Later::new(rt, *name))?;
-        }
+        all.push(captures_at(alloc, link.as_slice(), names, digests)?)?;
     }
-    Ok(files)
+    Ok(all)
 }
 
-// Values in groups as large as the links.
-fn grouped<T: Drop>(
-    alloc: Global,
-    values: Vec<T>,
-    links: &[Vec<&str>],
-) -> Result<Vec<Vec<T>>, AllocError> {
-    let mut groups = Vec::new(alloc);
-    let mut rest = values.into_iter();
-    for link in links {
-        let mut group = Vec::new(alloc);
-        for _name in link {
-            if let Some(value) = rest.next() {
-                group.push(value)?;
-            }
-        }
-        groups.push(group)?;
-    }
-    Ok(groups)
-}
-
-// The files of the captures of each link.
-fn files_of_links<'a, R: Files>(
-    alloc: Global,
-    rt: &'a R,
-    links: &[Vec<&'a str>],
-) -> Result<Vec<Vec<Later<'a, R>>>, AllocError> {
-    let files = files_of(alloc, rt, links)?;
-    grouped(alloc, files, links)
-}
-
-// What is said after the conversion: the counts, unless the report has them, and what a person should
-// know.
-fn said_after(
-    alloc: Global,
-    counts: &Counts,
+// What is said after the conversion: the counts, unless the report has them, what the file has, and what a
+// person should know.
+fn said_after<R: Files + AllocGlobal>(
+    rt: &R,
+    outcome: &Outcome,
     known: &Known,
+    links: &[Vec<CaptureRead<'_>>],
     is_reported: bool,
 ) -> Result<Vec<u8>, AllocError> {
-    let mut lines = Vec::new(alloc);
+    let mut lines = Vec::new(rt.alloc());
     if !is_reported {
-        put_counts(&mut lines, counts)?;
+        put_counts(&mut lines, &outcome.counts)?;
     }
-    put_known(&mut lines, known, counts)?;
+    put_file(&mut lines, known, &outcome.file, outcome.conflicts)?;
+    put_known(&mut lines, known, &outcome.counts)?;
+    put_grown(rt, &mut lines, links)?;
     Ok(lines)
 }
 
 // The exit status of a conversion that is done.
-fn done_status<R: Eprint>(rt: &R, counts: &Counts) -> u8
-    ensures no_epoch { counts.now.epochs ≡ 0 → result ≡ NOT_VALID }
+fn done_status<R: Eprint>(rt: &R, outcome: &Outcome) -> u8
+    ensures unheard { outcome.now.is_heard ≡ false → result ≡ FAILED }
+    ensures no_epoch { outcome.now.is_heard ≡ true → outcome.now.counts.epochs ≡ 0 → result ≡ NOT_VALID }
     ensures bound { result ≤ NOT_VALID }
 {
-    if counts.epochs == 0 {
+    if !outcome.is_heard {
+        return FAILED;
+    }
+    if outcome.counts.epochs == 0 {
         let _told = eprintln!(rt; "rtcm2rinex: no record came; the file is a header alone");
         return NOT_VALID;
     }
@@ -146,11 +122,44 @@ fn done_status<R: Eprint>(rt: &R, counts: &Counts) -> u8
 #[derive(Drop)]
 struct Work<'a> {
     setup: Setup,
-    /// The names of the captures of each link.
-    links: Vec<Vec<&'a str>>,
+    /// The captures of each link.
+    links: Vec<Vec<CaptureRead<'a>>>,
     known: Known,
     /// The label that the file gets.
     label: Option<Label>,
+}
+
+// How a conversion went that is done.
+#[derive(Drop)]
+struct Outcome {
+    counts: Counts,
+    /// What the file has.
+    file: WrittenFile,
+    /// How many conflicts the report lists.
+    conflicts: u64,
+    /// Standard error took all that was said.
+    is_heard: bool,
+}
+
+// Converts captures that are read again. The place of one that is not as it was is put into `differing`.
+fn convert_again<'a, R: Files + Eprint + AllocGlobal, O: Write + Drop, W: Write + Drop>(
+    rt: &'a R,
+    setup: Setup,
+    links: &[Vec<CaptureRead<'a>>],
+    differing: &'a Cell<Option<usize>>,
+    out: O,
+    report: W,
+) -> Result<Converted<O, W>, u8>
+    ensures faults { IfOk result (λ converted. IfErr converted.done IsRunFault) }
+    ensures status { IfErr result (λ status. status ≤ NOT_VALID) }
+{
+    let Ok(files) = files_of_links(rt.alloc(), rt, links, differing) else {
+        return Err(fail(rt, ToolFault::OutOfMemory));
+    };
+    match convert_joined(rt.alloc(), setup, files, out, report) {
+        Ok(converted) => Ok(converted),
+        Err(fault) => Err(fail(rt, fault)),
+    }
 }
 
 // Converts to a writer, which is handed back with the counts, and says how it went.
@@ -158,29 +167,42 @@ fn convert_to<R: Files + Eprint + AllocGlobal, O: Write + Drop, W: Write + Drop>
     rt: &R,
     work: Work<'_>,
     out: O,
-    report: W,
+    report: Unbroken<W>,
     is_reported: bool,
-) -> Result<(O, Counts), u8>
+) -> Result<(O, Outcome), u8>
     ensures { IfErr result (λ status. status ≤ NOT_VALID) }
 {
-    let Ok(files) = files_of_links(rt.alloc(), rt, work.links.as_slice()) else {
-        return Err(fail(rt, ToolFault::OutOfMemory));
-    };
-    let report = Quiet::new(report, !is_reported);
-    let converted = match convert_joined(rt.alloc(), work.setup, files, out, report) {
-        Ok(converted) => converted,
-        Err(fault) => return Err(fail(rt, fault)),
-    };
-    finish(rt, converted, &work.known, is_reported)
+    let differing: Cell<Option<usize>> = Cell::new(None);
+    let out = Watched::new(out, WrittenFile::new(rt.alloc()));
+    let report = Watched::new(Quiet::new(report, !is_reported), Conflicts::new());
+    let converted = convert_again(
+        rt,
+        work.setup,
+        work.links.as_slice(),
+        &differing,
+        out,
+        report,
+    )?;
+    if let Some(place) = differing.get() {
+        return Err(fail_differing(rt, name_at(work.links.as_slice(), place)));
+    }
+    finish(
+        rt,
+        converted,
+        &work.known,
+        work.links.as_slice(),
+        is_reported,
+    )
 }
 
 // Says how a conversion went.
-fn finish<R: Eprint + AllocGlobal, O: Write + Drop, W: Write + Drop>(
+fn finish<R: Files + Eprint + AllocGlobal, O: Write + Drop, W: Write + Drop>(
     rt: &R,
-    converted: Converted<O, Quiet<W>>,
+    converted: Converted<Watched<O, WrittenFile>, Watched<Quiet<Unbroken<W>>, Conflicts>>,
     known: &Known,
+    links: &[Vec<CaptureRead<'_>>],
     is_reported: bool,
-) -> Result<(O, Counts), u8>
+) -> Result<(O, Outcome), u8>
     requires { IfErr converted.done IsRunFault }
     ensures whole { IsOk result → IsOk converted.done × IsTrue converted.is_out }
     ensures status { IfErr result (λ status. status ≤ NOT_VALID) }
@@ -189,22 +211,37 @@ fn finish<R: Eprint + AllocGlobal, O: Write + Drop, W: Write + Drop>(
         Ok(counts) if converted.is_out => counts,
         done => return Err(conversion_status(rt, done, converted.is_out)),
     };
-    let Ok(lines) = said_after(rt.alloc(), &counts, known, is_reported) else {
+    let Ok(written) = converted.out.into_parts() else {
         return Err(fail(rt, ToolFault::OutOfMemory));
     };
-    let mut report = converted.report.into_inner();
-    tell(rt, &mut report, lines.as_slice())?;
-    Ok((converted.out, counts))
+    let Ok(reported) = converted.report.into_parts() else {
+        return Err(fail(rt, ToolFault::OutOfMemory));
+    };
+    let (out, file) = written;
+    let (report, conflicts) = reported;
+    let mut outcome = Outcome {
+        counts,
+        file,
+        conflicts: conflicts.count(),
+        is_heard: true,
+    };
+    let Ok(lines) = said_after(rt, &outcome, known, links, is_reported) else {
+        return Err(fail(rt, ToolFault::OutOfMemory));
+    };
+    let mut report = report.into_inner();
+    tell(&mut report, lines.as_slice());
+    outcome.is_heard = !report.has_failed();
+    Ok((out, outcome))
 }
 
 // Converts to a file beside this name. If that is not whole, it is let go.
 fn convert_beside<R: Files + Eprint + AllocGlobal, W: Write + Drop>(
     rt: &R,
     work: Work<'_>,
-    report: W,
+    report: Unbroken<W>,
     name: &str,
     is_reported: bool,
-) -> Result<(Beside<R::File>, Counts), u8>
+) -> Result<(Beside<R::File>, Outcome), u8>
     ensures { IfErr result (λ status. status ≤ NOT_VALID) }
 {
     let beside = match make_beside(rt, name) {
@@ -212,12 +249,12 @@ fn convert_beside<R: Files + Eprint + AllocGlobal, W: Write + Drop>(
         Err(fault) => return Err(fail_output(rt, name, fault)),
     };
     match convert_to(rt, work, beside.file, report, is_reported) {
-        Ok((file, counts)) => Ok((
+        Ok((file, outcome)) => Ok((
             Beside {
                 file,
                 name: beside.name,
             },
-            counts,
+            outcome,
         )),
         Err(status) => {
             let_go(rt, beside.name.as_str());
@@ -242,30 +279,79 @@ fn whole_beside<R: Files + Input + Eprint + AllocGlobal>(
     }
 }
 
+// The file that was converted has no record, so it does not replace the one that has the name.
+fn keep_status<R: Files + Eprint + AllocGlobal, F: Drop>(
+    rt: &R,
+    plain: Beside<F>,
+    name: &str,
+    outcome: &Outcome,
+) -> u8
+    ensures { result ≤ NOT_VALID }
+{
+    let_go(rt, plain.name.as_str());
+    if !outcome.is_heard {
+        return FAILED;
+    }
+    keep_named(rt, name)
+}
+
+// Gives a file that was converted its name, once it has its label; or else says why not. A file without a record
+// replaces none.
+fn name_converted<R: Files + Input + Eprint + AllocGlobal>(
+    rt: &R,
+    label: Option<Label>,
+    plain: Beside<R::File>,
+    outcome: &Outcome,
+    name: &str,
+    force: bool,
+) -> Result<(), u8>
+    ensures { IfErr result (λ status. status ≤ NOT_VALID) }
+{
+    if force && outcome.counts.epochs == 0 && is_there(rt, name) {
+        return Err(keep_status(rt, plain, name, outcome));
+    }
+    let whole = whole_beside(rt, label, plain, name)?;
+    match name_whole(rt, whole.file, whole.name.as_str(), name, force) {
+        Ok(()) => Ok(()),
+        Err(fault) => Err(fail_output(rt, name, fault)),
+    }
+}
+
+// The exit status once a file has its name, which is said last. The name is as sh takes it.
+fn named_status<R: Eprint>(rt: &R, outcome: &Outcome, name: &str) -> u8
+    ensures { result ≤ NOT_VALID }
+{
+    let status = done_status(rt, outcome);
+    if outcome.is_heard {
+        say_written(rt, name, outcome.counts.epochs, outcome.file.satellites());
+    }
+    status
+}
+
 // Converts to a file beside this name, which gets the name once it is whole, or once the file with its
 // label is.
 #[inline(never)]
 fn convert_to_file<R: Files + Input + Eprint + AllocGlobal, W: Write + Drop>(
     rt: &R,
     mut work: Work<'_>,
-    report: W,
+    report: Unbroken<W>,
     name: &str,
     ways: &Ways<'_>,
 ) -> u8
     ensures { result ≤ NOT_VALID }
 {
+    // Once FILE has its name, no memory is asked for.
+    let Ok(shown) = quoted(rt.alloc(), name) else {
+        return fail(rt, ToolFault::OutOfMemory);
+    };
     let label = work.label.take();
-    let (plain, counts) = match convert_beside(rt, work, report, name, ways.report) {
+    let (plain, outcome) = match convert_beside(rt, work, report, name, ways.report) {
         Ok(done) => done,
         Err(status) => return status,
     };
-    let whole = match whole_beside(rt, label, plain, name) {
-        Ok(whole) => whole,
-        Err(status) => return status,
-    };
-    match name_whole(rt, whole.file, whole.name.as_str(), name, ways.force) {
-        Ok(()) => done_status(rt, &counts),
-        Err(fault) => fail_output(rt, name, fault),
+    match name_converted(rt, label, plain, &outcome, name, ways.force) {
+        Ok(()) => named_status(rt, &outcome, shown.as_str()),
+        Err(status) => status,
     }
 }
 
@@ -274,13 +360,13 @@ fn convert_to_file<R: Files + Input + Eprint + AllocGlobal, W: Write + Drop>(
 fn convert_to_output<R: Files + Print + Eprint + AllocGlobal, W: Write + Drop>(
     rt: &R,
     work: Work<'_>,
-    report: W,
+    report: Unbroken<W>,
     ways: &Ways<'_>,
 ) -> u8
     ensures { result ≤ NOT_VALID }
 {
     match convert_to(rt, work, io::writer(rt), report, ways.report) {
-        Ok((_out, counts)) => done_status(rt, &counts),
+        Ok((_out, outcome)) => done_status(rt, &outcome),
         Err(status) => status,
     }
 }
@@ -289,17 +375,20 @@ fn convert_to_output<R: Files + Print + Eprint + AllocGlobal, W: Write + Drop>(
 fn work_of<'a>(
     alloc: Global,
     captures: &Captures<'_, 'a>,
+    digests: &[Digest],
     plan: Plan,
     ways: &Ways<'_>,
     lines: &mut Vec<u8>,
 ) -> Result<Work<'a>, AllocError> {
-    let links = names_of_links(alloc, plan.links.as_slice(), captures.names)?;
-    put_span(lines, &plan.span)?;
-    put_command(lines, &plan.setup, links.as_slice())?;
-    let station = plan.setup.station();
-    put_label_command(alloc, lines, captures.surveys, station, ways.output)?;
-    let label = label_wanted(captures.surveys, station, ways);
-    let known = what_is_known(alloc, captures, &plan)?;
+    let named = names_of_links(alloc, plan.links.as_slice(), captures.names)?;
+    let links = captures_of_links(alloc, plan.links.as_slice(), captures.names, digests)?;
+    lines.extend_from_slice(b" the same by hand:\n")?;
+    put_command(lines, &plan.setup, named.as_slice())?;
+    let (station, near) = (plan.setup.station(), plan.setup.near());
+    let told = equipment_in_captures(alloc, captures.surveys, station, near)?;
+    put_label_command(alloc, lines, &told, ways.output)?;
+    let label = label_wanted(&told, ways);
+    let known = what_is_known(alloc, captures, &plan, &told)?;
     Ok(Work {
         setup: plan.setup,
         links,
@@ -311,9 +400,10 @@ fn work_of<'a>(
 // The conversion of captures that were surveyed, once it is said what it is.
 fn begin_planned<'a, R: Eprint + AllocGlobal, W: Write>(
     rt: &R,
-    report: &mut W,
+    report: &mut Unbroken<W>,
     words: &AutoWords<'_>,
     captures: &Captures<'_, 'a>,
+    digests: &[Digest],
     made: CreationTime,
 ) -> Result<Work<'a>, u8>
     ensures { IfErr result (λ status. status ≤ NOT_VALID) }
@@ -332,11 +422,25 @@ fn begin_planned<'a, R: Eprint + AllocGlobal, W: Write>(
         Err(fault) => return Err(fail_plan(rt, report, fault)),
     };
     let mut lines = Vec::new(rt.alloc());
-    let Ok(work) = work_of(rt.alloc(), captures, plan, ways, &mut lines) else {
+    let Ok(work) = work_of(rt.alloc(), captures, digests, plan, ways, &mut lines) else {
         return Err(fail(rt, ToolFault::OutOfMemory));
     };
-    tell(rt, report, lines.as_slice())?;
+    tell(report, lines.as_slice());
     Ok(work)
+}
+
+// The captures by the bytes of their names, so that the order in which they are given makes no difference; or as
+// they are given.
+fn in_order_of_names<'a>(
+    alloc: Global,
+    names: &[&'a str],
+    as_given: bool,
+) -> Result<Vec<&'a str>, AllocError> {
+    let mut ordered = Vec::from_slice(alloc, names)?;
+    if !as_given {
+        ordered.sort()?;
+    }
+    Ok(ordered)
 }
 
 // Looks at the files, surveys the captures, plans their conversion, and says it. The surveys are let go
@@ -344,7 +448,7 @@ fn begin_planned<'a, R: Eprint + AllocGlobal, W: Write>(
 #[inline(never)]
 fn begin<'a, R: Env + Clock + Files + Input + Eprint + AllocGlobal, W: Write>(
     rt: &R,
-    report: &mut W,
+    report: &mut Unbroken<W>,
     words: &AutoWords<'_>,
     names: &[&'a str],
 ) -> Result<Work<'a>, u8>
@@ -356,12 +460,16 @@ fn begin<'a, R: Env + Clock + Files + Input + Eprint + AllocGlobal, W: Write>(
         station: words.wanted.station.map(Station::number),
         present: made.moment(),
     };
-    let surveys = survey_captures(rt, &target, names)?;
-    let captures = Captures {
-        surveys: surveys.as_slice(),
-        names,
+    let as_given = words.ways.links_as_given;
+    let Ok(names) = in_order_of_names(rt.alloc(), names, as_given) else {
+        return Err(fail(rt, ToolFault::OutOfMemory));
     };
-    begin_planned(rt, report, words, &captures, made)
+    let read = survey_captures(rt, &target, names.as_slice())?;
+    let captures = Captures {
+        surveys: read.surveys.as_slice(),
+        names: names.as_slice(),
+    };
+    begin_planned(rt, report, words, &captures, read.digests.as_slice(), made)
 }
 
 /// Converts captures of one station; what the conversion is told is found in them.
@@ -372,7 +480,7 @@ pub(crate) fn auto_captures<
 >(rt: &R, report: W, words: &AutoWords<'_>, names: &[&str]) -> u8
     ensures { result ≤ NOT_VALID }
 {
-    let mut report = report;
+    let mut report = Unbroken::new(report);
     let work = match begin(rt, &mut report, words, names) {
         Ok(work) => work,
         Err(status) => return status,

@@ -23,6 +23,7 @@ mod auto_labelling;
 mod auto_looking;
 mod auto_reading;
 mod auto_refusing;
+mod auto_rereading;
 mod auto_running;
 mod auto_words;
 mod clap_words;
@@ -41,6 +42,7 @@ mod option_texts;
 mod options;
 mod refusing;
 mod running;
+mod watching;
 mod words;
 
 pub use auto_converting::convert_joined;

@@ -31,13 +31,37 @@ fn print_clap_text<R: Print + Eprint>(rt: &R, text: &str, status: u8) -> u8
     }
 }
 
-/// Says why words give no job.
-pub(crate) fn refuse_words<R: Print + Eprint>(rt: &R, fault: WordsFault) -> u8
+// How an option of `auto` is written whose fault line is this; nothing of other options.
+fn form_of_option(line: &str) -> &'static str {
+    match line {
+        "bad --near" => {
+            " --near takes YYYY-MM-DDTHH:MM:SS (GPS), from 1980-01-13T00:00:00 to 2099-12-31T23:59:59\n"
+        }
+        "bad --made" => {
+            " --made takes YYYY-MM-DDTHH:MM:SS (UTC), from 1980-01-06T00:00:00 to 2100-12-31T23:59:59\n"
+        }
+        _ => "",
+    }
+}
+
+// Says why words are refused; if they are of `auto`, also how a time is written.
+fn refuse_with_form<R: Eprint>(rt: &R, is_auto: bool, line: &str) -> u8
+    ensures { result ≡ REFUSED }
+{
+    let status = refuse(rt, line);
+    if is_auto {
+        let _printed = eprint!(rt; "{}", form_of_option(line));
+    }
+    status
+}
+
+/// Says why words give no job; `is_auto` if they are of the command `auto`.
+pub(crate) fn refuse_words<R: Print + Eprint>(rt: &R, is_auto: bool, fault: WordsFault) -> u8
     ensures { result ≤ REFUSED }
 {
     match fault {
         WordsFault::Clap { text, status } => print_clap_text(rt, text.as_str(), status),
-        WordsFault::Bad { line } => refuse(rt, line),
+        WordsFault::Bad { line } => refuse_with_form(rt, is_auto, line),
         WordsFault::OutOfMemory => fail(rt, ToolFault::OutOfMemory),
     }
 }

@@ -1,18 +1,21 @@
 -- A text that is parted into a label and a plain text.
-use Rattle.std.proofs.Common.{◌≡◌, ◌<◌, ◌≤◌, ℕ, ◌+◌, List, [], ◌++◌, length, take, drop, codes, ap, sym, arith, ◌∙◌, append_assoc, length-append, inl, inr}
-use Rattle.std.proofs.lemmas.List.{take_at, take-append-drop, length-take-le, append_cancel_left}
+use Rattle.std.proofs.Common.{◌≡◌, ◌<◌, ◌≤◌, ℕ, ◌+◌, ◌-◌, ◌*◌, List, [], ◌++◌, length, take, drop, codes, ap, sym, arith, refl, ◌∙◌, append_assoc, length-append, inl, inr}
+use Rattle.std.proofs.Math.Seq.{take-append-add}
+use Rattle.std.specs.Fmt.{digits}
+use Rattle.std.proofs.lemmas.Bool.{cases_order}
+use Rattle.std.proofs.lemmas.List.{take_at, drop_at, drop-drop, take-append-drop, take-append-le, drop-append-le, length-take-le, length-drop, append-nil, append_cancel_left}
 use Rattle.rtk_rinex.specs.Columns.{left, IsField}
-use Rattle.rtk_rinex.specs.Header.{header_line}
-use Rattle.rtk_rinex.specs.Reading.{reading_of}
+use Rattle.rtk_rinex.specs.Header.{header_line, header_text}
+use Rattle.rtk_rinex.specs.Reading.{date_after, reading_of}
 use Rattle.rtk_rinex.specs.Table.{WellFormedTable, IsWellFormedTable, table_text}
 use Rattle.rtk_label.specs.Fields.{marker_number_line}
 use Rattle.rtk_label.specs.Labelled.{LabelView, IsLabel, IsFor, blank_label, top_lines, middle_lines, labelled_text}
-use Rattle.rtk_label.specs.LabelWriting.{IsParted}
+use Rattle.rtk_label.specs.LabelWriting.{WasLabelled, IsOfEveryTable, whole_len, plain_file, completed, IsCutText, IsParted}
 use Rattle.rtk_label.specs.Steps.Shown.{IsNumberIn, IsLabelIn}
 use Rattle.rtk_label.specs.Steps.Fronts.{plain_columns, plain_top, plain_middle}
 use Rattle.rtk_label.proofs.PieceLemmas.{same_parts, next_piece, joined}
 use Rattle.rtk_label.proofs.ChoiceLemmas.{if_blank, none_is, blank_or_filled}
-use Rattle.rtk_label.proofs.FieldLemmas.{length-plain_columns}
+use Rattle.rtk_label.proofs.FieldLemmas.{blank_field, length-plain_columns}
 use Rattle.rtk_label.proofs.LineLemmas.{length-line}
 use Rattle.rtk_label.proofs.FrontLemmas.{length-piece, top_columns, middle_columns, top_sizes, type_line, middle_sizes, line_cells, middle_is}
 use Rattle.rtk_label.proofs.NumberLemmas.{no_number, length-number}
@@ -222,19 +225,185 @@ is_plain text number from l g t r good is for e =
           six.antenna_number six.antenna_type six.height six.east six.north;
     }
 
-pub parted : (text number plain : List ℕ) (from : ℕ) (l : LabelView) → IsRead text number from l → plain ≡ front_of text from l ++ drop (from + 729) text
-    → IsParted text plain l
-parted text number plain from l r is = record {
-  good = r.good;
-  labelled = λ t good e. was_labelled text number from l t r good (sym is ∙ e);
-  every = λ t g good fits for e. let p = is_plain text number from l g t r good fits for e in (is ∙ p.plain, p.label);
+-- ---- a text of ten lines, whatever follows it
+
+pub piece_more : (k w : ℕ) (text rest : List ℕ) → k + w ≤ length text → take w (drop k (text ++ rest)) ≡ take w (drop k text)
+piece_more k w text rest h =
+    ap (take w) (drop-append-le k text rest (omega (arith, h))) ∙ take-append-le w (drop k text) rest (omega (arith, h, length-drop k text))
+
+read_more : (text rest number : List ℕ) (from : ℕ) (l : LabelView) → IsRead text number from l → IsRead (text ++ rest) number from l
+read_more text rest number from l r =
+    let lt = within text number from l r in
+    let long = r.long in
+    let top : take 243 (text ++ rest) ≡ take 243 text = take-append-le 243 text rest (omega (arith, long)) in
+    let middle : take 486 (drop (from + 243) (text ++ rest)) ≡ take 486 (drop (from + 243) text) = piece_more (from + 243) 486 text rest (omega (arith, long, lt)) in
+    record {
+      long = omega (arith, long, length-append text rest);
+      line = rw (piece_more 243 81 text rest (omega (arith, long))) r.line;
+      blank = r.blank;
+      filled = r.filled;
+      label = rw (top, middle) r.label;
+      good = r.good;
+    }
+
+plain_more : (text rest number front : List ℕ) (from : ℕ) (l : LabelView) → IsRead text number from l → front ≡ front_of text from l
+    → front_of (text ++ rest) from l ++ drop (from + 729) (text ++ rest) ≡ front ++ (drop (from + 729) text ++ rest)
+plain_more text rest number front from l r is =
+    let lt = within text number from l r in
+    let long = r.long in
+    let top : take 243 (text ++ rest) ≡ take 243 text = take-append-le 243 text rest (omega (arith, long)) in
+    let middle : take 486 (drop (from + 243) (text ++ rest)) ≡ take 486 (drop (from + 243) text) = piece_more (from + 243) 486 text rest (omega (arith, long, lt)) in
+    let same : front_of (text ++ rest) from l ≡ front_of text from l =
+    ap (λ (t : List ℕ). plain_top l t ++ plain_middle l (take 486 (drop (from + 243) (text ++ rest)))) top
+    ∙ ap (λ (t : List ℕ). plain_top l (take 243 text) ++ plain_middle l t) middle in
+    ap (λ (t : List ℕ). t ++ drop (from + 729) (text ++ rest)) (same ∙ sym is)
+    ∙ ap (λ (t : List ℕ). front ++ t) (drop-append-le (from + 729) text rest (omega (arith, long, lt)))
+
+pub labelled_more : (text rest number front : List ℕ) (from : ℕ) (l : LabelView) → IsRead text number from l → front ≡ front_of text from l
+    → WasLabelled (text ++ rest) (front ++ (drop (from + 729) text ++ rest)) l
+labelled_more text rest number front from l r is t good e =
+    was_labelled (text ++ rest) number from l t (read_more text rest number from l r) good (plain_more text rest number front from l r is ∙ e)
+
+pub every_more : (text rest number front : List ℕ) (from : ℕ) (l : LabelView) → IsRead text number from l → front ≡ front_of text from l
+    → IsOfEveryTable (text ++ rest) (front ++ (drop (from + 729) text ++ rest)) l
+every_more text rest number front from l r is t g good fits for e =
+    let p = is_plain (text ++ rest) number from l g t (read_more text rest number from l r) good fits for e in
+    (sym (plain_more text rest number front from l r is) ∙ p.plain, p.label)
+
+abbrev pub WasLabelledMore : List ℕ → List ℕ → ℕ → LabelView → Type 0
+WasLabelledMore text front from l = (rest : List ℕ) → WasLabelled (text ++ rest) (front ++ (drop (from + 729) text ++ rest)) l
+
+abbrev pub IsOfEveryTableMore : List ℕ → List ℕ → ℕ → LabelView → Type 0
+IsOfEveryTableMore text front from l = (rest : List ℕ) → IsOfEveryTable (text ++ rest) (front ++ (drop (from + 729) text ++ rest)) l
+
+-- the same texts by other names
+was_as : (text other plain left : List ℕ) (l : LabelView) → other ≡ text → left ≡ plain → WasLabelled text plain l → WasLabelled other left l
+was_as text other plain left l e f was = rw (e, f) was
+
+every_as : (text other plain left : List ℕ) (l : LabelView) → other ≡ text → left ≡ plain → IsOfEveryTable text plain l → IsOfEveryTable other left l
+every_as text other plain left l e f every = rw (e, f) every
+
+pub parted : (text front plain : List ℕ) (from : ℕ) (l : LabelView) → 810 ≤ length text → IsLabel l → WasLabelledMore text front from l → IsOfEveryTableMore text front from l
+    → plain ≡ front ++ drop (from + 729) text → IsParted text plain l
+parted text front plain from l long good was every is =
+    let end : plain ≡ front ++ (drop (from + 729) text ++ []) = is ∙ ap (λ (t : List ℕ). front ++ t) (sym (append-nil (drop (from + 729) text))) in record {
+      good = good;
+      labelled = was_as (text ++ []) text _ plain l (sym (append-nil text)) end (was []);
+      every = every_as (text ++ []) text _ plain l (sym (append-nil text)) end (every []);
+      cut = λ short. absurd (omega (arith, short, long));
+    }
+
+-- ---- a text that ends within its first ten lines
+
+-- it is that of no table
+pub parted_cut : (text plain : List ℕ) (l : LabelView) → length text < 810 → length plain ≤ length text → IsLabel l → IsCutText text plain l → IsParted text plain l
+parted_cut text plain l short small good is = record {
+  good = good;
+  labelled = λ t table e.
+      let size = ap length e in
+      let blank = ap length (blank_text t) in absurd (omega (arith, short, small, size, blank, length-labelled blank_label t blank_is_label table));
+  every = λ t g table fits for e.
+      let size = ap length e in absurd (omega (arith, short, size, length-labelled g t fits table));
+  cut = λ h. is;
 }
 
--- a text that is too short is that of no table
-pub parted_short : (text : List ℕ) → length text < 810 → IsParted text text blank_label
-parted_short text short = record {
-  good = blank_is_label;
-  labelled = λ t good e. (e ∙ sym (blank_text t), λ some. absurd (omega (arith, some)));
-  every = λ t g good fits for e.
-      let size = ap length e in absurd (omega (arith, short, size, length-labelled g t fits good));
+pub cut_is : (text lines ten front plain : List ℕ) (from : ℕ) (l : LabelView) → lines ≡ take (whole_len text) text
+    → ten ≡ take 810 (lines ++ drop (length lines - from) plain_file) → from ≡ length (marker_number_line l.marker_number)
+    → WasLabelledMore ten front from l → IsOfEveryTableMore ten front from l
+    → plain ≡ take (whole_len text - from) front ++ drop (whole_len text) text → IsCutText text plain l
+cut_is text lines ten front plain from l lines_are ten_are number was every parts =
+    let whole : ℕ = whole_len text in
+    let all : List ℕ = lines ++ drop (length lines - from) plain_file in
+    let rest : List ℕ = drop 810 all in
+    let size : length lines ≡ whole = ap length lines_are ∙ length-take-le whole text (omega arith) in
+    let all_is : all ≡ completed from text =
+    ap (λ (n : ℕ). lines ++ drop (n - from) plain_file) size ∙ ap (λ (t : List ℕ). t ++ drop (whole - from) plain_file) lines_are in
+    let text_is : ten ++ rest ≡ completed (length (marker_number_line l.marker_number)) text =
+    ap (λ (t : List ℕ). t ++ rest) ten_are ∙ take-append-drop 810 all ∙ all_is ∙ ap (λ (n : ℕ). completed n text) number in
+    let end : List ℕ = drop (whole - from) front ++ (drop (from + 729) ten ++ rest) in
+    let plain_is : front ++ (drop (from + 729) ten ++ rest) ≡ take (whole - from) front ++ end =
+    ap (λ (t : List ℕ). t ++ (drop (from + 729) ten ++ rest)) (sym (take-append-drop (whole - from) front))
+    ∙ append_assoc (take (whole - from) front) (drop (whole - from) front) (drop (from + 729) ten ++ rest) in record {
+      lines = take (whole - from) front;
+      end = end;
+      parts = parts;
+      labelled = was_as (ten ++ rest) _ _ _ l (sym text_is) (sym plain_is) (was rest);
+      every = every_as (ten ++ rest) _ _ _ l (sym text_is) (sym plain_is) (every rest);
+    }
+
+-- the fourth of its lines, if it has four
+
+type_no_number : IsNumberIn type_line []
+type_no_number = record {
+  good = blank_field 20;
+  some = λ h. absurd (omega (arith, h));
+  all = λ g good some e. absurd (no_number g good some e);
 }
+
+plain_fourth : take 81 (drop 243 plain_file) ≡ type_line
+unfolding type_line header_text header_line left
+plain_fourth = refl
+
+behind : (lines more : List ℕ) (n d : ℕ) → length lines + d ≡ n → drop n (lines ++ drop (length lines) more) ≡ drop n more
+behind lines more n d sum =
+    ap (λ (k : ℕ). drop k (lines ++ drop (length lines) more)) (sym sum) ∙ sym (drop-drop d (length lines) (lines ++ drop (length lines) more))
+    ∙ ap (drop d) (drop_at lines (drop (length lines) more) (length lines) refl) ∙ drop-drop d (length lines) more ∙ ap (λ (k : ℕ). drop k more) sum
+
+fourth_is : (lines more ten : List ℕ) (from : ℕ) → ten ≡ take 810 (lines ++ more) → length ten ≡ 810 → take 81 (drop 243 ten) ≡ take 81 (drop 243 (lines ++ more))
+fourth_is lines more ten from e size =
+    sym (piece_more 243 81 ten (drop 810 (lines ++ more)) (omega (arith, size)))
+    ∙ ap (λ (t : List ℕ). take 81 (drop 243 (t ++ drop 810 (lines ++ more)))) e
+    ∙ ap (λ (t : List ℕ). take 81 (drop 243 t)) (take-append-drop 810 (lines ++ more))
+
+four_lines : (lines more number ten : List ℕ) (from : ℕ) → ten ≡ take 810 (lines ++ more) → length ten ≡ 810 → 324 ≤ length lines
+    → IsNumberIn (take 81 (drop 243 lines)) number → IsNumberIn (take 81 (drop 243 ten)) number
+four_lines lines more number ten from e size four is =
+    let line : take 81 (drop 243 ten) ≡ take 81 (drop 243 lines) = fourth_is lines more ten from e size ∙ piece_more 243 81 lines more (omega (arith, four)) in
+    rw line is
+
+few_lines : (lines number ten : List ℕ) (from k : ℕ) → ten ≡ take 810 (lines ++ drop (length lines - from) plain_file) → length ten ≡ 810 → length lines ≡ 81 * k
+    → length lines < 324 → number ≡ [] → from ≡ 0 → IsNumberIn (take 81 (drop 243 ten)) number
+few_lines lines number ten from k e size multiple few none zero =
+    let same : length lines - from ≡ length lines = omega (arith, zero) in
+    let at : ten ≡ take 810 (lines ++ drop (length lines) plain_file) = e ∙ ap (λ (n : ℕ). take 810 (lines ++ drop n plain_file)) same in
+    let sum : length lines + (243 - length lines) ≡ 243 = omega (arith, multiple, few) in
+    let line : take 81 (drop 243 ten) ≡ type_line =
+    fourth_is lines (drop (length lines) plain_file) ten from at size ∙ ap (take 81) (behind lines plain_file 243 (243 - length lines) sum) ∙ plain_fourth in
+    rw (line, none) type_no_number
+
+pub cut_number : (lines number ten : List ℕ) (from k : ℕ) → ten ≡ take 810 (lines ++ drop (length lines - from) plain_file) → length ten ≡ 810 → length lines ≡ 81 * k
+    → (length lines < 324 → number ≡ []) → (324 ≤ length lines → IsNumberIn (take 81 (drop 243 lines)) number) → (length number ≡ 0 → from ≡ 0)
+    → IsNumberIn (take 81 (drop 243 ten)) number
+cut_number lines number ten from k e size multiple few four blank =
+    elim (cases_order (length lines) 324) [
+      | inl same ↦ four_lines lines (drop (length lines - from) plain_file) number ten from e size (omega (arith, same)) (four (omega (arith, same)))
+      | inr (inl below) ↦ few_lines lines number ten from k e size multiple below (few below) (blank (ap length (few below)))
+      | inr (inr above) ↦ four_lines lines (drop (length lines - from) plain_file) number ten from e size (omega (arith, above)) (four (omega (arith, above)))
+    ]
+
+-- the line of the number is among them
+pub number_within : (lines number : List ℕ) (from : ℕ) → (length lines < 324 → number ≡ []) → (length number ≡ 0 → from ≡ 0) → (0 < length number → from ≡ 81)
+    → (from ≤ length lines) × (from ≤ 81)
+number_within lines number from few blank filled =
+    elim (cases_order (length lines) 324) [
+      | inl same ↦ elim (blank_or_filled number) [ inl none ↦ (omega (arith, blank none), omega (arith, blank none)) | inr some ↦ (omega (arith, filled some, same), omega (arith, filled some)) ]
+      | inr (inl below) ↦ let zero : from ≡ 0 = blank (ap length (few below)) in (omega (arith, zero), omega (arith, zero))
+      | inr (inr above) ↦ elim (blank_or_filled number) [ inl none ↦ (omega (arith, blank none), omega (arith, blank none)) | inr some ↦ (omega (arith, filled some, above), omega (arith, filled some)) ]
+    ]
+
+plain_long : length (take 810 plain_file) ≡ 810
+unfolding header_text header_line left date_after digits
+plain_long = refl
+
+-- the first lines of the plain file
+pub filled_up : (lines : List ℕ) (from : ℕ) → length lines ≤ 729 → from ≤ length lines
+    → lines ++ take (810 - length lines) (drop (length lines - from) (take 810 plain_file)) ≡ take 810 (lines ++ drop (length lines - from) plain_file)
+filled_up lines from few fits =
+    let d : ℕ = length lines - from in
+    let n : ℕ = 810 - length lines in
+    let front : List ℕ = take 810 plain_file in
+    let long : length front ≡ 810 = plain_long in
+    let piece : take n (drop d front) ≡ take n (drop d plain_file) =
+    sym (piece_more d n front (drop 810 plain_file) (omega (arith, long, few, fits))) ∙ ap (λ (t : List ℕ). take n (drop d t)) (take-append-drop 810 plain_file) in
+    let sum : length lines + n ≡ 810 = omega (arith, few) in
+    ap (λ (t : List ℕ). lines ++ t) piece ∙ sym (take-append-add lines (drop d plain_file) n) ∙ ap (λ (k : ℕ). take k (lines ++ drop d plain_file)) sum

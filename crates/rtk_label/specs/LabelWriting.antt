@@ -1,8 +1,11 @@
 -- What is written of a label and a file, and what a label that was taken out of a text leaves. A text
 -- is the text of one well-formed table at most, so the table is the one whose text it is.
-use Rattle.std.specs.Prelude.{◌≡◌, ℕ, ◌+◌, nat_le, ◌==◌, ◌||◌, List, Option, if◌then◌else◌}
+use Rattle.std.specs.Prelude.{◌≡◌, ◌<◌, ℕ, ◌+◌, ◌-◌, ◌*◌, ◌/◌, nat_le, ◌==◌, ◌||◌, List, [], ◌∷◌, ◌++◌, length, take, drop, codes, pos, Option, if◌then◌else◌}
 use Rattle.rtk_frame.specs.Stream.{with_more, TakesPart}
+use Rattle.rtk_obs.specs.declared.code.Code.TheVariants.{G1C}
+use Rattle.rtk_rinex.specs.Header.{header_text}
 use Rattle.rtk_rinex.specs.Table.{WellFormedTable, IsWellFormedTable, table_text}
+use Rattle.rtk_label.specs.Fields.{marker_number_line}
 use Rattle.rtk_label.specs.Labelled.{LabelView, IsLabel, IsFor, front_lines, labelled_text}
 
 -- the label is for the table whose text this is
@@ -29,13 +32,50 @@ abbrev pub WritesFirstOfFront : List ℕ → LabelView → Option (List ℕ) →
 WritesFirstOfFront text l before after =
     (t : WellFormedTable) → IsWellFormedTable t → text ≡ table_text t → TakesPart before after (front_lines l t.head t.site)
 
+-- if the plain text is that of a table, the text is that of this table with the label
+abbrev pub WasLabelled : List ℕ → List ℕ → LabelView → Type 0
+WasLabelled text plain l = (t : WellFormedTable) → IsWellFormedTable t → plain ≡ table_text t → (text ≡ labelled_text l t) × IsFor l t.site
+
+-- if the text is that of a table with a label, the plain text is that of this table, and the label is this one
+abbrev pub IsOfEveryTable : List ℕ → List ℕ → LabelView → Type 0
+IsOfEveryTable text plain l =
+    (t : WellFormedTable) (m : LabelView) → IsWellFormedTable t → IsLabel m → IsFor m t.site → text ≡ labelled_text m t → (plain ≡ table_text t) × (l ≡ m)
+
+-- ---- a text that ends within its first ten lines, of 81 bytes each
+
+-- formula
+-- the bytes of its whole lines
+abbrev pub whole_len : List ℕ → ℕ
+whole_len text = 81 * (length text / 81)
+
+-- table
+-- a file without a label and without a record
+abbrev pub plain_file : List ℕ
+plain_file =
+    header_text (record { marker = codes "-"; listed = G1C ∷ []; made = 0 }) (record { x = pos 0; y = pos 0; z = pos 0; height = 0 }) 0
+
+-- formula
+-- its whole lines, and in the place of those that it lacks the lines of a file without a label; `from`
+-- bytes of its whole lines are the line of the marker's number, which that file has not
+abbrev pub completed : ℕ → List ℕ → List ℕ
+completed from text = take (whole_len text) text ++ drop (whole_len text - from) plain_file
+
+-- what is left of it: so many first lines of what is left of the completed text, and the line that is
+-- cut. So no field of a label in a line before hides that this line is cut.
+pub record IsCutText (text plain : List ℕ) (l : LabelView) : Type 0 where
+  pub lines : List ℕ
+  pub end : List ℕ
+  pub parts : plain ≡ lines ++ drop (whole_len text) text
+  pub labelled : WasLabelled (completed (length (marker_number_line l.marker_number)) text) (lines ++ end) l
+  pub every : IsOfEveryTable (completed (length (marker_number_line l.marker_number)) text) (lines ++ end) l
+
 -- a text was parted into a label and a plain text. If the plain text is that of a table, the text is
 -- that of this table with the label, and of no other table and label. Else it is that of none.
 pub record IsParted (text plain : List ℕ) (l : LabelView) : Type 0 where
   pub good : IsLabel l
-  pub labelled : (t : WellFormedTable) → IsWellFormedTable t → plain ≡ table_text t → (text ≡ labelled_text l t) × IsFor l t.site
-  pub every : (t : WellFormedTable) (m : LabelView) → IsWellFormedTable t → IsLabel m → IsFor m t.site → text ≡ labelled_text m t
-      → (plain ≡ table_text t) × (l ≡ m)
+  pub labelled : WasLabelled text plain l
+  pub every : IsOfEveryTable text plain l
+  pub cut : length text < 810 → IsCutText text plain l
 
 -- formula
 -- the line of a text from which a label was taken (this project's rule): if bytes were left out at its begin, these were

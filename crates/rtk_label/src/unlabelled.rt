@@ -3,20 +3,36 @@
 //! The parts are read from their columns, and these become blank where they show a field. What no
 //! label fills stays as it is, so that `check` finds the first wrong line.
 
-ghost use Rattle.std.specs.Prelude.{◌≡◌, ◌+◌, ◌^◌, ◌<◌, ◌≤◌, ◌++◌, length, drop};
+ghost use Rattle.std.specs.Prelude.{◌≡◌, ◌+◌, ◌-◌, ◌^◌, ◌<◌, ◌≤◌, List, [], ℕ, ◌++◌, length, take, drop};
 ghost use Rattle.rtk_rinex.specs.Columns.{IsField};
 ghost use Rattle.rtk_label.specs.Fields.{marker_number_line};
-ghost use Rattle.rtk_label.specs.LabelWriting.{IsParted, line_in_text};
+ghost use Rattle.rtk_label.specs.Labelled.{IsLabel};
+ghost use Rattle.rtk_label.specs.LabelWriting.{WasLabelled, IsOfEveryTable, plain_file, IsCutText, IsParted, line_in_text};
 ghost use Rattle.rtk_label.specs.Steps.Shown.{IsNumberIn, IsLabelIn};
 
-use crate::columns::{FRONT, put_number_line};
+use crate::columns::{FRONT, add, put_number_line};
 use crate::fields::{Field, columns_at, is_same, read_field, read_offset};
 use crate::front::plain;
 use crate::label::Label;
 use arrayvec::ArrayVec;
 
-/// The bytes of three lines.
+/// The bytes of a line, and of three.
+const LINE: usize = 81;
+
 const THREE_LINES: usize = 243;
+
+/// The first ten lines of a file without a label.
+const PLAIN_LINES: &[u8] =
+    b"     3.05           OBSERVATION DATA    G                   RINEX VERSION / TYPE\n\
+rtcm2rinex                              19800106 000000 UTC PGM / RUN BY / DATE \n\
+-                                                           MARKER NAME         \n\
+GEODETIC                                                    MARKER TYPE         \n\
+\x20                                                           OBSERVER / AGENCY   \n\
+\x20                                                           REC # / TYPE / VERS \n\
+\x20                                                           ANT # / TYPE        \n\
+\x20       0.0000        0.0000        0.0000                  APPROX POSITION XYZ \n\
+\x20       0.0000        0.0000        0.0000                  ANTENNA: DELTA H/E/N\n\
+G    3 C1C L1C S1C                                          SYS / # / OBS TYPES \n";
 
 /// The label of a text, and where its plain text begins.
 #[derive(Drop)]
@@ -92,17 +108,23 @@ struct Reading {
     front: ArrayVec<u8, FRONT>,
 }
 
-// Reads a text of ten lines at least. Where the lines after the third stand depends on the marker's
-// number, since its line may be absent.
-fn reading_of(text: &[u8]) -> Reading
-    requires { 810 ≤ length text.now }
-    ensures parted { IsParted text.now (result.front.items ++ drop (result.unlabelled.from + 729) text.now) result.unlabelled.label }
-    ensures from { result.unlabelled.from ≡ length (marker_number_line result.unlabelled.label.marker_number) }
-    ensures line { result.unlabelled.from ≤ 81 }
+// Reads a text of ten lines at least, whatever follows it. Of its lines the fourth is that of this
+// marker's number, with so many bytes, or is absent.
+fn reading_of(text: &[u8], number: Field, from: usize) -> Reading
+    requires ten { 810 ≤ length text.now }
+    requires number { IsNumberIn (take 81 (drop 243 text.now)) number.items }
+    requires blank { length number.items ≡ 0 → from ≡ 0 }
+    requires filled { 0 < length number.items → from ≡ 81 }
+    ensures labelled { (rest : List ℕ)
+        → WasLabelled (text.now ++ rest) (result.front.items ++ (drop (from + 729) text.now ++ rest)) result.unlabelled.label }
+    ensures every { (rest : List ℕ)
+        → IsOfEveryTable (text.now ++ rest) (result.front.items ++ (drop (from + 729) text.now ++ rest)) result.unlabelled.label }
+    ensures good { IsLabel result.unlabelled.label }
+    ensures from { from ≡ length (marker_number_line result.unlabelled.label.marker_number) }
+    ensures same { result.unlabelled.from ≡ from }
+    ensures line { from ≤ 81 }
     ensures len { length result.front.items ≡ 729 }
 {
-    let number = read_number(columns_at(text, THREE_LINES, 81));
-    let from = line_len(number.as_slice());
     let top = columns_at(text, 0, THREE_LINES);
     let middle = columns_at(text, from + THREE_LINES, 486);
     let label = read_label(top, number, middle);
@@ -113,8 +135,71 @@ fn reading_of(text: &[u8]) -> Reading
     }
 }
 
+// The marker's number of whole lines; a blank one if its line is not among them.
+fn number_in(lines: &[u8]) -> Field
+    ensures none { length lines.now < 324 → result.items ≡ [] }
+    ensures some { 324 ≤ length lines.now → IsNumberIn (take 81 (drop 243 lines.now)) result.items }
+{
+    if lines.len() < 324 {
+        return ArrayVec::new();
+    }
+    read_number(columns_at(lines, THREE_LINES, 81))
+}
+
+// The bytes of the line of a marker's number, which is absent if there is none; it is one of these
+// lines.
+fn len_in(lines: &[u8], number: &[u8]) -> usize
+    requires { length lines.now < 324 → number.now ≡ [] }
+    ensures blank { length number.now ≡ 0 → result ≡ 0 }
+    ensures filled { 0 < length number.now → result ≡ 81 }
+    ensures within { result ≤ length lines.now }
+    ensures small { result ≤ 81 }
+{
+    line_len(number)
+}
+
+// Whole lines, of which so many bytes are the line of a marker's number, and then lines of a file
+// without a label, ten in all.
+fn completed(lines: &[u8], from: usize) -> ArrayVec<u8, FRONT>
+    requires lines { length lines.now ≤ 729 }
+    requires from { from ≤ length lines.now }
+    requires number { from ≤ 81 }
+    ensures items { result.items ≡ take 810 (lines.now ++ drop (length lines.now - from) plain_file) }
+    ensures len { length result.items ≡ 810 }
+{
+    let mut out = ArrayVec::new();
+    add(&mut out, lines);
+    add(
+        &mut out,
+        columns_at(PLAIN_LINES, lines.len() - from, FRONT - lines.len()),
+    );
+    out
+}
+
+// Parts a text that ends within its first ten lines. The line that is cut stays as it is.
+fn unlabel_cut(text: &mut [u8]) -> Unlabelled
+    requires { length text.old < 810 }
+    ensures len { length text.new ≡ length text.old }
+    ensures from { result.from ≡ length (marker_number_line result.label.marker_number) }
+    ensures within { result.from ≤ length text.new }
+    ensures good { IsLabel result.label }
+    ensures cut { IsCutText text.old (drop result.from text.new) result.label }
+{
+    let whole = LINE * (text.len() / LINE);
+    let lines = columns_at(text, 0, whole);
+    let number = number_in(lines);
+    let from = len_in(lines, number.as_slice());
+    let ten = completed(lines, from);
+    let reading = reading_of(ten.as_slice(), number, from);
+    text[from..whole].copy_from_slice(columns_at(reading.front.as_slice(), 0, whole - from));
+    reading.unlabelled
+}
+
 /// Parts a text in its place: what is left from `from` on is the plain text. No byte after the tenth
 /// line is moved.
+///
+/// If the text ends within its first ten lines, the fields are taken from the lines before the one
+/// that is cut. So `check` finds that the text is cut, and not a field.
 pub fn unlabel(text: &mut [u8]) -> Unlabelled
     ensures len { length text.new ≡ length text.old }
     ensures rest { drop 810 text.new ≡ drop 810 text.old }
@@ -123,13 +208,11 @@ pub fn unlabel(text: &mut [u8]) -> Unlabelled
     ensures parted { IsParted text.old (drop result.from text.new) result.label }
 {
     if text.len() < 810 {
-        return Unlabelled {
-            label: Label::blank(),
-            from: 0,
-        };
+        return unlabel_cut(text);
     }
-    let reading = reading_of(text);
-    let from = reading.unlabelled.from;
+    let number = read_number(columns_at(text, THREE_LINES, LINE));
+    let from = line_len(number.as_slice());
+    let reading = reading_of(text, number, from);
     text[from..from + 729].copy_from_slice(reading.front.as_slice());
     reading.unlabelled
 }

@@ -6,3 +6,6 @@ three-parts old a b c = ap (λ l. l ++ c) (append_assoc old a b) ∙ append_asso
 
 pub four-parts : (old a b c d : List ℕ) → (((old ++ a) ++ b) ++ c) ++ d ≡ old ++ (((a ++ b) ++ c) ++ d)
 four-parts old a b c d = ap (λ l. l ++ d) (three-parts old a b c) ∙ append_assoc old ((a ++ b) ++ c) d
+
+pub five-parts : (old a b c d e : List ℕ) → ((((old ++ a) ++ b) ++ c) ++ d) ++ e ≡ old ++ ((((a ++ b) ++ c) ++ d) ++ e)
+five-parts old a b c d e = ap (λ l. l ++ e) (four-parts old a b c d) ∙ append_assoc old (((a ++ b) ++ c) ++ d) e

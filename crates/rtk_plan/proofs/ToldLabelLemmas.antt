@@ -14,7 +14,7 @@ use Rattle.rtk_label.specs.Labelled.{LabelView, IsLabel}
 use Rattle.rtk_label.specs.LabelFault.{IsLabelFault}
 use Rattle.rtk_label.specs.declared.label_fault.LabelFault.{LabelFault}
 use Rattle.rtk_label.specs.declared.label_fault.LabelFault.TheVariants.{RunBy, MarkerNumber, Observer, Agency, ReceiverNumber, ReceiverType, ReceiverVersion, AntennaNumber, AntennaType, DeltaHeight, DeltaEast, DeltaNorth}
-use Rattle.rtk_plan.specs.ToldLabel.{is_printed, fits_field, is_null_told, field_told, antenna_field, label_told}
+use Rattle.rtk_plan.specs.ToldLabel.{trimmed, is_printed, fits_field, is_null_told, field_told, antenna_field, label_told}
 
 in-range : (x : ℕ) → is_printed x ≡ true → IsInRange 32 126 x
 in-range x h =
@@ -63,7 +63,7 @@ chosen text false h = blank-field 20
 
 field-fits : (text : Option (ArrayVec ℕ)) → IsField 20 (field_told text)
 field-fits None = blank-field 20
-field-fits (Some text) = chosen text.items (fits_field text.items) refl
+field-fits (Some text) = chosen (trimmed text.items) (fits_field (trimmed text.items)) refl
 
 unless : (is_none : Bool) (text : Option (ArrayVec ℕ)) → IsField 20 (if is_none then [] else field_told text)
 unless true text = blank-field 20

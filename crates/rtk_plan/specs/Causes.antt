@@ -95,14 +95,15 @@ IsDatingCause given cs refusal = (base : Base) × IsBaseOf given cs base × IsRe
 
 -- ---- the values of the conversion of a station
 
--- no codes are named, and none is found
-abbrev pub HasNoCode : List CaptureSurvey → Wanted → ℕ → Type 0
-HasNoCode ss w station = (w.codes ≡ None) × (codes_chosen w.codes ss station (msm_chosen w.msm ss station) ≡ [])
+-- no codes are named, and none is found of the MSM of these links
+abbrev pub HasNoCode : List CaptureSurvey → List (List ℕ) → Wanted → ℕ → Type 0
+HasNoCode ss links w station =
+    (w.codes ≡ None) × (codes_chosen w.codes ss station (msm_chosen w.msm ss links station) ≡ [])
 
-abbrev pub IsSetupCause : List CaptureSurvey → Wanted → ℕ → ℕ → Refusal → Type 0
-IsSetupCause ss w station near NoCode = HasNoCode ss w station
-IsSetupCause ss w station near OutsideDates = ¬ (IsReference near)
-IsSetupCause ss w station near other = ⊥
+abbrev pub IsSetupCause : List CaptureSurvey → List (List ℕ) → Wanted → ℕ → ℕ → Refusal → Type 0
+IsSetupCause ss links w station near NoCode = HasNoCode ss links w station
+IsSetupCause ss links w station near OutsideDates = ¬ (IsReference near)
+IsSetupCause ss links w station near other = ⊥
 
 -- ---- the links
 
@@ -118,7 +119,8 @@ has_frames s = not (s.contents.frames == 0)
 -- of captures that tell this of the station that is converted
 abbrev pub IsCaptureCause : List CaptureSurvey → Wanted → Bool → Bool → ℕ → List StationCapture → Refusal → Type 0
 IsCaptureCause ss w skip_empty as_given station cs (Empty n) = IsEmptyCause station cs skip_empty (Empty n)
-IsCaptureCause ss w skip_empty as_given station cs NoCode = HasNoCode ss w station
+IsCaptureCause ss w skip_empty as_given station cs NoCode =
+    (links : List (List ℕ)) × AreLinksOf as_given w.near cs links × HasNoCode ss links w station
 IsCaptureCause ss w skip_empty as_given station cs TooManyLinks =
     (links : List (List ℕ)) × AreLinksOf as_given w.near cs links × (16 < length links)
 IsCaptureCause ss w skip_empty as_given station cs PositionsDiffer = (as_given ≡ false) × (some_are_far cs ≡ true)

@@ -16,5 +16,6 @@ pub mod SaidCommand
 pub mod SpanLine
 pub mod StationCaptures
 pub mod Steps
+pub mod TextsLeftOut
 pub mod ToldLabel
 pub mod Values

@@ -1,16 +1,21 @@
 -- The lines that list what a refusal or a warning speaks of (this project's rule).
-use Rattle.std.specs.Prelude.{ℕ, ◌==◌, List, [], ◌∷◌, ◌++◌, flat_map, codes, decimal, Option, None, Some, if◌then◌else◌}
-use Rattle.std.specs.List.{list_any, range_with_len}
+use Rattle.std.specs.Prelude.{ℕ, ◌==◌, List, [], ◌∷◌, ◌++◌, length, nat_lt, flat_map, codes, decimal, Option, None, Some, if◌then◌else◌}
+use Rattle.std.specs.List.{range_with_len}
 use Rattle.rtk_message.specs.declared.msm_kind.MsmKind.{MsmKind}
 use Rattle.rtk_message.specs.declared.msm_kind.MsmKind.TheVariants.{Msm4, Msm5, Msm6, Msm7}
 use Rattle.rtk_message.specs.Systems.{number_of_kind}
 use Rattle.rtk_message.specs.ShellText.{sh_quoted}
 use Rattle.rtk_survey.specs.declared.survey.CaptureSurvey.{CaptureSurvey}
 use Rattle.rtk_plan.specs.ChosenStation.{observes}
+use Rattle.rtk_plan.specs.StationCaptures.{epochs_heard, station_in}
 use Rattle.rtk_plan.specs.Values.{messages_in_captures, others_in_captures}
+use Rattle.rtk_obs.specs.declared.time.TheConstants.{LAST_MS}
+use Rattle.rtk_survey.specs.declared.tellings.Told.{Told}
+use Rattle.rtk_plan.specs.SaidCommand.{time_text}
+use Rattle.rtk_plan.specs.SpanLine.{date_message_text}
 use Rattle.rtk_survey.specs.Look.{look_name}
 use Rattle.rtk_survey.specs.declared.look.Look.{Look}
-use Rattle.rtk_survey.specs.declared.look.Look.TheVariants.{Unknown, Empty}
+use Rattle.rtk_survey.specs.declared.look.Look.TheVariants.{Unknown, Empty, Gzip, Bzip2, Xz, Zip}
 
 abbrev pub line_end : List ℕ
 line_end = 10 ∷ []
@@ -24,20 +29,50 @@ abbrev pub name_line : List ℕ → List ℕ → List ℕ
 name_line words name = words_and_name words name ++ line_end
 
 -- formula
--- what a capture without a frame looks like
-abbrev pub look_text : Option Look → List ℕ
-look_text None = []
-look_text (Some Unknown) = []
-look_text (Some Empty) = codes " is empty"
-look_text (Some look) = codes " looks like " ++ look_name look
+-- a capture that is dated near the others
+abbrev pub undated_line : List ℕ → List ℕ
+undated_line name = words_and_name (codes " undated ") name ++ codes ": dated near the others\n"
+
+-- table
+-- the command that unpacks a file that looks so, before its name
+abbrev pub unpacker : Look → List ℕ
+unpacker Gzip = codes "gzip -dc"
+unpacker Bzip2 = codes "bzip2 -dc"
+unpacker Xz = codes "xz -dc"
+unpacker Zip = codes "unzip -p"
+unpacker look = []
+
+-- formula
+-- a command that unpacks a file of this name to another one
+abbrev pub unpacking_by : List ℕ → List ℕ → List ℕ
+unpacking_by command name =
+    codes "; unpack it: " ++ command ++ words_and_name (codes " ") name ++ words_and_name (codes " >") name ++ codes ".rtcm"
+
+-- formula
+-- the same, if there is such a command
+abbrev pub unpacking : List ℕ → List ℕ → List ℕ
+unpacking command name = if length command == 0 then [] else unpacking_by command name
+
+-- formula
+-- what a capture looks like, and how it is unpacked
+abbrev pub looks_like : List ℕ → Look → List ℕ
+looks_like name look = codes " looks like " ++ look_name look ++ unpacking (unpacker look) name
+
+-- formula
+-- the same of a capture without a frame, if it is known
+abbrev pub look_text : List ℕ → Option Look → List ℕ
+look_text name None = []
+look_text name (Some Unknown) = []
+look_text name (Some Empty) = codes " is empty"
+look_text name (Some look) = looks_like name look
 
 abbrev pub capture_line : List ℕ → List ℕ → Option Look → List ℕ
-capture_line words name look = words_and_name words name ++ look_text look ++ line_end
+capture_line words name look = words_and_name words name ++ look_text name look ++ line_end
 
 -- formula
 -- words, a message number and its count; a count of 0 has no line
 abbrev pub count_line_of : List ℕ → ℕ → ℕ → List ℕ
-count_line_of words number count = if count == 0 then [] else words ++ decimal number ++ codes " " ++ decimal count ++ line_end
+count_line_of words number count = if count == 0 then [] else words ++ decimal number ++ codes ", " ++ decimal count ++ codes " messages\n"
 
 -- formula
 -- a line for each of so many message numbers from a first one, with how many such messages were not read
@@ -51,7 +86,7 @@ unread_lines_from words ss first count = flat_map (unread_line words ss) (range_
 -- GPS observations that are not read: 1001 to 1003, and MSM 1071 to 1073
 -- Source: RTCM 10403.3, message types
 unfoldable pub unread_gps : List CaptureSurvey → List ℕ
-unread_gps ss = unread_lines_from (codes " untaken GPS ") ss 1001 3 ++ unread_lines_from (codes " untaken GPS ") ss 1071 3
+unread_gps ss = unread_lines_from (codes " not in the file: GPS ") ss 1001 3 ++ unread_lines_from (codes " not in the file: GPS ") ss 1071 3
 
 -- table
 -- observations of GLONASS: 1009 to 1012, and MSM 1081 to 1087; of Galileo: MSM 1091 to 1097; of SBAS: MSM
@@ -59,16 +94,16 @@ unread_gps ss = unread_lines_from (codes " untaken GPS ") ss 1001 3 ++ unread_li
 -- Source: RTCM 10403.3, message types
 unfoldable pub unread_glonass_to_sbas : List CaptureSurvey → List ℕ
 unread_glonass_to_sbas ss =
-    unread_lines_from (codes " untaken GLONASS ") ss 1009 4 ++ unread_lines_from (codes " untaken GLONASS ") ss 1081 7
-    ++ unread_lines_from (codes " untaken Galileo ") ss 1091 7 ++ unread_lines_from (codes " untaken SBAS ") ss 1101 7
+    unread_lines_from (codes " not in the file: GLONASS ") ss 1009 4 ++ unread_lines_from (codes " not in the file: GLONASS ") ss 1081 7
+    ++ unread_lines_from (codes " not in the file: Galileo ") ss 1091 7 ++ unread_lines_from (codes " not in the file: SBAS ") ss 1101 7
 
 -- table
 -- observations of QZSS: MSM 1111 to 1117; of BeiDou: MSM 1121 to 1127; of NavIC: MSM 1131 to 1137
 -- Source: RTCM 10403.3, message types
 unfoldable pub unread_qzss_to_navic : List CaptureSurvey → List ℕ
 unread_qzss_to_navic ss =
-    unread_lines_from (codes " untaken QZSS ") ss 1111 7 ++ unread_lines_from (codes " untaken BeiDou ") ss 1121 7
-    ++ unread_lines_from (codes " untaken NavIC ") ss 1131 7
+    unread_lines_from (codes " not in the file: QZSS ") ss 1111 7 ++ unread_lines_from (codes " not in the file: BeiDou ") ss 1121 7
+    ++ unread_lines_from (codes " not in the file: NavIC ") ss 1131 7
 
 -- formula
 -- all observations that are not read
@@ -80,16 +115,39 @@ all_unread ss = unread_gps ss ++ unread_glonass_to_sbas ss ++ unread_qzss_to_nav
 abbrev pub msm_line : MsmKind → List CaptureSurvey → ℕ → MsmKind → List ℕ
 msm_line taken ss station kind =
     if number_of_kind kind == number_of_kind taken then [] else
-    count_line_of (codes " untaken GPS ") (number_of_kind kind) (messages_in_captures ss station kind)
+    count_line_of (codes " not in the file: GPS ") (number_of_kind kind) (messages_in_captures ss station kind)
 
 unfoldable pub msm_lines : MsmKind → List CaptureSurvey → ℕ → List ℕ
 msm_lines taken ss station =
     msm_line taken ss station Msm4 ++ msm_line taken ss station Msm5 ++ msm_line taken ss station Msm6 ++ msm_line taken ss station Msm7
 
 -- formula
--- a station with observations
-abbrev pub observed_line : List CaptureSurvey → ℕ → List ℕ
-observed_line ss station = if list_any (observes station) ss then codes " station " ++ decimal station ++ line_end else []
+-- the Doppler of the messages of an MSM
+abbrev pub doppler_of : MsmKind → List CaptureSurvey → ℕ → List ℕ
+doppler_of kind ss station = count_line_of (codes " not in the file: Doppler of ") (number_of_kind kind) (messages_in_captures ss station kind)
 
-unfoldable pub observed_lines : List CaptureSurvey → List ℕ
-observed_lines ss = flat_map (observed_line ss) (range_with_len 0 4096)
+-- formula
+-- 1075 and 1077 have Doppler
+abbrev pub doppler_line : MsmKind → List CaptureSurvey → ℕ → List ℕ
+doppler_line Msm4 ss station = []
+doppler_line Msm6 ss station = []
+doppler_line kind ss station = doppler_of kind ss station
+
+-- formula
+-- a first epoch that a message tells, if it can be written
+unfoldable pub date_line : Told → List ℕ → List ℕ
+date_line t name =
+    if nat_lt LAST_MS t.first then [] else codes " " ++ time_text t.first ++ date_message_text t.message ++ name_line (codes " in ") name
+
+-- formula
+-- a number of epochs
+abbrev pub epochs_text : ℕ → List ℕ
+epochs_text epochs = codes ": " ++ decimal epochs ++ codes " epochs\n"
+
+-- formula
+-- a station with observations in a capture
+abbrev pub station_line : CaptureSurvey → ℕ → List ℕ → List ℕ
+station_line s station name =
+    if observes station s then
+    codes " station " ++ decimal station ++ words_and_name (codes " in ") name ++ epochs_text (epochs_heard (station_in station s))
+    else []

@@ -15,7 +15,7 @@ use Rattle.rtk_plan.specs.declared.station_capture.StationCapture.{StationCaptur
 use Rattle.rtk_plan.specs.declared.reach.Base.{Base}
 use Rattle.rtk_plan.specs.declared.reach.Base.TheVariants.{Given, Told}
 use Rattle.rtk_plan.specs.StationCaptures.{capture_of}
-use Rattle.rtk_plan.specs.Values.{epochs_in_captures, codes_in_captures}
+use Rattle.rtk_plan.specs.Values.{most_epochs, codes_in_captures}
 use Rattle.rtk_plan.specs.declared.wanted.Wanted.{Wanted}
 
 -- the station that is named, if it has observations; else the only one that has
@@ -23,10 +23,10 @@ abbrev pub IsChosenStation : List CaptureSurvey → Option ℕ → ℕ → Type 
 IsChosenStation ss None station = IsOnlyObserved ss station
 IsChosenStation ss (Some named) station = (station ≡ named) × IsObservedStation ss station
 
--- the MSM that is named; else the one of which the station has most epochs with a value
-abbrev pub msm_chosen : Option MsmKind → List CaptureSurvey → ℕ → MsmKind
-msm_chosen None ss station = proposed (epochs_in_captures ss station)
-msm_chosen (Some named) ss station = named
+-- the MSM that is named; else the one of which the station has most epochs with a value on one of these links
+abbrev pub msm_chosen : Option MsmKind → List CaptureSurvey → List (List ℕ) → ℕ → MsmKind
+msm_chosen None ss links station = proposed (most_epochs ss links station)
+msm_chosen (Some named) ss links station = named
 
 -- the codes that are named; else all of which the station has a value
 abbrev pub codes_chosen : {A : Type 0} → Option (Vec Code A) → List CaptureSurvey → ℕ → MsmKind → List Code
@@ -72,11 +72,11 @@ IsNearOf given cs near =
 abbrev pub captures_of : List CaptureSurvey → ℕ → List StationCapture
 captures_of ss station = map (capture_of station) ss
 
--- the setup of a conversion of captures with these surveys, by these words and at this time of making: each
--- value is named or found
-pub record IsSetupFor (ss : List CaptureSurvey) (w : Wanted) (made : ℕ) (s : SetupView) : Type 0 where
+-- the setup of a conversion of captures with these surveys on these links, by these words and at this time of
+-- making: each value is named or found
+pub record IsSetupFor (ss : List CaptureSurvey) (links : List (List ℕ)) (w : Wanted) (made : ℕ) (s : SetupView) : Type 0 where
   pub station : IsChosenStation ss w.station s.station
-  pub msm : s.msm ≡ msm_chosen w.msm ss s.station
+  pub msm : s.msm ≡ msm_chosen w.msm ss links s.station
   pub listed : s.head.listed ≡ codes_chosen w.codes ss s.station s.msm
   pub marker : s.head.marker ≡ marker_chosen w.marker s.station
   pub made_at : s.head.made ≡ made

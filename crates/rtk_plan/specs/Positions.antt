@@ -1,5 +1,5 @@
 -- Where the captures say that the station is (this project's rule).
-use Rattle.std.specs.Prelude.{ℕ, Bool, false, List, map, Option, None, Some, codes, is_some, [], if◌then◌else◌}
+use Rattle.std.specs.Prelude.{ℕ, Bool, false, List, map, Option, None, Some, codes, [], if◌then◌else◌}
 use Rattle.std.specs.List.{list_any}
 use Rattle.rtk_plan.specs.Points.{are_far}
 use Rattle.rtk_plan.specs.declared.station_capture.StationCapture.{StationCapture}
@@ -28,13 +28,10 @@ some_apart points others = list_any (λ p. list_any (are_points_apart p) others)
 abbrev pub some_are_far : List StationCapture → Bool
 some_are_far cs = some_apart (points_in cs) (points_in cs)
 
--- ---- captures without one
-
-abbrev pub has_point : StationCapture → Bool
-has_point c = is_some (point_in c)
+-- ---- no position
 
 -- formula
--- if no capture has a reference point of the station, the header of the file has zeros
-unfoldable pub no_position_line : List StationCapture → List ℕ
-no_position_line cs =
-    if list_any has_point cs then [] else codes " no-position: no 1005 or 1006 came, and the header has zeros\n"
+-- a header without a position has zeros
+unfoldable pub no_position_line : Bool → List ℕ
+no_position_line has_position =
+    if has_position then [] else codes " no-position: no 1005 or 1006 came in time, and the header has zeros\n"

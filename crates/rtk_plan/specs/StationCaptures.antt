@@ -1,5 +1,5 @@
 -- What a capture tells of a station, by its survey (this project's rule).
-use Rattle.std.specs.Prelude.{ℕ, ◌==◌, Bool, false, not, List, [], ◌∷◌, length, Option, None, Some, if◌then◌else◌}
+use Rattle.std.specs.Prelude.{ℕ, ◌+◌, ◌==◌, Bool, false, not, is_some, min, List, [], ◌∷◌, length, Option, None, Some, if◌then◌else◌}
 use Rattle.std.specs.BTreeMap.{get}
 use Rattle.std.specs.List.{list_any}
 use Rattle.std.specs.Ordering.{nat_cmp}
@@ -35,6 +35,13 @@ abbrev pub has_observation : Option StationSurvey → Bool
 has_observation None = false
 has_observation (Some t) = list_any is_marked t.signals.codes.marks
 
+-- formula
+-- how many epochs the observation messages of the station have: one more than their time changes; the count
+-- stays at the greatest value of a u64
+abbrev pub epochs_heard : Option StationSurvey → ℕ
+epochs_heard None = 0
+epochs_heard (Some t) = if is_some t.times.first then min (t.times.changes + 1) 18_446_744_073_709_551_615 else 0
+
 -- ---- its epochs, if the capture was surveyed for it
 
 abbrev pub is_station : ℕ → Option ℕ → Bool
@@ -52,6 +59,15 @@ dates_in n s = dates_for n s.contents.target
 -- the first epochs that messages tell and that count, each that differs
 abbrev pub told_in : ℕ → CaptureSurvey → List Told
 told_in n s = counting (dates_in n s).told
+
+-- the first epochs that ephemerides tell, if messages of the station tell some, which count
+abbrev pub beside_own : List Told → List Told → List Told
+beside_own [] weeks = []
+beside_own (x ∷ xs) weeks = weeks
+
+-- the first epochs that messages tell and that do not count
+abbrev pub passed_over_in : ℕ → CaptureSurvey → List Told
+passed_over_in n s = beside_own (dates_in n s).told.own.items (dates_in n s).told.weeks.items
 
 abbrev pub first_told : List Told → Option Told
 first_told [] = None

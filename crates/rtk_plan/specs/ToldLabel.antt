@@ -1,9 +1,25 @@
 -- The label of what messages told of a station (this project's rule): a field is the text that was told last, if it fits.
-use Rattle.std.specs.Prelude.{ℕ, ◌-◌, ◌==◌, Bool, false, not, ◌&&◌, ◌||◌, nat_eq, nat_le, nat_lt, List, [], length, get_or, codes, Option, None, Some, if◌then◌else◌}
-use Rattle.std.specs.List.{list_all, starts_with}
+use Rattle.std.specs.Prelude.{ℕ, ◌-◌, ◌==◌, Bool, false, not, ◌&&◌, ◌||◌, nat_eq, nat_le, nat_lt, List, [], ◌∷◌, length, take, get_or, codes, Option, None, Some, if◌then◌else◌}
+use Rattle.std.specs.List.{list_all, starts_with, suffix_len}
 use Rattle.arrayvec.specs.ArrayVec.{ArrayVec}
 use Rattle.rtk_survey.specs.declared.equipment.Equipment.{Equipment}
 use Rattle.rtk_label.specs.Labelled.{LabelView}
+
+-- constant
+abbrev pub is_blank : ℕ → Bool
+is_blank byte = byte == 32
+
+-- formula
+-- a text without the blanks at its begin, at its end, and at both
+abbrev pub without_leading : List ℕ → List ℕ
+without_leading [] = []
+without_leading (x ∷ xs) = if is_blank x then without_leading xs else x ∷ xs
+
+abbrev pub without_trailing : List ℕ → List ℕ
+without_trailing text = take (length text - suffix_len is_blank text) text
+
+abbrev pub trimmed : List ℕ → List ℕ
+trimmed text = without_trailing (without_leading text)
 
 -- constant
 -- from blank to tilde
@@ -27,12 +43,16 @@ is_null_antenna text =
 
 abbrev pub is_null_told : Option (ArrayVec ℕ) → Bool
 is_null_told None = false
-is_null_told (Some text) = is_null_antenna text.items
+is_null_told (Some text) = is_null_antenna (trimmed text.items)
 
 -- formula
--- the field of a text, blank if it does not fit
+-- the field of a text that is trimmed, blank if it does not fit
+abbrev pub field_if_fits : List ℕ → List ℕ
+field_if_fits text = if fits_field text then text else []
+
+-- the field of a text: senders pad it with blanks
 abbrev pub field_of : List ℕ → List ℕ
-field_of text = if fits_field text then text else []
+field_of text = field_if_fits (trimmed text)
 
 abbrev pub field_told : Option (ArrayVec ℕ) → List ℕ
 field_told None = []

@@ -1,5 +1,5 @@
 -- The values of the conversion of a station, by the surveys of its captures (this project's rule).
-use Rattle.std.specs.Prelude.{ℕ, ◌+◌, ◌-◌, ◌==◌, Bool, false, List, [], ◌∷◌, filter, Option, None, Some, if◌then◌else◌}
+use Rattle.std.specs.Prelude.{ℕ, ◌+◌, ◌-◌, ◌==◌, Bool, false, List, [], ◌∷◌, filter, slice_get, max, Option, None, Some, if◌then◌else◌}
 use Rattle.std.specs.List.{list_any, sum_by}
 use Rattle.rtk_message.specs.declared.msm_kind.MsmKind.{MsmKind}
 use Rattle.rtk_obs.specs.declared.code.Code.{Code}
@@ -39,13 +39,30 @@ joined_epochs a b = record {
   count = shown_count (a.count + (b.count - is_same_epoch a.last b.first));
 }
 
-abbrev pub epochs_after : Epochs → ℕ → MsmKind → List CaptureSurvey → Epochs
-epochs_after e n kind [] = e
-epochs_after e n kind (s ∷ ss) = epochs_after (joined_epochs e (epochs_of_station kind (station_in n s))) n kind ss
+abbrev pub epochs_of_capture : ℕ → MsmKind → Option CaptureSurvey → Epochs
+epochs_of_capture n kind None = no_epochs
+epochs_of_capture n kind (Some s) = epochs_of_station kind (station_in n s)
 
--- how many epochs of an MSM have a value in captures, one after another
-abbrev pub epochs_in_captures : List CaptureSurvey → ℕ → MsmKind → ℕ
-epochs_in_captures ss n kind = (epochs_after no_epochs n kind ss).count
+-- the epochs of captures, and those of captures at these places, one after another
+abbrev pub epochs_after : Epochs → ℕ → MsmKind → List CaptureSurvey → List ℕ → Epochs
+epochs_after e n kind ss [] = e
+epochs_after e n kind ss (place ∷ places) =
+    epochs_after (joined_epochs e (epochs_of_capture n kind (slice_get ss place))) n kind ss places
+
+-- how many epochs of an MSM have a value in the captures of a link
+abbrev pub epochs_in_link : List CaptureSurvey → ℕ → MsmKind → List ℕ → ℕ
+epochs_in_link ss n kind link = (epochs_after no_epochs n kind ss link).count
+
+-- formula
+-- the most epochs of an MSM that a link has, if one before them has so many
+abbrev pub most_after : ℕ → List CaptureSurvey → ℕ → MsmKind → List (List ℕ) → ℕ
+most_after most ss n kind [] = most
+most_after most ss n kind (link ∷ links) = most_after (max most (epochs_in_link ss n kind link)) ss n kind links
+
+-- how many epochs of an MSM have a value in the link that has most of them; copies on several links do not
+-- add up
+abbrev pub most_epochs : List CaptureSurvey → List (List ℕ) → ℕ → MsmKind → ℕ
+most_epochs ss links n kind = most_after 0 ss n kind links
 
 -- ---- codes
 

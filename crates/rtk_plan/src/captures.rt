@@ -1,8 +1,11 @@
 //! The captures that were read, and how a refusal lists them.
 
-use crate::lists::{put_capture_line, put_date_line, put_name_line, put_stations, put_unread};
-use crate::station_capture::{StationCapture, told_in};
-use rtk_survey::CaptureSurvey;
+use crate::chosen_station::STATIONS;
+use crate::lists::{
+    put_capture_line, put_date_line, put_held, put_name_line, put_reach_line, put_station_line,
+};
+use crate::station_capture::{StationCapture, epochs_heard, told_in};
+use rtk_survey::{CaptureSurvey, Placed};
 use std::alloc::{AllocError, Global};
 
 /// The captures that were read, as they were given.
@@ -19,6 +22,13 @@ pub(crate) struct StationCaptures<'c, 's, 'n> {
     pub(crate) all: Captures<'s, 'n>,
     pub(crate) station: u16,
     pub(crate) captures: &'c [StationCapture],
+}
+
+/// A line for each number of messages that captures have.
+pub(crate) fn list_held(alloc: Global, surveys: &[CaptureSurvey]) -> Result<Vec<u8>, AllocError> {
+    let mut lines = Vec::new(alloc);
+    put_held(&mut lines, surveys)?;
+    Ok(lines)
 }
 
 impl<'n> Captures<'_, 'n> {
@@ -40,17 +50,20 @@ impl<'n> Captures<'_, 'n> {
         Ok(lines)
     }
 
-    /// A line for each station with observations.
-    pub(crate) fn list_stations(&self, alloc: Global) -> Result<Vec<u8>, AllocError> {
-        let mut lines = Vec::new(alloc);
-        put_stations(&mut lines, self.surveys)?;
-        Ok(lines)
+    // A line for each capture that has observations of the station.
+    fn put_station_lines(&self, lines: &mut Vec<u8>, station: u16) -> Result<(), AllocError> {
+        for (place, survey) in self.surveys.iter().enumerate() {
+            put_station_line(lines, survey, station, self.name(place))?;
+        }
+        Ok(())
     }
 
-    /// A line for each number of observations that are not read.
-    pub(crate) fn list_unread(&self, alloc: Global) -> Result<Vec<u8>, AllocError> {
+    /// A line for each station with observations and each capture that has them.
+    pub(crate) fn list_stations(&self, alloc: Global) -> Result<Vec<u8>, AllocError> {
         let mut lines = Vec::new(alloc);
-        put_unread(&mut lines, self.surveys)?;
+        for station in 0..STATIONS {
+            self.put_station_lines(&mut lines, station)?;
+        }
         Ok(lines)
     }
 
@@ -100,6 +113,30 @@ impl StationCaptures<'_, '_, '_> {
         let mut lines = Vec::new(alloc);
         for place in 0..self.all.surveys.len() {
             self.put_differing(&mut lines, place)?;
+        }
+        Ok(lines)
+    }
+
+    // How many epochs of the station a capture has.
+    fn epochs(&self, place: usize) -> u64 {
+        match self.all.surveys.get(place) {
+            Some(survey) => epochs_heard(survey.contents.stations.get(&self.station)),
+            None => 0,
+        }
+    }
+
+    /// A line for each capture that has epochs, with the first and the last of them.
+    pub(crate) fn list_reaches(
+        &self,
+        alloc: Global,
+        placed: &[Option<Placed>],
+    ) -> Result<Vec<u8>, AllocError> {
+        let mut lines = Vec::new(alloc);
+        for (place, reach) in placed.iter().enumerate() {
+            if let Some(reach) = reach {
+                let epochs = self.epochs(place);
+                put_reach_line(&mut lines, reach, epochs, self.all.name(place))?;
+            }
         }
         Ok(lines)
     }

@@ -21,7 +21,8 @@ pub enum OnlyStation {
     Several,
 }
 
-fn observes(station: u16, survey: &CaptureSurvey) -> bool
+/// Has a capture an observation of the station?
+pub(crate) fn observes(station: u16, survey: &CaptureSurvey) -> bool
     ensures { result ≡ observes station survey.now }
 {
     has_observation(survey.contents.stations.get(&station))

@@ -174,27 +174,29 @@ fn are_out_of_reach(near: GpsMs, captures: &[StationCapture], placed: &[Option<P
 // The epochs of captures that are dated so.
 fn dating_by(
     alloc: Global,
-    captures: &[StationCapture],
+    captured: &StationCaptures<'_, '_, '_>,
     base: Base,
-    station: u16,
 ) -> Result<Dating, PlanFault>
-    ensures near { IfOk result (λ d. (reach : Placed) × IsReachOf base captures.now reach × (d.near ≡ second_of reach.first)) }
-    ensures placed { IfOk result (λ d. d.placed.items ≡ map (placed_if_any base) captures.now) }
-    ensures in_reach { IfOk result (λ d. some_out_of_reach d.near captures.now d.placed.items ≡ false) }
-    ensures refused { IfErr result (IfRefused (IsReachCause base captures.now)) }
+    ensures near { IfOk result (λ d. (reach : Placed) × IsReachOf base captured.now.captures.now reach
+        × (d.near ≡ second_of reach.first)) }
+    ensures placed { IfOk result (λ d. d.placed.items ≡ map (placed_if_any base) captured.now.captures.now) }
+    ensures in_reach { IfOk result (λ d. some_out_of_reach d.near captured.now.captures.now d.placed.items ≡ false) }
+    ensures refused { IfErr result (IfRefused (IsReachCause base captured.now.captures.now)) }
 {
+    let captures = captured.captures;
     let placed = place_captures(alloc, &base, captures)?;
     let Some(reach) = reach_of(placed.as_slice()) else {
         return refused(Refusal::NoObservation, Vec::new(alloc));
     };
     let near = moment(alloc, near_of(&reach))?;
     if are_out_of_reach(near, captures, placed.as_slice()) {
-        return refused(Refusal::TooLong, Vec::new(alloc));
+        let reaches = captured.list_reaches(alloc, placed.as_slice())?;
+        return refused(Refusal::TooLong, reaches);
     }
     let span = DatedSpan {
         from: moment(alloc, reach.from)?,
         until: moment(alloc, reach.until)?,
-        source: source_of(captures, base, station),
+        source: source_of(captures, base, captured.station),
     };
     Ok(Dating { placed, near, span })
 }
@@ -212,5 +214,5 @@ pub(crate) fn date_captures(
 {
     let captures = captured.captures;
     let base = base(alloc, captured, captures, near)?;
-    dating_by(alloc, captures, base, captured.station)
+    dating_by(alloc, captured, base)
 }

@@ -5,43 +5,116 @@ ghost use Rattle.rtk_plan.specs.KnownLines as spec;
 
 use crate::captures::Captures;
 use crate::few_phases::CapturePhases;
-use crate::lists::{put_capture_line, put_date_line, put_msms, put_name_line, put_unread};
+use crate::lists::{
+    put_capture_line, put_date_line, put_doppler, put_msms, put_name_line, put_undated_line,
+    put_unread,
+};
 use crate::planning::Plan;
 use crate::positions::put_no_position;
+use crate::span_line::{DateSource, DatedSpan, put_span};
+use crate::station_capture::{StationCapture, passed_over_in, span_in, told_in};
+use crate::texts_left_out::put_texts_left_out;
+use crate::written_file::WrittenFile;
 use rtk_convert::{Counts, Setup};
 use rtk_message::put_named;
 use rtk_obs::GpsMs;
-use rtk_survey::{CaptureEpochs, Span, Told, place};
+use rtk_survey::{CaptureEpochs, CaptureSurvey, Equipment, Span, Told, place};
 use std::alloc::{AllocError, Global};
 
-// What a capture with these epochs tells of its first one, if a conversion near this moment dates it
-// otherwise.
-fn told_otherwise(near: GpsMs, told: Option<Told>, span: Option<Span>) -> Option<Told>
-    ensures { result ≡ spec.told_otherwise near told span }
+// Is this another first epoch than a conversion near this moment gives a capture with these epochs?
+fn is_told_otherwise(near: GpsMs, told: &Told, span: &Span) -> bool
+    ensures { result ≡ spec.is_told_otherwise near span.now told.now }
 {
-    let told = told?;
     let epochs = CaptureEpochs {
         told: None,
-        span: span?,
+        span: *span,
     };
-    if told.first == place(near, &epochs).first {
-        None
-    } else {
-        Some(told)
-    }
+    told.first != place(near, &epochs).first
 }
 
-// Appends the date of the first capture that tells another one than the conversion gives it.
+// Appends a date, if it is another first epoch than a conversion near this moment gives the capture.
 fn put_other_date(
+    lines: &mut Vec<u8>,
+    near: GpsMs,
+    span: &Span,
+    name: &str,
+    told: &Told,
+) -> Result<(), AllocError>
+    ensures { OnOk result (lines.new.items ≡ lines.old.items ++ spec.other_date_line near span.now name.now told.now) }
+{
+    if !is_told_otherwise(near, told, span) {
+        return Ok(());
+    }
+    lines.extend_from_slice(b" other-date")?;
+    put_date_line(lines, told, name)
+}
+
+fn put_those_of(
+    lines: &mut Vec<u8>,
+    near: GpsMs,
+    span: &Span,
+    name: &str,
+    dates: &[Told],
+) -> Result<(), AllocError>
+    ensures { OnOk result (lines.new.items ≡ lines.old.items ++ spec.other_date_lines near span.now name.now dates.now) }
+{
+    for told in dates {
+        put_other_date(lines, near, span, name, told)?;
+    }
+    Ok(())
+}
+
+// Appends the dates of a capture that tell another first epoch than the conversion gives it: those by the
+// messages that date, and those by 1019 beside them.
+fn put_other_dates_of(
+    lines: &mut Vec<u8>,
+    survey: &CaptureSurvey,
+    setup: &Setup,
+    span: &Span,
+    name: &str,
+) -> Result<(), AllocError>
+    ensures { OnOk result (lines.new.items ≡ lines.old.items
+        ++ spec.other_dates setup.now.station setup.now.near span.now survey.now name.now) }
+{
+    let (station, near) = (setup.station(), setup.near());
+    put_those_of(lines, near, span, name, told_in(station, survey))?;
+    put_those_of(lines, near, span, name, passed_over_in(station, survey))
+}
+
+// Appends the dates of all captures that tell another first epoch than the conversion gives them.
+fn put_other_dates(
     lines: &mut Vec<u8>,
     captures: &Captures<'_, '_>,
     plan: &Plan,
 ) -> Result<(), AllocError> {
-    let near = plan.setup.near();
+    for (at, survey) in captures.surveys.iter().enumerate() {
+        let setup = &plan.setup;
+        if let Some(span) = span_in(setup.station(), survey) {
+            put_other_dates_of(lines, survey, setup, &span, captures.name(at))?;
+        }
+    }
+    Ok(())
+}
+
+// Has a capture epochs, and does it tell no date?
+fn is_undated(capture: &StationCapture) -> bool
+    ensures { result ≡ spec.is_undated capture.now }
+{
+    capture.span.is_some() && capture.told.is_none()
+}
+
+// Appends the captures that are dated near the others.
+fn put_undated(
+    lines: &mut Vec<u8>,
+    captures: &Captures<'_, '_>,
+    plan: &Plan,
+) -> Result<(), AllocError> {
+    if plan.span.source == DateSource::Words {
+        return Ok(());
+    }
     for (at, capture) in plan.captures.iter().enumerate() {
-        if let Some(told) = told_otherwise(near, capture.told, capture.span) {
-            lines.extend_from_slice(b" other-date")?;
-            return put_date_line(lines, &told, captures.name(at));
+        if is_undated(capture) {
+            put_undated_line(lines, captures.name(at))?;
         }
     }
     Ok(())
@@ -137,32 +210,84 @@ pub struct Known {
     last: Vec<u8>,
     /// How many epochs are kept open.
     window: usize,
+    /// By what the epochs are dated.
+    source: DateSource,
 }
 
-/// What a person should know of a conversion, a line each, only where it is so: no reference point of the
-/// station; a date that is told and does not count; codes with few phases; captures that are left out,
-/// that have no epoch or whose time falls; and observations that are not taken.
+/// What a person should know of a conversion, a line each, only where it is so: captures that are dated near the others; a date that is told and does not count; codes with few phases; texts that messages told and
+/// that a label does not have; captures that are left out, that have no epoch or whose time falls; and
+/// observations that are not taken.
 pub fn what_is_known(
     alloc: Global,
     captures: &Captures<'_, '_>,
     plan: &Plan,
+    told: &Equipment,
 ) -> Result<Known, AllocError> {
     let setup = &plan.setup;
     let surveys = captures.surveys;
     let mut first = Vec::new(alloc);
-    put_no_position(&mut first, plan.captures.as_slice())?;
-    put_other_date(&mut first, captures, plan)?;
+    put_undated(&mut first, captures, plan)?;
+    put_other_dates(&mut first, captures, plan)?;
     put_few_phases(&mut first, captures, setup)?;
+    put_texts_left_out(&mut first, told)?;
     let mut last = Vec::new(alloc);
     put_skipped(&mut last, captures, plan)?;
     put_epochs(&mut last, captures, plan)?;
     put_msms(&mut last, surveys, setup.station(), setup.msm())?;
+    put_doppler(&mut last, surveys, setup.station(), setup.msm())?;
     put_unread(&mut last, surveys)?;
     Ok(Known {
         first,
         last,
         window: setup.window(),
+        source: plan.span.source,
     })
+}
+
+// Appends the epochs of a file, and by what they are dated.
+fn put_span_of(
+    lines: &mut Vec<u8>,
+    file: &WrittenFile,
+    source: DateSource,
+) -> Result<(), AllocError> {
+    let Some(span) = file.span() else {
+        return Ok(());
+    };
+    put_span(
+        lines,
+        &DatedSpan {
+            from: span.from,
+            until: span.until,
+            source,
+        },
+    )
+}
+
+// Appends how many conflicts there were.
+#[tactic(auto, unfolding(crate::specs::KnownLines::conflicts_line))]
+fn put_conflicts(lines: &mut Vec<u8>, conflicts: u64) -> Result<(), AllocError>
+    ensures { OnOk result (lines.new.items ≡ lines.old.items ++ spec.conflicts_line conflicts) }
+{
+    if conflicts == 0 {
+        return Ok(());
+    }
+    put_named(lines, b" conflict ", conflicts)?;
+    lines.extend_from_slice(b": later copies differ from the first, which the file has\n")?;
+    Ok(())
+}
+
+/// Appends what a file has that was written: its epochs, its gaps, that it has no position, and how many
+/// conflicts the report has.
+pub fn put_file(
+    lines: &mut Vec<u8>,
+    known: &Known,
+    file: &WrittenFile,
+    conflicts: u64,
+) -> Result<(), AllocError> {
+    put_span_of(lines, file, known.source)?;
+    put_no_position(lines, file.has_position())?;
+    file.put_gaps(lines)?;
+    put_conflicts(lines, conflicts)
 }
 
 /// Appends what a person should know of a conversion that is done, with its late messages.

@@ -3,15 +3,13 @@
 //! If memory is refused, a first part of what is put may stand there.
 
 ghost use Rattle.std.specs.Prelude.{◌≡◌, ◌++◌, IfOk, OnOk};
-ghost use Rattle.rtk_plan.specs.CaptureEquipment.{equipment_in_captures};
 ghost use Rattle.rtk_plan.specs.LabelCommand as spec;
 
-use crate::capture_equipment::equipment_in_captures;
 use crate::said_command::put_word;
 use crate::told_label::parts_told;
 use rtk_label::LabelParts;
 use rtk_message::put_sh_quoted;
-use rtk_survey::CaptureSurvey;
+use rtk_survey::Equipment;
 use std::alloc::{AllocError, Global};
 
 // Appends the option of a field, if it is filled.
@@ -67,13 +65,11 @@ fn label_words(alloc: Global, parts: &LabelParts<'_>) -> Result<Vec<u8>, AllocEr
 pub fn put_label_command(
     alloc: Global,
     lines: &mut Vec<u8>,
-    surveys: &[CaptureSurvey],
-    station: u16,
+    told: &Equipment,
     file: Option<&str>,
 ) -> Result<(), AllocError>
-    ensures { OnOk result (lines.new.items ≡ lines.old.items ++ spec.label_text (equipment_in_captures surveys.now station) file.entry) }
+    ensures { OnOk result (lines.new.items ≡ lines.old.items ++ spec.label_text told.now file.entry) }
 {
-    let equipment = equipment_in_captures(surveys, station);
-    let words = label_words(alloc, &parts_told(&equipment))?;
+    let words = label_words(alloc, &parts_told(told))?;
     put_command(lines, words.as_slice(), file)
 }

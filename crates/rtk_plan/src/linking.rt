@@ -1,6 +1,6 @@
 //! The links of the captures that are converted.
 
-ghost use Rattle.std.specs.Prelude.{◌≡◌, ◌<◌, ◌≤◌, length, map, IfOk, IfErr};
+ghost use Rattle.std.specs.Prelude.{◌≡◌, ◌<◌, ◌≤◌, length, map, IfOk, IfErr, IsOk};
 ghost use Rattle.rtk_plan.specs.Causes.{IfRefused, AreTooMany};
 ghost use Rattle.rtk_plan.specs.Linking as spec;
 
@@ -81,27 +81,28 @@ fn last_captures(alloc: Global, links: &[Vec<usize>]) -> Result<Vec<usize>, Allo
     Ok(places)
 }
 
-// The links, if a conversion takes so many.
-fn few_links(
+/// The links are refused if there are more than a conversion takes.
+pub(crate) fn limit_links(
     alloc: Global,
     captured: &StationCaptures<'_, '_, '_>,
-    links: Vec<Vec<usize>>,
-) -> Result<Vec<Vec<usize>>, PlanFault>
-    ensures few { IfOk result (λ few. (few ≡ links) × (length few.items ≤ 16)) }
-    ensures refused { IfErr result (IfRefused (AreTooMany (spec.places_of links.items))) }
+    links: &[Vec<usize>],
+) -> Result<(), PlanFault>
+    ensures few { IsOk result → length links.now ≤ 16 }
+    ensures refused { IfErr result (IfRefused (AreTooMany (spec.places_of links.now))) }
 {
     if links.len() <= MOST_LINKS {
-        return Ok(links);
+        return Ok(());
     }
-    let places = last_captures(alloc, links.as_slice())?;
+    let places = last_captures(alloc, links)?;
     refused(
         Refusal::TooManyLinks,
         captured.all.list_names(alloc, places.as_slice())?,
     )
 }
 
-// The links that captures with these epochs join, however many.
-fn links_in_order(
+/// The links, however many: captures that follow one another are joined, and captures of the same time are
+/// links.
+pub(crate) fn links_found(
     alloc: Global,
     captures: &[StationCapture],
     placed: &[Option<Placed>],
@@ -111,22 +112,6 @@ fn links_in_order(
     let ordered = in_order(alloc, placed)?;
     let kept = kept_in_order(alloc, captures, ordered.as_slice())?;
     joined_links(alloc, kept.as_slice())
-}
-
-/// The links: captures that follow one another are joined, and captures of the same time are links.
-pub(crate) fn links_found(
-    alloc: Global,
-    captured: &StationCaptures<'_, '_, '_>,
-    placed: &[Option<Placed>],
-) -> Result<Vec<Vec<usize>>, PlanFault>
-    ensures links { IfOk result (λ links. spec.places_of links.items
-        ≡ spec.links_found captured.now.captures.now placed.now) }
-    ensures few { IfOk result (λ links. length links.items ≤ 16) }
-    ensures refused { IfErr result (IfRefused (AreTooMany
-        (spec.links_found captured.now.captures.now placed.now))) }
-{
-    let links = links_in_order(alloc, captured.captures, placed)?;
-    few_links(alloc, captured, links)
 }
 
 // A link for each of some captures.
@@ -143,15 +128,10 @@ fn links_of_one(alloc: Global, places: &[usize]) -> Result<Vec<Vec<usize>>, Allo
 /// Each capture that has something of the station is a link.
 pub(crate) fn links_as_given(
     alloc: Global,
-    captured: &StationCaptures<'_, '_, '_>,
-) -> Result<Vec<Vec<usize>>, PlanFault>
-    ensures links { IfOk result (λ links. spec.places_of links.items
-        ≡ spec.links_as_given captured.now.captures.now) }
-    ensures few { IfOk result (λ links. length links.items ≤ 16) }
-    ensures refused { IfErr result (IfRefused (AreTooMany
-        (spec.links_as_given captured.now.captures.now))) }
+    captures: &[StationCapture],
+) -> Result<Vec<Vec<usize>>, AllocError>
+    ensures { IfOk result (λ links. spec.places_of links.items ≡ spec.links_as_given captures.now) }
 {
-    let places = kept_captures(alloc, captured.captures)?;
-    let links = links_of_one(alloc, places.as_slice())?;
-    few_links(alloc, captured, links)
+    let places = kept_captures(alloc, captures)?;
+    links_of_one(alloc, places.as_slice())
 }

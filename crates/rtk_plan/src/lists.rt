@@ -5,14 +5,18 @@
 ghost use Rattle.std.specs.Prelude.{◌≡◌, ◌≤◌, ◌+◌, ◌++◌, OnOk};
 ghost use Rattle.rtk_plan.specs.Lists as spec;
 
-use crate::chosen_station::{STATIONS, is_observed};
+use crate::chosen_station::observes;
 use crate::said_command::put_time;
 use crate::span_line::put_message;
-use crate::values::{messages_in_captures, others_in_captures};
+use crate::station_capture::epochs_heard;
+use crate::values::{held_in_captures, messages_in_captures, others_in_captures};
 use rtk_message::{MsmKind, put_named, put_number, put_sh_quoted};
-use rtk_obs::GpsMs;
-use rtk_survey::{CaptureSurvey, Look, ReferencePoint, Told};
+use rtk_obs::{GpsMs, LAST_MS};
+use rtk_survey::{CaptureSurvey, Look, Placed, ReferencePoint, Told};
 use std::alloc::AllocError;
+
+/// How many message numbers there are: DF002 has 12 bits.
+const NUMBERS: u16 = 4096;
 
 // Appends a line feed.
 fn end_line(lines: &mut Vec<u8>) -> Result<(), AllocError>
@@ -38,17 +42,67 @@ pub(crate) fn put_name_line(lines: &mut Vec<u8>, words: &[u8], name: &str) -> Re
     end_line(lines)
 }
 
-// What a capture without a frame looks like.
-fn put_look(lines: &mut Vec<u8>, look: Option<Look>) -> Result<(), AllocError>
-    ensures { OnOk result (lines.new.items ≡ lines.old.items ++ spec.look_text look) }
+/// Appends the line of a capture that is dated near the others.
+pub(crate) fn put_undated_line(lines: &mut Vec<u8>, name: &str) -> Result<(), AllocError>
+    ensures { OnOk result (lines.new.items ≡ lines.old.items ++ spec.undated_line name.now) }
+{
+    put_words_and_name(lines, b" undated ", name)?;
+    lines.extend_from_slice(b": dated near the others\n")
+}
+
+// The command that unpacks a file that looks so, before its name; nothing if none does.
+fn unpacker(look: Look) -> &'static [u8]
+    ensures { result.now ≡ spec.unpacker look }
+{
+    match look {
+        Look::Gzip => b"gzip -dc",
+        Look::Bzip2 => b"bzip2 -dc",
+        Look::Xz => b"xz -dc",
+        Look::Zip => b"unzip -p",
+        _ => b"",
+    }
+}
+
+// Appends a command that unpacks a file of this name to another one.
+fn put_unpacking_by(lines: &mut Vec<u8>, command: &[u8], name: &str) -> Result<(), AllocError>
+    ensures { OnOk result (lines.new.items ≡ lines.old.items ++ spec.unpacking_by command.now name.now) }
+{
+    lines.extend_from_slice(b"; unpack it: ")?;
+    lines.extend_from_slice(command)?;
+    put_words_and_name(lines, b" ", name)?;
+    put_words_and_name(lines, b" >", name)?;
+    lines.extend_from_slice(b".rtcm")?;
+    Ok(())
+}
+
+// Appends the command that unpacks a file, if there is one.
+fn put_unpacking(lines: &mut Vec<u8>, command: &[u8], name: &str) -> Result<(), AllocError>
+    ensures { OnOk result (lines.new.items ≡ lines.old.items ++ spec.unpacking command.now name.now) }
+{
+    if command.len() == 0 {
+        return Ok(());
+    }
+    put_unpacking_by(lines, command, name)
+}
+
+// Appends what a capture looks like, and how it is unpacked.
+fn put_looks_like(lines: &mut Vec<u8>, name: &str, look: Look) -> Result<(), AllocError>
+    ensures { OnOk result (lines.new.items ≡ lines.old.items ++ spec.looks_like name.now look) }
+{
+    lines.extend_from_slice(b" looks like ")?;
+    lines.extend_from_slice(look.name())?;
+    put_unpacking(lines, unpacker(look), name)?;
+    Ok(())
+}
+
+// Appends what a capture without a frame looks like, if that is known.
+fn put_look(lines: &mut Vec<u8>, name: &str, look: Option<Look>) -> Result<(), AllocError>
+    ensures { OnOk result (lines.new.items ≡ lines.old.items ++ spec.look_text name.now look) }
 {
     match look {
         None | Some(Look::Unknown) => Ok(()),
         Some(Look::Empty) => lines.extend_from_slice(b" is empty"),
-        Some(look) => {
-            lines.extend_from_slice(b" looks like ")?;
-            lines.extend_from_slice(look.name())
-        }
+        Some(look) => put_looks_like(lines, name, look),
     }
 }
 
@@ -62,12 +116,12 @@ pub(crate) fn put_capture_line(
     ensures { OnOk result (lines.new.items ≡ lines.old.items ++ spec.capture_line words.now name.now look) }
 {
     put_words_and_name(lines, words, name)?;
-    put_look(lines, look)?;
+    put_look(lines, name, look)?;
     end_line(lines)
 }
 
 /// Appends a line of words, a message number and its count; a count of 0 has no line.
-pub(crate) fn put_count_line(
+fn put_count_line(
     lines: &mut Vec<u8>,
     words: &[u8],
     number: u16,
@@ -79,8 +133,8 @@ pub(crate) fn put_count_line(
         return Ok(());
     }
     put_named(lines, words, u64::from(number))?;
-    put_named(lines, b" ", count)?;
-    end_line(lines)
+    put_named(lines, b", ", count)?;
+    lines.extend_from_slice(b" messages\n")
 }
 
 // Appends a line for each number of messages that are not read, of so many numbers from a first one.
@@ -105,8 +159,8 @@ fn put_numbered(
 fn put_unread_gps(lines: &mut Vec<u8>, surveys: &[CaptureSurvey]) -> Result<(), AllocError>
     ensures { OnOk result (lines.new.items ≡ lines.old.items ++ spec.unread_gps surveys.now) }
 {
-    put_numbered(lines, surveys, b" untaken GPS ", 1001, 3)?;
-    put_numbered(lines, surveys, b" untaken GPS ", 1071, 3)?;
+    put_numbered(lines, surveys, b" not in the file: GPS ", 1001, 3)?;
+    put_numbered(lines, surveys, b" not in the file: GPS ", 1071, 3)?;
     Ok(())
 }
 
@@ -117,10 +171,10 @@ fn put_unread_glonass_to_sbas(
 ) -> Result<(), AllocError>
     ensures { OnOk result (lines.new.items ≡ lines.old.items ++ spec.unread_glonass_to_sbas surveys.now) }
 {
-    put_numbered(lines, surveys, b" untaken GLONASS ", 1009, 4)?;
-    put_numbered(lines, surveys, b" untaken GLONASS ", 1081, 7)?;
-    put_numbered(lines, surveys, b" untaken Galileo ", 1091, 7)?;
-    put_numbered(lines, surveys, b" untaken SBAS ", 1101, 7)?;
+    put_numbered(lines, surveys, b" not in the file: GLONASS ", 1009, 4)?;
+    put_numbered(lines, surveys, b" not in the file: GLONASS ", 1081, 7)?;
+    put_numbered(lines, surveys, b" not in the file: Galileo ", 1091, 7)?;
+    put_numbered(lines, surveys, b" not in the file: SBAS ", 1101, 7)?;
     Ok(())
 }
 
@@ -131,9 +185,9 @@ fn put_unread_qzss_to_navic(
 ) -> Result<(), AllocError>
     ensures { OnOk result (lines.new.items ≡ lines.old.items ++ spec.unread_qzss_to_navic surveys.now) }
 {
-    put_numbered(lines, surveys, b" untaken QZSS ", 1111, 7)?;
-    put_numbered(lines, surveys, b" untaken BeiDou ", 1121, 7)?;
-    put_numbered(lines, surveys, b" untaken NavIC ", 1131, 7)?;
+    put_numbered(lines, surveys, b" not in the file: QZSS ", 1111, 7)?;
+    put_numbered(lines, surveys, b" not in the file: BeiDou ", 1121, 7)?;
+    put_numbered(lines, surveys, b" not in the file: NavIC ", 1131, 7)?;
     Ok(())
 }
 
@@ -161,7 +215,7 @@ fn put_msm(
         return Ok(());
     }
     let count = messages_in_captures(surveys, station, msm);
-    put_count_line(lines, b" untaken GPS ", msm.number(), count)
+    put_count_line(lines, b" not in the file: GPS ", msm.number(), count)
 }
 
 /// Appends the lines of the MSM of a station that are not taken.
@@ -180,41 +234,117 @@ pub(crate) fn put_msms(
     Ok(())
 }
 
-// Appends the line of a station, if it has observations.
-fn put_station(
+/// Appends the line of a station in a capture, if it has observations there.
+pub(crate) fn put_station_line(
     lines: &mut Vec<u8>,
-    surveys: &[CaptureSurvey],
+    survey: &CaptureSurvey,
     station: u16,
+    name: &str,
 ) -> Result<(), AllocError>
-    ensures { OnOk result (lines.new.items ≡ lines.old.items ++ spec.observed_line surveys.now station) }
+    ensures { OnOk result (lines.new.items ≡ lines.old.items ++ spec.station_line survey.now station name.now) }
 {
-    if !is_observed(surveys, station) {
+    if !observes(station, survey) {
         return Ok(());
     }
     put_named(lines, b" station ", u64::from(station))?;
-    end_line(lines)
+    put_words_and_name(lines, b" in ", name)?;
+    put_epochs(lines, epochs_heard(survey.contents.stations.get(&station)))
 }
 
-/// Appends the lines of the stations with observations.
-pub(crate) fn put_stations(lines: &mut Vec<u8>, surveys: &[CaptureSurvey]) -> Result<(), AllocError>
-    ensures { OnOk result (lines.new.items ≡ lines.old.items ++ spec.observed_lines surveys.now) }
+// Appends a number of epochs, and ends the line.
+fn put_epochs(lines: &mut Vec<u8>, epochs: u64) -> Result<(), AllocError>
+    ensures { OnOk result (lines.new.items ≡ lines.old.items ++ spec.epochs_text epochs) }
 {
-    for station in 0..STATIONS {
-        put_station(lines, surveys, station)?;
+    put_named(lines, b": ", epochs)?;
+    lines.extend_from_slice(b" epochs\n")
+}
+
+/// Appends the line of the epochs of a capture, if they can be written.
+pub(crate) fn put_reach_line(
+    lines: &mut Vec<u8>,
+    reach: &Placed,
+    epochs: u64,
+    name: &str,
+) -> Result<(), AllocError> {
+    let (Some(from), Some(until)) = (GpsMs::new(reach.from), GpsMs::new(reach.until)) else {
+        return Ok(());
+    };
+    lines.push(b' ')?;
+    put_time(lines, from)?;
+    lines.extend_from_slice(b" until ")?;
+    put_time(lines, until)?;
+    put_words_and_name(lines, b" in ", name)?;
+    put_epochs(lines, epochs)
+}
+
+/// Appends a line for each number of messages that captures have.
+pub(crate) fn put_held(lines: &mut Vec<u8>, surveys: &[CaptureSurvey]) -> Result<(), AllocError> {
+    for number in 0..NUMBERS {
+        let count = held_in_captures(surveys, number);
+        put_count_line(lines, system_words(number), number, count)?;
     }
     Ok(())
 }
 
-/// Appends the line of a first epoch that a capture tells.
-pub(crate) fn put_date_line(
+// What messages of this number hold: observations of a system, or other things.
+fn system_words(number: u16) -> &'static [u8] {
+    match number {
+        1001..=1004 | 1071..=1077 => b" holds GPS ",
+        1009..=1012 | 1081..=1087 => b" holds GLONASS ",
+        1091..=1097 => b" holds Galileo ",
+        1101..=1107 => b" holds SBAS ",
+        1111..=1117 => b" holds QZSS ",
+        1121..=1127 => b" holds BeiDou ",
+        1131..=1137 => b" holds NavIC ",
+        _ => b" holds ",
+    }
+}
+
+// Appends the line of the Doppler of an MSM that is taken, if there is a message of it.
+fn put_doppler_of(
     lines: &mut Vec<u8>,
-    told: &Told,
-    name: &str,
-) -> Result<(), AllocError> {
-    let Some(first) = GpsMs::new(told.first) else {
+    surveys: &[CaptureSurvey],
+    station: u16,
+    taken: MsmKind,
+) -> Result<(), AllocError>
+    ensures { OnOk result (lines.new.items ≡ lines.old.items ++ spec.doppler_of taken surveys.now station) }
+{
+    let count = messages_in_captures(surveys, station, taken);
+    put_count_line(
+        lines,
+        b" not in the file: Doppler of ",
+        taken.number(),
+        count,
+    )
+}
+
+/// Appends a line if the MSM that is taken has Doppler, which no file has.
+pub(crate) fn put_doppler(
+    lines: &mut Vec<u8>,
+    surveys: &[CaptureSurvey],
+    station: u16,
+    taken: MsmKind,
+) -> Result<(), AllocError>
+    ensures { OnOk result (lines.new.items ≡ lines.old.items ++ spec.doppler_line taken surveys.now station) }
+{
+    match taken {
+        MsmKind::Msm4 | MsmKind::Msm6 => Ok(()),
+        MsmKind::Msm5 | MsmKind::Msm7 => put_doppler_of(lines, surveys, station, taken),
+    }
+}
+
+/// Appends the line of a first epoch that a capture tells, if it can be written.
+#[tactic(auto, unfolding(crate::specs::Lists::date_line))]
+pub(crate) fn put_date_line(lines: &mut Vec<u8>, told: &Told, name: &str) -> Result<(), AllocError>
+    ensures { OnOk result (lines.new.items ≡ lines.old.items ++ spec.date_line told.now name.now) }
+{
+    if LAST_MS < told.first {
         return Ok(());
+    }
+    let Some(first) = GpsMs::new(told.first) else {
+        unreachable!();
     };
-    lines.push(b' ')?;
+    lines.extend_from_slice(b" ")?;
     put_time(lines, first)?;
     put_message(lines, told.message)?;
     put_name_line(lines, b" in ", name)

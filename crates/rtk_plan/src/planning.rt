@@ -1,34 +1,34 @@
 //! What a conversion of captures is told, from what they tell and what words say.
 
-ghost use Rattle.std.specs.Prelude.{◌≡◌, ◌<◌, ◌≤◌, ℕ, List, None, Some, [], true, false, length, IfOk, IfErr, IsOk};
+ghost use Rattle.std.specs.Prelude.{◌≡◌, ◌<◌, ◌≤◌, None, Some, [], true, false, length, IfOk, IfErr, IsOk};
 ghost use Rattle.std.specs.List.{list_any};
 ghost use Rattle.std.specs.Option.{ForSome};
 ghost use Rattle.rtk_obs.specs.CivilText.{last_digits};
 ghost use Rattle.rtk_rinex.specs.Header.{IsCodeList};
-ghost use Rattle.rtk_plan.specs.Causes.{IfRefused, IsStationCause, IsEmptyCause, IsSetupCause, AreTooMany, IsCaptureCause, IsCauseOf, has_frames};
+ghost use Rattle.rtk_plan.specs.Causes.{IfRefused, IsStationCause, IsEmptyCause, IsSetupCause, IsCaptureCause, IsCauseOf, has_frames};
 ghost use Rattle.rtk_plan.specs.Kept.{empty_captures};
 ghost use Rattle.rtk_plan.specs.Linking.{places_of, AreLinksOf};
 ghost use Rattle.rtk_plan.specs.Positions.{some_are_far};
 ghost use Rattle.rtk_plan.specs.Plan.{IsChosenStation, msm_chosen, codes_chosen, marker_chosen, captures_of, IsNearOf, ArePlaced, IsInReach, IsSetupFor};
 ghost use Rattle.rtk_plan.specs.Values.{codes_in_captures};
 
-use crate::captures::{Captures, StationCaptures};
+use crate::captures::{Captures, StationCaptures, list_held};
 use crate::chosen_station::{OnlyStation, is_observed, only_station};
-use crate::dating::{Dating, date_captures};
+use crate::dating::date_captures;
 use crate::kept::empty_captures;
-use crate::linking::{links_as_given, links_found};
+use crate::linking::{limit_links, links_as_given, links_found};
 use crate::positions::agree_on_position;
 use crate::refusal::{PlanFault, Refusal, refused};
 use crate::span_line::DatedSpan;
 use crate::station_capture::{StationCapture, captures_of};
-use crate::values::{codes_in_captures, msm_in_captures};
+use crate::values::{codes_in_captures, msm_of_links};
 use crate::wanted::Wanted;
 use rtk_convert::{Reference, Setup, Station};
 use rtk_message::MsmKind;
 use rtk_obs::{Code, GpsMs};
 use rtk_rinex::{CreationTime, Head, Marker};
-use rtk_survey::CaptureSurvey;
-use std::alloc::Global;
+use rtk_survey::{CaptureSurvey, Placed};
+use std::alloc::{AllocError, Global};
 
 /// What a conversion of captures is told.
 #[derive(Drop)]
@@ -68,7 +68,9 @@ fn named_station(
         return Ok(station);
     }
     match only_station(captures.surveys) {
-        OnlyStation::None => refused(Refusal::NoObservation, captures.list_unread(alloc)?),
+        OnlyStation::None => {
+            refused(Refusal::NoObservation, list_held(alloc, captures.surveys)?)
+        }
         _ => refused(
             Refusal::NoStation { station },
             captures.list_stations(alloc)?,
@@ -94,7 +96,9 @@ fn station_to_convert(
         OnlyStation::Several => {
             refused(Refusal::SeveralStations, captures.list_stations(alloc)?)
         }
-        OnlyStation::None => refused(Refusal::NoObservation, captures.list_unread(alloc)?),
+        OnlyStation::None => {
+            refused(Refusal::NoObservation, list_held(alloc, captures.surveys)?)
+        }
     }
 }
 
@@ -135,7 +139,7 @@ fn codes_to_convert(
     }
     let codes = codes_in_captures(alloc, surveys, station, msm)?;
     if codes.is_empty() {
-        return refused(Refusal::NoCode, Vec::new(alloc));
+        return refused(Refusal::NoCode, list_held(alloc, surveys)?);
     }
     Ok(codes)
 }
@@ -173,12 +177,17 @@ fn head_of(station: u16, marker: &Option<Marker>, codes: &[Code], made: Creation
 }
 
 // The MSM that is converted.
-fn msm_to_convert(surveys: &[CaptureSurvey], wanted: Option<MsmKind>, station: u16) -> MsmKind
-    ensures { result ≡ msm_chosen wanted surveys.now station }
+fn msm_to_convert(
+    surveys: &[CaptureSurvey],
+    links: &[Vec<usize>],
+    wanted: Option<MsmKind>,
+    station: u16,
+) -> MsmKind
+    ensures { result ≡ msm_chosen wanted surveys.now (places_of links.now) station }
 {
     match wanted {
         Some(msm) => msm,
-        None => msm_in_captures(surveys, station),
+        None => msm_of_links(surveys, links, station),
     }
 }
 
@@ -186,6 +195,7 @@ fn msm_to_convert(surveys: &[CaptureSurvey], wanted: Option<MsmKind>, station: u
 fn setup_near(
     alloc: Global,
     surveys: &[CaptureSurvey],
+    links: &[Vec<usize>],
     wanted: &Wanted,
     made: CreationTime,
     station: u16,
@@ -194,11 +204,11 @@ fn setup_near(
     requires bound { station < 4096 }
     requires chosen { IsChosenStation surveys.now wanted.now.station station }
     requires near { IsNearOf wanted.now.near (captures_of surveys.now station) near }
-    ensures setup { IfOk result (IsSetupFor surveys.now wanted.now made) }
+    ensures setup { IfOk result (IsSetupFor surveys.now (places_of links.now) wanted.now made) }
     ensures station { IfOk result (λ setup. (setup.station ≡ station) × (setup.near ≡ near)) }
-    ensures refused { IfErr result (IfRefused (IsSetupCause surveys.now wanted.now station near)) }
+    ensures refused { IfErr result (IfRefused (IsSetupCause surveys.now (places_of links.now) wanted.now station near)) }
 {
-    let msm = msm_to_convert(surveys, wanted.msm, station);
+    let msm = msm_to_convert(surveys, links, wanted.msm, station);
     let codes = codes_to_convert(alloc, surveys, station, msm, &wanted.codes)?;
     let head = head_of(station, &wanted.marker, codes.as_slice(), made);
     let Ok(station) = Station::new(station) else {
@@ -210,25 +220,21 @@ fn setup_near(
     Ok(Setup::from_parts(station, near, head, wanted.window).with_msm(msm))
 }
 
-// The links of the captures.
-fn links_to_convert(
+// The links of the captures, however many.
+fn links_of_captures(
     alloc: Global,
-    captured: &StationCaptures<'_, '_, '_>,
+    captures: &[StationCapture],
     near: Option<Reference>,
-    dating: &Dating,
+    placed: &[Option<Placed>],
     as_given: bool,
-) -> Result<Vec<Vec<usize>>, PlanFault>
-    requires { ArePlaced near captured.now.captures.now dating.now.placed.items }
-    ensures links { IfOk result (λ links. AreLinksOf as_given near captured.now.captures.now (places_of links.items)) }
-    ensures few { IfOk result (λ links. length links.items ≤ 16) }
-    ensures refused { IfErr result (IfRefused (λ refusal. (links : List (List ℕ))
-        × AreLinksOf as_given near captured.now.captures.now links
-        × AreTooMany links refusal)) }
+) -> Result<Vec<Vec<usize>>, AllocError>
+    requires { ArePlaced near captures.now placed.now }
+    ensures { IfOk result (λ links. AreLinksOf as_given near captures.now (places_of links.items)) }
 {
     if as_given {
-        links_as_given(alloc, captured)
+        links_as_given(alloc, captures)
     } else {
-        links_found(alloc, captured, dating.placed.as_slice())
+        links_found(alloc, captures, placed)
     }
 }
 
@@ -266,7 +272,7 @@ fn plan_of_station(
     requires bound { captured.now.station < 4096 }
     requires chosen { IsChosenStation captured.now.all.surveys.now wanted.now.station captured.now.station }
     requires captures { captured.now.captures.now ≡ captures_of captured.now.all.surveys.now captured.now.station }
-    ensures setup { IfOk result (λ plan. IsSetupFor captured.now.all.surveys.now wanted.now made plan.setup) }
+    ensures setup { IfOk result (λ plan. IsSetupFor captured.now.all.surveys.now (places_of plan.links.items) wanted.now made plan.setup) }
     ensures station { IfOk result (λ plan. plan.setup.station ≡ captured.now.station) }
     ensures in_reach { IfOk result (λ plan. IsInReach wanted.now.near captured.now.captures.now plan.setup.near) }
     ensures links { IfOk result (λ plan. AreLinksOf as_given wanted.now.near captured.now.captures.now (places_of plan.links.items)) }
@@ -280,8 +286,23 @@ fn plan_of_station(
     let surveys = captured.all.surveys;
     let skipped = captures_to_skip(alloc, captured, skip_empty)?;
     let dating = date_captures(alloc, captured, wanted.near)?;
-    let setup = setup_near(alloc, surveys, wanted, made, captured.station, dating.near)?;
-    let links = links_to_convert(alloc, captured, wanted.near, &dating, as_given)?;
+    let links = links_of_captures(
+        alloc,
+        captured.captures,
+        wanted.near,
+        dating.placed.as_slice(),
+        as_given,
+    )?;
+    let setup = setup_near(
+        alloc,
+        surveys,
+        links.as_slice(),
+        wanted,
+        made,
+        captured.station,
+        dating.near,
+    )?;
+    limit_links(alloc, captured, links.as_slice())?;
     agree_unless(alloc, captured, as_given)?;
     Ok(Planned {
         setup,
@@ -302,7 +323,7 @@ pub fn plan_of(
     as_given: bool,
 ) -> Result<Plan, PlanFault>
     // What a plan has.
-    ensures setup { IfOk result (λ plan. IsSetupFor captures.now.surveys.now wanted.now made plan.setup) }
+    ensures setup { IfOk result (λ plan. IsSetupFor captures.now.surveys.now (places_of plan.links.items) wanted.now made plan.setup) }
     ensures captures { IfOk result (λ plan. plan.captures.items ≡ captures_of captures.now.surveys.now plan.setup.station) }
     ensures in_reach { IfOk result (λ plan. IsInReach wanted.now.near plan.captures.items plan.setup.near) }
     ensures links { IfOk result (λ plan. AreLinksOf as_given wanted.now.near plan.captures.items (places_of plan.links.items)) }

@@ -107,29 +107,15 @@ pub(crate) fn agree_on_position(
     }
 }
 
-// Has a capture a reference point of the station?
-fn has_point(capture: &StationCapture) -> bool
-    ensures { result ≡ spec.has_point capture.now }
-{
-    capture.point.is_some()
-}
-
-fn have_point(captures: &[StationCapture]) -> bool
-    ensures { result ≡ list_any spec.has_point captures.now }
-{
-    captures.iter().any(has_point)
-}
-
-/// Appends a line if no capture has a reference point of the station.
+/// Appends a line if the header has no position.
 #[tactic(auto, unfolding(crate::specs::Positions::no_position_line))]
-pub(crate) fn put_no_position(
-    lines: &mut Vec<u8>,
-    captures: &[StationCapture],
-) -> Result<(), AllocError>
-    ensures { OnOk result (lines.new.items ≡ lines.old.items ++ spec.no_position_line captures.now) }
+pub(crate) fn put_no_position(lines: &mut Vec<u8>, has_position: bool) -> Result<(), AllocError>
+    ensures { OnOk result (lines.new.items ≡ lines.old.items ++ spec.no_position_line has_position) }
 {
-    if have_point(captures) {
+    if has_position {
         return Ok(());
     }
-    lines.extend_from_slice(b" no-position: no 1005 or 1006 came, and the header has zeros\n")
+    lines.extend_from_slice(
+        b" no-position: no 1005 or 1006 came in time, and the header has zeros\n",
+    )
 }

@@ -33,17 +33,17 @@ pub enum Refusal {
     /// The messages of the captures tell dates that differ.
     #[error("the captures tell dates that differ; choose one by --near")]
     DatesDiffer,
-    /// Epochs lie outside the dates near which a conversion dates.
-    #[error("the epochs are not dated from 1980-01-13 to 2099-12-31; see --near")]
+    /// The first epoch lies outside the dates near which a conversion dates.
+    #[error("the first epoch is not dated from 1980-01-13 to 2099-12-31; choose a date by --near")]
     OutsideDates,
     /// No message tells a date.
-    #[error("the captures tell no date; give one, as in --near 2024-05-17T12:00:00")]
+    #[error("the captures tell no date; give one, as in --near GPS-TIME-WITHIN-HALF-A-WEEK")]
     NoDate,
     /// Epochs are more than half a week from the first one.
     #[error("the captures are longer than half a week; convert them in parts")]
     TooLong,
-    /// No code has a value in the messages that are converted.
-    #[error("no code has a value; see summary")]
+    /// The station has observations, but none in a 1004 or in the MSM that words choose.
+    #[error("neither a 1004 nor the MSM of --msm has a GPS observation; choose another MSM")]
     NoCode,
     /// More than 16 captures are of the same time.
     #[error("more than 16 captures are of the same time, and 16 links are taken")]

@@ -5,7 +5,7 @@ ghost use Rattle.std.specs.List.{list_any};
 ghost use Rattle.std.specs.Option.{option_copied};
 ghost use Rattle.rtk_plan.specs.StationCaptures as spec;
 
-use rtk_survey::{CaptureSurvey, Look, ReferencePoint, Span, StationSurvey, Told};
+use rtk_survey::{CaptureSurvey, Look, ReferencePoint, Span, StationSurvey, Tellings, Told};
 use std::alloc::{AllocError, Global};
 
 /// What a capture tells of a station. It has at most 200 bytes.
@@ -62,6 +62,18 @@ pub(crate) fn has_observation(station: Option<&StationSurvey>) -> bool
     }
 }
 
+/// How many epochs the observation messages of a station have: one more than their time changes.
+pub(crate) fn epochs_heard(station: Option<&StationSurvey>) -> u64
+    ensures { result ≡ spec.epochs_heard (option_copied station.entry) }
+{
+    match station {
+        Some(station) if station.times.first.is_some() => {
+            station.times.changes.saturating_add(1)
+        }
+        _ => 0,
+    }
+}
+
 /// Is this the station?
 pub(crate) fn is_station(station: u16, other: Option<u16>) -> bool
     ensures { result ≡ spec.is_station station other }
@@ -72,7 +84,8 @@ pub(crate) fn is_station(station: u16, other: Option<u16>) -> bool
     }
 }
 
-fn span_in(station: u16, survey: &CaptureSurvey) -> Option<Span>
+/// The epochs of a station in a capture, if it was surveyed for the station.
+pub(crate) fn span_in(station: u16, survey: &CaptureSurvey) -> Option<Span>
     ensures { result ≡ (spec.dates_in station survey.now).span }
 {
     match &survey.contents.target {
@@ -88,6 +101,29 @@ pub(crate) fn told_in(station: u16, survey: &CaptureSurvey) -> &[Told]
     match &survey.contents.target {
         Some(target) if is_station(station, target.dates.station) => {
             target.dates.capture.told.counting()
+        }
+        _ => &[],
+    }
+}
+
+// The first epochs that 1019 tell, if 1013 or 1029 of the station tell some, which count.
+fn beside_own(told: &Tellings) -> &[Told]
+    ensures { result.now ≡ spec.beside_own told.now.own.items told.now.weeks.items }
+{
+    if told.own.is_empty() {
+        return &[];
+    }
+    told.weeks.as_slice()
+}
+
+/// The first epochs that messages of a capture told of the station and that do not count: those by 1019
+/// beside 1013 or 1029 of the station.
+pub(crate) fn passed_over_in(station: u16, survey: &CaptureSurvey) -> &[Told]
+    ensures { result.now ≡ spec.passed_over_in station survey.now }
+{
+    match &survey.contents.target {
+        Some(target) if is_station(station, target.dates.station) => {
+            beside_own(&target.dates.capture.told)
         }
         _ => &[],
     }

@@ -1,14 +1,47 @@
 //! The label of what messages told of the station's antenna and receiver.
 
-ghost use Rattle.std.specs.Prelude.{◌≡◌, ◌<◌, List, None, true, false, get_or, IfOk};
-ghost use Rattle.std.specs.List.{list_all};
-ghost use Rattle.rtk_plan.specs.CaptureEquipment.{equipment_in_captures};
+ghost use Rattle.std.specs.Prelude.{◌≡◌, ◌<◌, ◌-◌, List, None, true, false, length, get_or, IfOk};
+ghost use Rattle.std.specs.List.{list_all, suffix_len};
 ghost use Rattle.rtk_plan.specs.ToldLabel as spec;
 
-use crate::capture_equipment::equipment_in_captures;
 use crate::wanted::Ways;
 use rtk_label::{Label, LabelParts};
-use rtk_survey::{CaptureSurvey, Equipment, Text};
+use rtk_survey::{Equipment, Text};
+
+// A text without the blanks at its begin.
+fn without_leading(text: &[u8]) -> &[u8]
+    ensures { result.now ≡ spec.without_leading text.now }
+{
+    let mut at = 0;
+    while at < text.len() && text[at] == b' ' {
+        at += 1;
+    }
+    &text[at..]
+}
+
+// The place behind the last byte of a text that is no blank.
+fn trailing_place(text: &[u8]) -> usize
+    ensures { result ≡ length text.now - suffix_len spec.is_blank text.now }
+{
+    let mut place = text.len();
+    while 0 < place && text[place - 1] == b' ' {
+        place -= 1;
+    }
+    place
+}
+
+fn without_trailing(text: &[u8]) -> &[u8]
+    ensures { result.now ≡ spec.without_trailing text.now }
+{
+    &text[..trailing_place(text)]
+}
+
+/// A text without the blanks at its begin and at its end.
+pub(crate) fn trimmed(text: &[u8]) -> &[u8]
+    ensures { result.now ≡ spec.trimmed text.now }
+{
+    without_trailing(without_leading(text))
+}
 
 fn is_printed(byte: u8) -> bool
     ensures { result ≡ spec.is_printed byte }
@@ -16,14 +49,15 @@ fn is_printed(byte: u8) -> bool
     0x20 <= byte && byte <= 0x7E
 }
 
-fn are_printed(text: &[u8]) -> bool
+/// Are all bytes printable ASCII?
+pub(crate) fn are_printed(text: &[u8]) -> bool
     ensures { result ≡ list_all spec.is_printed text.now }
 {
     text.iter().all(|byte| is_printed(*byte))
 }
 
-// Does a text fit the 20 columns of a field?
-fn fits_field(text: &[u8]) -> bool
+/// Does a text fit the 20 columns of a field?
+pub(crate) fn fits_field(text: &[u8]) -> bool
     ensures { result ≡ spec.fits_field text.now }
 {
     let len = text.len();
@@ -45,20 +79,28 @@ fn is_null_antenna(text: &[u8]) -> bool
         && byte_or_blank(text, 14) == b' '
 }
 
-fn is_null_told(text: &Option<Text>) -> bool
+/// Does the text that was told name an antenna that stands for none?
+pub(crate) fn is_null_told(text: &Option<Text>) -> bool
     ensures { result ≡ spec.is_null_told text.now }
 {
     match text {
-        Some(text) => is_null_antenna(text.as_slice()),
+        Some(text) => is_null_antenna(trimmed(text.as_slice())),
         None => false,
     }
 }
 
-// The field of a text, blank if it does not fit.
+// The field of a text that is trimmed, blank if it does not fit.
+fn field_if_fits(text: &[u8]) -> &[u8]
+    ensures { result.now ≡ spec.field_if_fits text.now }
+{
+    if fits_field(text) { text } else { b"" }
+}
+
+// The field of a text.
 fn field_of(text: &[u8]) -> &[u8]
     ensures { result.now ≡ spec.field_of text.now }
 {
-    if fits_field(text) { text } else { b"" }
+    field_if_fits(trimmed(text))
 }
 
 fn field_told(text: &Option<Text>) -> &[u8]
@@ -120,14 +162,10 @@ fn label_if_any(told: &Equipment) -> Option<Label>
     Some(label)
 }
 
-/// The label that the file of a station gets, if it is asked for and told.
-pub fn label_wanted(surveys: &[CaptureSurvey], station: u16, ways: &Ways<'_>) -> Option<Label>
-    ensures asked { ways.now.label ≡ true → result ≡ spec.label_if_any (equipment_in_captures surveys.now station) }
+/// The label that the file of a station gets that told this, if it is asked for and something fits.
+pub fn label_wanted(told: &Equipment, ways: &Ways<'_>) -> Option<Label>
+    ensures asked { ways.now.label ≡ true → result ≡ spec.label_if_any told.now }
     ensures not_asked { ways.now.label ≡ false → result ≡ None }
 {
-    if ways.label {
-        label_if_any(&equipment_in_captures(surveys, station))
-    } else {
-        None
-    }
+    if ways.label { label_if_any(told) } else { None }
 }

@@ -1,9 +1,10 @@
 //! The values of the conversion of a station, by the surveys of its captures.
 
-ghost use Rattle.std.specs.Prelude.{◌≡◌, IfOk};
+ghost use Rattle.std.specs.Prelude.{◌≡◌, slice_get, IfOk};
 ghost use Rattle.std.specs.List.{list_any};
 ghost use Rattle.std.specs.Option.{option_copied};
 ghost use Rattle.rtk_survey.specs.Proposal as proposal;
+ghost use Rattle.rtk_plan.specs.Linking.{places_of};
 ghost use Rattle.rtk_plan.specs.Values as spec;
 
 use rtk_message::MsmKind;
@@ -54,36 +55,64 @@ fn joined_epochs(before: Epochs, more: Epochs) -> Epochs
     }
 }
 
-// How many epochs of an MSM have a value in captures, one after another.
-fn epochs_in_captures(surveys: &[CaptureSurvey], station: u16, kind: MsmKind) -> u64
-    ensures { result ≡ spec.epochs_in_captures surveys.now station kind }
+// The epochs of an MSM that a capture at a place has of a station.
+fn epochs_of_capture(surveys: &[CaptureSurvey], station: u16, kind: MsmKind, place: usize) -> Epochs
+    ensures { result ≡ spec.epochs_of_capture station kind (slice_get surveys.now place) }
+{
+    match surveys.get(place) {
+        Some(survey) => epochs_of_station(kind, survey.contents.stations.get(&station)),
+        None => no_epochs(),
+    }
+}
+
+// How many epochs of an MSM have a value in the captures of a link, one after another.
+fn epochs_in_link(surveys: &[CaptureSurvey], station: u16, kind: MsmKind, link: &[usize]) -> u64
+    ensures { result ≡ spec.epochs_in_link surveys.now station kind link.now }
 {
     let mut epochs = no_epochs();
-    for survey in surveys {
-        let more = epochs_of_station(kind, survey.contents.stations.get(&station));
+    for place in link {
+        let more = epochs_of_capture(surveys, station, kind, *place);
         epochs = joined_epochs(epochs, more);
     }
     epochs.count
 }
 
-fn better_of(surveys: &[CaptureSurvey], station: u16, lesser: MsmKind, greater: MsmKind) -> MsmKind
-    ensures { result ≡ proposal.better_of (spec.epochs_in_captures surveys.now station) lesser greater }
+// How many epochs of an MSM have a value in the link that has most of them.
+fn most_epochs(surveys: &[CaptureSurvey], links: &[Vec<usize>], station: u16, kind: MsmKind) -> u64
+    ensures { result ≡ spec.most_epochs surveys.now (places_of links.now) station kind }
 {
-    let count = epochs_in_captures(surveys, station, greater);
-    if count == 0 || count < epochs_in_captures(surveys, station, lesser) {
+    let mut most = 0u64;
+    for link in links {
+        most = most.max(epochs_in_link(surveys, station, kind, link.as_slice()));
+    }
+    most
+}
+
+fn better_of(
+    surveys: &[CaptureSurvey],
+    links: &[Vec<usize>],
+    station: u16,
+    lesser: MsmKind,
+    greater: MsmKind,
+) -> MsmKind
+    ensures { result ≡ proposal.better_of (spec.most_epochs surveys.now (places_of links.now) station) lesser greater }
+{
+    let count = most_epochs(surveys, links, station, greater);
+    if count == 0 || count < most_epochs(surveys, links, station, lesser) {
         lesser
     } else {
         greater
     }
 }
 
-/// The MSM of which the station has most epochs with a value.
-pub(crate) fn msm_in_captures(surveys: &[CaptureSurvey], station: u16) -> MsmKind
-    ensures { result ≡ proposal.proposed (spec.epochs_in_captures surveys.now station) }
+/// The MSM of which the station has most epochs with a value: of each MSM the link counts that has most
+/// of them, so that copies of a capture on several links do not add up.
+pub(crate) fn msm_of_links(surveys: &[CaptureSurvey], links: &[Vec<usize>], station: u16) -> MsmKind
+    ensures { result ≡ proposal.proposed (spec.most_epochs surveys.now (places_of links.now) station) }
 {
-    let first = better_of(surveys, station, MsmKind::Msm4, MsmKind::Msm5);
-    let second = better_of(surveys, station, first, MsmKind::Msm6);
-    better_of(surveys, station, second, MsmKind::Msm7)
+    let first = better_of(surveys, links, station, MsmKind::Msm4, MsmKind::Msm5);
+    let second = better_of(surveys, links, station, first, MsmKind::Msm6);
+    better_of(surveys, links, station, second, MsmKind::Msm7)
 }
 
 // ---- codes
@@ -159,6 +188,38 @@ pub(crate) fn others_in_captures(surveys: &[CaptureSurvey], number: u16) -> u64
     let mut count = 0u64;
     for survey in surveys {
         count = count.saturating_add(count_of_number(&survey.contents.unread.others, number));
+    }
+    count
+}
+
+// How many messages of a number that is read captures have of a station.
+fn read_of_station(number: u16, station: &StationSurvey) -> u64 {
+    match number {
+        1004 => station.counts.obs_1004,
+        1005 => station.counts.arp_1005,
+        1006 => station.counts.arp_1006,
+        1074 => station.msm.msm4.messages,
+        1075 => station.msm.msm5.messages,
+        1076 => station.msm.msm6.messages,
+        1077 => station.msm.msm7.messages,
+        _ => 0,
+    }
+}
+
+// How many messages of a number that is read a capture has, of all stations.
+fn read_in_capture(survey: &CaptureSurvey, number: u16) -> u64 {
+    let mut count = 0u64;
+    for station in survey.contents.stations.values() {
+        count = count.saturating_add(read_of_station(number, station));
+    }
+    count
+}
+
+/// How many messages of a number captures have, whether they are read or not.
+pub(crate) fn held_in_captures(surveys: &[CaptureSurvey], number: u16) -> u64 {
+    let mut count = others_in_captures(surveys, number);
+    for survey in surveys {
+        count = count.saturating_add(read_in_capture(survey, number));
     }
     count
 }

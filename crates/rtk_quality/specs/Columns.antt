@@ -1,5 +1,5 @@
 -- Numbers in the columns of a table (this project's rule).
-use Rattle.std.specs.Prelude.{ℕ, List, flat_map, Option}
+use Rattle.std.specs.Prelude.{ℕ, ◌-◌, List, ◌∷◌, flat_map, Option}
 use Rattle.rtk_quality.specs.Forms.{padded, line_number}
 use Rattle.rtk_quality.specs.declared.form.Decimals.{Decimals}
 use Rattle.rtk_quality.specs.declared.columns.Cell.{Cell}
@@ -8,9 +8,9 @@ use Rattle.rtk_quality.specs.declared.columns.Cell.{Cell}
 abbrev pub column : ℕ → Decimals → Option ℕ → Cell
 column width decimals number = record { width = width; decimals = decimals; number = number }
 
--- a number at the right end of its column
+-- a number at the right end of its column, behind a blank at least
 abbrev pub cell_text : Cell → List ℕ
-cell_text c = padded c.width (line_number c.decimals c.number)
+cell_text c = 32 ∷ padded (c.width - 1) (line_number c.decimals c.number)
 
 -- numbers in their columns
 unfoldable pub cells_text : List Cell → List ℕ

@@ -10,7 +10,8 @@ use crate::form::{Decimals, put_line_number};
 use rtk_obs::{Civil, put_civil};
 use std::alloc::AllocError;
 
-/// A number in its column, which has this width, the blanks before it included.
+/// A number in its column, which has this width, the blanks before it included. One blank stands before a number that is wider, too,
+/// since two numbers without a blank between them can't be told apart.
 #[derive(Clone, Copy)]
 pub(crate) struct Cell {
     pub(crate) width: usize,
@@ -55,9 +56,10 @@ pub(crate) fn pad_from(text: &mut Vec<u8>, at: usize, width: usize) -> Result<()
 fn put_cell(text: &mut Vec<u8>, cell: Cell) -> Result<(), AllocError>
     ensures { OnOk result (text.new.items ≡ text.old.items ++ cell_text cell) }
 {
+    text.push(b' ')?;
     let at = text.len();
     put_line_number(text, cell.decimals, cell.number)?;
-    pad_from(text, at, cell.width)?;
+    pad_from(text, at, cell.width.saturating_sub(1))?;
     Ok(())
 }
 

@@ -1,4 +1,5 @@
 pub mod CaptureBytes
+pub mod Digests
 pub mod Fault
 pub mod Input
 pub mod Joined

@@ -53,6 +53,11 @@ fn is_free<R: Files>(rt: &R, name: &str, force: bool) -> Result<(), OutputFault>
     Ok(())
 }
 
+/// Has something this name?
+pub fn is_there<R: Files>(rt: &R, name: &str) -> bool {
+    fs::symlink_metadata(rt, name).is_ok()
+}
+
 // The name with `.part` behind it, and a number from the second one on.
 fn name_beside<R: AllocGlobal>(rt: &R, name: &str, number: u8) -> Result<String, AllocError> {
     if number == 0 {
@@ -149,8 +154,18 @@ fn give_name<R: Files>(rt: &R, beside: &str, name: &str, force: bool) -> Result<
     }
 }
 
-/// Gives a file that is whole its name. On any other ending no file is left. Once it has its name, the
-/// name beside is not ours any more.
+// Gives a file the permissions of the regular file that it replaces. Some file systems, as FAT, have none.
+fn take_permissions<R: Files, F: OpenFile>(rt: &R, file: &F, name: &str) {
+    let Ok(found) = fs::symlink_metadata(rt, name) else {
+        return;
+    };
+    if found.is_file() {
+        let _taken = file.set_permissions(found.permissions());
+    }
+}
+
+/// Gives a file that is whole its name. With `force` it gets the permissions of the file that it replaces.
+/// On any other ending no file is left. Once it has its name, the name beside is not ours any more.
 pub fn name_whole<R: Files, F: OpenFile + Drop>(
     rt: &R,
     file: F,
@@ -158,6 +173,9 @@ pub fn name_whole<R: Files, F: OpenFile + Drop>(
     name: &str,
     force: bool,
 ) -> Result<(), OutputFault> {
+    if force {
+        take_permissions(rt, &file, name);
+    }
     let named = match file.sync_all() {
         Ok(()) => give_name(rt, beside, name, force),
         Err(_) => Err(OutputFault::NotWritten),

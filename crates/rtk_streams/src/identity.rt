@@ -44,6 +44,14 @@ pub fn what_is_named<R: Files>(rt: &R, name: &str) -> Named {
     Named::File(Some(identity))
 }
 
+/// Has the file of this name more bytes than so many?
+pub fn is_longer<R: Files>(rt: &R, name: &str, bytes: u64) -> bool {
+    match fs::metadata(rt, name) {
+        Ok(found) => bytes < found.len(),
+        Err(_) => false,
+    }
+}
+
 /// The file to which standard output goes, if it is a regular one and the system tells.
 pub fn standard_output_file<R: Files>(rt: &R) -> Option<FileIdentity> {
     match what_is_named(rt, STANDARD_OUTPUT) {

@@ -22,6 +22,11 @@ abbrev pub is_other_text : Option (ArrayVec ℕ) → ArrayVec ℕ → Bool
 is_other_text None text = false
 is_other_text (Some last) text = not (pointwise nat_eq last.items text.items)
 
+-- a text that later messages told, if they did, is another one than the last
+abbrev pub is_other_if_told : Option (ArrayVec ℕ) → Option (ArrayVec ℕ) → Bool
+is_other_if_told last None = false
+is_other_if_told last (Some later) = is_other_text last later
+
 abbrev pub no_text : TextHistory
 no_text = record { last = None; changes = 0 }
 
@@ -32,6 +37,23 @@ with_text text t = record { last = Some text; changes = with_change (is_other_te
 abbrev pub with_text_if_any : Option (ArrayVec ℕ) → TextHistory → TextHistory
 with_text_if_any None t = t
 with_text_if_any (Some text) t = with_text text t
+
+-- a text is told no more: from now on it is empty, if it was told
+abbrev pub no_characters : ArrayVec ℕ
+no_characters = record { items = [] }
+
+abbrev pub without_told : Option (ArrayVec ℕ) → TextHistory → TextHistory
+without_told None t = t
+without_told (Some last) t = with_text no_characters t
+
+abbrev pub without_text : TextHistory → TextHistory
+without_text t = without_told t.last t
+
+-- formula
+-- the serial number of an antenna: a message without one keeps the number of before, but not of another antenna
+abbrev pub with_serial : Bool → Option (ArrayVec ℕ) → TextHistory → TextHistory
+with_serial is_other None t = if is_other then without_text t else t
+with_serial is_other (Some serial) t = with_text serial t
 
 -- a setup is another one than the last; the first differs from none
 abbrev pub is_other_setup : Option ℕ → ℕ → Bool
@@ -66,7 +88,7 @@ abbrev pub with_antenna : Antenna → Equipment → Equipment
 with_antenna a e =
     record e {
       antenna_type = with_text a.antenna_type e.antenna_type;
-      antenna_serial = with_text_if_any a.serial e.antenna_serial;
+      antenna_serial = with_serial (is_other_text e.antenna_type.last a.antenna_type) a.serial e.antenna_serial;
       antenna_setup = with_setup a.setup e.antenna_setup;
     }
 
@@ -96,13 +118,20 @@ equipment_of station (m ∷ before) =
 abbrev pub is_told : Equipment → Bool
 is_told e = is_some e.antenna_type.last
 
--- what was told last of a station by messages that came later
-abbrev pub with_later : Equipment → Equipment → Equipment
-with_later later e =
-    record {
+-- what was told last of the antenna of a station by messages that came later
+abbrev pub with_later_antenna : Equipment → Equipment → Equipment
+with_later_antenna later e =
+    record e {
       antenna_type = with_text_if_any later.antenna_type.last e.antenna_type;
-      antenna_serial = with_text_if_any later.antenna_serial.last e.antenna_serial;
+      antenna_serial =
+          with_serial (is_other_if_told e.antenna_type.last later.antenna_type.last) later.antenna_serial.last e.antenna_serial;
       antenna_setup = with_setup_if_any later.antenna_setup.last e.antenna_setup;
+    }
+
+-- what was told last of its receiver
+abbrev pub with_later_receiver : Equipment → Equipment → Equipment
+with_later_receiver later e =
+    record e {
       receiver_type = with_text_if_any later.receiver_type.last e.receiver_type;
       receiver_version = with_text_if_any later.receiver_version.last e.receiver_version;
       receiver_serial = with_text_if_any later.receiver_serial.last e.receiver_serial;

@@ -2,7 +2,7 @@
 use Rattle.std.specs.Prelude.{ℕ, ◌==◌, Bool, ◌&&◌, ◌||◌, nat_eq, nat_le, nat_lt, List, [], ◌∷◌, length, take, drop, get_or, codes, if◌then◌else◌}
 use Rattle.std.specs.List.{list_all, starts_with}
 use Rattle.rtk_survey.specs.declared.look.Look.{Look}
-use Rattle.rtk_survey.specs.declared.look.Look.TheVariants.{Empty, Gzip, Zip, Ublox, Rinex, Nmea, HexText, Unknown}
+use Rattle.rtk_survey.specs.declared.look.Look.TheVariants.{Empty, Gzip, Bzip2, Xz, Zip, Ublox, Sbf, NovAtel, Jps, Rinex, Nmea, HexText, Unknown}
 
 abbrev pub is_between : ℕ → ℕ → ℕ → Bool
 is_between least greatest byte = nat_le least byte && nat_le byte greatest
@@ -48,20 +48,36 @@ abbrev pub look_of_text : List ℕ → Look
 look_of_text head = if is_rinex head then Rinex else if is_nmea head then Nmea else if is_hex head then HexText else Unknown
 
 -- table
--- the first of these that it is: gzip (RFC 1952, 2.3.1), zip (APPNOTE.TXT, 4.3.7), u-blox (frame of UBX)
+-- the file of a receiver: u-blox (frame of UBX), Septentrio (block of SBF), NovAtel (long and short header of OEM
+-- logs), JAVAD and Topcon (file identifier of GREIS, a message JP of 55 bytes in hex)
+abbrev pub look_of_receiver : List ℕ → Look
+look_of_receiver head =
+    if starts_with nat_eq head (181 ∷ 98 ∷ []) then Ublox else
+    if starts_with nat_eq head (36 ∷ 64 ∷ []) then Sbf else
+    if starts_with nat_eq head (170 ∷ 68 ∷ 18 ∷ []) || starts_with nat_eq head (170 ∷ 68 ∷ 19 ∷ []) then NovAtel else
+    if starts_with nat_eq head (codes "JP055") then Jps else look_of_text head
+
+-- table
+-- the first of these that it is: gzip (RFC 1952, 2.3.1), bzip2, xz (the .xz format, 2.1.1.1), zip (APPNOTE.TXT, 4.3.7)
 abbrev pub look_of : List ℕ → Look
 look_of head =
     if length head == 0 then Empty else
     if starts_with nat_eq head (31 ∷ 139 ∷ []) then Gzip else
-    if starts_with nat_eq head (80 ∷ 75 ∷ 3 ∷ 4 ∷ []) then Zip else
-    if starts_with nat_eq head (181 ∷ 98 ∷ []) then Ublox else look_of_text head
+    if starts_with nat_eq head (codes "BZh") then Bzip2 else
+    if starts_with nat_eq head (253 ∷ 55 ∷ 122 ∷ 88 ∷ 90 ∷ 0 ∷ []) then Xz else
+    if starts_with nat_eq head (80 ∷ 75 ∷ 3 ∷ 4 ∷ []) then Zip else look_of_receiver head
 
 -- table
 abbrev pub look_name : Look → List ℕ
 look_name Empty = codes "empty"
 look_name Gzip = codes "gzip"
+look_name Bzip2 = codes "bzip2"
+look_name Xz = codes "xz"
 look_name Zip = codes "zip"
 look_name Ublox = codes "u-blox"
+look_name Sbf = codes "SBF"
+look_name NovAtel = codes "NovAtel"
+look_name Jps = codes "JPS"
 look_name Rinex = codes "RINEX"
 look_name Nmea = codes "NMEA"
 look_name HexText = codes "hex-text"

@@ -1,6 +1,7 @@
 -- The lines of a summary (this project's rule): a keyword at the head of each, those of a station
 -- after a blank.
-use Rattle.std.specs.Prelude.{ℕ, ◌+◌, ◌/◌, ◌%◌, ◌==◌, Bool, not, ◌&&◌, List, [], ◌∷◌, ◌++◌, filter, flat_map, codes, decimal, Option, None, Some, if◌then◌else◌}
+use Rattle.std.specs.Prelude.{ℕ, ◌+◌, ◌/◌, ◌%◌, ◌==◌, nat_eq, Bool, not, ◌&&◌, List, [], ◌∷◌, ◌++◌, filter, flat_map, codes, decimal, Option, None, Some, if◌then◌else◌}
+use Rattle.std.specs.Cmp.Lexicographic.{pointwise}
 use Rattle.std.specs.List.{range_with_len}
 use Rattle.rtk_survey.specs.Telling.{moment_of}
 use Rattle.rtk_survey.specs.declared.date_message.UtcDate.{UtcDate}
@@ -165,15 +166,22 @@ words_text name station named names =
     codes " --made \"$(date -u +%FT%T)\" --marker " ++ last_digits 4 station
     ++ codes " --codes" ++ names ++ msm_option named ++ codes " " ++ sh_quoted name ++ 10 ∷ []
 
+-- constant
+-- the name means standard input
+abbrev pub is_standard_input : List ℕ → Bool
+is_standard_input name = pointwise nat_eq name (codes "stdin")
+
 -- formula
--- the command that finds the other options by itself
+-- the command that finds the other options by itself; there is none for standard input, since the
+-- command reads a capture twice
 abbrev pub auto_line : List ℕ → ℕ → List ℕ
 auto_line name station =
+    if is_standard_input name then [] else
     codes " auto rtcm2rinex auto --station " ++ decimal station ++ codes " -o " ++ last_digits 4 station ++ codes ".rnx " ++ sh_quoted name ++ 10 ∷ []
 
 -- formula
 -- the command that converts the station in the file of this name with this MSM, near this moment, and
--- the one that finds its options; without codes there is none
+-- the one that finds its options, if there is one; without codes there is neither
 abbrev pub next_lines : List ℕ → List ℕ → ℕ → MsmKind → List ℕ → List ℕ
 next_lines name near station named [] = []
 next_lines name near station named (x ∷ xs) =

@@ -1,6 +1,6 @@
 -- What a capture tells of the station of a conversion (this project's rule). Lists of frames and messages
 -- are newest first.
-use Rattle.std.specs.Prelude.{◌≡◌, ℕ, ◌==◌, Bool, List, [], ◌∷◌, Option, None, Some, unwrap_or, Result, Ok, Err, if◌then◌else◌}
+use Rattle.std.specs.Prelude.{◌≡◌, ℕ, ◌==◌, Bool, List, [], ◌∷◌, Option, None, Some, unwrap_or, is_some, Result, Ok, Err, if◌then◌else◌}
 use Rattle.std.specs.List.{list_any}
 use Rattle.rtk_bits.specs.Bits.{bits}
 use Rattle.rtk_message.specs.declared.any_message.AnyMessage.{AnyMessage}
@@ -8,14 +8,19 @@ use Rattle.rtk_message.specs.declared.any_fault.AnyFault.{AnyFault}
 use Rattle.rtk_message.specs.AnyDecoded.{station_of, tow_of}
 use Rattle.rtk_survey.specs.CaptureDates.{no_dates, with_epoch_time, with_date, with_waiting}
 use Rattle.rtk_survey.specs.DateMessages.{date_in}
+use Rattle.rtk_survey.specs.Epochs.{last_time_of_week}
+use Rattle.rtk_survey.specs.EquipmentMessages.{equipment_in}
 use Rattle.rtk_survey.specs.Phases.{HasPhases}
 use Rattle.rtk_survey.specs.Proposal.{entry_has_value}
 use Rattle.rtk_survey.specs.ReadFrames.{ReadFrame, messages_in, messages_from}
 use Rattle.rtk_survey.specs.Tracing.{entries_of_message}
 use Rattle.rtk_survey.specs.declared.capture_dates.CaptureDates.{CaptureDates}
 use Rattle.rtk_survey.specs.declared.date_message.DateMessage.{DateMessage}
+use Rattle.rtk_survey.specs.declared.equipment_message.EquipmentMessage.{EquipmentMessage}
 use Rattle.rtk_survey.specs.declared.phases.Phases.{Phases}
+use Rattle.rtk_survey.specs.declared.span.Span.{Span}
 use Rattle.rtk_survey.specs.declared.target.Target.{Target}
+use Rattle.rtk_survey.specs.declared.target.EquipmentTimes.{EquipmentTimes}
 use Rattle.rtk_survey.specs.declared.target.TargetDates.{TargetDates}
 use Rattle.rtk_survey.specs.declared.target.TargetSurvey.{TargetSurvey}
 
@@ -76,12 +81,49 @@ abbrev pub HasTargetPhases : Phases → Option ℕ → List AnyMessage → Type 
 HasTargetPhases p None ms = (n : ℕ) → HasPhases p (messages_from n ms)
 HasTargetPhases p (Some station) ms = HasPhases p (messages_from station ms)
 
+-- ---- when an antenna and a receiver were told last
+
+abbrev pub no_times : EquipmentTimes
+no_times = record { antenna = None; receiver = None }
+
+-- the time of week of the last of these epochs, if they are of the station
+abbrev pub time_of_last : Bool → Option Span → Option ℕ
+time_of_last is_own None = None
+time_of_last is_own (Some s) = if is_own then Some (last_time_of_week s) else None
+
+-- the time of week of a station's last epoch, if it is the station that is known
+abbrev pub time_at : TargetDates → ℕ → Option ℕ
+time_at d station = time_of_last (unwrap_or d.station station == station) d.capture.span
+
+-- a message at this time, which tells an antenna, and a receiver or none
+abbrev pub with_message_at : ℕ → Bool → EquipmentTimes → EquipmentTimes
+with_message_at tow has_receiver t = record { antenna = Some tow; receiver = if has_receiver then Some tow else t.receiver }
+
+abbrev pub with_message_after : Option ℕ → Bool → EquipmentTimes → EquipmentTimes
+with_message_after None has_receiver t = t
+with_message_after (Some tow) has_receiver t = with_message_at tow has_receiver t
+
+abbrev pub with_equipment_if_any : TargetDates → EquipmentTimes → Option EquipmentMessage → EquipmentTimes
+with_equipment_if_any d t None = t
+with_equipment_if_any d t (Some m) = with_message_after (time_at d m.station) (is_some m.receiver) t
+
+abbrev pub times_with_reading : TargetDates → EquipmentTimes → List ℕ → Result AnyMessage AnyFault → EquipmentTimes
+times_with_reading d t payload (Ok m) = t
+times_with_reading d t payload (Err fault) = with_equipment_if_any d t (equipment_in payload)
+
+-- what frames tell, by the present, if this station is named, or none
+abbrev pub equipment_times_of : ℕ → Option ℕ → List ReadFrame → EquipmentTimes
+equipment_times_of now named [] = no_times
+equipment_times_of now named (f ∷ before) =
+    times_with_reading (dates_of now named before) (equipment_times_of now named before) f.payload f.reading
+
 -- ---- all of it
 
 pub record IsTargetOf (q : Target) (fs : List ReadFrame) (t : TargetSurvey) : Type 0 where
   pub present : t.present ≡ q.present
   pub dates : t.dates ≡ dates_of q.present q.station fs
   pub phases : HasTargetPhases t.phases t.dates.station (messages_in fs)
+  pub equipment : t.equipment ≡ equipment_times_of q.present q.station fs
 
 -- what a capture with these frames tells of the station of a conversion, if it is asked for
 abbrev pub IsAnswer : Option Target → List ReadFrame → Option TargetSurvey → Type 0

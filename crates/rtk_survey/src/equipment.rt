@@ -53,6 +53,24 @@ fn is_other_text(last: &Option<Text>, text: &Text) -> bool
     }
 }
 
+fn is_other_if_told(last: &Option<Text>, later: &Option<Text>) -> bool
+    ensures { result ≡ spec.is_other_if_told last.now later.now }
+{
+    match later {
+        Some(later) => is_other_text(last, later),
+        None => false,
+    }
+}
+
+fn copied_if_any(text: &Option<Text>) -> Option<Text>
+    ensures { result ≡ text.now }
+{
+    match text {
+        Some(text) => Some(copied(text)),
+        None => None,
+    }
+}
+
 fn is_other_setup(last: Option<u8>, setup: u8) -> bool
     ensures { result ≡ spec.is_other_setup last setup }
 {
@@ -83,21 +101,33 @@ impl TextHistory {
         self.last = Some(text);
     }
 
-    // A message more that may tell it.
-    fn take_if_any(&mut self, text: Option<Text>)
-        ensures { self.new ≡ spec.with_text_if_any text self.old }
-    {
-        if let Some(text) = text {
-            self.take(text);
-        }
-    }
-
     // What was told last by messages that came later.
     fn take_later(&mut self, later: &TextHistory)
         ensures { self.new ≡ spec.with_text_if_any later.now.last self.old }
     {
         if let Some(text) = &later.last {
             self.take(copied(text));
+        }
+    }
+
+    // The text is not known any more: from now on it is empty, if it was told.
+    fn clear(&mut self)
+        ensures { self.new ≡ spec.without_text self.old }
+    {
+        if self.last.is_some() {
+            self.take(Text::new());
+        }
+    }
+
+    // The serial number that a message tells of an antenna, or none. If the antenna is another one than
+    // before, the number of before is not its own.
+    fn take_serial(&mut self, is_other: bool, serial: Option<Text>)
+        ensures { self.new ≡ spec.with_serial is_other serial self.old }
+    {
+        match serial {
+            Some(serial) => self.take(serial),
+            None if is_other => self.clear(),
+            None => {}
         }
     }
 }
@@ -151,8 +181,9 @@ impl Equipment {
     fn take_antenna(&mut self, antenna: Antenna)
         ensures { self.new ≡ spec.with_antenna antenna self.old }
     {
+        let is_other = is_other_text(&self.antenna_type.last, &antenna.antenna_type);
+        self.antenna_serial.take_serial(is_other, antenna.serial);
         self.antenna_type.take(antenna.antenna_type);
-        self.antenna_serial.take_if_any(antenna.serial);
         self.antenna_setup.take(antenna.setup);
     }
 
@@ -174,13 +205,22 @@ impl Equipment {
         }
     }
 
-    /// What was told last of this station by messages that came later.
-    pub fn take_later(&mut self, later: &Equipment)
-        ensures { self.new ≡ spec.with_later later.now self.old }
+    /// What was told last of the antenna of this station by messages that came later. A serial number of
+    /// before stays only if they tell the same type.
+    pub fn take_later_antenna(&mut self, later: &Equipment)
+        ensures { self.new ≡ spec.with_later_antenna later.now self.old }
     {
+        let is_other = is_other_if_told(&self.antenna_type.last, &later.antenna_type.last);
+        let serial = copied_if_any(&later.antenna_serial.last);
+        self.antenna_serial.take_serial(is_other, serial);
         self.antenna_type.take_later(&later.antenna_type);
-        self.antenna_serial.take_later(&later.antenna_serial);
         self.antenna_setup.take_if_any(later.antenna_setup.last);
+    }
+
+    /// What was told last of the receiver of this station by messages that came later.
+    pub fn take_later_receiver(&mut self, later: &Equipment)
+        ensures { self.new ≡ spec.with_later_receiver later.now self.old }
+    {
         self.receiver_type.take_later(&later.receiver_type);
         self.receiver_version.take_later(&later.receiver_version);
         self.receiver_serial.take_later(&later.receiver_serial);

@@ -41,7 +41,8 @@ fn put_byte(lines: &mut Vec<u8>, byte: u8) -> Result<(), AllocError>
     lines.extend_from_slice(&escaped)
 }
 
-fn put_bytes(lines: &mut Vec<u8>, bytes: &[u8]) -> Result<(), AllocError>
+/// Appends bytes of a text: those from blank to tilde as they are, others as in `\x0A`.
+pub fn put_shown(lines: &mut Vec<u8>, bytes: &[u8]) -> Result<(), AllocError>
     ensures { OnOk result (lines.new.items ≡ lines.old.items ++ flat_map spec.shown_byte bytes.now) }
 {
     for byte in bytes {
@@ -58,7 +59,7 @@ fn put_text(lines: &mut Vec<u8>, words: &[u8], text: &[u8]) -> Result<(), AllocE
         return Ok(());
     }
     lines.extend_from_slice(words)?;
-    put_bytes(lines, text)?;
+    put_shown(lines, text)?;
     lines.push(b'\n')?;
     Ok(())
 }

@@ -74,6 +74,7 @@ pub use date_laws::{dates_are_nearest, told_moments_are_nearest};
 pub use date_message::{DateMessage, EphemerisDate, UtcDate, date_in};
 pub use epochs::Epochs;
 pub use equipment::{Equipment, SetupHistory, TextHistory};
+pub use equipment_lines::put_shown;
 pub use equipment_message::{Antenna, EquipmentMessage, Receiver, Text, equipment_in};
 pub use laws::{
     all_are_taken_alike, each_frame_is_counted, four_need_no_option, lines_tell_numbers,
@@ -95,7 +96,7 @@ pub use station_dates::{DateCount, StationDates};
 pub use summary::summarize;
 pub use survey::CaptureSurvey;
 pub use survey_fault::SurveyFault;
-pub use target::{Target, TargetDates, TargetSurvey};
+pub use target::{EquipmentTimes, Target, TargetDates, TargetSurvey};
 pub use telling::{dated, is_date, moment_of, told};
 pub use tellings::{Tellings, Told};
 pub use times_of_week::Times;

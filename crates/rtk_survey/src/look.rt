@@ -10,9 +10,17 @@ pub enum Look {
     /// It has no byte.
     Empty,
     Gzip,
+    Bzip2,
+    Xz,
     Zip,
     /// Messages of a u-blox receiver, without RTCM.
     Ublox,
+    /// Blocks of a Septentrio receiver, the Septentrio Binary Format.
+    Sbf,
+    /// Logs of a NovAtel receiver.
+    NovAtel,
+    /// Messages of a receiver of JAVAD or Topcon, in a JPS file.
+    Jps,
     /// A file of RINEX or of Compact RINEX.
     Rinex,
     /// Sentences of NMEA 0183, without RTCM.
@@ -106,6 +114,25 @@ fn look_of_text(head: &[u8]) -> Look
     Look::Unknown
 }
 
+// What the file of a receiver looks like, or a text.
+fn look_of_receiver(head: &[u8]) -> Look
+    ensures { result ≡ spec.look_of_receiver head.now }
+{
+    if head.starts_with(b"\xB5\x62") {
+        return Look::Ublox;
+    }
+    if head.starts_with(b"$@") {
+        return Look::Sbf;
+    }
+    if head.starts_with(b"\xAA\x44\x12") || head.starts_with(b"\xAA\x44\x13") {
+        return Look::NovAtel;
+    }
+    if head.starts_with(b"JP055") {
+        return Look::Jps;
+    }
+    look_of_text(head)
+}
+
 /// What a file looks like that begins with these bytes: all of it, or the first 512 at least.
 pub fn look_of(head: &[u8]) -> Look
     ensures { result ≡ spec.look_of head.now }
@@ -116,13 +143,16 @@ pub fn look_of(head: &[u8]) -> Look
     if head.starts_with(b"\x1F\x8B") {
         return Look::Gzip;
     }
+    if head.starts_with(b"BZh") {
+        return Look::Bzip2;
+    }
+    if head.starts_with(b"\xFD7zXZ\x00") {
+        return Look::Xz;
+    }
     if head.starts_with(b"PK\x03\x04") {
         return Look::Zip;
     }
-    if head.starts_with(b"\xB5\x62") {
-        return Look::Ublox;
-    }
-    look_of_text(head)
+    look_of_receiver(head)
 }
 
 impl Look {
@@ -133,8 +163,13 @@ impl Look {
         match self {
             Look::Empty => b"empty",
             Look::Gzip => b"gzip",
+            Look::Bzip2 => b"bzip2",
+            Look::Xz => b"xz",
             Look::Zip => b"zip",
             Look::Ublox => b"u-blox",
+            Look::Sbf => b"SBF",
+            Look::NovAtel => b"NovAtel",
+            Look::Jps => b"JPS",
             Look::Rinex => b"RINEX",
             Look::Nmea => b"NMEA",
             Look::HexText => b"hex-text",

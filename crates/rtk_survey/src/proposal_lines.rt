@@ -2,7 +2,7 @@
 
 ghost use Rattle.std.specs.Prelude.{◌≡◌, ◌<◌, ◌++◌, OnOk};
 ghost use Rattle.rtk_obs.specs.CivilText.{last_digits};
-ghost use Rattle.rtk_survey.specs.SummaryText.{other_msm_line, other_msm_lines, msm_option, near_text, words_text, auto_line, next_lines, proposal_lines};
+ghost use Rattle.rtk_survey.specs.SummaryText.{other_msm_line, other_msm_lines, msm_option, near_text, words_text, is_standard_input, auto_line, next_lines, proposal_lines};
 ghost use Rattle.rtk_survey.specs.Contents.{epochs_held, codes_held};
 
 use crate::date_lines::put_near;
@@ -90,10 +90,21 @@ fn put_words(
     Ok(())
 }
 
-// The command that finds the other options by itself.
+// Does this name mean standard input?
+fn is_standard_input(name: &[u8]) -> bool
+    ensures { result ≡ is_standard_input name.now }
+{
+    name == b"stdin".as_slice()
+}
+
+// The command that finds the other options by itself. It reads a capture twice, so that there is none
+// for standard input.
 fn put_auto(lines: &mut Vec<u8>, name: &[u8], station: u16) -> Result<(), AllocError>
     ensures { OnOk result (lines.new.items ≡ lines.old.items ++ auto_line name.now station) }
 {
+    if is_standard_input(name) {
+        return Ok(());
+    }
     put_named(
         lines,
         b" auto rtcm2rinex auto --station ",
@@ -107,7 +118,7 @@ fn put_auto(lines: &mut Vec<u8>, name: &[u8], station: u16) -> Result<(), AllocE
     Ok(())
 }
 
-// The command with its options, and the one that finds them.
+// The command with its options, and the one that finds them, if there is one.
 fn put_next(
     lines: &mut Vec<u8>,
     name: &[u8],

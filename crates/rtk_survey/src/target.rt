@@ -13,6 +13,7 @@ ghost use Rattle.rtk_survey.specs.declared.target.Target.{Target};
 
 use crate::capture_dates::CaptureDates;
 use crate::date_message::{DateMessage, date_in};
+use crate::equipment_message::{EquipmentMessage, equipment_in};
 use crate::phases::Phases;
 use crate::signals::have_value;
 use rtk_message::AnyMessage;
@@ -36,6 +37,16 @@ pub struct TargetDates {
     pub capture: CaptureDates,
 }
 
+/// When messages told an antenna and a receiver last: the time of week of the epoch before the message, in
+/// ms. `None` if no epoch of the station came before it, or no such message.
+#[derive(Clone, Copy, Debug, PartialEq, Eq)]
+pub struct EquipmentTimes {
+    /// Of a 1007, 1008 or 1033.
+    pub antenna: Option<u32>,
+    /// Of a 1033.
+    pub receiver: Option<u32>,
+}
+
 /// What a capture tells of the station of a conversion.
 #[derive(Drop)]
 pub struct TargetSurvey {
@@ -43,6 +54,8 @@ pub struct TargetSurvey {
     pub present: GpsMs,
     pub dates: TargetDates,
     pub phases: Phases,
+    /// When its antenna and its receiver were told last.
+    pub equipment: EquipmentTimes,
 }
 
 // Has a message with these cells an observation?
@@ -93,6 +106,52 @@ impl TargetDates {
     }
 }
 
+// The time of week of the last epoch of a station, if this station is known and has one.
+fn time_at(dates: &TargetDates, station: u16) -> Option<u32>
+    ensures { result ≡ spec.time_at dates.now station }
+{
+    let span = dates.capture.span?;
+    if dates.station.unwrap_or(station) == station {
+        Some(span.last_time_of_week())
+    } else {
+        None
+    }
+}
+
+impl EquipmentTimes {
+    // No message came.
+    fn new() -> EquipmentTimes
+        ensures { result ≡ spec.no_times }
+    {
+        EquipmentTimes {
+            antenna: None,
+            receiver: None,
+        }
+    }
+
+    // A message more at this time of week.
+    fn take_at(&mut self, tow: u32, has_receiver: bool)
+        ensures { self.new ≡ spec.with_message_at tow has_receiver self.old }
+    {
+        self.antenna = Some(tow);
+        if has_receiver {
+            self.receiver = Some(tow);
+        }
+    }
+
+    // A message more, if it tells an antenna, after these epochs.
+    fn take(&mut self, dates: &TargetDates, message: Option<EquipmentMessage>)
+        ensures { self.new ≡ spec.with_equipment_if_any dates.now self.old message }
+    {
+        let Some(message) = message else {
+            return;
+        };
+        if let Some(tow) = time_at(dates, message.station) {
+            self.take_at(tow, message.receiver.is_some());
+        }
+    }
+}
+
 fn take_message(dates: &mut TargetDates, now: GpsMs, message: &AnyMessage, entries: &[CellEntry])
     requires { entries.now ≡ entries_of_message message.now }
     ensures { dates.new ≡ spec.with_observation now dates.old message.now }
@@ -132,6 +191,7 @@ impl TargetSurvey {
             present: target.present,
             dates: TargetDates::new(target.station),
             phases: Phases::new(alloc),
+            equipment: EquipmentTimes::new(),
         }
     }
 
@@ -161,6 +221,7 @@ impl TargetSurvey {
         ensures { (q : Target) (fs : List ReadFrame) (fault : AnyFault) → IsTargetOf q fs self.old
             → IsTargetOf q (read_frame payload.now (Err fault) ∷ fs) self.new }
     {
+        self.equipment.take(&self.dates, equipment_in(payload));
         self.dates.take_date(self.present, date_in(payload));
     }
 }

@@ -19,6 +19,8 @@ int puts(const char *line);
 int printf(const char *form, ...);
 int strcmp(const char *a, const char *b);
 int close(int descriptor);
+int pipe2(int ends[2], int flags);
+ssize_t read(int descriptor, void *bytes, size_t length);
 int fflush(void *all);
 
 static int passed, failed;
@@ -39,6 +41,21 @@ static _Bool is_filled(const unsigned char *at, size_t length) {
 }
 
 static const size_t MUCH = (size_t)1 << 62; /* no machine has it */
+
+/* Whether a place comes again among blocks that are freed at once, as they are or after they grew: a block that is not freed has its
+   place alone. */
+static _Bool comes_again(_Bool grows) {
+    static void *places[1000];
+    for (size_t i = 0; i < sizeof places / sizeof *places; i++) {
+        struct tried block = rattle_alloc(1000, 8);
+        places[i] = block.at;
+        if (grows) block = rattle_realloc(block.at, 1000, 100000, 8);
+        rattle_dealloc(block.at);
+        for (size_t k = 0; k < i; k++)
+            if (places[k] == places[i]) return 1;
+    }
+    return 0;
+}
 
 static void heap(void) {
     static const size_t sizes[] = {0, 1, 15, 16, 17, 4096, 1000000};
@@ -70,6 +87,8 @@ static void heap(void) {
     refused = rattle_realloc(block.at, 100, MUCH, 1);
     holds("a_refused_block_is_as_it_was", !refused.ok && refused.at && is_filled(block.at, 100));
     rattle_dealloc(block.at);
+    holds("memory_is_freed", comes_again(0));
+    holds("memory_is_freed_when_it_moves", comes_again(1));
 }
 
 /* What get answers in a buffer of this room, if the text is this one and the byte behind the room stays. */
@@ -100,18 +119,32 @@ static void texts(char **argv) {
     holds("an_argument", gives(first, "--near", 6));
     holds("an_empty_argument", gives(empty, "", 0));
     holds("an_argument_of_any_bytes", gives(last, "\x01\xff \xc3\xa4", 5));
-    holds("no_more_arguments", rattle_arg(4, none, 1) == -1 && rattle_arg(~(size_t)0, none, 1) == -1 && none[0] == 7);
+    holds("no_more_arguments", rattle_arg(4, none, 1) == -1 && rattle_arg(~(size_t)0, none, 1) == -1 &&
+        rattle_arg(((size_t)1 << 32) + 1, none, 1) == -1 && none[0] == 7);
     holds("a_variable", gives(value, "a=b c", 5));
     holds("an_empty_variable", gives(no_value, "", 0));
     holds("no_variable", rattle_env("NOT_SET", none, 1) == -1 && rattle_env("", none, 1) == -1 && none[0] == 7);
+}
+
+/* A pipe that does not wait takes a part of many bytes, and then none. */
+static void parts(void) {
+    static unsigned char many[1 << 20], back[1 << 20];
+    const int no_wait = 04000, again = 11; /* O_NONBLOCK and EAGAIN on both machines */
+    int ends[2];
+    fill(many, sizeof many);
+    if (pipe2(ends, no_wait)) ends[0] = ends[1] = -1;
+    ssize_t length = __write(ends[1], many, sizeof many);
+    holds("write_of_no_more", length > 0 && __write(ends[1], many, 1) == -1 && rattle_errno() == again);
+    holds("write_of_a_part", (size_t)length < sizeof many && read(ends[0], back, sizeof back) == length && is_filled(back, (size_t)length));
 }
 
 int main(int argc, char **argv) {
     heap();
     texts(argv);
     rattle_set_errno(5);
-    holds("errno_is_set", argc == 4 && rattle_errno() == 5);
+    holds("errno_is_set", argc == 4 && rattle_errno() == 5 && rattle_errno() == 5);
     holds("errno_of_a_failed_call", close(-1) == -1 && rattle_errno() == 9);
+    parts();
     fflush(0);
     holds("write", __write(1, "", 0) == 0 && __write(1, "written\n", 8) == 8 && __write(-1, "x", 1) == -1 && rattle_errno() == 9);
     printf("%d passed, %d failed\n", passed, failed);

@@ -80,6 +80,7 @@ char *secure_getenv(const char *name) {
 AS(link, (const char *from, const char *to), (from, to), to)
 AS(rename, (const char *from, const char *to), (from, to), to)
 AS(unlink, (const char *name), (name), name)
+AS(fchmod, (int descriptor, unsigned mode), (descriptor, mode), "")
 AS(fsync, (int descriptor), (descriptor), "")
 AS(statx, (int folder, const char *name, int flags, unsigned mask, void *found), (folder, name, flags, mask, found), name)
 AS(clock_gettime, (int clock, void *time), (clock, time), "")
@@ -93,4 +94,4 @@ OF_A_NAME(mkfifo) OF_A_NAME(mknod) OF_A_NAME(mkstemp) OF_A_NAME(chmod) OF_A_NAME
 OF_A_NAME(utimes) OF_A_NAME(execve)
 IN_A_FOLDER(unlinkat) IN_A_FOLDER(renameat) IN_A_FOLDER(renameat2) IN_A_FOLDER(linkat) IN_A_FOLDER(mkdirat) IN_A_FOLDER(mkfifoat)
 IN_A_FOLDER(mknodat) IN_A_FOLDER(fchmodat) IN_A_FOLDER(fchownat) IN_A_FOLDER(utimensat)
-OF_A_DESCRIPTOR(fchmod) OF_A_DESCRIPTOR(fchown) OF_A_DESCRIPTOR(ftruncate) OF_A_DESCRIPTOR(futimens)
+OF_A_DESCRIPTOR(fchown) OF_A_DESCRIPTOR(ftruncate) OF_A_DESCRIPTOR(futimens)

@@ -135,6 +135,7 @@ int open(const char *name, int flags, unsigned mode) {
     }
 OTHER(statx, (int folder, const char *name, int flags, unsigned mask, void *found), (folder, name, flags, mask, found))
 OTHER(clock_gettime, (int clock, void *time), (clock, time))
+OTHER(fchmod, (int descriptor, unsigned mode), (descriptor, mode))
 OTHER(fsync, (int descriptor), (descriptor))
 OTHER(link, (const char *from, const char *to), (from, to))
 OTHER(rename, (const char *from, const char *to), (from, to))

@@ -945,7 +945,7 @@ OF_C = set("""
 __libc_start_main __cxa_finalize __gmon_start__ _ITM_deregisterTMCloneTable
 _ITM_registerTMCloneTable __x86_get_cpuid_feature_leaf __sysv_signal __errno_location
 malloc realloc free memcpy memmove memset open close read write __write lseek
-environ getenv clock_gettime statx fsync link rename unlink
+environ getenv clock_gettime statx fchmod fsync link rename unlink
 """.split())
 
 
@@ -1199,12 +1199,16 @@ def _auto_fails():
             yield f"open 1, {old}", auto_is_not_made, 1, fault, old
             yield f"open 3, {old}", auto_is_not_made, 3, fault, old
         yield from both("the look at a capture", shim(FAILS_CALL=1, FAULT=fault), f"cannot open {DATED}")
-        yield from both("the last bytes of FILE", shim(FAILS_CALL=5, FAULT=fault), "write failed")
-        yield "the name of FILE, which is there", auto_breaks, shim(FAILS_CALL=6, FAULT=fault), "write failed", OLD
+        # whether the capture has grown, and the permissions of the FILE that is replaced, which can't all be had
+        for old, call in ((None, 5), (OLD, 5), (OLD, 6), (OLD, 7)):
+            yield f"call {call}, {old}", auto_is_whole, shim(FAILS_CALL=call, FAULT=fault), old
+        for old, call in ((None, 6), (OLD, 8)):
+            yield f"the last bytes of FILE, {old}", auto_breaks, shim(FAILS_CALL=call, FAULT=fault), "write failed", old
+        yield "the name of FILE, which is there", auto_breaks, shim(FAILS_CALL=9, FAULT=fault), "write failed", OLD
     for fault in (errno.EPERM, errno.EOPNOTSUPP, errno.ENOSYS, errno.EMLINK):
-        yield f"no link, {fault}", auto_is_whole, shim(FAILS_CALL=6, FAULT=fault), None
-        yield f"no link and no file, {fault}", auto_breaks, shim(FAILS_CALL=6, FAILS_OPEN=5, FAULT=fault), "write failed", None
-    yield "a FILE that came meanwhile", auto_is_late, shim(FAILS_CALL=6, FAULT=errno.EEXIST)
+        yield f"no link, {fault}", auto_is_whole, shim(FAILS_CALL=7, FAULT=fault), None
+        yield f"no link and no file, {fault}", auto_breaks, shim(FAILS_CALL=7, FAILS_OPEN=5, FAULT=fault), "write failed", None
+    yield "a FILE that came meanwhile", auto_is_late, shim(FAILS_CALL=7, FAULT=errno.EEXIST)
     yield "the clock", clock_fails
     for k in range(0, 200, 7):
         for old in (None, OLD):
@@ -1231,8 +1235,9 @@ def clock_fails():
 
 
 def auto_tells_in_part(k, old):
+    """The work goes on, and FILE is whole."""
     left, there, others = auto(shim(TAKES_2=k), old)
-    return told_in_part(left, auto()[0], 1, k, 0) or (None if (there, others) == (old, []) else f"{others}")
+    return told_in_part(left, auto()[0], 1, k, 0) or (None if (there, others) == (WHOLE, []) else f"{others}")
 
 
 @scene("auto: standard output takes k bytes, is full, or is closed")
@@ -1250,7 +1255,7 @@ def auto_is_cut(disturbance, k):
 
 @scene("auto: a capture that vanishes or changes before its second pass")
 def _auto_changes():
-    for change, status in (("vanishes", 1), ("is emptied", 3), ("grows", 0)):
+    for change, status in (("vanishes", 1), ("is emptied", 1), ("is another", 1), ("grows", 0)):
         yield change, auto_of_change, change, status
 
 
@@ -1264,7 +1269,8 @@ def auto_of_change(change, status):
     if change == "vanishes":
         os.remove(capture)
     else:
-        written(os.path.basename(capture), b"" if change == "is emptied" else content(DATED) + epochs([30]))
+        after = {"is emptied": b"", "is another": content(DATED)[:-1] + b"x", "grows": content(DATED) + epochs([30])}
+        written(os.path.basename(capture), after[change])
     os.kill(running[0], signal.SIGCONT)
     left = end(*running)
     is_there = os.path.exists(file) and os.path.getsize(file) > 0
@@ -1275,14 +1281,15 @@ def auto_of_change(change, status):
 def _calls_of_auto():
     file = os.path.join(WORK, "calls.file")
     made, let_go, read = f"writes {file}.part", f"unlink {file}.part", f"reads {DATED}"
-    whole = [made, let_go, read, made, read, "fsync "]
+    seen = f"statx {DATED}"
+    whole = [made, let_go, read, made, read, seen]
     out, look = "statx /proc/self/fd/1", [f"statx {file}"] * 2
     present = ["getenv SOURCE_DATE_EPOCH", "clock_gettime "]
     for words, calls in (
-            (AUTO, [out, read, read]),
-            (("auto",), [out, *present, read, read]),
-            ((*AUTO, "-o", file), [*look, *whole, f"link {file}", let_go]),
-            ((*AUTO, "-f", "-o", file), [*look, *whole, f"rename {file}"]),
+            (AUTO, [out, read, read, seen]),
+            (("auto",), [out, *present, read, read, seen]),
+            ((*AUTO, "-o", file), [*look, *whole, "fsync ", f"link {file}", let_go]),
+            ((*AUTO, "-f", "-o", file), [*look, *whole, f"statx {file}", "fchmod ", "fsync ", f"rename {file}"]),
             ((*AUTO, "-o", DATED), [f"statx {DATED}"])):
         yield " ".join(words), calls_of_auto, file, words, [f"statx {DATED}", *calls]
 

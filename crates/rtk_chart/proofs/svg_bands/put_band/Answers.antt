@@ -10,5 +10,6 @@ returns c =
       c.in_ok-put_code_lines.ensures,
       c.in_ok-put_outages.ensures,
       c.in_ok-put_band_start.ensures,
-      c.band_height-height.ensures.value,
+      c.band_top-top.ensures.value,
+      c.height_of-height.ensures.value,
     ) (simp append_assoc)

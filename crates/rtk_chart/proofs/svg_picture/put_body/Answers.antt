@@ -6,12 +6,15 @@ pub returns : goal.returns
 unfolding svg_body
 returns c =
     rw (
-      c.in_ok-extend_from_slice.ensures.items,
+      c.in_ok-extend_from_slice-2.ensures.items,
       c.in_ok-put_legend.ensures,
       c.in_ok-put_ticks.ensures,
       c.in_ok-put_satellites.ensures,
       c.in_ok-put_gaps.ensures,
+      c.in_ok-put_never_texts.ensures,
+      c.band_top-bands_end.ensures.value,
       c.in_ok-put_bands.ensures,
+      c.in_ok-extend_from_slice.ensures.items,
       c.as_slice.ensures.value,
       c.as_slice-outages.ensures.value,
       c.as_slice-bins.ensures.value,

@@ -10,8 +10,11 @@ returns c =
       c.in_ok-put_counts.ensures,
       c.in_ok-put_span.ensures,
       c.in_ok-put_start.ensures,
-      c.bands_end-end.ensures.value,
+      c.never_end-end.ensures.value,
+      c.of-spacing.ensures,
       c.drawn_before-satellites.ensures.value,
+      c.as_slice-3.ensures.value,
+      c.as_slice-2.ensures.value,
       c.as_slice.ensures.value,
       c.new-text.ensures.items,
     ) (simp append_assoc)

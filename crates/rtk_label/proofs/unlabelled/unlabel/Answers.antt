@@ -1,18 +1,28 @@
-use Rattle.std.proofs.Common.{◌+◌, ◌-◌, arith}
+use Rattle.std.proofs.Common.{◌+◌, ◌-◌, ◌∙◌, arith, sym}
+use Rattle.std.proofs.lemmas.List.{drop_all, length-drop}
 use Rattle.rtk_label.proofs.PieceLemmas.{drop-over, drop-after}
-use Rattle.rtk_label.proofs.PartedLemmas.{parted_short}
+use Rattle.rtk_label.proofs.PartedLemmas.{parted, parted_cut}
 use Rattle.rtk_label.proofs.unlabelled.unlabel.Goals as goal
 
 pub returns-then-text-lt810-clause-parted : goal.returns-then-text-lt810-clause-parted
-returns-then-text-lt810-clause-parted c = rw c.blank.ensures (parted_short c.args.text.now c.if-text-lt810.true)
+returns-then-text-lt810-clause-parted c =
+    parted_cut c.args.text.now _ c.unlabel_cut.result.label c.if-text-lt810.true
+    (omega (arith, length-drop c.unlabel_cut.result.from c.unlabel_cut.new.text, c.unlabel_cut.ensures.len)) c.unlabel_cut.ensures.good c.unlabel_cut.ensures.cut
+
+pub returns-then-text-lt810-clause-rest : goal.returns-then-text-lt810-clause-rest
+returns-then-text-lt810-clause-rest c =
+    drop_all 810 c.unlabel_cut.new.text (omega (arith, c.unlabel_cut.ensures.len, c.if-text-lt810.true)) ∙ sym (drop_all 810 c.args.text.now (omega (arith, c.if-text-lt810.true)))
 
 pub returns-clause-parted : goal.returns-clause-parted
 returns-clause-parted c =
-    let from = c.reading_of-reading.result.unlabelled.from in
-    rw (c.copy_from_slice.ensures.after, c.as_slice.ensures.value, drop-over from (from + 729 - from) 729 c.args.text.now c.reading_of-reading.result.front.items (omega arith) (omega arith)) c.reading_of-reading.ensures.parted
+    let from = c.line_len-from.result in
+    parted c.args.text.now c.reading_of-reading.result.front.items _ from c.reading_of-reading.result.unlabelled.label (omega (arith, c.if-text-lt810.false))
+    c.reading_of-reading.ensures.good c.reading_of-reading.ensures.labelled c.reading_of-reading.ensures.every
+    (rw (c.reading_of-reading.ensures.same, c.copy_from_slice.ensures.after, c.as_slice-2.ensures.value)
+    (drop-over from (from + 729 - from) 729 c.args.text.now c.reading_of-reading.result.front.items (omega arith) (omega arith)))
 
 pub returns-clause-rest : goal.returns-clause-rest
 returns-clause-rest c =
-    let from = c.reading_of-reading.result.unlabelled.from in
-    rw (c.copy_from_slice.ensures.after, c.as_slice.ensures.value)
+    let from = c.line_len-from.result in
+    rw (c.copy_from_slice.ensures.after, c.as_slice-2.ensures.value)
     (drop-after from (from + 729 - from) 729 810 c.args.text.now c.reading_of-reading.result.front.items (omega arith) (omega arith) c.reading_of-reading.ensures.len (omega arith))

@@ -6,10 +6,10 @@ use Rattle.rtk_plan.proofs.lists.put_unread_glonass_to_sbas.Goals as goal
 pub returns : goal.returns
 unfolding unread_glonass_to_sbas
 returns c =
-    let a = unread_lines_from (codes " untaken GLONASS ") c.args.surveys.now 1009 4 in
-    let b = unread_lines_from (codes " untaken GLONASS ") c.args.surveys.now 1081 7 in
-    let d = unread_lines_from (codes " untaken Galileo ") c.args.surveys.now 1091 7 in
-    let e = unread_lines_from (codes " untaken SBAS ") c.args.surveys.now 1101 7 in
+    let a = unread_lines_from (codes " not in the file: GLONASS ") c.args.surveys.now 1009 4 in
+    let b = unread_lines_from (codes " not in the file: GLONASS ") c.args.surveys.now 1081 7 in
+    let d = unread_lines_from (codes " not in the file: Galileo ") c.args.surveys.now 1091 7 in
+    let e = unread_lines_from (codes " not in the file: SBAS ") c.args.surveys.now 1101 7 in
     c.in_ok-put_numbered-4.ensures
     ∙ ap (λ l. l ++ e) (c.in_ok-put_numbered-3.ensures
     ∙ ap (λ l. l ++ d) (c.in_ok-put_numbered-2.ensures ∙ ap (λ l. l ++ b) (c.in_ok-put_numbered.ensures)))

@@ -7,4 +7,5 @@ returns c = record {
   present = refl;
   dates = c.new.ensures;
   phases = no-phases c.new-2.result c.new.result.station c.new-2.ensures;
+  equipment = c.new-3.ensures;
 }

@@ -17,4 +17,5 @@ returns c = on-ok c.take_phases.result (λ took q fs payload is.
           ∙ ap (λ (n : ℕ). with_observation n old.dates m) is.present
           ∙ ap (λ (d : TargetDates). with_observation q.present d m) is.dates;
       phases = took old.dates.station (messages_in fs) station is.phases;
+      equipment = is.equipment;
     }) c.take_phases.ensures

@@ -1,0 +1,109 @@
+//! The codes that satellites have nowhere in a file, in an SVG picture.
+
+ghost use Rattle.std.specs.Prelude.{◌≡◌, ◌≤◌, ◌<◌, ◌+◌, ◌*◌, ◌++◌, length, flat_map, OnOk};
+ghost use Rattle.std.specs.List.{range_with_len};
+ghost use Rattle.rtk_chart.specs.SvgPicture.{never_name, is_lacked, lacked_before, never_text, never_if_lacked, never_texts};
+
+use crate::never::{never_before, put_label};
+use crate::signs::is_never;
+use crate::svg_text::put_between;
+use crate::time_bin::TimeBin;
+use rtk_obs::Code;
+use std::alloc::AllocError;
+
+// Some satellite has the code at this place nowhere.
+fn is_lacked(bins: &[TimeBin], at: usize) -> bool
+    ensures { result ≡ is_lacked bins.now at }
+{
+    never_before(bins, at, 32) != 0
+}
+
+/// How many codes before a place some satellite has nowhere.
+pub(crate) fn lacked_before(bins: &[TimeBin], at: usize) -> u64
+    requires { at ≤ 16 }
+    ensures value { result ≡ lacked_before bins.now at }
+    ensures bound { result ≤ 16 }
+{
+    let mut count = 0;
+    for before in 0..at {
+        if is_lacked(bins, before) {
+            count += 1;
+        }
+    }
+    count
+}
+
+fn put_name(text: &mut Vec<u8>, bins: &[TimeBin], at: usize, place: usize) -> Result<(), AllocError>
+    requires { place < 32 }
+    ensures { OnOk result (text.new.items ≡ text.old.items ++ never_name bins.now at place) }
+{
+    if !is_never(bins, at, place) {
+        return Ok(());
+    }
+    text.extend_from_slice(b" ")?;
+    put_label(text, place as u8 + 1)
+}
+
+fn put_names(text: &mut Vec<u8>, bins: &[TimeBin], at: usize) -> Result<(), AllocError>
+    ensures { OnOk result (text.new.items ≡ text.old.items ++ flat_map (never_name bins.now at) (range_with_len 0 32)) }
+{
+    for place in 0..32 {
+        put_name(text, bins, at, place)?;
+    }
+    Ok(())
+}
+
+// The line of a code that some satellite has nowhere. The lines lie 24 apart.
+fn put_line(
+    text: &mut Vec<u8>,
+    bins: &[TimeBin],
+    top: u64,
+    at: usize,
+    code: Code,
+) -> Result<(), AllocError>
+    requires top { top ≤ 11_870 }
+    requires listed { at < 16 }
+    ensures { OnOk result (text.new.items ≡ text.old.items ++ never_text bins.now top at code) }
+{
+    let y = top + 24 * lacked_before(bins, at);
+    put_between(text, b"<text class='never' x='110' y='", y, b"'>never ")?;
+    text.extend_from_slice(&code.name())?;
+    text.extend_from_slice(b":")?;
+    put_names(text, bins, at)?;
+    text.extend_from_slice(b"</text>\n")?;
+    Ok(())
+}
+
+fn put_line_if_lacked(
+    text: &mut Vec<u8>,
+    bins: &[TimeBin],
+    top: u64,
+    at: usize,
+    code: Code,
+) -> Result<(), AllocError>
+    requires top { top ≤ 11_870 }
+    requires listed { at < 16 }
+    ensures { OnOk result (text.new.items ≡ text.old.items ++ never_if_lacked bins.now top at code) }
+{
+    if is_lacked(bins, at) {
+        put_line(text, bins, top, at, code)?;
+    }
+    Ok(())
+}
+
+/// Appends a line for each code that some satellite has nowhere, the first one so far from the top.
+pub(crate) fn put_never_texts(
+    text: &mut Vec<u8>,
+    bins: &[TimeBin],
+    top: u64,
+    codes: &[Code],
+) -> Result<(), AllocError>
+    requires top { top ≤ 11_870 }
+    requires listed { length codes.now ≤ 16 }
+    ensures { OnOk result (text.new.items ≡ text.old.items ++ never_texts bins.now top 0 codes.now) }
+{
+    for (at, code) in codes.iter().enumerate() {
+        put_line_if_lacked(text, bins, top, at, *code)?;
+    }
+    Ok(())
+}

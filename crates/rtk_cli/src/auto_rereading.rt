@@ -1,0 +1,166 @@
+//! The captures of a conversion, which are read a second time: as far as they were read at first, and only if
+//! they are as they were.
+
+ghost use Rattle.std.specs.Prelude.{◌≡◌, ◌<◌, length, IfOk};
+ghost use Rattle.std.specs.Io.{ReadsAtMost};
+ghost use Rattle.std.specs.Io.KnownBytes.{ReadConsumes};
+
+use rtk_message::{put_named, put_sh_quoted};
+use rtk_streams::{Digest, Later, is_longer};
+use std::alloc::{AllocError, Global};
+use std::cell::Cell;
+use std::fs::Files;
+use std::io;
+use std::io::{Error, Read};
+
+/// A capture that was read: its name, and a digest of its bytes.
+#[derive(Clone, Copy)]
+pub(crate) struct CaptureRead<'a> {
+    pub(crate) name: &'a str,
+    pub(crate) digest: Digest,
+}
+
+/// A reader that gives again what was read before. It fails at its end if what it gave is not the same, and then
+/// it puts its place, counted over all links, into a cell.
+#[derive(Drop)]
+pub(crate) struct Reread<'a, R> {
+    inner: R,
+    place: usize,
+    before: Digest,
+    given: Digest,
+    differing: &'a Cell<Option<usize>>,
+}
+
+impl<R: Read> Read for Reread<'_, R> {
+    ghost remaining = { λ reader. R.remaining reader.inner };
+
+    fn read(&mut self, buf: &mut [u8]) -> io::Result<usize>
+        ensures bound { ReadsAtMost result buf.new }
+        ensures bytes { ReadConsumes (R.remaining self.old.inner) (R.remaining self.new.inner) result buf.new }
+        ensures same { IfOk result (λ n. n ≡ 0 → 0 < length buf.new → self.new.given ≡ self.new.before) }
+    {
+        let count = self.inner.read(buf)?;
+        self.given = self.given.followed_by(&buf[..count]);
+        if count == 0 && !buf.is_empty() && self.given != self.before {
+            self.differing.set(Some(self.place));
+            return Err(Error::other("the file has changed"));
+        }
+        Ok(count)
+    }
+}
+
+/// A capture that is read again.
+pub(crate) type RereadCapture<'a, R> = Reread<'a, Later<'a, R>>;
+
+/// The captures of these places.
+pub(crate) fn captures_at<'a>(
+    alloc: Global,
+    places: &[usize],
+    names: &[&'a str],
+    digests: &[Digest],
+) -> Result<Vec<CaptureRead<'a>>, AllocError> {
+    let mut captures = Vec::new(alloc);
+    for place in places {
+        if let (Some(name), Some(digest)) = (names.get(*place), digests.get(*place)) {
+            captures.push(CaptureRead {
+                name: *name,
+                digest: *digest,
+            })?;
+        }
+    }
+    Ok(captures)
+}
+
+// The files of captures, one after another.
+fn files_of<'a, R: Files>(
+    alloc: Global,
+    rt: &'a R,
+    links: &[Vec<CaptureRead<'a>>],
+    differing: &'a Cell<Option<usize>>,
+) -> Result<Vec<RereadCapture<'a, R>>, AllocError> {
+    let mut files = Vec::new(alloc);
+    for link in links {
+        for capture in link {
+            let place = files.len();
+            files.push(Reread {
+                inner: Later::new(rt, capture.name, capture.digest.bytes()),
+                place,
+                before: capture.digest,
+                given: Digest::new(),
+                differing,
+            })?;
+        }
+    }
+    Ok(files)
+}
+
+// Values in groups as large as the links.
+fn grouped<T: Drop>(
+    alloc: Global,
+    values: Vec<T>,
+    links: &[Vec<CaptureRead<'_>>],
+) -> Result<Vec<Vec<T>>, AllocError> {
+    let mut groups = Vec::new(alloc);
+    let mut rest = values.into_iter();
+    for link in links {
+        let mut group = Vec::new(alloc);
+        for _capture in link {
+            if let Some(value) = rest.next() {
+                group.push(value)?;
+            }
+        }
+        groups.push(group)?;
+    }
+    Ok(groups)
+}
+
+/// The files of the captures of each link. The place of one that is not as it was is put into `differing`.
+pub(crate) fn files_of_links<'a, R: Files>(
+    alloc: Global,
+    rt: &'a R,
+    links: &[Vec<CaptureRead<'a>>],
+    differing: &'a Cell<Option<usize>>,
+) -> Result<Vec<Vec<RereadCapture<'a, R>>>, AllocError> {
+    let files = files_of(alloc, rt, links, differing)?;
+    grouped(alloc, files, links)
+}
+
+/// The name of the capture at this place, counted over all links.
+pub(crate) fn name_at<'a>(links: &[Vec<CaptureRead<'a>>], place: usize) -> &'a str {
+    let mut rest = place;
+    for link in links {
+        if let Some(capture) = link.get(rest) {
+            return capture.name;
+        }
+        rest = rest.saturating_sub(link.len());
+    }
+    ""
+}
+
+// Appends the line of a capture that has grown.
+fn put_grown_line(lines: &mut Vec<u8>, capture: &CaptureRead<'_>) -> Result<(), AllocError> {
+    lines.extend_from_slice(b" grown ")?;
+    put_sh_quoted(lines, capture.name.as_bytes())?;
+    put_named(
+        lines,
+        b": what came after its first ",
+        capture.digest.bytes(),
+    )?;
+    lines.extend_from_slice(b" bytes is not in the file\n")
+}
+
+/// Appends a line for each capture that has more bytes than were read.
+pub(crate) fn put_grown<R: Files>(
+    rt: &R,
+    lines: &mut Vec<u8>,
+    links: &[Vec<CaptureRead<'_>>],
+) -> Result<(), AllocError> {
+    for link in links {
+        for capture in link {
+            if is_longer(rt, capture.name, capture.digest.bytes()) {
+                put_grown_line(lines, capture)?;
+            }
+        }
+    }
+    Ok(())
+}

@@ -1,0 +1,33 @@
+use Rattle.std.proofs.Common.{◌≡◌, ◌≤◌, ◌+◌, ◌-◌, ◌*◌, ◌/◌, List, ◌++◌, ℕ, length, take, drop, ap, refl, arith, ◌∙◌}
+use Rattle.std.proofs.lemmas.List.{length-take-le}
+use Rattle.rtk_label.proofs.PieceLemmas.{drop-over}
+use Rattle.rtk_label.proofs.PartedLemmas.{cut_is, cut_number}
+use Rattle.rtk_label.proofs.unlabelled.unlabel_cut.Goals as goal
+
+lines_len : (text lines : List ℕ) → lines ≡ take (81 * (length text / 81)) text → length lines ≡ 81 * (length text / 81)
+lines_len text lines e = ap length e ∙ length-take-le (81 * (length text / 81)) text (omega arith)
+
+pub len_in-from-requires : goal.len_in-from-requires
+len_in-from-requires c h = c.as_slice.ensures.value ∙ c.number_in-number.ensures.none h
+
+pub reading_of-reading-requires-clause-number : goal.reading_of-reading-requires-clause-number
+reading_of-reading-requires-clause-number c =
+    rw c.as_slice-2.ensures.value
+    (cut_number c.columns_at-lines.result.now c.number_in-number.result.items c.completed-ten.result.items c.len_in-from.result (length c.args.text.now / 81)
+    c.completed-ten.ensures.items c.completed-ten.ensures.len (lines_len c.args.text.now c.columns_at-lines.result.now c.columns_at-lines.ensures.value)
+    c.number_in-number.ensures.none c.number_in-number.ensures.some (λ h. c.len_in-from.ensures.blank (rw c.as_slice.ensures.value h)))
+
+pub returns-clause-cut : goal.returns-clause-cut
+returns-clause-cut c =
+    let text = c.args.text.now in
+    let from = c.len_in-from.result in
+    let whole = 81 * (length text / 81) in
+    let size : length c.columns_at-lines.result.now ≡ whole = lines_len text c.columns_at-lines.result.now c.columns_at-lines.ensures.value in
+    let low : from ≤ length c.columns_at-lines.result.now = c.len_in-from.ensures.within in
+    let sum : from + (whole - from) ≡ whole = omega (arith, size, low) in
+    cut_is text c.columns_at-lines.result.now c.completed-ten.result.items c.reading_of-reading.result.front.items _ from c.reading_of-reading.result.unlabelled.label
+    c.columns_at-lines.ensures.value c.completed-ten.ensures.items c.reading_of-reading.ensures.from
+    (rw c.as_slice-2.ensures.value at c.reading_of-reading.ensures.labelled) (rw c.as_slice-2.ensures.value at c.reading_of-reading.ensures.every)
+    (rw (c.reading_of-reading.ensures.same, c.copy_from_slice.ensures.after, c.columns_at.ensures.value, c.as_slice-3.ensures.value)
+    (drop-over from (whole - from) (whole - from) text (take (whole - from) c.reading_of-reading.result.front.items) (omega (arith, size, low)) refl
+    ∙ ap (λ (n : ℕ). take (whole - from) c.reading_of-reading.result.front.items ++ drop n text) sum))

@@ -1,0 +1,341 @@
+//! What a file and a report have that are written, by their texts as they pass: the epochs and satellites of
+//! the file, whether its header has a position, and the conflicts of the report.
+
+ghost use Rattle.std.specs.Prelude.{◌<◌};
+
+use crate::said_command::put_time;
+use arrayvec::ArrayVec;
+use memchr::memchr;
+use rtk_message::put_named;
+use rtk_obs::{Civil, GpsMs, of_civil};
+use std::alloc::{AllocError, Global};
+use std::collections::BTreeMap;
+
+/// The columns of a line of the header, which are looked at.
+const HEADER_COLUMNS: usize = 80;
+
+/// The columns of an epoch line with its time.
+const TIME_COLUMNS: usize = 29;
+
+/// How many gaps are listed.
+const MOST_GAPS: usize = 10;
+
+/// A step of so many ms is no gap.
+const GREATEST_STEP_MS: u64 = 60_000;
+
+/// The columns of a position of which nothing is known.
+const NO_POSITION: &[u8] = b"        0.0000        0.0000        0.0000";
+
+/// What looks at a text that passes in parts.
+pub trait TakesText {
+    /// The next part of the text.
+    fn take(&mut self, text: &[u8]) -> Result<(), AllocError>;
+}
+
+/// A step between two records.
+#[derive(Clone, Copy, Debug, PartialEq, Eq)]
+pub struct Step {
+    pub from: GpsMs,
+    pub until: GpsMs,
+}
+
+impl Step {
+    fn ms(&self) -> u64 {
+        self.until.ms().saturating_sub(self.from.ms())
+    }
+}
+
+/// What a file has so far.
+#[derive(Drop)]
+pub struct WrittenFile {
+    // The first columns of a line that goes on.
+    line: ArrayVec<u8, HEADER_COLUMNS>,
+    is_body: bool,
+    has_position: bool,
+    satellites: [bool; 100],
+    first: Option<GpsMs>,
+    last: Option<GpsMs>,
+    // How often each step came, in ms.
+    steps: BTreeMap<u64, u64>,
+    // The longest steps, the longest first.
+    longest: Vec<Step>,
+}
+
+fn byte_at(line: &[u8], place: usize) -> u8 {
+    line.get(place).copied().unwrap_or(b'0')
+}
+
+// The number of two digits; a blank counts as 0.
+fn two_digits(line: &[u8], place: usize) -> u8
+    requires { place < 100 }
+    ensures { result < 100 }
+{
+    let tens = byte_at(line, place).wrapping_sub(b'0') % 10;
+    let ones = byte_at(line, place + 1).wrapping_sub(b'0') % 10;
+    10 * tens + ones
+}
+
+// The moment of an epoch line, as in `> 2024 05 17 12 00 30.0000000`.
+fn moment_in(line: &[u8]) -> Option<GpsMs> {
+    let hundreds = u16::from(byte_at(line, 22).wrapping_sub(b'0') % 10);
+    of_civil(Civil {
+        year: 100 * u16::from(two_digits(line, 2)) + u16::from(two_digits(line, 4)),
+        month: two_digits(line, 7),
+        day: two_digits(line, 10),
+        hour: two_digits(line, 13),
+        minute: two_digits(line, 16),
+        second: two_digits(line, 19),
+        millisecond: 100 * hundreds + u16::from(two_digits(line, 23)),
+    })
+}
+
+fn has_label(line: &[u8], label: &[u8]) -> bool {
+    let columns = line.len().min(60);
+    line[columns..].starts_with(label)
+}
+
+// Adds a step among the longest, the longest first, and keeps ten.
+fn put_step(longest: &mut Vec<Step>, step: Step) -> Result<(), AllocError> {
+    let place = match longest.iter().position(|other| other.ms() < step.ms()) {
+        Some(place) => place,
+        None => longest.len(),
+    };
+    longest.insert(place, step)?;
+    longest.truncate(MOST_GAPS);
+    Ok(())
+}
+
+impl WrittenFile {
+    /// Nothing was written.
+    pub fn new(alloc: Global) -> WrittenFile {
+        WrittenFile {
+            line: ArrayVec::new(),
+            is_body: false,
+            has_position: false,
+            satellites: [false; 100],
+            first: None,
+            last: None,
+            steps: BTreeMap::new(alloc),
+            longest: Vec::new(alloc),
+        }
+    }
+
+    fn take_step(&mut self, step: Step) -> Result<(), AllocError> {
+        let count = self.steps.entry(step.ms())?.or_insert(0);
+        *count = count.saturating_add(1);
+        put_step(&mut self.longest, step)
+    }
+
+    fn take_epoch(&mut self, epoch: GpsMs) -> Result<(), AllocError> {
+        if let Some(last) = self.last {
+            self.take_step(Step {
+                from: last,
+                until: epoch,
+            })?;
+        }
+        self.first = Some(self.first.unwrap_or(epoch));
+        self.last = Some(epoch);
+        Ok(())
+    }
+
+    fn take_header_line(&mut self) {
+        let line = self.line.as_slice();
+        let is_end = has_label(line, b"END OF HEADER");
+        let is_position = has_label(line, b"APPROX POSITION XYZ");
+        let is_known = is_position && !line.starts_with(NO_POSITION);
+        self.is_body = is_end;
+        self.has_position = self.has_position || is_known;
+    }
+
+    fn take_record_line(&mut self) -> Result<(), AllocError> {
+        let first = self.line.first().copied();
+        if first == Some(b'>') {
+            let Some(epoch) = moment_in(self.line.as_slice()) else {
+                return Ok(());
+            };
+            return self.take_epoch(epoch);
+        }
+        if first == Some(b'G') {
+            let satellite = two_digits(self.line.as_slice(), 1);
+            self.satellites[usize::from(satellite)] = true;
+        }
+        Ok(())
+    }
+
+    // The line ends.
+    fn take_line(&mut self) -> Result<(), AllocError> {
+        if self.is_body {
+            self.take_record_line()?;
+        } else {
+            self.take_header_line();
+        }
+        self.line.clear();
+        Ok(())
+    }
+
+    // More of the line, of which the first columns are kept.
+    fn take_part(&mut self, part: &[u8]) {
+        let most = if self.is_body {
+            TIME_COLUMNS
+        } else {
+            HEADER_COLUMNS
+        };
+        let room = most.saturating_sub(self.line.len());
+        let count = part.len().min(room);
+        let _kept = self.line.try_extend_from_slice(&part[..count]);
+    }
+
+    /// Has the header a position?
+    pub fn has_position(&self) -> bool {
+        self.has_position
+    }
+
+    /// The first and the last epoch.
+    pub fn span(&self) -> Option<Step> {
+        Some(Step {
+            from: self.first?,
+            until: self.last?,
+        })
+    }
+
+    /// How many satellites of GPS it has.
+    pub fn satellites(&self) -> usize {
+        let mut count = 0usize;
+        for is_there in &self.satellites {
+            count = count.saturating_add(usize::from(*is_there));
+        }
+        count
+    }
+
+    // The most frequent step in ms, the lesser of two alike; 0 without one.
+    fn interval_ms(&self) -> u64 {
+        let (mut interval, mut most) = (0, 0);
+        for (step, count) in &self.steps {
+            if most < *count {
+                interval = *step;
+                most = *count;
+            }
+        }
+        interval
+    }
+
+    // A step is a gap if it is longer.
+    fn greatest_step_ms(&self) -> u64 {
+        GREATEST_STEP_MS.max(self.interval_ms().saturating_mul(10))
+    }
+
+    fn gap_count(&self, greatest: u64) -> u64 {
+        let mut gaps = 0u64;
+        for (step, count) in &self.steps {
+            if greatest < *step {
+                gaps = gaps.saturating_add(*count);
+            }
+        }
+        gaps
+    }
+
+    /// Appends a line for each of the ten longest gaps, and how many more there are.
+    pub fn put_gaps(&self, lines: &mut Vec<u8>) -> Result<(), AllocError> {
+        let greatest = self.greatest_step_ms();
+        let mut listed = 0u64;
+        for gap in &self.longest {
+            if greatest < gap.ms() {
+                put_gap(lines, gap)?;
+                listed = listed.saturating_add(1);
+            }
+        }
+        let more = self.gap_count(greatest).saturating_sub(listed);
+        if more == 0 {
+            return Ok(());
+        }
+        put_named(lines, b" more-gaps ", more)?;
+        lines.extend_from_slice(b"\n")
+    }
+}
+
+fn put_gap(lines: &mut Vec<u8>, gap: &Step) -> Result<(), AllocError> {
+    lines.extend_from_slice(b" gap ")?;
+    put_time(lines, gap.from)?;
+    lines.extend_from_slice(b" until ")?;
+    put_time(lines, gap.until)?;
+    lines.extend_from_slice(b"\n")
+}
+
+impl TakesText for WrittenFile {
+    fn take(&mut self, text: &[u8]) -> Result<(), AllocError> {
+        let mut rest = text;
+        for _line in 0..text.len() {
+            let Some(end) = memchr(b'\n', rest) else {
+                break;
+            };
+            let (line, more) = rest.split_at(end);
+            self.take_part(line);
+            self.take_line()?;
+            rest = more.split_at(more.len().min(1)).1;
+        }
+        self.take_part(rest);
+        Ok(())
+    }
+}
+
+/// The columns of a line of the report that say of what it is, as `link 16 conflict`.
+const REPORT_COLUMNS: usize = 16;
+
+/// How many conflicts a report lists so far.
+#[derive(Clone, Drop)]
+pub struct Conflicts {
+    // The first columns of a line that goes on.
+    line: ArrayVec<u8, REPORT_COLUMNS>,
+    count: u64,
+}
+
+// Is it the line of a conflict? Links have one digit or two.
+fn is_conflict(line: &[u8]) -> bool {
+    let columns = line.len().min(6);
+    let rest = &line[columns..];
+    line.starts_with(b"link ") && (rest.starts_with(b" conflict") || rest.ends_with(b" conflict"))
+}
+
+impl Conflicts {
+    /// Nothing was written.
+    pub fn new() -> Conflicts {
+        Conflicts {
+            line: ArrayVec::new(),
+            count: 0,
+        }
+    }
+
+    /// How many conflicts the report lists.
+    pub fn count(&self) -> u64 {
+        self.count
+    }
+
+    fn take_part(&mut self, part: &[u8]) {
+        let count = part.len().min(self.line.remaining_capacity());
+        let _kept = self.line.try_extend_from_slice(&part[..count]);
+    }
+
+    fn take_line(&mut self) {
+        if is_conflict(self.line.as_slice()) {
+            self.count = self.count.saturating_add(1);
+        }
+        self.line.clear();
+    }
+}
+
+impl TakesText for Conflicts {
+    fn take(&mut self, text: &[u8]) -> Result<(), AllocError> {
+        let mut rest = text;
+        for _line in 0..text.len() {
+            let Some(end) = memchr(b'\n', rest) else {
+                break;
+            };
+            let (line, more) = rest.split_at(end);
+            self.take_part(line);
+            self.take_line();
+            rest = more.split_at(more.len().min(1)).1;
+        }
+        self.take_part(rest);
+        Ok(())
+    }
+}
