@@ -60,7 +60,7 @@ echo "$(($(grep -c '^bytes ' summaries_told) + 1)) 0" >want
 # refuses: a summary whose lines do not add up to its frames
 same summaries_add_up_to_their_frames sums want
 for piece in piece.*; do cat "$piece"; done | "$program" summary stdin >out 2>err; status=$?
-sed 's/ long_capture\.1$/ stdin/' long_capture.1.summary >want
+sed '/^ auto /d; s/ long_capture\.1$/ stdin/' long_capture.1.summary >want # auto would read it twice
 leaves summary_of_a_long_pipe 0 want /dev/null
 
 # A file of 10 MB, and the same with a zero in its last line.

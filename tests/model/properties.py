@@ -188,6 +188,11 @@ def summarized_as_modelled(case: Case) -> Answer:
     return ends_with(case.program.on(text, "summary"), 0, summary_of(text).encode(), b"")
 
 
+def name_of(at: int) -> str:
+    """The name of the capture at this place: its bytes come before those of the next one."""
+    return f"link{at + 1:02}"
+
+
 def auto_as_modelled(case: Case) -> Answer:
     """`auto` of the links, whole or in parts and with dates among their frames, says the values that the slow model finds and
     how it went, and writes the file of these values; or it writes nothing, and names the cause that the model finds."""
@@ -207,10 +212,11 @@ def auto_as_modelled(case: Case) -> Answer:
     options += [] if station is None else [f"--station={station}"]
     options += [] if near is None else [f"--near={civil(near):%Y-%m-%dT%H:%M:%S}"]
     options += ["--links-as-given"] * as_given + ["--skip-empty"] * skip_empty
-    names = [f"link{at}" for at in range(1, len(texts) + 1)]
+    names = [name_of(at) for at in range(len(texts))]
     for name, text in zip(names, texts):
         case.program.write(name, text)
-    run = case.program.run(["auto", *options, *names])
+    # the order of the captures makes no difference, since their names count
+    run = case.program.run(["auto", *options, *(names if as_given else rng.sample(names, len(names)))])
     try:
         found = find(texts, now, station, near, as_given, skip_empty)
     except Stopped as stopped:
@@ -237,7 +243,7 @@ def stations_text(stations: tuple[object, ...], texts: list[bytes]) -> str:
     captures = [finding.Capture.of(text) for text in texts]
     times = {(it, at): [of.header["tow"] for of in capture.of_station(it) if "tow" in of.header]
              for it in stations for at, capture in enumerate(captures, 1) if it in capture.observing()}
-    return "".join(f" station {it} in link{at}: {len(list(groupby(of)))} epochs\n" for (it, at), of in times.items())
+    return "".join(f" station {it} in {name_of(at - 1)}: {len(list(groupby(of)))} epochs\n" for (it, at), of in times.items())
 
 
 STOPPED = {
@@ -324,17 +330,18 @@ def auto_text(found: Found, said: Setup, due: Conversion, texts: list[bytes], is
     words = (f"rtcm2rinex convert --station {said.station} --near {civil(said.near):%Y-%m-%dT%H:%M:%S}"
              f" --made {civil(said.made):%Y-%m-%dT%H:%M:%S} --marker {'-' * (len(said.marker) - len(marker))}{sh_quoted(marker)}"
              f" --codes {','.join(said.codes)}{'' if said.msm == 4 else f' --msm {said.msm}'} --window {said.window}")
-    cats = ["cat " + " ".join(f"link{at + 1}" for at in link) for link in found.links]
+    cats = ["cat " + " ".join(map(name_of, link)) for link in found.links]
     if len(cats) == 1 < len(found.links[0]):
         lines.append(f"{cats[0]} | {words} stdin")
     else:
         lines += ["mkdir joined &&"] * any(len(link) > 1 for link in found.links)
         lines += [f"{cat} >joined/{at}.rtcm &&" for at, cat in enumerate(cats, 1) if len(found.links[at - 1]) > 1]
-        files = [f"joined/{at}.rtcm" if len(link) > 1 else f"link{link[0] + 1}" for at, link in enumerate(found.links, 1)]
+        files = [f"joined/{at}.rtcm" if len(link) > 1 else name_of(link[0]) for at, link in enumerate(found.links, 1)]
         lines.append(f"{words} {' '.join(files)}")
     lines += due.report.splitlines()[-9:]
     counts = dict(line.split(" ") for line in lines[-9:])
-    lines += [f" from {shown_time(epochs[0])} until {shown_time(epochs[-1])} by {source}"] * bool(epochs)
+    if epochs:
+        lines.append(f" from {shown_time(epochs[0])} until {shown_time(epochs[-1])} by {source}")
     if re.search(r"^ {8}0\.0000 {8}0\.0000 {8}0\.0000 +APPROX POSITION XYZ", due.file, re.M):
         lines.append(" no-position: no 1005 or 1006 came in time, and the header has zeros")
     lines += gap_lines(epochs)
@@ -344,18 +351,18 @@ def auto_text(found: Found, said: Setup, due: Conversion, texts: list[bytes], is
     captures = {at: finding.Capture.of(texts[at]) for at in kept}
     told = {at: distinct(finding.counting(finding.tellings(said.made, it, said.station), said.station)) for at, it in captures.items()}
     if is_told:
-        lines += [f" undated link{at + 1}: dated near the others" for (at, of), epochs in zip(told.items(), found.epochs) if epochs and not of]
+        lines += [f" undated {name_of(at)}: dated near the others" for (at, of), epochs in zip(told.items(), found.epochs) if epochs and not of]
     passed = {at: distinct(finding.passed_over(finding.tellings(said.made, it, said.station), said.station)) for at, it in captures.items()}
     others = [(at, it) for at, epochs in zip(kept, found.epochs) for it in told[at] + passed[at] if it.first != epochs[0]]
     lines += [f" other-date {civil(it.first):%Y-%m-%dT%H:%M:%S} by {it.fields['number']}"
-              + (f" of station {it.fields['station']}" if "station" in it.fields else "") + f" in link{at + 1}" for at, it in others]
+              + (f" of station {it.fields['station']}" if "station" in it.fields else "") + f" in {name_of(at)}" for at, it in others]
     lines += [f" few-phases {code}: its satellites have more than twice as many in another code" for code in found.few]
     lines += [f" late {counts['late']}: messages after {said.window} newer epochs are left out"] * (counts["late"] != "0")
     looks = {at: look_of(texts[at]) for at in found.skipped if not frames_of(texts[at])}
     shown = {"unknown": "", "empty": " is empty", "gzip": " looks like gzip; unpack it: gzip -dc NAME >NAME.rtcm"}
-    lines += [f" skipped link{at + 1}{shown.get(looks.get(at), '').replace('NAME', f'link{at + 1}')}" for at in found.skipped]
+    lines += [f" skipped {name_of(at)}{shown.get(looks.get(at), '').replace('NAME', name_of(at))}" for at in found.skipped]
     falls = [at for at, of in zip(kept, found.epochs) if of != sorted(of)]
-    lines += [f" {'no-epoch' if at in found.without else 'time-falls'} link{at + 1}" for link in found.links for at in link
+    lines += [f" {'no-epoch' if at in found.without else 'time-falls'} {name_of(at)}" for link in found.links for at in link
               if at in found.without + falls]
     read = [read_message(it.payload, MSMS) for text in texts for it in frames_of(text)]
     others = Counter(it.number for it in read if isinstance(it, Refusal) and it.fault == "M2")

@@ -94,4 +94,4 @@ OF_A_NAME(mkfifo) OF_A_NAME(mknod) OF_A_NAME(mkstemp) OF_A_NAME(chmod) OF_A_NAME
 OF_A_NAME(utimes) OF_A_NAME(execve)
 IN_A_FOLDER(unlinkat) IN_A_FOLDER(renameat) IN_A_FOLDER(renameat2) IN_A_FOLDER(linkat) IN_A_FOLDER(mkdirat) IN_A_FOLDER(mkfifoat)
 IN_A_FOLDER(mknodat) IN_A_FOLDER(fchmodat) IN_A_FOLDER(fchownat) IN_A_FOLDER(utimensat)
-OF_A_DESCRIPTOR(fchown) OF_A_DESCRIPTOR(ftruncate) OF_A_DESCRIPTOR(futimens)
+OF_A_DESCRIPTOR(fchown) OF_A_DESCRIPTOR(ftruncate) OF_A_DESCRIPTOR(futimens) OF_A_DESCRIPTOR(flock) OF_A_DESCRIPTOR(fdatasync)
