@@ -188,9 +188,13 @@ def summarized_as_modelled(case: Case) -> Answer:
     return ends_with(case.program.on(text, "summary"), 0, summary_of(text).encode(), b"")
 
 
+# By their bytes, as link1, link10, .., link2: another order than that of their numbers.
+NAMES = sorted(f"link{at}" for at in range(1, 1000))
+
+
 def name_of(at: int) -> str:
-    """The name of the capture at this place: its bytes come before those of the next one."""
-    return f"link{at + 1:02}"
+    """The name of the capture at this place."""
+    return NAMES[at]
 
 
 def auto_as_modelled(case: Case) -> Answer:
