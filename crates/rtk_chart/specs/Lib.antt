@@ -10,7 +10,9 @@ pub mod MarkLaws
 pub mod Scale
 pub mod Signs
 pub mod Steps
+pub mod Strengths
 pub mod SvgPath
 pub mod SvgPicture
+pub mod SvgStrip
 pub mod TextPicture
 pub mod Ticks

@@ -49,7 +49,7 @@ pub fn chosen_text(
     };
     let interval = survey.steps.interval();
     let scale = Scale::new(heading.first, last, interval, u64::from(width - FRAME));
-    let grid = fill_grid(alloc, table, &scale, heading.first, choice)?;
+    let grid = fill_grid(alloc, table, &scale, codes, heading.first, choice)?;
     let text = text_picture(alloc, marker, codes, &scale, width, &survey, &grid)?;
     Ok(text)
 }
@@ -83,7 +83,7 @@ pub fn chosen_svg(
     };
     let interval = survey.steps.interval();
     let scale = Scale::new(heading.first, last, interval, MOST_BINS);
-    let grid = fill_grid(alloc, table, &scale, heading.first, choice)?;
+    let grid = fill_grid(alloc, table, &scale, codes, heading.first, choice)?;
     let svg = svg_picture(alloc, marker, codes, &scale, &survey, &grid)?;
     Ok(svg)
 }
