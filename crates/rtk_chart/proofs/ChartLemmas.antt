@@ -8,7 +8,7 @@ use Rattle.rtk_chart.specs.Grid.{bins_of, outages_of, gaps_of}
 use Rattle.rtk_chart.specs.TextPicture.{text_picture, text_of_none}
 use Rattle.rtk_chart.specs.Chart.{slips_at, returns_at, rises_at, text_at, text_of_epochs, svg_at, svg_of_epochs}
 use Rattle.rtk_chart.specs.SvgPicture.{svg_picture, svg_of_none}
-use Rattle.rtk_chart.specs.Strengths.{columns_of}
+use Rattle.rtk_chart.specs.Means.{columns_of}
 use Rattle.rtk_chart.specs.Steps.Standing.{StandsForGrid}
 use Rattle.rtk_obs.specs.declared.code.Code.{Code}
 use Rattle.rtk_chart.specs.declared.scale.Scale.{Scale}

@@ -13,7 +13,7 @@ use Rattle.rtk_tracking.specs.Interval.{missing_in}
 use Rattle.rtk_chart.specs.Grid.{bins_of, outages_of, gaps_of}
 use Rattle.rtk_chart.specs.TextPicture.{satellites_in, named_count_line, moment_line, text_heading, number_lines, text_body, text_picture}
 use Rattle.rtk_chart.specs.SvgPicture.{number_between, interval_text, svg_span, svg_numbers, svg_start, svg_body, spacing_of, never_end, svg_picture}
-use Rattle.rtk_chart.specs.Strengths.{columns_of}
+use Rattle.rtk_chart.specs.Means.{columns_of}
 use Rattle.rtk_chart.specs.SvgStrip.{strip_height}
 use Rattle.rtk_chart.specs.Chart.{slips_at, returns_at, rises_at, text_at, svg_at}
 use Rattle.rtk_chart.specs.HeadingLaws.{HasNumbers, HaveSameBins, HaveSameNumbers, heading_in_text, heading_in_svg}

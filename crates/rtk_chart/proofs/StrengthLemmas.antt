@@ -1,7 +1,6 @@
 -- The strengths of columns, record by record.
-use Rattle.std.proofs.Common.{◌≡◌, ◌≢◌, ◌<◌, ◌≤◌, ◌+◌, ◌/◌, ◌==◌, ◌⊎◌, inl, inr, ℕ, Bool, true, false, cond, List, [], ◌∷◌, ◌++◌, Option, None, Some, length, set, get_or, map, drop, replicate, refl, sym, ap, subst, ◌∙◌, arith}
+use Rattle.std.proofs.Common.{◌≡◌, ◌≢◌, ◌<◌, ◌≤◌, ◌+◌, ◌==◌, ◌⊎◌, inl, inr, ℕ, Bool, true, false, cond, List, [], ◌∷◌, ◌++◌, Option, None, Some, length, set, get_or, drop, replicate, refl, sym, ap, subst, ◌∙◌, arith}
 use Rattle.std.specs.Prelude.{sum}
-use Rattle.std.specs.List.{range_with_len}
 use Rattle.std.proofs.lemmas.Bool.{eq-eqb, ne_eqb}
 use Rattle.std.proofs.lemmas.List.{drop_more, drop_all, length-append, length-replicate, get_or-replicate}
 use Rattle.std.proofs.lemmas.List.Sums.{sum_by-append}
@@ -14,7 +13,7 @@ use Rattle.rtk_rinex.specs.Record.{EpochTableView}
 use Rattle.rtk_rinex.specs.declared.epoch_table.Observed.{Observed}
 use Rattle.rtk_rinex.specs.declared.epoch_table.SatelliteRow.{SatelliteRow}
 use Rattle.rtk_tracking.specs.Epochs.{capped}
-use Rattle.rtk_chart.specs.Strengths.{number_of, is_of_band, list_of_strength, strengths_of_row, strengths_of_rows, column_at, strengths_in, band_in, column_in, columns_of, all_without, of_band}
+use Rattle.rtk_chart.specs.Means.{number_of, is_of_band, list_of_strength, strengths_of_row, strengths_of_rows, column_at, strengths_in, band_in, column_in, columns_of, all_without, of_band}
 use Rattle.rtk_chart.specs.Steps.Added.{with_one, with_strength, with_row, with_rows}
 use Rattle.rtk_chart.specs.declared.scale.Scale.{Scale}
 use Rattle.rtk_chart.specs.declared.strengths.BandStrengths.{BandStrengths}

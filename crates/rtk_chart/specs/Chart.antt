@@ -8,7 +8,7 @@ use Rattle.rtk_chart.specs.Epochs.{slips_in, returns_in, rises_in}
 use Rattle.rtk_tracking.specs.Interval.{interval_of_file, missing_in}
 use Rattle.rtk_chart.specs.Scale.{scale_of}
 use Rattle.rtk_chart.specs.Grid.{bins_of, outages_of, gaps_of}
-use Rattle.rtk_chart.specs.Strengths.{columns_of}
+use Rattle.rtk_chart.specs.Means.{columns_of}
 use Rattle.rtk_chart.specs.TextPicture.{text_picture, text_of_none}
 use Rattle.rtk_chart.specs.SvgPicture.{svg_picture, svg_of_none}
 use Rattle.rtk_obs.specs.declared.code.Code.{Code}

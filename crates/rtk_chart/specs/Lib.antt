@@ -7,10 +7,10 @@ pub mod HeadingLaws
 pub mod Laws
 pub mod Layers
 pub mod MarkLaws
+pub mod Means
 pub mod Scale
 pub mod Signs
 pub mod Steps
-pub mod Strengths
 pub mod SvgPath
 pub mod SvgPicture
 pub mod SvgStrip

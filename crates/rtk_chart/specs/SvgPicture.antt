@@ -11,7 +11,7 @@ use Rattle.rtk_chart.specs.Ticks.{tick_step, tick_at, tick_label}
 use Rattle.rtk_chart.specs.Grid.{tracking_at, marks_at, is_out}
 use Rattle.rtk_chart.specs.Signs.{is_drawn, has_code, is_never}
 use Rattle.rtk_chart.specs.TextPicture.{satellite_label, never_before, drawn_before, satellites_in}
-use Rattle.rtk_chart.specs.Strengths.{bins_per_column}
+use Rattle.rtk_chart.specs.Means.{bins_per_column}
 use Rattle.rtk_chart.specs.SvgStrip.{strip_height, strip_text}
 use Rattle.rtk_chart.specs.SvgPath.{edge_of, runs_text, marks_text, most_tracked, steps_text}
 use Rattle.rtk_chart.specs.Layers.{shows}

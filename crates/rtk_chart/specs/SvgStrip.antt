@@ -3,7 +3,7 @@ use Rattle.std.specs.Prelude.{ℕ, ◌+◌, ◌-◌, ◌*◌, ◌/◌, ◌==◌,
 use Rattle.std.specs.List.{range_with_len}
 use Rattle.rtk_obs.specs.declared.code.Band.{Band}
 use Rattle.rtk_obs.specs.declared.code.Band.TheVariants.{L1, L2, L5}
-use Rattle.rtk_chart.specs.Strengths.{number_of, all_without, mean_in, least_mean, greatest_mean}
+use Rattle.rtk_chart.specs.Means.{number_of, all_without, mean_at, least_mean, greatest_mean}
 use Rattle.rtk_chart.specs.SvgPath.{edge_of}
 use Rattle.rtk_chart.specs.declared.strengths.Strengths.{Strengths}
 use Rattle.rtk_chart.specs.declared.svg_strip.Reach.{Reach}
@@ -26,7 +26,7 @@ depth_of reach (Some mean) = Some (40 - (mean - 1000 * reach.from) * 36 / (1000 
 
 -- the same of the column of a bin, if columns have so many bins
 abbrev pub depth_at : Band → List Strengths → Reach → ℕ → ℕ → Option ℕ
-depth_at band columns reach each bin = depth_of reach (mean_in band (get_or columns (bin / each) all_without))
+depth_at band columns reach each bin = depth_of reach (mean_at band (get_or columns (bin / each) all_without))
 
 -- of so many bins
 abbrev pub depths_of : Band → List Strengths → Reach → ℕ → ℕ → List (Option ℕ)
@@ -58,9 +58,9 @@ unfoldable pub lane_start : ℕ → ℕ → Reach → List ℕ
 lane_start top number reach =
     (codes "<g transform='translate(110 " ++ decimal top ++ codes ")'>\n<title>mean strength of band ")
     ++ (decimal number ++ codes " in dB-Hz</title>\n<text class='code' x='-6' y='18'>strength</text>\n<text class='code' x='-6' y='38'>of band ")
-    ++ (decimal number ++ codes "</text>\n<text class='side' x='1446' y='18'>")
-    ++ (decimal reach.until ++ codes "</text>\n<text class='side' x='1446' y='44'>")
-    ++ (decimal reach.from ++ codes "</text>\n<path class='n' d='")
+    ++ (decimal number ++ codes "</text>\n<text class='side' x='1446' y='16'>")
+    ++ (decimal reach.until ++ codes "</text>\n<text class='side' x='1446' y='40'>")
+    ++ (decimal reach.from ++ codes "</text>\n<path class='k' d='")
 
 -- formula
 -- the lane of a band over so many bins

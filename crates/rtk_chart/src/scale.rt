@@ -3,7 +3,7 @@
 ghost use Rattle.std.specs.Prelude.{◌≡◌, ◌≤◌, ◌<◌, ◌^◌, ℕ};
 ghost use Rattle.std.specs.Int.{IsInRange};
 ghost use Rattle.rtk_chart.specs.Scale.{scale_of, IsScale, bin_at, bin_start, unit_of};
-ghost use Rattle.rtk_chart.specs.Strengths.{bins_per_column};
+ghost use Rattle.rtk_chart.specs.Means.{bins_per_column};
 
 use rtk_obs::{GpsMs, LAST_MS};
 

@@ -3,7 +3,7 @@
 ghost use Rattle.std.specs.Prelude.{◌≡◌, List, ◌∷◌, length};
 ghost use Rattle.rtk_rinex.specs.Record.{EpochTableView};
 ghost use Rattle.rtk_chart.specs.Scale.{IsScale};
-ghost use Rattle.rtk_chart.specs.Strengths.{number_of, of_band, no_strengths, all_without, mean_of, mean_in, columns_of};
+ghost use Rattle.rtk_chart.specs.Means.{number_of, of_band, no_strengths, all_without, mean_of, mean_at, columns_of};
 ghost use Rattle.rtk_chart.specs.Steps.Added.{with_one, with_strength, with_row, with_rows};
 
 use crate::scale::Scale;
@@ -100,8 +100,8 @@ impl Strengths {
     }
 
     /// The mean of a band, if it has a strength.
-    pub(crate) fn mean_in(&self, band: Band) -> Option<u16>
-        ensures { result ≡ mean_in band self.now }
+    pub(crate) fn mean_at(&self, band: Band) -> Option<u16>
+        ensures { result ≡ mean_at band self.now }
     {
         self.of(band).mean()
     }

@@ -34,7 +34,7 @@ pub(crate) const STYLE: &[u8] = b"<style>\
 .l0{stroke:#444!important}.l1{stroke:#4f4822!important}.l2{stroke:#55582a!important}.l3{stroke:#4f6438!important}\
 .l4{stroke:#4a754e!important}.l5{stroke:#438568!important}.l6{stroke:#3f9585!important}.l7{stroke:#45a4a6!important}\
 .l8{stroke:#55b3c8!important}.l9{stroke:#7cc8f0!important}\
-.n{fill:#8ab!important}.p,.m,.h,.a{fill:#111!important}.p,.m{stroke:#ccc!important}\
+.n,.k{fill:#8ab!important}.k{stroke:#8ab!important}.p,.m,.h,.a{fill:#111!important}.p,.m{stroke:#ccc!important}\
 .o{fill:#ffb070!important;stroke:#ffb070!important}.a{stroke:#fff!important}\
 .s{fill:#ffb070!important}.g{stroke:#fff!important}\
 .r{fill:#fff!important}.r,.s{stroke:#111!important}}\
@@ -56,7 +56,7 @@ path{fill:none}\
 .h{fill:#fff;stroke:#b04c85;stroke-width:2}.a{fill:#fff;stroke:#222;stroke-width:2}\
 .o{fill:#8a1c00;fill-opacity:.2;stroke:#8a1c00;stroke-width:1.5}\
 .g{stroke:#222;stroke-width:14}\
-.n{fill:#468;fill-opacity:.5}\
+.n,.k{fill:#468;fill-opacity:.5}.k{fill-opacity:.3;stroke:#468;stroke-width:2}\
 .t{stroke:#888;stroke-opacity:.5}\
 @media not all{.page{}.s{stroke:#8a1c00}.r{stroke:none}}\
 </style>\n";

@@ -1,7 +1,7 @@
 //! The strip of strengths in an SVG picture: a lane for each band.
 
 ghost use Rattle.std.specs.Prelude.{◌≡◌, ◌≤◌, ◌<◌, ◌++◌, length, IfOk, OnOk};
-ghost use Rattle.rtk_chart.specs.Strengths.{least_mean, greatest_mean};
+ghost use Rattle.rtk_chart.specs.Means.{least_mean, greatest_mean};
 ghost use Rattle.rtk_chart.specs.SvgStrip.{reach_between, reach_of, depth_of, depth_at, depths_of, depth_part, depths_text, lane_start, lane_text, lane_height, lane_if_measured, strip_height, strip_text};
 
 use crate::strengths::{Strengths, number_of};
@@ -28,7 +28,7 @@ fn least_mean(columns: &[Strengths], band: Band) -> Option<u16>
 {
     let mut least = None;
     for column in columns {
-        least = lesser(least, column.mean_in(band));
+        least = lesser(least, column.mean_at(band));
     }
     least
 }
@@ -38,7 +38,7 @@ fn greatest_mean(columns: &[Strengths], band: Band) -> Option<u16>
 {
     let mut greatest = None;
     for column in columns {
-        greatest = greater(greatest, column.mean_in(band));
+        greatest = greater(greatest, column.mean_at(band));
     }
     greatest
 }
@@ -87,7 +87,7 @@ fn depth_at(columns: &[Strengths], band: Band, reach: Reach, each: u64, bin: usi
     let column = (bin as u64 / each) as usize;
     let none = Strengths::none();
     let strengths = columns.get(column).copied().unwrap_or(none);
-    depth_of(reach, strengths.mean_in(band))
+    depth_of(reach, strengths.mean_at(band))
 }
 
 // The same of so many bins.
@@ -168,16 +168,16 @@ fn put_lane_start(
     put_between(text, b"", number, BAND_START)?;
     put_between(text, b"", number, UNTIL_START)?;
     put_between(text, b"", u64::from(reach.until), FROM_START)?;
-    put_between(text, b"", u64::from(reach.from), b"</text>\n<path class='n' d='")?;
+    put_between(text, b"", u64::from(reach.from), b"</text>\n<path class='k' d='")?;
     Ok(())
 }
 
 const BAND_START: &[u8] = b" in dB-Hz</title>\n\
 <text class='code' x='-6' y='18'>strength</text>\n<text class='code' x='-6' y='38'>of band ";
 
-const UNTIL_START: &[u8] = b"</text>\n<text class='side' x='1446' y='18'>";
+const UNTIL_START: &[u8] = b"</text>\n<text class='side' x='1446' y='16'>";
 
-const FROM_START: &[u8] = b"</text>\n<text class='side' x='1446' y='44'>";
+const FROM_START: &[u8] = b"</text>\n<text class='side' x='1446' y='40'>";
 
 // The lane of a band over so many bins.
 fn put_lane(

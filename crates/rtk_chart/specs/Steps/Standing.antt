@@ -10,7 +10,7 @@ use Rattle.rtk_chart.specs.Chart.{slips_at, returns_at, rises_at}
 use Rattle.rtk_tracking.specs.Interval.{missing_in}
 use Rattle.rtk_tracking.specs.Standing.{StandsForStepsBetween}
 use Rattle.rtk_chart.specs.Grid.{bins_of, outages_of, gaps_of}
-use Rattle.rtk_chart.specs.Strengths.{columns_of}
+use Rattle.rtk_chart.specs.Means.{columns_of}
 use Rattle.rtk_chart.specs.declared.survey.Survey.{Survey}
 use Rattle.rtk_chart.specs.declared.scale.Scale.{Scale}
 use Rattle.rtk_chart.specs.declared.grid.Grid.{Grid}

@@ -1,7 +1,7 @@
-use Rattle.std.proofs.Common.{◌≡◌, ◌<◌, ◌≤◌, ◌/◌, ℕ, List, length, ap, sym, ◌∙◌, arith}
+use Rattle.std.proofs.Common.{◌<◌, ◌≤◌, ◌/◌, ℕ, List, length, ap, ◌∙◌, arith}
 use Rattle.rtk_rinex.specs.declared.epoch_table.SatelliteRow.{SatelliteRow}
 use Rattle.rtk_chart.specs.Scale.{bin_at}
-use Rattle.rtk_chart.specs.Strengths.{bins_per_column, column_at, all_without}
+use Rattle.rtk_chart.specs.Means.{all_without}
 use Rattle.rtk_chart.specs.Steps.Added.{with_rows}
 use Rattle.rtk_chart.proofs.StrengthLemmas.{column-more, column-beyond, column-there, columns-size}
 use Rattle.rtk_chart.proofs.strengths.note_strengths.Goals as goal

@@ -14,11 +14,11 @@ returns c =
     let l4 : List ℕ = c.put_between-4.new.text.items in
     let l5 : List ℕ = c.put_between-5.new.text.items in
     let number : List ℕ = decimal c.args.number in
-    let until : ℕ → List ℕ = λ n. decimal n ++ codes "</text>\n<text class='side' x='1446' y='44'>" in
-    let from : ℕ → List ℕ = λ n. decimal n ++ codes "</text>\n<path class='n' d='" in
+    let until : ℕ → List ℕ = λ n. decimal n ++ codes "</text>\n<text class='side' x='1446' y='40'>" in
+    let from : ℕ → List ℕ = λ n. decimal n ++ codes "</text>\n<path class='k' d='" in
     and-then l0 l4 l5 _ (from c.args.reach.from)
     (and-then l0 l3 l4 _ (until c.args.reach.until)
-    (and-then l0 l2 l3 _ (number ++ codes "</text>\n<text class='side' x='1446' y='18'>")
+    (and-then l0 l2 l3 _ (number ++ codes "</text>\n<text class='side' x='1446' y='16'>")
     (and-then l0 l1 l2 _ (number ++ codes " in dB-Hz</title>\n<text class='code' x='-6' y='18'>strength</text>\n<text class='code' x='-6' y='38'>of band ")
     c.in_ok-put_between.ensures
     c.in_ok-put_between-2.ensures)

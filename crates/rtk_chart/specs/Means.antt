@@ -94,11 +94,11 @@ of_band L5 s = s.l5
 abbrev pub mean_of : BandStrengths → Option ℕ
 mean_of b = if b.count == 0 then None else Some (min (b.sum / b.count) 63_750)
 
-abbrev pub mean_in : Band → Strengths → Option ℕ
-mean_in band column = mean_of (of_band band column)
+abbrev pub mean_at : Band → Strengths → Option ℕ
+mean_at band column = mean_of (of_band band column)
 
 abbrev pub least_mean : Band → List Strengths → Option ℕ
-least_mean band columns = fold (λ least column. lesser least (mean_in band column)) None columns
+least_mean band columns = fold (λ least column. lesser least (mean_at band column)) None columns
 
 abbrev pub greatest_mean : Band → List Strengths → Option ℕ
-greatest_mean band columns = fold (λ greatest column. greater greatest (mean_in band column)) None columns
+greatest_mean band columns = fold (λ greatest column. greater greatest (mean_at band column)) None columns
