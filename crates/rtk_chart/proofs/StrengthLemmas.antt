@@ -1,6 +1,7 @@
 -- The strengths of columns, record by record.
-use Rattle.std.proofs.Common.{◌≡◌, ◌≢◌, ◌<◌, ◌≤◌, ◌+◌, ◌==◌, ◌⊎◌, inl, inr, ℕ, Bool, true, false, cond, List, [], ◌∷◌, ◌++◌, Option, None, Some, length, set, get_or, drop, replicate, refl, sym, ap, subst, ◌∙◌, arith}
-use Rattle.std.specs.Prelude.{sum}
+use Rattle.std.proofs.Common.{◌≡◌, ◌≢◌, ◌<◌, ◌≤◌, ◌+◌, ◌*◌, ◌/◌, ◌^◌, ◌==◌, ◌⊎◌, inl, inr, ℕ, Bool, true, false, cond, List, [], ◌∷◌, ◌++◌, Option, None, Some, length, set, get_or, drop, replicate, refl, sym, ap, subst, ◌∙◌, arith}
+use Rattle.std.specs.Prelude.{sum, min}
+use Rattle.std.proofs.Math.Nat.{div-lt_iff_lt-mul}
 use Rattle.std.proofs.lemmas.Bool.{eq-eqb, ne_eqb}
 use Rattle.std.proofs.lemmas.List.{drop_more, drop_all, length-append, length-replicate, get_or-replicate}
 use Rattle.std.proofs.lemmas.List.Sums.{sum_by-append}
@@ -13,7 +14,8 @@ use Rattle.rtk_rinex.specs.Record.{EpochTableView}
 use Rattle.rtk_rinex.specs.declared.epoch_table.Observed.{Observed}
 use Rattle.rtk_rinex.specs.declared.epoch_table.SatelliteRow.{SatelliteRow}
 use Rattle.rtk_tracking.specs.Epochs.{capped}
-use Rattle.rtk_chart.specs.Means.{number_of, is_of_band, list_of_strength, strengths_of_row, strengths_of_rows, column_at, strengths_in, band_in, column_in, columns_of, all_without, of_band}
+use Rattle.rtk_chart.specs.Means.{number_of, is_of_band, list_of_strength, strengths_of_row, strengths_of_rows, column_at, strengths_in, band_in, column_in, columns_of, all_without, of_band, mean_of, mean_at, bins_per_column}
+use Rattle.rtk_chart.specs.Laws.{mean_of_strengths}
 use Rattle.rtk_chart.specs.Steps.Added.{with_one, with_strength, with_row, with_rows}
 use Rattle.rtk_chart.specs.declared.scale.Scale.{Scale}
 use Rattle.rtk_chart.specs.declared.strengths.BandStrengths.{BandStrengths}
@@ -212,3 +214,31 @@ unfolding columns_of
 fresh-columns s listed columns one are is =
     fill_by_all (column_in s listed []) columns 144 one (ap (λ xs. length xs) are ∙ length-replicate 144 one)
     (λ k lt. ap (λ xs. get_or xs k one) are ∙ get_or-replicate 144 k one one lt ∙ is)
+
+-- ---- means
+
+mean-is : (xs : List ℕ) → length xs < 2 ^ 64 → sum xs < 2 ^ 64 → mean_of (record { count = capped (length xs); sum = capped (sum xs) }) ≡ mean_of_strengths xs
+mean-is [] few fits = refl
+mean-is (x ∷ xs) few fits =
+    let n : ℕ = length (x ∷ xs) in
+    let total : ℕ = sum (x ∷ xs) in
+    let count : capped n ≡ n = omega (arith, few) in
+    let all : capped total ≡ total = omega (arith, fits) in
+    let some : n ≢ 0 = omega arith in
+    ap (λ (k : ℕ). mean_of (record { count = k; sum = capped total })) count
+    ∙ ap (λ (k : ℕ). mean_of (record { count = n; sum = k })) all
+    ∙ ap (λ (none : Bool). cond none None (Some (min (total / n) 63_750))) (ne_eqb n 0 some)
+
+has-column : (s : Scale) (bin : ℕ) → bin < s.bins → bin / bins_per_column s < 144
+has-column s bin within =
+    let some : 0 < bins_per_column s = omega (arith, within) in
+    let room : bin < 144 * bins_per_column s = omega (arith, within) in
+    (div-lt_iff_lt-mul some).1 room
+
+pub means-are : (s : Scale) (listed : List Code) (es : List EpochTableView) (band : Band) (bin : ℕ) → bin < s.bins
+    → length (strengths_in s listed band es (bin / bins_per_column s)) < 2 ^ 64 → sum (strengths_in s listed band es (bin / bins_per_column s)) < 2 ^ 64
+    → mean_at band (get_or (columns_of s listed es) (bin / bins_per_column s) all_without) ≡ mean_of_strengths (strengths_in s listed band es (bin / bins_per_column s))
+means-are s listed es band bin within few fits =
+    let c : ℕ = bin / bins_per_column s in
+    ap (λ (column : Strengths). mean_at band column) (column-there s listed es (columns_of s listed es) c all_without (has-column s bin within) refl)
+    ∙ ap mean_of (of-column s listed es c band) ∙ mean-is (strengths_in s listed band es c) few fits

@@ -203,7 +203,14 @@ fn put_body(
     put_gaps(text, end, grid.gaps.as_slice())?;
     put_satellites(text, end + 26, bins)?;
     let strengths = grid.strengths.as_slice();
-    put_strip(alloc, text, end + 72, strengths, scale.bins_per_column(), bins.len())?;
+    put_strip(
+        alloc,
+        text,
+        end + 72,
+        strengths,
+        scale.bins_per_column(),
+        bins.len(),
+    )?;
     let strip_end = end + strip_height(strengths);
     put_ticks(text, scale, strip_end + 72)?;
     put_legend(text, strip_end + 104)?;

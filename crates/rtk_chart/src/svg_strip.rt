@@ -151,12 +151,7 @@ fn put_depths(text: &mut Vec<u8>, depths: &[Option<u64>]) -> Result<(), AllocErr
     Ok(())
 }
 
-fn put_lane_start(
-    text: &mut Vec<u8>,
-    top: u64,
-    number: u64,
-    reach: Reach,
-) -> Result<(), AllocError>
+fn put_lane_start(text: &mut Vec<u8>, top: u64, number: u64, reach: Reach) -> Result<(), AllocError>
     ensures { OnOk result (text.new.items ≡ text.old.items ++ lane_start top number reach) }
 {
     put_between(
@@ -168,7 +163,12 @@ fn put_lane_start(
     put_between(text, b"", number, BAND_START)?;
     put_between(text, b"", number, UNTIL_START)?;
     put_between(text, b"", u64::from(reach.until), FROM_START)?;
-    put_between(text, b"", u64::from(reach.from), b"</text>\n<path class='k' d='")?;
+    put_between(
+        text,
+        b"",
+        u64::from(reach.from),
+        b"</text>\n<path class='k' d='",
+    )?;
     Ok(())
 }
 
