@@ -353,18 +353,38 @@ def row_of(keyword: str, fields: list[Field]) -> str:
     return row
 
 
+def in_order(entries: list[tuple[str, list[Field]]]) -> list[tuple[str, list[Field]]]:
+    """The entries in the order of the table: what tells of times comes first, and the codes that satellites never have are one entry for
+    each code."""
+    never: dict[str, list[str]] = {}
+    for keyword, fields in entries:
+        if keyword == "never":
+            never.setdefault(fields[1].value, []).append(fields[0].value)
+    order = [fields[0].value for keyword, fields in entries if keyword == "code"]
+    by_code = [("never", [text("", "code", code), *(text("", "satellite", it) for it in never[code])]) for code in order if code in never]
+    times = [it for it in entries if it[0] in ("hour", "gap", "fall")]
+    others = [it for it in entries if it[0] not in ("hour", "gap", "fall", "never", "pass")]
+    return times + others + by_code + [it for it in entries if it[0] == "pass"]
+
+
+def never_rows(fields: list[Field]) -> list[str]:
+    """A code and the satellites that never have it, 19 in a row."""
+    code, *names = [it.value for it in fields]
+    return [" ".join([code, *names[at : at + 19]]) for at in range(0, len(names), 19)]
+
+
 def table(file: str) -> str:
     """The same as a table."""
     heading, entries = entries_of(file)
     lines = [f"marker {heading[0].value}"]
     lines += [it.word + it._replace(word="").in_line().rjust(43 - len(it.word)) for it in heading[1:]]
     last = ""
-    for keyword, fields in entries:
+    for keyword, fields in in_order(entries):
         title = TABLES[keyword][0]
         if keyword != last and title is not None:
             lines += ["", title]
         last = keyword
-        lines.append(row_of(keyword, fields))
+        lines += never_rows(fields) if keyword == "never" else [row_of(keyword, fields)]
     return "\n".join(lines) + "\n"
 
 

@@ -163,8 +163,8 @@ quality --json hours
 grep '"band":2' out >got
 echo '{"band":2,"from":"2024-05-17 12:00:00.000","until":"2024-05-17 14:00:00.000","mean_strength_centidbhz":500}' >want
 same quality_of_three_hours_in_json got want
-# The table of the same numbers, from its hours on.
-quality hours; sed -n '/^hour/,$p' out >got
+# The table of the same numbers, from its hours to its codes.
+quality hours; sed -n '/^hour/,/^signal/p' out >got
 cat >want <<'END'
 hour             records    of satellites  slips returns  band 1  band 2  band 5
 2024-05-17 12:00       2     2        1.0      0       0   45.00   35.00       -
@@ -177,8 +177,10 @@ gap from                until                     missing
 band falls from       until                by
    1 2024-05-17 13:00 2024-05-17 14:00    3.00
    2 2024-05-17 12:00 2024-05-17 14:00    5.00
+
+signal phases     of      % ranges slips returns rises half     min  mean    max
 END
-# pins: hour_row, gaps_heading, falls_heading, span_part
+# pins: hour_row, gaps_heading, falls_heading, span_part, body_text
 same quality_of_three_hours_in_a_table got want
 
 # twelve KIND: 83 records of twelve satellites. G07 slips twice on its codes. G11 has no 2W, and G05 lacks two phases of it. Of the
@@ -222,7 +224,7 @@ all 2W    911    913   99.7      0     2       0     0    0  35.000 35.00 35.000
        satellites 11 of 12 phases-per-slip 456
 G01 1C     83     83  100.0      0     0       0     0    0  45.000 45.00 45.000
 never a phase
-G11 2W
+2W G11
 
 END
 same quality_of_a_code_that_one_satellite_never_sends_in_a_table got want
@@ -236,6 +238,22 @@ never G11 2W
 never G12 2W
 END
 same quality_of_a_code_with_ranges_alone got want
+# A row has at most 19 satellites behind a code. Of 32 satellites with 1C no one has 2W.
+{
+    sed '/END OF HEADER/q' "$file"
+    printf '> 2024 05 17 12 00  0.0000000  0 32\n'
+    for number in $(seq -w 32); do printf 'G%s  21085472.060 7 110804903.547 7        45.000\n' "$number"; done
+} >wide
+quality wide
+sed -n '/^never/,/^$/p' out >got
+cat >want <<'END'
+never a phase
+2W G01 G02 G03 G04 G05 G06 G07 G08 G09 G10 G11 G12 G13 G14 G15 G16 G17 G18 G19
+2W G20 G21 G22 G23 G24 G25 G26 G27 G28 G29 G30 G31 G32
+
+END
+# pins: row_end, never_start, never_part, never_row
+same quality_of_a_code_that_no_one_of_32_satellites_sends got want
 twelve none >none
 lines none
 grep '^code 2W ' out >got

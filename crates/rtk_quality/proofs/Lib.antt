@@ -11,6 +11,7 @@ mod LineLemmas
 mod ListLemmas
 mod ListTextLemmas
 mod MissingLemmas
+mod NeverLemmas
 mod OrderLemmas
 mod RowLemmas
 mod SectionLemmas

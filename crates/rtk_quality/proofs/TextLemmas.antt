@@ -11,14 +11,14 @@ use Rattle.rtk_quality.specs.Gaps.{longest_gaps, gaps_in}
 use Rattle.rtk_quality.specs.declared.hours.HourCounts.{HourCounts}
 use Rattle.rtk_quality.specs.declared.gaps.Gap.{Gap}
 use Rattle.rtk_quality.specs.Quality.{station_sums, satellites_in}
-use Rattle.rtk_quality.specs.QualityText.{marker_text, codes_text, section_text, heading_text, hours_text, gaps_text, falls_text, station_part, close_text, quality_text}
+use Rattle.rtk_quality.specs.QualityText.{marker_text, codes_text, section_text, heading_text, hours_text, gaps_text, falls_text, station_part, signals_part, body_text, close_text, quality_text}
 use Rattle.rtk_quality.specs.Forms.{json_text}
 use Rattle.rtk_quality.specs.declared.form.Form.{Form}
 use Rattle.rtk_quality.specs.declared.form.Form.TheVariants.{Json}
 use Rattle.rtk_quality.specs.declared.sections.Section.TheVariants.{Codes, Tracked, Never, Passes}
 use Rattle.rtk_quality.specs.declared.pass_sums.PassSums.{PassSums}
 use Rattle.rtk_quality.specs.declared.record_counts.RecordCounts.{RecordCounts}
-use Rattle.rtk_quality.proofs.ListLemmas.{three}
+use Rattle.rtk_quality.proofs.ListLemmas.{three, five}
 
 -- a marker in JSON
 pub json-marker : (marker t0 t1 t2 t3 : List ℕ) → t1 ≡ t0 ++ codes "{\"file\":{\"marker\":\"" → t2 ≡ t1 ++ json_text marker → t3 ≡ t2 ++ codes "\"" → t3 ≡ t0 ++ marker_text Json marker
@@ -27,23 +27,15 @@ json-marker marker t0 t1 t2 t3 e1 e2 e3 = three t0 t1 t2 t3 (codes "{\"file\":{\
 
 -- the text of a file with records
 pub text-is : (form : Form) (marker : List ℕ) (listed : List Code) (first last : ℕ) (interval : Option ℕ) (es : List EpochTableView)
-    (from until : Civil) (seen : ℕ) (r : RecordCounts) (gaps : ℕ) (sums : PassSums) (t1 t2 t3 t4 t5 t6 t7 t8 : List ℕ)
+    (from until : Civil) (seen : ℕ) (r : RecordCounts) (gaps : ℕ) (sums : PassSums) (t1 t2 t3 : List ℕ)
     → from ≡ reading_of first → until ≡ reading_of last → seen ≡ satellites_in interval es → r ≡ record_counts_of (unit_of interval) es
     → gaps ≡ gaps_in (unit_of interval) es → sums ≡ station_sums interval es
     → t1 ≡ heading_text form marker from until interval seen r gaps sums
-    → t2 ≡ t1 ++ codes_text form listed interval es
-    → t3 ≡ t2 ++ section_text form Codes listed interval es → t4 ≡ t3 ++ section_text form Tracked listed interval es
-    → t5 ≡ t4 ++ section_text form Never listed interval es → t6 ≡ t5 ++ section_text form Passes listed interval es
-    → t7 ≡ t6 ++ station_part form listed interval (unit_of interval) es
-    → t8 ≡ t7 ++ close_text form → t8 ≡ quality_text form marker listed first last interval es
+    → t2 ≡ t1 ++ body_text form listed interval (unit_of interval) es → t3 ≡ t2 ++ close_text form
+    → t3 ≡ quality_text form marker listed first last interval es
 unfolding quality_text
-text-is form marker listed first last interval es from until seen r gaps sums t1 t2 t3 t4 t5 t6 t7 t8 begins ends count records gap_count adds e1 e2 e3 e4 e5 e6 e7 e8 =
-    let cs : List ℕ = codes_text form listed interval es in
-    let s1 : List ℕ = section_text form Codes listed interval es in
-    let s2 : List ℕ = section_text form Tracked listed interval es in
-    let s3 : List ℕ = section_text form Never listed interval es in
-    let s4 : List ℕ = section_text form Passes listed interval es in
-    let s5 : List ℕ = station_part form listed interval (unit_of interval) es in
+text-is form marker listed first last interval es from until seen r gaps sums t1 t2 t3 begins ends count records gap_count adds e1 e2 e3 =
+    let body : List ℕ = body_text form listed interval (unit_of interval) es in
     let end : List ℕ = close_text form in
     let counts : RecordCounts = record_counts_of (unit_of interval) es in
     let h : t1 ≡ heading_text form marker (reading_of first) (reading_of last) interval (satellites_in interval es) counts (gaps_in (unit_of interval) es) (station_sums interval es) =
@@ -53,8 +45,18 @@ text-is form marker listed first last interval es from until seen r gaps sums t1
     ∙ ap (λ (x : RecordCounts). heading_text form marker (reading_of first) (reading_of last) interval (satellites_in interval es) x gaps sums) records
     ∙ ap (λ (n : ℕ). heading_text form marker (reading_of first) (reading_of last) interval (satellites_in interval es) counts n sums) gap_count
     ∙ ap (λ (x : PassSums). heading_text form marker (reading_of first) (reading_of last) interval (satellites_in interval es) counts (gaps_in (unit_of interval) es) x) adds in
-    e8 ∙ ap (λ (t : List ℕ). t ++ end) (e7 ∙ ap (λ (t : List ℕ). t ++ s5) (e6 ∙ ap (λ (t : List ℕ). t ++ s4) (e5 ∙ ap (λ (t : List ℕ). t ++ s3)
-    (e4 ∙ ap (λ (t : List ℕ). t ++ s2) (e3 ∙ ap (λ (t : List ℕ). t ++ s1) (e2 ∙ ap (λ (t : List ℕ). t ++ cs) h))))))
+    e3 ∙ ap (λ (t : List ℕ). t ++ end) (e2 ∙ ap (λ (t : List ℕ). t ++ body) h)
+
+-- the codes, satellites and passes of a file
+pub signals-are : (form : Form) (listed : List Code) (interval : Option ℕ) (es : List EpochTableView) (t0 t1 t2 t3 t4 t5 : List ℕ)
+    → t1 ≡ t0 ++ codes_text form listed interval es
+    → t2 ≡ t1 ++ section_text form Codes listed interval es → t3 ≡ t2 ++ section_text form Tracked listed interval es
+    → t4 ≡ t3 ++ section_text form Never listed interval es → t5 ≡ t4 ++ section_text form Passes listed interval es
+    → t5 ≡ t0 ++ signals_part form listed interval es
+unfolding signals_part
+signals-are form listed interval es t0 t1 t2 t3 t4 t5 e1 e2 e3 e4 e5 =
+    five t0 t1 t2 t3 t4 t5 (codes_text form listed interval es) (section_text form Codes listed interval es) (section_text form Tracked listed interval es)
+    (section_text form Never listed interval es) (section_text form Passes listed interval es) e1 e2 e3 e4 e5
 
 -- the hours, gaps and falls of a file
 pub station-part-is : (form : Form) (listed : List Code) (interval : Option ℕ) (unit : ℕ) (es : List EpochTableView) (hours : List HourCounts) (gaps : List Gap) (t0 t1 t2 t3 : List ℕ)

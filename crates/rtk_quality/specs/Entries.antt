@@ -5,9 +5,9 @@ use Rattle.rtk_obs.specs.declared.code.Band.{Band}
 use Rattle.rtk_obs.specs.declared.code.Code.{Code}
 use Rattle.rtk_quality.specs.Falls.{largest_fall}
 use Rattle.rtk_quality.specs.Strengths.{number_of}
-use Rattle.rtk_quality.specs.LineText.{code_line, satellite_line, never_line, tracked_line, pass_line}
+use Rattle.rtk_quality.specs.LineText.{code_line, satellite_line, tracked_line, pass_line}
 use Rattle.rtk_quality.specs.StationText.{hour_line, gap_line, fall_line}
-use Rattle.rtk_quality.specs.Rows.{code_row, signal_row, never_row, tracked_row, pass_row, hour_row, gap_row, fall_row}
+use Rattle.rtk_quality.specs.Rows.{code_row, signal_row, tracked_row, pass_row, hour_row, gap_row, fall_row}
 use Rattle.rtk_quality.specs.declared.form.Form.{Form}
 use Rattle.rtk_quality.specs.declared.form.Form.TheVariants.{Table, Lines, Json}
 use Rattle.rtk_quality.specs.declared.code_numbers.CodeNumbers.{CodeNumbers}
@@ -28,9 +28,6 @@ code_entry form code tracked n = in_table form (code_row code tracked n) (code_l
 
 unfoldable pub satellite_entry : Form → ℕ → Code → CodeNumbers → List ℕ
 satellite_entry form satellite code n = in_table form (signal_row satellite code n) (satellite_line form satellite code n)
-
-unfoldable pub never_entry : Form → ℕ → Code → List ℕ
-never_entry form satellite code = in_table form (never_row satellite code) (never_line form satellite code)
 
 unfoldable pub tracked_entry : Form → ℕ → PassSums → List ℕ
 tracked_entry form satellite s = in_table form (tracked_row satellite s) (tracked_line form satellite s)

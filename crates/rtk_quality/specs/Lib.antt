@@ -8,6 +8,7 @@ pub mod Hours
 pub mod Laws
 pub mod LineText
 pub mod Lists
+pub mod Never
 pub mod Quality
 pub mod QualityText
 pub mod Records

@@ -16,10 +16,13 @@ use Rattle.rtk_quality.specs.Records.{unit_of, record_counts_of}
 use Rattle.rtk_quality.specs.Hours.{hours_of}
 use Rattle.rtk_quality.specs.Gaps.{longest_gaps, gaps_in}
 use Rattle.rtk_quality.specs.Lists.{list_text}
-use Rattle.rtk_quality.specs.Entries.{code_entry, satellite_entry, never_entry, tracked_entry, pass_entry, hour_entry, gap_entry, fall_part}
+use Rattle.rtk_quality.specs.LineText.{never_line}
+use Rattle.rtk_quality.specs.Never.{never_rows}
+use Rattle.rtk_quality.specs.Entries.{in_table, code_entry, satellite_entry, tracked_entry, pass_entry, hour_entry, gap_entry, fall_part}
 use Rattle.rtk_quality.specs.Quality.{numbers_of, code_of_station, station_sums, is_in_file, satellites_in}
 use Rattle.rtk_quality.specs.Forms.{in_form, value_text, moment_text, end_text, json_text}
 use Rattle.rtk_quality.specs.declared.form.Form.{Form}
+use Rattle.rtk_quality.specs.declared.form.Form.TheVariants.{Table, Lines, Json}
 use Rattle.rtk_quality.specs.declared.form.Decimals.TheVariants.{Whole, Tenths, Thousandths}
 use Rattle.rtk_quality.specs.declared.sections.Section.{Section}
 use Rattle.rtk_quality.specs.declared.sections.Section.TheVariants.{Codes, Tracked, Never, Passes}
@@ -40,7 +43,7 @@ each_code line at (c ∷ cs) = line at c ++ each_code line (at + 1) cs
 -- nowhere
 abbrev pub code_in : Form → Section → ℕ → Code → CodeNumbers → List ℕ
 code_in form Codes satellite code n = if n.counts.seen then satellite_entry form satellite code n else []
-code_in form Never satellite code n = if n.counts.phases == 0 then never_entry form satellite code else []
+code_in form Never satellite code n = if n.counts.phases == 0 then never_line form satellite code else []
 code_in form Tracked satellite code n = []
 code_in form Passes satellite code n = []
 
@@ -62,6 +65,15 @@ unfoldable pub parts_of : Form → Section → List Code → Option ℕ → List
 parts_of form section listed interval es =
     flat_map (λ satellite. part_of form section listed interval (sightings_of satellite es) satellite) (range_with_len 1 32)
 
+-- formula
+-- the entries of a section: those of each satellite. In a table the codes of which satellites have no phase have
+-- rows by code.
+abbrev pub entries_of : Form → Section → List Code → Option ℕ → List EpochTableView → List ℕ
+entries_of form Codes listed interval es = parts_of form Codes listed interval es
+entries_of form Tracked listed interval es = parts_of form Tracked listed interval es
+entries_of form Never listed interval es = in_table form (never_rows interval es listed) (parts_of form Never listed interval es)
+entries_of form Passes listed interval es = parts_of form Passes listed interval es
+
 -- table
 -- the headings of the sections in a table; the codes of satellites follow those of the station
 abbrev pub section_heading : Section → List ℕ
@@ -81,7 +93,7 @@ section_key Passes = codes ",\n\"passes\":["
 -- a section of the text
 unfoldable pub section_text : Form → Section → List Code → Option ℕ → List EpochTableView → List ℕ
 section_text form section listed interval es =
-    list_text form (section_heading section) (section_key section) (parts_of form section listed interval es)
+    list_text form (section_heading section) (section_key section) (entries_of form section listed interval es)
 
 -- table
 -- the heading of the columns of codes
@@ -173,15 +185,27 @@ station_part form listed interval unit es =
     hours_text form listed (reverse (hours_of interval unit listed es)) ++ gaps_text form (longest_gaps unit es)
     ++ falls_text form (reverse (hours_of interval unit listed es))
 
+-- the codes of the station and of satellites, the sums of satellites, and their passes
+unfoldable pub signals_part : Form → List Code → Option ℕ → List EpochTableView → List ℕ
+signals_part form listed interval es =
+    codes_text form listed interval es ++ section_text form Codes listed interval es ++ section_text form Tracked listed interval es
+    ++ section_text form Never listed interval es ++ section_text form Passes listed interval es
+
+-- formula
+-- what follows the heading: a table begins with the hours, gaps and falls, since they say when something
+-- happened; lines and JSON end with them
+unfoldable pub body_text : Form → List Code → Option ℕ → ℕ → List EpochTableView → List ℕ
+body_text Table listed interval unit es = station_part Table listed interval unit es ++ signals_part Table listed interval es
+body_text Lines listed interval unit es = signals_part Lines listed interval es ++ station_part Lines listed interval unit es
+body_text Json listed interval unit es = signals_part Json listed interval es ++ station_part Json listed interval unit es
+
 -- formula
 -- the numbers of a file of this marker, these codes, and these moments of its first and its last record
 unfoldable pub quality_text : Form → List ℕ → List Code → ℕ → ℕ → Option ℕ → List EpochTableView → List ℕ
 quality_text form marker listed first last interval es =
     heading_text form marker (reading_of first) (reading_of last) interval (satellites_in interval es)
     (record_counts_of (unit_of interval) es) (gaps_in (unit_of interval) es) (station_sums interval es)
-    ++ codes_text form listed interval es
-    ++ section_text form Codes listed interval es ++ section_text form Tracked listed interval es ++ section_text form Never listed interval es ++ section_text form Passes listed interval es
-    ++ station_part form listed interval (unit_of interval) es ++ close_text form
+    ++ body_text form listed interval (unit_of interval) es ++ close_text form
 
 -- table
 -- the lists of a file without records, which are empty in JSON and absent elsewhere

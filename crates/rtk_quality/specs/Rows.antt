@@ -58,10 +58,6 @@ code_row code tracked n =
     codes "all " ++ name_of code ++ numbers_text n
     ++ codes "      " ++ having_text Lines n.satellites tracked ++ per_slip_text Lines (phases_per_slip n.counts.phases n.counts.slips) ++ codes "\n"
 
--- the row of a code of the file of which a satellite has no phase
-unfoldable pub never_row : ℕ → Code → List ℕ
-never_row satellite code = satellite_mark satellite ++ codes " " ++ name_of code ++ codes "\n"
-
 -- table
 -- the row of all codes of a satellite: phases, slips and their moments, outages and their time in seconds
 unfoldable pub tracked_row : ℕ → PassSums → List ℕ

@@ -4,13 +4,14 @@ ghost use Rattle.std.specs.Prelude.{◌≡◌, ◌≤◌, ℕ, List, length, ◌
 ghost use Rattle.rtk_rinex.specs.Record.{EpochTableView};
 ghost use Rattle.rtk_quality.specs.Hours.{hours_of};
 ghost use Rattle.rtk_quality.specs.Records.{unit_of};
-ghost use Rattle.rtk_quality.specs.QualityText.{no_lists, close_text, station_part, quality_text, text_of_none, TellsQuality};
-ghost use Rattle.rtk_quality.specs.Standing.{StandsForFile};
+ghost use Rattle.rtk_quality.specs.QualityText.{no_lists, close_text, signals_part, station_part, body_text, quality_text, text_of_none, TellsQuality};
+ghost use Rattle.rtk_quality.specs.Standing.{StandForSatellites, StandForEnded, StandsForFile};
 
-use crate::file_counts::{FileCounts, count_file, satellites_in, station_sums};
+use crate::file_counts::{EndedPass, FileCounts, count_file, satellites_in, station_sums};
 use crate::form::{Form, put_either, put_end};
 use crate::heading::{put_heading, put_marker};
 use crate::lines::put_count;
+use crate::satellite_counts::SatelliteCounts;
 use crate::sections::{Section, put_codes, put_section};
 use crate::station::{put_falls, put_gaps, put_hours};
 use rtk_obs::{Code, GpsMs, civil};
@@ -71,6 +72,58 @@ fn put_station_lines(
     Ok(())
 }
 
+// Appends the codes of the station, and what each section has of the satellites.
+#[tactic(auto, unfolding(crate::specs::QualityText::signals_part))]
+fn put_signals(
+    text: &mut Vec<u8>,
+    form: Form,
+    codes: &[Code],
+    satellites: &[SatelliteCounts],
+    ended: &[EndedPass],
+) -> Result<(), AllocError>
+    requires few { length codes.now ≤ 16 }
+    requires size { length satellites.now ≡ 32 }
+    ensures { OnOk result ((interval : Option ℕ) (es : List EpochTableView) → StandForSatellites satellites.now interval es → StandForEnded ended.now interval es
+        → text.new.items ≡ text.old.items ++ signals_part form codes.now interval es) }
+{
+    put_codes(text, form, codes, satellites)?;
+    put_section(text, form, Section::Codes, codes, satellites, ended)?;
+    put_section(text, form, Section::Tracked, codes, satellites, ended)?;
+    put_section(text, form, Section::Never, codes, satellites, ended)?;
+    put_section(text, form, Section::Passes, codes, satellites, ended)?;
+    Ok(())
+}
+
+// Appends what follows the heading.
+#[tactic(auto, unfolding(crate::specs::QualityText::body_text))]
+fn put_body(
+    alloc: Global,
+    text: &mut Vec<u8>,
+    form: Form,
+    codes: &[Code],
+    counts: &FileCounts,
+) -> Result<(), AllocError>
+    requires few { length codes.now ≤ 16 }
+    requires size { length counts.now.satellites.items ≡ 32 }
+    ensures { OnOk result ((interval : Option ℕ) (unit : ℕ) (es : List EpochTableView) → StandsForFile counts.now interval unit es (hours_of interval unit codes.now es)
+        → text.new.items ≡ text.old.items ++ body_text form codes.now interval unit es) }
+{
+    let satellites = counts.satellites.as_slice();
+    let ended = counts.ended.as_slice();
+    match form {
+        Form::Table => {
+            put_station_lines(alloc, text, form, codes, counts)?;
+            put_signals(text, form, codes, satellites, ended)?;
+            Ok(())
+        }
+        Form::Lines | Form::Json => {
+            put_signals(text, form, codes, satellites, ended)?;
+            put_station_lines(alloc, text, form, codes, counts)?;
+            Ok(())
+        }
+    }
+}
+
 // The numbers of a file with records.
 fn text_of(
     alloc: Global,
@@ -89,7 +142,6 @@ fn text_of(
         → text.items ≡ quality_text form marker.now codes.now first last interval es) }
 {
     let satellites = counts.satellites.as_slice();
-    let ended = counts.ended.as_slice();
     let seen = satellites_in(satellites) as u64;
     let sums = station_sums(satellites);
     let from = civil(first);
@@ -107,12 +159,7 @@ fn text_of(
         counts.gaps.count,
         &sums,
     )?;
-    put_codes(&mut text, form, codes, satellites)?;
-    put_section(&mut text, form, Section::Codes, codes, satellites, ended)?;
-    put_section(&mut text, form, Section::Tracked, codes, satellites, ended)?;
-    put_section(&mut text, form, Section::Never, codes, satellites, ended)?;
-    put_section(&mut text, form, Section::Passes, codes, satellites, ended)?;
-    put_station_lines(alloc, &mut text, form, codes, counts)?;
+    put_body(alloc, &mut text, form, codes, counts)?;
     put_close(&mut text, form)?;
     Ok(text)
 }

@@ -1,20 +1,18 @@
 //! The entries of lists, each of them a row of a table, a line, or an object in JSON.
 
 ghost use Rattle.std.specs.Prelude.{◌≡◌, ◌++◌, OnOk};
-ghost use Rattle.rtk_quality.specs.Entries.{code_entry, satellite_entry, never_entry, tracked_entry, pass_entry, hour_entry, gap_entry, fall_entry};
+ghost use Rattle.rtk_quality.specs.Entries.{code_entry, satellite_entry, tracked_entry, pass_entry, hour_entry, gap_entry, fall_entry};
 
 use crate::code_numbers::CodeNumbers;
 use crate::falls::Fall;
 use crate::form::Form;
 use crate::gaps::Gap;
 use crate::hours::HourCounts;
-use crate::lines::{
-    put_code_line, put_never_line, put_pass_line, put_satellite_line, put_tracked_line,
-};
+use crate::lines::{put_code_line, put_pass_line, put_satellite_line, put_tracked_line};
 use crate::pass_sums::PassSums;
 use crate::rows::{
-    put_code_row, put_fall_row, put_gap_row, put_hour_row, put_never_row, put_pass_row,
-    put_signal_row, put_tracked_row,
+    put_code_row, put_fall_row, put_gap_row, put_hour_row, put_pass_row, put_signal_row,
+    put_tracked_row,
 };
 use crate::satellite_counts::PassCounts;
 use crate::station_lines::{put_fall_line, put_gap_line, put_hour_line};
@@ -53,22 +51,6 @@ pub(crate) fn put_satellite_entry(
     match form {
         Form::Table => put_signal_row(text, satellite, code, numbers),
         Form::Lines | Form::Json => put_satellite_line(text, form, satellite, code, numbers),
-    }
-}
-
-/// Appends a code of the file of which a satellite has no phase.
-#[tactic(auto, unfolding(crate::specs::Entries::never_entry))]
-pub(crate) fn put_never_entry(
-    text: &mut Vec<u8>,
-    form: Form,
-    satellite: u8,
-    code: Code,
-) -> Result<(), AllocError>
-    ensures { OnOk result (text.new.items ≡ text.old.items ++ never_entry form satellite code) }
-{
-    match form {
-        Form::Table => put_never_row(text, satellite, code),
-        Form::Lines | Form::Json => put_never_line(text, form, satellite, code),
     }
 }
 

@@ -62,6 +62,7 @@ mod hours;
 mod laws;
 mod lines;
 mod lists;
+mod never;
 mod pass_sums;
 mod record_counts;
 mod rows;
