@@ -1,11 +1,14 @@
 mod ColumnLemmas
 mod CountLemmas
+mod EventLawLemmas
+mod EventLemmas
 mod FallLemmas
 mod FileLemmas
 mod GapLemmas
 mod HourCountLemmas
 mod HourLawLemmas
 mod HourLemmas
+mod LargestLemmas
 mod LawLemmas
 mod LineLemmas
 mod ListLemmas

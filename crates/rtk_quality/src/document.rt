@@ -9,11 +9,11 @@ ghost use Rattle.rtk_quality.specs.Standing.{StandForSatellites, StandForEnded, 
 
 use crate::file_counts::{EndedPass, FileCounts, count_file, satellites_in, station_sums};
 use crate::form::{Form, put_either, put_end};
-use crate::heading::{put_heading, put_marker};
+use crate::heading::{ListedCounts, put_heading, put_marker};
 use crate::lines::put_count;
 use crate::satellite_counts::SatelliteCounts;
 use crate::sections::{Section, put_codes, put_section};
-use crate::station::{put_falls, put_gaps, put_hours};
+use crate::station::{put_falls, put_gaps, put_hours, put_moments, put_outages};
 use rtk_obs::{Code, GpsMs, civil};
 use rtk_rinex::TextTable;
 use rtk_tracking::interval;
@@ -36,7 +36,7 @@ fn put_no_lists(text: &mut Vec<u8>, form: Form) -> Result<(), AllocError>
         text,
         form,
         b"",
-        b",\n\"codes\":[],\n\"satellites\":[],\n\"tracked\":[],\n\"never\":[],\n\"passes\":[],\n\"hours\":[],\n\"gaps\":[],\n\"falls\":[]",
+        b",\n\"codes\":[],\n\"satellites\":[],\n\"tracked\":[],\n\"never\":[],\n\"passes\":[],\n\"hours\":[],\n\"gaps\":[],\n\"falls\":[],\n\"outages\":[],\n\"slips_together\":[]",
     )
 }
 
@@ -54,7 +54,7 @@ fn text_of_none(alloc: Global, form: Form, marker: &[u8]) -> Result<Vec<u8>, All
     Ok(text)
 }
 
-// Appends the hours, the gaps and the largest falls.
+// Appends the hours, gaps and falls, and what else happened.
 fn put_station_lines(
     alloc: Global,
     text: &mut Vec<u8>,
@@ -67,8 +67,10 @@ fn put_station_lines(
 {
     let hours = counts.hours.all(alloc)?;
     put_hours(text, form, codes, hours.as_slice())?;
-    put_gaps(text, form, counts.gaps.longest.as_slice())?;
+    put_gaps(text, form, &counts.gaps)?;
     put_falls(text, form, hours.as_slice())?;
+    put_outages(text, form, &counts.outages)?;
+    put_moments(text, form, &counts.moments)?;
     Ok(())
 }
 
@@ -144,6 +146,10 @@ fn text_of(
     let satellites = counts.satellites.as_slice();
     let seen = satellites_in(satellites) as u64;
     let sums = station_sums(satellites);
+    let listed = ListedCounts {
+        gaps: counts.gaps.count,
+        moments: counts.moments.count,
+    };
     let from = civil(first);
     let until = civil(last);
     let mut text = Vec::new(alloc);
@@ -156,7 +162,7 @@ fn text_of(
         interval,
         seen,
         &counts.records,
-        counts.gaps.count,
+        &listed,
         &sums,
     )?;
     put_body(alloc, &mut text, form, codes, counts)?;

@@ -1,4 +1,4 @@
-use Rattle.std.proofs.Common.{◌≡◌, ◌+◌, ◌∙◌, sym, refl}
+use Rattle.std.proofs.Common.{◌+◌, ◌∙◌, sym, refl}
 use Rattle.rtk_tracking.specs.Passes.{sightings_of}
 use Rattle.rtk_quality.proofs.NeverLemmas.{part-none, part-some}
 use Rattle.rtk_quality.proofs.never.put_part.Goals as goal
