@@ -137,7 +137,7 @@ outage G05 from 2024-05-17 12:07:54.000 until 2024-05-17 12:10:00.000 outage-tim
 outage G05 from 2024-05-17 13:37:54.000 until 2024-05-17 13:40:00.000 outage-time 125.000
 10
 END
-# pins: absence_between, outages_of, longest_outages, largest_first, ten_largest, outage_line
+# pins: absence_between, all_outages, longest_outages, largest_first, ten_largest, outage_line
 same quality_of_the_longest_outages some want
 quality gone; grep -A 1 '^G05 .* 13:37:54 ' out >got
 cat >want <<'END'
@@ -170,7 +170,7 @@ slip-together 2024-05-17 12:00:20.000 satellites 3 of 3
 slip-together 2024-05-17 12:00:10.000 satellites 2 of 3
 slip-together 2024-05-17 12:00:40.000 satellites 2 of 4
 END
-# pins: together_in, Moments.moment_of, moments_of, moments_in, largest_moments, moment_line, listed_counts
+# pins: together_in, moment_if_several, common_moments, moments_in, largest_moments, together_line, listed_counts
 same quality_of_slips_together got want
 quality common; grep -A 3 '^slips together' out >got
 cat >want <<'END'
@@ -318,7 +318,7 @@ never a phase
 2W G20 G21 G22 G23 G24 G25 G26 G27 G28 G29 G30 G31 G32
 
 END
-# pins: row_end, never_start, never_part, never_row
+# pins: row_end, row_start, row_part, never_row
 same quality_of_a_code_that_no_one_of_32_satellites_sends got want
 twelve none >none
 lines none

@@ -9,8 +9,8 @@ use Rattle.rtk_rinex.specs.declared.epoch_table.SatelliteRow.{SatelliteRow}
 use Rattle.rtk_tracking.specs.Passes.{Sighting, sightings_of, has_phase, last_phase, is_away, is_out, is_gap_of_file, absence_before, outage_before}
 use Rattle.rtk_quality.specs.Largest.{list_of}
 use Rattle.rtk_quality.specs.Laws.{outage_time, outage_time_at, OutagesHaveAllTime, LongestOutagesAreFirst, common_epochs, MomentsAreAll, LargestMomentsAreFirst}
-use Rattle.rtk_quality.specs.Moments.{together_in, moment_of, moments_of, size_of_moment}
-use Rattle.rtk_quality.specs.Outages.{absence_between, absence_at, outage_of, outages_in, outages_of, size_of_outage}
+use Rattle.rtk_quality.specs.Moments.{together_in, moment_if_several, common_moments, size_of_moment}
+use Rattle.rtk_quality.specs.Outages.{absence_between, absence_at, outage_of, outages_in, all_outages, size_of_outage}
 use Rattle.rtk_quality.specs.declared.moments.Moment.{Moment}
 use Rattle.rtk_quality.specs.declared.moments.Together.{Together}
 use Rattle.rtk_quality.specs.declared.outages.Outage.{Outage}
@@ -51,22 +51,22 @@ time-in interval before t (r ∷ rows) =
     let all = sum_by-cons (λ (x : SatelliteRow). unwrap_or (outage_before interval (sightings_of x.satellite before) (record { time = t; observed = x.observed.items })) 0) r rows in
     omega (arith, parts, here, rest, all)
 
-outages-have : (interval : Option ℕ) (es : List EpochTableView) → sum_by size_of_outage (outages_of interval es) ≡ outage_time interval es
+outages-have : (interval : Option ℕ) (es : List EpochTableView) → sum_by size_of_outage (all_outages interval es) ≡ outage_time interval es
 outages-have interval [] = refl
 outages-have interval (e ∷ es) =
-    sum_by-append size_of_outage (outages_of interval es) (outages_in interval es e.time e.rows)
+    sum_by-append size_of_outage (all_outages interval es) (outages_in interval es e.time e.rows)
     ∙ ap (λ (n : ℕ). n + sum_by size_of_outage (outages_in interval es e.time e.rows)) (outages-have interval es)
     ∙ ap (λ (n : ℕ). outage_time interval es + n) (time-in interval es e.time e.rows)
 
 pub outages-have-all : OutagesHaveAllTime
-outages-have-all interval es = sum-kept size_of_outage size_of_outage (outages_of interval es) ∙ outages-have interval es
+outages-have-all interval es = sum-kept size_of_outage size_of_outage (all_outages interval es) ∙ outages-have interval es
 
 pub longest-outages-first : LongestOutagesAreFirst
-longest-outages-first interval es = largest-are-first size_of_outage (outages_of interval es)
+longest-outages-first interval es = largest-are-first size_of_outage (all_outages interval es)
 
 -- ---- moments
 
-counted : (t : ℕ) (together : Together) → sum_by (λ (m : Moment). 1) (list_of (moment_of t together)) ≡ cond (ltb together.slipping 2) 0 1
+counted : (t : ℕ) (together : Together) → sum_by (λ (m : Moment). 1) (list_of (moment_if_several t together)) ≡ cond (ltb together.slipping 2) 0 1
 counted t together =
     let moment : Moment = record { time = reading_of t; together = together } in
     elim (cases_Bool (ltb together.slipping 2)) [
@@ -76,16 +76,16 @@ counted t together =
           ap (λ (b : Bool). sum_by (λ (m : Moment). 1) (list_of (cond b None (Some moment)))) several ∙ sym (ap (λ (b : Bool). cond b 0 1) several)
     ]
 
-moments-are : (interval : Option ℕ) (es : List EpochTableView) → sum_by (λ (m : Moment). 1) (moments_of interval es) ≡ common_epochs interval es
+moments-are : (interval : Option ℕ) (es : List EpochTableView) → sum_by (λ (m : Moment). 1) (common_moments interval es) ≡ common_epochs interval es
 moments-are interval [] = refl
 moments-are interval (e ∷ es) =
     let together : Together = together_in interval es e.time e.rows in
-    sum_by-append (λ (m : Moment). 1) (moments_of interval es) (list_of (moment_of e.time together))
-    ∙ ap (λ (n : ℕ). n + sum_by (λ (m : Moment). 1) (list_of (moment_of e.time together))) (moments-are interval es)
+    sum_by-append (λ (m : Moment). 1) (common_moments interval es) (list_of (moment_if_several e.time together))
+    ∙ ap (λ (n : ℕ). n + sum_by (λ (m : Moment). 1) (list_of (moment_if_several e.time together))) (moments-are interval es)
     ∙ ap (λ (n : ℕ). common_epochs interval es + n) (counted e.time together)
 
 pub moments-are-all : MomentsAreAll
-moments-are-all interval es = sum-kept size_of_moment (λ (m : Moment). 1) (moments_of interval es) ∙ moments-are interval es
+moments-are-all interval es = sum-kept size_of_moment (λ (m : Moment). 1) (common_moments interval es) ∙ moments-are interval es
 
 pub largest-moments-first : LargestMomentsAreFirst
-largest-moments-first interval es = largest-are-first size_of_moment (moments_of interval es)
+largest-moments-first interval es = largest-are-first size_of_moment (common_moments interval es)

@@ -6,7 +6,7 @@ use Rattle.rtk_rinex.specs.Reading.{reading_of}
 use Rattle.rtk_rinex.specs.Record.{EpochTableView}
 use Rattle.rtk_tracking.specs.Passes.{Sighting, has_phase, last_phase, is_away, is_out, is_gap_of_file, begins_pass, absence_before, outage_before}
 use Rattle.rtk_quality.specs.Largest.{list_of, AreLargest}
-use Rattle.rtk_quality.specs.Moments.{together_in, moment_of, moments_of, size_of_moment}
+use Rattle.rtk_quality.specs.Moments.{together_in, moment_if_several, common_moments, size_of_moment}
 use Rattle.rtk_quality.specs.Outages.{absence_between, absence_at}
 use Rattle.rtk_quality.specs.SatellitePasses.{sums_at, passes_of}
 use Rattle.rtk_quality.specs.Standing.{newest_pass, with_epoch}
@@ -92,10 +92,10 @@ no-absence interval before s none =
 
 -- the moments, an epoch more
 pub moments-noted : (interval : Option ℕ) (e : EpochTableView) (es : List EpochTableView) (time : ℕ) (together : Together) (moment : Option Moment) (old new : Largest Moment)
-    → time ≡ e.time → together ≡ together_in interval es e.time e.rows → moment ≡ moment_of time together → AreLargest size_of_moment old (moments_of interval es)
+    → time ≡ e.time → together ≡ together_in interval es e.time e.rows → moment ≡ moment_if_several time together → AreLargest size_of_moment old (common_moments interval es)
     → ((all : List Moment) → AreLargest size_of_moment old all → AreLargest size_of_moment new (all ++ list_of moment))
-    → AreLargest size_of_moment new (moments_of interval (e ∷ es))
+    → AreLargest size_of_moment new (common_moments interval (e ∷ es))
 moments-noted interval e es time together moment old new at are is was took =
-    let here : moment ≡ moment_of e.time (together_in interval es e.time e.rows) =
-    is ∙ ap (λ (t : ℕ). moment_of t together) at ∙ ap (λ (n : Together). moment_of e.time n) are in
-    subst (λ (m : Option Moment). AreLargest size_of_moment new (moments_of interval es ++ list_of m)) here (took (moments_of interval es) was)
+    let here : moment ≡ moment_if_several e.time (together_in interval es e.time e.rows) =
+    is ∙ ap (λ (t : ℕ). moment_if_several t together) at ∙ ap (λ (n : Together). moment_if_several e.time n) are in
+    subst (λ (m : Option Moment). AreLargest size_of_moment new (common_moments interval es ++ list_of m)) here (took (common_moments interval es) was)

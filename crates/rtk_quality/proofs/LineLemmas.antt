@@ -12,7 +12,7 @@ use Rattle.rtk_quality.specs.LineText.{satellite_name, having_text, per_slip_tex
 use Rattle.rtk_quality.specs.QualityText.{marker_text, satellites_text, station_text, span_text, heading_text, falls_of}
 use Rattle.rtk_quality.specs.Hours.{start_of}
 use Rattle.rtk_quality.specs.Strengths.{number_of}
-use Rattle.rtk_quality.specs.StationText.{strength_text, hour_counts_text, hour_line, gap_line, outage_line, moment_line, fall_line}
+use Rattle.rtk_quality.specs.StationText.{strength_text, hour_counts_text, hour_line, gap_line, outage_line, together_line, fall_line}
 use Rattle.rtk_quality.specs.Entries.{fall_part}
 use Rattle.rtk_quality.specs.declared.hours.HourCounts.{HourCounts}
 use Rattle.rtk_quality.specs.declared.gaps.Gap.{Gap}
@@ -170,8 +170,8 @@ outage-is form o t0 t1 t2 t3 t4 t5 t6 e1 e2 e3 e4 e5 e6 =
 
 pub moment-is : (form : Form) (m : Moment) (t0 t1 t2 t3 t4 : List ℕ)
     → t1 ≡ t0 ++ start_text form (codes "slip-together") → t2 ≡ t1 ++ moment_text form (codes " ") (codes "\"time\":") m.time
-    → t3 ≡ t2 ++ having_text form m.together.slipping m.together.tracked → t4 ≡ t3 ++ end_text form → t4 ≡ t0 ++ moment_line form m
-unfolding moment_line
+    → t3 ≡ t2 ++ having_text form m.together.slipping m.together.tracked → t4 ≡ t3 ++ end_text form → t4 ≡ t0 ++ together_line form m
+unfolding together_line
 moment-is form m t0 t1 t2 t3 t4 e1 e2 e3 e4 =
     four t0 t1 t2 t3 t4 (start_text form (codes "slip-together")) (moment_text form (codes " ") (codes "\"time\":") m.time)
     (having_text form m.together.slipping m.together.tracked) (end_text form) e1 e2 e3 e4

@@ -5,7 +5,7 @@ use Rattle.std.proofs.lemmas.List.{append-nil, drop_more}
 use Rattle.rtk_obs.specs.declared.code.Code.{Code}
 use Rattle.rtk_rinex.specs.Record.{EpochTableView}
 use Rattle.rtk_quality.specs.Rows.{satellite_mark}
-use Rattle.rtk_quality.specs.Never.{is_never_at, never_before, never_start, never_part, never_row, rows_from}
+use Rattle.rtk_quality.specs.Never.{is_without_at, without_before, row_start, row_part, never_row, rows_from}
 use Rattle.rtk_quality.proofs.ListLemmas.{count-more, and-then}
 
 -- a test at one place more
@@ -15,21 +15,21 @@ counted p i count now is here was took =
     took ∙ ap (λ (n : ℕ). n + cond is 1 0) was ∙ ap (λ (b : Bool). count_by p (range_with_len 0 i) + cond b 1 0) here ∙ sym (count-more p i)
 
 -- a satellite that has a phase of the code
-pub part-none : (interval : Option ℕ) (es : List EpochTableView) (code : Code) (at place : ℕ) (t : List ℕ) → is_never_at interval es at place ≡ false
-    → t ≡ t ++ never_part interval es code at place
+pub part-none : (interval : Option ℕ) (es : List EpochTableView) (code : Code) (at place : ℕ) (t : List ℕ) → is_without_at interval es at place ≡ false
+    → t ≡ t ++ row_part interval es code at place
 part-none interval es code at place t none =
     sym (append-nil t)
-    ∙ sym (ap (λ (b : Bool). t ++ cond b (never_start code (never_before interval es at place) ++ 32 ∷ satellite_mark (place + 1)) []) none)
+    ∙ sym (ap (λ (b : Bool). t ++ cond b (row_start code (without_before interval es at place) ++ 32 ∷ satellite_mark (place + 1)) []) none)
 
 -- one that has none
-pub part-some : (interval : Option ℕ) (es : List EpochTableView) (code : Code) (at place count satellite : ℕ) (t0 t1 t2 t3 : List ℕ) → is_never_at interval es at place ≡ true
-    → count ≡ never_before interval es at place → satellite ≡ place + 1
-    → t1 ≡ t0 ++ never_start code count → t2 ≡ t1 ++ 32 ∷ [] → t3 ≡ t2 ++ satellite_mark satellite
-    → t3 ≡ t0 ++ never_part interval es code at place
+pub part-some : (interval : Option ℕ) (es : List EpochTableView) (code : Code) (at place count satellite : ℕ) (t0 t1 t2 t3 : List ℕ) → is_without_at interval es at place ≡ true
+    → count ≡ without_before interval es at place → satellite ≡ place + 1
+    → t1 ≡ t0 ++ row_start code count → t2 ≡ t1 ++ 32 ∷ [] → t3 ≡ t2 ++ satellite_mark satellite
+    → t3 ≡ t0 ++ row_part interval es code at place
 part-some interval es code at place count satellite t0 t1 t2 t3 some are number e1 e2 e3 =
-    let start : List ℕ = never_start code (never_before interval es at place) in
+    let start : List ℕ = row_start code (without_before interval es at place) in
     let mark : List ℕ = satellite_mark (place + 1) in
-    and-then t0 t1 t3 start (32 ∷ mark) (e1 ∙ ap (λ (n : ℕ). t0 ++ never_start code n) are)
+    and-then t0 t1 t3 start (32 ∷ mark) (e1 ∙ ap (λ (n : ℕ). t0 ++ row_start code n) are)
     (e3 ∙ ap (λ (n : ℕ). t2 ++ satellite_mark n) number ∙ ap (λ (t : List ℕ). t ++ mark) e2 ∙ append_assoc t1 (32 ∷ []) mark)
     ∙ sym (ap (λ (b : Bool). t0 ++ cond b (start ++ 32 ∷ mark) []) some)
 

@@ -9,8 +9,8 @@ use Rattle.rtk_quality.specs.Records.{unit_of, record_counts_of}
 use Rattle.rtk_quality.specs.Hours.{hours_of}
 use Rattle.rtk_quality.specs.Gaps.{gaps_of, longest_gaps, gaps_in, size_of_gap}
 use Rattle.rtk_quality.specs.Largest.{count_of, AreLargest}
-use Rattle.rtk_quality.specs.Moments.{moments_of, largest_moments, moments_in, size_of_moment}
-use Rattle.rtk_quality.specs.Outages.{outages_of, longest_outages, size_of_outage}
+use Rattle.rtk_quality.specs.Moments.{common_moments, largest_moments, moments_in, size_of_moment}
+use Rattle.rtk_quality.specs.Outages.{all_outages, longest_outages, size_of_outage}
 use Rattle.rtk_quality.specs.declared.hours.HourCounts.{HourCounts}
 use Rattle.rtk_quality.specs.declared.gaps.Gap.{Gap}
 use Rattle.rtk_quality.specs.declared.heading.ListedCounts.{ListedCounts}
@@ -76,20 +76,20 @@ signals-are form listed interval es t0 t1 t2 t3 t4 t5 e1 e2 e3 e4 e5 =
 -- the hours, gaps and falls of a file, and what else happened
 pub station-part-is : (form : Form) (listed : List Code) (interval : Option ℕ) (unit : ℕ) (es : List EpochTableView) (hours : List HourCounts)
     (gaps : Largest Gap) (outages : Largest Outage) (moments : Largest Moment) (t0 t1 t2 t3 t4 t5 : List ℕ)
-    → hours ≡ reverse (hours_of interval unit listed es) → AreLargest size_of_gap gaps (gaps_of unit es) → AreLargest size_of_outage outages (outages_of interval es)
-    → AreLargest size_of_moment moments (moments_of interval es)
+    → hours ≡ reverse (hours_of interval unit listed es) → AreLargest size_of_gap gaps (gaps_of unit es) → AreLargest size_of_outage outages (all_outages interval es)
+    → AreLargest size_of_moment moments (common_moments interval es)
     → t1 ≡ t0 ++ hours_text form listed hours → t2 ≡ t1 ++ gaps_text form gaps.count gaps.things.items → t3 ≡ t2 ++ falls_text form hours
     → t4 ≡ t3 ++ outages_text form outages.count outages.things.items → t5 ≡ t4 ++ moments_text form moments.count moments.things.items
     → t5 ≡ t0 ++ station_part form listed interval unit es
 unfolding station_part
 station-part-is form listed interval unit es hours gaps outages moments t0 t1 t2 t3 t4 t5 are_hours are_gaps are_outages are_moments e1 e2 e3 e4 e5 =
     five t0 t1 t2 t3 t4 t5 (hours_text form listed (reverse (hours_of interval unit listed es))) (gaps_text form (gaps_in unit es) (longest_gaps unit es))
-    (falls_text form (reverse (hours_of interval unit listed es))) (outages_text form (count_of (outages_of interval es)) (longest_outages interval es))
+    (falls_text form (reverse (hours_of interval unit listed es))) (outages_text form (count_of (all_outages interval es)) (longest_outages interval es))
     (moments_text form (moments_in interval es) (largest_moments interval es))
     (e1 ∙ ap (λ (hs : List HourCounts). t0 ++ hours_text form listed hs) are_hours)
     (e2 ∙ ap (λ (n : ℕ). t1 ++ gaps_text form n gaps.things.items) are_gaps.count ∙ ap (λ (gs : List Gap). t1 ++ gaps_text form (gaps_in unit es) gs) are_gaps.largest)
     (e3 ∙ ap (λ (hs : List HourCounts). t2 ++ falls_text form hs) are_hours)
     (e4 ∙ ap (λ (n : ℕ). t3 ++ outages_text form n outages.things.items) are_outages.count
-    ∙ ap (λ (os : List Outage). t3 ++ outages_text form (count_of (outages_of interval es)) os) are_outages.largest)
+    ∙ ap (λ (os : List Outage). t3 ++ outages_text form (count_of (all_outages interval es)) os) are_outages.largest)
     (e5 ∙ ap (λ (n : ℕ). t4 ++ moments_text form n moments.things.items) are_moments.count
     ∙ ap (λ (ms : List Moment). t4 ++ moments_text form (moments_in interval es) ms) are_moments.largest)

@@ -6,7 +6,7 @@ use Rattle.rtk_obs.specs.declared.code.Code.{Code}
 use Rattle.rtk_quality.specs.Falls.{largest_fall}
 use Rattle.rtk_quality.specs.Strengths.{number_of}
 use Rattle.rtk_quality.specs.LineText.{code_line, satellite_line, tracked_line, pass_line}
-use Rattle.rtk_quality.specs.StationText.{hour_line, gap_line, outage_line, moment_line, fall_line}
+use Rattle.rtk_quality.specs.StationText.{hour_line, gap_line, outage_line, together_line, fall_line}
 use Rattle.rtk_quality.specs.Rows.{code_row, signal_row, tracked_row, pass_row, hour_row, gap_row, outage_row, moment_row, fall_row}
 use Rattle.rtk_quality.specs.declared.form.Form.{Form}
 use Rattle.rtk_quality.specs.declared.form.Form.TheVariants.{Table, Lines, Json}
@@ -47,7 +47,7 @@ unfoldable pub outage_entry : Form → Outage → List ℕ
 outage_entry form o = in_table form (outage_row o) (outage_line form o)
 
 unfoldable pub moment_entry : Form → Moment → List ℕ
-moment_entry form m = in_table form (moment_row m) (moment_line form m)
+moment_entry form m = in_table form (moment_row m) (together_line form m)
 
 unfoldable pub fall_entry : Form → Band → Fall → List ℕ
 fall_entry form band f = in_table form (fall_row (number_of band) f) (fall_line form band f)

@@ -11,8 +11,8 @@ use Rattle.rtk_quality.specs.SatellitePasses.{phases_in, passes_of, epochs_in_pa
 use Rattle.rtk_quality.specs.Records.{unit_of, rows_of, rows_total}
 use Rattle.rtk_quality.specs.Gaps.{gaps_of, size_of_gap}
 use Rattle.rtk_quality.specs.Largest.{largest_first}
-use Rattle.rtk_quality.specs.Moments.{together_in, moments_of, size_of_moment}
-use Rattle.rtk_quality.specs.Outages.{outages_of, size_of_outage}
+use Rattle.rtk_quality.specs.Moments.{together_in, common_moments, size_of_moment}
+use Rattle.rtk_quality.specs.Outages.{all_outages, size_of_outage}
 use Rattle.rtk_quality.specs.Hours.{hour_at, sum_of_rows, sum_in_hour, strengths_in_hour, missing_within, hours_of}
 use Rattle.rtk_quality.specs.Strengths.{strengths_of_rows}
 use Rattle.rtk_quality.specs.Quality.{numbers_of, totals_of}
@@ -167,7 +167,7 @@ outage_time interval (e ∷ before) = outage_time interval before + outage_time_
 -- the outages that are listed, the longest first, have together this time
 abbrev pub OutagesHaveAllTime : Type 0
 OutagesHaveAllTime =
-    (interval : Option ℕ) (es : List EpochTableView) → sum_by size_of_outage (largest_first size_of_outage (outages_of interval es)) ≡ outage_time interval es
+    (interval : Option ℕ) (es : List EpochTableView) → sum_by size_of_outage (largest_first size_of_outage (all_outages interval es)) ≡ outage_time interval es
 
 -- how many epochs have at least two satellites that slip
 abbrev pub common_epochs : Option ℕ → List EpochTableView → ℕ
@@ -178,14 +178,14 @@ common_epochs interval (e ∷ before) =
 -- each of them is listed
 abbrev pub MomentsAreAll : Type 0
 MomentsAreAll =
-    (interval : Option ℕ) (es : List EpochTableView) → sum_by (λ m. 1) (largest_first size_of_moment (moments_of interval es)) ≡ common_epochs interval es
+    (interval : Option ℕ) (es : List EpochTableView) → sum_by (λ m. 1) (largest_first size_of_moment (common_moments interval es)) ≡ common_epochs interval es
 
 -- no outage is longer than one before it
 abbrev pub LongestOutagesAreFirst : Type 0
 LongestOutagesAreFirst =
-    (interval : Option ℕ) (es : List EpochTableView) → AllPairs (λ a b. size_of_outage b ≤ size_of_outage a) (largest_first size_of_outage (outages_of interval es))
+    (interval : Option ℕ) (es : List EpochTableView) → AllPairs (λ a b. size_of_outage b ≤ size_of_outage a) (largest_first size_of_outage (all_outages interval es))
 
 -- at no epoch more satellites slip than at one before it
 abbrev pub LargestMomentsAreFirst : Type 0
 LargestMomentsAreFirst =
-    (interval : Option ℕ) (es : List EpochTableView) → AllPairs (λ a b. size_of_moment b ≤ size_of_moment a) (largest_first size_of_moment (moments_of interval es))
+    (interval : Option ℕ) (es : List EpochTableView) → AllPairs (λ a b. size_of_moment b ≤ size_of_moment a) (largest_first size_of_moment (common_moments interval es))

@@ -39,14 +39,14 @@ together_plus n slips tracked =
 
 -- formula
 -- the epoch at a moment, if at least two of its satellites slip
-abbrev pub moment_of : ℕ → Together → Option Moment
-moment_of t together = if nat_lt together.slipping 2 then None else Some (record { time = reading_of t; together = together })
+abbrev pub moment_if_several : ℕ → Together → Option Moment
+moment_if_several t together = if nat_lt together.slipping 2 then None else Some (record { time = reading_of t; together = together })
 
 -- formula
 -- all epochs at which several satellites slip
-abbrev pub moments_of : Option ℕ → List EpochTableView → List Moment
-moments_of interval [] = []
-moments_of interval (e ∷ before) = moments_of interval before ++ list_of (moment_of e.time (together_in interval before e.time e.rows))
+abbrev pub common_moments : Option ℕ → List EpochTableView → List Moment
+common_moments interval [] = []
+common_moments interval (e ∷ before) = common_moments interval before ++ list_of (moment_if_several e.time (together_in interval before e.time e.rows))
 
 -- the size of a moment is the number of its satellites that slip
 abbrev pub size_of_moment : Moment → ℕ
@@ -55,9 +55,9 @@ size_of_moment m = m.together.slipping
 -- formula
 -- how many there are
 abbrev pub moments_in : Option ℕ → List EpochTableView → ℕ
-moments_in interval es = count_of (moments_of interval es)
+moments_in interval es = count_of (common_moments interval es)
 
 -- formula
 -- the ten at which most satellites slip, the one with the most first, and of two alike the earlier one
 abbrev pub largest_moments : Option ℕ → List EpochTableView → List Moment
-largest_moments interval es = ten_largest size_of_moment (moments_of interval es)
+largest_moments interval es = ten_largest size_of_moment (common_moments interval es)

@@ -9,16 +9,16 @@ use Rattle.rtk_quality.specs.Quality.{numbers_of, is_in_file}
 use Rattle.rtk_quality.specs.Rows.{satellite_mark}
 
 -- a satellite of the file has no phase of the code at a place
-abbrev pub is_never : Option ℕ → List Sighting → ℕ → Bool
-is_never interval before at = is_in_file interval before && ((numbers_of interval before at).counts.phases == 0)
+abbrev pub is_without : Option ℕ → List Sighting → ℕ → Bool
+is_without interval before at = is_in_file interval before && ((numbers_of interval before at).counts.phases == 0)
 
 -- that of the satellite at a place, which is one less than its number
-abbrev pub is_never_at : Option ℕ → List EpochTableView → ℕ → ℕ → Bool
-is_never_at interval es at place = is_never interval (sightings_of (place + 1) es) at
+abbrev pub is_without_at : Option ℕ → List EpochTableView → ℕ → ℕ → Bool
+is_without_at interval es at place = is_without interval (sightings_of (place + 1) es) at
 
 -- how many satellites before a place have no phase of the code
-unfoldable pub never_before : Option ℕ → List EpochTableView → ℕ → ℕ → ℕ
-never_before interval es at place = count_by (is_never_at interval es at) (range_with_len 0 place)
+unfoldable pub without_before : Option ℕ → List EpochTableView → ℕ → ℕ → ℕ
+without_before interval es at place = count_by (is_without_at interval es at) (range_with_len 0 place)
 
 -- formula
 -- the end of a row, unless none has begun
@@ -28,18 +28,18 @@ row_end n = if n == 0 then [] else 10 ∷ []
 -- formula
 -- what stands before a satellite that follows so many others: at the beginning of a row the code, as in 2W G27. A row
 -- of 80 columns has 19 satellites behind a code.
-abbrev pub never_start : Code → ℕ → List ℕ
-never_start code n = if n % 19 == 0 then row_end n ++ name_of code else []
+abbrev pub row_start : Code → ℕ → List ℕ
+row_start code n = if n % 19 == 0 then row_end n ++ name_of code else []
 
 -- formula
-abbrev pub never_part : Option ℕ → List EpochTableView → Code → ℕ → ℕ → List ℕ
-never_part interval es code at place =
-    if is_never_at interval es at place then never_start code (never_before interval es at place) ++ 32 ∷ satellite_mark (place + 1) else []
+abbrev pub row_part : Option ℕ → List EpochTableView → Code → ℕ → ℕ → List ℕ
+row_part interval es code at place =
+    if is_without_at interval es at place then row_start code (without_before interval es at place) ++ 32 ∷ satellite_mark (place + 1) else []
 
 -- formula
 -- the satellites that have no phase of a code
 unfoldable pub never_row : Option ℕ → List EpochTableView → ℕ → Code → List ℕ
-never_row interval es at code = flat_map (never_part interval es code at) (range_with_len 0 32) ++ row_end (never_before interval es at 32)
+never_row interval es at code = flat_map (row_part interval es code at) (range_with_len 0 32) ++ row_end (without_before interval es at 32)
 
 -- the codes from a place on
 abbrev pub rows_from : Option ℕ → List EpochTableView → ℕ → List Code → List ℕ

@@ -30,9 +30,9 @@ outages_in interval before t rows =
 
 -- formula
 -- all outages, by the moments at which they end, and then by satellite
-abbrev pub outages_of : Option ℕ → List EpochTableView → List Outage
-outages_of interval [] = []
-outages_of interval (e ∷ before) = outages_of interval before ++ outages_in interval before e.time e.rows
+abbrev pub all_outages : Option ℕ → List EpochTableView → List Outage
+all_outages interval [] = []
+all_outages interval (e ∷ before) = all_outages interval before ++ outages_in interval before e.time e.rows
 
 -- the size of an outage is its time
 abbrev pub size_of_outage : Outage → ℕ
@@ -41,4 +41,4 @@ size_of_outage o = o.absence.ms
 -- formula
 -- the ten longest outages, the longest first, and of two alike the earlier one
 abbrev pub longest_outages : Option ℕ → List EpochTableView → List Outage
-longest_outages interval es = ten_largest size_of_outage (outages_of interval es)
+longest_outages interval es = ten_largest size_of_outage (all_outages interval es)

@@ -17,7 +17,7 @@ use Rattle.rtk_quality.specs.Hours.{hours_of}
 use Rattle.rtk_quality.specs.Gaps.{longest_gaps, gaps_in}
 use Rattle.rtk_quality.specs.Largest.{count_of}
 use Rattle.rtk_quality.specs.Moments.{largest_moments, moments_in}
-use Rattle.rtk_quality.specs.Outages.{longest_outages, outages_of}
+use Rattle.rtk_quality.specs.Outages.{longest_outages, all_outages}
 use Rattle.rtk_quality.specs.Lists.{list_text, largest_text}
 use Rattle.rtk_quality.specs.LineText.{never_line}
 use Rattle.rtk_quality.specs.Never.{never_rows}
@@ -74,11 +74,11 @@ parts_of form section listed interval es =
 -- formula
 -- the entries of a section: those of each satellite. In a table the codes of which satellites have no phase have
 -- rows by code.
-abbrev pub entries_of : Form → Section → List Code → Option ℕ → List EpochTableView → List ℕ
-entries_of form Codes listed interval es = parts_of form Codes listed interval es
-entries_of form Tracked listed interval es = parts_of form Tracked listed interval es
-entries_of form Never listed interval es = in_table form (never_rows interval es listed) (parts_of form Never listed interval es)
-entries_of form Passes listed interval es = parts_of form Passes listed interval es
+abbrev pub section_entries : Form → Section → List Code → Option ℕ → List EpochTableView → List ℕ
+section_entries form Codes listed interval es = parts_of form Codes listed interval es
+section_entries form Tracked listed interval es = parts_of form Tracked listed interval es
+section_entries form Never listed interval es = in_table form (never_rows interval es listed) (parts_of form Never listed interval es)
+section_entries form Passes listed interval es = parts_of form Passes listed interval es
 
 -- table
 -- the headings of the sections in a table; the codes of satellites follow those of the station
@@ -99,7 +99,7 @@ section_key Passes = codes ",\n\"passes\":["
 -- a section of the text
 unfoldable pub section_text : Form → Section → List Code → Option ℕ → List EpochTableView → List ℕ
 section_text form section listed interval es =
-    list_text form (section_heading section) (section_key section) (entries_of form section listed interval es)
+    list_text form (section_heading section) (section_key section) (section_entries form section listed interval es)
 
 -- table
 -- the heading of the columns of codes
@@ -210,9 +210,10 @@ close_text form = in_form form [] (codes "}\n")
 unfoldable pub station_part : Form → List Code → Option ℕ → ℕ → List EpochTableView → List ℕ
 station_part form listed interval unit es =
     hours_text form listed (reverse (hours_of interval unit listed es)) ++ gaps_text form (gaps_in unit es) (longest_gaps unit es)
-    ++ falls_text form (reverse (hours_of interval unit listed es)) ++ outages_text form (count_of (outages_of interval es)) (longest_outages interval es)
+    ++ falls_text form (reverse (hours_of interval unit listed es)) ++ outages_text form (count_of (all_outages interval es)) (longest_outages interval es)
     ++ moments_text form (moments_in interval es) (largest_moments interval es)
 
+-- formula
 -- the codes of the station and of satellites, the sums of satellites, and their passes
 unfoldable pub signals_part : Form → List Code → Option ℕ → List EpochTableView → List ℕ
 signals_part form listed interval es =

@@ -9,8 +9,8 @@ use Rattle.rtk_quality.specs.SatellitePasses.{sums_plus, sums_in, passes_of, epo
 use Rattle.rtk_quality.specs.Records.{record_counts_of}
 use Rattle.rtk_quality.specs.Gaps.{gaps_of, size_of_gap}
 use Rattle.rtk_quality.specs.Largest.{AreLargest}
-use Rattle.rtk_quality.specs.Outages.{outages_of, size_of_outage}
-use Rattle.rtk_quality.specs.Moments.{moments_of, size_of_moment}
+use Rattle.rtk_quality.specs.Outages.{all_outages, size_of_outage}
+use Rattle.rtk_quality.specs.Moments.{common_moments, size_of_moment}
 use Rattle.rtk_quality.specs.Steps.Noted.{AreHours}
 use Rattle.rtk_quality.specs.declared.hours.HourCounts.{HourCounts}
 use Rattle.rtk_quality.specs.declared.pass_sums.PassSums.{PassSums}
@@ -90,5 +90,5 @@ pub record StandsForFile (f : FileCounts) (interval : Option ℕ) (unit : ℕ) (
   pub ended : StandForEnded f.ended.items interval es
   pub hours : AreHours f.hours hs
   pub gaps : AreLargest size_of_gap f.gaps (gaps_of unit es)
-  pub outages : AreLargest size_of_outage f.outages (outages_of interval es)
-  pub moments : AreLargest size_of_moment f.moments (moments_of interval es)
+  pub outages : AreLargest size_of_outage f.outages (all_outages interval es)
+  pub moments : AreLargest size_of_moment f.moments (common_moments interval es)

@@ -74,8 +74,8 @@ outage_line form o =
 
 -- formula
 -- the line of an epoch at which several satellites slip
-unfoldable pub moment_line : Form → Moment → List ℕ
-moment_line form m =
+unfoldable pub together_line : Form → Moment → List ℕ
+together_line form m =
     start_text form (codes "slip-together") ++ moment_text form (codes " ") (codes "\"time\":") m.time
     ++ having_text form m.together.slipping m.together.tracked ++ end_text form
 

@@ -19,7 +19,7 @@ use crate::code_numbers::CodeNumbers;
 use crate::gaps::{Gap, gap_between};
 use crate::hours::{Hours, Locks};
 use crate::largest::Largest;
-use crate::moments::{Moment, Together, moment_of};
+use crate::moments::{Moment, Together, moment_if_several};
 use crate::outages::{Outage, outage_of};
 use crate::pass_sums::PassSums;
 use crate::record_counts::{RecordCounts, unit_ms};
@@ -238,7 +238,7 @@ impl FileCounts {
         self.gaps
             .note_if_any(gap_between(unit_ms, self.records.last, epoch.time()))?;
         self.moments
-            .note_if_any(moment_of(epoch.time(), notes.together))?;
+            .note_if_any(moment_if_several(epoch.time(), notes.together))?;
         self.records.note_record(unit_ms, epoch);
         Ok(())
     }

@@ -1,7 +1,7 @@
 //! The epochs at which several satellites slip.
 
 ghost use Rattle.std.specs.Prelude.{◌≡◌};
-ghost use Rattle.rtk_quality.specs.Moments.{none_together, together_plus, moment_of};
+ghost use Rattle.rtk_quality.specs.Moments.{none_together, together_plus, moment_if_several};
 
 use crate::largest::Measured;
 use rtk_obs::{Civil, GpsMs, civil};
@@ -53,8 +53,8 @@ impl Together {
 }
 
 /// The epoch at this moment, if several of its satellites slip.
-pub(crate) fn moment_of(time: GpsMs, together: Together) -> Option<Moment>
-    ensures { result ≡ moment_of time together }
+pub(crate) fn moment_if_several(time: GpsMs, together: Together) -> Option<Moment>
+    ensures { result ≡ moment_if_several time together }
 {
     if together.slipping < 2 {
         return None;

@@ -3,7 +3,7 @@
 ghost use Rattle.std.specs.Prelude.{◌≡◌, ◌<◌, ◌≤◌, ◌++◌, ℕ, List, length, Option, OnOk};
 ghost use Rattle.rtk_rinex.specs.Record.{EpochTableView};
 ghost use Rattle.rtk_tracking.specs.Passes.{Sighting};
-ghost use Rattle.rtk_quality.specs.Never.{is_never, is_never_at, never_before, row_end, never_start, never_part, never_row, never_rows};
+ghost use Rattle.rtk_quality.specs.Never.{is_without, is_without_at, without_before, row_end, row_start, row_part, never_row, never_rows};
 ghost use Rattle.rtk_quality.specs.Standing.{StandsForSatellite, StandForSatellites};
 
 use crate::rows::put_satellite;
@@ -15,23 +15,23 @@ use std::alloc::AllocError;
 const IN_ROW: u64 = 19;
 
 // Is the satellite in the file, and has no phase of the code at this place?
-fn is_never(counts: &SatelliteCounts, at: usize) -> bool
+fn is_without(counts: &SatelliteCounts, at: usize) -> bool
     requires { at < 16 }
-    ensures { (interval : Option ℕ) (before : List Sighting) → StandsForSatellite counts.now interval before → result ≡ is_never interval before at }
+    ensures { (interval : Option ℕ) (before : List Sighting) → StandsForSatellite counts.now interval before → result ≡ is_without interval before at }
 {
     counts.is_in_file() && counts.numbers(at).counts.phases == 0
 }
 
 // How many satellites before a place have no phase of the code at a place.
-fn never_before(satellites: &[SatelliteCounts], at: usize, place: usize) -> u64
+fn without_before(satellites: &[SatelliteCounts], at: usize, place: usize) -> u64
     requires at { at < 16 }
     requires place { place ≤ 32 }
     requires size { length satellites.now ≡ 32 }
-    ensures { (interval : Option ℕ) (es : List EpochTableView) → StandForSatellites satellites.now interval es → result ≡ never_before interval es at place }
+    ensures { (interval : Option ℕ) (es : List EpochTableView) → StandForSatellites satellites.now interval es → result ≡ without_before interval es at place }
 {
     let mut count = 0;
     for before in 0..place {
-        if is_never(&satellites[before], at) {
+        if is_without(&satellites[before], at) {
             count += 1;
         }
     }
@@ -50,7 +50,7 @@ fn put_row_end(text: &mut Vec<u8>, count: u64) -> Result<(), AllocError>
 
 // Appends what stands before a satellite that follows so many others.
 fn put_start(text: &mut Vec<u8>, code: Code, count: u64) -> Result<(), AllocError>
-    ensures { OnOk result (text.new.items ≡ text.old.items ++ never_start code count) }
+    ensures { OnOk result (text.new.items ≡ text.old.items ++ row_start code count) }
 {
     if count % IN_ROW != 0 {
         return Ok(());
@@ -71,12 +71,12 @@ fn put_part(
     requires place { place < 32 }
     requires size { length satellites.now ≡ 32 }
     ensures { OnOk result ((interval : Option ℕ) (es : List EpochTableView) → StandForSatellites satellites.now interval es
-        → text.new.items ≡ text.old.items ++ never_part interval es code at place) }
+        → text.new.items ≡ text.old.items ++ row_part interval es code at place) }
 {
-    if !is_never(&satellites[place], at) {
+    if !is_without(&satellites[place], at) {
         return Ok(());
     }
-    put_start(text, code, never_before(satellites, at, place))?;
+    put_start(text, code, without_before(satellites, at, place))?;
     text.extend_from_slice(b" ")?;
     put_satellite(text, place as u8 + 1)?;
     Ok(())
@@ -97,7 +97,7 @@ fn put_never_row(
     for place in 0..32 {
         put_part(text, satellites, code, at, place)?;
     }
-    put_row_end(text, never_before(satellites, at, 32))?;
+    put_row_end(text, without_before(satellites, at, 32))?;
     Ok(())
 }
 

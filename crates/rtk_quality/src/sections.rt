@@ -6,7 +6,7 @@ ghost use Rattle.rtk_tracking.specs.Passes.{Sighting};
 ghost use Rattle.rtk_quality.specs.Entries.{code_entry, pass_entry};
 ghost use Rattle.rtk_quality.specs.Quality.{numbers_of, code_of_station, satellites_in};
 ghost use Rattle.rtk_quality.specs.SatellitePasses.{passes_of};
-ghost use Rattle.rtk_quality.specs.QualityText.{each_code, code_in, part_of, parts_of, entries_of, section_heading, section_key, section_text, codes_text};
+ghost use Rattle.rtk_quality.specs.QualityText.{each_code, code_in, part_of, parts_of, section_entries, section_heading, section_key, section_text, codes_text};
 ghost use Rattle.rtk_quality.specs.declared.sections.Section.TheVariants.{Never};
 ghost use Rattle.rtk_quality.specs.Standing.{ended_of, StandsForSatellite, HasEnded, StandForSatellites, StandForEnded};
 
@@ -236,7 +236,7 @@ fn put_never(
     requires few { length codes.now ≤ 16 }
     requires size { length satellites.now ≡ 32 }
     ensures { OnOk result ((interval : Option ℕ) (es : List EpochTableView) → StandForSatellites satellites.now interval es → StandForEnded ended.now interval es
-        → text.new.items ≡ text.old.items ++ entries_of form Never codes.now interval es) }
+        → text.new.items ≡ text.old.items ++ section_entries form Never codes.now interval es) }
 {
     match form {
         Form::Table => put_never_rows(text, codes, satellites),
@@ -258,7 +258,7 @@ fn put_entries(
     requires few { length codes.now ≤ 16 }
     requires size { length satellites.now ≡ 32 }
     ensures { OnOk result ((interval : Option ℕ) (es : List EpochTableView) → StandForSatellites satellites.now interval es → StandForEnded ended.now interval es
-        → text.new.items ≡ text.old.items ++ entries_of form section codes.now interval es) }
+        → text.new.items ≡ text.old.items ++ section_entries form section codes.now interval es) }
 {
     match section {
         Section::Never => put_never(text, form, codes, satellites, ended),

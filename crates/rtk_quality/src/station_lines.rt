@@ -1,7 +1,7 @@
 //! The lines of hours, gaps, falls, outages and moments.
 
 ghost use Rattle.std.specs.Prelude.{◌≡◌, ◌++◌, OnOk};
-ghost use Rattle.rtk_quality.specs.StationText.{has_band, strength_words, strength_key, strength_text, hour_counts_text, hour_line, gap_line, outage_line, moment_line, fall_line};
+ghost use Rattle.rtk_quality.specs.StationText.{has_band, strength_words, strength_key, strength_text, hour_counts_text, hour_line, gap_line, outage_line, together_line, fall_line};
 
 use crate::code_numbers::{mean_hundredths, mean_tenths};
 use crate::falls::Fall;
@@ -152,13 +152,13 @@ pub(crate) fn put_outage_line(
 }
 
 /// Appends the line of an epoch at which several satellites slip.
-#[tactic(auto, unfolding(crate::specs::StationText::moment_line))]
+#[tactic(auto, unfolding(crate::specs::StationText::together_line))]
 pub(crate) fn put_moment_line(
     text: &mut Vec<u8>,
     form: Form,
     moment: &Moment,
 ) -> Result<(), AllocError>
-    ensures { OnOk result (text.new.items ≡ text.old.items ++ moment_line form moment.now) }
+    ensures { OnOk result (text.new.items ≡ text.old.items ++ together_line form moment.now) }
 {
     let together = &moment.together;
     put_start(text, form, b"slip-together")?;

@@ -5,7 +5,7 @@ use Rattle.rtk_rinex.specs.Reading.{reading_of}
 use Rattle.rtk_rinex.proofs.PublicLaws.{reading_is}
 use Rattle.rtk_quality.specs.declared.moments.Moment.{Moment}
 use Rattle.rtk_quality.specs.declared.moments.Together.{Together}
-use Rattle.rtk_quality.proofs.moments.moment_of.Goals as goal
+use Rattle.rtk_quality.proofs.moments.moment_if_several.Goals as goal
 
 pub returns : goal.returns
 returns c =
