@@ -52,7 +52,7 @@ QUALITY = 96 * (16 - 8) + 96 * (9 - 5)
 TEXT_OF_QUALITY = 4096
 
 # The bytes that a picture has at most.
-MOST_OF_PICTURE = 60_000_000
+MOST_OF_PICTURE = 75_000_000
 
 # The cells of an epoch: a 1004 gives two of a satellite, a 1074 one of each signal.
 CELLS = len(SATELLITES) * (2 + len(SIGNALS))
