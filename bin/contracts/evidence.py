@@ -9,9 +9,10 @@ tests of the file.
     // pins: crc, generator
     // refuses: a `feed` that calls itself for each candidate
 
-A pin is the name of a definition in crates/*/specs or of a constant in crates/*/src; its file stands before it where several
-files have the name, as in `Msm1074.table`. A definition with the mark `-- constant`, `-- table` or `-- formula` as the first
-line of its comment must have a pin.
+A pin is the name of a definition in crates/*/specs or of a constant in crates/*/src. Its file stands before it where several
+files have the name, as in `Msm1074.table`, and its crate too where these files have one name, as in
+`rtk_chart.Laws.mean_of_strengths`. A definition with the mark `-- constant`, `-- table` or `-- formula` as the first line of its
+comment must have a pin.
 """
 
 from __future__ import annotations
@@ -75,11 +76,12 @@ def stem(path: str) -> str:
 
 
 def by_names(definitions: Iterable[Pinnable]) -> dict[str, list[Pinnable]]:
-    """Each definition by its name, and by its file and its name; a name that several have is no name of one."""
+    """Each definition by its name, by its file and its name, and by its crate, its file and its name; a name that several have is no name of one."""
     found: dict[str, list[Pinnable]] = {}
     for one in definitions:
         found.setdefault(one.name, []).append(one)
         found.setdefault(f"{stem(one.file)}.{one.name}", []).append(one)
+        found.setdefault(f"{Path(one.file).parts[1]}.{stem(one.file)}.{one.name}", []).append(one)
     return found
 
 

@@ -95,6 +95,25 @@ class Gap:
 
 
 @dataclass(frozen=True)
+class Outage:
+    """An outage of a satellite: the GPS times of its last phase before and of its first one after, and its time in seconds (s)."""
+
+    satellite: str
+    first: datetime
+    last: datetime
+    outage_time: float
+
+
+@dataclass(frozen=True)
+class SlipsTogether:
+    """A record in which at least two satellites slip: its GPS time, and how many `satellites` slip of the `tracked` ones, which have a phase in it."""
+
+    time: datetime
+    satellites: int
+    tracked: int
+
+
+@dataclass(frozen=True)
 class Fall:
     """The largest fall of the mean strength of a band, in dB-Hz, and the beginnings of the hours before and after it."""
 
@@ -110,13 +129,15 @@ class Quality:
 
     `first` and `last` are the GPS times of the first and the last record, and `interval` is the most frequent step in seconds (s).
     `records`, `missing` and `gaps` count the records, the missing epochs, and the gaps in which they are. `satellites` counts the satellites of the file, and the next
-    three numbers say how many satellites a record has. `slips`, `moments`, `outages` and `outage_time` add up all satellites. A file
+    three numbers say how many satellites a record has. `slips`, `moments`, `outages` and `outage_time` add up all satellites, and
+    `slips_together` counts the records in which at least two satellites slip. A file
     without records has only `marker` and `records`, and all else is None or empty.
 
     `codes` has the numbers of each code over all satellites, and `satellite_codes` the numbers of each code of each satellite.
     `tracked` has the numbers of each satellite. `never` has the satellites and codes without any phase. `passes` has the passes of all
     satellites. `hours` has the hours with a record, `longest_gaps` up to ten gaps, the longest first, and `falls` the largest fall of
-    strength of each band.
+    strength of each band. `longest_outages` has up to ten outages, the longest first, and `most_slips_together` up to ten of the
+    records in which several satellites slip, the one with most of them first.
     """
 
     marker: str
@@ -134,6 +155,7 @@ class Quality:
     moments: Optional[int]
     outages: Optional[int]
     outage_time: Optional[float]
+    slips_together: Optional[int]
     codes: Tuple[CodeQuality, ...]
     satellite_codes: Tuple[CodeQuality, ...]
     tracked: Tuple[Tracked, ...]
@@ -142,6 +164,8 @@ class Quality:
     hours: Tuple[Hour, ...]
     longest_gaps: Tuple[Gap, ...]
     falls: Tuple[Fall, ...]
+    longest_outages: Tuple[Outage, ...]
+    most_slips_together: Tuple[SlipsTogether, ...]
 
 
 def quality(file: Input, *, program: Optional[Location] = None) -> Quality:
@@ -161,7 +185,8 @@ def read_quality(text: str) -> Quality:
         return Quality(**file_of(rows["file"]), codes=codes, satellite_codes=satellite_codes, never=never,
             tracked=tuple(map(tracked_of, rows["tracked"])), passes=tuple(map(pass_of, rows["passes"])),
             hours=tuple(map(hour_of, rows["hours"])), longest_gaps=tuple(map(gap_of, rows["gaps"])),
-            falls=tuple(map(fall_of, rows["falls"])))
+            falls=tuple(map(fall_of, rows["falls"])), longest_outages=tuple(map(outage_of, rows["outages"])),
+            most_slips_together=tuple(map(slips_together_of, rows["slips_together"])))
     except (ValueError, KeyError, TypeError) as fault:
         raise FormError(1, f"the JSON of quality has another form: {fault!r}") from fault
 
@@ -175,9 +200,9 @@ def file_of(row: Dict[str, Any]) -> Dict[str, Any]:
     """The numbers of the whole file. Without records there are only two."""
     if row["records"] == 0:
         absent = ("first", "last", "interval", "missing", "gaps", "satellites", "least_satellites", "mean_satellites", "greatest_satellites",
-            "slips", "moments", "outages", "outage_time")
+            "slips", "moments", "outages", "outage_time", "slips_together")
         return {"marker": row["marker"], "records": 0, **dict.fromkeys(absent)}
-    same = ("marker", "records", "missing", "gaps", "satellites", "least_satellites", "greatest_satellites", "slips", "moments", "outages")
+    same = ("marker", "records", "missing", "gaps", "satellites", "least_satellites", "greatest_satellites", "slips", "moments", "outages", "slips_together")
     return {**{name: row[name] for name in same}, "first": moment_of(row["from"]), "last": moment_of(row["until"]),
         "interval": part_of(row["interval_ms"], 1000), "mean_satellites": part_of(row["mean_satellites_tenths"], 10),
         "outage_time": row["outage_time_ms"] / 1000}
@@ -241,3 +266,13 @@ def gap_of(row: Dict[str, Any]) -> Gap:
 def fall_of(row: Dict[str, Any]) -> Fall:
     """The largest fall of a band."""
     return Fall(row["band"], *span_of(row), row["mean_strength_centidbhz"] / 100)
+
+
+def outage_of(row: Dict[str, Any]) -> Outage:
+    """An outage of a satellite."""
+    return Outage(row["satellite"], *span_of(row), row["outage_time_ms"] / 1000)
+
+
+def slips_together_of(row: Dict[str, Any]) -> SlipsTogether:
+    """A record in which several satellites slip."""
+    return SlipsTogether(told(row["time"]), row["satellites"], row["tracked"])

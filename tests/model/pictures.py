@@ -7,6 +7,7 @@ from __future__ import annotations
 from collections import Counter
 from collections.abc import Iterable
 from fractions import Fraction
+from math import ceil, floor
 from pathlib import Path
 from typing import NamedTuple
 
@@ -24,11 +25,13 @@ STEPS = [
 
 
 class Shown(NamedTuple):
-    """What a code shows: its phase, its loss-of-lock digit, its strength digit, and what a bit 0 is: slip, return or rise."""
+    """What a code shows: its phase, its loss-of-lock digit, its strength digit, its strength in thousandths of a dB-Hz, and what a bit 0
+    is: slip, return or rise."""
 
     phase: bool
     lock: int
     level: int | None
+    strength: Fraction | None
     kind: str = "slip"
 
     def has(self, kind: str) -> bool:
@@ -48,7 +51,7 @@ def shown_in(field: str) -> Shown:
     phase = field[16:32]
     strength = field[32:46].strip()
     level = min(max(int(float(strength) / 6), 1), 9) if strength else None
-    return Shown(bool(phase[:14].strip()), int(phase[14].strip() or 0), level)
+    return Shown(bool(phase[:14].strip()), int(phase[14].strip() or 0), level, 1000 * Fraction(strength) if strength else None)
 
 
 def epochs_of(records: str, codes: int) -> list[Epoch]:
@@ -127,13 +130,15 @@ def moment(time: int) -> str:
 class Drawn:
     """What is drawn of a file, in at most so many columns."""
 
-    def __init__(self, text: str, most: int) -> None:
+    def __init__(self, text: str, most: int, chosen: set[str] | None = None) -> None:
         header, records = text.split(END)
         lines = header.splitlines()
         self.marker = lines[2][:60].rstrip()
         types = "".join(line[6:60] for line in lines if "SYS / # / OBS TYPES" in line).split()
         self.codes = [it[1:] for it in types[::3]]
         self.epochs = epochs_of(records, len(self.codes))
+        if chosen is not None:
+            self.epochs = [Epoch(it.time, {name: row for name, row in it.satellites.items() if name in chosen}) for it in self.epochs]
         self.names = sorted({name for epoch in self.epochs for name in epoch.satellites})
         if self.epochs:
             self._lay(most)
@@ -186,9 +191,9 @@ class Drawn:
         return ticks
 
 
-def text_picture(text: str, width: int) -> str:
-    """The picture of a file, so many characters wide."""
-    it = Drawn(text, width - 5)
+def text_picture(text: str, width: int, chosen: set[str] | None = None) -> str:
+    """The picture of a file, so many characters wide, of these satellites or of all."""
+    it = Drawn(text, width - 5, chosen)
     if not it.epochs:
         return f"marker {it.marker}\nno records\n"
     out = [f"marker {it.marker}", f"from {moment(it.first)} GPS time", f"until {moment(it.last)} GPS time"]
@@ -229,18 +234,21 @@ SIGNS = [
 # pins: outage_boxes, missing_paths, lock_paths, shows, column_numbers, drawn_bar, SvgPicture.code_line, line_if_had, band_height, band_top, band_start, band_text
 # pins: spacing_of, line_top, line_start, code_start, name_start, name_drop
 # pins: band_if_drawn, bands_text, gaps_band, satellites_band, step_part, tick_text, ticks_text, svg_tick_step
+# pins: bins_per_column, strengths_in, mean_of, reach_between, depth_of, depth_part, lane_start, lane_text, lane_height, strip_height, strip_text, Means.number_of
 # pins: interval_text, svg_span, svg_numbers, civil_text, svg_picture, svg_start, svg_body, svg_legend, never_end, never_text, never_name, never_if_lacked
-def svg_picture(text: str) -> str:
-    """The picture of a file in SVG."""
-    it = Drawn(text, UNITS)
+def svg_picture(text: str, chosen: set[str] | None = None) -> str:
+    """The picture of a file in SVG, of these satellites or of all."""
+    it = Drawn(text, UNITS, chosen)
     marker = it.marker.replace("&", "&amp;").replace("<", "&lt;").replace(">", "&gt;")
     close = bool(it.epochs) and sum(map(len, it.had.values())) > MOST_WIDE
     highs = {name: band_height(len(it.had[name]), close) for name in it.names} if it.epochs else {}
     never = [[name for name in it.names if at not in it.had[name]] for at in range(len(it.codes))] if it.epochs else []
     bands = 140 + sum(highs.values())
     end = bands + 24 * sum(map(bool, never)) if it.epochs else -120
-    out = [f"<svg xmlns='http://www.w3.org/2000/svg' viewBox='0 0 1620 {end + 230}'>", f"<title>{marker}</title>", STYLE]
-    out += [f"<rect class='page' width='1620' height='{end + 230}'/>", f"<text class='marker' x='110' y='42'>{marker}</text>"]
+    lanes = lanes_of(it) if it.epochs else []
+    low = end + 46 * len(lanes)
+    out = [f"<svg xmlns='http://www.w3.org/2000/svg' viewBox='0 0 1620 {low + 230}'>", f"<title>{marker}</title>", STYLE]
+    out += [f"<rect class='page' width='1620' height='{low + 230}'/>", f"<text class='marker' x='110' y='42'>{marker}</text>"]
     if not it.epochs:
         return "\n".join([*out, "<text x='110' y='72'>no records</text>", "</svg>\n"])
     interval = f", interval {fixed(it.interval, 3)} s, column {fixed(it.length, 3)} s" if it.interval else ""
@@ -265,10 +273,12 @@ def svg_picture(text: str) -> str:
             y += 24
     out += group(110, end, ["<title>missing epochs</title>", "<text class='code' x='-6' y='18'>missing</text>", *bars(it, "g", it.gaps, 12)])
     out += group(110, end + 26, satellites(it))
+    for at, lane in enumerate(lanes):
+        out += group(110, end + 72 + 46 * at, lane)
     for c, label in it.ticks((it.columns // 10 + 1) * it.length).items():
-        out.append(f"<path class='t' d='M{110 + edge(it, c)} 106V{end + 72}'/>")
-        out.append(f"<text class='tick' x='{110 + edge(it, c)}' y='{end + 94}'>{label}</text>")
-    return "\n".join([*out, *group(110, end + 104, [LEGEND]), "</svg>\n"])
+        out.append(f"<path class='t' d='M{110 + edge(it, c)} 106V{low + 72}'/>")
+        out.append(f"<text class='tick' x='{110 + edge(it, c)}' y='{low + 94}'>{label}</text>")
+    return "\n".join([*out, *group(110, low + 104, [LEGEND]), "</svg>\n"])
 
 
 UNITS = 1440  # how wide the columns are together
@@ -351,6 +361,46 @@ def satellites(it: Drawn) -> list[str]:
         "<text class='code' x='-6' y='18'>satellites</text>",
         f"<text class='code' x='-6' y='38'>at most {max(counts)}</text>",
         f"<path class='n' d='M0 40{''.join(steps)}H1440V40z'/>",
+    ]
+
+
+def lanes_of(it: Drawn) -> list[list[str]]:
+    """The lane of each band that has a strength: its mean in columns of so many bins that there are 144 of them at most."""
+    each = next(number for number in range(1, UNITS) if ceil(Fraction(it.columns, number)) <= 144)
+    parts = [[epoch for part in it.parts[begin : begin + each] for epoch in part] for begin in range(0, it.columns, each)]
+    lanes = []
+    for band in "125":
+        means: dict[int, int] = {}
+        for at, part in enumerate(parts):
+            cells = [cell for epoch in part for row in epoch.satellites.values() for code, cell in zip(it.codes, row) if code[0] == band]
+            strengths = [cell.strength for cell in cells if cell.strength is not None]
+            if strengths:
+                means |= {c: floor(sum(strengths) / len(strengths)) for c in range(at * each, min((at + 1) * each, it.columns))}
+        if means:
+            lanes.append(lane_of(it, band, means))
+    return lanes
+
+
+def lane_of(it: Drawn, band: str, means: dict[int, int]) -> list[str]:
+    """The lane of a band, which has these means in its bins."""
+    least = min(means.values()) // 1000
+    most = max(least + 12, max(means.values()) // 1000 + 1)
+    depths = {c: 40 - floor(Fraction(36 * (mean - 1000 * least), 1000 * (most - least))) for c, mean in means.items()}
+    form = ""
+    for c in sorted(means):
+        if c - 1 not in means:
+            form += f"M{edge(it, c)} 44V{depths[c]}"
+        elif depths[c] != depths[c - 1]:
+            form += f"H{edge(it, c)}V{depths[c]}"
+        if c + 1 not in means:
+            form += f"H{edge(it, c + 1)}V44z"
+    return [
+        f"<title>mean strength of band {band} in dB-Hz</title>",
+        "<text class='code' x='-6' y='18'>strength</text>",
+        f"<text class='code' x='-6' y='38'>of band {band}</text>",
+        f"<text class='side' x='1446' y='16'>{most}</text>",
+        f"<text class='side' x='1446' y='40'>{least}</text>",
+        f"<path class='k' d='{form}'/>",
     ]
 
 

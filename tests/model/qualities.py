@@ -169,6 +169,10 @@ class Satellite:
             Field("outage-time", "outage_time_ms", sum(out), 3),
         ]
 
+    def outages(self, interval: int | None) -> list[tuple[int, int, int]]:
+        """For each outage the moments of the phases before and after it, and its time in ms."""
+        return [(a[-1][1], b[0][1], b[0][1] - a[-1][1] - (interval or 0)) for row in self.spans for a, b in zip(row, row[1:])]
+
 
 def mean_of(strengths: list[int]) -> int | None:
     """In hundredths of a dB-Hz."""
@@ -224,6 +228,31 @@ class Station:
         longest = sorted(self.gaps, key=lambda it: -it[2])[:10]
         return [("gap", [text("from", "from", moment(a)), text("until", "until", moment(b)), counted("missing", count)]) for a, b, count in longest]
 
+    def longest_outages(self, interval: int | None) -> list[tuple[str, list[Field]]]:
+        """The ten longest; of those alike the one that ends first, and then the satellite with the lower number."""
+        all_of_them = [(-ms, until, it.name, since) for it in self.satellites for since, until, ms in it.outages(interval)]
+        return [("outage", [
+            text("", "satellite", name),
+            text("from", "from", moment(since)),
+            text("until", "until", moment(until)),
+            Field("outage-time", "outage_time_ms", -ms, 3),
+        ]) for ms, until, name, since in sorted(all_of_them)[:10]]
+
+    def slips_together(self) -> list[tuple[int, int, int]]:
+        """The records in which at least two satellites slip: the time, how many do, and how many have a phase."""
+        found = []
+        for at, time in enumerate(self.times):
+            shown = {it.name: it.shown[at] for it in self.satellites if at in it.shown and any(row.phase for row in it.shown[at])}
+            slipping = [name for name, rows in shown.items()
+                if any(row.digit & 1 and self.kinds[name, c][at] == "slip" for c, row in enumerate(rows))]
+            if len(slipping) >= 2:
+                found.append((time, len(slipping), len(shown)))
+        return found
+
+    def largest_slips_together(self) -> list[tuple[str, list[Field]]]:
+        most = sorted(self.slips_together(), key=lambda it: -it[1])[:10]
+        return [("slip-together", [text("", "time", moment(time)), counted("satellites", n), Field("of", "tracked", of)]) for time, n, of in most]
+
     def falls(self) -> list[tuple[str, list[Field]]]:
         lines: list[tuple[str, list[Field]]] = []
         for band in self.bands:
@@ -269,6 +298,7 @@ def entries_of(file: str) -> tuple[list[Field], list[tuple[str, list[Field]]]]:
         Field("mean-satellites", "mean_satellites_tenths", whole(Fraction(10 * sum(counts), len(records))), 1),
         counted("greatest-satellites", max(counts)),
         *(one[0]._replace(value=sum(it.value for it in one)) for one in list(zip(*sums.values()))[1:]),
+        counted("slips-together", len(station.slips_together())),
     ]
     out: list[tuple[str, list[Field]]] = []
     for c, code in enumerate(codes):
@@ -287,7 +317,8 @@ def entries_of(file: str) -> tuple[list[Field], list[tuple[str, list[Field]]]]:
         for row in it.spans:
             span = [text("from", "from", moment(row[0][0][1])), text("until", "until", moment(row[-1][-1][1]))]
             out.append(("pass", [text("", "satellite", it.name), *span, *it.sums([row], interval)]))
-    return heading, out + station.hours() + station.longest_gaps() + station.falls()
+    times = station.hours() + station.longest_gaps() + station.falls() + station.longest_outages(interval) + station.largest_slips_together()
+    return heading, out + times
 
 
 def lines(file: str) -> str:
@@ -298,7 +329,11 @@ def lines(file: str) -> str:
 
 
 LISTS = {"code": "codes", "satellite": "satellites", "tracked": "tracked", "never": "never", "pass": "passes", "hour": "hours", "gap": "gaps",
-    "fall": "falls"}
+    "fall": "falls", "outage": "outages", "slip-together": "slips_together"}
+
+# The lists of times, which stand first in the table. The three with a count in the head have ten entries at most.
+TIMES = ("hour", "gap", "fall", "outage", "slip-together")
+MOST = {"gap": "gaps", "outage": "outages", "slip-together": "slips-together"}
 
 
 def in_json(file: str) -> str:
@@ -332,6 +367,8 @@ TABLES = {
         ("hour 16", "records 8", "expected 6", "mean_satellites_tenths 11", "slips 7", "returns 8", "mean_strength_1_centidbhz 8",
             "mean_strength_2_centidbhz 8", "mean_strength_5_centidbhz 8")),
     "gap": ("gap from                until                     missing", ("from 23", "until 23", "missing 10")),
+    "outage": ("outage from             until                      time", ("from 19", "until 19", "outage_time_ms 12")),
+    "slip-together": ("slips together      satellites    of", ("time 19", "satellites 11", "tracked 6")),
     "fall": ("band falls from       until                by", ("band 4", "from 16", "until 16", "mean_strength_centidbhz 8")),
 }
 
@@ -353,18 +390,41 @@ def row_of(keyword: str, fields: list[Field]) -> str:
     return row
 
 
+def in_order(entries: list[tuple[str, list[Field]]]) -> list[tuple[str, list[Field]]]:
+    """The entries in the order of the table: what tells of times comes first, and the codes that satellites never have are one entry for
+    each code."""
+    never: dict[str, list[str]] = {}
+    for keyword, fields in entries:
+        if keyword == "never":
+            never.setdefault(fields[1].value, []).append(fields[0].value)
+    order = [fields[0].value for keyword, fields in entries if keyword == "code"]
+    by_code = [("never", [text("", "code", code), *(text("", "satellite", it) for it in never[code])]) for code in order if code in never]
+    times = [it for it in entries if it[0] in TIMES]
+    others = [it for it in entries if it[0] not in (*TIMES, "never", "pass")]
+    return times + others + by_code + [it for it in entries if it[0] == "pass"]
+
+
+def never_rows(fields: list[Field]) -> list[str]:
+    """A code and the satellites that never have it, 19 in a row."""
+    code, *names = [it.value for it in fields]
+    return [" ".join([code, *names[at : at + 19]]) for at in range(0, len(names), 19)]
+
+
 def table(file: str) -> str:
     """The same as a table."""
     heading, entries = entries_of(file)
     lines = [f"marker {heading[0].value}"]
     lines += [it.word + it._replace(word="").in_line().rjust(43 - len(it.word)) for it in heading[1:]]
     last = ""
-    for keyword, fields in entries:
-        title = TABLES[keyword][0]
+    found = {it.word: it.value for it in heading}
+    for keyword, fields in [*in_order(entries), ("", [])]:
+        if keyword != last and found.get(MOST.get(last, ""), 0) > 10:
+            lines.append(f"and {found[MOST[last]] - 10} more")
+        title = TABLES[keyword][0] if keyword else None
         if keyword != last and title is not None:
             lines += ["", title]
         last = keyword
-        lines.append(row_of(keyword, fields))
+        lines += never_rows(fields) if keyword == "never" else [row_of(keyword, fields)] if keyword else []
     return "\n".join(lines) + "\n"
 
 

@@ -4,7 +4,10 @@
 examples=$root/examples
 made=2024-06-01T13:00:00
 python3 -B "$root/tests/program/auto_captures.py" || exit 1
-gzip -k one && bzip2 -k one && xz -c one >'one 2.xz' && ln -s one linked && ln one other_name && mkdir folder && mkfifo pipe && cp one 'a b' && cp one ./-5
+gzip -k one && cp one.gz 'one 3.gz'
+# Not each system has bzip2 and xz, and Python has both.
+python3 -c 'import bz2, lzma; it = open("one", "rb").read(); open("one.bz2", "wb").write(bz2.compress(it)); open("one 2.xz", "wb").write(lzma.compress(it))'
+ln -s one linked && ln one other_name && mkdir folder && mkfifo pipe && cp one 'a b' && cp one ./-5
 
 # auto WORD..: made at a known time
 auto() { run auto --made $made "$@"; }
@@ -71,7 +74,7 @@ ROWS
 run auto --made 2024-06-01 one; expect form_of_made 2 '' 'rtcm2rinex: bad --made
  --made takes YYYY-MM-DDTHH:MM:SS (UTC), from 1980-01-06T00:00:00 to 2100-12-31T23:59:59'
 # The command that unpacks a capture, pasted, makes one that is converted.
-auto 'one 2.xz'; sed -n "s/.*; unpack it: //p" err >said; . ./said; auto -o file 'one 2.xz.rtcm'; same unpacked_as_said file one.rnx; rm file
+auto 'one 3.gz'; sed -n "s/.*; unpack it: //p" err >said; . ./said; auto -o file 'one 3.gz.rtcm'; same unpacked_as_said file one.rnx; rm file
 auto -o '' one; expect an_output_without_a_name 2 '' "$(error "a value is required for '--output <FILE>' but none was supplied")"
 auto -o folder one; expect an_output_that_is_a_folder 1 '' 'rtcm2rinex: folder is there, and -f would replace it'
 auto -f -o folder one; expect an_output_that_is_a_folder_and_force 1 '' 'rtcm2rinex: folder is no regular file'

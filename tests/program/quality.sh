@@ -11,7 +11,7 @@ lines() { quality --lines "$@"; }
 # Its numbers, slip.numbers, were looked up in it by hand, and slip.table has them in columns.
 numbers=$root/tests/program/slip.numbers table=$root/tests/program/slip.table
 cat >json <<'END'
-{"file":{"marker":"BASE","from":"2024-05-17 12:00:00.000","until":"2024-05-17 12:01:00.000","interval_ms":1000,"records":61,"missing":0,"gaps":0,"satellites":2,"least_satellites":1,"mean_satellites_tenths":18,"greatest_satellites":2,"slips":4,"moments":4,"outages":0,"outage_time_ms":0},
+{"file":{"marker":"BASE","from":"2024-05-17 12:00:00.000","until":"2024-05-17 12:01:00.000","interval_ms":1000,"records":61,"missing":0,"gaps":0,"satellites":2,"least_satellites":1,"mean_satellites_tenths":18,"greatest_satellites":2,"slips":4,"moments":4,"outages":0,"outage_time_ms":0,"slips_together":0},
 "codes":[
 {"code":"1C","phases":112,"possible":122,"percent_tenths":918,"satellites":2,"tracked":2,"ranges_only":0,"slips":2,"returns":0,"rises":0,"half_cycles":2,"phases_per_slip":56,"least_strength_millidbhz":41500,"mean_strength_centidbhz":4341,"greatest_strength_millidbhz":45000},
 {"code":"2W","phases":112,"possible":122,"percent_tenths":918,"satellites":2,"tracked":2,"ranges_only":0,"slips":2,"returns":0,"rises":0,"half_cycles":0,"phases_per_slip":56,"least_strength_millidbhz":30250,"mean_strength_centidbhz":3284,"greatest_strength_millidbhz":35000}
@@ -38,6 +38,10 @@ cat >json <<'END'
 "gaps":[
 ],
 "falls":[
+],
+"outages":[
+],
+"slips_together":[
 ]}
 END
 # pins: counts_of, passes_of, epochs_in_passes, percent_tenths, mean_hundredths
@@ -50,7 +54,7 @@ quality "$file" --lines;      leaves quality_in_lines_after_the_file 0 "$numbers
 quality --json "$file";       leaves quality_in_json 0 json /dev/null
 quality "$file" --json;       leaves quality_in_json_after_the_file 0 json /dev/null
 quality --json stdin <"$file"; leaves quality_of_standard_input_in_json 0 json /dev/null
-python3 -c 'import json, sys; print(*json.load(sys.stdin))' <out >got; echo file codes satellites tracked never passes hours gaps falls >want
+python3 -c 'import json, sys; print(*json.load(sys.stdin))' <out >got; echo file codes satellites tracked never passes hours gaps falls outages slips_together >want
 same other_programs_read_the_document got want
 
 # Fields in the header change no number.
@@ -65,17 +69,17 @@ quality empty; { echo 'marker B~"\<&>'; printf '%-8s%35s\n' records 0; } >want
 leaves quality_without_records 0 want /dev/null
 lines empty; expect quality_without_records_in_lines 0 "$(printf '%s\n' 'marker B~"\<&>' 'records 0')" ''
 quality --json empty
-printf '%s,\n' '{"file":{"marker":"B~\"\\<&>","records":0}' '"codes":[]' '"satellites":[]' '"tracked":[]' '"never":[]' '"passes":[]' '"hours":[]' '"gaps":[]' >want
-echo '"falls":[]}' >>want
+printf '%s,\n' '{"file":{"marker":"B~\"\\<&>","records":0}' '"codes":[]' '"satellites":[]' '"tracked":[]' '"never":[]' '"passes":[]' '"hours":[]' '"gaps":[]' '"falls":[]' '"outages":[]' >want
+echo '"slips_together":[]}' >>want
 # pins: no_lists
 leaves quality_without_records_in_json 0 want /dev/null
 
 # A record alone has no interval.
 sed '/^> .* 1.0000000 /,$d' "$file" >one
-lines one; sed '16,$d' out >heading
+lines one; sed '17,$d' out >heading
 printf '%s\n' 'marker BASE' 'from 2024-05-17 12:00:00.000' 'until 2024-05-17 12:00:00.000' 'interval -' 'records 1' 'missing 0' 'gaps 0' \
     'satellites 2' 'least-satellites 2' 'mean-satellites 2.0' 'greatest-satellites 2' 'slips 0' 'moments 0' 'outages 0' \
-    'outage-time 0.000' >want
+    'outage-time 0.000' 'slips-together 0' >want
 same quality_of_a_record heading want
 
 # away N: six hours at 1 s of G05 and G07. G05 is away for the last N seconds of each 600 but the last ones, so 35 times, and bit 0
@@ -125,6 +129,68 @@ END
     same "quality_of_a_satellite_away_for_${seconds}_s_at_$step" got want
 done 3<rows
 
+# The first ten of the 35 outages of 125 s, and the tenth one, which follows nine times 600 s.
+away 125 >gone
+lines gone; grep '^outage G' out >got; { sed -n '1p;10p' got; wc -l <got; } >some
+cat >want <<'END'
+outage G05 from 2024-05-17 12:07:54.000 until 2024-05-17 12:10:00.000 outage-time 125.000
+outage G05 from 2024-05-17 13:37:54.000 until 2024-05-17 13:40:00.000 outage-time 125.000
+10
+END
+# pins: absence_between, all_outages, longest_outages, largest_first, ten_largest, outage_line
+same quality_of_the_longest_outages some want
+quality gone; grep -A 1 '^G05 .* 13:37:54 ' out >got
+cat >want <<'END'
+G05 2024-05-17 13:37:54 2024-05-17 13:40:00     125.000
+and 25 more
+END
+# pins: more_text, outage_row
+same quality_of_the_longest_outages_in_a_table got want
+
+# Four satellites for a minute. G01 and G02 slip at the second 10, G01, G02 and G03 at 20, where G04 has no row, G04 alone at 30, and G02
+# and G03 at 40. G03 has a range without a phase at 10.
+{
+    sed '/END OF HEADER/q' "$file"
+    awk 'BEGIN {
+        for (s = 0; s < 60; s++) {
+            printf "> 2024 05 17 12 00 %2d.0000000  0  %d\n", s, s == 20 ? 3 : 4
+            for (n = 1; n <= 4; n++) {
+                slip = s == 10 && n < 3 || s == 20 || s == 30 && n == 4 || s == 40 && (n == 2 || n == 3)
+                if (n == 3 && s == 10) print "G03  21085472.060"
+                else if (n < 4 || s != 20) printf "G0%d  21085472.060 7 110804903.547%s7        45.000\n", n, slip ? "1" : " "
+            }
+        }
+    }'
+} >common
+lines common; grep '^slip' out >got
+cat >want <<'END'
+slips 8
+slips-together 3
+slip-together 2024-05-17 12:00:20.000 satellites 3 of 3
+slip-together 2024-05-17 12:00:10.000 satellites 2 of 3
+slip-together 2024-05-17 12:00:40.000 satellites 2 of 4
+END
+# pins: together_in, moment_if_several, common_moments, moments_in, largest_moments, together_line, listed_counts
+same quality_of_slips_together got want
+quality common; grep -A 3 '^slips together' out >got
+cat >want <<'END'
+slips together      satellites    of
+2024-05-17 12:00:20          3     3
+2024-05-17 12:00:10          2     3
+2024-05-17 12:00:40          2     4
+END
+# pins: moment_row, moments_heading
+same quality_of_slips_together_in_a_table got want
+quality --json common; sed -n '/^"slips_together"/,$p' out >got
+cat >want <<'END'
+"slips_together":[
+{"time":"2024-05-17 12:00:20.000","satellites":3,"tracked":3},
+{"time":"2024-05-17 12:00:10.000","satellites":2,"tracked":3},
+{"time":"2024-05-17 12:00:40.000","satellites":2,"tracked":4}
+]}
+END
+same quality_of_slips_together_in_json got want
+
 # Seven records of three hours. The third one lies 20 ms before its hour, and 118 and 60 epochs are missing up to the next hour and in
 # it. 2W has no strength in the second hour. Its strengths fall by 5 from the first hour to the third, and those of 1C by 2 and by 3.
 {
@@ -163,8 +229,8 @@ quality --json hours
 grep '"band":2' out >got
 echo '{"band":2,"from":"2024-05-17 12:00:00.000","until":"2024-05-17 14:00:00.000","mean_strength_centidbhz":500}' >want
 same quality_of_three_hours_in_json got want
-# The table of the same numbers, from its hours on.
-quality hours; sed -n '/^hour/,$p' out >got
+# The table of the same numbers, from its hours to its codes.
+quality hours; sed -n '/^hour/,/^signal/p' out >got
 cat >want <<'END'
 hour             records    of satellites  slips returns  band 1  band 2  band 5
 2024-05-17 12:00       2     2        1.0      0       0   45.00   35.00       -
@@ -177,8 +243,10 @@ gap from                until                     missing
 band falls from       until                by
    1 2024-05-17 13:00 2024-05-17 14:00    3.00
    2 2024-05-17 12:00 2024-05-17 14:00    5.00
+
+signal phases     of      % ranges slips returns rises half     min  mean    max
 END
-# pins: hour_row, gaps_heading, falls_heading, span_part
+# pins: hour_row, gaps_heading, falls_heading, span_part, body_text
 same quality_of_three_hours_in_a_table got want
 
 # twelve KIND: 83 records of twelve satellites. G07 slips twice on its codes. G11 has no 2W, and G05 lacks two phases of it. Of the
@@ -222,7 +290,7 @@ all 2W    911    913   99.7      0     2       0     0    0  35.000 35.00 35.000
        satellites 11 of 12 phases-per-slip 456
 G01 1C     83     83  100.0      0     0       0     0    0  45.000 45.00 45.000
 never a phase
-G11 2W
+2W G11
 
 END
 same quality_of_a_code_that_one_satellite_never_sends_in_a_table got want
@@ -236,6 +304,22 @@ never G11 2W
 never G12 2W
 END
 same quality_of_a_code_with_ranges_alone got want
+# A row has at most 19 satellites behind a code. Of 32 satellites with 1C no one has 2W.
+{
+    sed '/END OF HEADER/q' "$file"
+    printf '> 2024 05 17 12 00  0.0000000  0 32\n'
+    for number in $(seq -w 32); do printf 'G%s  21085472.060 7 110804903.547 7        45.000\n' "$number"; done
+} >wide
+quality wide
+sed -n '/^never/,/^$/p' out >got
+cat >want <<'END'
+never a phase
+2W G01 G02 G03 G04 G05 G06 G07 G08 G09 G10 G11 G12 G13 G14 G15 G16 G17 G18 G19
+2W G20 G21 G22 G23 G24 G25 G26 G27 G28 G29 G30 G31 G32
+
+END
+# pins: row_end, row_start, row_part, never_row
+same quality_of_a_code_that_no_one_of_32_satellites_sends got want
 twelve none >none
 lines none
 grep '^code 2W ' out >got

@@ -2,7 +2,6 @@
 its files again. The command's first write to standard error, which comes between, waits for room in a full pipe. What it
 writes there comes to our standard error. Ends with the command's status."""
 
-import fcntl
 import os
 import subprocess
 import sys
@@ -11,7 +10,6 @@ from pathlib import Path
 
 change, name, *command = sys.argv[1:]
 reading, writing = os.pipe()
-fcntl.fcntl(writing, fcntl.F_SETPIPE_SZ, 4096)
 os.set_blocking(writing, False)
 filled = 0
 try:

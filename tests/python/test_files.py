@@ -108,6 +108,21 @@ class Qualities(Case):
         self.assertEqual(found.hours, (rtcm2rinex.Hour(NOON, 94, 100, 2.4, 2, 0, {1: 38.05, 2: 30.74}),))
         self.assertEqual((found.gaps, found.longest_gaps, found.falls), (1, (rtcm2rinex.Gap(second(39), second(46), 6),), ()))
         self.assertEqual(found.never, ())
+        self.assertEqual((found.slips_together, found.longest_outages, found.most_slips_together), (0, (), ()))
+
+    def test_outages_and_slips_together(self) -> None:
+        """G05 and G07 slip together at the second 10. G05 is away from 20 to 199, and G07 is there each second."""
+        header, _ = (EXAMPLES / "slip.rnx").read_text().split("END OF HEADER       \n")
+        text = header + "END OF HEADER       \n"
+        for at in range(300):
+            there = not 20 <= at < 200
+            mark = "1" if at == 10 else " "
+            text += f"> 2024 05 17 12 {at // 60:02} {at % 60:2}.0000000  0  {1 + there}\n"
+            text += f"G05  21085472.060 7 110804903.547{mark}7        45.000\n" if there else ""
+            text += f"G07  22963108.863 6 120671906.430{mark}6        41.500\n"
+        found = rtcm2rinex.quality(io.BytesIO(text.encode("ascii")))
+        self.assertEqual((found.outages, found.longest_outages), (1, (rtcm2rinex.Outage("G05", second(19), second(200), 180.0),)))
+        self.assertEqual((found.slips_together, found.most_slips_together), (1, (rtcm2rinex.SlipsTogether(second(10), 2, 2),)))
 
     def test_codes_that_a_satellite_never_has(self) -> None:
         found = rtcm2rinex.quality(EXAMPLES / "session.rnx")
@@ -119,6 +134,7 @@ class Qualities(Case):
         found = rtcm2rinex.quality(io.BytesIO(header))
         self.assertEqual((found.marker, found.records, found.first, found.codes, found.passes), ("BASE", 0, None, (), ()))
         self.assertEqual((found.gaps, found.slips, found.outage_time, found.tracked, found.hours), (None, None, None, (), ()))
+        self.assertEqual((found.slips_together, found.longest_outages, found.most_slips_together), (None, (), ()))
 
     def test_a_wrong_file(self) -> None:
         text = (EXAMPLES / "base.rnx").read_bytes().replace(b"45.000", b"45.100")

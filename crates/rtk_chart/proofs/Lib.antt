@@ -1,5 +1,6 @@
 pub mod BitLemmas
 pub mod ChartLemmas
+pub mod ChoiceLemmas
 pub mod FileLemmas
 pub mod GridLemmas
 pub mod HeadingLemmas
@@ -9,5 +10,6 @@ pub mod MarkLemmas
 pub mod PieceLemmas
 pub mod ScaleLemmas
 pub mod SeenLemmas
+pub mod StrengthLemmas
 pub mod SvgLemmas
 pub mod WidthLemmas

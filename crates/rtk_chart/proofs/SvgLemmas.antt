@@ -1,11 +1,12 @@
 -- Paths of bins, bin by bin, and lines of codes, code by code.
-use Rattle.std.proofs.Common.{◌≡◌, ◌≤◌, ◌<◌, ◌+◌, ◌*◌, ◌/◌, ℕ, Bool, List, ◌++◌, length, drop, get_or, sym, ap, ◌∙◌, append_assoc, arith}
+use Rattle.std.proofs.Common.{◌≡◌, ◌≤◌, ◌<◌, ◌+◌, ◌*◌, ◌/◌, ℕ, Bool, Option, List, ◌++◌, length, drop, get_or, sym, ap, ◌∙◌, append_assoc, arith}
 use Rattle.std.proofs.Math.Nat.{mul-div_cancel_left}
 use Rattle.std.proofs.lemmas.List.{drop_more}
 use Rattle.std.proofs.lemmas.Nat.{mul-le}
 use Rattle.rtk_obs.specs.declared.code.Code.{Code}
 use Rattle.rtk_chart.specs.Scale.{longest_bin}
 use Rattle.rtk_chart.specs.SvgPath.{edge_of, middle_of, run_part, runs_from, mark_part, marks_from, tracked_in, step_part, steps_from}
+use Rattle.rtk_chart.specs.SvgStrip.{depth_part, depths_from}
 use Rattle.rtk_chart.specs.SvgPicture.{line_if_had, code_lines, never_if_lacked, never_texts}
 use Rattle.rtk_chart.specs.declared.spacing.Spacing.{Spacing}
 use Rattle.rtk_chart.specs.declared.time_bin.TimeBin.{TimeBin}
@@ -30,6 +31,17 @@ runs-more begin end n i x flags was d all mid after within at so_far more =
     ∙ sym (append_assoc mid (run_part begin end (edge_of n i) was b) (runs_from begin end n (i + 1) b rest))
     ∙ ap (λ (k : ℕ). (mid ++ run_part begin end k was b) ++ runs_from begin end n (i + 1) b rest) (sym at)
     ∙ ap (λ (t : List ℕ). t ++ runs_from begin end n (i + 1) b rest) (sym more)
+
+pub depths-more : (n i x : ℕ) (depths : List (Option ℕ)) (was d : Option ℕ) (all mid after : List ℕ) → i < length depths → x ≡ edge_of n i
+    → all ≡ mid ++ depths_from n i was (drop i depths) → after ≡ mid ++ depth_part x was (get_or depths i d)
+    → all ≡ after ++ depths_from n (i + 1) (get_or depths i d) (drop (i + 1) depths)
+depths-more n i x depths was d all mid after within at so_far more =
+    let b = get_or depths i d in
+    let rest = drop (i + 1) depths in
+    so_far ∙ ap (λ (ds : List (Option ℕ)). mid ++ depths_from n i was ds) (drop_more depths i d within)
+    ∙ sym (append_assoc mid (depth_part (edge_of n i) was b) (depths_from n (i + 1) b rest))
+    ∙ ap (λ (k : ℕ). (mid ++ depth_part k was b) ++ depths_from n (i + 1) b rest) (sym at)
+    ∙ ap (λ (t : List ℕ). t ++ depths_from n (i + 1) b rest) (sym more)
 
 pub marks-more : (form : List ℕ) (n i x : ℕ) (flags : List Bool) (d : Bool) (all mid after : List ℕ) → i < length flags → x ≡ middle_of n i
     → all ≡ mid ++ marks_from form n i (drop i flags) → after ≡ mid ++ mark_part form x (get_or flags i d)

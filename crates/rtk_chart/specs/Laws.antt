@@ -1,8 +1,11 @@
 -- Laws of the definitions of a picture.
-use Rattle.std.specs.Prelude.{◌≡◌, ◌≤◌, ◌<◌, ◌↔◌, ℕ, ◌+◌, ◌-◌, ◌*◌, ◌/◌, Bool, true, List, length, Option, Some}
+use Rattle.std.specs.Prelude.{◌≡◌, ◌≤◌, ◌<◌, ◌↔◌, ℕ, ◌+◌, ◌-◌, ◌*◌, ◌/◌, ◌^◌, Bool, true, List, [], ◌∷◌, length, get_or, sum, min, Option, None, Some}
+use Rattle.rtk_obs.specs.declared.code.Band.{Band}
+use Rattle.rtk_obs.specs.declared.code.Code.{Code}
 use Rattle.rtk_rinex.specs.Record.{EpochTableView}
 use Rattle.rtk_chart.specs.Scale.{half_of, intervals_of, IsScale, scale_of, bin_at}
 use Rattle.rtk_chart.specs.Grid.{bins_of, has_missing_before, gaps_of}
+use Rattle.rtk_chart.specs.Means.{bins_per_column, strengths_in, columns_of, all_without, mean_at}
 use Rattle.rtk_chart.specs.TextPicture.{satellite_row, gap_row, axis_row}
 use Rattle.rtk_chart.specs.SvgPath.{edge_of}
 use Rattle.rtk_chart.specs.declared.scale.Scale.{Scale}
@@ -60,3 +63,19 @@ abbrev pub MissingMarksAreEpochs : Type 0
 MissingMarksAreEpochs =
     (s : Scale) (before t c : ℕ) → 0 < s.unit → s.unit ≤ s.bin_ms → s.first ≤ before
     → (has_missing_before s (Some before) t c ≡ true) ↔ SomeMissingEpoch s before t c
+
+-- ---- strengths
+
+-- the mean of some strengths, if there are any
+abbrev pub mean_of_strengths : List ℕ → Option ℕ
+mean_of_strengths [] = None
+mean_of_strengths (x ∷ xs) = Some (min (sum (x ∷ xs) / length (x ∷ xs)) 63_750)
+
+-- each bin of a picture has its column, and the mean of a band there is that of all its strengths in the epochs of the
+-- column, if these and their sum are below 2^64
+abbrev pub MeansAreOfStrengths : Type 0
+MeansAreOfStrengths =
+    (s : Scale) (listed : List Code) (es : List EpochTableView) (band : Band) (bin : ℕ) → bin < s.bins
+    → let strengths : List ℕ = strengths_in s listed band es (bin / bins_per_column s) in
+    length strengths < 2 ^ 64 → sum strengths < 2 ^ 64
+    → mean_at band (get_or (columns_of s listed es) (bin / bins_per_column s) all_without) ≡ mean_of_strengths strengths

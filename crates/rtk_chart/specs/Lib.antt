@@ -1,4 +1,5 @@
 pub mod Chart
+pub mod Choice
 pub mod Epochs
 pub mod Grid
 pub mod Heading
@@ -6,10 +7,12 @@ pub mod HeadingLaws
 pub mod Laws
 pub mod Layers
 pub mod MarkLaws
+pub mod Means
 pub mod Scale
 pub mod Signs
 pub mod Steps
 pub mod SvgPath
 pub mod SvgPicture
+pub mod SvgStrip
 pub mod TextPicture
 pub mod Ticks

@@ -11,12 +11,15 @@ use Rattle.rtk_chart.specs.Ticks.{tick_step, tick_at, tick_label}
 use Rattle.rtk_chart.specs.Grid.{tracking_at, marks_at, is_out}
 use Rattle.rtk_chart.specs.Signs.{is_drawn, has_code, is_never}
 use Rattle.rtk_chart.specs.TextPicture.{satellite_label, never_before, drawn_before, satellites_in}
+use Rattle.rtk_chart.specs.Means.{bins_per_column}
+use Rattle.rtk_chart.specs.SvgStrip.{strip_height, strip_text}
 use Rattle.rtk_chart.specs.SvgPath.{edge_of, runs_text, marks_text, most_tracked, steps_text}
 use Rattle.rtk_chart.specs.Layers.{shows}
 use Rattle.rtk_chart.specs.declared.svg_picture.TheConstants.{STYLE, SYSTEM, LEGEND}
 use Rattle.rtk_chart.specs.declared.scale.Scale.{Scale}
 use Rattle.rtk_chart.specs.declared.time_bin.TimeBin.{TimeBin}
 use Rattle.rtk_chart.specs.declared.layer.Layer.{Layer}
+use Rattle.rtk_chart.specs.declared.strengths.Strengths.{Strengths}
 use Rattle.rtk_chart.specs.declared.spacing.Spacing.{Spacing}
 use Rattle.rtk_chart.specs.declared.spacing.Spacing.TheVariants.{Wide, Close}
 use Rattle.rtk_chart.specs.declared.layer.Layer.TheVariants.{Phase, Level, Missing, Part, Absent, Slip, Return, Rise, Half}
@@ -349,20 +352,21 @@ never_end spacing bins listed = bands_end spacing bins listed + 24 * lacked_befo
 
 -- formula
 -- what stands below the heading: the name of the system, its satellites, and so far from the top what is of all
-unfoldable pub svg_body : Spacing → List Code → Scale → List TimeBin → List Bool → List Bool → ℕ → List ℕ
-svg_body spacing listed s bins outages gaps end =
+unfoldable pub svg_body : Spacing → List Code → Scale → List TimeBin → List Bool → List Bool → List Strengths → ℕ → List ℕ
+svg_body spacing listed s bins outages gaps strengths end =
     SYSTEM.now ++ bands_text spacing listed bins outages ++ never_texts bins (bands_end spacing bins (length listed) + 18) 0 listed ++ gaps_band end gaps ++ satellites_band (end + 26) bins
-    ++ ticks_text s (svg_tick_step s) (end + 72) ++ svg_legend (end + 104) ++ codes "</svg>\n"
+    ++ strip_text (end + 72) strengths (bins_per_column s) (length bins)
+    ++ ticks_text s (svg_tick_step s) (end + strip_height strengths + 72) ++ svg_legend (end + strip_height strengths + 104) ++ codes "</svg>\n"
 
 -- formula
 -- the picture of a file with records: its marker, its codes, its scale, the numbers of its records,
--- slips, returns, rises and missing epochs, and what its bins show
+-- slips, returns, rises and missing epochs, what its bins show, and its strengths
 unfoldable pub svg_picture
-    : List ℕ → List Code → Scale → ℕ → ℕ → ℕ → ℕ → ℕ → List TimeBin → List Bool → List Bool → List ℕ
-svg_picture marker listed s records slips returns rises missing bins outages gaps =
-    svg_start marker (never_end (spacing_of bins (length listed)) bins (length listed) + 230)
+    : List ℕ → List Code → Scale → ℕ → ℕ → ℕ → ℕ → ℕ → List TimeBin → List Bool → List Bool → List Strengths → List ℕ
+svg_picture marker listed s records slips returns rises missing bins outages gaps strengths =
+    svg_start marker (never_end (spacing_of bins (length listed)) bins (length listed) + strip_height strengths + 230)
     ++ svg_span s ++ svg_numbers records (satellites_in bins) slips returns rises missing
-    ++ svg_body (spacing_of bins (length listed)) listed s bins outages gaps (never_end (spacing_of bins (length listed)) bins (length listed))
+    ++ svg_body (spacing_of bins (length listed)) listed s bins outages gaps strengths (never_end (spacing_of bins (length listed)) bins (length listed))
 
 -- formula
 -- the picture of a file without records

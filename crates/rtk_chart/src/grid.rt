@@ -1,6 +1,7 @@
 //! The bins of a picture with what their epochs call for.
 
 ghost use Rattle.std.specs.Prelude.{◌≡◌, ◌<◌, ◌*◌, ◌&&◌, nat_le, ℕ, Some, List, [], ◌∷◌, length, get_or, IfOk};
+ghost use Rattle.rtk_obs.specs.declared.code.Code.{Code};
 ghost use Rattle.rtk_rinex.specs.Reading.{IsMoment};
 ghost use Rattle.rtk_rinex.specs.Record.{EpochTableView};
 ghost use Rattle.rtk_tracking.specs.Interval.{missing_before};
@@ -12,8 +13,9 @@ ghost use Rattle.rtk_chart.specs.Steps.Shown.{bin_of};
 
 use crate::outages::note_outages;
 use crate::scale::Scale;
+use crate::strengths::{MOST_COLUMNS, Strengths, note_strengths};
 use crate::time_bin::TimeBin;
-use rtk_obs::GpsMs;
+use rtk_obs::{Code, GpsMs};
 use rtk_rinex::EpochTable;
 use rtk_tracking::{Pass, missing_between, observed_in};
 use std::alloc::{AllocError, Global};
@@ -26,6 +28,8 @@ pub(crate) struct Grid {
     pub(crate) outages: Vec<bool>,
     /// Whether an epoch is missing in each bin.
     pub(crate) gaps: Vec<bool>,
+    /// The strengths of each band, in columns of some bins.
+    pub(crate) strengths: Vec<Strengths>,
     pub(crate) missing: u64,
     pub(crate) slips: u64,
     pub(crate) returns: u64,
@@ -114,12 +118,13 @@ impl Grid {
         ensures bins { IfOk result (λ grid. length grid.bins.items ≡ scale.now.bins) }
         ensures outages { IfOk result (λ grid. length grid.outages.items ≡ 32 * scale.now.bins) }
         ensures gaps { IfOk result (λ grid. length grid.gaps.items ≡ scale.now.bins) }
-        ensures grid { IfOk result (λ grid. StandsForGrid grid scale.now []) }
+        ensures grid { IfOk result (λ grid. (listed : List Code) → StandsForGrid grid scale.now listed []) }
     {
         Ok(Grid {
             bins: vec![in alloc; TimeBin::new(); scale.bins as usize]?,
             outages: vec![in alloc; false; 32 * scale.bins as usize]?,
             gaps: vec![in alloc; false; scale.bins as usize]?,
+            strengths: vec![in alloc; Strengths::none(); MOST_COLUMNS]?,
             missing: 0,
             slips: 0,
             returns: 0,
@@ -138,6 +143,7 @@ impl Grid {
         ensures slips { self.new.slips ≡ self.old.slips }
         ensures returns { self.new.returns ≡ self.old.returns }
         ensures rises { self.new.rises ≡ self.old.rises }
+        ensures strengths { self.new.strengths ≡ self.old.strengths }
         ensures size { length self.new.gaps.items ≡ length self.old.gaps.items }
         ensures missing { CountsMissing self.old self.new scale.now epoch.now }
     {
@@ -150,15 +156,15 @@ impl Grid {
     }
 
     /// Notes one more record: its marks in its bin, its slips, returns and rises, the passes of its satellites,
-    /// the outages that end with it, and the epochs that are missing before it.
-    pub(crate) fn place_record(&mut self, scale: &Scale, epoch: &EpochTable)
+    /// the outages that end with it, the epochs that are missing before it, and its strengths.
+    pub(crate) fn place_record(&mut self, scale: &Scale, codes: &[Code], epoch: &EpochTable)
         requires good { IsScale scale.now }
         requires outages { length self.old.outages.items ≡ 32 * scale.now.bins }
         ensures bins { length self.new.bins.items ≡ length self.old.bins.items }
         ensures outages { length self.new.outages.items ≡ length self.old.outages.items }
         ensures gaps { length self.new.gaps.items ≡ length self.old.gaps.items }
-        ensures grid { (es : List EpochTableView) → StandsForGrid self.old scale.now es
-            → StandsForGrid self.new scale.now (epoch.now ∷ es) }
+        ensures grid { (es : List EpochTableView) → StandsForGrid self.old scale.now codes.now es
+            → StandsForGrid self.new scale.now codes.now (epoch.now ∷ es) }
     {
         let interval = scale.interval;
         let record_ms = ms_of(self.last);
@@ -168,6 +174,7 @@ impl Grid {
         self.returns = self.returns.saturating_add(called.returns());
         self.rises = self.rises.saturating_add(called.rises());
         note_in_bin(&mut self.bins, scale, epoch.time().ms(), &called);
+        note_strengths(&mut self.strengths, scale, codes, epoch);
         note_outages(&mut self.outages, scale, &self.passes, record_ms, epoch);
         note_passes(&mut self.passes, interval, record_ms, epoch);
         self.last = Some(epoch.time());

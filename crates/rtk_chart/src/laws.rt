@@ -1,7 +1,7 @@
 //! Laws of the definitions of a picture: how long and how wide a bin is, what it shows of its
 //! epochs, where epochs are missing, and what a heading tells.
 
-ghost use Rattle.rtk_chart.specs.Laws.{BinsAreFew, ShorterBinsAreTooMany, ScalesFillRoom, RowsHaveAllBins, ColumnsFillWidth, MissingMarksAreEpochs};
+ghost use Rattle.rtk_chart.specs.Laws.{BinsAreFew, ShorterBinsAreTooMany, ScalesFillRoom, RowsHaveAllBins, ColumnsFillWidth, MissingMarksAreEpochs, MeansAreOfStrengths};
 ghost use Rattle.rtk_chart.specs.MarkLaws.{CodesShowEpochs, SatellitesShowEpochs, CodesAreOfEpochs, GapsAreMissing, OutagesAreOfEpochs, MissingAreOfSteps, SlipsAndRisesAreDigits};
 ghost use Rattle.rtk_chart.specs.HeadingLaws.{TablesHaveNumbers, TextHasHeading, EqualTextHeadings, SvgHasHeading, EqualSvgHeadings};
 
@@ -40,6 +40,12 @@ pub fn marks_are_of_epochs()
     ensures codes { CodesAreOfEpochs }
     ensures gaps { GapsAreMissing }
     ensures outages { OutagesAreOfEpochs }
+{}
+
+/// Each bin of a picture has its column of strengths. The mean of a band in it is that of all strengths of the
+/// band in the epochs of the column, if these and their sum are below 2^64.
+pub fn means_are_of_strengths()
+    ensures { MeansAreOfStrengths }
 {}
 
 /// Missing epochs are counted step by step, and slips, returns and rises digit by digit: each digit with bit 0

@@ -50,6 +50,7 @@
 #![tactic(auto)]
 
 mod chart;
+mod choice;
 mod code_marks;
 mod grid;
 mod laws;
@@ -61,6 +62,7 @@ mod passes;
 mod scale;
 mod signs;
 mod spacing;
+mod strengths;
 mod survey;
 mod svg_axis;
 mod svg_bands;
@@ -70,6 +72,7 @@ mod svg_never;
 mod svg_path;
 mod svg_picture;
 mod svg_steps;
+mod svg_strip;
 mod svg_text;
 mod text_picture;
 mod text_time;
@@ -78,8 +81,11 @@ mod time_bin;
 mod time_text;
 mod tracking;
 
-pub use chart::{chart_svg, chart_text};
+pub use chart::{chart_svg, chart_text, chosen_svg, chosen_text};
+pub use choice::{Choice, Chosen};
 pub use laws::{
     bins_are_least, bins_fill_room, counts_are_of_epochs, files_have_numbers, marks_are_of_epochs,
-    missing_marks_are_epochs, svg_headings_tell_numbers, text_headings_tell_numbers,
+    means_are_of_strengths, missing_marks_are_epochs, svg_headings_tell_numbers,
+    text_headings_tell_numbers,
 };
+pub use passes::is_there;

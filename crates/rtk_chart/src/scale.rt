@@ -3,6 +3,7 @@
 ghost use Rattle.std.specs.Prelude.{◌≡◌, ◌≤◌, ◌<◌, ◌^◌, ℕ};
 ghost use Rattle.std.specs.Int.{IsInRange};
 ghost use Rattle.rtk_chart.specs.Scale.{scale_of, IsScale, bin_at, bin_start, unit_of};
+ghost use Rattle.rtk_chart.specs.Means.{bins_per_column};
 
 use rtk_obs::{GpsMs, LAST_MS};
 
@@ -62,6 +63,15 @@ impl Scale {
         ensures { result ≡ bin_at self.now moment }
     {
         (moment.saturating_sub(self.first.ms()) + (self.unit - 1) / 2) / self.bin_ms
+    }
+
+    /// How many bins a column of strengths has.
+    pub(crate) fn bins_per_column(&self) -> u64
+        requires { IsScale self.now }
+        ensures value { result ≡ bins_per_column self.now }
+        ensures positive { 0 < result }
+    {
+        (self.bins + 143) / 144
     }
 
     /// The moment at which a bin begins.

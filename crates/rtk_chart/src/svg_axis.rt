@@ -64,7 +64,7 @@ fn put_tick(
     x: u64,
     tick: Option<GpsMs>,
 ) -> Result<(), AllocError>
-    requires { top ≤ 12_308 }
+    requires { top ≤ 12_446 }
     ensures { OnOk result (text.new.items ≡ text.old.items ++ tick_text top step x tick) }
 {
     let Some(moment) = tick else {
@@ -94,7 +94,7 @@ fn least_step(bins: u64, bin_ms: u64) -> u64
 /// Appends the ticks of the bins.
 pub(crate) fn put_ticks(text: &mut Vec<u8>, scale: &Scale, top: u64) -> Result<(), AllocError>
     requires good { IsScale scale.now }
-    requires top { top ≤ 12_308 }
+    requires top { top ≤ 12_446 }
     ensures { OnOk result (text.new.items ≡ text.old.items ++ ticks_text scale.now (svg_tick_step scale.now) top) }
 {
     let step = tick_step(least_step(scale.bins, scale.bin_ms));

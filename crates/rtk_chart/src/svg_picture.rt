@@ -12,6 +12,7 @@ use crate::survey::Survey;
 use crate::svg_axis::{put_gaps, put_satellites, put_ticks};
 use crate::svg_bands::{band_top, put_bands};
 use crate::svg_never::{lacked_before, put_never_texts};
+use crate::svg_strip::{put_strip, strip_height};
 use crate::svg_text::{put_between, put_xml};
 use crate::text_picture::drawn_before;
 use crate::time_bin::TimeBin;
@@ -33,19 +34,19 @@ pub(crate) const STYLE: &[u8] = b"<style>\
 .l0{stroke:#444!important}.l1{stroke:#4f4822!important}.l2{stroke:#55582a!important}.l3{stroke:#4f6438!important}\
 .l4{stroke:#4a754e!important}.l5{stroke:#438568!important}.l6{stroke:#3f9585!important}.l7{stroke:#45a4a6!important}\
 .l8{stroke:#55b3c8!important}.l9{stroke:#7cc8f0!important}\
-.n{fill:#8ab!important}.p,.m,.h,.a{fill:#111!important}.p,.m{stroke:#ccc!important}\
+.n,.k{fill:#8ab!important}.k{stroke:#8ab!important}.p,.m,.h,.a{fill:#111!important}.p,.m{stroke:#ccc!important}\
 .o{fill:#ffb070!important;stroke:#ffb070!important}.a{stroke:#fff!important}\
 .s{fill:#ffb070!important}.g{stroke:#fff!important}\
 .r{fill:#fff!important}.r,.s{stroke:#111!important}}\
 @media (max-width:700px){\
 text{font-size:30px!important}.tick{font-size:32px!important}.tick:nth-of-type(2n+1){display:none!important}\
 .marker{font-size:38px!important}.name{font-size:34px!important}\
-.code{font-size:19px!important}g>g>.code{font-size:22px!important}.never{font-size:20px!important}\
+.code{font-size:19px!important}g>g>.code{font-size:22px!important}.never,.side{font-size:20px!important}\
 .low{font-size:24px!important}.tiny{display:none!important}}\
 .page{fill:#fff}.b0{fill:none}.b1{fill:#f0f0f0}\
 text{font-family:sans-serif;font-size:24px;fill:#222}\
 .marker{font-size:32px;font-weight:bold}.name{font-size:30px}\
-.system{font-weight:bold}.name,.code{text-anchor:end}.code,.never{font-size:19px}.low{font-size:19px}.tiny{font-size:10px;display:inline}.tick{font-size:24px;text-anchor:middle}\
+.system{font-weight:bold}.name,.code{text-anchor:end}.code,.never,.side{font-size:19px}.low{font-size:19px}.tiny{font-size:10px;display:inline}.tick{font-size:24px;text-anchor:middle}\
 path{fill:none}\
 .l0,.l1,.l2,.l3,.l4,.l5,.l6,.l7,.l8,.l9{stroke-width:14}\
 .l0{stroke:#ccc}.l1{stroke:#e9d57e}.l2{stroke:#cfcf7a}.l3{stroke:#a9c07c}.l4{stroke:#83b083}\
@@ -55,7 +56,7 @@ path{fill:none}\
 .h{fill:#fff;stroke:#b04c85;stroke-width:2}.a{fill:#fff;stroke:#222;stroke-width:2}\
 .o{fill:#8a1c00;fill-opacity:.2;stroke:#8a1c00;stroke-width:1.5}\
 .g{stroke:#222;stroke-width:14}\
-.n{fill:#468;fill-opacity:.5}\
+.n,.k{fill:#468;fill-opacity:.5}.k{fill-opacity:.3;stroke:#468;stroke-width:2}\
 .t{stroke:#888;stroke-opacity:.5}\
 @media not all{.page{}.s{stroke:#8a1c00}.r{stroke:none}}\
 </style>\n";
@@ -192,7 +193,7 @@ fn put_body(
     requires gaps { length grid.now.gaps.items ≡ scale.now.bins }
     requires end { end ≤ 12_236 }
     ensures { OnOk result (text.new.items
-        ≡ text.old.items ++ svg_body spacing codes.now scale.now grid.now.bins.items grid.now.outages.items grid.now.gaps.items end) }
+        ≡ text.old.items ++ svg_body spacing codes.now scale.now grid.now.bins.items grid.now.outages.items grid.now.gaps.items grid.now.strengths.items end) }
 {
     let (bins, outages) = (grid.bins.as_slice(), grid.outages.as_slice());
     text.extend_from_slice(SYSTEM)?;
@@ -201,8 +202,18 @@ fn put_body(
     put_never_texts(text, bins, bands_end + 18, codes)?;
     put_gaps(text, end, grid.gaps.as_slice())?;
     put_satellites(text, end + 26, bins)?;
-    put_ticks(text, scale, end + 72)?;
-    put_legend(text, end + 104)?;
+    let strengths = grid.strengths.as_slice();
+    put_strip(
+        alloc,
+        text,
+        end + 72,
+        strengths,
+        scale.bins_per_column(),
+        bins.len(),
+    )?;
+    let strip_end = end + strip_height(strengths);
+    put_ticks(text, scale, strip_end + 72)?;
+    put_legend(text, strip_end + 104)?;
     text.extend_from_slice(b"</svg>\n")?;
     Ok(())
 }
@@ -235,7 +246,8 @@ pub(crate) fn svg_picture(
     let spacing = Spacing::of(grid.bins.as_slice(), codes.len());
     let end = never_end(spacing, grid.bins.as_slice(), codes.len());
     let mut text = Vec::new(alloc);
-    put_start(&mut text, marker, end + 230)?;
+    let height = end + strip_height(grid.strengths.as_slice()) + 230;
+    put_start(&mut text, marker, height)?;
     put_span(&mut text, scale)?;
     put_counts(
         &mut text,

@@ -1,6 +1,9 @@
+mod ChoiceLemmas
 mod CodeListLemmas
 mod FaultLineLemmas
 mod LinkLemmas
 mod MomentTextLemmas
+mod NameListLemmas
 mod RefusedLemmas
 mod SaidLemmas
+mod SatelliteListLemmas

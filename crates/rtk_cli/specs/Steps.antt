@@ -1,8 +1,10 @@
 -- Definitions that only private clauses use.
 pub mod ClapStatus
+pub mod NameList
 pub mod CodeList
 pub mod Links
 pub mod MomentText
 pub mod ConvertWords
+pub mod ChartWords
 pub mod CutWords
 pub mod LabelWords

@@ -31,7 +31,7 @@ use std::marker::Model;
 #[derive(Drop)]
 pub struct Converter {
     conversion: Conversion,
-    decoder: AnyDecoder,
+    decoder: Box<AnyDecoder>,
     links: Vec<LinkState>,
 }
 
@@ -48,6 +48,13 @@ impl Model for Converter {
 
     ghost invariant = { λ c. (c ≡ record { conversion = c.conversion; decoder = c.decoder; links = c.links })
         × IsConverterView (record { conversion = c.conversion; links = c.links.items }) };
+}
+
+// Makes a decoder that has read nothing yet. It is large, so it lies on the heap. This function is alone
+// in needing the stack for it, which is gone when it returns.
+#[inline(never)]
+fn new_decoder(alloc: Global) -> Result<Box<AnyDecoder>, AllocError> {
+    Ok(Box::new(alloc, AnyDecoder::new())?)
 }
 
 // Adds a link that is open, and on which nothing was fed.
@@ -86,10 +93,11 @@ impl Converter {
     {
         let count = LinkCount::new(links)?;
         let conversion = Conversion::new(alloc, setup)?;
+        let decoder = new_decoder(alloc)?;
         let links = new_links(alloc, count)?;
         Ok(Converter {
             conversion,
-            decoder: AnyDecoder::new(),
+            decoder,
             links,
         })
     }

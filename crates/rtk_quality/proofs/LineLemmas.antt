@@ -8,14 +8,17 @@ use Rattle.rtk_obs.specs.declared.time.Civil.{Civil}
 use Rattle.rtk_rinex.specs.Reading.{reading_of}
 use Rattle.rtk_quality.specs.Counts.{plus, phases_per_slip, mean_hundredths, mean_tenths}
 use Rattle.rtk_quality.specs.Forms.{value_text, moment_text, start_text, end_text}
-use Rattle.rtk_quality.specs.LineText.{per_slip_text, locks_text, sums_text, strengths_text}
+use Rattle.rtk_quality.specs.LineText.{satellite_name, having_text, per_slip_text, locks_text, sums_text, strengths_text}
 use Rattle.rtk_quality.specs.QualityText.{marker_text, satellites_text, station_text, span_text, heading_text, falls_of}
 use Rattle.rtk_quality.specs.Hours.{start_of}
 use Rattle.rtk_quality.specs.Strengths.{number_of}
-use Rattle.rtk_quality.specs.StationText.{strength_text, hour_counts_text, hour_line, gap_line, fall_line}
+use Rattle.rtk_quality.specs.StationText.{strength_text, hour_counts_text, hour_line, gap_line, outage_line, together_line, fall_line}
 use Rattle.rtk_quality.specs.Entries.{fall_part}
 use Rattle.rtk_quality.specs.declared.hours.HourCounts.{HourCounts}
 use Rattle.rtk_quality.specs.declared.gaps.Gap.{Gap}
+use Rattle.rtk_quality.specs.declared.heading.ListedCounts.{ListedCounts}
+use Rattle.rtk_quality.specs.declared.moments.Moment.{Moment}
+use Rattle.rtk_quality.specs.declared.outages.Outage.{Outage}
 use Rattle.rtk_quality.specs.declared.falls.Fall.{Fall}
 use Rattle.rtk_quality.specs.declared.form.Form.{Form}
 use Rattle.rtk_quality.specs.declared.form.Decimals.TheVariants.{Whole, Tenths, Hundredths, Thousandths}
@@ -153,6 +156,26 @@ gap-is form g t0 t1 t2 t3 t4 t5 e1 e2 e3 e4 e5 =
     five t0 t1 t2 t3 t4 t5 (start_text form (codes "gap")) (moment_text form (codes " from ") (codes "\"from\":") g.from)
     (moment_text form (codes " until ") (codes ",\"until\":") g.until) (value_text form (codes " missing ") (codes ",\"missing\":") Whole (Some g.missing)) (end_text form) e1 e2 e3 e4 e5
 
+pub outage-is : (form : Form) (o : Outage) (t0 t1 t2 t3 t4 t5 t6 : List ℕ)
+    → t1 ≡ t0 ++ start_text form (codes "outage") → t2 ≡ t1 ++ satellite_name form o.satellite
+    → t3 ≡ t2 ++ moment_text form (codes " from ") (codes ",\"from\":") o.absence.from
+    → t4 ≡ t3 ++ moment_text form (codes " until ") (codes ",\"until\":") o.absence.until
+    → t5 ≡ t4 ++ value_text form (codes " outage-time ") (codes ",\"outage_time_ms\":") Thousandths (Some o.absence.ms)
+    → t6 ≡ t5 ++ end_text form → t6 ≡ t0 ++ outage_line form o
+unfolding outage_line
+outage-is form o t0 t1 t2 t3 t4 t5 t6 e1 e2 e3 e4 e5 e6 =
+    six t0 t1 t2 t3 t4 t5 t6 (start_text form (codes "outage")) (satellite_name form o.satellite) (moment_text form (codes " from ") (codes ",\"from\":") o.absence.from)
+    (moment_text form (codes " until ") (codes ",\"until\":") o.absence.until)
+    (value_text form (codes " outage-time ") (codes ",\"outage_time_ms\":") Thousandths (Some o.absence.ms)) (end_text form) e1 e2 e3 e4 e5 e6
+
+pub moment-is : (form : Form) (m : Moment) (t0 t1 t2 t3 t4 : List ℕ)
+    → t1 ≡ t0 ++ start_text form (codes "slip-together") → t2 ≡ t1 ++ moment_text form (codes " ") (codes "\"time\":") m.time
+    → t3 ≡ t2 ++ having_text form m.together.slipping m.together.tracked → t4 ≡ t3 ++ end_text form → t4 ≡ t0 ++ together_line form m
+unfolding together_line
+moment-is form m t0 t1 t2 t3 t4 e1 e2 e3 e4 =
+    four t0 t1 t2 t3 t4 (start_text form (codes "slip-together")) (moment_text form (codes " ") (codes "\"time\":") m.time)
+    (having_text form m.together.slipping m.together.tracked) (end_text form) e1 e2 e3 e4
+
 pub fall-is : (form : Form) (band : Band) (f : Fall) (number : ℕ) (from until : Civil) (t0 t1 t2 t3 t4 t5 t6 : List ℕ)
     → number ≡ number_of band → from ≡ reading_of (start_of f.from) → until ≡ reading_of (start_of f.until)
     → t1 ≡ t0 ++ start_text form (codes "fall") → t2 ≡ t1 ++ value_text form (codes " band ") (codes "\"band\":") Whole (Some number)
@@ -173,12 +196,15 @@ pub falls-are : (form : Form) (hours : List HourCounts) (t0 t1 t2 t3 : List ℕ)
 unfolding falls_of
 falls-are form hours t0 t1 t2 t3 e1 e2 e3 = three t0 t1 t2 t3 (fall_part form hours L1) (fall_part form hours L2) (fall_part form hours L5) e1 e2 e3
 
-pub heading-is : (form : Form) (marker : List ℕ) (from until : Civil) (interval : Option ℕ) (satellites : ℕ) (r : RecordCounts) (gaps : ℕ) (s : PassSums) (t0 t1 t2 t3 t4 t5 t6 : List ℕ)
+pub heading-is : (form : Form) (marker : List ℕ) (from until : Civil) (interval : Option ℕ) (satellites : ℕ) (r : RecordCounts) (n : ListedCounts) (s : PassSums) (t0 t1 t2 t3 t4 t5 t6 t7 : List ℕ)
     → t1 ≡ t0 ++ marker_text form marker → t2 ≡ t1 ++ span_text form from until interval r
-    → t3 ≡ t2 ++ value_text form (codes "\ngaps ") (codes ",\"gaps\":") Whole (Some gaps)
-    → t4 ≡ t3 ++ satellites_text form satellites r → t5 ≡ t4 ++ station_text form s → t6 ≡ t5 ++ end_text form
-    → t6 ≡ t0 ++ heading_text form marker from until interval satellites r gaps s
+    → t3 ≡ t2 ++ value_text form (codes "\ngaps ") (codes ",\"gaps\":") Whole (Some n.gaps)
+    → t4 ≡ t3 ++ satellites_text form satellites r → t5 ≡ t4 ++ station_text form s
+    → t6 ≡ t5 ++ value_text form (codes "\nslips-together ") (codes ",\"slips_together\":") Whole (Some n.moments) → t7 ≡ t6 ++ end_text form
+    → t7 ≡ t0 ++ heading_text form marker from until interval satellites r n s
 unfolding heading_text
-heading-is form marker from until interval satellites r gaps s t0 t1 t2 t3 t4 t5 t6 e1 e2 e3 e4 e5 e6 =
-    six t0 t1 t2 t3 t4 t5 t6 (marker_text form marker) (span_text form from until interval r) (value_text form (codes "\ngaps ") (codes ",\"gaps\":") Whole (Some gaps))
-    (satellites_text form satellites r) (station_text form s) (end_text form) e1 e2 e3 e4 e5 e6
+heading-is form marker from until interval satellites r n s t0 t1 t2 t3 t4 t5 t6 t7 e1 e2 e3 e4 e5 e6 e7 =
+    let gaps : List ℕ = value_text form (codes "\ngaps ") (codes ",\"gaps\":") Whole (Some n.gaps) in
+    let together : List ℕ = value_text form (codes "\nslips-together ") (codes ",\"slips_together\":") Whole (Some n.moments) in
+    and-then t0 t6 t7 (((((marker_text form marker ++ span_text form from until interval r) ++ gaps) ++ satellites_text form satellites r) ++ station_text form s) ++ together) (end_text form)
+    (six t0 t1 t2 t3 t4 t5 t6 (marker_text form marker) (span_text form from until interval r) gaps (satellites_text form satellites r) (station_text form s) together e1 e2 e3 e4 e5 e6) e7

@@ -1,16 +1,28 @@
 -- An epoch row by row: what has come of each satellite.
-use Rattle.std.proofs.Common.{◌≡◌, ◌≢◌, ◌<◌, ◌≤◌, ◌+◌, ◌++◌, ◌==◌, cond, ℕ, suc, Bool, List, [], ◌∷◌, length, take, drop, set, get_or, reverse, Option, refl, sym, ap, subst, inl, inr, ◌∙◌, get_or-set_same, get_or-set_other, length-set, arith}
+use Rattle.std.proofs.Common.{◌≡◌, ◌≢◌, ◌<◌, ◌≤◌, ◌+◌, ◌++◌, ◌==◌, cond, ℕ, suc, Bool, List, [], ◌∷◌, length, take, drop, set, get_or, reverse, Option, refl, sym, ap, subst, inl, inr, ◌∙◌, get_or-set_same, get_or-set_other, length-set, arith, ltb, count_by, append_assoc}
+use Rattle.std.proofs.lemmas.Bool.{cases_Bool}
 use Rattle.std.proofs.lemmas.Bool.{cases_eq, eq-eqb, ne_eqb}
-use Rattle.std.proofs.lemmas.List.{get_or-take, take_more, length-take-le, at_drop_more}
+use Rattle.std.proofs.lemmas.List.{append-nil, get_or-take, take_more, length-take-le, at_drop_more}
+use Rattle.std.proofs.lemmas.List.Sums.{sum_by_push}
+use Rattle.std.proofs.lemmas.Grind.{flat_map-append}
 use Rattle.rtk_rinex.specs.Record.{EpochTableView, IsEpochTableView}
 use Rattle.rtk_rinex.specs.declared.epoch_table.Observed.{Observed}
 use Rattle.rtk_rinex.specs.declared.epoch_table.SatelliteRow.{SatelliteRow}
-use Rattle.rtk_tracking.specs.Epochs.{newest_moment, observed_in}
-use Rattle.rtk_tracking.specs.Passes.{Sighting, sightings_of, last_record}
-use Rattle.rtk_quality.specs.SatellitePasses.{passes_of}
-use Rattle.rtk_quality.specs.Steps.Noted.{locks_plus, locks_at, locks_onto}
+use Rattle.rtk_tracking.specs.Epochs.{capped, newest_moment, observed_in}
+use Rattle.rtk_tracking.specs.Passes.{Sighting, sightings_of, last_record, has_phase}
+use Rattle.rtk_quality.specs.Counts.{plus}
+use Rattle.rtk_quality.specs.Hours.{slips_of, returns_at}
+use Rattle.rtk_quality.specs.Largest.{list_of as list_if_any, AreLargest}
+use Rattle.rtk_quality.specs.Moments.{together_in, together_plus, is_slipping, is_tracked}
+use Rattle.rtk_quality.specs.Outages.{absence_at, outage_of, outages_in, size_of_outage}
+use Rattle.rtk_quality.specs.SatellitePasses.{passes_of, slips_at}
+use Rattle.rtk_quality.specs.Steps.Noted.{no_locks, locks_plus, locks_at, locks_onto}
 use Rattle.rtk_quality.specs.Standing.{absent_at, older_passes, StandsForSatellite, StandsForEnded, StandForSatellites, ended_of, with_ended, HasEnded, StandForEnded}
 use Rattle.rtk_quality.specs.declared.hours.Locks.{Locks}
+use Rattle.rtk_quality.specs.declared.largest.Largest.{Largest}
+use Rattle.rtk_quality.specs.declared.moments.Together.{Together}
+use Rattle.rtk_quality.specs.declared.outages.Absence.{Absence}
+use Rattle.rtk_quality.specs.declared.outages.Outage.{Outage}
 use Rattle.rtk_quality.specs.declared.satellite_counts.PassCounts.{PassCounts}
 use Rattle.rtk_quality.specs.declared.satellite_counts.SatelliteCounts.{SatelliteCounts}
 use Rattle.rtk_quality.specs.declared.file_counts.EndedPass.{EndedPass}
@@ -167,3 +179,55 @@ locks-more e i r interval es old own new at is added =
   where
     seen : SatelliteRow → Sighting
     seen x = record { time = e.time; observed = x.observed.items }
+
+-- the outages of one more row
+pub outages-more : (e : EpochTableView) (i : ℕ) (r : SatelliteRow) (interval : Option ℕ) (es : List EpochTableView) (absence : Option Absence) (outage : Option Outage)
+    (old new : Largest Outage) (all : List Outage)
+    → IsRowAt e i r → absence ≡ absence_at interval (sightings_of r.satellite es) (record { time = e.time; observed = r.observed.items })
+    → outage ≡ outage_of r.satellite absence → AreLargest size_of_outage old (all ++ outages_in interval es e.time (take i e.rows))
+    → ((xs : List Outage) → AreLargest size_of_outage old xs → AreLargest size_of_outage new (xs ++ list_if_any outage))
+    → AreLargest size_of_outage new (all ++ outages_in interval es e.time (take (i + 1) e.rows))
+outages-more e i r interval es absence outage old new all at is of was took =
+    let before : List Outage = outages_in interval es e.time (take i e.rows) in
+    let here : list_if_any outage ≡ outages_in interval es e.time (r ∷ []) =
+    ap (λ (o : Option Outage). list_if_any o) (of ∙ ap (λ (a : Option Absence). outage_of r.satellite a) is) ∙ sym (append-nil _) in
+    let longer : outages_in interval es e.time (take (i + 1) e.rows) ≡ before ++ list_if_any outage =
+    ap (λ (rows : List SatelliteRow). outages_in interval es e.time rows) (rows-more e i r at)
+    ∙ flat_map-append _ (take i e.rows) (r ∷ []) ∙ ap (λ (xs : List Outage). before ++ xs) (sym here) in
+    subst (λ (xs : List Outage). AreLargest size_of_outage new xs)
+    (append_assoc all before (list_if_any outage) ∙ ap (λ (xs : List Outage). all ++ xs) (sym longer)) (took (all ++ before) was)
+
+slips-are : (interval : Option ℕ) (before : List Sighting) (s : Sighting) → (locks_at interval before s).slips ≡ slips_of interval before s
+slips-are interval before s =
+    let some : Locks = record { slips = slips_at interval before s; returns = returns_at interval before s } in
+    elim (cases_Bool (has_phase s.observed)) [
+      | inl has ↦ ap (λ (b : Bool). (cond b some no_locks).slips) has ∙ sym (ap (λ (b : Bool). cond b (slips_at interval before s) 0) has)
+      | inr none ↦ ap (λ (b : Bool). (cond b some no_locks).slips) none ∙ sym (ap (λ (b : Bool). cond b (slips_at interval before s) 0) none)
+    ]
+
+-- how many satellites slip and have a phase, with one more row
+pub together-more : (e : EpochTableView) (i : ℕ) (r : SatelliteRow) (interval : Option ℕ) (es : List EpochTableView) (slips : ℕ) (tracked : Bool) (old new : Together)
+    → IsRowAt e i r → slips ≡ (locks_at interval (sightings_of r.satellite es) (record { time = e.time; observed = r.observed.items })).slips
+    → tracked ≡ has_phase r.observed.items → old ≡ together_in interval es e.time (take i e.rows) → new ≡ together_plus old slips tracked
+    → new ≡ together_in interval es e.time (take (i + 1) e.rows)
+together-more e i r interval es slips tracked old new at is has was took =
+    let s : Sighting = record { time = e.time; observed = r.observed.items } in
+    let p : SatelliteRow → Bool = is_slipping interval es e.time in
+    let n : ℕ = count_by p (take i e.rows) in
+    let m : ℕ = count_by is_tracked (take i e.rows) in
+    let slip : slips ≡ slips_of interval (sightings_of r.satellite es) s = is ∙ slips-are interval (sightings_of r.satellite es) s in
+    let first : plus (capped n) (cond (ltb 0 slips) 1 0) ≡ capped (count_by p (take (i + 1) e.rows)) =
+    ap (λ (k : ℕ). plus (capped n) (cond (ltb 0 k) 1 0)) slip ∙ one-more p in
+    let second : plus (capped m) (cond tracked 1 0) ≡ capped (count_by is_tracked (take (i + 1) e.rows)) =
+    ap (λ (b : Bool). plus (capped m) (cond b 1 0)) has ∙ one-more is_tracked in
+    took ∙ ap (λ (o : Together). together_plus o slips tracked) was
+    ∙ ap (λ (k : ℕ). made k (plus (capped m) (cond tracked 1 0))) first ∙ ap (λ (k : ℕ). made (capped (count_by p (take (i + 1) e.rows))) k) second
+  where
+    made : ℕ → ℕ → Together
+    made a b = record { slipping = a; tracked = b }
+
+    one-more : (p : SatelliteRow → Bool) → plus (capped (count_by p (take i e.rows))) (cond (p r) 1 0) ≡ capped (count_by p (take (i + 1) e.rows))
+    one-more p =
+        let longer : count_by p (take (i + 1) e.rows) ≡ count_by p (take i e.rows) + cond (p r) 1 0 =
+        ap (λ (rows : List SatelliteRow). count_by p rows) (rows-more e i r at) ∙ sum_by_push (λ x. cond (p x) 1 0) (take i e.rows) r in
+        omega (arith, longer)

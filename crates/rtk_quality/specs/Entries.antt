@@ -5,9 +5,9 @@ use Rattle.rtk_obs.specs.declared.code.Band.{Band}
 use Rattle.rtk_obs.specs.declared.code.Code.{Code}
 use Rattle.rtk_quality.specs.Falls.{largest_fall}
 use Rattle.rtk_quality.specs.Strengths.{number_of}
-use Rattle.rtk_quality.specs.LineText.{code_line, satellite_line, never_line, tracked_line, pass_line}
-use Rattle.rtk_quality.specs.StationText.{hour_line, gap_line, fall_line}
-use Rattle.rtk_quality.specs.Rows.{code_row, signal_row, never_row, tracked_row, pass_row, hour_row, gap_row, fall_row}
+use Rattle.rtk_quality.specs.LineText.{code_line, satellite_line, tracked_line, pass_line}
+use Rattle.rtk_quality.specs.StationText.{hour_line, gap_line, outage_line, together_line, fall_line}
+use Rattle.rtk_quality.specs.Rows.{code_row, signal_row, tracked_row, pass_row, hour_row, gap_row, outage_row, moment_row, fall_row}
 use Rattle.rtk_quality.specs.declared.form.Form.{Form}
 use Rattle.rtk_quality.specs.declared.form.Form.TheVariants.{Table, Lines, Json}
 use Rattle.rtk_quality.specs.declared.code_numbers.CodeNumbers.{CodeNumbers}
@@ -16,6 +16,8 @@ use Rattle.rtk_quality.specs.declared.satellite_counts.PassCounts.{PassCounts}
 use Rattle.rtk_quality.specs.declared.hours.HourCounts.{HourCounts}
 use Rattle.rtk_quality.specs.declared.gaps.Gap.{Gap}
 use Rattle.rtk_quality.specs.declared.falls.Fall.{Fall}
+use Rattle.rtk_quality.specs.declared.moments.Moment.{Moment}
+use Rattle.rtk_quality.specs.declared.outages.Outage.{Outage}
 
 -- a row of the table, or else a line or an object
 abbrev pub in_table : Form → List ℕ → List ℕ → List ℕ
@@ -29,9 +31,6 @@ code_entry form code tracked n = in_table form (code_row code tracked n) (code_l
 unfoldable pub satellite_entry : Form → ℕ → Code → CodeNumbers → List ℕ
 satellite_entry form satellite code n = in_table form (signal_row satellite code n) (satellite_line form satellite code n)
 
-unfoldable pub never_entry : Form → ℕ → Code → List ℕ
-never_entry form satellite code = in_table form (never_row satellite code) (never_line form satellite code)
-
 unfoldable pub tracked_entry : Form → ℕ → PassSums → List ℕ
 tracked_entry form satellite s = in_table form (tracked_row satellite s) (tracked_line form satellite s)
 
@@ -43,6 +42,12 @@ hour_entry form listed h = in_table form (hour_row h) (hour_line form listed h)
 
 unfoldable pub gap_entry : Form → Gap → List ℕ
 gap_entry form g = in_table form (gap_row g) (gap_line form g)
+
+unfoldable pub outage_entry : Form → Outage → List ℕ
+outage_entry form o = in_table form (outage_row o) (outage_line form o)
+
+unfoldable pub moment_entry : Form → Moment → List ℕ
+moment_entry form m = in_table form (moment_row m) (together_line form m)
 
 unfoldable pub fall_entry : Form → Band → Fall → List ℕ
 fall_entry form band f = in_table form (fall_row (number_of band) f) (fall_line form band f)

@@ -1,16 +1,19 @@
 -- Laws of bits, and of counts and means of any size.
-use Rattle.std.specs.Prelude.{◌≡◌, ◌<◌, ◌≤◌, ◌^◌, ◌*◌, ◌+◌, ◌-◌, ◌==◌, ℕ, Bool, false, not, List, [], ◌∷◌, length, sum, count_by, sum_by, AllPairs, Option, None, Some, is_some, unwrap_or, if◌then◌else◌}
+use Rattle.std.specs.Prelude.{◌≡◌, ◌<◌, ◌≤◌, ◌^◌, ◌*◌, ◌+◌, ◌-◌, ◌==◌, nat_lt, ℕ, Bool, false, not, List, [], ◌∷◌, length, sum, count_by, sum_by, AllPairs, Option, None, Some, is_some, unwrap_or, if◌then◌else◌}
 use Rattle.std.specs.List.{list_any, range_with_len}
 use Rattle.rtk_obs.specs.declared.code.Band.{Band}
 use Rattle.rtk_obs.specs.declared.code.Code.{Code}
 use Rattle.rtk_rinex.specs.Record.{EpochTableView}
 use Rattle.rtk_tracking.specs.Interval.{missing_before, missing_in}
-use Rattle.rtk_tracking.specs.Passes.{Sighting, sightings_of, has_phase, begins_pass}
+use Rattle.rtk_tracking.specs.Passes.{Sighting, sightings_of, has_phase, begins_pass, outage_before}
 use Rattle.rtk_quality.specs.Counts.{Noted, plus, tally, noted_of, counts_of, rounded_fraction, mean_hundredths}
 use Rattle.rtk_quality.specs.SatellitePasses.{phases_in, passes_of, epochs_in_passes}
 use Rattle.rtk_quality.specs.Records.{unit_of, rows_of, rows_total}
-use Rattle.rtk_quality.specs.Gaps.{gaps_of}
-use Rattle.rtk_quality.specs.Hours.{hour_at, sum_in_hour, strengths_in_hour, missing_within, hours_of}
+use Rattle.rtk_quality.specs.Gaps.{gaps_of, size_of_gap}
+use Rattle.rtk_quality.specs.Largest.{largest_first}
+use Rattle.rtk_quality.specs.Moments.{together_in, common_moments, size_of_moment}
+use Rattle.rtk_quality.specs.Outages.{all_outages, size_of_outage}
+use Rattle.rtk_quality.specs.Hours.{hour_at, sum_of_rows, sum_in_hour, strengths_in_hour, missing_within, hours_of}
 use Rattle.rtk_quality.specs.Strengths.{strengths_of_rows}
 use Rattle.rtk_quality.specs.Quality.{numbers_of, totals_of}
 use Rattle.rtk_quality.specs.declared.code_numbers.CodeNumbers.{CodeNumbers}
@@ -144,8 +147,45 @@ MeanOfHourIsOfAll =
 
 -- the epochs that are missing in all gaps are together those of the file
 abbrev pub GapsHaveAllMissing : Type 0
-GapsHaveAllMissing = (unit : ℕ) (es : List EpochTableView) → sum_by (λ g. g.missing) (gaps_of unit es) ≡ missing_in unit es
+GapsHaveAllMissing = (unit : ℕ) (es : List EpochTableView) → sum_by size_of_gap (largest_first size_of_gap (gaps_of unit es)) ≡ missing_in unit es
 
 -- no gap is longer than one before it
 abbrev pub LongestGapsAreFirst : Type 0
-LongestGapsAreFirst = (unit : ℕ) (es : List EpochTableView) → AllPairs (λ a b. b.missing ≤ a.missing) (gaps_of unit es)
+LongestGapsAreFirst = (unit : ℕ) (es : List EpochTableView) → AllPairs (λ a b. size_of_gap b ≤ size_of_gap a) (largest_first size_of_gap (gaps_of unit es))
+
+-- ---- outages, and epochs at which several satellites slip
+
+-- the time of the outages that end with the rows of an epoch, in ms
+abbrev pub outage_time_at : Option ℕ → List EpochTableView → EpochTableView → ℕ
+outage_time_at interval before e = sum_of_rows (λ earlier s. unwrap_or (outage_before interval earlier s) 0) before e
+
+-- the time of all outages of a file
+abbrev pub outage_time : Option ℕ → List EpochTableView → ℕ
+outage_time interval [] = 0
+outage_time interval (e ∷ before) = outage_time interval before + outage_time_at interval before e
+
+-- the outages that are listed, the longest first, have together this time
+abbrev pub OutagesHaveAllTime : Type 0
+OutagesHaveAllTime =
+    (interval : Option ℕ) (es : List EpochTableView) → sum_by size_of_outage (largest_first size_of_outage (all_outages interval es)) ≡ outage_time interval es
+
+-- how many epochs have at least two satellites that slip
+abbrev pub common_epochs : Option ℕ → List EpochTableView → ℕ
+common_epochs interval [] = 0
+common_epochs interval (e ∷ before) =
+    common_epochs interval before + (if nat_lt (together_in interval before e.time e.rows).slipping 2 then 0 else 1)
+
+-- each of them is listed
+abbrev pub MomentsAreAll : Type 0
+MomentsAreAll =
+    (interval : Option ℕ) (es : List EpochTableView) → sum_by (λ m. 1) (largest_first size_of_moment (common_moments interval es)) ≡ common_epochs interval es
+
+-- no outage is longer than one before it
+abbrev pub LongestOutagesAreFirst : Type 0
+LongestOutagesAreFirst =
+    (interval : Option ℕ) (es : List EpochTableView) → AllPairs (λ a b. size_of_outage b ≤ size_of_outage a) (largest_first size_of_outage (all_outages interval es))
+
+-- at no epoch more satellites slip than at one before it
+abbrev pub LargestMomentsAreFirst : Type 0
+LargestMomentsAreFirst =
+    (interval : Option ℕ) (es : List EpochTableView) → AllPairs (λ a b. size_of_moment b ≤ size_of_moment a) (largest_first size_of_moment (common_moments interval es))

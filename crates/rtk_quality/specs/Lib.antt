@@ -5,9 +5,13 @@ pub mod Falls
 pub mod Forms
 pub mod Gaps
 pub mod Hours
+pub mod Largest
 pub mod Laws
 pub mod LineText
 pub mod Lists
+pub mod Moments
+pub mod Never
+pub mod Outages
 pub mod Quality
 pub mod QualityText
 pub mod Records

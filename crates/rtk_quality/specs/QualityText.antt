@@ -15,11 +15,17 @@ use Rattle.rtk_quality.specs.SatellitePasses.{sums_in, passes_of}
 use Rattle.rtk_quality.specs.Records.{unit_of, record_counts_of}
 use Rattle.rtk_quality.specs.Hours.{hours_of}
 use Rattle.rtk_quality.specs.Gaps.{longest_gaps, gaps_in}
-use Rattle.rtk_quality.specs.Lists.{list_text}
-use Rattle.rtk_quality.specs.Entries.{code_entry, satellite_entry, never_entry, tracked_entry, pass_entry, hour_entry, gap_entry, fall_part}
+use Rattle.rtk_quality.specs.Largest.{count_of}
+use Rattle.rtk_quality.specs.Moments.{largest_moments, moments_in}
+use Rattle.rtk_quality.specs.Outages.{longest_outages, all_outages}
+use Rattle.rtk_quality.specs.Lists.{list_text, largest_text}
+use Rattle.rtk_quality.specs.LineText.{never_line}
+use Rattle.rtk_quality.specs.Never.{never_rows}
+use Rattle.rtk_quality.specs.Entries.{in_table, code_entry, satellite_entry, tracked_entry, pass_entry, hour_entry, gap_entry, outage_entry, moment_entry, fall_part}
 use Rattle.rtk_quality.specs.Quality.{numbers_of, code_of_station, station_sums, is_in_file, satellites_in}
 use Rattle.rtk_quality.specs.Forms.{in_form, value_text, moment_text, end_text, json_text}
 use Rattle.rtk_quality.specs.declared.form.Form.{Form}
+use Rattle.rtk_quality.specs.declared.form.Form.TheVariants.{Table, Lines, Json}
 use Rattle.rtk_quality.specs.declared.form.Decimals.TheVariants.{Whole, Tenths, Thousandths}
 use Rattle.rtk_quality.specs.declared.sections.Section.{Section}
 use Rattle.rtk_quality.specs.declared.sections.Section.TheVariants.{Codes, Tracked, Never, Passes}
@@ -28,6 +34,9 @@ use Rattle.rtk_quality.specs.declared.record_counts.RecordCounts.{RecordCounts}
 use Rattle.rtk_quality.specs.declared.pass_sums.PassSums.{PassSums}
 use Rattle.rtk_quality.specs.declared.hours.HourCounts.{HourCounts}
 use Rattle.rtk_quality.specs.declared.gaps.Gap.{Gap}
+use Rattle.rtk_quality.specs.declared.heading.ListedCounts.{ListedCounts}
+use Rattle.rtk_quality.specs.declared.moments.Moment.{Moment}
+use Rattle.rtk_quality.specs.declared.outages.Outage.{Outage}
 
 -- ---- the codes and satellites
 
@@ -40,7 +49,7 @@ each_code line at (c ∷ cs) = line at c ++ each_code line (at + 1) cs
 -- nowhere
 abbrev pub code_in : Form → Section → ℕ → Code → CodeNumbers → List ℕ
 code_in form Codes satellite code n = if n.counts.seen then satellite_entry form satellite code n else []
-code_in form Never satellite code n = if n.counts.phases == 0 then never_entry form satellite code else []
+code_in form Never satellite code n = if n.counts.phases == 0 then never_line form satellite code else []
 code_in form Tracked satellite code n = []
 code_in form Passes satellite code n = []
 
@@ -62,6 +71,15 @@ unfoldable pub parts_of : Form → Section → List Code → Option ℕ → List
 parts_of form section listed interval es =
     flat_map (λ satellite. part_of form section listed interval (sightings_of satellite es) satellite) (range_with_len 1 32)
 
+-- formula
+-- the entries of a section: those of each satellite. In a table the codes of which satellites have no phase have
+-- rows by code.
+abbrev pub section_entries : Form → Section → List Code → Option ℕ → List EpochTableView → List ℕ
+section_entries form Codes listed interval es = parts_of form Codes listed interval es
+section_entries form Tracked listed interval es = parts_of form Tracked listed interval es
+section_entries form Never listed interval es = in_table form (never_rows interval es listed) (parts_of form Never listed interval es)
+section_entries form Passes listed interval es = parts_of form Passes listed interval es
+
 -- table
 -- the headings of the sections in a table; the codes of satellites follow those of the station
 abbrev pub section_heading : Section → List ℕ
@@ -81,7 +99,7 @@ section_key Passes = codes ",\n\"passes\":["
 -- a section of the text
 unfoldable pub section_text : Form → Section → List Code → Option ℕ → List EpochTableView → List ℕ
 section_text form section listed interval es =
-    list_text form (section_heading section) (section_key section) (parts_of form section listed interval es)
+    list_text form (section_heading section) (section_key section) (section_entries form section listed interval es)
 
 -- table
 -- the heading of the columns of codes
@@ -94,7 +112,7 @@ codes_text form listed interval es =
     list_text form codes_heading (codes ",\n\"codes\":[")
     (each_code (λ place code. code_entry form code (satellites_in interval es) (code_of_station interval es place)) 0 listed)
 
--- ---- the hours, gaps and falls
+-- ---- the hours, gaps and falls, and what else happened
 
 -- table
 abbrev pub hours_heading : List ℕ
@@ -105,14 +123,28 @@ abbrev pub gaps_heading : List ℕ
 gaps_heading = codes "\ngap from                until                     missing\n"
 
 -- table
+abbrev pub outages_heading : List ℕ
+outages_heading = codes "\noutage from             until                      time\n"
+
+-- table
+abbrev pub moments_heading : List ℕ
+moments_heading = codes "\nslips together      satellites    of\n"
+
+-- table
 abbrev pub falls_heading : List ℕ
 falls_heading = codes "\nband falls from       until                by\n"
 
 unfoldable pub hours_text : Form → List Code → List HourCounts → List ℕ
 hours_text form listed hours = list_text form hours_heading (codes ",\n\"hours\":[") (flat_map (hour_entry form listed) hours)
 
-unfoldable pub gaps_text : Form → List Gap → List ℕ
-gaps_text form gaps = list_text form gaps_heading (codes ",\n\"gaps\":[") (flat_map (gap_entry form) gaps)
+unfoldable pub gaps_text : Form → ℕ → List Gap → List ℕ
+gaps_text form n gaps = largest_text gap_entry form gaps_heading (codes ",\n\"gaps\":[") n gaps
+
+unfoldable pub outages_text : Form → ℕ → List Outage → List ℕ
+outages_text form n outages = largest_text outage_entry form outages_heading (codes ",\n\"outages\":[") n outages
+
+unfoldable pub moments_text : Form → ℕ → List Moment → List ℕ
+moments_text form n moments = largest_text moment_entry form moments_heading (codes ",\n\"slips_together\":[") n moments
 
 -- the falls of all bands
 unfoldable pub falls_of : Form → List HourCounts → List ℕ
@@ -156,39 +188,60 @@ station_text form s =
     ++ value_text form (codes "\noutages ") (codes ",\"outages\":") Whole (Some s.outages)
     ++ value_text form (codes "\noutage-time ") (codes ",\"outage_time_ms\":") Thousandths (Some s.outage_ms)
 
+-- formula
+-- how many there are of what has a list of the ten largest
+abbrev pub listed_counts : Option ℕ → ℕ → List EpochTableView → ListedCounts
+listed_counts interval unit es = record { gaps = gaps_in unit es; moments = moments_in interval es }
+
 -- the lines of the whole file
-unfoldable pub heading_text : Form → List ℕ → Civil → Civil → Option ℕ → ℕ → RecordCounts → ℕ → PassSums → List ℕ
-heading_text form marker from until interval satellites r gaps s =
-    marker_text form marker ++ span_text form from until interval r ++ value_text form (codes "\ngaps ") (codes ",\"gaps\":") Whole (Some gaps)
-    ++ satellites_text form satellites r ++ station_text form s ++ end_text form
+unfoldable pub heading_text : Form → List ℕ → Civil → Civil → Option ℕ → ℕ → RecordCounts → ListedCounts → PassSums → List ℕ
+heading_text form marker from until interval satellites r n s =
+    marker_text form marker ++ span_text form from until interval r ++ value_text form (codes "\ngaps ") (codes ",\"gaps\":") Whole (Some n.gaps)
+    ++ satellites_text form satellites r ++ station_text form s
+    ++ value_text form (codes "\nslips-together ") (codes ",\"slips_together\":") Whole (Some n.moments) ++ end_text form
 
 -- the end of the document
 abbrev pub close_text : Form → List ℕ
 close_text form = in_form form [] (codes "}\n")
 
 -- formula
--- the hours, the ten longest gaps, and the largest falls
+-- the hours, the ten longest gaps, the largest falls, the ten longest outages, and the ten epochs at which most
+-- satellites slip
 unfoldable pub station_part : Form → List Code → Option ℕ → ℕ → List EpochTableView → List ℕ
 station_part form listed interval unit es =
-    hours_text form listed (reverse (hours_of interval unit listed es)) ++ gaps_text form (longest_gaps unit es)
-    ++ falls_text form (reverse (hours_of interval unit listed es))
+    hours_text form listed (reverse (hours_of interval unit listed es)) ++ gaps_text form (gaps_in unit es) (longest_gaps unit es)
+    ++ falls_text form (reverse (hours_of interval unit listed es)) ++ outages_text form (count_of (all_outages interval es)) (longest_outages interval es)
+    ++ moments_text form (moments_in interval es) (largest_moments interval es)
+
+-- formula
+-- the codes of the station and of satellites, the sums of satellites, and their passes
+unfoldable pub signals_part : Form → List Code → Option ℕ → List EpochTableView → List ℕ
+signals_part form listed interval es =
+    codes_text form listed interval es ++ section_text form Codes listed interval es ++ section_text form Tracked listed interval es
+    ++ section_text form Never listed interval es ++ section_text form Passes listed interval es
+
+-- formula
+-- what follows the heading: a table begins with the hours, gaps and falls, since they say when something
+-- happened; lines and JSON end with them
+unfoldable pub body_text : Form → List Code → Option ℕ → ℕ → List EpochTableView → List ℕ
+body_text Table listed interval unit es = station_part Table listed interval unit es ++ signals_part Table listed interval es
+body_text Lines listed interval unit es = signals_part Lines listed interval es ++ station_part Lines listed interval unit es
+body_text Json listed interval unit es = signals_part Json listed interval es ++ station_part Json listed interval unit es
 
 -- formula
 -- the numbers of a file of this marker, these codes, and these moments of its first and its last record
 unfoldable pub quality_text : Form → List ℕ → List Code → ℕ → ℕ → Option ℕ → List EpochTableView → List ℕ
 quality_text form marker listed first last interval es =
     heading_text form marker (reading_of first) (reading_of last) interval (satellites_in interval es)
-    (record_counts_of (unit_of interval) es) (gaps_in (unit_of interval) es) (station_sums interval es)
-    ++ codes_text form listed interval es
-    ++ section_text form Codes listed interval es ++ section_text form Tracked listed interval es ++ section_text form Never listed interval es ++ section_text form Passes listed interval es
-    ++ station_part form listed interval (unit_of interval) es ++ close_text form
+    (record_counts_of (unit_of interval) es) (listed_counts interval (unit_of interval) es) (station_sums interval es)
+    ++ body_text form listed interval (unit_of interval) es ++ close_text form
 
 -- table
 -- the lists of a file without records, which are empty in JSON and absent elsewhere
 abbrev pub no_lists : Form → List ℕ
 no_lists form =
     in_form form []
-    (codes ",\n\"codes\":[],\n\"satellites\":[],\n\"tracked\":[],\n\"never\":[],\n\"passes\":[],\n\"hours\":[],\n\"gaps\":[],\n\"falls\":[]")
+    (codes ",\n\"codes\":[],\n\"satellites\":[],\n\"tracked\":[],\n\"never\":[],\n\"passes\":[],\n\"hours\":[],\n\"gaps\":[],\n\"falls\":[],\n\"outages\":[],\n\"slips_together\":[]")
 
 -- a file without records has no other numbers
 unfoldable pub text_of_none : Form → List ℕ → List ℕ

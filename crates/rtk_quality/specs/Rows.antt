@@ -19,6 +19,8 @@ use Rattle.rtk_quality.specs.declared.strengths.BandStrengths.{BandStrengths}
 use Rattle.rtk_quality.specs.declared.hours.HourCounts.{HourCounts}
 use Rattle.rtk_quality.specs.declared.gaps.Gap.{Gap}
 use Rattle.rtk_quality.specs.declared.falls.Fall.{Fall}
+use Rattle.rtk_quality.specs.declared.moments.Moment.{Moment}
+use Rattle.rtk_quality.specs.declared.outages.Outage.{Outage}
 
 -- formula
 -- a satellite, as in G05
@@ -57,10 +59,6 @@ unfoldable pub code_row : Code → ℕ → CodeNumbers → List ℕ
 code_row code tracked n =
     codes "all " ++ name_of code ++ numbers_text n
     ++ codes "      " ++ having_text Lines n.satellites tracked ++ per_slip_text Lines (phases_per_slip n.counts.phases n.counts.slips) ++ codes "\n"
-
--- the row of a code of the file of which a satellite has no phase
-unfoldable pub never_row : ℕ → Code → List ℕ
-never_row satellite code = satellite_mark satellite ++ codes " " ++ name_of code ++ codes "\n"
 
 -- table
 -- the row of all codes of a satellite: phases, slips and their moments, outages and their time in seconds
@@ -103,6 +101,18 @@ hour_row h =
 -- the row of a gap
 unfoldable pub gap_row : Gap → List ℕ
 gap_row g = civil_text g.from ++ codes " " ++ civil_text g.until ++ cells_text (column 10 Whole (Some g.missing) ∷ []) ++ codes "\n"
+
+-- table
+-- the row of an outage: its span in whole seconds, and its time in seconds
+unfoldable pub outage_row : Outage → List ℕ
+outage_row o =
+    satellite_mark o.satellite ++ span_part o.absence.from o.absence.until 19 ++ cells_text (column 12 Thousandths (Some o.absence.ms) ∷ []) ++ codes "\n"
+
+-- table
+-- the row of an epoch at which several satellites slip: how many do, and how many have a phase
+unfoldable pub moment_row : Moment → List ℕ
+moment_row m =
+    take 19 (civil_text m.time) ++ cells_text (column 11 Whole (Some m.together.slipping) ∷ column 6 Whole (Some m.together.tracked) ∷ []) ++ codes "\n"
 
 -- the row of the largest fall of a band, by the number of the band
 unfoldable pub fall_row : ℕ → Fall → List ℕ

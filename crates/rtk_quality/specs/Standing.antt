@@ -7,7 +7,10 @@ use Rattle.rtk_tracking.specs.Standing.{StandsForPass}
 use Rattle.rtk_quality.specs.Counts.{code_counts_of}
 use Rattle.rtk_quality.specs.SatellitePasses.{sums_plus, sums_in, passes_of, epochs_since_phase, epochs_in_passes}
 use Rattle.rtk_quality.specs.Records.{record_counts_of}
-use Rattle.rtk_quality.specs.Gaps.{AreGaps, gaps_of}
+use Rattle.rtk_quality.specs.Gaps.{gaps_of, size_of_gap}
+use Rattle.rtk_quality.specs.Largest.{AreLargest}
+use Rattle.rtk_quality.specs.Outages.{all_outages, size_of_outage}
+use Rattle.rtk_quality.specs.Moments.{common_moments, size_of_moment}
 use Rattle.rtk_quality.specs.Steps.Noted.{AreHours}
 use Rattle.rtk_quality.specs.declared.hours.HourCounts.{HourCounts}
 use Rattle.rtk_quality.specs.declared.pass_sums.PassSums.{PassSums}
@@ -86,4 +89,6 @@ pub record StandsForFile (f : FileCounts) (interval : Option ℕ) (unit : ℕ) (
   pub satellites : StandForSatellites f.satellites.items interval es
   pub ended : StandForEnded f.ended.items interval es
   pub hours : AreHours f.hours hs
-  pub gaps : AreGaps f.gaps (gaps_of unit es)
+  pub gaps : AreLargest size_of_gap f.gaps (gaps_of unit es)
+  pub outages : AreLargest size_of_outage f.outages (all_outages interval es)
+  pub moments : AreLargest size_of_moment f.moments (common_moments interval es)

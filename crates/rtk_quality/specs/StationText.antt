@@ -1,4 +1,4 @@
--- The lines of the hours, gaps and falls of a file, and what stands for them in JSON (this project's rule).
+-- The lines of the hours, gaps, falls, outages and moments of a file, and what stands for them in JSON (this project's rule).
 use Rattle.std.specs.Prelude.{ℕ, Bool, List, [], ◌++◌, codes, Some, if◌then◌else◌}
 use Rattle.std.specs.List.{list_any}
 use Rattle.rtk_obs.specs.declared.code.Band.{Band}
@@ -8,12 +8,15 @@ use Rattle.rtk_rinex.specs.Reading.{reading_of}
 use Rattle.rtk_quality.specs.Counts.{plus, mean_hundredths, mean_tenths}
 use Rattle.rtk_quality.specs.Hours.{start_of}
 use Rattle.rtk_quality.specs.Strengths.{number_of, is_of_band, of_band}
+use Rattle.rtk_quality.specs.LineText.{having_text, satellite_name}
 use Rattle.rtk_quality.specs.Forms.{value_text, moment_text, start_text, end_text}
 use Rattle.rtk_quality.specs.declared.form.Form.{Form}
-use Rattle.rtk_quality.specs.declared.form.Decimals.TheVariants.{Whole, Tenths, Hundredths}
+use Rattle.rtk_quality.specs.declared.form.Decimals.TheVariants.{Whole, Tenths, Hundredths, Thousandths}
 use Rattle.rtk_quality.specs.declared.hours.HourCounts.{HourCounts}
 use Rattle.rtk_quality.specs.declared.gaps.Gap.{Gap}
 use Rattle.rtk_quality.specs.declared.falls.Fall.{Fall}
+use Rattle.rtk_quality.specs.declared.moments.Moment.{Moment}
+use Rattle.rtk_quality.specs.declared.outages.Outage.{Outage}
 use Rattle.rtk_quality.specs.declared.strengths.Strengths.{Strengths}
 
 -- a code is of this band
@@ -60,6 +63,21 @@ unfoldable pub gap_line : Form → Gap → List ℕ
 gap_line form g =
     start_text form (codes "gap") ++ moment_text form (codes " from ") (codes "\"from\":") g.from ++ moment_text form (codes " until ") (codes ",\"until\":") g.until
     ++ value_text form (codes " missing ") (codes ",\"missing\":") Whole (Some g.missing) ++ end_text form
+
+-- formula
+-- the line of an outage
+unfoldable pub outage_line : Form → Outage → List ℕ
+outage_line form o =
+    start_text form (codes "outage") ++ satellite_name form o.satellite
+    ++ moment_text form (codes " from ") (codes ",\"from\":") o.absence.from ++ moment_text form (codes " until ") (codes ",\"until\":") o.absence.until
+    ++ value_text form (codes " outage-time ") (codes ",\"outage_time_ms\":") Thousandths (Some o.absence.ms) ++ end_text form
+
+-- formula
+-- the line of an epoch at which several satellites slip
+unfoldable pub together_line : Form → Moment → List ℕ
+together_line form m =
+    start_text form (codes "slip-together") ++ moment_text form (codes " ") (codes "\"time\":") m.time
+    ++ having_text form m.together.slipping m.together.tracked ++ end_text form
 
 -- the line of a fall
 unfoldable pub fall_line : Form → Band → Fall → List ℕ

@@ -4,15 +4,16 @@ ghost use Rattle.std.specs.Prelude.{◌≡◌, ◌≤◌, ℕ, List, length, ◌
 ghost use Rattle.rtk_rinex.specs.Record.{EpochTableView};
 ghost use Rattle.rtk_quality.specs.Hours.{hours_of};
 ghost use Rattle.rtk_quality.specs.Records.{unit_of};
-ghost use Rattle.rtk_quality.specs.QualityText.{no_lists, close_text, station_part, quality_text, text_of_none, TellsQuality};
-ghost use Rattle.rtk_quality.specs.Standing.{StandsForFile};
+ghost use Rattle.rtk_quality.specs.QualityText.{no_lists, close_text, signals_part, station_part, body_text, quality_text, text_of_none, TellsQuality};
+ghost use Rattle.rtk_quality.specs.Standing.{StandForSatellites, StandForEnded, StandsForFile};
 
-use crate::file_counts::{FileCounts, count_file, satellites_in, station_sums};
+use crate::file_counts::{EndedPass, FileCounts, count_file, satellites_in, station_sums};
 use crate::form::{Form, put_either, put_end};
-use crate::heading::{put_heading, put_marker};
+use crate::heading::{ListedCounts, put_heading, put_marker};
 use crate::lines::put_count;
+use crate::satellite_counts::SatelliteCounts;
 use crate::sections::{Section, put_codes, put_section};
-use crate::station::{put_falls, put_gaps, put_hours};
+use crate::station::{put_falls, put_gaps, put_hours, put_moments, put_outages};
 use rtk_obs::{Code, GpsMs, civil};
 use rtk_rinex::TextTable;
 use rtk_tracking::interval;
@@ -35,7 +36,7 @@ fn put_no_lists(text: &mut Vec<u8>, form: Form) -> Result<(), AllocError>
         text,
         form,
         b"",
-        b",\n\"codes\":[],\n\"satellites\":[],\n\"tracked\":[],\n\"never\":[],\n\"passes\":[],\n\"hours\":[],\n\"gaps\":[],\n\"falls\":[]",
+        b",\n\"codes\":[],\n\"satellites\":[],\n\"tracked\":[],\n\"never\":[],\n\"passes\":[],\n\"hours\":[],\n\"gaps\":[],\n\"falls\":[],\n\"outages\":[],\n\"slips_together\":[]",
     )
 }
 
@@ -53,7 +54,7 @@ fn text_of_none(alloc: Global, form: Form, marker: &[u8]) -> Result<Vec<u8>, All
     Ok(text)
 }
 
-// Appends the hours, the gaps and the largest falls.
+// Appends the hours, gaps and falls, and what else happened.
 fn put_station_lines(
     alloc: Global,
     text: &mut Vec<u8>,
@@ -66,9 +67,63 @@ fn put_station_lines(
 {
     let hours = counts.hours.all(alloc)?;
     put_hours(text, form, codes, hours.as_slice())?;
-    put_gaps(text, form, counts.gaps.longest.as_slice())?;
+    put_gaps(text, form, &counts.gaps)?;
     put_falls(text, form, hours.as_slice())?;
+    put_outages(text, form, &counts.outages)?;
+    put_moments(text, form, &counts.moments)?;
     Ok(())
+}
+
+// Appends the codes of the station, and what each section has of the satellites.
+#[tactic(auto, unfolding(crate::specs::QualityText::signals_part))]
+fn put_signals(
+    text: &mut Vec<u8>,
+    form: Form,
+    codes: &[Code],
+    satellites: &[SatelliteCounts],
+    ended: &[EndedPass],
+) -> Result<(), AllocError>
+    requires few { length codes.now ≤ 16 }
+    requires size { length satellites.now ≡ 32 }
+    ensures { OnOk result ((interval : Option ℕ) (es : List EpochTableView) → StandForSatellites satellites.now interval es → StandForEnded ended.now interval es
+        → text.new.items ≡ text.old.items ++ signals_part form codes.now interval es) }
+{
+    put_codes(text, form, codes, satellites)?;
+    put_section(text, form, Section::Codes, codes, satellites, ended)?;
+    put_section(text, form, Section::Tracked, codes, satellites, ended)?;
+    put_section(text, form, Section::Never, codes, satellites, ended)?;
+    put_section(text, form, Section::Passes, codes, satellites, ended)?;
+    Ok(())
+}
+
+// Appends what follows the heading.
+#[tactic(auto, unfolding(crate::specs::QualityText::body_text))]
+fn put_body(
+    alloc: Global,
+    text: &mut Vec<u8>,
+    form: Form,
+    codes: &[Code],
+    counts: &FileCounts,
+) -> Result<(), AllocError>
+    requires few { length codes.now ≤ 16 }
+    requires size { length counts.now.satellites.items ≡ 32 }
+    ensures { OnOk result ((interval : Option ℕ) (unit : ℕ) (es : List EpochTableView) → StandsForFile counts.now interval unit es (hours_of interval unit codes.now es)
+        → text.new.items ≡ text.old.items ++ body_text form codes.now interval unit es) }
+{
+    let satellites = counts.satellites.as_slice();
+    let ended = counts.ended.as_slice();
+    match form {
+        Form::Table => {
+            put_station_lines(alloc, text, form, codes, counts)?;
+            put_signals(text, form, codes, satellites, ended)?;
+            Ok(())
+        }
+        Form::Lines | Form::Json => {
+            put_signals(text, form, codes, satellites, ended)?;
+            put_station_lines(alloc, text, form, codes, counts)?;
+            Ok(())
+        }
+    }
 }
 
 // The numbers of a file with records.
@@ -89,9 +144,12 @@ fn text_of(
         → text.items ≡ quality_text form marker.now codes.now first last interval es) }
 {
     let satellites = counts.satellites.as_slice();
-    let ended = counts.ended.as_slice();
     let seen = satellites_in(satellites) as u64;
     let sums = station_sums(satellites);
+    let listed = ListedCounts {
+        gaps: counts.gaps.count,
+        moments: counts.moments.count,
+    };
     let from = civil(first);
     let until = civil(last);
     let mut text = Vec::new(alloc);
@@ -104,15 +162,10 @@ fn text_of(
         interval,
         seen,
         &counts.records,
-        counts.gaps.count,
+        &listed,
         &sums,
     )?;
-    put_codes(&mut text, form, codes, satellites)?;
-    put_section(&mut text, form, Section::Codes, codes, satellites, ended)?;
-    put_section(&mut text, form, Section::Tracked, codes, satellites, ended)?;
-    put_section(&mut text, form, Section::Never, codes, satellites, ended)?;
-    put_section(&mut text, form, Section::Passes, codes, satellites, ended)?;
-    put_station_lines(alloc, &mut text, form, codes, counts)?;
+    put_body(alloc, &mut text, form, codes, counts)?;
     put_close(&mut text, form)?;
     Ok(text)
 }

@@ -1,23 +1,26 @@
 //! The entries of lists, each of them a row of a table, a line, or an object in JSON.
 
 ghost use Rattle.std.specs.Prelude.{◌≡◌, ◌++◌, OnOk};
-ghost use Rattle.rtk_quality.specs.Entries.{code_entry, satellite_entry, never_entry, tracked_entry, pass_entry, hour_entry, gap_entry, fall_entry};
+ghost use Rattle.rtk_quality.specs.Entries.{code_entry, satellite_entry, tracked_entry, pass_entry, hour_entry, gap_entry, outage_entry, moment_entry, fall_entry};
 
 use crate::code_numbers::CodeNumbers;
 use crate::falls::Fall;
 use crate::form::Form;
 use crate::gaps::Gap;
 use crate::hours::HourCounts;
-use crate::lines::{
-    put_code_line, put_never_line, put_pass_line, put_satellite_line, put_tracked_line,
-};
+use crate::largest::Measured;
+use crate::lines::{put_code_line, put_pass_line, put_satellite_line, put_tracked_line};
+use crate::moments::Moment;
+use crate::outages::Outage;
 use crate::pass_sums::PassSums;
 use crate::rows::{
-    put_code_row, put_fall_row, put_gap_row, put_hour_row, put_never_row, put_pass_row,
-    put_signal_row, put_tracked_row,
+    put_code_row, put_fall_row, put_gap_row, put_hour_row, put_moment_row, put_outage_row,
+    put_pass_row, put_signal_row, put_tracked_row,
 };
 use crate::satellite_counts::PassCounts;
-use crate::station_lines::{put_fall_line, put_gap_line, put_hour_line};
+use crate::station_lines::{
+    put_fall_line, put_gap_line, put_hour_line, put_moment_line, put_outage_line,
+};
 use crate::strengths::number_of;
 use rtk_obs::{Band, Code};
 use std::alloc::AllocError;
@@ -53,22 +56,6 @@ pub(crate) fn put_satellite_entry(
     match form {
         Form::Table => put_signal_row(text, satellite, code, numbers),
         Form::Lines | Form::Json => put_satellite_line(text, form, satellite, code, numbers),
-    }
-}
-
-/// Appends a code of the file of which a satellite has no phase.
-#[tactic(auto, unfolding(crate::specs::Entries::never_entry))]
-pub(crate) fn put_never_entry(
-    text: &mut Vec<u8>,
-    form: Form,
-    satellite: u8,
-    code: Code,
-) -> Result<(), AllocError>
-    ensures { OnOk result (text.new.items ≡ text.old.items ++ never_entry form satellite code) }
-{
-    match form {
-        Form::Table => put_never_row(text, satellite, code),
-        Form::Lines | Form::Json => put_never_line(text, form, satellite, code),
     }
 }
 
@@ -120,9 +107,73 @@ pub(crate) fn put_hour_entry(
     }
 }
 
-/// Appends a gap.
+/// A thing that has an entry in a list of the largest ones.
+pub(crate) trait Listed: Measured {
+    ghost use Rattle.std.specs.Prelude.{ℕ, List};
+    ghost use Rattle.rtk_quality.specs.declared.form.Form.{Form};
+
+    ghost entry: { Form → Self → List ℕ };
+
+    /// Appends the entry.
+    fn put_entry(&self, text: &mut Vec<u8>, form: Form) -> Result<(), AllocError>
+        ensures { OnOk result (text.new.items ≡ text.old.items ++ entry form self.now) };
+}
+
+impl Listed for Gap {
+    ghost use Rattle.rtk_quality.specs.Entries.{gap_entry};
+
+    ghost entry = { gap_entry };
+
+    fn put_entry(&self, text: &mut Vec<u8>, form: Form) -> Result<(), AllocError> {
+        put_gap_entry(text, form, self)
+    }
+}
+
+impl Listed for Outage {
+    ghost use Rattle.rtk_quality.specs.Entries.{outage_entry};
+
+    ghost entry = { outage_entry };
+
+    fn put_entry(&self, text: &mut Vec<u8>, form: Form) -> Result<(), AllocError> {
+        put_outage_entry(text, form, self)
+    }
+}
+
+impl Listed for Moment {
+    ghost use Rattle.rtk_quality.specs.Entries.{moment_entry};
+
+    ghost entry = { moment_entry };
+
+    fn put_entry(&self, text: &mut Vec<u8>, form: Form) -> Result<(), AllocError> {
+        put_moment_entry(text, form, self)
+    }
+}
+
+// Appends an outage.
+#[tactic(auto, unfolding(crate::specs::Entries::outage_entry))]
+fn put_outage_entry(text: &mut Vec<u8>, form: Form, outage: &Outage) -> Result<(), AllocError>
+    ensures { OnOk result (text.new.items ≡ text.old.items ++ outage_entry form outage.now) }
+{
+    match form {
+        Form::Table => put_outage_row(text, outage),
+        Form::Lines | Form::Json => put_outage_line(text, form, outage),
+    }
+}
+
+// Appends an epoch at which several satellites slip.
+#[tactic(auto, unfolding(crate::specs::Entries::moment_entry))]
+fn put_moment_entry(text: &mut Vec<u8>, form: Form, moment: &Moment) -> Result<(), AllocError>
+    ensures { OnOk result (text.new.items ≡ text.old.items ++ moment_entry form moment.now) }
+{
+    match form {
+        Form::Table => put_moment_row(text, moment),
+        Form::Lines | Form::Json => put_moment_line(text, form, moment),
+    }
+}
+
+// Appends a gap.
 #[tactic(auto, unfolding(crate::specs::Entries::gap_entry))]
-pub(crate) fn put_gap_entry(text: &mut Vec<u8>, form: Form, gap: &Gap) -> Result<(), AllocError>
+fn put_gap_entry(text: &mut Vec<u8>, form: Form, gap: &Gap) -> Result<(), AllocError>
     ensures { OnOk result (text.new.items ≡ text.old.items ++ gap_entry form gap.now) }
 {
     match form {

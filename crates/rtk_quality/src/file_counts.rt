@@ -7,13 +7,20 @@ ghost use Rattle.rtk_obs.specs.declared.code.Code.{Code};
 ghost use Rattle.rtk_quality.specs.Hours.{hours_of};
 ghost use Rattle.rtk_quality.specs.Steps.Noted.{no_locks, locks_onto, noted_hours};
 ghost use Rattle.rtk_quality.specs.Records.{unit_of};
+ghost use Rattle.rtk_quality.specs.Largest.{AreLargest};
+ghost use Rattle.rtk_quality.specs.Outages.{outages_in, size_of_outage};
+ghost use Rattle.rtk_quality.specs.Moments.{together_in};
+ghost use Rattle.rtk_quality.specs.declared.outages.Outage.{Outage};
 ghost use Rattle.rtk_quality.specs.Quality.{totals_of, station_sums, possible_in, satellites_in};
 ghost use Rattle.rtk_tracking.specs.Epochs.{HoldsOfEpochs, newest_moment};
 ghost use Rattle.rtk_quality.specs.Standing.{without_rows, with_ended, StandForSatellites, StandForEnded, StandsForFile};
 
 use crate::code_numbers::CodeNumbers;
-use crate::gaps::Gaps;
+use crate::gaps::{Gap, gap_between};
 use crate::hours::{Hours, Locks};
+use crate::largest::Largest;
+use crate::moments::{Moment, Together, moment_if_several};
+use crate::outages::{Outage, outage_of};
 use crate::pass_sums::PassSums;
 use crate::record_counts::{RecordCounts, unit_ms};
 use crate::satellite_counts::{PassCounts, SatelliteCounts};
@@ -37,7 +44,16 @@ pub(crate) struct FileCounts {
     /// The passes that ended, in the order in which others began.
     pub(crate) ended: Vec<EndedPass>,
     pub(crate) hours: Hours,
-    pub(crate) gaps: Gaps,
+    pub(crate) gaps: Largest<Gap>,
+    pub(crate) outages: Largest<Outage>,
+    pub(crate) moments: Largest<Moment>,
+}
+
+/// What the rows of an epoch add up to.
+#[derive(Clone, Copy)]
+pub(crate) struct EpochNotes {
+    pub(crate) locks: Locks,
+    pub(crate) together: Together,
 }
 
 // Adds a pass of a satellite, if one ended.
@@ -79,15 +95,15 @@ fn note_satellites(satellites: &mut Vec<SatelliteCounts>)
     }
 }
 
-// Counts the rows of that epoch, which comes after a record at this moment or is the first one. The answer
-// has its slips and returns.
+// Counts the rows of that epoch, which comes after a record at this moment or is the first one.
 fn note_rows(
     satellites: &mut Vec<SatelliteCounts>,
     ended: &mut Vec<EndedPass>,
+    outages: &mut Largest<Outage>,
     interval: Option<u64>,
     record_ms: Option<u64>,
     epoch: &EpochTable,
-) -> Result<Locks, AllocError>
+) -> Result<EpochNotes, AllocError>
     requires { length satellites.old.items ≡ 32 }
     ensures size { OnOk result (length satellites.new.items ≡ 32) }
     ensures satellites { OnOk result ((es : List EpochTableView) → record_ms ≡ newest_moment es
@@ -96,21 +112,30 @@ fn note_rows(
     ensures ended { OnOk result ((es : List EpochTableView) → record_ms ≡ newest_moment es
         → StandForSatellites satellites.old.items interval (without_rows epoch.now.time ∷ es)
         → StandForEnded ended.old.items interval es → StandForEnded ended.new.items interval (epoch.now ∷ es)) }
-    ensures locks { IfOk result (λ locks. (es : List EpochTableView) → record_ms ≡ newest_moment es
+    ensures outages { OnOk result ((es : List EpochTableView) (all : List Outage) → record_ms ≡ newest_moment es
         → StandForSatellites satellites.old.items interval (without_rows epoch.now.time ∷ es)
-        → locks ≡ locks_onto interval es epoch.now.time no_locks epoch.now.rows) }
+        → AreLargest size_of_outage outages.old all → AreLargest size_of_outage outages.new (all ++ outages_in interval es epoch.now.time epoch.now.rows)) }
+    ensures locks { IfOk result (λ notes. (es : List EpochTableView) → record_ms ≡ newest_moment es
+        → StandForSatellites satellites.old.items interval (without_rows epoch.now.time ∷ es)
+        → notes.locks ≡ locks_onto interval es epoch.now.time no_locks epoch.now.rows) }
+    ensures together { IfOk result (λ notes. (es : List EpochTableView) → record_ms ≡ newest_moment es
+        → StandForSatellites satellites.old.items interval (without_rows epoch.now.time ∷ es)
+        → notes.together ≡ together_in interval es epoch.now.time epoch.now.rows) }
 {
     let time = epoch.time();
     let reading = civil(time);
     let mut locks = Locks::none();
+    let mut together = Together::none();
     for row in epoch.rows() {
         let place = usize::from(row.satellite) - 1;
         let observed = row.observed.as_slice();
         let notes = satellites[place].note_row(interval, record_ms, time, reading, observed);
         locks = locks.plus(&notes.locks);
+        together = together.plus(notes.locks.slips, notes.is_tracked);
         add_ended(ended, row.satellite, notes.ended)?;
+        outages.note_if_any(outage_of(row.satellite, notes.absence))?;
     }
-    Ok(locks)
+    Ok(EpochNotes { locks, together })
 }
 
 /// The numbers of the code at this place over all satellites that have it.
@@ -171,7 +196,9 @@ impl FileCounts {
             satellites: vec![in alloc; SatelliteCounts::new(); 32]?,
             ended: Vec::new(alloc),
             hours: Hours::new(alloc),
-            gaps: Gaps::new(alloc),
+            gaps: Largest::new(alloc),
+            outages: Largest::new(alloc),
+            moments: Largest::new(alloc),
         })
     }
 
@@ -192,17 +219,26 @@ impl FileCounts {
     {
         let record_ms = ms_of(self.records.last);
         note_satellites(&mut self.satellites);
-        let locks = note_rows(
+        let notes = note_rows(
             &mut self.satellites,
             &mut self.ended,
+            &mut self.outages,
             interval,
             record_ms,
             epoch,
         )?;
-        self.hours
-            .note_record(interval, unit_ms, self.records.last, codes, epoch, &locks)?;
+        self.hours.note_record(
+            interval,
+            unit_ms,
+            self.records.last,
+            codes,
+            epoch,
+            &notes.locks,
+        )?;
         self.gaps
-            .note_record(unit_ms, self.records.last, epoch.time())?;
+            .note_if_any(gap_between(unit_ms, self.records.last, epoch.time()))?;
+        self.moments
+            .note_if_any(moment_if_several(epoch.time(), notes.together))?;
         self.records.note_record(unit_ms, epoch);
         Ok(())
     }

@@ -11,6 +11,14 @@ use crate::record_counts::RecordCounts;
 use rtk_obs::Civil;
 use std::alloc::AllocError;
 
+/// How many there are of what has a list of the ten largest.
+#[derive(Clone, Copy)]
+pub(crate) struct ListedCounts {
+    pub(crate) gaps: u64,
+    /// Epochs at which several satellites slip.
+    pub(crate) moments: u64,
+}
+
 /// Appends the marker.
 #[tactic(auto, unfolding(crate::specs::QualityText::marker_text))]
 pub(crate) fn put_marker(text: &mut Vec<u8>, form: Form, marker: &[u8]) -> Result<(), AllocError>
@@ -132,16 +140,23 @@ pub(crate) fn put_heading(
     interval: Option<u64>,
     satellites: u64,
     records: &RecordCounts,
-    gaps: u64,
+    listed: &ListedCounts,
     sums: &PassSums,
 ) -> Result<(), AllocError>
-    ensures { OnOk result (text.new.items ≡ text.old.items ++ heading_text form marker.now from until interval satellites records.now gaps sums.now) }
+    ensures { OnOk result (text.new.items ≡ text.old.items ++ heading_text form marker.now from until interval satellites records.now listed.now sums.now) }
 {
     put_marker(text, form, marker)?;
     put_span(text, form, from, until, interval, records)?;
-    put_count(text, form, b"\ngaps ", b",\"gaps\":", gaps)?;
+    put_count(text, form, b"\ngaps ", b",\"gaps\":", listed.gaps)?;
     put_satellites(text, form, satellites, records)?;
     put_station(text, form, sums)?;
+    put_count(
+        text,
+        form,
+        b"\nslips-together ",
+        b",\"slips_together\":",
+        listed.moments,
+    )?;
     put_end(text, form)?;
     Ok(())
 }

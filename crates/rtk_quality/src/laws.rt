@@ -3,7 +3,7 @@
 //!
 //! Each function here does nothing. Its contract is the law, and a caller that calls it may cite it.
 
-ghost use Rattle.rtk_quality.specs.Laws.{CountsHideNothing, EachIsCounted, MeanIsOfAll, EachInPassIsCounted, PhasesAreInPasses, TotalsAreSums, RowsAreSum, EachHourHasOneLine, HoursHaveAllRecords, HoursHaveAllMissing, MeanOfHourIsOfAll, GapsHaveAllMissing, LongestGapsAreFirst};
+ghost use Rattle.rtk_quality.specs.Laws.{CountsHideNothing, EachIsCounted, MeanIsOfAll, EachInPassIsCounted, PhasesAreInPasses, TotalsAreSums, RowsAreSum, EachHourHasOneLine, HoursHaveAllRecords, HoursHaveAllMissing, MeanOfHourIsOfAll, GapsHaveAllMissing, LongestGapsAreFirst, OutagesHaveAllTime, LongestOutagesAreFirst, MomentsAreAll, LargestMomentsAreFirst};
 
 /// The rises, the returns and the slips of a code are together its digits with bit 0.
 pub fn no_bit_is_hidden()
@@ -34,4 +34,14 @@ pub fn hours_hide_nothing()
 pub fn gaps_hide_nothing()
     ensures missing { GapsHaveAllMissing }
     ensures order { LongestGapsAreFirst }
+{}
+
+/// Each outage is counted with its time, and each epoch at which at least two satellites slip. The outages come
+/// from the longest to the shortest, and these epochs from the one with most such satellites to the one with
+/// fewest.
+pub fn events_hide_nothing()
+    ensures outages { OutagesHaveAllTime }
+    ensures longest { LongestOutagesAreFirst }
+    ensures moments { MomentsAreAll }
+    ensures largest { LargestMomentsAreFirst }
 {}

@@ -59,9 +59,13 @@ mod form;
 mod gaps;
 mod heading;
 mod hours;
+mod largest;
 mod laws;
 mod lines;
 mod lists;
+mod moments;
+mod never;
+mod outages;
 mod pass_sums;
 mod record_counts;
 mod rows;
@@ -73,4 +77,6 @@ mod strengths;
 
 pub use document::quality;
 pub use form::Form;
-pub use laws::{each_is_counted, gaps_hide_nothing, hours_hide_nothing, no_bit_is_hidden};
+pub use laws::{
+    each_is_counted, events_hide_nothing, gaps_hide_nothing, hours_hide_nothing, no_bit_is_hidden,
+};

@@ -171,8 +171,13 @@ fn put_code_name(text: &mut Vec<u8>, form: Form, code: Code) -> Result<(), Alloc
     put_name(text, form, b",\"code\":\"", &code.name())
 }
 
+/// Appends a satellite.
 #[tactic(auto, unfolding(crate::specs::LineText::satellite_name))]
-fn put_satellite_name(text: &mut Vec<u8>, form: Form, satellite: u8) -> Result<(), AllocError>
+pub(crate) fn put_satellite_name(
+    text: &mut Vec<u8>,
+    form: Form,
+    satellite: u8,
+) -> Result<(), AllocError>
     ensures { OnOk result (text.new.items ≡ text.old.items ++ satellite_name form satellite) }
 {
     let digits = two_digits(satellite);

@@ -1,7 +1,7 @@
 //! The rows of a table.
 
 ghost use Rattle.std.specs.Prelude.{◌≡◌, ◌++◌, OnOk};
-ghost use Rattle.rtk_quality.specs.Rows.{satellite_mark, numbers_text, span_part, strength_column, signal_row, code_row, never_row, tracked_row, pass_row, hour_row, gap_row, fall_row};
+ghost use Rattle.rtk_quality.specs.Rows.{satellite_mark, numbers_text, span_part, strength_column, signal_row, code_row, tracked_row, pass_row, hour_row, gap_row, outage_row, moment_row, fall_row};
 
 use crate::code_numbers::{
     CodeNumbers, mean_hundredths, mean_tenths, percent_tenths, phases_per_slip,
@@ -12,6 +12,8 @@ use crate::form::{Decimals, Form, widened};
 use crate::gaps::Gap;
 use crate::hours::{HourCounts, start_of};
 use crate::lines::{put_having, put_per_slip};
+use crate::moments::Moment;
+use crate::outages::Outage;
 use crate::pass_sums::PassSums;
 use crate::satellite_counts::PassCounts;
 use crate::strengths::BandStrengths;
@@ -23,8 +25,8 @@ const MINUTE: usize = 16;
 
 const SECOND: usize = 19;
 
-// Appends a satellite, as in G05.
-fn put_satellite(text: &mut Vec<u8>, satellite: u8) -> Result<(), AllocError>
+/// Appends a satellite, as in G05.
+pub(crate) fn put_satellite(text: &mut Vec<u8>, satellite: u8) -> Result<(), AllocError>
     ensures { OnOk result (text.new.items ≡ text.old.items ++ satellite_mark satellite) }
 {
     let digits = two_digits(satellite);
@@ -93,17 +95,6 @@ pub(crate) fn put_code_row(
     text.extend_from_slice(b"      ")?;
     put_having(text, Form::Lines, numbers.satellites, tracked)?;
     put_per_slip(text, Form::Lines, each)?;
-    text.extend_from_slice(b"\n")
-}
-
-/// Appends the row of a code of the file of which a satellite has no phase.
-#[tactic(auto, unfolding(crate::specs::Rows::never_row))]
-pub(crate) fn put_never_row(text: &mut Vec<u8>, satellite: u8, code: Code) -> Result<(), AllocError>
-    ensures { OnOk result (text.new.items ≡ text.old.items ++ never_row satellite code) }
-{
-    put_satellite(text, satellite)?;
-    text.extend_from_slice(b" ")?;
-    text.extend_from_slice(&code.name())?;
     text.extend_from_slice(b"\n")
 }
 
@@ -207,6 +198,36 @@ pub(crate) fn put_gap_row(text: &mut Vec<u8>, gap: &Gap) -> Result<(), AllocErro
     text.extend_from_slice(b" ")?;
     put_civil(text, gap.until)?;
     put_cells(text, &[Cell::count(10, gap.missing)])?;
+    text.extend_from_slice(b"\n")
+}
+
+/// Appends the row of an outage.
+#[tactic(auto, unfolding(crate::specs::Rows::outage_row))]
+pub(crate) fn put_outage_row(text: &mut Vec<u8>, outage: &Outage) -> Result<(), AllocError>
+    ensures { OnOk result (text.new.items ≡ text.old.items ++ outage_row outage.now) }
+{
+    put_satellite(text, outage.satellite)?;
+    put_span(text, outage.absence.from, outage.absence.until, SECOND)?;
+    put_cells(
+        text,
+        &[Cell::new(12, Decimals::Thousandths, Some(outage.absence.ms))],
+    )?;
+    text.extend_from_slice(b"\n")
+}
+
+/// Appends the row of an epoch at which several satellites slip.
+#[tactic(auto, unfolding(crate::specs::Rows::moment_row))]
+pub(crate) fn put_moment_row(text: &mut Vec<u8>, moment: &Moment) -> Result<(), AllocError>
+    ensures { OnOk result (text.new.items ≡ text.old.items ++ moment_row moment.now) }
+{
+    put_part(text, moment.time, SECOND)?;
+    put_cells(
+        text,
+        &[
+            Cell::count(11, moment.together.slipping),
+            Cell::count(6, moment.together.tracked),
+        ],
+    )?;
     text.extend_from_slice(b"\n")
 }
 

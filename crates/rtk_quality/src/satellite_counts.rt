@@ -8,7 +8,8 @@ ghost use Rattle.rtk_tracking.specs.Standing.{AreMarked, AreKnown};
 ghost use Rattle.rtk_tracking.specs.Epochs.{shown_at};
 ghost use Rattle.rtk_quality.specs.Counts.{plus, code_counts_of};
 ghost use Rattle.rtk_quality.specs.Hours.{returns_at};
-ghost use Rattle.rtk_quality.specs.Steps.Noted.{locks_at};
+ghost use Rattle.rtk_quality.specs.Outages.{absence_at};
+ghost use Rattle.rtk_quality.specs.Steps.Noted.{locks_at, absence_after};
 ghost use Rattle.rtk_quality.specs.Quality.{numbers_of, is_in_file};
 ghost use Rattle.rtk_quality.specs.SatellitePasses.{phases_in, slips_at, sums_plus, sums_in, epochs_in_passes};
 ghost use Rattle.rtk_quality.specs.Standing.{with_epoch, absent_at, StandsForSatellite, StandsForEnded};
@@ -16,6 +17,7 @@ ghost use Rattle.rtk_quality.specs.Standing.{with_epoch, absent_at, StandsForSat
 use crate::code_counts::CodeCounts;
 use crate::code_numbers::CodeNumbers;
 use crate::hours::Locks;
+use crate::outages::Absence;
 use crate::pass_sums::PassSums;
 use rtk_obs::{Civil, GpsMs};
 use rtk_rinex::Observed;
@@ -29,11 +31,14 @@ pub(crate) struct PassCounts {
     pub(crate) sums: PassSums,
 }
 
-/// What a row tells beside the counts: the pass that ended when another one began, and the slips and returns.
+/// What a row tells beside the counts: the pass that ended when another one began, the slips and returns, the
+/// absence with which an outage ended, and whether there is a phase.
 #[derive(Clone, Copy)]
 pub(crate) struct RowNotes {
     pub(crate) ended: Option<PassCounts>,
     pub(crate) locks: Locks,
+    pub(crate) absence: Option<Absence>,
+    pub(crate) is_tracked: bool,
 }
 
 /// A satellite so far.
@@ -167,6 +172,20 @@ fn with_epoch(last: Option<PassCounts>, begins: bool, reading: Civil, sums: &Pas
     }
 }
 
+// The absence with which an outage of so many ms ends: it began with the last phase of the last pass.
+fn absence_after(last: Option<PassCounts>, until: Civil, outage_ms: Option<u64>) -> Option<Absence>
+    ensures { result ≡ absence_after last until outage_ms }
+{
+    match (last, outage_ms) {
+        (Some(pass), Some(ms)) => Some(Absence {
+            from: pass.until,
+            until,
+            ms,
+        }),
+        _ => None,
+    }
+}
+
 impl SatelliteCounts {
     /// Of a satellite that no epoch has: no pass has begun, and each count is 0.
     pub(crate) fn new() -> SatelliteCounts
@@ -264,6 +283,9 @@ impl SatelliteCounts {
             → record_ms ≡ last_record before → StandsForEnded result.ended interval before (record { time = time; observed = observed.now }) }
         ensures locks { (before : List Sighting) → StandsForSatellite self.old interval (absent_at time ∷ before)
             → record_ms ≡ last_record before → result.locks ≡ locks_at interval before (record { time = time; observed = observed.now }) }
+        ensures absence { (before : List Sighting) → StandsForSatellite self.old interval (absent_at time ∷ before)
+            → record_ms ≡ last_record before → result.absence ≡ absence_at interval before (record { time = time; observed = observed.now }) }
+        ensures tracked { result.is_tracked ≡ has_phase observed.now }
     {
         let time_ms = time.ms();
         let begins = self.pass.begins(interval, time_ms, observed);
@@ -273,15 +295,23 @@ impl SatelliteCounts {
         self.pass.note(interval, record_ms, time_ms, observed);
         if !has_phase(observed) {
             let locks = Locks::none();
-            return RowNotes { ended: None, locks };
+            return RowNotes {
+                ended: None,
+                locks,
+                absence: None,
+                is_tracked: false,
+            };
         }
         let slips = slips_in(observed, &known.kept);
         let returns = returns_in(observed, &known);
         let sums = PassSums::of(phases_in(observed), slips, outage_ms);
+        let absence = absence_after(self.last, reading, outage_ms);
         let ended = self.note_phases(begins, reading, &sums);
         RowNotes {
             ended,
             locks: Locks { slips, returns },
+            absence,
+            is_tracked: true,
         }
     }
 }

@@ -6,16 +6,17 @@ ghost use Rattle.rtk_tracking.specs.Passes.{Sighting};
 ghost use Rattle.rtk_quality.specs.Entries.{code_entry, pass_entry};
 ghost use Rattle.rtk_quality.specs.Quality.{numbers_of, code_of_station, satellites_in};
 ghost use Rattle.rtk_quality.specs.SatellitePasses.{passes_of};
-ghost use Rattle.rtk_quality.specs.QualityText.{each_code, code_in, part_of, parts_of, section_heading, section_key, section_text, codes_text};
+ghost use Rattle.rtk_quality.specs.QualityText.{each_code, code_in, part_of, parts_of, section_entries, section_heading, section_key, section_text, codes_text};
+ghost use Rattle.rtk_quality.specs.declared.sections.Section.TheVariants.{Never};
 ghost use Rattle.rtk_quality.specs.Standing.{ended_of, StandsForSatellite, HasEnded, StandForSatellites, StandForEnded};
 
 use crate::code_numbers::CodeNumbers;
-use crate::entries::{
-    put_code_entry, put_never_entry, put_pass_entry, put_satellite_entry, put_tracked_entry,
-};
+use crate::entries::{put_code_entry, put_pass_entry, put_satellite_entry, put_tracked_entry};
 use crate::file_counts::{EndedPass, possible_in, satellites_in, totals_of};
 use crate::form::Form;
+use crate::lines::put_never_line;
 use crate::lists::{begin_list, end_list};
+use crate::never::put_never_rows;
 use crate::satellite_counts::SatelliteCounts;
 use rtk_obs::Code;
 use std::alloc::AllocError;
@@ -117,7 +118,7 @@ fn put_code_in(
             put_satellite_entry(text, form, satellite, code, numbers)
         }
         Section::Never if numbers.counts.phases == 0 => {
-            put_never_entry(text, form, satellite, code)
+            put_never_line(text, form, satellite, code)
         }
         _ => Ok(()),
     }
@@ -224,6 +225,49 @@ fn put_parts(
     Ok(())
 }
 
+// Appends the codes of which satellites have no phase: in a table by code, and else by satellite.
+fn put_never(
+    text: &mut Vec<u8>,
+    form: Form,
+    codes: &[Code],
+    satellites: &[SatelliteCounts],
+    ended: &[EndedPass],
+) -> Result<(), AllocError>
+    requires few { length codes.now ≤ 16 }
+    requires size { length satellites.now ≡ 32 }
+    ensures { OnOk result ((interval : Option ℕ) (es : List EpochTableView) → StandForSatellites satellites.now interval es → StandForEnded ended.now interval es
+        → text.new.items ≡ text.old.items ++ section_entries form Never codes.now interval es) }
+{
+    match form {
+        Form::Table => put_never_rows(text, codes, satellites),
+        Form::Lines | Form::Json => {
+            put_parts(text, form, Section::Never, codes, satellites, ended)
+        }
+    }
+}
+
+// Appends the entries of a section.
+fn put_entries(
+    text: &mut Vec<u8>,
+    form: Form,
+    section: Section,
+    codes: &[Code],
+    satellites: &[SatelliteCounts],
+    ended: &[EndedPass],
+) -> Result<(), AllocError>
+    requires few { length codes.now ≤ 16 }
+    requires size { length satellites.now ≡ 32 }
+    ensures { OnOk result ((interval : Option ℕ) (es : List EpochTableView) → StandForSatellites satellites.now interval es → StandForEnded ended.now interval es
+        → text.new.items ≡ text.old.items ++ section_entries form section codes.now interval es) }
+{
+    match section {
+        Section::Never => put_never(text, form, codes, satellites, ended),
+        Section::Codes | Section::Tracked | Section::Passes => {
+            put_parts(text, form, section, codes, satellites, ended)
+        }
+    }
+}
+
 /// Appends a section.
 pub(crate) fn put_section(
     text: &mut Vec<u8>,
@@ -241,7 +285,7 @@ pub(crate) fn put_section(
     let heading = section_heading(section);
     let key = section_key(section);
     let start = begin_list(text, form, heading, key)?;
-    put_parts(text, form, section, codes, satellites, ended)?;
+    put_entries(text, form, section, codes, satellites, ended)?;
     end_list(text, form, start)?;
     Ok(())
 }

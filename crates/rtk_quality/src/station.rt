@@ -1,15 +1,20 @@
-//! The hours, the gaps and the largest falls.
+//! The hours, the largest falls, and lists of the ten largest of other things.
 
 ghost use Rattle.std.specs.Prelude.{◌≡◌, ◌++◌, flat_map, OnOk};
-ghost use Rattle.rtk_quality.specs.Entries.{hour_entry, gap_entry, fall_part};
-ghost use Rattle.rtk_quality.specs.QualityText.{hours_text, gaps_text, falls_of, falls_text};
+ghost use Rattle.rtk_quality.specs.Entries.{hour_entry, fall_part};
+ghost use Rattle.rtk_quality.specs.Lists.{more_text, largest_text};
+ghost use Rattle.rtk_quality.specs.QualityText.{hours_text, gaps_text, outages_text, moments_text, falls_of, falls_text};
 
-use crate::entries::{put_fall_entry, put_gap_entry, put_hour_entry};
+use crate::entries::{Listed, put_fall_entry, put_hour_entry};
 use crate::falls::largest_fall;
 use crate::form::Form;
 use crate::gaps::Gap;
 use crate::hours::HourCounts;
+use crate::largest::Largest;
 use crate::lists::{begin_list, end_list};
+use crate::moments::Moment;
+use crate::outages::Outage;
+use rtk_message::put_number;
 use rtk_obs::{Band, Code};
 use std::alloc::AllocError;
 
@@ -48,29 +53,103 @@ pub(crate) fn put_hours(
     Ok(())
 }
 
-// Appends each gap.
-fn put_each_gap(text: &mut Vec<u8>, form: Form, gaps: &[Gap]) -> Result<(), AllocError>
-    ensures { OnOk result (text.new.items ≡ text.old.items ++ flat_map (gap_entry form) gaps.now) }
+// Appends each of the largest things.
+fn put_each<T: Listed>(text: &mut Vec<u8>, form: Form, things: &[T]) -> Result<(), AllocError>
+    ensures { OnOk result (text.new.items ≡ text.old.items ++ flat_map (T.entry form) things.now) }
 {
-    for gap in gaps {
-        put_gap_entry(text, form, gap)?;
+    for thing in things {
+        thing.put_entry(text, form)?;
     }
     Ok(())
 }
 
-/// Appends the gaps.
-pub(crate) fn put_gaps(text: &mut Vec<u8>, form: Form, gaps: &[Gap]) -> Result<(), AllocError>
-    ensures { OnOk result (text.new.items ≡ text.old.items ++ gaps_text form gaps.now) }
+// Appends how many more there are than are listed.
+fn put_more(text: &mut Vec<u8>, form: Form, count: u64) -> Result<(), AllocError>
+    ensures { OnOk result (text.new.items ≡ text.old.items ++ more_text form count) }
 {
-    let start = begin_list(
+    match form {
+        Form::Table => {
+            if count <= 10 {
+                return Ok(());
+            }
+            text.extend_from_slice(b"and ")?;
+            put_number(text, count - 10)?;
+            text.extend_from_slice(b" more\n")?;
+            Ok(())
+        }
+        Form::Lines | Form::Json => Ok(()),
+    }
+}
+
+// Appends a list of the largest of some things.
+fn put_largest<T: Listed>(
+    text: &mut Vec<u8>,
+    form: Form,
+    heading: &[u8],
+    key: &[u8],
+    largest: &Largest<T>,
+) -> Result<(), AllocError>
+    ensures { OnOk result (text.new.items ≡ text.old.items ++ largest_text T.entry form heading.now key.now largest.now.count largest.now.things.items) }
+{
+    let start = begin_list(text, form, heading, key)?;
+    put_each(text, form, largest.things.as_slice())?;
+    put_more(text, form, largest.count)?;
+    end_list(text, form, start)?;
+    Ok(())
+}
+
+/// Appends the gaps.
+#[tactic(auto, unfolding(crate::specs::QualityText::gaps_text))]
+pub(crate) fn put_gaps(
+    text: &mut Vec<u8>,
+    form: Form,
+    gaps: &Largest<Gap>,
+) -> Result<(), AllocError>
+    ensures { OnOk result (text.new.items ≡ text.old.items ++ gaps_text form gaps.now.count gaps.now.things.items) }
+{
+    put_largest(
         text,
         form,
         b"\ngap from                until                     missing\n",
         b",\n\"gaps\":[",
-    )?;
-    put_each_gap(text, form, gaps)?;
-    end_list(text, form, start)?;
-    Ok(())
+        gaps,
+    )
+}
+
+/// Appends the outages.
+#[tactic(auto, unfolding(crate::specs::QualityText::outages_text))]
+pub(crate) fn put_outages(
+    text: &mut Vec<u8>,
+    form: Form,
+    outages: &Largest<Outage>,
+) -> Result<(), AllocError>
+    ensures { OnOk result (text.new.items ≡ text.old.items ++ outages_text form outages.now.count outages.now.things.items) }
+{
+    put_largest(
+        text,
+        form,
+        b"\noutage from             until                      time\n",
+        b",\n\"outages\":[",
+        outages,
+    )
+}
+
+/// Appends the epochs at which several satellites slip.
+#[tactic(auto, unfolding(crate::specs::QualityText::moments_text))]
+pub(crate) fn put_moments(
+    text: &mut Vec<u8>,
+    form: Form,
+    moments: &Largest<Moment>,
+) -> Result<(), AllocError>
+    ensures { OnOk result (text.new.items ≡ text.old.items ++ moments_text form moments.now.count moments.now.things.items) }
+{
+    put_largest(
+        text,
+        form,
+        b"\nslips together      satellites    of\n",
+        b",\n\"slips_together\":[",
+        moments,
+    )
 }
 
 // Appends the largest fall of a band, if there is one.

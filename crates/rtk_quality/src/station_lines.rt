@@ -1,14 +1,16 @@
-//! The lines of hours, gaps and falls.
+//! The lines of hours, gaps, falls, outages and moments.
 
 ghost use Rattle.std.specs.Prelude.{◌≡◌, ◌++◌, OnOk};
-ghost use Rattle.rtk_quality.specs.StationText.{has_band, strength_words, strength_key, strength_text, hour_counts_text, hour_line, gap_line, fall_line};
+ghost use Rattle.rtk_quality.specs.StationText.{has_band, strength_words, strength_key, strength_text, hour_counts_text, hour_line, gap_line, outage_line, together_line, fall_line};
 
 use crate::code_numbers::{mean_hundredths, mean_tenths};
 use crate::falls::Fall;
 use crate::form::{Decimals, Form, put_end, put_moment, put_start, put_value};
 use crate::gaps::Gap;
 use crate::hours::{HourCounts, start_of};
-use crate::lines::put_count;
+use crate::lines::{put_count, put_having, put_satellite_name};
+use crate::moments::Moment;
+use crate::outages::Outage;
 use crate::strengths::{Strengths, number_of};
 use rtk_obs::{Band, Code};
 use std::alloc::AllocError;
@@ -120,6 +122,48 @@ pub(crate) fn put_gap_line(text: &mut Vec<u8>, form: Form, gap: &Gap) -> Result<
     put_moment(text, form, b" from ", b"\"from\":", gap.from)?;
     put_moment(text, form, b" until ", b",\"until\":", gap.until)?;
     put_count(text, form, b" missing ", b",\"missing\":", gap.missing)?;
+    put_end(text, form)?;
+    Ok(())
+}
+
+/// Appends the line of an outage.
+#[tactic(auto, unfolding(crate::specs::StationText::outage_line))]
+pub(crate) fn put_outage_line(
+    text: &mut Vec<u8>,
+    form: Form,
+    outage: &Outage,
+) -> Result<(), AllocError>
+    ensures { OnOk result (text.new.items ≡ text.old.items ++ outage_line form outage.now) }
+{
+    put_start(text, form, b"outage")?;
+    put_satellite_name(text, form, outage.satellite)?;
+    put_moment(text, form, b" from ", b",\"from\":", outage.absence.from)?;
+    put_moment(text, form, b" until ", b",\"until\":", outage.absence.until)?;
+    put_value(
+        text,
+        form,
+        b" outage-time ",
+        b",\"outage_time_ms\":",
+        Decimals::Thousandths,
+        Some(outage.absence.ms),
+    )?;
+    put_end(text, form)?;
+    Ok(())
+}
+
+/// Appends the line of an epoch at which several satellites slip.
+#[tactic(auto, unfolding(crate::specs::StationText::together_line))]
+pub(crate) fn put_moment_line(
+    text: &mut Vec<u8>,
+    form: Form,
+    moment: &Moment,
+) -> Result<(), AllocError>
+    ensures { OnOk result (text.new.items ≡ text.old.items ++ together_line form moment.now) }
+{
+    let together = &moment.together;
+    put_start(text, form, b"slip-together")?;
+    put_moment(text, form, b" ", b"\"time\":", moment.time)?;
+    put_having(text, form, together.slipping, together.tracked)?;
     put_end(text, form)?;
     Ok(())
 }

@@ -52,7 +52,8 @@ def help_of(*words):
 
 
 def statuses_of_help(*words):
-    return section(output(PROGRAM, *words, "--help")[1], "Exit status")
+    """The entries that are numbers; a line that goes on begins with another word."""
+    return [it for it in section(output(PROGRAM, *words, "--help")[1], "Exit status") if it.isdigit()]
 
 
 def options_of_help(*words):

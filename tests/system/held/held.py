@@ -33,11 +33,11 @@ EPOCH = 176
 READ_AHEAD, SCANNED = 32_768, 2 * 1_029 + 4 * (2 * 1_029 + 1)
 LINK = 62_000
 GATHERED = 2 * 65_536
-# What a conversion of one link holds besides: the manual says some 89 kB.
-LEAST_BESIDE, MOST_BESIDE = 84_500, 89_500
-# What a summary of one station holds: some 66 kB. `auto` holds as much as `convert`, and before that a survey of each capture, with
+# What a conversion of one link holds besides: the manual says some 100 kB.
+LEAST_BESIDE, MOST_BESIDE = 95_000, 100_000
+# What a summary of one station holds: some 68 kB. `auto` holds as much as `convert`, and before that a survey of each capture, with
 # the stations and one kind of messages.
-LEAST_OF_SUMMARY, MOST_OF_SUMMARY = 62_000, 67_000
+LEAST_OF_SUMMARY, MOST_OF_SUMMARY = 64_000, 69_000
 LEAST_OF_AUTO, MOST_OF_AUTO = -10_000, 2_000
 CAPTURE = 900 + 9_000 + 8_500
 
@@ -52,7 +52,7 @@ QUALITY = 96 * (16 - 8) + 96 * (9 - 5)
 TEXT_OF_QUALITY = 4096
 
 # The bytes that a picture has at most.
-MOST_OF_PICTURE = 60_000_000
+MOST_OF_PICTURE = 75_000_000
 
 # The cells of an epoch: a 1004 gives two of a satellite, a 1074 one of each signal.
 CELLS = len(SATELLITES) * (2 + len(SIGNALS))

@@ -25,4 +25,4 @@ text_of_grid marker listed s width survey grid =
 abbrev pub svg_of_grid : List ℕ → List Code → Scale → Survey → Grid → List ℕ
 svg_of_grid marker listed s survey grid =
     svg_picture marker listed s survey.records grid.slips grid.returns grid.rises grid.missing
-    grid.bins.items grid.outages.items grid.gaps.items
+    grid.bins.items grid.outages.items grid.gaps.items grid.strengths.items

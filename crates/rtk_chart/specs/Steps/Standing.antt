@@ -1,5 +1,6 @@
 -- What the parts of a chart hold, tied to the epochs that came so far.
 use Rattle.std.specs.Prelude.{◌≡◌, ◌<◌, ℕ, ◌+◌, Bool, false, ◌||◌, List, ◌∷◌, length, get_or, Option}
+use Rattle.rtk_obs.specs.declared.code.Code.{Code}
 use Rattle.rtk_rinex.specs.Record.{EpochTableView}
 use Rattle.rtk_tracking.specs.Epochs.{capped, newest_moment}
 use Rattle.rtk_tracking.specs.Passes.{sightings_of}
@@ -9,6 +10,7 @@ use Rattle.rtk_chart.specs.Chart.{slips_at, returns_at, rises_at}
 use Rattle.rtk_tracking.specs.Interval.{missing_in}
 use Rattle.rtk_tracking.specs.Standing.{StandsForStepsBetween}
 use Rattle.rtk_chart.specs.Grid.{bins_of, outages_of, gaps_of}
+use Rattle.rtk_chart.specs.Means.{columns_of}
 use Rattle.rtk_chart.specs.declared.survey.Survey.{Survey}
 use Rattle.rtk_chart.specs.declared.scale.Scale.{Scale}
 use Rattle.rtk_chart.specs.declared.grid.Grid.{Grid}
@@ -36,12 +38,13 @@ CountsMissing old new s e =
 abbrev pub StandForPasses : List Pass → Option ℕ → List EpochTableView → Type 0
 StandForPasses passes interval es = (place : ℕ) (d : Pass) → place < 32 → StandsForPass (get_or passes place d) interval (sightings_of (place + 1) es)
 
-pub record StandsForGrid (g : Grid) (s : Scale) (es : List EpochTableView) : Type 0 where
+pub record StandsForGrid (g : Grid) (s : Scale) (listed : List Code) (es : List EpochTableView) : Type 0 where
   pub bins : g.bins.items ≡ bins_of s es
   pub missing : StandsForMissing g s es
   pub last : g.last ≡ newest_moment es
   pub passes : StandForPasses g.passes s.interval es
   pub outages : g.outages.items ≡ outages_of s es
+  pub strengths : g.strengths.items ≡ columns_of s listed es
   pub slips : g.slips ≡ slips_at s es
   pub returns : g.returns ≡ returns_at s es
   pub rises : g.rises ≡ rises_at s es

@@ -1,9 +1,10 @@
--- What one more record adds to the hours. What came is listed newest first.
+-- What one more record adds to the hours, and one more phase to the outages. What came is listed newest first.
 use Rattle.std.specs.Prelude.{◌≡◌, ℕ, ◌-◌, ◌/◌, ◌+◌, ◌%◌, ◌==◌, min, List, [], ◌∷◌, ◌++◌, length, reverse, Option, None, Some, if◌then◌else◌}
 use Rattle.rtk_obs.specs.Code.{band_of}
 use Rattle.rtk_obs.specs.declared.code.Band.{Band}
 use Rattle.rtk_obs.specs.declared.code.Band.TheVariants.{L1, L2, L5}
 use Rattle.rtk_obs.specs.declared.code.Code.{Code}
+use Rattle.rtk_obs.specs.declared.time.Civil.{Civil}
 use Rattle.rtk_rinex.specs.Record.{EpochTableView}
 use Rattle.rtk_rinex.specs.declared.epoch_table.Observed.{Observed}
 use Rattle.rtk_rinex.specs.declared.epoch_table.SatelliteRow.{SatelliteRow}
@@ -14,6 +15,8 @@ use Rattle.rtk_quality.specs.Counts.{plus}
 use Rattle.rtk_quality.specs.Hours.{hour_at, returns_at}
 use Rattle.rtk_quality.specs.SatellitePasses.{slips_at}
 use Rattle.rtk_quality.specs.declared.hours.Locks.{Locks}
+use Rattle.rtk_quality.specs.declared.outages.Absence.{Absence}
+use Rattle.rtk_quality.specs.declared.satellite_counts.PassCounts.{PassCounts}
 use Rattle.rtk_quality.specs.declared.hours.HourCounts.{HourCounts}
 use Rattle.rtk_quality.specs.declared.hours.Hours.{Hours}
 use Rattle.rtk_quality.specs.declared.strengths.BandStrengths.{BandStrengths}
@@ -54,6 +57,14 @@ abbrev pub locks_onto : Option ℕ → List EpochTableView → ℕ → Locks →
 locks_onto interval es t locks [] = locks
 locks_onto interval es t locks (r ∷ rows) =
     locks_onto interval es t (locks_plus locks (locks_at interval (sightings_of r.satellite es) (record { time = t; observed = r.observed.items }))) rows
+
+-- ---- outages
+
+-- the absence with which an outage of so many ms ends, after the last pass
+abbrev pub absence_after : Option PassCounts → Civil → Option ℕ → Option Absence
+absence_after None until ms = None
+absence_after (Some p) until None = None
+absence_after (Some p) until (Some ms) = Some (record { from = p.until; until = until; ms = ms })
 
 -- ---- strengths
 

@@ -10,6 +10,8 @@ returns c =
       c.in_ok-put_counts.ensures,
       c.in_ok-put_span.ensures,
       c.in_ok-put_start.ensures,
+      c.strip_height.ensures.value,
+      c.as_slice-4.ensures.value,
       c.never_end-end.ensures.value,
       c.of-spacing.ensures,
       c.drawn_before-satellites.ensures.value,

@@ -2,10 +2,10 @@ use Rattle.std.proofs.Common.{◌++◌, ℕ, List, Option, sym, ap, subst, ◌�
 use Rattle.rtk_rinex.proofs.PublicLaws.{reading_is}
 use Rattle.rtk_quality.specs.Records.{unit_of}
 use Rattle.rtk_quality.specs.QualityText.{heading_text}
-use Rattle.rtk_quality.specs.Standing.{StandForSatellites, StandForEnded}
+use Rattle.rtk_quality.specs.Standing.{StandForSatellites}
 use Rattle.rtk_quality.specs.declared.satellite_counts.SatelliteCounts.{SatelliteCounts}
-use Rattle.rtk_quality.specs.declared.file_counts.EndedPass.{EndedPass}
-use Rattle.rtk_quality.proofs.TextLemmas.{text-is}
+use Rattle.rtk_quality.specs.declared.heading.ListedCounts.{ListedCounts}
+use Rattle.rtk_quality.proofs.TextLemmas.{listed-are, text-is}
 use Rattle.rtk_quality.proofs.document.text_of.Goals as goal
 
 pub returns : goal.returns
@@ -13,12 +13,9 @@ returns c = λ es stands.
     let interval : Option ℕ = c.args.interval in
     let satellites : StandForSatellites c.as_slice-satellites.result.now interval es =
     subst (λ (xs : List SatelliteCounts). StandForSatellites xs interval es) (sym c.as_slice-satellites.ensures.value) stands.satellites in
-    let ended : StandForEnded c.as_slice-ended.result.now interval es =
-    subst (λ (xs : List EndedPass). StandForEnded xs interval es) (sym c.as_slice-ended.ensures.value) stands.ended in
-    text-is c.args.form c.args.marker.now c.args.codes.now c.args.first c.args.last c.args.interval es c.civil-from.result c.civil-until.result c.satellites_in-seen.result c.args.counts.now.records c.args.counts.now.gaps.count c.station_sums-sums.result
-    _ _ _ _ _ _ _ _ (reading_is _ _ c.civil-from.ensures.reading) (reading_is _ _ c.civil-until.ensures.reading) (c.satellites_in-seen.ensures interval es satellites) stands.records stands.gaps.count (c.station_sums-sums.ensures interval es satellites)
+    let listed : ListedCounts = record { gaps = c.args.counts.now.gaps.count; moments = c.args.counts.now.moments.count } in
+    text-is c.args.form c.args.marker.now c.args.codes.now c.args.first c.args.last c.args.interval es c.civil-from.result c.civil-until.result c.satellites_in-seen.result c.args.counts.now.records listed c.station_sums-sums.result
+    _ _ _ (reading_is _ _ c.civil-from.ensures.reading) (reading_is _ _ c.civil-until.ensures.reading) (c.satellites_in-seen.ensures interval es satellites) stands.records (listed-are interval (unit_of interval) es _ _ stands.gaps.count stands.moments.count) (c.station_sums-sums.ensures interval es satellites)
     (c.in_ok-put_heading.ensures
-    ∙ ap (λ (t : List ℕ). t ++ heading_text c.args.form c.args.marker.now c.civil-from.result c.civil-until.result c.args.interval c.satellites_in-seen.result c.args.counts.now.records c.args.counts.now.gaps.count c.station_sums-sums.result) c.new-text.ensures.items)
-    (c.in_ok-put_codes.ensures interval es satellites) (c.in_ok-put_section.ensures interval es satellites ended) (c.in_ok-put_section-2.ensures interval es satellites ended)
-    (c.in_ok-put_section-3.ensures interval es satellites ended) (c.in_ok-put_section-4.ensures interval es satellites ended)
-    (c.in_ok-put_station_lines.ensures interval (unit_of interval) es stands) c.in_ok-put_close.ensures
+    ∙ ap (λ (t : List ℕ). t ++ heading_text c.args.form c.args.marker.now c.civil-from.result c.civil-until.result c.args.interval c.satellites_in-seen.result c.args.counts.now.records listed c.station_sums-sums.result) c.new-text.ensures.items)
+    (c.in_ok-put_body.ensures interval (unit_of interval) es stands) c.in_ok-put_close.ensures

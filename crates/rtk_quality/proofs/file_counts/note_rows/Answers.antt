@@ -1,15 +1,19 @@
-use Rattle.std.proofs.Common.{◌≡◌, ◌<◌, ◌≤◌, ◌+◌, ◌-◌, ◌∷◌, ◌∙◌, ℕ, List, length, get_or, sym, ap, subst, length-set, arith, Option}
-use Rattle.std.proofs.lemmas.List.{take_all, at_drop_all}
+use Rattle.std.proofs.Common.{◌≡◌, ◌<◌, ◌≤◌, ◌+◌, ◌-◌, ◌∷◌, ◌++◌, ◌∙◌, ℕ, List, length, get_or, sym, ap, subst, length-set, arith, Option}
+use Rattle.std.proofs.lemmas.List.{append-nil, take_all, at_drop_all}
 use Rattle.rtk_rinex.proofs.PublicLaws.{reading_is}
 use Rattle.rtk_rinex.specs.Record.{EpochTableView, IsSatelliteRow}
 use Rattle.rtk_rinex.specs.declared.epoch_table.SatelliteRow.{SatelliteRow}
 use Rattle.rtk_tracking.specs.Epochs.{newest_moment}
 use Rattle.rtk_tracking.specs.Passes.{sightings_of}
+use Rattle.rtk_quality.specs.Largest.{AreLargest}
+use Rattle.rtk_quality.specs.Moments.{together_in}
+use Rattle.rtk_quality.specs.Outages.{outages_in, size_of_outage}
+use Rattle.rtk_quality.specs.declared.outages.Outage.{Outage}
 use Rattle.rtk_quality.specs.Steps.Noted.{locks_onto}
 use Rattle.rtk_quality.specs.declared.hours.Locks.{Locks}
 use Rattle.rtk_quality.specs.Standing.{absent_at, without_rows, StandsForSatellite, StandForSatellites, StandForEnded}
 use Rattle.rtk_quality.specs.declared.satellite_counts.SatelliteCounts.{SatelliteCounts}
-use Rattle.rtk_quality.proofs.RowLemmas.{all-rows, IsRowAt, record-is, row-due, row-noted, row-ended, locks-more}
+use Rattle.rtk_quality.proofs.RowLemmas.{all-rows, IsRowAt, record-is, row-due, row-noted, row-ended, locks-more, outages-more, together-more}
 use Rattle.rtk_quality.proofs.file_counts.note_rows.Goals as goal
 
 pub loop-row-init : goal.loop-row-init
@@ -18,6 +22,8 @@ loop-row-init c = record {
   satellites = λ es last stand. stand;
   ended = λ es last stand ended. ended;
   locks = λ es last stand. ap (λ (x : Locks). locks_onto c.args.interval es c.args.epoch.now.time x c.args.epoch.now.rows) (sym c.none-locks.ensures);
+  outages = λ es all last stand are. subst (λ (xs : List Outage). AreLargest size_of_outage c.args.outages.now xs) (sym (append-nil all)) are;
+  together = λ es last stand. c.none-together.ensures;
 }
 
 pub note_row-notes-requires : goal.note_row-notes-requires
@@ -40,6 +46,8 @@ loop-row-preserved c =
     let stands = rw (c.time-time.ensures, c.as_slice-observed.ensures.value) at c.note_row-notes.ensures.stands in
     let ends = rw (c.time-time.ensures, c.as_slice-observed.ensures.value) at c.note_row-notes.ensures.ended in
     let tells = rw (c.time-time.ensures, c.as_slice-observed.ensures.value) at c.note_row-notes.ensures.locks in
+    let absent = rw (c.time-time.ensures, c.as_slice-observed.ensures.value) at c.note_row-notes.ensures.absence in
+    let tracked = rw c.as_slice-observed.ensures.value at c.note_row-notes.ensures.tracked in
     let was : (es : List EpochTableView) → c.args.record_ms ≡ newest_moment es → StandForSatellites c.args.satellites.now.items interval (without_rows e.time ∷ es)
     → StandsForSatellite (get_or items place _) interval (absent_at e.time ∷ sightings_of r.satellite es) =
     λ es last stand. row-due e i place r items _ interval es at number few (c.loop-row.invariant.satellites es last stand) in
@@ -56,6 +64,15 @@ loop-row-preserved c =
           ∙ locks-more e i r interval es c.loop-row.locks c.note_row-notes.result.locks c.plus-locks.result at
           (tells (sightings_of r.satellite es) (subst (λ (s : SatelliteCounts). StandsForSatellite s interval (absent_at e.time ∷ sightings_of r.satellite es)) (sym c.index_mut.ensures.value) (was es last stand)) (last ∙ record-is r.satellite es))
           c.plus-locks.ensures;
+      outages = λ es all last stand are.
+          outages-more e i r interval es c.note_row-notes.result.absence c.outage_of.result c.loop-row.outages c.note_if_any.new.self all at
+          (absent (sightings_of r.satellite es) (subst (λ (s : SatelliteCounts). StandsForSatellite s interval (absent_at e.time ∷ sightings_of r.satellite es)) (sym c.index_mut.ensures.value) (was es last stand)) (last ∙ record-is r.satellite es))
+          c.outage_of.ensures (c.loop-row.invariant.outages es all last stand are) c.in_ok-note_if_any.ensures;
+      together = λ es last stand.
+          together-more e i r interval es c.note_row-notes.result.locks.slips c.note_row-notes.result.is_tracked c.loop-row.together c.plus-together.result at
+          (ap (λ (l : Locks). l.slips)
+          (tells (sightings_of r.satellite es) (subst (λ (s : SatelliteCounts). StandsForSatellite s interval (absent_at e.time ∷ sightings_of r.satellite es)) (sym c.index_mut.ensures.value) (was es last stand)) (last ∙ record-is r.satellite es)))
+          tracked (c.loop-row.invariant.together es last stand) c.plus-together.ensures;
     }
 
 pub returns-clause-satellites : goal.returns-clause-satellites
@@ -78,3 +95,17 @@ returns-clause-locks c = λ es last stand.
     let long : length e.rows ≤ c.loop-row.row-index = rw c.rows-row-items.ensures.value at c.loop-row-test.false in
     sym (c.loop-row.invariant.locks es last stand
     ∙ at_drop_all (λ (rows : List SatelliteRow). locks_onto c.args.interval es e.time c.loop-row.locks rows) e.rows c.loop-row.row-index long)
+
+pub returns-clause-outages : goal.returns-clause-outages
+returns-clause-outages c = λ es all last stand are.
+    let e : EpochTableView = c.args.epoch.now in
+    let long : length e.rows ≤ c.loop-row.row-index = rw c.rows-row-items.ensures.value at c.loop-row-test.false in
+    subst (λ (rows : List SatelliteRow). AreLargest size_of_outage c.loop-row.outages (all ++ outages_in c.args.interval es e.time rows))
+    (take_all c.loop-row.row-index e.rows long) (c.loop-row.invariant.outages es all last stand are)
+
+pub returns-clause-together : goal.returns-clause-together
+returns-clause-together c = λ es last stand.
+    let e : EpochTableView = c.args.epoch.now in
+    let long : length e.rows ≤ c.loop-row.row-index = rw c.rows-row-items.ensures.value at c.loop-row-test.false in
+    c.loop-row.invariant.together es last stand
+    ∙ ap (λ (rows : List SatelliteRow). together_in c.args.interval es e.time rows) (take_all c.loop-row.row-index e.rows long)

@@ -1,6 +1,10 @@
-use Rattle.std.proofs.Common.{◌≡◌, ◌∷◌, List, length, drop}
+use Rattle.std.proofs.Common.{◌≡◌, ◌∷◌, ◌++◌, List, length, take, drop}
 use Rattle.rtk_rinex.specs.Record.{EpochTableView}
 use Rattle.rtk_tracking.specs.Epochs.{newest_moment}
+use Rattle.rtk_quality.specs.Largest.{AreLargest}
+use Rattle.rtk_quality.specs.Moments.{together_in}
+use Rattle.rtk_quality.specs.Outages.{outages_in, size_of_outage}
+use Rattle.rtk_quality.specs.declared.outages.Outage.{Outage}
 use Rattle.rtk_quality.specs.Steps.Noted.{no_locks, locks_onto}
 use Rattle.rtk_quality.specs.Standing.{without_rows, StandForSatellites, StandForEnded}
 use Rattle.rtk_quality.proofs.RowLemmas.{first_rows}
@@ -15,4 +19,8 @@ invariant-loop-row l = record {
       → StandForEnded l.ended.items l.interval (first_rows l.epoch l.row-index ∷ es);
   locks : (es : List EpochTableView) → l.record_ms ≡ newest_moment es → StandForSatellites l.fn.satellites.items l.interval (without_rows l.epoch.time ∷ es)
       → locks_onto l.interval es l.epoch.time no_locks l.epoch.rows ≡ locks_onto l.interval es l.epoch.time l.locks (drop l.row-index l.epoch.rows);
+  outages : (es : List EpochTableView) (all : List Outage) → l.record_ms ≡ newest_moment es → StandForSatellites l.fn.satellites.items l.interval (without_rows l.epoch.time ∷ es)
+      → AreLargest size_of_outage l.fn.outages all → AreLargest size_of_outage l.outages (all ++ outages_in l.interval es l.epoch.time (take l.row-index l.epoch.rows));
+  together : (es : List EpochTableView) → l.record_ms ≡ newest_moment es → StandForSatellites l.fn.satellites.items l.interval (without_rows l.epoch.time ∷ es)
+      → l.together ≡ together_in l.interval es l.epoch.time (take l.row-index l.epoch.rows);
 }

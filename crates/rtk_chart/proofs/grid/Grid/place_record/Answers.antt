@@ -1,4 +1,4 @@
-use Rattle.std.proofs.Common.{◌≡◌, ◌∷◌, ℕ, List, Some, sym, ap, subst, ◌∙◌, Option}
+use Rattle.std.proofs.Common.{◌≡◌, ℕ, List, Some, sym, ap, subst, ◌∙◌, Option}
 use Rattle.rtk_rinex.specs.Record.{EpochTableView}
 use Rattle.rtk_tracking.specs.Epochs.{newest_moment}
 use Rattle.rtk_tracking.specs.Passes.{is_slip, is_rise, is_return}
@@ -25,6 +25,7 @@ returns-clause-grid c = λ es stands.
       outages = c.note_outages.ensures.noted es (subst (λ (ps : List Pass). StandForPasses ps interval es) (sym t.passes) stands.passes) record_is
           (ap (λ v. v.items) t.outages ∙ stands.outages);
       passes = c.note_passes.ensures es (subst (λ (ps : List Pass). StandForPasses ps interval es) (sym t.passes) stands.passes) record_is;
+      strengths = c.note_strengths.ensures es (ap (λ v. v.items) t.strengths ∙ stands.strengths);
       slips = capped-more c.saturating_add-self.result c.count_missing.new.self.slips c.slips.result (times_in (is_slip interval) es) (times_in_epoch (is_slip interval) es e)
           c.saturating_add-self.ensures (t.slips ∙ stands.slips) (c.slips.ensures ∙ slips-called interval es e c.of-called.result called);
       returns = capped-more c.saturating_add-self-2.result c.count_missing.new.self.returns c.returns.result (times_in (is_return interval) es) (times_in_epoch (is_return interval) es e)

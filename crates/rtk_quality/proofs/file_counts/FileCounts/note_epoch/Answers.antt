@@ -1,6 +1,8 @@
 use Rattle.std.proofs.Common.{◌≡◌, ◌∙◌, ℕ, Option, ap}
 use Rattle.rtk_tracking.specs.Epochs.{newest_moment}
+use Rattle.rtk_quality.specs.Outages.{all_outages}
 use Rattle.rtk_quality.specs.declared.record_counts.RecordCounts.{RecordCounts}
+use Rattle.rtk_quality.proofs.EventLemmas.{moments-noted}
 use Rattle.rtk_quality.proofs.GapLemmas.{gaps-noted}
 use Rattle.rtk_quality.proofs.HourLemmas.{hours-noted}
 use Rattle.rtk_quality.proofs.file_counts.FileCounts.note_epoch.Goals as goal
@@ -13,11 +15,14 @@ returns-clause-counts c = λ es stands.
     let time : ℕ = c.args.epoch.now.time in
     let fresh = c.note_satellites.ensures.satellites interval time es stands.satellites in
     record {
-      records = c.note_record-3.ensures es stands.records;
-      satellites = c.in_ok-locks.ensures.satellites es record_ms fresh;
-      ended = c.in_ok-locks.ensures.ended es record_ms fresh stands.ended;
+      records = c.note_record-2.ensures es stands.records;
+      satellites = c.in_ok-notes.ensures.satellites es record_ms fresh;
+      ended = c.in_ok-notes.ensures.ended es record_ms fresh stands.ended;
       hours = hours-noted interval c.args.unit_ms c.args.codes.now c.args.epoch.now es c.args.self.now.records.last _ c.args.self.now.hours _
-          last (c.in_ok-locks.ensures.locks es record_ms fresh) stands.hours c.in_ok-note_record.ensures;
-      gaps = gaps-noted c.args.unit_ms c.args.epoch.now es c.args.self.now.records.last c.time.result c.args.self.now.gaps _ last c.time.ensures stands.gaps
-          c.in_ok-note_record-2.ensures;
+          last (c.in_ok-notes.ensures.locks es record_ms fresh) stands.hours c.in_ok-note_record.ensures;
+      gaps = gaps-noted c.args.unit_ms c.args.epoch.now es c.args.self.now.records.last c.time.result c.gap_between.result c.args.self.now.gaps _ last c.time.ensures
+          c.gap_between.ensures stands.gaps c.in_ok-note_if_any.ensures;
+      outages = c.in_ok-notes.ensures.outages es (all_outages interval es) record_ms fresh stands.outages;
+      moments = moments-noted interval c.args.epoch.now es c.time-2.result _ c.moment_if_several.result c.args.self.now.moments _ c.time-2.ensures
+          (c.in_ok-notes.ensures.together es record_ms fresh) c.moment_if_several.ensures stands.moments c.in_ok-note_if_any-2.ensures;
     }

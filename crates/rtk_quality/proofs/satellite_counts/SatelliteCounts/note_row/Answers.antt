@@ -12,6 +12,7 @@ use Rattle.rtk_quality.specs.Standing.{newest_pass, with_epoch}
 use Rattle.rtk_quality.specs.declared.hours.Locks.{Locks}
 use Rattle.rtk_quality.specs.declared.pass_sums.PassSums.{PassSums}
 use Rattle.rtk_quality.specs.declared.satellite_counts.PassCounts.{PassCounts}
+use Rattle.rtk_quality.proofs.EventLemmas.{absence-is, no-absence}
 use Rattle.rtk_quality.proofs.CountLemmas.{before-row, same-passes, last-more, within-more}
 use Rattle.rtk_quality.proofs.satellite_counts.SatelliteCounts.note_row.Goals as goal
 
@@ -114,3 +115,17 @@ returns-clause-locks c = λ before absent last.
   where
     locks : ℕ → ℕ → Locks
     locks slips returns = record { slips = slips; returns = returns }
+
+pub returns-then-not-has_phase-clause-absence : goal.returns-then-not-has_phase-clause-absence
+returns-then-not-has_phase-clause-absence c = λ before absent last.
+    let s : Sighting = record { time = c.args.time; observed = c.args.observed.now } in
+    no-absence c.args.interval before s (sym c.has_phase.ensures ∙ c.if-not-has_phase.true)
+
+pub returns-clause-absence : goal.returns-clause-absence
+returns-clause-absence c = λ before absent last.
+    let stands = before-row c.args.self.now c.args.interval c.args.time before absent in
+    let interval : Option ℕ = c.args.interval in
+    let s : Sighting = record { time = c.args.time; observed = c.args.observed.now } in
+    let outage : c.outage_ms-outage_ms.result ≡ outage_before interval before s =
+    c.outage_ms-outage_ms.ensures before stands.pass last ∙ ap (λ (t : ℕ). outage_before interval before (record { time = t; observed = c.args.observed.now })) c.ms-time_ms.ensures.value in
+    c.absence_after-absence.ensures ∙ absence-is interval before s c.args.self.now.last c.args.reading c.outage_ms-outage_ms.result stands.last c.requires outage
