@@ -204,7 +204,7 @@ def text_picture(text: str, width: int, chosen: set[str] | None = None) -> str:
     out.append("GPS")
     for name in it.names:
         out.append(f"{name}|{''.join(character(part, name, it.had[name], c in it.out[name]) for c, part in enumerate(it.parts))}|")
-    out.append(f"gap|{''.join('x' if c in it.gaps else ' ' for c in range(it.columns))}|")
+    out.append(f"gap|{''.join('/' if c in it.gaps and part else 'x' if c in it.gaps else ' ' for c, part in enumerate(it.parts))}|")
     ticks = it.ticks(12 * it.length)
     out.append("    " + "".join("+" if c in ticks else "-" for c in range(it.columns)))
     labels = [" "] * width
@@ -225,7 +225,7 @@ def text_picture(text: str, width: int, chosen: set[str] | None = None) -> str:
 SIGNS = [
     "S slip  H half cycle  B S and H",
     "R rise  r return  o outage",
-    "- code missing  x epochs missing",
+    "- code missing  x epochs missing  / some",
     "1-9 strength, 5 is 30-35 dB-Hz  . none",
 ]
 
