@@ -453,7 +453,6 @@ record-beyond s e es recorded place at beyond are =
     let apart : bin_at s e.time ≢ k = omega (arith, at, beyond, many, lt) in
     ap (λ xs. get_or xs k false) are ∙ get_or-map-range_with_len (has_record s es) 0 s.bins k k false lt here ∙ record-other s e es k apart)
 
-
 pub gaps-more : (s : Scale) (e : EpochTableView) (es : List EpochTableView) (last : Option ℕ) (time : ℕ) (old new : List Bool)
     → last ≡ newest_moment es → time ≡ e.time → old ≡ gaps_of s es → AddsMarks (has_missing_before s last time) old new
     → new ≡ gaps_of s (e ∷ es)
