@@ -178,8 +178,8 @@ class Drawn:
         """The column of the interval that is nearest to a time."""
         return (time - self.first + self.half) // self.length
 
-    def ticks(self, least: int) -> dict[int, str]:
-        """What stands at the ticks, by their columns; they are so far apart at least."""
+    def ticks(self, least: int) -> dict[int, tuple[str, bool]]:
+        """What stands at the ticks, by their columns, and whether it is at an odd multiple of the step; they are so far apart at least."""
         step = next((s for s in STEPS if s >= least), -(-least // DAY) * DAY)
         ticks = {}
         for c in range(self.columns):
@@ -187,7 +187,7 @@ class Drawn:
             end = min(begin + self.length - 1, self.last)
             if end // step * step >= begin:
                 label = moment(end // step * step)
-                ticks[c] = label[:10] if step >= DAY else label[11:19]
+                ticks[c] = label[:10] if step >= DAY else label[11:19], end // step % 2 == 1
         return ticks
 
 
@@ -204,12 +204,12 @@ def text_picture(text: str, width: int, chosen: set[str] | None = None) -> str:
     out.append("GPS")
     for name in it.names:
         out.append(f"{name}|{''.join(character(part, name, it.had[name], c in it.out[name]) for c, part in enumerate(it.parts))}|")
-    out.append(f"gap|{''.join('x' if c in it.gaps else ' ' for c in range(it.columns))}|")
+    out.append(f"gap|{''.join('/' if c in it.gaps and part else 'x' if c in it.gaps else ' ' for c, part in enumerate(it.parts))}|")
     ticks = it.ticks(12 * it.length)
     out.append("    " + "".join("+" if c in ticks else "-" for c in range(it.columns)))
     labels = [" "] * width
     end = it.columns
-    for c, label in ticks.items():
+    for c, (label, _) in ticks.items():
         if 4 + c + len(label) <= width:
             labels[c : c + len(label)] = label
             end = max(end, c + len(label))
@@ -225,7 +225,7 @@ def text_picture(text: str, width: int, chosen: set[str] | None = None) -> str:
 SIGNS = [
     "S slip  H half cycle  B S and H",
     "R rise  r return  o outage",
-    "- code missing  x epochs missing",
+    "- code missing  x epochs missing  / some",
     "1-9 strength, 5 is 30-35 dB-Hz  . none",
 ]
 
@@ -233,7 +233,7 @@ SIGNS = [
 # pins: edge_of, middle_of, run_part, mark_part, path_start, runs_path, marks_path, level_path
 # pins: outage_boxes, missing_paths, lock_paths, shows, column_numbers, drawn_bar, SvgPicture.code_line, line_if_had, band_height, band_top, band_start, band_text
 # pins: spacing_of, line_top, line_start, code_start, name_start, name_drop
-# pins: band_if_drawn, bands_text, gaps_band, satellites_band, step_part, tick_text, ticks_text, svg_tick_step
+# pins: band_if_drawn, bands_text, gaps_band, satellites_band, step_part, label_start, tick_text, ticks_text, svg_tick_step
 # pins: bins_per_column, strengths_in, mean_of, reach_between, depth_of, depth_part, lane_start, lane_text, lane_height, strip_height, strip_text, Means.number_of
 # pins: interval_text, svg_span, svg_numbers, civil_text, svg_picture, svg_start, svg_body, svg_legend, never_end, never_text, never_name, never_if_lacked
 def svg_picture(text: str, chosen: set[str] | None = None) -> str:
@@ -275,9 +275,9 @@ def svg_picture(text: str, chosen: set[str] | None = None) -> str:
     out += group(110, end + 26, satellites(it))
     for at, lane in enumerate(lanes):
         out += group(110, end + 72 + 46 * at, lane)
-    for c, label in it.ticks((it.columns // 10 + 1) * it.length).items():
+    for c, (label, odd) in it.ticks((it.columns // 10 + 1) * it.length).items():
         out.append(f"<path class='t' d='M{110 + edge(it, c)} 106V{low + 72}'/>")
-        out.append(f"<text class='tick' x='{110 + edge(it, c)}' y='{low + 94}'>{label}</text>")
+        out.append(f"<text class='{'tick odd' if odd else 'tick'}' x='{110 + edge(it, c)}' y='{low + 94}'>{label}</text>")
     return "\n".join([*out, *group(110, low + 104, [LEGEND]), "</svg>\n"])
 
 
@@ -318,7 +318,7 @@ def code_line(it: Drawn, name: str, code: int, row: int, close: bool) -> list[st
     for level in range(10):
         lines += bars(it, f"l{level}", {c for c in phases if least[c] == level}, 10)
     lines += boxes(it, "p", missing & phases, 10, 6) + boxes(it, "m", missing - phases, 16, 12)
-    lines += forms(it, "r", rises, "5l9 5l-9 5z") + forms(it, "a", returns, "5l9 5l-9 5z")
+    lines += forms(it, "r", rises, "5l9 5l-9 5z") + forms(it, "a", returns, "10l-9-5v10z")
     lines += forms(it, "s", slips, "20l-7-21h14z") + forms(it, "h", halves, "8l6 6l-6 6l-6-6z")
     start = f"<g transform='translate(0 {2 + 10 * row})scale(1 .5)'>" if close else f"<g transform='translate(0 {7 + 22 * row})'>"
     return [start, *lines, label, "</g>"]

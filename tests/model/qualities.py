@@ -253,6 +253,48 @@ class Station:
         most = sorted(self.slips_together(), key=lambda it: -it[1])[:10]
         return [("slip-together", [text("", "time", moment(time)), counted("satellites", n), Field("of", "tracked", of)]) for time, n, of in most]
 
+    def bursts(self) -> list[tuple[int, float, str, int]]:
+        """The hours in which a satellite slips in at least two records, the one with most first. Of those alike the one whose satellite
+        slips first in another hour comes first, and those after which it never does come last."""
+        found = []
+        for it in self.satellites:
+            slipping = [at for at, rows in it.shown.items()
+                if any(row.digit & 1 and self.kinds[it.name, c][at] == "slip" for c, row in enumerate(rows))]
+            hours: dict[int, list[int]] = {}
+            for at in slipping:
+                hours.setdefault(self.hour(self.times[at]), []).append(at)
+            for hour, places in hours.items():
+                after = [at for at in slipping if at > places[-1]]
+                if len(places) >= 2:
+                    found.append((-len(places), after[0] if after else float("inf"), it.name, hour))
+        return sorted(found)
+
+    def half_runs(self) -> list[tuple[int, float, str, int, int]]:
+        """The runs of records of a pass in which a satellite has a half cycle, the longest first. Of those alike the one comes first that
+        ends first, as its satellite has a phase without a half cycle or begins a pass, and those that never end come last."""
+        found = []
+        for it in self.satellites:
+            phases = [(at, number) for number, row in enumerate(it.spans) for span in row for at, _ in span]
+            run: list[int] = []
+            last = None
+            for at, number in [*phases, (None, None)]:
+                half = at is not None and any(row.digit & 2 for row in it.shown[at])
+                if run and (number != last or not half):
+                    found.append((-len(run), float("inf") if at is None else at, it.name, self.times[run[0]], self.times[run[-1]]))
+                    run = []
+                run, last = [*run, at] if half else [], number
+        return sorted(found)
+
+    def events(self) -> list[tuple[str, list[Field]]]:
+        bursts = [("burst", [text("", "satellite", name), text("hour", "hour", moment(hour * HOUR)), counted("moments", -n)])
+            for n, _, name, hour in self.bursts()[:10]]
+        return bursts + [("half-run", [
+            text("", "satellite", name),
+            text("from", "from", moment(since)),
+            text("until", "until", moment(until)),
+            counted("epochs", -n),
+        ]) for n, _, name, since, until in self.half_runs()[:10]]
+
     def falls(self) -> list[tuple[str, list[Field]]]:
         lines: list[tuple[str, list[Field]]] = []
         for band in self.bands:
@@ -299,6 +341,8 @@ def entries_of(file: str) -> tuple[list[Field], list[tuple[str, list[Field]]]]:
         counted("greatest-satellites", max(counts)),
         *(one[0]._replace(value=sum(it.value for it in one)) for one in list(zip(*sums.values()))[1:]),
         counted("slips-together", len(station.slips_together())),
+        counted("bursts", len(station.bursts())),
+        counted("half-runs", len(station.half_runs())),
     ]
     out: list[tuple[str, list[Field]]] = []
     for c, code in enumerate(codes):
@@ -318,7 +362,7 @@ def entries_of(file: str) -> tuple[list[Field], list[tuple[str, list[Field]]]]:
             span = [text("from", "from", moment(row[0][0][1])), text("until", "until", moment(row[-1][-1][1]))]
             out.append(("pass", [text("", "satellite", it.name), *span, *it.sums([row], interval)]))
     times = station.hours() + station.longest_gaps() + station.falls() + station.longest_outages(interval) + station.largest_slips_together()
-    return heading, out + times
+    return heading, out + times + station.events()
 
 
 def lines(file: str) -> str:
@@ -329,11 +373,12 @@ def lines(file: str) -> str:
 
 
 LISTS = {"code": "codes", "satellite": "satellites", "tracked": "tracked", "never": "never", "pass": "passes", "hour": "hours", "gap": "gaps",
-    "fall": "falls", "outage": "outages", "slip-together": "slips_together"}
+    "fall": "falls", "outage": "outages", "slip-together": "slips_together",
+    "burst": "bursts", "half-run": "half_runs"}
 
-# The lists of times, which stand first in the table. The three with a count in the head have ten entries at most.
-TIMES = ("hour", "gap", "fall", "outage", "slip-together")
-MOST = {"gap": "gaps", "outage": "outages", "slip-together": "slips-together"}
+# The lists of times, which stand first in the table. Those with a count in the head have ten entries at most.
+TIMES = ("hour", "gap", "fall", "outage", "slip-together", "burst", "half-run")
+MOST = {"gap": "gaps", "outage": "outages", "slip-together": "slips-together", "burst": "bursts", "half-run": "half-runs"}
 
 
 def in_json(file: str) -> str:
@@ -369,6 +414,8 @@ TABLES = {
     "gap": ("gap from                until                     missing", ("from 23", "until 23", "missing 10")),
     "outage": ("outage from             until                      time", ("from 19", "until 19", "outage_time_ms 12")),
     "slip-together": ("slips together      satellites    of", ("time 19", "satellites 11", "tracked 6")),
+    "burst": ("burst hour           moments", ("hour 16", "moments 8")),
+    "half-run": ("half from               until                  epochs", ("from 19", "until 19", "epochs 10")),
     "fall": ("band falls from       until                by", ("band 4", "from 16", "until 16", "mean_strength_centidbhz 8")),
 }
 

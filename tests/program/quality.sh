@@ -11,7 +11,7 @@ lines() { quality --lines "$@"; }
 # Its numbers, slip.numbers, were looked up in it by hand, and slip.table has them in columns.
 numbers=$root/tests/program/slip.numbers table=$root/tests/program/slip.table
 cat >json <<'END'
-{"file":{"marker":"BASE","from":"2024-05-17 12:00:00.000","until":"2024-05-17 12:01:00.000","interval_ms":1000,"records":61,"missing":0,"gaps":0,"satellites":2,"least_satellites":1,"mean_satellites_tenths":18,"greatest_satellites":2,"slips":4,"moments":4,"outages":0,"outage_time_ms":0,"slips_together":0},
+{"file":{"marker":"BASE","from":"2024-05-17 12:00:00.000","until":"2024-05-17 12:01:00.000","interval_ms":1000,"records":61,"missing":0,"gaps":0,"satellites":2,"least_satellites":1,"mean_satellites_tenths":18,"greatest_satellites":2,"slips":4,"moments":4,"outages":0,"outage_time_ms":0,"slips_together":0,"bursts":1,"half_runs":2},
 "codes":[
 {"code":"1C","phases":112,"possible":122,"percent_tenths":918,"satellites":2,"tracked":2,"ranges_only":0,"slips":2,"returns":0,"rises":0,"half_cycles":2,"phases_per_slip":56,"least_strength_millidbhz":41500,"mean_strength_centidbhz":4341,"greatest_strength_millidbhz":45000},
 {"code":"2W","phases":112,"possible":122,"percent_tenths":918,"satellites":2,"tracked":2,"ranges_only":0,"slips":2,"returns":0,"rises":0,"half_cycles":0,"phases_per_slip":56,"least_strength_millidbhz":30250,"mean_strength_centidbhz":3284,"greatest_strength_millidbhz":35000}
@@ -42,11 +42,19 @@ cat >json <<'END'
 "outages":[
 ],
 "slips_together":[
+],
+"bursts":[
+{"satellite":"G05","hour":"2024-05-17 12:00:00.000","moments":3}
+],
+"half_runs":[
+{"satellite":"G07","from":"2024-05-17 12:00:10.000","until":"2024-05-17 12:00:10.000","epochs":1},
+{"satellite":"G07","from":"2024-05-17 12:01:00.000","until":"2024-05-17 12:01:00.000","epochs":1}
 ]}
 END
 # pins: counts_of, passes_of, epochs_in_passes, percent_tenths, mean_hundredths
 # pins: padded, lined_up, Lists.closed, satellite_mark, numbers_columns, code_row, tracked_row, pass_row, hour_row, codes_heading
-# pins: section_heading, hours_heading, span_part
+# pins: section_heading, hours_heading, span_part, listed_text, burst_row, burst_line, bursts_heading, run_row, run_line, runs_heading
+# pins: open_run, ended_run, half_runs, half_runs_in, longest_half_runs, last_hour, burst_of, all_bursts, all_bursts_in, largest_bursts
 quality "$file";              leaves quality_of_a_file 0 "$table" /dev/null
 quality stdin <"$file";       leaves quality_of_standard_input 0 "$table" /dev/null
 lines "$file";                leaves quality_in_lines 0 "$numbers" /dev/null
@@ -54,7 +62,7 @@ quality "$file" --lines;      leaves quality_in_lines_after_the_file 0 "$numbers
 quality --json "$file";       leaves quality_in_json 0 json /dev/null
 quality "$file" --json;       leaves quality_in_json_after_the_file 0 json /dev/null
 quality --json stdin <"$file"; leaves quality_of_standard_input_in_json 0 json /dev/null
-python3 -c 'import json, sys; print(*json.load(sys.stdin))' <out >got; echo file codes satellites tracked never passes hours gaps falls outages slips_together >want
+python3 -c 'import json, sys; print(*json.load(sys.stdin))' <out >got; echo file codes satellites tracked never passes hours gaps falls outages slips_together bursts half_runs >want
 same other_programs_read_the_document got want
 
 # Fields in the header change no number.
@@ -69,17 +77,17 @@ quality empty; { echo 'marker B~"\<&>'; printf '%-8s%35s\n' records 0; } >want
 leaves quality_without_records 0 want /dev/null
 lines empty; expect quality_without_records_in_lines 0 "$(printf '%s\n' 'marker B~"\<&>' 'records 0')" ''
 quality --json empty
-printf '%s,\n' '{"file":{"marker":"B~\"\\<&>","records":0}' '"codes":[]' '"satellites":[]' '"tracked":[]' '"never":[]' '"passes":[]' '"hours":[]' '"gaps":[]' '"falls":[]' '"outages":[]' >want
-echo '"slips_together":[]}' >>want
+printf '%s,\n' '{"file":{"marker":"B~\"\\<&>","records":0}' '"codes":[]' '"satellites":[]' '"tracked":[]' '"never":[]' '"passes":[]' '"hours":[]' '"gaps":[]' '"falls":[]' '"outages":[]' '"slips_together":[]' '"bursts":[]' >want
+echo '"half_runs":[]}' >>want
 # pins: no_lists
 leaves quality_without_records_in_json 0 want /dev/null
 
 # A record alone has no interval.
 sed '/^> .* 1.0000000 /,$d' "$file" >one
-lines one; sed '17,$d' out >heading
+lines one; sed '19,$d' out >heading
 printf '%s\n' 'marker BASE' 'from 2024-05-17 12:00:00.000' 'until 2024-05-17 12:00:00.000' 'interval -' 'records 1' 'missing 0' 'gaps 0' \
     'satellites 2' 'least-satellites 2' 'mean-satellites 2.0' 'greatest-satellites 2' 'slips 0' 'moments 0' 'outages 0' \
-    'outage-time 0.000' 'slips-together 0' >want
+    'outage-time 0.000' 'slips-together 0' 'bursts 0' 'half-runs 0' >want
 same quality_of_a_record heading want
 
 # away N: six hours at 1 s of G05 and G07. G05 is away for the last N seconds of each 600 but the last ones, so 35 times, and bit 0
@@ -181,15 +189,48 @@ slips together      satellites    of
 END
 # pins: moment_row, moments_heading
 same quality_of_slips_together_in_a_table got want
-quality --json common; sed -n '/^"slips_together"/,$p' out >got
+quality --json common; sed -n '/^"slips_together"/,/^"bursts"/p' out >got
 cat >want <<'END'
 "slips_together":[
 {"time":"2024-05-17 12:00:20.000","satellites":3,"tracked":3},
 {"time":"2024-05-17 12:00:10.000","satellites":2,"tracked":3},
 {"time":"2024-05-17 12:00:40.000","satellites":2,"tracked":4}
-]}
+],
+"bursts":[
 END
 same quality_of_slips_together_in_json got want
+
+# Two hours and a half of G05 at 30 s, which is away in the second hour for 2,400 s, so a pass begins at 13:50. It slips in its first
+# hour at the minutes 5, 6 and 7, in the second one once and in the third one at 2 and 4. It has half cycles from 12:10 to 12:14:30
+# without the minute 12, again from 13:08 to 13:09:30 and from 13:50 to 13:50:30, where its pass begins, and from 14:25 to the end.
+{
+    sed '/END OF HEADER/q' "$file"
+    awk 'BEGIN {
+        for (s = 0; s < 9000; s += 30) {
+            if (s >= 4200 && s < 6600) there = 0; else there = 1
+            printf "> 2024 05 17 %02d %02d %2d.0000000  0  %d\n", 12 + int(s / 3600), int(s / 60) % 60, s % 60, 1 + there
+            slip = s == 300 || s == 360 || s == 420 || s == 3720 || s == 7320 || s == 7440
+            half = s >= 600 && s < 900 && s != 720 && s != 750 || s >= 4080 && s < 4200 || s >= 6600 && s < 6660 || s >= 8700
+            mark = slip + 2 * half
+            if (there) printf "G05  21085472.060 7 110804903.547%s7        45.000\n", mark ? mark : " "
+            print "G07  22963108.863 6 120671906.430 6        41.500"
+        }
+    }'
+} >runs
+lines runs; grep -E '^(burst|half)' out >got
+cat >want <<'END'
+bursts 2
+half-runs 5
+burst G05 hour 2024-05-17 12:00:00.000 moments 3
+burst G05 hour 2024-05-17 14:00:00.000 moments 2
+half-run G05 from 2024-05-17 14:25:00.000 until 2024-05-17 14:29:30.000 epochs 10
+half-run G05 from 2024-05-17 12:10:00.000 until 2024-05-17 12:11:30.000 epochs 4
+half-run G05 from 2024-05-17 12:13:00.000 until 2024-05-17 12:14:30.000 epochs 4
+half-run G05 from 2024-05-17 13:08:00.000 until 2024-05-17 13:09:30.000 epochs 4
+half-run G05 from 2024-05-17 13:50:00.000 until 2024-05-17 13:50:30.000 epochs 2
+END
+# pins: open_run, ended_run, half_runs, longest_half_runs, last_hour, burst_of, all_bursts, largest_bursts
+same quality_of_bursts_and_half_cycles got want
 
 # Seven records of three hours. The third one lies 20 ms before its hour, and 118 and 60 epochs are missing up to the next hour and in
 # it. 2W has no strength in the second hour. Its strengths fall by 5 from the first hour to the third, and those of 1C by 2 and by 3.

@@ -109,6 +109,12 @@ class Qualities(Case):
         self.assertEqual((found.gaps, found.longest_gaps, found.falls), (1, (rtcm2rinex.Gap(second(39), second(46), 6),), ()))
         self.assertEqual(found.never, ())
         self.assertEqual((found.slips_together, found.longest_outages, found.most_slips_together), (0, (), ()))
+        self.assertEqual((found.bursts, found.largest_bursts), (0, ()))
+        self.assertEqual((found.half_runs, found.longest_half_runs), (1, (rtcm2rinex.HalfRun("G12", second(55), second(58), 4),)))
+
+    def test_a_burst(self) -> None:
+        found = rtcm2rinex.quality(SLIP)
+        self.assertEqual((found.bursts, found.largest_bursts), (1, (rtcm2rinex.Burst("G05", NOON, 3),)))
 
     def test_outages_and_slips_together(self) -> None:
         """G05 and G07 slip together at the second 10. G05 is away from 20 to 199, and G07 is there each second."""
@@ -135,6 +141,7 @@ class Qualities(Case):
         self.assertEqual((found.marker, found.records, found.first, found.codes, found.passes), ("BASE", 0, None, (), ()))
         self.assertEqual((found.gaps, found.slips, found.outage_time, found.tracked, found.hours), (None, None, None, (), ()))
         self.assertEqual((found.slips_together, found.longest_outages, found.most_slips_together), (None, (), ()))
+        self.assertEqual((found.bursts, found.largest_bursts, found.half_runs, found.longest_half_runs), (None, (), None, ()))
 
     def test_a_wrong_file(self) -> None:
         text = (EXAMPLES / "base.rnx").read_bytes().replace(b"45.000", b"45.100")

@@ -15,7 +15,7 @@ use Rattle.rtk_tracking.specs.Interval.{missing_before, missing_in}
 use Rattle.rtk_tracking.specs.declared.passes.Pass.{Pass}
 use Rattle.rtk_chart.specs.Epochs.{sighting_of, is_seen, lacks_phase, has_bit_1, level_at, level_of, times_in_epoch}
 use Rattle.rtk_chart.specs.Scale.{bin_at}
-use Rattle.rtk_chart.specs.Grid.{no_marks, no_tracking, no_bin, code_in, codes_in, tracking_in, trackings_in, bin_in, bins_of, has_missing_before, has_missing, gaps_of, has_outage, outages_of}
+use Rattle.rtk_chart.specs.Grid.{no_marks, no_tracking, no_bin, code_in, codes_in, tracking_in, trackings_in, bin_in, bins_of, has_missing_before, has_missing, gaps_of, has_record, recorded_of, has_outage, outages_of}
 use Rattle.rtk_chart.specs.Steps.Standing.{AddsMarks, StandForPasses}
 use Rattle.rtk_chart.specs.Steps.Shown.{called_for, called_at, both_marks, both_codes, both_trackings, both_satellites, both_bins, tracking_of, bin_of}
 use Rattle.rtk_chart.specs.declared.code_marks.CodeMarks.{CodeMarks}
@@ -422,7 +422,36 @@ fresh-gaps s gaps are =
     fill_by_all (λ c. false) gaps s.bins false (ap (λ xs. length xs) are ∙ length-replicate s.bins false)
     (λ k lt. ap (λ xs. get_or xs k false) are ∙ get_or-replicate s.bins k false false lt)
 
+pub fresh-recorded : (s : Scale) (recorded : List Bool) → recorded ≡ replicate s.bins false → recorded ≡ recorded_of s []
+unfolding recorded_of
+fresh-recorded s recorded are =
+    fill_by_all (λ c. false) recorded s.bins false (ap (λ xs. length xs) are ∙ length-replicate s.bins false)
+    (λ k lt. ap (λ xs. get_or xs k false) are ∙ get_or-replicate s.bins k false false lt)
+
 -- ---- an epoch more
+
+record-other : (s : Scale) (e : EpochTableView) (es : List EpochTableView) (c : ℕ) → bin_at s e.time ≢ c → has_record s es c ≡ has_record s (e ∷ es) c
+record-other s e es c apart = sym (ap (λ (own : Bool). own || has_record s es c) (ne_eqb (bin_at s e.time) c apart))
+
+-- the bin of a record is marked
+pub record-more : (s : Scale) (e : EpochTableView) (es : List EpochTableView) (recorded : List Bool) (place : ℕ)
+    → place ≡ bin_at s e.time → place < length recorded → recorded ≡ recorded_of s es → set recorded place true ≡ recorded_of s (e ∷ es)
+unfolding recorded_of
+record-more s e es recorded place at inside are =
+    let many : length recorded ≡ s.bins = ap (λ xs. length xs) are ∙ length-map-range_with_len (has_record s es) 0 s.bins in
+    set-map (has_record s es) (has_record s (e ∷ es)) recorded s.bins place true false are (omega (arith, inside, many))
+    (sym (ap (λ (own : Bool). own || has_record s es place) (eq-eqb (bin_at s e.time) place (sym at))))
+    (λ k lt other. record-other s e es k (λ same. other (sym same ∙ sym at)))
+
+pub record-beyond : (s : Scale) (e : EpochTableView) (es : List EpochTableView) (recorded : List Bool) (place : ℕ)
+    → place ≡ bin_at s e.time → length recorded ≤ place → recorded ≡ recorded_of s es → recorded ≡ recorded_of s (e ∷ es)
+unfolding recorded_of
+record-beyond s e es recorded place at beyond are =
+    let many : length recorded ≡ s.bins = ap (λ xs. length xs) are ∙ length-map-range_with_len (has_record s es) 0 s.bins in
+    fill_by_all (has_record s (e ∷ es)) recorded s.bins false many (λ k lt.
+    let here : 0 + k ≡ k = omega arith in
+    let apart : bin_at s e.time ≢ k = omega (arith, at, beyond, many, lt) in
+    ap (λ xs. get_or xs k false) are ∙ get_or-map-range_with_len (has_record s es) 0 s.bins k k false lt here ∙ record-other s e es k apart)
 
 pub gaps-more : (s : Scale) (e : EpochTableView) (es : List EpochTableView) (last : Option ℕ) (time : ℕ) (old new : List Bool)
     → last ≡ newest_moment es → time ≡ e.time → old ≡ gaps_of s es → AddsMarks (has_missing_before s last time) old new

@@ -10,7 +10,7 @@ use Rattle.rtk_chart.specs.Epochs.{slips_in, returns_in, rises_in}
 use Rattle.rtk_obs.specs.CivilText.{civil_text}
 use Rattle.rtk_chart.specs.Heading.{interval_lines}
 use Rattle.rtk_tracking.specs.Interval.{missing_in}
-use Rattle.rtk_chart.specs.Grid.{bins_of, outages_of, gaps_of}
+use Rattle.rtk_chart.specs.Grid.{bins_of, outages_of, gaps_of, recorded_of}
 use Rattle.rtk_chart.specs.TextPicture.{satellites_in, named_count_line, moment_line, text_heading, number_lines, text_body, text_picture}
 use Rattle.rtk_chart.specs.SvgPicture.{number_between, interval_text, svg_span, svg_numbers, svg_start, svg_body, spacing_of, never_end, svg_picture}
 use Rattle.rtk_chart.specs.Means.{columns_of}
@@ -269,7 +269,7 @@ svg-headings reads s t es fs hs ht same =
 pub text-begins : (marker : List ℕ) (listed : List Code) (width : ℕ) (s : Scale) (es : List EpochTableView)
     → (rest : List ℕ) × (text_at marker listed width s es ≡ heading_in_text marker s es ++ rest)
 unfolding text_picture
-text-begins marker listed width s es = (text_body listed s width (bins_of s es) (outages_of s es) (gaps_of s es), refl)
+text-begins marker listed width s es = (text_body listed s width (bins_of s es) (outages_of s es) (recorded_of s es) (gaps_of s es), refl)
 
 pub svg-has : (marker : List ℕ) (listed : List Code) (s : Scale) (es : List EpochTableView)
     → (front : List ℕ) × (rest : List ℕ) × (svg_at marker listed s es ≡ front ++ heading_in_svg s es ++ rest)

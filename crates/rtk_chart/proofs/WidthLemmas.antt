@@ -8,9 +8,9 @@ use Rattle.std.proofs.lemmas.List.FromFn.{length-map-range_with_len}
 use Rattle.std.proofs.lemmas.Nat.{mul-le, div-add-mod', mod_below}
 use Rattle.rtk_rinex.specs.Record.{EpochTableView}
 use Rattle.rtk_chart.specs.Scale.{IsScale, unit_of, half_of, intervals_of, scale_of}
-use Rattle.rtk_chart.specs.Grid.{bin_in, bins_of, has_missing, gaps_of}
+use Rattle.rtk_chart.specs.Grid.{bin_in, bins_of, has_missing, gaps_of, recorded_of}
 use Rattle.rtk_chart.specs.Ticks.{tick_at}
-use Rattle.rtk_chart.specs.TextPicture.{character_at, row_head, satellite_row, gap_mark, gap_row, axis_mark, axis_row}
+use Rattle.rtk_chart.specs.TextPicture.{character_at, row_head, satellite_row, gap_mark_at, gap_row, axis_mark, axis_row}
 use Rattle.rtk_chart.specs.Laws.{FillsRoom, FillsWidth}
 use Rattle.rtk_chart.specs.declared.scale.Scale.{Scale}
 use Rattle.rtk_chart.specs.declared.time_bin.TimeBin.{TimeBin}
@@ -67,11 +67,12 @@ row-long bins outages place n many =
     let same : length marks ≡ n = length-map-range_with_len (character_at bins outages place) 0 (length bins) ∙ many in
     three-long (row_head (place + 1)) marks (codes "|\n") ∙ ap (λ (k : ℕ). 4 + k + 2) same ∙ omega arith
 
-gap-long : (gaps : List Bool) (n : ℕ) → length gaps ≡ n → length (gap_row gaps) ≡ n + 6
+gap-long : (recorded gaps : List Bool) (n : ℕ) → length gaps ≡ n → length (gap_row recorded gaps) ≡ n + 6
 unfolding gap_row
-gap-long gaps n many =
-    let same : length (map gap_mark gaps) ≡ n = length-map gaps gap_mark ∙ many in
-    three-long (codes "gap|") (map gap_mark gaps) (codes "|\n") ∙ ap (λ (k : ℕ). 4 + k + 2) same ∙ omega arith
+gap-long recorded gaps n many =
+    let marks : List ℕ = map (gap_mark_at recorded gaps) (range_with_len 0 (length gaps)) in
+    let same : length marks ≡ n = length-map-range_with_len (gap_mark_at recorded gaps) 0 (length gaps) ∙ many in
+    three-long (codes "gap|") marks (codes "|\n") ∙ ap (λ (k : ℕ). 4 + k + 2) same ∙ omega arith
 
 axis-long : (s : Scale) (step : ℕ) → length (axis_row s step) ≡ s.bins + 5
 unfolding axis_row
@@ -89,10 +90,10 @@ unfolding gaps_of
 gaps-many s es = length-map-range_with_len (has_missing s es) 0 s.bins
 
 pub rows-long : (s : Scale) (es : List EpochTableView) (outages : List Bool) (place step : ℕ)
-    → (length (satellite_row (bins_of s es) outages place) ≡ s.bins + 6) × (length (gap_row (gaps_of s es)) ≡ s.bins + 6)
+    → (length (satellite_row (bins_of s es) outages place) ≡ s.bins + 6) × (length (gap_row (recorded_of s es) (gaps_of s es)) ≡ s.bins + 6)
     × (length (axis_row s step) ≡ s.bins + 5)
 rows-long s es outages place step =
-    (row-long (bins_of s es) outages place s.bins (bins-many s es), gap-long (gaps_of s es) s.bins (gaps-many s es), axis-long s step)
+    (row-long (bins_of s es) outages place s.bins (bins-many s es), gap-long (recorded_of s es) (gaps_of s es) s.bins (gaps-many s es), axis-long s step)
 
 -- ---- how wide a column is
 

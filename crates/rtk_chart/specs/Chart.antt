@@ -7,7 +7,7 @@ use Rattle.rtk_chart.specs.Choice.{narrowed}
 use Rattle.rtk_chart.specs.Epochs.{slips_in, returns_in, rises_in}
 use Rattle.rtk_tracking.specs.Interval.{interval_of_file, missing_in}
 use Rattle.rtk_chart.specs.Scale.{scale_of}
-use Rattle.rtk_chart.specs.Grid.{bins_of, outages_of, gaps_of}
+use Rattle.rtk_chart.specs.Grid.{bins_of, outages_of, gaps_of, recorded_of}
 use Rattle.rtk_chart.specs.Means.{columns_of}
 use Rattle.rtk_chart.specs.TextPicture.{text_picture, text_of_none}
 use Rattle.rtk_chart.specs.SvgPicture.{svg_picture, svg_of_none}
@@ -29,7 +29,7 @@ rises_at s es = capped (rises_in s.interval es)
 abbrev pub text_at : List ℕ → List Code → ℕ → Scale → List EpochTableView → List ℕ
 text_at marker listed width s es =
     text_picture marker listed s width (capped (length es)) (slips_at s es) (returns_at s es) (rises_at s es)
-    (capped (missing_in s.unit es)) (bins_of s es) (outages_of s es) (gaps_of s es)
+    (capped (missing_in s.unit es)) (bins_of s es) (outages_of s es) (recorded_of s es) (gaps_of s es)
 
 -- the picture of a file of this marker, these codes and this first time, with this interval, so many
 -- characters wide: five are the labels and the frame

@@ -104,6 +104,16 @@ has_missing s (e ∷ before) c = has_missing_before s (newest_moment before) e.t
 unfoldable pub gaps_of : Scale → List EpochTableView → List Bool
 gaps_of s es = map (has_missing s es) (range_with_len 0 s.bins)
 
+-- formula
+-- an epoch lies in the bin
+abbrev pub has_record : Scale → List EpochTableView → ℕ → Bool
+has_record s [] c = false
+has_record s (e ∷ before) c = (bin_at s e.time == c) || has_record s before c
+
+-- which bins have an epoch
+unfoldable pub recorded_of : Scale → List EpochTableView → List Bool
+recorded_of s es = map (has_record s es) (range_with_len 0 s.bins)
+
 -- ---- outages
 
 -- an outage of a satellite, so many ms long, that ends with the epoch at t lies in the bin: from its first epoch

@@ -91,11 +91,12 @@ missing_paths bins place code =
     ++ runs_layer (codes "m") (codes " 16v-12") (codes "v12z") (layer_flags bins place code Absent)
 
 -- formula
--- a triangle to the right for a rise, a hollow one for a return, one downwards for a slip, and a rhomb for a half cycle
+-- a triangle to the right for a rise, a hollow one for a return, which ends there and so lies over its outage, one downwards
+-- for a slip, and a rhomb for a half cycle
 unfoldable pub lock_paths : List TimeBin → ℕ → ℕ → List ℕ
 lock_paths bins place code =
     marks_layer (codes "r") (codes " 5l9 5l-9 5z") (layer_flags bins place code Rise)
-    ++ marks_layer (codes "a") (codes " 5l9 5l-9 5z") (layer_flags bins place code Return)
+    ++ marks_layer (codes "a") (codes " 10l-9-5v10z") (layer_flags bins place code Return)
     ++ marks_layer (codes "s") (codes " 20l-7-21h14z") (layer_flags bins place code Slip)
     ++ marks_layer (codes "h") (codes " 8l6 6l-6 6l-6-6z") (layer_flags bins place code Half)
 
@@ -288,13 +289,18 @@ satellites_band top bins =
 abbrev pub svg_tick_step : Scale → ℕ
 svg_tick_step s = tick_step ((s.bins / 10 + 1) * s.bin_ms)
 
+-- table
+-- what stands before the place of a label: at an odd multiple of the step its class says so, since a narrow picture leaves it out
+abbrev pub label_start : ℕ → ℕ → List ℕ
+label_start step t = if t / step % 2 == 0 then codes "<text class='tick' x='" else codes "<text class='tick odd' x='"
+
 -- formula
 -- a tick at x: a line down from the top of the bands, and its label
 abbrev pub tick_text : ℕ → ℕ → ℕ → Option ℕ → List ℕ
 tick_text top step x None = []
 tick_text top step x (Some t) =
     number_between (codes "<path class='t' d='M") x (codes " 106V") ++ number_between [] top (codes "'/>\n")
-    ++ number_between (codes "<text class='tick' x='") x (codes "' y='") ++ number_between [] (top + 22) (codes "'>")
+    ++ number_between (label_start step t) x (codes "' y='") ++ number_between [] (top + 22) (codes "'>")
     ++ tick_label step t ++ codes "</text>\n"
 
 -- formula

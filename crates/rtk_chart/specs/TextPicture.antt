@@ -76,13 +76,17 @@ unfoldable pub satellite_rows : List TimeBin → List Bool → List ℕ
 satellite_rows bins outages = flat_map (row_if_drawn bins outages) (range_with_len 0 32)
 
 -- table
--- an x where epochs are missing
-abbrev pub gap_mark : Bool → ℕ
-gap_mark missing = if missing then 120 else 32
+-- an x where epochs are missing and none is there, and a / where some are missing
+abbrev pub gap_mark : Bool → Bool → ℕ
+gap_mark recorded missing = if missing then (if recorded then 47 else 120) else 32
+
+-- the mark of a bin
+abbrev pub gap_mark_at : List Bool → List Bool → ℕ → ℕ
+gap_mark_at recorded gaps c = gap_mark (get_or recorded c false) (get_or gaps c false)
 
 -- formula
-unfoldable pub gap_row : List Bool → List ℕ
-gap_row gaps = codes "gap|" ++ map gap_mark gaps ++ codes "|\n"
+unfoldable pub gap_row : List Bool → List Bool → List ℕ
+gap_row recorded gaps = codes "gap|" ++ map (gap_mark_at recorded gaps) (range_with_len 0 (length gaps)) ++ codes "|\n"
 
 -- ---- time
 
@@ -205,17 +209,17 @@ time_rows s width = axis_row s (text_tick_step s) ++ label_row s width (text_tic
 
 -- formula
 -- what stands below the heading of a picture of this width: what the bins show, and what the signs mean
-unfoldable pub text_body : List Code → Scale → ℕ → List TimeBin → List Bool → List Bool → List ℕ
-text_body listed s width bins outages gaps =
-    codes "GPS\n" ++ satellite_rows bins outages ++ gap_row gaps ++ time_rows s width ++ all_never_lines bins (never_in_line width) 0 listed ++ SIGNS.now
+unfoldable pub text_body : List Code → Scale → ℕ → List TimeBin → List Bool → List Bool → List Bool → List ℕ
+text_body listed s width bins outages recorded gaps =
+    codes "GPS\n" ++ satellite_rows bins outages ++ gap_row recorded gaps ++ time_rows s width ++ all_never_lines bins (never_in_line width) 0 listed ++ SIGNS.now
 
 -- the picture of a file with records: its marker, its codes, its scale, its width, the numbers of its
 -- records, slips, returns, rises and missing epochs, and what its bins show
 unfoldable pub text_picture
-    : List ℕ → List Code → Scale → ℕ → ℕ → ℕ → ℕ → ℕ → ℕ → List TimeBin → List Bool → List Bool → List ℕ
-text_picture marker listed s width records slips returns rises missing bins outages gaps =
+    : List ℕ → List Code → Scale → ℕ → ℕ → ℕ → ℕ → ℕ → ℕ → List TimeBin → List Bool → List Bool → List Bool → List ℕ
+text_picture marker listed s width records slips returns rises missing bins outages recorded gaps =
     text_heading marker s ++ number_lines s records (satellites_in bins) slips returns rises missing
-    ++ text_body listed s width bins outages gaps
+    ++ text_body listed s width bins outages recorded gaps
 
 -- formula
 -- the picture of a file without records

@@ -7,7 +7,7 @@ ghost use Rattle.rtk_rinex.specs.Record.{EpochTableView};
 ghost use Rattle.rtk_tracking.specs.Interval.{missing_before};
 ghost use Rattle.rtk_chart.specs.Scale.{IsScale};
 ghost use Rattle.rtk_tracking.specs.Epochs.{newest_moment};
-ghost use Rattle.rtk_chart.specs.Grid.{bins_of, has_missing_before};
+ghost use Rattle.rtk_chart.specs.Grid.{bins_of, has_missing_before, recorded_of};
 ghost use Rattle.rtk_chart.specs.Steps.Standing.{AddsMarks, CountsMissing, StandForPasses, StandsForGrid};
 ghost use Rattle.rtk_chart.specs.Steps.Shown.{bin_of};
 
@@ -28,6 +28,8 @@ pub(crate) struct Grid {
     pub(crate) outages: Vec<bool>,
     /// Whether an epoch is missing in each bin.
     pub(crate) gaps: Vec<bool>,
+    /// Whether a record lies in each bin.
+    pub(crate) recorded: Vec<bool>,
     /// The strengths of each band, in columns of some bins.
     pub(crate) strengths: Vec<Strengths>,
     pub(crate) missing: u64,
@@ -81,6 +83,19 @@ fn note_in_bin(bins: &mut Vec<TimeBin>, scale: &Scale, moment: u64, called: &Tim
     }
 }
 
+// Marks the bin of a record at a moment.
+fn note_record(recorded: &mut Vec<bool>, scale: &Scale, moment: u64)
+    requires good { IsScale scale.now }
+    requires moment { IsMoment moment }
+    ensures { (e : EpochTableView) (es : List EpochTableView) → moment ≡ e.time
+        → recorded.old.items ≡ recorded_of scale.now es → recorded.new.items ≡ recorded_of scale.now (e ∷ es) }
+{
+    let place = scale.bin_at(moment) as usize;
+    if place < recorded.len() {
+        recorded[place] = true;
+    }
+}
+
 // A moment in ms, if it is there.
 fn ms_of(moment: Option<GpsMs>) -> Option<u64>
     ensures { result ≡ moment }
@@ -124,6 +139,7 @@ impl Grid {
             bins: vec![in alloc; TimeBin::new(); scale.bins as usize]?,
             outages: vec![in alloc; false; 32 * scale.bins as usize]?,
             gaps: vec![in alloc; false; scale.bins as usize]?,
+            recorded: vec![in alloc; false; scale.bins as usize]?,
             strengths: vec![in alloc; Strengths::none(); MOST_COLUMNS]?,
             missing: 0,
             slips: 0,
@@ -143,6 +159,7 @@ impl Grid {
         ensures slips { self.new.slips ≡ self.old.slips }
         ensures returns { self.new.returns ≡ self.old.returns }
         ensures rises { self.new.rises ≡ self.old.rises }
+        ensures recorded { self.new.recorded ≡ self.old.recorded }
         ensures strengths { self.new.strengths ≡ self.old.strengths }
         ensures size { length self.new.gaps.items ≡ length self.old.gaps.items }
         ensures missing { CountsMissing self.old self.new scale.now epoch.now }
@@ -174,6 +191,7 @@ impl Grid {
         self.returns = self.returns.saturating_add(called.returns());
         self.rises = self.rises.saturating_add(called.rises());
         note_in_bin(&mut self.bins, scale, epoch.time().ms(), &called);
+        note_record(&mut self.recorded, scale, epoch.time().ms());
         note_strengths(&mut self.strengths, scale, codes, epoch);
         note_outages(&mut self.outages, scale, &self.passes, record_ms, epoch);
         note_passes(&mut self.passes, interval, record_ms, epoch);

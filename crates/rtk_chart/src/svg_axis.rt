@@ -2,7 +2,7 @@
 
 ghost use Rattle.std.specs.Prelude.{◌≡◌, ◌≤◌, ◌<◌, ◌+◌, ◌*◌, ◌/◌, ◌++◌, length, OnOk};
 ghost use Rattle.rtk_chart.specs.Scale.{IsScale, longest_bin};
-ghost use Rattle.rtk_chart.specs.SvgPicture.{gaps_band, satellites_band, tick_text, svg_tick_step, ticks_text};
+ghost use Rattle.rtk_chart.specs.SvgPicture.{gaps_band, satellites_band, label_start, tick_text, svg_tick_step, ticks_text};
 
 use crate::scale::Scale;
 use crate::svg_layers::put_runs_layer;
@@ -56,6 +56,18 @@ pub(crate) fn put_satellites(
     Ok(())
 }
 
+// What stands before the place of a label. A narrow picture has room for each second one.
+fn label_start(step: u64, moment: GpsMs) -> &'static [u8]
+    requires { 0 < step }
+    ensures { result.now ≡ label_start step moment }
+{
+    if moment.ms() / step % 2 == 0 {
+        b"<text class='tick' x='"
+    } else {
+        b"<text class='tick odd' x='"
+    }
+}
+
 // A line at a tick, from below the heading through all bands, and its label under the line.
 fn put_tick(
     text: &mut Vec<u8>,
@@ -64,7 +76,8 @@ fn put_tick(
     x: u64,
     tick: Option<GpsMs>,
 ) -> Result<(), AllocError>
-    requires { top ≤ 12_446 }
+    requires top { top ≤ 12_446 }
+    requires step { 0 < step }
     ensures { OnOk result (text.new.items ≡ text.old.items ++ tick_text top step x tick) }
 {
     let Some(moment) = tick else {
@@ -72,7 +85,7 @@ fn put_tick(
     };
     put_between(text, b"<path class='t' d='M", x, b" 106V")?;
     put_between(text, b"", top, b"'/>\n")?;
-    put_between(text, b"<text class='tick' x='", x, b"' y='")?;
+    put_between(text, label_start(step, moment), x, b"' y='")?;
     put_between(text, b"", top + 22, b"'>")?;
     put_tick_label(text, step, moment)?;
     text.extend_from_slice(b"</text>\n")?;

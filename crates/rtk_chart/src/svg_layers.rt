@@ -169,7 +169,7 @@ pub(crate) fn put_locks(
     let slips = flags(alloc, bins, place, code, Layer::Slip)?;
     let halves = flags(alloc, bins, place, code, Layer::Half)?;
     put_marks_layer(text, b"r", b" 5l9 5l-9 5z", rises.as_slice())?;
-    put_marks_layer(text, b"a", b" 5l9 5l-9 5z", returns.as_slice())?;
+    put_marks_layer(text, b"a", b" 10l-9-5v10z", returns.as_slice())?;
     put_marks_layer(text, b"s", b" 20l-7-21h14z", slips.as_slice())?;
     put_marks_layer(text, b"h", b" 8l6 6l-6 6l-6-6z", halves.as_slice())?;
     Ok(())

@@ -39,7 +39,7 @@ pub(crate) const STYLE: &[u8] = b"<style>\
 .s{fill:#ffb070!important}.g{stroke:#fff!important}\
 .r{fill:#fff!important}.r,.s{stroke:#111!important}}\
 @media (max-width:700px){\
-text{font-size:30px!important}.tick{font-size:32px!important}.tick:nth-of-type(2n+1){display:none!important}\
+text{font-size:30px!important}.tick{font-size:32px!important}.odd{display:none!important}\
 .marker{font-size:38px!important}.name{font-size:34px!important}\
 .code{font-size:19px!important}g>g>.code{font-size:22px!important}.never,.side{font-size:20px!important}\
 .low{font-size:24px!important}.tiny{display:none!important}}\
@@ -78,16 +78,16 @@ pub(crate) const LEGEND: &[u8] = b"<text y='16'>GPS time</text>\
 <g transform='translate(250 38)'><path class='l8' d='M0 10H30'/><path class='p' d='M0 10v-6H30v6z'/><text x='40' y='18'>code missing in some epochs</text></g>\
 <g transform='translate(800 38)'><path class='m' d='M0 16v-12H30v12z'/><text x='40' y='18'>in all</text></g>\
 <text y='94'>least strength, dB-Hz</text>\
-<path class='l0' d='M310 87h36'/><text x='352' y='94'>none</text>\
-<path class='l1' d='M430 87h36'/><text x='472' y='94'>&lt;12</text>\
-<path class='l2' d='M550 87h36'/><text x='592' y='94'>12</text>\
-<path class='l3' d='M660 87h36'/><text x='702' y='94'>18</text>\
-<path class='l4' d='M770 87h36'/><text x='812' y='94'>24</text>\
-<path class='l5' d='M880 87h36'/><text x='922' y='94'>30</text>\
-<path class='l6' d='M990 87h36'/><text x='1032' y='94'>36</text>\
-<path class='l7' d='M1100 87h36'/><text x='1142' y='94'>42</text>\
-<path class='l8' d='M1210 87h36'/><text x='1252' y='94'>48</text>\
-<path class='l9' d='M1320 87h36'/><text x='1362' y='94'>54</text>\n";
+<path class='l0' d='M370 87h36'/><text x='412' y='94'>none</text>\
+<path class='l1' d='M490 87h36'/><text x='532' y='94'>&lt;12</text>\
+<path class='l2' d='M610 87h36'/><text x='652' y='94'>12</text>\
+<path class='l3' d='M720 87h36'/><text x='762' y='94'>18</text>\
+<path class='l4' d='M830 87h36'/><text x='872' y='94'>24</text>\
+<path class='l5' d='M940 87h36'/><text x='982' y='94'>30</text>\
+<path class='l6' d='M1050 87h36'/><text x='1092' y='94'>36</text>\
+<path class='l7' d='M1160 87h36'/><text x='1202' y='94'>42</text>\
+<path class='l8' d='M1270 87h36'/><text x='1312' y='94'>48</text>\
+<path class='l9' d='M1380 87h36'/><text x='1422' y='94'>54</text>\n";
 
 // A file of one record has no interval, and so no column with a length.
 fn put_interval_words(

@@ -1,6 +1,6 @@
 //! A picture in characters.
 
-ghost use Rattle.std.specs.Prelude.{◌≡◌, ◌≤◌, ◌<◌, ◌++◌, ℕ, Bool, length, OnOk, IfOk};
+ghost use Rattle.std.specs.Prelude.{◌≡◌, ◌≤◌, ◌<◌, ◌++◌, ℕ, Bool, false, length, get_or, OnOk, IfOk};
 ghost use Rattle.rtk_tracking.specs.Standing.{AreMarked};
 ghost use Rattle.rtk_chart.specs.Scale.{IsScale};
 ghost use Rattle.rtk_chart.specs.TextPicture.{strength_mark, phase_mark, character_of, satellite_row, row_if_drawn, satellite_rows, drawn_before, gap_mark, gap_row, named_count_line, moment_line, text_heading, text_of_none};
@@ -27,7 +27,7 @@ use std::alloc::{AllocError, Global};
 /// What the signs mean.
 pub(crate) const SIGNS: &[u8] = b"S slip  H half cycle  B S and H\n\
 R rise  r return  o outage\n\
-- code missing  x epochs missing\n\
+- code missing  x epochs missing  / some\n\
 1-9 strength, 5 is 30-35 dB-Hz  . none\n";
 
 fn strength_mark(least: Option<u8>, tracked: bool) -> u8
@@ -129,18 +129,30 @@ fn put_rows(text: &mut Vec<u8>, bins: &[TimeBin], outages: &[bool]) -> Result<()
     Ok(())
 }
 
-fn gap_mark(missing: bool) -> u8
-    ensures { result ≡ gap_mark missing }
+fn has_record(recorded: &[bool], bin: usize) -> bool
+    ensures { result ≡ get_or recorded.now bin false }
 {
-    if missing { b'x' } else { b' ' }
+    recorded.get(bin).copied().unwrap_or(false)
 }
 
-fn put_gap_row(text: &mut Vec<u8>, gaps: &[bool]) -> Result<(), AllocError>
-    ensures { OnOk result (text.new.items ≡ text.old.items ++ gap_row gaps.now) }
+// Epochs are missing in a bin that has a record or none.
+fn gap_mark(recorded: bool, missing: bool) -> u8
+    ensures { result ≡ gap_mark recorded missing }
+{
+    match (missing, recorded) {
+        (true, true) => b'/',
+        (true, false) => b'x',
+        (false, _) => b' ',
+    }
+}
+
+fn put_gap_row(text: &mut Vec<u8>, recorded: &[bool], gaps: &[bool]) -> Result<(), AllocError>
+    ensures { OnOk result (text.new.items ≡ text.old.items ++ gap_row recorded.now gaps.now) }
 {
     text.extend_from_slice(b"gap|")?;
-    for missing in gaps {
-        text.push(gap_mark(*missing))?;
+    for bin in 0..gaps.len() {
+        let has_record = has_record(recorded, bin);
+        text.push(gap_mark(has_record, gaps[bin]))?;
     }
     text.extend_from_slice(b"|\n")?;
     Ok(())
@@ -208,7 +220,7 @@ fn put_body(
 {
     text.extend_from_slice(b"GPS\n")?;
     put_rows(text, grid.bins.as_slice(), grid.outages.as_slice())?;
-    put_gap_row(text, grid.gaps.as_slice())?;
+    put_gap_row(text, grid.recorded.as_slice(), grid.gaps.as_slice())?;
     put_time(text, scale, width)?;
     put_never(text, grid.bins.as_slice(), never_in_line(width), codes)?;
     text.extend_from_slice(SIGNS)?;

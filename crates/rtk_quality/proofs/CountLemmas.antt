@@ -13,6 +13,8 @@ use Rattle.rtk_tracking.specs.Epochs.{shown_at}
 use Rattle.rtk_rinex.specs.Record.{no_observation}
 use Rattle.rtk_quality.specs.Counts.{plus, Noted, is_observed, noted_of, tally, strength_total, least_strength, greatest_strength, counts_of, code_counts_of}
 use Rattle.rtk_quality.specs.SatellitePasses.{sums_at, sums_plus, sums_in, longer, passes_of, epochs_since_phase, epochs_in_passes}
+use Rattle.rtk_quality.specs.Runs.{open_run}
+use Rattle.rtk_quality.specs.Bursts.{last_hour}
 use Rattle.rtk_quality.specs.Standing.{newest_pass, with_epoch, absent_at, StandsForSatellite}
 use Rattle.rtk_quality.specs.declared.pass_sums.PassSums.{PassSums}
 use Rattle.rtk_quality.specs.declared.satellite_counts.PassCounts.{PassCounts}
@@ -118,6 +120,8 @@ pub record IsBeforeRow (s : SatelliteCounts) (interval : Option ℕ) (before : L
   pub since_phase : s.since_phase ≡ plus (epochs_since_phase before) 1
   pub last : s.last ≡ newest_pass (passes_of interval before)
   pub sums : s.sums ≡ sums_in interval before
+  pub run : s.run ≡ open_run interval before
+  pub hour : s.hour ≡ last_hour interval before
 
 pub before-row : (s : SatelliteCounts) (interval : Option ℕ) (t : ℕ) (before : List Sighting) → StandsForSatellite s interval (absent_at t ∷ before) → IsBeforeRow s interval before
 before-row s interval t before stands = record {
@@ -127,6 +131,8 @@ before-row s interval t before stands = record {
   since_phase = stands.since_phase;
   last = stands.last;
   sums = stands.sums;
+  run = stands.run;
+  hour = stands.hour;
 }
 
 -- ---- passes

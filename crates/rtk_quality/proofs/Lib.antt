@@ -17,6 +17,8 @@ mod MissingLemmas
 mod NeverLemmas
 mod OrderLemmas
 mod RowLemmas
+mod RunLawLemmas
+mod RunLemmas
 mod SectionLemmas
 mod StrengthLemmas
 mod TextLemmas

@@ -9,16 +9,18 @@ use Rattle.rtk_rinex.specs.Reading.{reading_of}
 use Rattle.rtk_quality.specs.Counts.{plus, phases_per_slip, mean_hundredths, mean_tenths}
 use Rattle.rtk_quality.specs.Forms.{value_text, moment_text, start_text, end_text}
 use Rattle.rtk_quality.specs.LineText.{satellite_name, having_text, per_slip_text, locks_text, sums_text, strengths_text}
-use Rattle.rtk_quality.specs.QualityText.{marker_text, satellites_text, station_text, span_text, heading_text, falls_of}
+use Rattle.rtk_quality.specs.QualityText.{marker_text, satellites_text, station_text, span_text, listed_text, heading_text, falls_of}
 use Rattle.rtk_quality.specs.Hours.{start_of}
 use Rattle.rtk_quality.specs.Strengths.{number_of}
-use Rattle.rtk_quality.specs.StationText.{strength_text, hour_counts_text, hour_line, gap_line, outage_line, together_line, fall_line}
+use Rattle.rtk_quality.specs.StationText.{strength_text, hour_counts_text, hour_line, gap_line, outage_line, together_line, burst_line, run_line, fall_line}
 use Rattle.rtk_quality.specs.Entries.{fall_part}
 use Rattle.rtk_quality.specs.declared.hours.HourCounts.{HourCounts}
 use Rattle.rtk_quality.specs.declared.gaps.Gap.{Gap}
 use Rattle.rtk_quality.specs.declared.heading.ListedCounts.{ListedCounts}
 use Rattle.rtk_quality.specs.declared.moments.Moment.{Moment}
 use Rattle.rtk_quality.specs.declared.outages.Outage.{Outage}
+use Rattle.rtk_quality.specs.declared.runs.HalfRun.{HalfRun}
+use Rattle.rtk_quality.specs.declared.bursts.Burst.{Burst}
 use Rattle.rtk_quality.specs.declared.falls.Fall.{Fall}
 use Rattle.rtk_quality.specs.declared.form.Form.{Form}
 use Rattle.rtk_quality.specs.declared.form.Decimals.TheVariants.{Whole, Tenths, Hundredths, Thousandths}
@@ -176,6 +178,28 @@ moment-is form m t0 t1 t2 t3 t4 e1 e2 e3 e4 =
     four t0 t1 t2 t3 t4 (start_text form (codes "slip-together")) (moment_text form (codes " ") (codes "\"time\":") m.time)
     (having_text form m.together.slipping m.together.tracked) (end_text form) e1 e2 e3 e4
 
+pub burst-is : (form : Form) (b : Burst) (start : Civil) (t0 t1 t2 t3 t4 t5 : List ℕ) → start ≡ reading_of (start_of b.hour)
+    → t1 ≡ t0 ++ start_text form (codes "burst") → t2 ≡ t1 ++ satellite_name form b.satellite
+    → t3 ≡ t2 ++ moment_text form (codes " hour ") (codes ",\"hour\":") start
+    → t4 ≡ t3 ++ value_text form (codes " moments ") (codes ",\"moments\":") Whole (Some b.moments) → t5 ≡ t4 ++ end_text form → t5 ≡ t0 ++ burst_line form b
+unfolding burst_line
+burst-is form b start t0 t1 t2 t3 t4 t5 is e1 e2 e3 e4 e5 =
+    five t0 t1 t2 t3 t4 t5 (start_text form (codes "burst")) (satellite_name form b.satellite)
+    (moment_text form (codes " hour ") (codes ",\"hour\":") (reading_of (start_of b.hour)))
+    (value_text form (codes " moments ") (codes ",\"moments\":") Whole (Some b.moments)) (end_text form) e1 e2
+    (e3 ∙ ap (λ (c : Civil). t2 ++ moment_text form (codes " hour ") (codes ",\"hour\":") c) is) e4 e5
+
+pub run-is : (form : Form) (h : HalfRun) (t0 t1 t2 t3 t4 t5 t6 : List ℕ)
+    → t1 ≡ t0 ++ start_text form (codes "half-run") → t2 ≡ t1 ++ satellite_name form h.satellite
+    → t3 ≡ t2 ++ moment_text form (codes " from ") (codes ",\"from\":") h.run.from
+    → t4 ≡ t3 ++ moment_text form (codes " until ") (codes ",\"until\":") h.run.until
+    → t5 ≡ t4 ++ value_text form (codes " epochs ") (codes ",\"epochs\":") Whole (Some h.run.epochs) → t6 ≡ t5 ++ end_text form → t6 ≡ t0 ++ run_line form h
+unfolding run_line
+run-is form h t0 t1 t2 t3 t4 t5 t6 e1 e2 e3 e4 e5 e6 =
+    six t0 t1 t2 t3 t4 t5 t6 (start_text form (codes "half-run")) (satellite_name form h.satellite) (moment_text form (codes " from ") (codes ",\"from\":") h.run.from)
+    (moment_text form (codes " until ") (codes ",\"until\":") h.run.until) (value_text form (codes " epochs ") (codes ",\"epochs\":") Whole (Some h.run.epochs))
+    (end_text form) e1 e2 e3 e4 e5 e6
+
 pub fall-is : (form : Form) (band : Band) (f : Fall) (number : ℕ) (from until : Civil) (t0 t1 t2 t3 t4 t5 t6 : List ℕ)
     → number ≡ number_of band → from ≡ reading_of (start_of f.from) → until ≡ reading_of (start_of f.until)
     → t1 ≡ t0 ++ start_text form (codes "fall") → t2 ≡ t1 ++ value_text form (codes " band ") (codes "\"band\":") Whole (Some number)
@@ -196,15 +220,26 @@ pub falls-are : (form : Form) (hours : List HourCounts) (t0 t1 t2 t3 : List ℕ)
 unfolding falls_of
 falls-are form hours t0 t1 t2 t3 e1 e2 e3 = three t0 t1 t2 t3 (fall_part form hours L1) (fall_part form hours L2) (fall_part form hours L5) e1 e2 e3
 
+pub listed-is : (form : Form) (n : ListedCounts) (t0 t1 t2 t3 : List ℕ)
+    → t1 ≡ t0 ++ value_text form (codes "\nslips-together ") (codes ",\"slips_together\":") Whole (Some n.moments)
+    → t2 ≡ t1 ++ value_text form (codes "\nbursts ") (codes ",\"bursts\":") Whole (Some n.bursts)
+    → t3 ≡ t2 ++ value_text form (codes "\nhalf-runs ") (codes ",\"half_runs\":") Whole (Some n.runs)
+    → t3 ≡ t0 ++ listed_text form n
+unfolding listed_text
+listed-is form n t0 t1 t2 t3 e1 e2 e3 =
+    three t0 t1 t2 t3 (value_text form (codes "\nslips-together ") (codes ",\"slips_together\":") Whole (Some n.moments))
+    (value_text form (codes "\nbursts ") (codes ",\"bursts\":") Whole (Some n.bursts))
+    (value_text form (codes "\nhalf-runs ") (codes ",\"half_runs\":") Whole (Some n.runs)) e1 e2 e3
+
 pub heading-is : (form : Form) (marker : List ℕ) (from until : Civil) (interval : Option ℕ) (satellites : ℕ) (r : RecordCounts) (n : ListedCounts) (s : PassSums) (t0 t1 t2 t3 t4 t5 t6 t7 : List ℕ)
     → t1 ≡ t0 ++ marker_text form marker → t2 ≡ t1 ++ span_text form from until interval r
     → t3 ≡ t2 ++ value_text form (codes "\ngaps ") (codes ",\"gaps\":") Whole (Some n.gaps)
     → t4 ≡ t3 ++ satellites_text form satellites r → t5 ≡ t4 ++ station_text form s
-    → t6 ≡ t5 ++ value_text form (codes "\nslips-together ") (codes ",\"slips_together\":") Whole (Some n.moments) → t7 ≡ t6 ++ end_text form
+    → t6 ≡ t5 ++ listed_text form n → t7 ≡ t6 ++ end_text form
     → t7 ≡ t0 ++ heading_text form marker from until interval satellites r n s
 unfolding heading_text
 heading-is form marker from until interval satellites r n s t0 t1 t2 t3 t4 t5 t6 t7 e1 e2 e3 e4 e5 e6 e7 =
     let gaps : List ℕ = value_text form (codes "\ngaps ") (codes ",\"gaps\":") Whole (Some n.gaps) in
-    let together : List ℕ = value_text form (codes "\nslips-together ") (codes ",\"slips_together\":") Whole (Some n.moments) in
-    and-then t0 t6 t7 (((((marker_text form marker ++ span_text form from until interval r) ++ gaps) ++ satellites_text form satellites r) ++ station_text form s) ++ together) (end_text form)
-    (six t0 t1 t2 t3 t4 t5 t6 (marker_text form marker) (span_text form from until interval r) gaps (satellites_text form satellites r) (station_text form s) together e1 e2 e3 e4 e5 e6) e7
+    let listed : List ℕ = listed_text form n in
+    and-then t0 t6 t7 (((((marker_text form marker ++ span_text form from until interval r) ++ gaps) ++ satellites_text form satellites r) ++ station_text form s) ++ listed) (end_text form)
+    (six t0 t1 t2 t3 t4 t5 t6 (marker_text form marker) (span_text form from until interval r) gaps (satellites_text form satellites r) (station_text form s) listed e1 e2 e3 e4 e5 e6) e7

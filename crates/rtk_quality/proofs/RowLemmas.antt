@@ -14,18 +14,18 @@ use Rattle.rtk_quality.specs.Counts.{plus}
 use Rattle.rtk_quality.specs.Hours.{slips_of, returns_at}
 use Rattle.rtk_quality.specs.Largest.{list_of as list_if_any, AreLargest}
 use Rattle.rtk_quality.specs.Moments.{together_in, together_plus, is_slipping, is_tracked}
-use Rattle.rtk_quality.specs.Outages.{absence_at, outage_of, outages_in, size_of_outage}
 use Rattle.rtk_quality.specs.SatellitePasses.{passes_of, slips_at}
 use Rattle.rtk_quality.specs.Steps.Noted.{no_locks, locks_plus, locks_at, locks_onto}
 use Rattle.rtk_quality.specs.Standing.{absent_at, older_passes, StandsForSatellite, StandsForEnded, StandForSatellites, ended_of, with_ended, HasEnded, StandForEnded}
 use Rattle.rtk_quality.specs.declared.hours.Locks.{Locks}
 use Rattle.rtk_quality.specs.declared.largest.Largest.{Largest}
 use Rattle.rtk_quality.specs.declared.moments.Together.{Together}
-use Rattle.rtk_quality.specs.declared.outages.Absence.{Absence}
-use Rattle.rtk_quality.specs.declared.outages.Outage.{Outage}
 use Rattle.rtk_quality.specs.declared.satellite_counts.PassCounts.{PassCounts}
 use Rattle.rtk_quality.specs.declared.satellite_counts.SatelliteCounts.{SatelliteCounts}
 use Rattle.rtk_quality.specs.declared.file_counts.EndedPass.{EndedPass}
+use Rattle.std.specs.Prelude.{flat_map}
+use Rattle.std.specs.List.{range_with_len}
+use Rattle.rtk_quality.proofs.ListLemmas.{range-more}
 use Rattle.rtk_quality.proofs.FileLemmas.{list_of, older-more, with-own, with-other}
 
 -- an epoch with its first rows
@@ -180,22 +180,34 @@ locks-more e i r interval es old own new at is added =
     seen : SatelliteRow → Sighting
     seen x = record { time = e.time; observed = x.observed.items }
 
--- the outages of one more row
-pub outages-more : (e : EpochTableView) (i : ℕ) (r : SatelliteRow) (interval : Option ℕ) (es : List EpochTableView) (absence : Option Absence) (outage : Option Outage)
-    (old new : Largest Outage) (all : List Outage)
-    → IsRowAt e i r → absence ≡ absence_at interval (sightings_of r.satellite es) (record { time = e.time; observed = r.observed.items })
-    → outage ≡ outage_of r.satellite absence → AreLargest size_of_outage old (all ++ outages_in interval es e.time (take i e.rows))
-    → ((xs : List Outage) → AreLargest size_of_outage old xs → AreLargest size_of_outage new (xs ++ list_if_any outage))
-    → AreLargest size_of_outage new (all ++ outages_in interval es e.time (take (i + 1) e.rows))
-outages-more e i r interval es absence outage old new all at is of was took =
-    let before : List Outage = outages_in interval es e.time (take i e.rows) in
-    let here : list_if_any outage ≡ outages_in interval es e.time (r ∷ []) =
-    ap (λ (o : Option Outage). list_if_any o) (of ∙ ap (λ (a : Option Absence). outage_of r.satellite a) is) ∙ sym (append-nil _) in
-    let longer : outages_in interval es e.time (take (i + 1) e.rows) ≡ before ++ list_if_any outage =
-    ap (λ (rows : List SatelliteRow). outages_in interval es e.time rows) (rows-more e i r at)
-    ∙ flat_map-append _ (take i e.rows) (r ∷ []) ∙ ap (λ (xs : List Outage). before ++ xs) (sym here) in
-    subst (λ (xs : List Outage). AreLargest size_of_outage new xs)
-    (append_assoc all before (list_if_any outage) ∙ ap (λ (xs : List Outage). all ++ xs) (sym longer)) (took (all ++ before) was)
+-- what one more row tells
+pub told-more : {T : Type 0} (size : T → ℕ) (told : SatelliteRow → Option T) (e : EpochTableView) (i : ℕ) (r : SatelliteRow) (x : Option T) (old new : Largest T) (all : List T)
+    → IsRowAt e i r → x ≡ told r → AreLargest size old (all ++ flat_map (λ y. list_if_any (told y)) (take i e.rows))
+    → ((xs : List T) → AreLargest size old xs → AreLargest size new (xs ++ list_if_any x))
+    → AreLargest size new (all ++ flat_map (λ y. list_if_any (told y)) (take (i + 1) e.rows))
+told-more size told e i r x old new all at is was took =
+    let before : List _ = flat_map (λ y. list_if_any (told y)) (take i e.rows) in
+    let here : list_if_any x ≡ flat_map (λ y. list_if_any (told y)) (r ∷ []) = ap (λ (o : Option _). list_if_any o) is ∙ sym (append-nil _) in
+    let longer : flat_map (λ y. list_if_any (told y)) (take (i + 1) e.rows) ≡ before ++ list_if_any x =
+    ap (λ (rows : List SatelliteRow). flat_map (λ y. list_if_any (told y)) rows) (rows-more e i r at)
+    ∙ flat_map-append (λ y. list_if_any (told y)) (take i e.rows) (r ∷ []) ∙ ap (λ (xs : List _). before ++ xs) (sym here) in
+    subst (λ (xs : List _). AreLargest size new xs)
+    (append_assoc all before (list_if_any x) ∙ ap (λ (xs : List _). all ++ xs) (sym longer)) (took (all ++ before) was)
+
+-- what one more satellite tells
+pub last-told : {T : Type 0} (size : T → ℕ) (told : ℕ → Option T) (n k : ℕ) (x : Option T) (old new : Largest T) (all : List T)
+    → k ≡ 1 + n → x ≡ told k → AreLargest size old (all ++ flat_map (λ y. list_if_any (told y)) (range_with_len 1 n))
+    → ((xs : List T) → AreLargest size old xs → AreLargest size new (xs ++ list_if_any x))
+    → AreLargest size new (all ++ flat_map (λ y. list_if_any (told y)) (range_with_len 1 (n + 1)))
+last-told size told n k x old new all at is was took =
+    let before : List _ = flat_map (λ y. list_if_any (told y)) (range_with_len 1 n) in
+    let here : list_if_any x ≡ flat_map (λ y. list_if_any (told y)) ((1 + n) ∷ []) =
+    ap (λ (o : Option _). list_if_any o) (is ∙ ap (λ (j : ℕ). told j) at) ∙ sym (append-nil _) in
+    let longer : flat_map (λ y. list_if_any (told y)) (range_with_len 1 (n + 1)) ≡ before ++ list_if_any x =
+    ap (λ (ks : List ℕ). flat_map (λ y. list_if_any (told y)) ks) (range-more 1 n)
+    ∙ flat_map-append (λ y. list_if_any (told y)) (range_with_len 1 n) ((1 + n) ∷ []) ∙ ap (λ (xs : List _). before ++ xs) (sym here) in
+    subst (λ (xs : List _). AreLargest size new xs)
+    (append_assoc all before (list_if_any x) ∙ ap (λ (xs : List _). all ++ xs) (sym longer)) (took (all ++ before) was)
 
 slips-are : (interval : Option ℕ) (before : List Sighting) (s : Sighting) → (locks_at interval before s).slips ≡ slips_of interval before s
 slips-are interval before s =

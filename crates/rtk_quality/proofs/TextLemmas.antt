@@ -7,37 +7,47 @@ use Rattle.rtk_rinex.specs.Reading.{reading_of}
 use Rattle.rtk_rinex.specs.Record.{EpochTableView}
 use Rattle.rtk_quality.specs.Records.{unit_of, record_counts_of}
 use Rattle.rtk_quality.specs.Hours.{hours_of}
-use Rattle.rtk_quality.specs.Gaps.{gaps_of, longest_gaps, gaps_in, size_of_gap}
-use Rattle.rtk_quality.specs.Largest.{count_of, AreLargest}
-use Rattle.rtk_quality.specs.Moments.{common_moments, largest_moments, moments_in, size_of_moment}
-use Rattle.rtk_quality.specs.Outages.{all_outages, longest_outages, size_of_outage}
+use Rattle.rtk_quality.specs.Gaps.{longest_gaps, gaps_in}
+use Rattle.rtk_quality.specs.Largest.{count_of}
+use Rattle.rtk_quality.specs.Moments.{largest_moments, moments_in}
+use Rattle.rtk_quality.specs.Outages.{all_outages, longest_outages}
+use Rattle.rtk_quality.specs.Runs.{longest_half_runs, half_runs_in}
+use Rattle.rtk_quality.specs.Bursts.{largest_bursts, all_bursts_in}
+use Rattle.rtk_quality.specs.Standing.{HasCounted}
 use Rattle.rtk_quality.specs.declared.hours.HourCounts.{HourCounts}
 use Rattle.rtk_quality.specs.declared.gaps.Gap.{Gap}
 use Rattle.rtk_quality.specs.declared.heading.ListedCounts.{ListedCounts}
-use Rattle.rtk_quality.specs.declared.largest.Largest.{Largest}
+use Rattle.rtk_quality.specs.declared.file_counts.FileCounts.{FileCounts}
 use Rattle.rtk_quality.specs.declared.moments.Moment.{Moment}
 use Rattle.rtk_quality.specs.declared.outages.Outage.{Outage}
+use Rattle.rtk_quality.specs.declared.runs.HalfRun.{HalfRun}
+use Rattle.rtk_quality.specs.declared.bursts.Burst.{Burst}
 use Rattle.rtk_quality.specs.Quality.{station_sums, satellites_in}
-use Rattle.rtk_quality.specs.QualityText.{marker_text, codes_text, section_text, listed_counts, heading_text, hours_text, gaps_text, outages_text, moments_text, falls_text, station_part, signals_part, body_text, close_text, quality_text}
+use Rattle.rtk_quality.specs.QualityText.{marker_text, codes_text, section_text, listed_counts, heading_text, hours_text, gaps_text, outages_text, moments_text, bursts_text, runs_text, falls_text, station_part, signals_part, body_text, close_text, quality_text}
 use Rattle.rtk_quality.specs.Forms.{json_text}
 use Rattle.rtk_quality.specs.declared.form.Form.{Form}
 use Rattle.rtk_quality.specs.declared.form.Form.TheVariants.{Json}
 use Rattle.rtk_quality.specs.declared.sections.Section.TheVariants.{Codes, Tracked, Never, Passes}
 use Rattle.rtk_quality.specs.declared.pass_sums.PassSums.{PassSums}
 use Rattle.rtk_quality.specs.declared.record_counts.RecordCounts.{RecordCounts}
-use Rattle.rtk_quality.proofs.ListLemmas.{three, five}
+use Rattle.rtk_quality.proofs.ListLemmas.{and-then, three, five, six}
 
 -- a marker in JSON
 pub json-marker : (marker t0 t1 t2 t3 : List ℕ) → t1 ≡ t0 ++ codes "{\"file\":{\"marker\":\"" → t2 ≡ t1 ++ json_text marker → t3 ≡ t2 ++ codes "\"" → t3 ≡ t0 ++ marker_text Json marker
 unfolding marker_text
 json-marker marker t0 t1 t2 t3 e1 e2 e3 = three t0 t1 t2 t3 (codes "{\"file\":{\"marker\":\"") (json_text marker) (codes "\"") e1 e2 e3
 
-pub listed-are : (interval : Option ℕ) (unit : ℕ) (es : List EpochTableView) (gaps moments : ℕ) → gaps ≡ gaps_in unit es → moments ≡ moments_in interval es
-    → record { gaps = gaps; moments = moments } ≡ listed_counts interval unit es
-listed-are interval unit es gaps moments are_gaps are_moments = ap (λ (n : ℕ). made n moments) are_gaps ∙ ap (λ (n : ℕ). made (gaps_in unit es) n) are_moments
+-- how many there are of what has a list
+pub listed-are : (interval : Option ℕ) (unit : ℕ) (listed : List Code) (es : List EpochTableView) (f : FileCounts) → HasCounted f interval unit listed es
+    → record { gaps = f.gaps.count; moments = f.moments.count; bursts = f.events.bursts.count; runs = f.events.runs.count } ≡ listed_counts interval unit es
+listed-are interval unit listed es f stands =
+    ap (λ (n : ℕ). made n f.moments.count f.events.bursts.count f.events.runs.count) stands.gaps.count
+    ∙ ap (λ (n : ℕ). made (gaps_in unit es) n f.events.bursts.count f.events.runs.count) stands.moments.count
+    ∙ ap (λ (n : ℕ). made (gaps_in unit es) (moments_in interval es) n f.events.runs.count) stands.bursts.count
+    ∙ ap (λ (n : ℕ). made (gaps_in unit es) (moments_in interval es) (all_bursts_in interval es) n) stands.runs.count
   where
-    made : ℕ → ℕ → ListedCounts
-    made a b = record { gaps = a; moments = b }
+    made : ℕ → ℕ → ℕ → ℕ → ListedCounts
+    made a b c d = record { gaps = a; moments = b; bursts = c; runs = d }
 
 -- the text of a file with records
 pub text-is : (form : Form) (marker : List ℕ) (listed : List Code) (first last : ℕ) (interval : Option ℕ) (es : List EpochTableView)
@@ -74,22 +84,32 @@ signals-are form listed interval es t0 t1 t2 t3 t4 t5 e1 e2 e3 e4 e5 =
     (section_text form Never listed interval es) (section_text form Passes listed interval es) e1 e2 e3 e4 e5
 
 -- the hours, gaps and falls of a file, and what else happened
-pub station-part-is : (form : Form) (listed : List Code) (interval : Option ℕ) (unit : ℕ) (es : List EpochTableView) (hours : List HourCounts)
-    (gaps : Largest Gap) (outages : Largest Outage) (moments : Largest Moment) (t0 t1 t2 t3 t4 t5 : List ℕ)
-    → hours ≡ reverse (hours_of interval unit listed es) → AreLargest size_of_gap gaps (gaps_of unit es) → AreLargest size_of_outage outages (all_outages interval es)
-    → AreLargest size_of_moment moments (common_moments interval es)
-    → t1 ≡ t0 ++ hours_text form listed hours → t2 ≡ t1 ++ gaps_text form gaps.count gaps.things.items → t3 ≡ t2 ++ falls_text form hours
-    → t4 ≡ t3 ++ outages_text form outages.count outages.things.items → t5 ≡ t4 ++ moments_text form moments.count moments.things.items
-    → t5 ≡ t0 ++ station_part form listed interval unit es
+pub station-part-is : (form : Form) (listed : List Code) (interval : Option ℕ) (unit : ℕ) (es : List EpochTableView) (hours : List HourCounts) (f : FileCounts)
+    (t0 t1 t2 t3 t4 t5 t6 t7 : List ℕ)
+    → hours ≡ reverse (hours_of interval unit listed es) → HasCounted f interval unit listed es
+    → t1 ≡ t0 ++ hours_text form listed hours → t2 ≡ t1 ++ gaps_text form f.gaps.count f.gaps.things.items → t3 ≡ t2 ++ falls_text form hours
+    → t4 ≡ t3 ++ outages_text form f.events.outages.count f.events.outages.things.items → t5 ≡ t4 ++ moments_text form f.moments.count f.moments.things.items
+    → t6 ≡ t5 ++ bursts_text form f.events.bursts.count f.events.bursts.things.items → t7 ≡ t6 ++ runs_text form f.events.runs.count f.events.runs.things.items
+    → t7 ≡ t0 ++ station_part form listed interval unit es
 unfolding station_part
-station-part-is form listed interval unit es hours gaps outages moments t0 t1 t2 t3 t4 t5 are_hours are_gaps are_outages are_moments e1 e2 e3 e4 e5 =
-    five t0 t1 t2 t3 t4 t5 (hours_text form listed (reverse (hours_of interval unit listed es))) (gaps_text form (gaps_in unit es) (longest_gaps unit es))
-    (falls_text form (reverse (hours_of interval unit listed es))) (outages_text form (count_of (all_outages interval es)) (longest_outages interval es))
-    (moments_text form (moments_in interval es) (largest_moments interval es))
-    (e1 ∙ ap (λ (hs : List HourCounts). t0 ++ hours_text form listed hs) are_hours)
-    (e2 ∙ ap (λ (n : ℕ). t1 ++ gaps_text form n gaps.things.items) are_gaps.count ∙ ap (λ (gs : List Gap). t1 ++ gaps_text form (gaps_in unit es) gs) are_gaps.largest)
-    (e3 ∙ ap (λ (hs : List HourCounts). t2 ++ falls_text form hs) are_hours)
-    (e4 ∙ ap (λ (n : ℕ). t3 ++ outages_text form n outages.things.items) are_outages.count
-    ∙ ap (λ (os : List Outage). t3 ++ outages_text form (count_of (all_outages interval es)) os) are_outages.largest)
-    (e5 ∙ ap (λ (n : ℕ). t4 ++ moments_text form n moments.things.items) are_moments.count
-    ∙ ap (λ (ms : List Moment). t4 ++ moments_text form (moments_in interval es) ms) are_moments.largest)
+station-part-is form listed interval unit es hours f t0 t1 t2 t3 t4 t5 t6 t7 are_hours stands e1 e2 e3 e4 e5 e6 e7 =
+    let hs : List ℕ = hours_text form listed (reverse (hours_of interval unit listed es)) in
+    let gs : List ℕ = gaps_text form (gaps_in unit es) (longest_gaps unit es) in
+    let fs : List ℕ = falls_text form (reverse (hours_of interval unit listed es)) in
+    let os : List ℕ = outages_text form (count_of (all_outages interval es)) (longest_outages interval es) in
+    let ms : List ℕ = moments_text form (moments_in interval es) (largest_moments interval es) in
+    let bs : List ℕ = bursts_text form (all_bursts_in interval es) (largest_bursts interval es) in
+    let rs : List ℕ = runs_text form (half_runs_in interval es) (longest_half_runs interval es) in
+    and-then t0 t6 t7 (((((hs ++ gs) ++ fs) ++ os) ++ ms) ++ bs) rs
+    (six t0 t1 t2 t3 t4 t5 t6 hs gs fs os ms bs
+    (e1 ∙ ap (λ (xs : List HourCounts). t0 ++ hours_text form listed xs) are_hours)
+    (e2 ∙ ap (λ (n : ℕ). t1 ++ gaps_text form n f.gaps.things.items) stands.gaps.count ∙ ap (λ (xs : List Gap). t1 ++ gaps_text form (gaps_in unit es) xs) stands.gaps.largest)
+    (e3 ∙ ap (λ (xs : List HourCounts). t2 ++ falls_text form xs) are_hours)
+    (e4 ∙ ap (λ (n : ℕ). t3 ++ outages_text form n f.events.outages.things.items) stands.outages.count
+    ∙ ap (λ (xs : List Outage). t3 ++ outages_text form (count_of (all_outages interval es)) xs) stands.outages.largest)
+    (e5 ∙ ap (λ (n : ℕ). t4 ++ moments_text form n f.moments.things.items) stands.moments.count
+    ∙ ap (λ (xs : List Moment). t4 ++ moments_text form (moments_in interval es) xs) stands.moments.largest)
+    (e6 ∙ ap (λ (n : ℕ). t5 ++ bursts_text form n f.events.bursts.things.items) stands.bursts.count
+    ∙ ap (λ (xs : List Burst). t5 ++ bursts_text form (all_bursts_in interval es) xs) stands.bursts.largest))
+    (e7 ∙ ap (λ (n : ℕ). t6 ++ runs_text form n f.events.runs.things.items) stands.runs.count
+    ∙ ap (λ (xs : List HalfRun). t6 ++ runs_text form (half_runs_in interval es) xs) stands.runs.largest)

@@ -1,5 +1,5 @@
 -- Laws of bits, and of counts and means of any size.
-use Rattle.std.specs.Prelude.{◌≡◌, ◌<◌, ◌≤◌, ◌^◌, ◌*◌, ◌+◌, ◌-◌, ◌==◌, nat_lt, ℕ, Bool, false, not, List, [], ◌∷◌, length, sum, count_by, sum_by, AllPairs, Option, None, Some, is_some, unwrap_or, if◌then◌else◌}
+use Rattle.std.specs.Prelude.{◌≡◌, ◌<◌, ◌≤◌, ◌^◌, ◌*◌, ◌+◌, ◌-◌, ◌==◌, nat_lt, ℕ, Bool, false, not, ◌&&◌, List, [], ◌∷◌, length, sum, count_by, sum_by, AllPairs, Option, None, Some, is_some, unwrap_or, if◌then◌else◌}
 use Rattle.std.specs.List.{list_any, range_with_len}
 use Rattle.rtk_obs.specs.declared.code.Band.{Band}
 use Rattle.rtk_obs.specs.declared.code.Code.{Code}
@@ -13,7 +13,11 @@ use Rattle.rtk_quality.specs.Gaps.{gaps_of, size_of_gap}
 use Rattle.rtk_quality.specs.Largest.{largest_first}
 use Rattle.rtk_quality.specs.Moments.{together_in, common_moments, size_of_moment}
 use Rattle.rtk_quality.specs.Outages.{all_outages, size_of_outage}
-use Rattle.rtk_quality.specs.Hours.{hour_at, sum_of_rows, sum_in_hour, strengths_in_hour, missing_within, hours_of}
+use Rattle.rtk_quality.specs.Runs.{has_half, open_run, ended_run, half_runs, size_of_run}
+use Rattle.rtk_quality.specs.Bursts.{last_hour, hour_before, all_bursts, size_of_burst}
+use Rattle.rtk_quality.specs.declared.runs.Run.{Run}
+use Rattle.rtk_quality.specs.declared.bursts.HourMoments.{HourMoments}
+use Rattle.rtk_quality.specs.Hours.{hour_at, slips_of, sum_of_rows, sum_in_hour, strengths_in_hour, missing_within, hours_of}
 use Rattle.rtk_quality.specs.Strengths.{strengths_of_rows}
 use Rattle.rtk_quality.specs.Quality.{numbers_of, totals_of}
 use Rattle.rtk_quality.specs.declared.code_numbers.CodeNumbers.{CodeNumbers}
@@ -189,3 +193,55 @@ LongestOutagesAreFirst =
 abbrev pub LargestMomentsAreFirst : Type 0
 LargestMomentsAreFirst =
     (interval : Option ℕ) (es : List EpochTableView) → AllPairs (λ a b. size_of_moment b ≤ size_of_moment a) (largest_first size_of_moment (common_moments interval es))
+
+-- ---- bursts and runs of half cycles
+
+abbrev pub moments_or_0 : Option HourMoments → ℕ
+moments_or_0 None = 0
+moments_or_0 (Some h) = h.moments
+
+abbrev pub epochs_or_0 : Option Run → ℕ
+epochs_or_0 None = 0
+epochs_or_0 (Some r) = r.epochs
+
+-- the epochs at which satellites slip, in all hours of a satellite that ended and in the last one
+abbrev pub ended_moments : Option ℕ → List Sighting → ℕ
+ended_moments interval [] = 0
+ended_moments interval (s ∷ before) = ended_moments interval before + moments_or_0 (hour_before interval before s)
+
+-- the epochs at which a satellite slips
+abbrev pub slipping_epochs : Option ℕ → List Sighting → ℕ
+slipping_epochs interval [] = 0
+slipping_epochs interval (s ∷ before) = slipping_epochs interval before + (if nat_lt 0 (slips_of interval before s) then 1 else 0)
+
+-- each epoch at which a satellite slips is in one hour
+abbrev pub HoursHaveAllMoments : Type 0
+HoursHaveAllMoments =
+    (interval : Option ℕ) (before : List Sighting) → length before < 2 ^ 64
+    → ended_moments interval before + moments_or_0 (last_hour interval before) ≡ slipping_epochs interval before
+
+-- the epochs with a half cycle, in all runs of a satellite that ended and in the last one
+abbrev pub ended_epochs : Option ℕ → List Sighting → ℕ
+ended_epochs interval [] = 0
+ended_epochs interval (s ∷ before) = ended_epochs interval before + epochs_or_0 (ended_run interval before s)
+
+-- the epochs of a satellite with a phase and a half cycle
+abbrev pub half_epochs : List Sighting → ℕ
+half_epochs [] = 0
+half_epochs (s ∷ before) = half_epochs before + (if has_phase s.observed && has_half s.observed then 1 else 0)
+
+-- each of them is in one run
+abbrev pub RunsHaveAllHalves : Type 0
+RunsHaveAllHalves =
+    (interval : Option ℕ) (before : List Sighting) → length before < 2 ^ 64
+    → ended_epochs interval before + epochs_or_0 (open_run interval before) ≡ half_epochs before
+
+-- no burst has more epochs than one before it
+abbrev pub LargestBurstsAreFirst : Type 0
+LargestBurstsAreFirst =
+    (interval : Option ℕ) (es : List EpochTableView) → AllPairs (λ a b. size_of_burst b ≤ size_of_burst a) (largest_first size_of_burst (all_bursts interval es))
+
+-- no run is longer than one before it
+abbrev pub LongestRunsAreFirst : Type 0
+LongestRunsAreFirst =
+    (interval : Option ℕ) (es : List EpochTableView) → AllPairs (λ a b. size_of_run b ≤ size_of_run a) (largest_first size_of_run (half_runs interval es))

@@ -1,3 +1,4 @@
+pub mod Bursts
 pub mod Columns
 pub mod Counts
 pub mod Entries
@@ -16,6 +17,7 @@ pub mod Quality
 pub mod QualityText
 pub mod Records
 pub mod Rows
+pub mod Runs
 pub mod SatellitePasses
 pub mod Standing
 pub mod Steps

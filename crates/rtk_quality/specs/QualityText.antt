@@ -18,10 +18,12 @@ use Rattle.rtk_quality.specs.Gaps.{longest_gaps, gaps_in}
 use Rattle.rtk_quality.specs.Largest.{count_of}
 use Rattle.rtk_quality.specs.Moments.{largest_moments, moments_in}
 use Rattle.rtk_quality.specs.Outages.{longest_outages, all_outages}
+use Rattle.rtk_quality.specs.Runs.{longest_half_runs, half_runs_in}
+use Rattle.rtk_quality.specs.Bursts.{largest_bursts, all_bursts_in}
 use Rattle.rtk_quality.specs.Lists.{list_text, largest_text}
 use Rattle.rtk_quality.specs.LineText.{never_line}
 use Rattle.rtk_quality.specs.Never.{never_rows}
-use Rattle.rtk_quality.specs.Entries.{in_table, code_entry, satellite_entry, tracked_entry, pass_entry, hour_entry, gap_entry, outage_entry, moment_entry, fall_part}
+use Rattle.rtk_quality.specs.Entries.{in_table, code_entry, satellite_entry, tracked_entry, pass_entry, hour_entry, gap_entry, outage_entry, moment_entry, burst_entry, run_entry, fall_part}
 use Rattle.rtk_quality.specs.Quality.{numbers_of, code_of_station, station_sums, is_in_file, satellites_in}
 use Rattle.rtk_quality.specs.Forms.{in_form, value_text, moment_text, end_text, json_text}
 use Rattle.rtk_quality.specs.declared.form.Form.{Form}
@@ -37,6 +39,8 @@ use Rattle.rtk_quality.specs.declared.gaps.Gap.{Gap}
 use Rattle.rtk_quality.specs.declared.heading.ListedCounts.{ListedCounts}
 use Rattle.rtk_quality.specs.declared.moments.Moment.{Moment}
 use Rattle.rtk_quality.specs.declared.outages.Outage.{Outage}
+use Rattle.rtk_quality.specs.declared.runs.HalfRun.{HalfRun}
+use Rattle.rtk_quality.specs.declared.bursts.Burst.{Burst}
 
 -- ---- the codes and satellites
 
@@ -131,6 +135,14 @@ abbrev pub moments_heading : List ℕ
 moments_heading = codes "\nslips together      satellites    of\n"
 
 -- table
+abbrev pub bursts_heading : List ℕ
+bursts_heading = codes "\nburst hour           moments\n"
+
+-- table
+abbrev pub runs_heading : List ℕ
+runs_heading = codes "\nhalf from               until                  epochs\n"
+
+-- table
 abbrev pub falls_heading : List ℕ
 falls_heading = codes "\nband falls from       until                by\n"
 
@@ -145,6 +157,12 @@ outages_text form n outages = largest_text outage_entry form outages_heading (co
 
 unfoldable pub moments_text : Form → ℕ → List Moment → List ℕ
 moments_text form n moments = largest_text moment_entry form moments_heading (codes ",\n\"slips_together\":[") n moments
+
+unfoldable pub bursts_text : Form → ℕ → List Burst → List ℕ
+bursts_text form n bursts = largest_text burst_entry form bursts_heading (codes ",\n\"bursts\":[") n bursts
+
+unfoldable pub runs_text : Form → ℕ → List HalfRun → List ℕ
+runs_text form n runs = largest_text run_entry form runs_heading (codes ",\n\"half_runs\":[") n runs
 
 -- the falls of all bands
 unfoldable pub falls_of : Form → List HourCounts → List ℕ
@@ -191,27 +209,37 @@ station_text form s =
 -- formula
 -- how many there are of what has a list of the ten largest
 abbrev pub listed_counts : Option ℕ → ℕ → List EpochTableView → ListedCounts
-listed_counts interval unit es = record { gaps = gaps_in unit es; moments = moments_in interval es }
+listed_counts interval unit es =
+    record { gaps = gaps_in unit es; moments = moments_in interval es; bursts = all_bursts_in interval es; runs = half_runs_in interval es }
+
+-- formula
+-- the counts that follow the outages
+unfoldable pub listed_text : Form → ListedCounts → List ℕ
+listed_text form n =
+    value_text form (codes "\nslips-together ") (codes ",\"slips_together\":") Whole (Some n.moments)
+    ++ value_text form (codes "\nbursts ") (codes ",\"bursts\":") Whole (Some n.bursts)
+    ++ value_text form (codes "\nhalf-runs ") (codes ",\"half_runs\":") Whole (Some n.runs)
 
 -- the lines of the whole file
 unfoldable pub heading_text : Form → List ℕ → Civil → Civil → Option ℕ → ℕ → RecordCounts → ListedCounts → PassSums → List ℕ
 heading_text form marker from until interval satellites r n s =
     marker_text form marker ++ span_text form from until interval r ++ value_text form (codes "\ngaps ") (codes ",\"gaps\":") Whole (Some n.gaps)
     ++ satellites_text form satellites r ++ station_text form s
-    ++ value_text form (codes "\nslips-together ") (codes ",\"slips_together\":") Whole (Some n.moments) ++ end_text form
+    ++ listed_text form n ++ end_text form
 
 -- the end of the document
 abbrev pub close_text : Form → List ℕ
 close_text form = in_form form [] (codes "}\n")
 
 -- formula
--- the hours, the ten longest gaps, the largest falls, the ten longest outages, and the ten epochs at which most
--- satellites slip
+-- the hours, and the ten longest gaps; the largest falls; the ten longest outages; the ten epochs at which most
+-- satellites slip; the ten hours in which a satellite slips at most epochs; the ten longest runs of half cycles
 unfoldable pub station_part : Form → List Code → Option ℕ → ℕ → List EpochTableView → List ℕ
 station_part form listed interval unit es =
     hours_text form listed (reverse (hours_of interval unit listed es)) ++ gaps_text form (gaps_in unit es) (longest_gaps unit es)
     ++ falls_text form (reverse (hours_of interval unit listed es)) ++ outages_text form (count_of (all_outages interval es)) (longest_outages interval es)
-    ++ moments_text form (moments_in interval es) (largest_moments interval es)
+    ++ moments_text form (moments_in interval es) (largest_moments interval es) ++ bursts_text form (all_bursts_in interval es) (largest_bursts interval es)
+    ++ runs_text form (half_runs_in interval es) (longest_half_runs interval es)
 
 -- formula
 -- the codes of the station and of satellites, the sums of satellites, and their passes
@@ -241,7 +269,7 @@ quality_text form marker listed first last interval es =
 abbrev pub no_lists : Form → List ℕ
 no_lists form =
     in_form form []
-    (codes ",\n\"codes\":[],\n\"satellites\":[],\n\"tracked\":[],\n\"never\":[],\n\"passes\":[],\n\"hours\":[],\n\"gaps\":[],\n\"falls\":[],\n\"outages\":[],\n\"slips_together\":[]")
+    (codes ",\n\"codes\":[],\n\"satellites\":[],\n\"tracked\":[],\n\"never\":[],\n\"passes\":[],\n\"hours\":[],\n\"gaps\":[],\n\"falls\":[],\n\"outages\":[],\n\"slips_together\":[],\n\"bursts\":[],\n\"half_runs\":[]")
 
 -- a file without records has no other numbers
 unfoldable pub text_of_none : Form → List ℕ → List ℕ

@@ -21,6 +21,8 @@ use Rattle.rtk_quality.specs.declared.gaps.Gap.{Gap}
 use Rattle.rtk_quality.specs.declared.falls.Fall.{Fall}
 use Rattle.rtk_quality.specs.declared.moments.Moment.{Moment}
 use Rattle.rtk_quality.specs.declared.outages.Outage.{Outage}
+use Rattle.rtk_quality.specs.declared.runs.HalfRun.{HalfRun}
+use Rattle.rtk_quality.specs.declared.bursts.Burst.{Burst}
 
 -- formula
 -- a satellite, as in G05
@@ -113,6 +115,18 @@ outage_row o =
 unfoldable pub moment_row : Moment → List ℕ
 moment_row m =
     take 19 (civil_text m.time) ++ cells_text (column 11 Whole (Some m.together.slipping) ∷ column 6 Whole (Some m.together.tracked) ∷ []) ++ codes "\n"
+
+-- table
+-- the row of an hour in which a satellite slips at several epochs: at how many
+unfoldable pub burst_row : Burst → List ℕ
+burst_row b =
+    satellite_mark b.satellite ++ codes " " ++ take 16 (civil_text (reading_of (start_of b.hour))) ++ cells_text (column 8 Whole (Some b.moments) ∷ []) ++ codes "\n"
+
+-- table
+-- the row of a run of half cycles: its span in whole seconds, and its epochs
+unfoldable pub run_row : HalfRun → List ℕ
+run_row h =
+    satellite_mark h.satellite ++ span_part h.run.from h.run.until 19 ++ cells_text (column 10 Whole (Some h.run.epochs) ∷ []) ++ codes "\n"
 
 -- the row of the largest fall of a band, by the number of the band
 unfoldable pub fall_row : ℕ → Fall → List ℕ

@@ -1,5 +1,6 @@
 -- What the counts hold, tied to what came.
 use Rattle.std.specs.Prelude.{◌≡◌, ◌<◌, ℕ, ◌+◌, ◌==◌, Bool, true, false, List, [], ◌∷◌, ◌++◌, length, reverse, get_or, Option, None, Some, if◌then◌else◌}
+use Rattle.rtk_obs.specs.declared.code.Code.{Code}
 use Rattle.rtk_obs.specs.declared.time.Civil.{Civil}
 use Rattle.rtk_rinex.specs.Record.{EpochTableView}
 use Rattle.rtk_tracking.specs.Passes.{Sighting, sightings_of, begins_pass}
@@ -11,7 +12,12 @@ use Rattle.rtk_quality.specs.Gaps.{gaps_of, size_of_gap}
 use Rattle.rtk_quality.specs.Largest.{AreLargest}
 use Rattle.rtk_quality.specs.Outages.{all_outages, size_of_outage}
 use Rattle.rtk_quality.specs.Moments.{common_moments, size_of_moment}
-use Rattle.rtk_quality.specs.Steps.Noted.{AreHours}
+use Rattle.rtk_quality.specs.Hours.{hours_of}
+use Rattle.rtk_quality.specs.Runs.{open_run, ended_runs, half_runs, size_of_run}
+use Rattle.rtk_quality.specs.Bursts.{last_hour, ended_bursts, all_bursts, size_of_burst}
+use Rattle.rtk_quality.specs.declared.runs.HalfRun.{HalfRun}
+use Rattle.rtk_quality.specs.declared.bursts.Burst.{Burst}
+use Rattle.rtk_quality.specs.Steps.Noted.{noted_hours, AreHours}
 use Rattle.rtk_quality.specs.declared.hours.HourCounts.{HourCounts}
 use Rattle.rtk_quality.specs.declared.pass_sums.PassSums.{PassSums}
 use Rattle.rtk_quality.specs.declared.satellite_counts.PassCounts.{PassCounts}
@@ -49,6 +55,8 @@ pub record StandsForSatellite (s : SatelliteCounts) (interval : Option ℕ) (bef
   pub since_phase : s.since_phase ≡ epochs_since_phase before
   pub last : s.last ≡ newest_pass (passes_of interval before)
   pub sums : s.sums ≡ sums_in interval before
+  pub run : s.run ≡ open_run interval before
+  pub hour : s.hour ≡ last_hour interval before
 
 -- the pass that ends when another one begins
 abbrev pub StandsForEnded : Option PassCounts → Option ℕ → List Sighting → Sighting → Type 0
@@ -83,12 +91,22 @@ HasEnded ended interval before satellite = ended_of satellite ended ≡ reverse 
 abbrev pub StandForEnded : List EndedPass → Option ℕ → List EpochTableView → Type 0
 StandForEnded ended interval es = (place : ℕ) → place < 32 → HasEnded ended interval (sightings_of (place + 1) es) (place + 1)
 
--- a file after these epochs, whose hours are given newest first
-pub record StandsForFile (f : FileCounts) (interval : Option ℕ) (unit : ℕ) (es : List EpochTableView) (hs : List HourCounts) : Type 0 where
+-- a file after these epochs, whose hours are given newest first, with these runs and bursts
+pub record StandsForFile (f : FileCounts) (interval : Option ℕ) (unit : ℕ) (es : List EpochTableView) (hs : List HourCounts) (runs_so_far : List HalfRun) (bursts_so_far : List Burst) : Type 0 where
   pub records : f.records ≡ record_counts_of unit es
   pub satellites : StandForSatellites f.satellites.items interval es
   pub ended : StandForEnded f.ended.items interval es
   pub hours : AreHours f.hours hs
   pub gaps : AreLargest size_of_gap f.gaps (gaps_of unit es)
-  pub outages : AreLargest size_of_outage f.outages (all_outages interval es)
   pub moments : AreLargest size_of_moment f.moments (common_moments interval es)
+  pub outages : AreLargest size_of_outage f.events.outages (all_outages interval es)
+  pub runs : AreLargest size_of_run f.events.runs runs_so_far
+  pub bursts : AreLargest size_of_burst f.events.bursts bursts_so_far
+
+-- a file after these epochs, with the runs and bursts that ended
+abbrev pub IsCounting : FileCounts → Option ℕ → ℕ → List Code → List EpochTableView → Type 0
+IsCounting f interval unit listed es = StandsForFile f interval unit es (noted_hours interval unit listed es) (ended_runs interval es) (ended_bursts interval es)
+
+-- a file of these epochs, with all of them
+abbrev pub HasCounted : FileCounts → Option ℕ → ℕ → List Code → List EpochTableView → Type 0
+HasCounted f interval unit listed es = StandsForFile f interval unit es (hours_of interval unit listed es) (half_runs interval es) (all_bursts interval es)

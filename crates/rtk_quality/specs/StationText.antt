@@ -17,6 +17,8 @@ use Rattle.rtk_quality.specs.declared.gaps.Gap.{Gap}
 use Rattle.rtk_quality.specs.declared.falls.Fall.{Fall}
 use Rattle.rtk_quality.specs.declared.moments.Moment.{Moment}
 use Rattle.rtk_quality.specs.declared.outages.Outage.{Outage}
+use Rattle.rtk_quality.specs.declared.runs.HalfRun.{HalfRun}
+use Rattle.rtk_quality.specs.declared.bursts.Burst.{Burst}
 use Rattle.rtk_quality.specs.declared.strengths.Strengths.{Strengths}
 
 -- a code is of this band
@@ -78,6 +80,22 @@ unfoldable pub together_line : Form → Moment → List ℕ
 together_line form m =
     start_text form (codes "slip-together") ++ moment_text form (codes " ") (codes "\"time\":") m.time
     ++ having_text form m.together.slipping m.together.tracked ++ end_text form
+
+-- formula
+-- the line of an hour in which a satellite slips at several epochs
+unfoldable pub burst_line : Form → Burst → List ℕ
+burst_line form b =
+    start_text form (codes "burst") ++ satellite_name form b.satellite
+    ++ moment_text form (codes " hour ") (codes ",\"hour\":") (reading_of (start_of b.hour))
+    ++ value_text form (codes " moments ") (codes ",\"moments\":") Whole (Some b.moments) ++ end_text form
+
+-- formula
+-- the line of a run of half cycles
+unfoldable pub run_line : Form → HalfRun → List ℕ
+run_line form h =
+    start_text form (codes "half-run") ++ satellite_name form h.satellite
+    ++ moment_text form (codes " from ") (codes ",\"from\":") h.run.from ++ moment_text form (codes " until ") (codes ",\"until\":") h.run.until
+    ++ value_text form (codes " epochs ") (codes ",\"epochs\":") Whole (Some h.run.epochs) ++ end_text form
 
 -- the line of a fall
 unfoldable pub fall_line : Form → Band → Fall → List ℕ

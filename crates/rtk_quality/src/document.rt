@@ -2,10 +2,9 @@
 
 ghost use Rattle.std.specs.Prelude.{◌≡◌, ◌≤◌, ℕ, List, length, ◌++◌, Option, IfOk, OnOk};
 ghost use Rattle.rtk_rinex.specs.Record.{EpochTableView};
-ghost use Rattle.rtk_quality.specs.Hours.{hours_of};
 ghost use Rattle.rtk_quality.specs.Records.{unit_of};
 ghost use Rattle.rtk_quality.specs.QualityText.{no_lists, close_text, signals_part, station_part, body_text, quality_text, text_of_none, TellsQuality};
-ghost use Rattle.rtk_quality.specs.Standing.{StandForSatellites, StandForEnded, StandsForFile};
+ghost use Rattle.rtk_quality.specs.Standing.{StandForSatellites, StandForEnded, HasCounted};
 
 use crate::file_counts::{EndedPass, FileCounts, count_file, satellites_in, station_sums};
 use crate::form::{Form, put_either, put_end};
@@ -13,7 +12,9 @@ use crate::heading::{ListedCounts, put_heading, put_marker};
 use crate::lines::put_count;
 use crate::satellite_counts::SatelliteCounts;
 use crate::sections::{Section, put_codes, put_section};
-use crate::station::{put_falls, put_gaps, put_hours, put_moments, put_outages};
+use crate::station::{
+    put_bursts, put_falls, put_gaps, put_hours, put_moments, put_outages, put_runs,
+};
 use rtk_obs::{Code, GpsMs, civil};
 use rtk_rinex::TextTable;
 use rtk_tracking::interval;
@@ -36,7 +37,7 @@ fn put_no_lists(text: &mut Vec<u8>, form: Form) -> Result<(), AllocError>
         text,
         form,
         b"",
-        b",\n\"codes\":[],\n\"satellites\":[],\n\"tracked\":[],\n\"never\":[],\n\"passes\":[],\n\"hours\":[],\n\"gaps\":[],\n\"falls\":[],\n\"outages\":[],\n\"slips_together\":[]",
+        b",\n\"codes\":[],\n\"satellites\":[],\n\"tracked\":[],\n\"never\":[],\n\"passes\":[],\n\"hours\":[],\n\"gaps\":[],\n\"falls\":[],\n\"outages\":[],\n\"slips_together\":[],\n\"bursts\":[],\n\"half_runs\":[]",
     )
 }
 
@@ -62,15 +63,17 @@ fn put_station_lines(
     codes: &[Code],
     counts: &FileCounts,
 ) -> Result<(), AllocError>
-    ensures { OnOk result ((interval : Option ℕ) (unit : ℕ) (es : List EpochTableView) → StandsForFile counts.now interval unit es (hours_of interval unit codes.now es)
+    ensures { OnOk result ((interval : Option ℕ) (unit : ℕ) (es : List EpochTableView) → HasCounted counts.now interval unit codes.now es
         → text.new.items ≡ text.old.items ++ station_part form codes.now interval unit es) }
 {
     let hours = counts.hours.all(alloc)?;
     put_hours(text, form, codes, hours.as_slice())?;
     put_gaps(text, form, &counts.gaps)?;
     put_falls(text, form, hours.as_slice())?;
-    put_outages(text, form, &counts.outages)?;
+    put_outages(text, form, &counts.events.outages)?;
     put_moments(text, form, &counts.moments)?;
+    put_bursts(text, form, &counts.events.bursts)?;
+    put_runs(text, form, &counts.events.runs)?;
     Ok(())
 }
 
@@ -107,7 +110,7 @@ fn put_body(
 ) -> Result<(), AllocError>
     requires few { length codes.now ≤ 16 }
     requires size { length counts.now.satellites.items ≡ 32 }
-    ensures { OnOk result ((interval : Option ℕ) (unit : ℕ) (es : List EpochTableView) → StandsForFile counts.now interval unit es (hours_of interval unit codes.now es)
+    ensures { OnOk result ((interval : Option ℕ) (unit : ℕ) (es : List EpochTableView) → HasCounted counts.now interval unit codes.now es
         → text.new.items ≡ text.old.items ++ body_text form codes.now interval unit es) }
 {
     let satellites = counts.satellites.as_slice();
@@ -139,8 +142,7 @@ fn text_of(
 ) -> Result<Vec<u8>, AllocError>
     requires few { length codes.now ≤ 16 }
     requires size { length counts.now.satellites.items ≡ 32 }
-    ensures { IfOk result (λ text. (es : List EpochTableView) → StandsForFile counts.now interval (unit_of interval) es
-        (hours_of interval (unit_of interval) codes.now es)
+    ensures { IfOk result (λ text. (es : List EpochTableView) → HasCounted counts.now interval (unit_of interval) codes.now es
         → text.items ≡ quality_text form marker.now codes.now first last interval es) }
 {
     let satellites = counts.satellites.as_slice();
@@ -149,6 +151,8 @@ fn text_of(
     let listed = ListedCounts {
         gaps: counts.gaps.count,
         moments: counts.moments.count,
+        bursts: counts.events.bursts.count,
+        runs: counts.events.runs.count,
     };
     let from = civil(first);
     let until = civil(last);

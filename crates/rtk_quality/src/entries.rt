@@ -1,8 +1,9 @@
 //! The entries of lists, each of them a row of a table, a line, or an object in JSON.
 
 ghost use Rattle.std.specs.Prelude.{◌≡◌, ◌++◌, OnOk};
-ghost use Rattle.rtk_quality.specs.Entries.{code_entry, satellite_entry, tracked_entry, pass_entry, hour_entry, gap_entry, outage_entry, moment_entry, fall_entry};
+ghost use Rattle.rtk_quality.specs.Entries.{code_entry, satellite_entry, tracked_entry, pass_entry, hour_entry, gap_entry, outage_entry, moment_entry, burst_entry, run_entry, fall_entry};
 
+use crate::bursts::Burst;
 use crate::code_numbers::CodeNumbers;
 use crate::falls::Fall;
 use crate::form::Form;
@@ -14,12 +15,14 @@ use crate::moments::Moment;
 use crate::outages::Outage;
 use crate::pass_sums::PassSums;
 use crate::rows::{
-    put_code_row, put_fall_row, put_gap_row, put_hour_row, put_moment_row, put_outage_row,
-    put_pass_row, put_signal_row, put_tracked_row,
+    put_burst_row, put_code_row, put_fall_row, put_gap_row, put_hour_row, put_moment_row,
+    put_outage_row, put_pass_row, put_run_row, put_signal_row, put_tracked_row,
 };
+use crate::runs::HalfRun;
 use crate::satellite_counts::PassCounts;
 use crate::station_lines::{
-    put_fall_line, put_gap_line, put_hour_line, put_moment_line, put_outage_line,
+    put_burst_line, put_fall_line, put_gap_line, put_hour_line, put_moment_line, put_outage_line,
+    put_run_line,
 };
 use crate::strengths::number_of;
 use rtk_obs::{Band, Code};
@@ -146,6 +149,48 @@ impl Listed for Moment {
 
     fn put_entry(&self, text: &mut Vec<u8>, form: Form) -> Result<(), AllocError> {
         put_moment_entry(text, form, self)
+    }
+}
+
+impl Listed for Burst {
+    ghost use Rattle.rtk_quality.specs.Entries.{burst_entry};
+
+    ghost entry = { burst_entry };
+
+    fn put_entry(&self, text: &mut Vec<u8>, form: Form) -> Result<(), AllocError> {
+        put_burst_entry(text, form, self)
+    }
+}
+
+impl Listed for HalfRun {
+    ghost use Rattle.rtk_quality.specs.Entries.{run_entry};
+
+    ghost entry = { run_entry };
+
+    fn put_entry(&self, text: &mut Vec<u8>, form: Form) -> Result<(), AllocError> {
+        put_run_entry(text, form, self)
+    }
+}
+
+// Appends an hour in which a satellite slips at several epochs.
+#[tactic(auto, unfolding(crate::specs::Entries::burst_entry))]
+fn put_burst_entry(text: &mut Vec<u8>, form: Form, burst: &Burst) -> Result<(), AllocError>
+    ensures { OnOk result (text.new.items ≡ text.old.items ++ burst_entry form burst.now) }
+{
+    match form {
+        Form::Table => put_burst_row(text, burst),
+        Form::Lines | Form::Json => put_burst_line(text, form, burst),
+    }
+}
+
+// Appends a run of half cycles.
+#[tactic(auto, unfolding(crate::specs::Entries::run_entry))]
+fn put_run_entry(text: &mut Vec<u8>, form: Form, half: &HalfRun) -> Result<(), AllocError>
+    ensures { OnOk result (text.new.items ≡ text.old.items ++ run_entry form half.now) }
+{
+    match form {
+        Form::Table => put_run_row(text, half),
+        Form::Lines | Form::Json => put_run_line(text, form, half),
     }
 }
 

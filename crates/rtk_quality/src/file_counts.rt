@@ -4,25 +4,30 @@ ghost use Rattle.std.specs.Prelude.{◌≡◌, ◌<◌, ℕ, List, [], ◌∷◌
 ghost use Rattle.std.specs.List.{range_with_len};
 ghost use Rattle.rtk_rinex.specs.Record.{EpochTableView};
 ghost use Rattle.rtk_obs.specs.declared.code.Code.{Code};
-ghost use Rattle.rtk_quality.specs.Hours.{hours_of};
-ghost use Rattle.rtk_quality.specs.Steps.Noted.{no_locks, locks_onto, noted_hours};
+ghost use Rattle.rtk_quality.specs.Steps.Noted.{no_locks, locks_onto};
 ghost use Rattle.rtk_quality.specs.Records.{unit_of};
 ghost use Rattle.rtk_quality.specs.Largest.{AreLargest};
 ghost use Rattle.rtk_quality.specs.Outages.{outages_in, size_of_outage};
 ghost use Rattle.rtk_quality.specs.Moments.{together_in};
+ghost use Rattle.rtk_quality.specs.Runs.{runs_in, open_runs, size_of_run};
+ghost use Rattle.rtk_quality.specs.Bursts.{bursts_in, last_bursts, size_of_burst};
 ghost use Rattle.rtk_quality.specs.declared.outages.Outage.{Outage};
+ghost use Rattle.rtk_quality.specs.declared.runs.HalfRun.{HalfRun};
+ghost use Rattle.rtk_quality.specs.declared.bursts.Burst.{Burst};
 ghost use Rattle.rtk_quality.specs.Quality.{totals_of, station_sums, possible_in, satellites_in};
 ghost use Rattle.rtk_tracking.specs.Epochs.{HoldsOfEpochs, newest_moment};
-ghost use Rattle.rtk_quality.specs.Standing.{without_rows, with_ended, StandForSatellites, StandForEnded, StandsForFile};
+ghost use Rattle.rtk_quality.specs.Standing.{without_rows, with_ended, StandForSatellites, StandForEnded, IsCounting, HasCounted};
 
+use crate::bursts::burst_of;
 use crate::code_numbers::CodeNumbers;
+use crate::events::Events;
 use crate::gaps::{Gap, gap_between};
 use crate::hours::{Hours, Locks};
 use crate::largest::Largest;
 use crate::moments::{Moment, Together, moment_if_several};
-use crate::outages::{Outage, outage_of};
 use crate::pass_sums::PassSums;
 use crate::record_counts::{RecordCounts, unit_ms};
+use crate::runs::half_run;
 use crate::satellite_counts::{PassCounts, SatelliteCounts};
 use rtk_obs::{Code, GpsMs, civil};
 use rtk_rinex::{EpochTable, TextTable};
@@ -45,8 +50,8 @@ pub(crate) struct FileCounts {
     pub(crate) ended: Vec<EndedPass>,
     pub(crate) hours: Hours,
     pub(crate) gaps: Largest<Gap>,
-    pub(crate) outages: Largest<Outage>,
     pub(crate) moments: Largest<Moment>,
+    pub(crate) events: Events,
 }
 
 /// What the rows of an epoch add up to.
@@ -99,7 +104,7 @@ fn note_satellites(satellites: &mut Vec<SatelliteCounts>)
 fn note_rows(
     satellites: &mut Vec<SatelliteCounts>,
     ended: &mut Vec<EndedPass>,
-    outages: &mut Largest<Outage>,
+    events: &mut Events,
     interval: Option<u64>,
     record_ms: Option<u64>,
     epoch: &EpochTable,
@@ -114,7 +119,13 @@ fn note_rows(
         → StandForEnded ended.old.items interval es → StandForEnded ended.new.items interval (epoch.now ∷ es)) }
     ensures outages { OnOk result ((es : List EpochTableView) (all : List Outage) → record_ms ≡ newest_moment es
         → StandForSatellites satellites.old.items interval (without_rows epoch.now.time ∷ es)
-        → AreLargest size_of_outage outages.old all → AreLargest size_of_outage outages.new (all ++ outages_in interval es epoch.now.time epoch.now.rows)) }
+        → AreLargest size_of_outage events.old.outages all → AreLargest size_of_outage events.new.outages (all ++ outages_in interval es epoch.now.time epoch.now.rows)) }
+    ensures runs { OnOk result ((es : List EpochTableView) (all : List HalfRun) → record_ms ≡ newest_moment es
+        → StandForSatellites satellites.old.items interval (without_rows epoch.now.time ∷ es)
+        → AreLargest size_of_run events.old.runs all → AreLargest size_of_run events.new.runs (all ++ runs_in interval es epoch.now.time epoch.now.rows)) }
+    ensures bursts { OnOk result ((es : List EpochTableView) (all : List Burst) → record_ms ≡ newest_moment es
+        → StandForSatellites satellites.old.items interval (without_rows epoch.now.time ∷ es)
+        → AreLargest size_of_burst events.old.bursts all → AreLargest size_of_burst events.new.bursts (all ++ bursts_in interval es epoch.now.time epoch.now.rows)) }
     ensures locks { IfOk result (λ notes. (es : List EpochTableView) → record_ms ≡ newest_moment es
         → StandForSatellites satellites.old.items interval (without_rows epoch.now.time ∷ es)
         → notes.locks ≡ locks_onto interval es epoch.now.time no_locks epoch.now.rows) }
@@ -133,9 +144,26 @@ fn note_rows(
         locks = locks.plus(&notes.locks);
         together = together.plus(notes.locks.slips, notes.is_tracked);
         add_ended(ended, row.satellite, notes.ended)?;
-        outages.note_if_any(outage_of(row.satellite, notes.absence))?;
+        events.note_row(row.satellite, &notes)?;
     }
     Ok(EpochNotes { locks, together })
+}
+
+// Notes the runs and the hours with slips that no later phase ends.
+fn note_last(events: &mut Events, satellites: &[SatelliteCounts]) -> Result<(), AllocError>
+    requires { length satellites.now ≡ 32 }
+    ensures outages { OnOk result (events.new.outages ≡ events.old.outages) }
+    ensures runs { OnOk result ((interval : Option ℕ) (es : List EpochTableView) (all : List HalfRun) → StandForSatellites satellites.now interval es
+        → AreLargest size_of_run events.old.runs all → AreLargest size_of_run events.new.runs (all ++ open_runs interval es)) }
+    ensures bursts { OnOk result ((interval : Option ℕ) (es : List EpochTableView) (all : List Burst) → StandForSatellites satellites.now interval es
+        → AreLargest size_of_burst events.old.bursts all → AreLargest size_of_burst events.new.bursts (all ++ last_bursts interval es)) }
+{
+    for (place, counts) in satellites.iter().enumerate() {
+        let satellite = place as u8 + 1;
+        events.runs.note_if_any(half_run(satellite, counts.run))?;
+        events.bursts.note_if_any(burst_of(satellite, counts.hour))?;
+    }
+    Ok(())
 }
 
 /// The numbers of the code at this place over all satellites that have it.
@@ -189,7 +217,7 @@ impl FileCounts {
     /// Of a file without records: 32 satellites, each of them without an epoch.
     pub(crate) fn new(alloc: Global) -> Result<FileCounts, AllocError>
         ensures size { IfOk result (λ counts. length counts.satellites.items ≡ 32) }
-        ensures counts { IfOk result (λ counts. (interval : Option ℕ) (unit : ℕ) (codes : List Code) → StandsForFile counts interval unit [] (noted_hours interval unit codes [])) }
+        ensures counts { IfOk result (λ counts. (interval : Option ℕ) (unit : ℕ) (codes : List Code) → IsCounting counts interval unit codes []) }
     {
         Ok(FileCounts {
             records: RecordCounts::new(),
@@ -197,8 +225,8 @@ impl FileCounts {
             ended: Vec::new(alloc),
             hours: Hours::new(alloc),
             gaps: Largest::new(alloc),
-            outages: Largest::new(alloc),
             moments: Largest::new(alloc),
+            events: Events::new(alloc),
         })
     }
 
@@ -214,15 +242,14 @@ impl FileCounts {
         requires size { length self.old.satellites.items ≡ 32 }
         ensures size { OnOk result (length self.new.satellites.items ≡ 32) }
         ensures counts { OnOk result ((es : List EpochTableView)
-            → StandsForFile self.old interval unit_ms es (noted_hours interval unit_ms codes.now es)
-            → StandsForFile self.new interval unit_ms (epoch.now ∷ es) (noted_hours interval unit_ms codes.now (epoch.now ∷ es))) }
+            → IsCounting self.old interval unit_ms codes.now es → IsCounting self.new interval unit_ms codes.now (epoch.now ∷ es)) }
     {
         let record_ms = ms_of(self.records.last);
         note_satellites(&mut self.satellites);
         let notes = note_rows(
             &mut self.satellites,
             &mut self.ended,
-            &mut self.outages,
+            &mut self.events,
             interval,
             record_ms,
             epoch,
@@ -253,7 +280,7 @@ pub(crate) fn count_file(
 ) -> Result<FileCounts, AllocError>
     ensures size { IfOk result (λ counts. length counts.satellites.items ≡ 32) }
     ensures counts { IfOk result (λ counts. HoldsOfEpochs table.now.text
-        (λ es. StandsForFile counts interval (unit_of interval) es (hours_of interval (unit_of interval) codes.now es))) }
+        (λ es. HasCounted counts interval (unit_of interval) codes.now es)) }
 {
     let unit_ms = unit_ms(interval);
     let mut counts = FileCounts::new(alloc)?;
@@ -262,5 +289,6 @@ pub(crate) fn count_file(
     while let Some(_record) = records.next(&mut epoch) {
         counts.note_epoch(interval, unit_ms, codes, &epoch)?;
     }
+    note_last(&mut counts.events, counts.satellites.as_slice())?;
     Ok(counts)
 }

@@ -1,7 +1,7 @@
 //! The lines of the whole file.
 
 ghost use Rattle.std.specs.Prelude.{◌≡◌, ◌++◌, OnOk};
-ghost use Rattle.rtk_quality.specs.QualityText.{marker_text, span_text, satellites_text, station_text, heading_text};
+ghost use Rattle.rtk_quality.specs.QualityText.{marker_text, span_text, satellites_text, station_text, listed_text, heading_text};
 
 use crate::code_numbers::mean_tenths;
 use crate::form::{Decimals, Form, put_end, put_json_text, put_moment, put_narrow, put_value};
@@ -17,6 +17,10 @@ pub(crate) struct ListedCounts {
     pub(crate) gaps: u64,
     /// Epochs at which several satellites slip.
     pub(crate) moments: u64,
+    /// Hours in which a satellite slips at several epochs.
+    pub(crate) bursts: u64,
+    /// Runs of half cycles.
+    pub(crate) runs: u64,
 }
 
 /// Appends the marker.
@@ -129,6 +133,23 @@ fn put_station(text: &mut Vec<u8>, form: Form, sums: &PassSums) -> Result<(), Al
     Ok(())
 }
 
+// Appends the counts that follow the outages.
+#[tactic(auto, unfolding(crate::specs::QualityText::listed_text))]
+fn put_listed(text: &mut Vec<u8>, form: Form, listed: &ListedCounts) -> Result<(), AllocError>
+    ensures { OnOk result (text.new.items ≡ text.old.items ++ listed_text form listed.now) }
+{
+    put_count(
+        text,
+        form,
+        b"\nslips-together ",
+        b",\"slips_together\":",
+        listed.moments,
+    )?;
+    put_count(text, form, b"\nbursts ", b",\"bursts\":", listed.bursts)?;
+    put_count(text, form, b"\nhalf-runs ", b",\"half_runs\":", listed.runs)?;
+    Ok(())
+}
+
 /// Appends the lines of the whole file.
 #[tactic(auto, unfolding(crate::specs::QualityText::heading_text))]
 pub(crate) fn put_heading(
@@ -150,13 +171,7 @@ pub(crate) fn put_heading(
     put_count(text, form, b"\ngaps ", b",\"gaps\":", listed.gaps)?;
     put_satellites(text, form, satellites, records)?;
     put_station(text, form, sums)?;
-    put_count(
-        text,
-        form,
-        b"\nslips-together ",
-        b",\"slips_together\":",
-        listed.moments,
-    )?;
+    put_listed(text, form, listed)?;
     put_end(text, form)?;
     Ok(())
 }

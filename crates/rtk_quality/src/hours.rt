@@ -44,8 +44,8 @@ pub(crate) struct Hours {
     pub(crate) ended: Vec<HourCounts>,
 }
 
-// The hours of GPS time before the one of a moment. A record may lie a little before its hour.
-fn hour_at(interval: Option<u64>, time: GpsMs) -> u64
+/// The hours of GPS time before the one of a moment. A record may lie a little before its hour.
+pub(crate) fn hour_at(interval: Option<u64>, time: GpsMs) -> u64
     ensures { result ≡ hour_at interval time }
 {
     (time.ms() + nearness_ms(interval)) / HOUR_MS

@@ -48,11 +48,13 @@
 
 #![tactic(auto)]
 
+mod bursts;
 mod code_counts;
 mod code_numbers;
 mod columns;
 mod document;
 mod entries;
+mod events;
 mod falls;
 mod file_counts;
 mod form;
@@ -69,6 +71,7 @@ mod outages;
 mod pass_sums;
 mod record_counts;
 mod rows;
+mod runs;
 mod satellite_counts;
 mod sections;
 mod station;
@@ -79,4 +82,5 @@ pub use document::quality;
 pub use form::Form;
 pub use laws::{
     each_is_counted, events_hide_nothing, gaps_hide_nothing, hours_hide_nothing, no_bit_is_hidden,
+    satellites_hide_nothing,
 };

@@ -1,8 +1,9 @@
 //! The rows of a table.
 
 ghost use Rattle.std.specs.Prelude.{◌≡◌, ◌++◌, OnOk};
-ghost use Rattle.rtk_quality.specs.Rows.{satellite_mark, numbers_text, span_part, strength_column, signal_row, code_row, tracked_row, pass_row, hour_row, gap_row, outage_row, moment_row, fall_row};
+ghost use Rattle.rtk_quality.specs.Rows.{satellite_mark, numbers_text, span_part, strength_column, signal_row, code_row, tracked_row, pass_row, hour_row, gap_row, outage_row, moment_row, burst_row, run_row, fall_row};
 
+use crate::bursts::Burst;
 use crate::code_numbers::{
     CodeNumbers, mean_hundredths, mean_tenths, percent_tenths, phases_per_slip,
 };
@@ -15,6 +16,7 @@ use crate::lines::{put_having, put_per_slip};
 use crate::moments::Moment;
 use crate::outages::Outage;
 use crate::pass_sums::PassSums;
+use crate::runs::HalfRun;
 use crate::satellite_counts::PassCounts;
 use crate::strengths::BandStrengths;
 use rtk_obs::{Civil, Code, put_civil, two_digits};
@@ -228,6 +230,30 @@ pub(crate) fn put_moment_row(text: &mut Vec<u8>, moment: &Moment) -> Result<(), 
             Cell::count(6, moment.together.tracked),
         ],
     )?;
+    text.extend_from_slice(b"\n")
+}
+
+/// Appends the row of an hour in which a satellite slips at several epochs.
+#[tactic(auto, unfolding(crate::specs::Rows::burst_row))]
+pub(crate) fn put_burst_row(text: &mut Vec<u8>, burst: &Burst) -> Result<(), AllocError>
+    ensures { OnOk result (text.new.items ≡ text.old.items ++ burst_row burst.now) }
+{
+    let start = start_of(burst.hour);
+    put_satellite(text, burst.satellite)?;
+    text.extend_from_slice(b" ")?;
+    put_part(text, start, MINUTE)?;
+    put_cells(text, &[Cell::count(8, burst.moments)])?;
+    text.extend_from_slice(b"\n")
+}
+
+/// Appends the row of a run of half cycles.
+#[tactic(auto, unfolding(crate::specs::Rows::run_row))]
+pub(crate) fn put_run_row(text: &mut Vec<u8>, half: &HalfRun) -> Result<(), AllocError>
+    ensures { OnOk result (text.new.items ≡ text.old.items ++ run_row half.now) }
+{
+    put_satellite(text, half.satellite)?;
+    put_span(text, half.run.from, half.run.until, SECOND)?;
+    put_cells(text, &[Cell::count(10, half.run.epochs)])?;
     text.extend_from_slice(b"\n")
 }
 

@@ -9,16 +9,20 @@ ghost use Rattle.rtk_tracking.specs.Epochs.{shown_at};
 ghost use Rattle.rtk_quality.specs.Counts.{plus, code_counts_of};
 ghost use Rattle.rtk_quality.specs.Hours.{returns_at};
 ghost use Rattle.rtk_quality.specs.Outages.{absence_at};
+ghost use Rattle.rtk_quality.specs.Runs.{has_half, ended_run};
+ghost use Rattle.rtk_quality.specs.Bursts.{hour_before};
 ghost use Rattle.rtk_quality.specs.Steps.Noted.{locks_at, absence_after};
 ghost use Rattle.rtk_quality.specs.Quality.{numbers_of, is_in_file};
 ghost use Rattle.rtk_quality.specs.SatellitePasses.{phases_in, slips_at, sums_plus, sums_in, epochs_in_passes};
 ghost use Rattle.rtk_quality.specs.Standing.{with_epoch, absent_at, StandsForSatellite, StandsForEnded};
 
+use crate::bursts::{HourMoments, next_hour};
 use crate::code_counts::CodeCounts;
 use crate::code_numbers::CodeNumbers;
-use crate::hours::Locks;
+use crate::hours::{Locks, hour_at};
 use crate::outages::Absence;
 use crate::pass_sums::PassSums;
+use crate::runs::{Run, next_run};
 use rtk_obs::{Civil, GpsMs};
 use rtk_rinex::Observed;
 use rtk_tracking::{Known, Pass};
@@ -32,13 +36,16 @@ pub(crate) struct PassCounts {
 }
 
 /// What a row tells beside the counts: the pass that ended when another one began, the slips and returns, the
-/// absence with which an outage ended, and whether there is a phase.
+/// absence with which an outage ended, whether there is a phase, the run of half cycles that ended before it, and
+/// the hour with slips that did.
 #[derive(Clone, Copy)]
 pub(crate) struct RowNotes {
     pub(crate) ended: Option<PassCounts>,
     pub(crate) locks: Locks,
     pub(crate) absence: Option<Absence>,
     pub(crate) is_tracked: bool,
+    pub(crate) run: Option<Run>,
+    pub(crate) hour: Option<HourMoments>,
 }
 
 /// A satellite so far.
@@ -54,6 +61,10 @@ pub(crate) struct SatelliteCounts {
     pub(crate) last: Option<PassCounts>,
     /// The sums of all epochs.
     pub(crate) sums: PassSums,
+    /// The run of half cycles that goes on.
+    pub(crate) run: Option<Run>,
+    /// The last hour with slips.
+    pub(crate) hour: Option<HourMoments>,
 }
 
 // What the code at this place shows.
@@ -96,6 +107,13 @@ fn has_phase(observed: &[Observed]) -> bool
     ensures { result ≡ has_phase observed.now }
 {
     observed.iter().any(|o| o.phase_millicycles.is_some())
+}
+
+// Some code has an open half cycle.
+fn has_half(observed: &[Observed]) -> bool
+    ensures { result ≡ has_half observed.now }
+{
+    observed.iter().any(|o| o.half)
 }
 
 // The code at this place has slipped: it had a phase earlier in the pass and since
@@ -198,6 +216,8 @@ impl SatelliteCounts {
             since_phase: 0,
             last: None,
             sums: PassSums::none(),
+            run: None,
+            hour: None,
         }
     }
 
@@ -286,6 +306,10 @@ impl SatelliteCounts {
         ensures absence { (before : List Sighting) → StandsForSatellite self.old interval (absent_at time ∷ before)
             → record_ms ≡ last_record before → result.absence ≡ absence_at interval before (record { time = time; observed = observed.now }) }
         ensures tracked { result.is_tracked ≡ has_phase observed.now }
+        ensures run { (before : List Sighting) → StandsForSatellite self.old interval (absent_at time ∷ before)
+            → record_ms ≡ last_record before → result.run ≡ ended_run interval before (record { time = time; observed = observed.now }) }
+        ensures hour { (before : List Sighting) → StandsForSatellite self.old interval (absent_at time ∷ before)
+            → record_ms ≡ last_record before → result.hour ≡ hour_before interval before (record { time = time; observed = observed.now }) }
     {
         let time_ms = time.ms();
         let begins = self.pass.begins(interval, time_ms, observed);
@@ -300,18 +324,26 @@ impl SatelliteCounts {
                 locks,
                 absence: None,
                 is_tracked: false,
+                run: None,
+                hour: None,
             };
         }
         let slips = slips_in(observed, &known.kept);
         let returns = returns_in(observed, &known);
         let sums = PassSums::of(phases_in(observed), slips, outage_ms);
         let absence = absence_after(self.last, reading, outage_ms);
+        let run = next_run(self.run, begins, has_half(observed), reading);
+        let hour = next_hour(self.hour, slips, hour_at(interval, time));
         let ended = self.note_phases(begins, reading, &sums);
+        self.run = run.newest;
+        self.hour = hour.last;
         RowNotes {
             ended,
             locks: Locks { slips, returns },
             absence,
             is_tracked: true,
+            run: run.ended,
+            hour: hour.ended,
         }
     }
 }

@@ -3,8 +3,9 @@
 ghost use Rattle.std.specs.Prelude.{◌≡◌, ◌++◌, flat_map, OnOk};
 ghost use Rattle.rtk_quality.specs.Entries.{hour_entry, fall_part};
 ghost use Rattle.rtk_quality.specs.Lists.{more_text, largest_text};
-ghost use Rattle.rtk_quality.specs.QualityText.{hours_text, gaps_text, outages_text, moments_text, falls_of, falls_text};
+ghost use Rattle.rtk_quality.specs.QualityText.{hours_text, gaps_text, outages_text, moments_text, bursts_text, runs_text, falls_of, falls_text};
 
+use crate::bursts::Burst;
 use crate::entries::{Listed, put_fall_entry, put_hour_entry};
 use crate::falls::largest_fall;
 use crate::form::Form;
@@ -14,6 +15,7 @@ use crate::largest::Largest;
 use crate::lists::{begin_list, end_list};
 use crate::moments::Moment;
 use crate::outages::Outage;
+use crate::runs::HalfRun;
 use rtk_message::put_number;
 use rtk_obs::{Band, Code};
 use std::alloc::AllocError;
@@ -149,6 +151,42 @@ pub(crate) fn put_moments(
         b"\nslips together      satellites    of\n",
         b",\n\"slips_together\":[",
         moments,
+    )
+}
+
+/// Appends the hours in which a satellite slips at several epochs.
+#[tactic(auto, unfolding(crate::specs::QualityText::bursts_text))]
+pub(crate) fn put_bursts(
+    text: &mut Vec<u8>,
+    form: Form,
+    bursts: &Largest<Burst>,
+) -> Result<(), AllocError>
+    ensures { OnOk result (text.new.items ≡ text.old.items ++ bursts_text form bursts.now.count bursts.now.things.items) }
+{
+    put_largest(
+        text,
+        form,
+        b"\nburst hour           moments\n",
+        b",\n\"bursts\":[",
+        bursts,
+    )
+}
+
+/// Appends the runs of half cycles.
+#[tactic(auto, unfolding(crate::specs::QualityText::runs_text))]
+pub(crate) fn put_runs(
+    text: &mut Vec<u8>,
+    form: Form,
+    runs: &Largest<HalfRun>,
+) -> Result<(), AllocError>
+    ensures { OnOk result (text.new.items ≡ text.old.items ++ runs_text form runs.now.count runs.now.things.items) }
+{
+    put_largest(
+        text,
+        form,
+        b"\nhalf from               until                  epochs\n",
+        b",\n\"half_runs\":[",
+        runs,
     )
 }
 

@@ -1,8 +1,9 @@
-//! The lines of hours, gaps, falls, outages and moments.
+//! The lines of hours, of falls, and of the lists of the ten largest things.
 
 ghost use Rattle.std.specs.Prelude.{◌≡◌, ◌++◌, OnOk};
-ghost use Rattle.rtk_quality.specs.StationText.{has_band, strength_words, strength_key, strength_text, hour_counts_text, hour_line, gap_line, outage_line, together_line, fall_line};
+ghost use Rattle.rtk_quality.specs.StationText.{has_band, strength_words, strength_key, strength_text, hour_counts_text, hour_line, gap_line, outage_line, together_line, burst_line, run_line, fall_line};
 
+use crate::bursts::Burst;
 use crate::code_numbers::{mean_hundredths, mean_tenths};
 use crate::falls::Fall;
 use crate::form::{Decimals, Form, put_end, put_moment, put_start, put_value};
@@ -11,6 +12,7 @@ use crate::hours::{HourCounts, start_of};
 use crate::lines::{put_count, put_having, put_satellite_name};
 use crate::moments::Moment;
 use crate::outages::Outage;
+use crate::runs::HalfRun;
 use crate::strengths::{Strengths, number_of};
 use rtk_obs::{Band, Code};
 use std::alloc::AllocError;
@@ -164,6 +166,37 @@ pub(crate) fn put_moment_line(
     put_start(text, form, b"slip-together")?;
     put_moment(text, form, b" ", b"\"time\":", moment.time)?;
     put_having(text, form, together.slipping, together.tracked)?;
+    put_end(text, form)?;
+    Ok(())
+}
+
+/// Appends the line of an hour in which a satellite slips at several epochs.
+#[tactic(auto, unfolding(crate::specs::StationText::burst_line))]
+pub(crate) fn put_burst_line(
+    text: &mut Vec<u8>,
+    form: Form,
+    burst: &Burst,
+) -> Result<(), AllocError>
+    ensures { OnOk result (text.new.items ≡ text.old.items ++ burst_line form burst.now) }
+{
+    put_start(text, form, b"burst")?;
+    put_satellite_name(text, form, burst.satellite)?;
+    put_moment(text, form, b" hour ", b",\"hour\":", start_of(burst.hour))?;
+    put_count(text, form, b" moments ", b",\"moments\":", burst.moments)?;
+    put_end(text, form)?;
+    Ok(())
+}
+
+/// Appends the line of a run of half cycles.
+#[tactic(auto, unfolding(crate::specs::StationText::run_line))]
+pub(crate) fn put_run_line(text: &mut Vec<u8>, form: Form, half: &HalfRun) -> Result<(), AllocError>
+    ensures { OnOk result (text.new.items ≡ text.old.items ++ run_line form half.now) }
+{
+    put_start(text, form, b"half-run")?;
+    put_satellite_name(text, form, half.satellite)?;
+    put_moment(text, form, b" from ", b",\"from\":", half.run.from)?;
+    put_moment(text, form, b" until ", b",\"until\":", half.run.until)?;
+    put_count(text, form, b" epochs ", b",\"epochs\":", half.run.epochs)?;
     put_end(text, form)?;
     Ok(())
 }

@@ -13,13 +13,13 @@ numbers_of_grid s survey grid = number_lines s survey.records (satellites_in gri
 
 -- what stands below the heading
 abbrev pub body_of_grid : List Code → Scale → ℕ → Grid → List ℕ
-body_of_grid listed s width grid = text_body listed s width grid.bins.items grid.outages.items grid.gaps.items
+body_of_grid listed s width grid = text_body listed s width grid.bins.items grid.outages.items grid.recorded.items grid.gaps.items
 
 -- a picture in characters
 abbrev pub text_of_grid : List ℕ → List Code → Scale → ℕ → Survey → Grid → List ℕ
 text_of_grid marker listed s width survey grid =
     text_picture marker listed s width survey.records grid.slips grid.returns grid.rises grid.missing
-    grid.bins.items grid.outages.items grid.gaps.items
+    grid.bins.items grid.outages.items grid.recorded.items grid.gaps.items
 
 -- a picture in SVG
 abbrev pub svg_of_grid : List ℕ → List Code → Scale → Survey → Grid → List ℕ

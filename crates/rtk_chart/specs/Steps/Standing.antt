@@ -9,7 +9,7 @@ use Rattle.rtk_tracking.specs.declared.passes.Pass.{Pass}
 use Rattle.rtk_chart.specs.Chart.{slips_at, returns_at, rises_at}
 use Rattle.rtk_tracking.specs.Interval.{missing_in}
 use Rattle.rtk_tracking.specs.Standing.{StandsForStepsBetween}
-use Rattle.rtk_chart.specs.Grid.{bins_of, outages_of, gaps_of}
+use Rattle.rtk_chart.specs.Grid.{bins_of, outages_of, gaps_of, recorded_of}
 use Rattle.rtk_chart.specs.Means.{columns_of}
 use Rattle.rtk_chart.specs.declared.survey.Survey.{Survey}
 use Rattle.rtk_chart.specs.declared.scale.Scale.{Scale}
@@ -42,6 +42,7 @@ pub record StandsForGrid (g : Grid) (s : Scale) (listed : List Code) (es : List 
   pub bins : g.bins.items ≡ bins_of s es
   pub missing : StandsForMissing g s es
   pub last : g.last ≡ newest_moment es
+  pub recorded : g.recorded.items ≡ recorded_of s es
   pub passes : StandForPasses g.passes s.interval es
   pub outages : g.outages.items ≡ outages_of s es
   pub strengths : g.strengths.items ≡ columns_of s listed es

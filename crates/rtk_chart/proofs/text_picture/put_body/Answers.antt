@@ -13,6 +13,7 @@ returns c =
       c.in_ok-put_gap_row.ensures,
       c.in_ok-put_rows.ensures,
       c.in_ok-extend_from_slice.ensures.items,
+      c.as_slice-5.ensures.value,
       c.as_slice-4.ensures.value,
       c.as_slice-3.ensures.value,
       c.as_slice-2.ensures.value,

@@ -1,15 +1,14 @@
 use Rattle.std.proofs.Common.{◌≡◌, length}
 use Rattle.rtk_rinex.specs.Table.{WellFormedTable, IsWellFormedTable, table_text}
 use Rattle.rtk_tracking.proofs.PublicLaws.{HasCome}
-use Rattle.rtk_quality.specs.Standing.{StandsForFile}
-use Rattle.rtk_quality.specs.Steps.Noted.{noted_hours}
+use Rattle.rtk_quality.specs.Standing.{IsCounting}
 use Rattle.rtk_quality.proofs.file_counts.count_file.Given as goal
 
 abbrev pub invariant-loop-record : goal.invariant-loop-record
 invariant-loop-record l = record {
   size : length l.counts.satellites.items ≡ 32;
   counts : (t : WellFormedTable) → IsWellFormedTable t → l.table.text ≡ table_text t
-      → HasCome (λ counts es. StandsForFile counts l.interval l.unit_ms es (noted_hours l.interval l.unit_ms l.codes es)) l.records l.counts t.epochs;
+      → HasCome (λ counts es. IsCounting counts l.interval l.unit_ms l.codes es) l.records l.counts t.epochs;
 }
 
 abbrev pub decreases-loop-record : goal.decreases-loop-record

@@ -7,13 +7,20 @@ use Rattle.rtk_tracking.specs.Epochs.{newest_moment}
 use Rattle.rtk_tracking.specs.Passes.{sightings_of}
 use Rattle.rtk_quality.specs.Largest.{AreLargest}
 use Rattle.rtk_quality.specs.Moments.{together_in}
-use Rattle.rtk_quality.specs.Outages.{outages_in, size_of_outage}
+use Rattle.rtk_quality.specs.Outages.{absence_at, outage_of, outages_in, size_of_outage}
 use Rattle.rtk_quality.specs.declared.outages.Outage.{Outage}
+use Rattle.rtk_quality.specs.declared.outages.Absence.{Absence}
+use Rattle.rtk_quality.specs.Runs.{ended_run, half_run, runs_in, size_of_run}
+use Rattle.rtk_quality.specs.Bursts.{hour_before, burst_of, bursts_in, size_of_burst}
+use Rattle.rtk_quality.specs.declared.runs.HalfRun.{HalfRun}
+use Rattle.rtk_quality.specs.declared.bursts.Burst.{Burst}
+use Rattle.rtk_quality.specs.declared.runs.Run.{Run}
+use Rattle.rtk_quality.specs.declared.bursts.HourMoments.{HourMoments}
 use Rattle.rtk_quality.specs.Steps.Noted.{locks_onto}
 use Rattle.rtk_quality.specs.declared.hours.Locks.{Locks}
 use Rattle.rtk_quality.specs.Standing.{absent_at, without_rows, StandsForSatellite, StandForSatellites, StandForEnded}
 use Rattle.rtk_quality.specs.declared.satellite_counts.SatelliteCounts.{SatelliteCounts}
-use Rattle.rtk_quality.proofs.RowLemmas.{all-rows, IsRowAt, record-is, row-due, row-noted, row-ended, locks-more, outages-more, together-more}
+use Rattle.rtk_quality.proofs.RowLemmas.{all-rows, IsRowAt, record-is, row-due, row-noted, row-ended, locks-more, told-more, together-more}
 use Rattle.rtk_quality.proofs.file_counts.note_rows.Goals as goal
 
 pub loop-row-init : goal.loop-row-init
@@ -22,7 +29,9 @@ loop-row-init c = record {
   satellites = λ es last stand. stand;
   ended = λ es last stand ended. ended;
   locks = λ es last stand. ap (λ (x : Locks). locks_onto c.args.interval es c.args.epoch.now.time x c.args.epoch.now.rows) (sym c.none-locks.ensures);
-  outages = λ es all last stand are. subst (λ (xs : List Outage). AreLargest size_of_outage c.args.outages.now xs) (sym (append-nil all)) are;
+  outages = λ es all last stand are. subst (λ (xs : List Outage). AreLargest size_of_outage c.args.events.now.outages xs) (sym (append-nil all)) are;
+  runs = λ es all last stand are. subst (λ (xs : List HalfRun). AreLargest size_of_run c.args.events.now.runs xs) (sym (append-nil all)) are;
+  bursts = λ es all last stand are. subst (λ (xs : List Burst). AreLargest size_of_burst c.args.events.now.bursts xs) (sym (append-nil all)) are;
   together = λ es last stand. c.none-together.ensures;
 }
 
@@ -47,6 +56,8 @@ loop-row-preserved c =
     let ends = rw (c.time-time.ensures, c.as_slice-observed.ensures.value) at c.note_row-notes.ensures.ended in
     let tells = rw (c.time-time.ensures, c.as_slice-observed.ensures.value) at c.note_row-notes.ensures.locks in
     let absent = rw (c.time-time.ensures, c.as_slice-observed.ensures.value) at c.note_row-notes.ensures.absence in
+    let runs = rw (c.time-time.ensures, c.as_slice-observed.ensures.value) at c.note_row-notes.ensures.run in
+    let hours = rw (c.time-time.ensures, c.as_slice-observed.ensures.value) at c.note_row-notes.ensures.hour in
     let tracked = rw c.as_slice-observed.ensures.value at c.note_row-notes.ensures.tracked in
     let was : (es : List EpochTableView) → c.args.record_ms ≡ newest_moment es → StandForSatellites c.args.satellites.now.items interval (without_rows e.time ∷ es)
     → StandsForSatellite (get_or items place _) interval (absent_at e.time ∷ sightings_of r.satellite es) =
@@ -65,9 +76,20 @@ loop-row-preserved c =
           (tells (sightings_of r.satellite es) (subst (λ (s : SatelliteCounts). StandsForSatellite s interval (absent_at e.time ∷ sightings_of r.satellite es)) (sym c.index_mut.ensures.value) (was es last stand)) (last ∙ record-is r.satellite es))
           c.plus-locks.ensures;
       outages = λ es all last stand are.
-          outages-more e i r interval es c.note_row-notes.result.absence c.outage_of.result c.loop-row.outages c.note_if_any.new.self all at
-          (absent (sightings_of r.satellite es) (subst (λ (s : SatelliteCounts). StandsForSatellite s interval (absent_at e.time ∷ sightings_of r.satellite es)) (sym c.index_mut.ensures.value) (was es last stand)) (last ∙ record-is r.satellite es))
-          c.outage_of.ensures (c.loop-row.invariant.outages es all last stand are) c.in_ok-note_if_any.ensures;
+          told-more size_of_outage (λ (y : SatelliteRow). outage_of y.satellite (absence_at interval (sightings_of y.satellite es) (record { time = e.time; observed = y.observed.items }))) e i r _
+          c.loop-row.events.outages c.note_row.new.self.outages all at
+          (ap (λ (x : Option Absence). outage_of r.satellite x) (absent (sightings_of r.satellite es) (subst (λ (s : SatelliteCounts). StandsForSatellite s interval (absent_at e.time ∷ sightings_of r.satellite es)) (sym c.index_mut.ensures.value) (was es last stand)) (last ∙ record-is r.satellite es)))
+          (c.loop-row.invariant.outages es all last stand are) c.in_ok-note_row.ensures.outages;
+      runs = λ es all last stand are.
+          told-more size_of_run (λ (y : SatelliteRow). half_run y.satellite (ended_run interval (sightings_of y.satellite es) (record { time = e.time; observed = y.observed.items }))) e i r _
+          c.loop-row.events.runs c.note_row.new.self.runs all at
+          (ap (λ (x : Option Run). half_run r.satellite x) (runs (sightings_of r.satellite es) (subst (λ (s : SatelliteCounts). StandsForSatellite s interval (absent_at e.time ∷ sightings_of r.satellite es)) (sym c.index_mut.ensures.value) (was es last stand)) (last ∙ record-is r.satellite es)))
+          (c.loop-row.invariant.runs es all last stand are) c.in_ok-note_row.ensures.runs;
+      bursts = λ es all last stand are.
+          told-more size_of_burst (λ (y : SatelliteRow). burst_of y.satellite (hour_before interval (sightings_of y.satellite es) (record { time = e.time; observed = y.observed.items }))) e i r _
+          c.loop-row.events.bursts c.note_row.new.self.bursts all at
+          (ap (λ (x : Option HourMoments). burst_of r.satellite x) (hours (sightings_of r.satellite es) (subst (λ (s : SatelliteCounts). StandsForSatellite s interval (absent_at e.time ∷ sightings_of r.satellite es)) (sym c.index_mut.ensures.value) (was es last stand)) (last ∙ record-is r.satellite es)))
+          (c.loop-row.invariant.bursts es all last stand are) c.in_ok-note_row.ensures.bursts;
       together = λ es last stand.
           together-more e i r interval es c.note_row-notes.result.locks.slips c.note_row-notes.result.is_tracked c.loop-row.together c.plus-together.result at
           (ap (λ (l : Locks). l.slips)
@@ -100,8 +122,22 @@ pub returns-clause-outages : goal.returns-clause-outages
 returns-clause-outages c = λ es all last stand are.
     let e : EpochTableView = c.args.epoch.now in
     let long : length e.rows ≤ c.loop-row.row-index = rw c.rows-row-items.ensures.value at c.loop-row-test.false in
-    subst (λ (rows : List SatelliteRow). AreLargest size_of_outage c.loop-row.outages (all ++ outages_in c.args.interval es e.time rows))
+    subst (λ (rows : List SatelliteRow). AreLargest size_of_outage c.loop-row.events.outages (all ++ outages_in c.args.interval es e.time rows))
     (take_all c.loop-row.row-index e.rows long) (c.loop-row.invariant.outages es all last stand are)
+
+pub returns-clause-runs : goal.returns-clause-runs
+returns-clause-runs c = λ es all last stand are.
+    let e : EpochTableView = c.args.epoch.now in
+    let long : length e.rows ≤ c.loop-row.row-index = rw c.rows-row-items.ensures.value at c.loop-row-test.false in
+    subst (λ (rows : List SatelliteRow). AreLargest size_of_run c.loop-row.events.runs (all ++ runs_in c.args.interval es e.time rows))
+    (take_all c.loop-row.row-index e.rows long) (c.loop-row.invariant.runs es all last stand are)
+
+pub returns-clause-bursts : goal.returns-clause-bursts
+returns-clause-bursts c = λ es all last stand are.
+    let e : EpochTableView = c.args.epoch.now in
+    let long : length e.rows ≤ c.loop-row.row-index = rw c.rows-row-items.ensures.value at c.loop-row-test.false in
+    subst (λ (rows : List SatelliteRow). AreLargest size_of_burst c.loop-row.events.bursts (all ++ bursts_in c.args.interval es e.time rows))
+    (take_all c.loop-row.row-index e.rows long) (c.loop-row.invariant.bursts es all last stand are)
 
 pub returns-clause-together : goal.returns-clause-together
 returns-clause-together c = λ es last stand.

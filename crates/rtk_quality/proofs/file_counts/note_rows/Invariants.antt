@@ -5,6 +5,10 @@ use Rattle.rtk_quality.specs.Largest.{AreLargest}
 use Rattle.rtk_quality.specs.Moments.{together_in}
 use Rattle.rtk_quality.specs.Outages.{outages_in, size_of_outage}
 use Rattle.rtk_quality.specs.declared.outages.Outage.{Outage}
+use Rattle.rtk_quality.specs.Runs.{runs_in, size_of_run}
+use Rattle.rtk_quality.specs.Bursts.{bursts_in, size_of_burst}
+use Rattle.rtk_quality.specs.declared.runs.HalfRun.{HalfRun}
+use Rattle.rtk_quality.specs.declared.bursts.Burst.{Burst}
 use Rattle.rtk_quality.specs.Steps.Noted.{no_locks, locks_onto}
 use Rattle.rtk_quality.specs.Standing.{without_rows, StandForSatellites, StandForEnded}
 use Rattle.rtk_quality.proofs.RowLemmas.{first_rows}
@@ -20,7 +24,11 @@ invariant-loop-row l = record {
   locks : (es : List EpochTableView) → l.record_ms ≡ newest_moment es → StandForSatellites l.fn.satellites.items l.interval (without_rows l.epoch.time ∷ es)
       → locks_onto l.interval es l.epoch.time no_locks l.epoch.rows ≡ locks_onto l.interval es l.epoch.time l.locks (drop l.row-index l.epoch.rows);
   outages : (es : List EpochTableView) (all : List Outage) → l.record_ms ≡ newest_moment es → StandForSatellites l.fn.satellites.items l.interval (without_rows l.epoch.time ∷ es)
-      → AreLargest size_of_outage l.fn.outages all → AreLargest size_of_outage l.outages (all ++ outages_in l.interval es l.epoch.time (take l.row-index l.epoch.rows));
+      → AreLargest size_of_outage l.fn.events.outages all → AreLargest size_of_outage l.events.outages (all ++ outages_in l.interval es l.epoch.time (take l.row-index l.epoch.rows));
+  runs : (es : List EpochTableView) (all : List HalfRun) → l.record_ms ≡ newest_moment es → StandForSatellites l.fn.satellites.items l.interval (without_rows l.epoch.time ∷ es)
+      → AreLargest size_of_run l.fn.events.runs all → AreLargest size_of_run l.events.runs (all ++ runs_in l.interval es l.epoch.time (take l.row-index l.epoch.rows));
+  bursts : (es : List EpochTableView) (all : List Burst) → l.record_ms ≡ newest_moment es → StandForSatellites l.fn.satellites.items l.interval (without_rows l.epoch.time ∷ es)
+      → AreLargest size_of_burst l.fn.events.bursts all → AreLargest size_of_burst l.events.bursts (all ++ bursts_in l.interval es l.epoch.time (take l.row-index l.epoch.rows));
   together : (es : List EpochTableView) → l.record_ms ≡ newest_moment es → StandForSatellites l.fn.satellites.items l.interval (without_rows l.epoch.time ∷ es)
       → l.together ≡ together_in l.interval es l.epoch.time (take l.row-index l.epoch.rows);
 }

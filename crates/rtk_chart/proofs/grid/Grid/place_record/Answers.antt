@@ -21,10 +21,11 @@ returns-clause-grid c = λ es stands.
     record {
       bins = c.note_in_bin.ensures.noted e es (c.ms.ensures.value ∙ c.time.ensures) called (ap (λ v. v.items) t.bins ∙ stands.bins);
       missing = record { gaps = missing.gaps; count = missing.count };
-      last = ap Some c.time-2.ensures;
+      last = ap Some c.time-3.ensures;
       outages = c.note_outages.ensures.noted es (subst (λ (ps : List Pass). StandForPasses ps interval es) (sym t.passes) stands.passes) record_is
           (ap (λ v. v.items) t.outages ∙ stands.outages);
       passes = c.note_passes.ensures es (subst (λ (ps : List Pass). StandForPasses ps interval es) (sym t.passes) stands.passes) record_is;
+      recorded = c.note_record.ensures e es (c.ms-2.ensures.value ∙ c.time-2.ensures) (ap (λ v. v.items) t.recorded ∙ stands.recorded);
       strengths = c.note_strengths.ensures es (ap (λ v. v.items) t.strengths ∙ stands.strengths);
       slips = capped-more c.saturating_add-self.result c.count_missing.new.self.slips c.slips.result (times_in (is_slip interval) es) (times_in_epoch (is_slip interval) es e)
           c.saturating_add-self.ensures (t.slips ∙ stands.slips) (c.slips.ensures ∙ slips-called interval es e c.of-called.result called);

@@ -12,6 +12,8 @@ returns-clause-counts c = λ interval unit listed.
       ended = λ place within. ap (λ (xs : List EndedPass). ended_of (place + 1) xs) c.new-3.ensures.items;
       hours = c.new-4.ensures;
       gaps = c.new-5.ensures;
-      outages = c.new-6.ensures;
-      moments = c.new-7.ensures;
+      moments = c.new-6.ensures;
+      outages = c.new-7.ensures.outages;
+      runs = c.new-7.ensures.runs;
+      bursts = c.new-7.ensures.bursts;
     }

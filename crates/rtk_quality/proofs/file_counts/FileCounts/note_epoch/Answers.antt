@@ -1,6 +1,8 @@
 use Rattle.std.proofs.Common.{◌≡◌, ◌∙◌, ℕ, Option, ap}
 use Rattle.rtk_tracking.specs.Epochs.{newest_moment}
 use Rattle.rtk_quality.specs.Outages.{all_outages}
+use Rattle.rtk_quality.specs.Runs.{ended_runs}
+use Rattle.rtk_quality.specs.Bursts.{ended_bursts}
 use Rattle.rtk_quality.specs.declared.record_counts.RecordCounts.{RecordCounts}
 use Rattle.rtk_quality.proofs.EventLemmas.{moments-noted}
 use Rattle.rtk_quality.proofs.GapLemmas.{gaps-noted}
@@ -23,6 +25,8 @@ returns-clause-counts c = λ es stands.
       gaps = gaps-noted c.args.unit_ms c.args.epoch.now es c.args.self.now.records.last c.time.result c.gap_between.result c.args.self.now.gaps _ last c.time.ensures
           c.gap_between.ensures stands.gaps c.in_ok-note_if_any.ensures;
       outages = c.in_ok-notes.ensures.outages es (all_outages interval es) record_ms fresh stands.outages;
+      runs = c.in_ok-notes.ensures.runs es (ended_runs interval es) record_ms fresh stands.runs;
+      bursts = c.in_ok-notes.ensures.bursts es (ended_bursts interval es) record_ms fresh stands.bursts;
       moments = moments-noted interval c.args.epoch.now es c.time-2.result _ c.moment_if_several.result c.args.self.now.moments _ c.time-2.ensures
           (c.in_ok-notes.ensures.together es record_ms fresh) c.moment_if_several.ensures stands.moments c.in_ok-note_if_any-2.ensures;
     }

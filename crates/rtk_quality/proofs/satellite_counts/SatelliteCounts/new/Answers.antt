@@ -16,4 +16,6 @@ returns c = λ interval. record {
   since_phase = refl;
   last = refl;
   sums = c.none.ensures;
+  run = refl;
+  hour = refl;
 }

@@ -11,4 +11,6 @@ returns c = λ interval before time stands. record {
   since_phase = c.saturating_add-self.ensures ∙ ap (λ (n : ℕ). plus n 1) stands.since_phase;
   last = stands.last;
   sums = stands.sums;
+  run = stands.run;
+  hour = stands.hour;
 }

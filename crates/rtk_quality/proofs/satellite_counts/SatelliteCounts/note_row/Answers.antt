@@ -13,6 +13,7 @@ use Rattle.rtk_quality.specs.declared.hours.Locks.{Locks}
 use Rattle.rtk_quality.specs.declared.pass_sums.PassSums.{PassSums}
 use Rattle.rtk_quality.specs.declared.satellite_counts.PassCounts.{PassCounts}
 use Rattle.rtk_quality.proofs.EventLemmas.{absence-is, no-absence}
+use Rattle.rtk_quality.proofs.RunLemmas.{run-more, run-same, run-ends, no-run-ends, hour-more, hour-same, hour-ends, no-hour-ends}
 use Rattle.rtk_quality.proofs.CountLemmas.{before-row, same-passes, last-more, within-more}
 use Rattle.rtk_quality.proofs.satellite_counts.SatelliteCounts.note_row.Goals as goal
 
@@ -34,6 +35,8 @@ returns-then-not-has_phase-clause-stands c = λ before absent last.
           ∙ sym (ap (λ (b : Bool). cond b 0 (plus (epochs_since_phase before) 1)) none);
       last = stands.last ∙ sym (ap newest_pass (same-passes interval before s none));
       sums = stands.sums ∙ sym (ap (λ (b : Bool). cond b (sums_plus (sums_in interval before) (sums_at interval before s)) (sums_in interval before)) none);
+      run = stands.run ∙ sym (run-same interval before s none);
+      hour = stands.hour ∙ sym (hour-same interval before s none);
     }
 
 pub returns-then-not-has_phase-clause-ended : goal.returns-then-not-has_phase-clause-ended
@@ -82,6 +85,10 @@ returns-clause-stands c = λ before absent last.
           ∙ ap (λ (k : PassSums). sums_plus k c.of-sums.result) stands.sums
           ∙ ap (λ (k : PassSums). sums_plus (sums_in interval before) k) sums
           ∙ sym (ap (λ (b : Bool). cond b (sums_plus (sums_in interval before) (sums_at interval before s)) (sums_in interval before)) has);
+      run = run-more interval before s c.args.self.now.run c.next_run-run.result.newest c.begins-begins.result c.has_half.result c.args.reading stands.run begins c.has_half.ensures
+          c.requires has c.next_run-run.ensures.newest;
+      hour = hour-more interval before s c.args.self.now.hour c.next_hour-hour.result.last c.slips_in-slips.result c.hour_at.result stands.hour slips c.hour_at.ensures
+          has c.next_hour-hour.ensures.last;
     }
 
 pub returns-clause-ended : goal.returns-clause-ended
@@ -129,3 +136,35 @@ returns-clause-absence c = λ before absent last.
     let outage : c.outage_ms-outage_ms.result ≡ outage_before interval before s =
     c.outage_ms-outage_ms.ensures before stands.pass last ∙ ap (λ (t : ℕ). outage_before interval before (record { time = t; observed = c.args.observed.now })) c.ms-time_ms.ensures.value in
     c.absence_after-absence.ensures ∙ absence-is interval before s c.args.self.now.last c.args.reading c.outage_ms-outage_ms.result stands.last c.requires outage
+
+pub returns-then-not-has_phase-clause-run : goal.returns-then-not-has_phase-clause-run
+returns-then-not-has_phase-clause-run c = λ before absent last.
+    let s : Sighting = record { time = c.args.time; observed = c.args.observed.now } in
+    no-run-ends c.args.interval before s (sym c.has_phase.ensures ∙ c.if-not-has_phase.true)
+
+pub returns-then-not-has_phase-clause-hour : goal.returns-then-not-has_phase-clause-hour
+returns-then-not-has_phase-clause-hour c = λ before absent last.
+    let s : Sighting = record { time = c.args.time; observed = c.args.observed.now } in
+    no-hour-ends c.args.interval before s (sym c.has_phase.ensures ∙ c.if-not-has_phase.true)
+
+pub returns-clause-run : goal.returns-clause-run
+returns-clause-run c = λ before absent last.
+    let stands = before-row c.args.self.now c.args.interval c.args.time before absent in
+    let interval : Option ℕ = c.args.interval in
+    let s : Sighting = record { time = c.args.time; observed = c.args.observed.now } in
+    let has : has_phase s.observed ≡ true = sym c.has_phase.ensures ∙ c.if-not-has_phase.false in
+    let begins : c.begins-begins.result ≡ begins_pass interval before s =
+    c.begins-begins.ensures before stands.pass ∙ ap (λ (t : ℕ). begins_pass interval before (record { time = t; observed = c.args.observed.now })) c.ms-time_ms.ensures.value in
+    run-ends interval before s c.args.self.now.run c.next_run-run.result.ended c.begins-begins.result c.has_half.result stands.run begins c.has_half.ensures has c.next_run-run.ensures.ended
+
+pub returns-clause-hour : goal.returns-clause-hour
+returns-clause-hour c = λ before absent last.
+    let stands = before-row c.args.self.now c.args.interval c.args.time before absent in
+    let interval : Option ℕ = c.args.interval in
+    let at : c.ms-time_ms.result ≡ c.args.time = c.ms-time_ms.ensures.value in
+    let s : Sighting = record { time = c.args.time; observed = c.args.observed.now } in
+    let has : has_phase s.observed ≡ true = sym c.has_phase.ensures ∙ c.if-not-has_phase.false in
+    let marked : AreKnown c.known-known.result interval before s =
+    subst (λ (t : ℕ). AreKnown c.known-known.result interval before (record { time = t; observed = c.args.observed.now })) at (c.known-known.ensures before stands.pass last) in
+    hour-ends interval before s c.args.self.now.hour c.next_hour-hour.result.ended c.slips_in-slips.result c.hour_at.result stands.hour
+    (c.slips_in-slips.ensures interval before s refl marked.kept) c.hour_at.ensures has c.next_hour-hour.ensures.ended
