@@ -47,8 +47,8 @@ _rtcm2rinex() {
             arguments='files stdin'
             ;;
         chart)
-            options='--text --columns -h --help'
-            values='--columns'
+            options='--text --columns --systems --satellites -h --help'
+            values='--columns --systems --satellites'
             arguments='files stdin'
             ;;
         quality)

@@ -47,6 +47,8 @@ complete -c rtcm2rinex -n '__fish_seen_subcommand_from summary' -s h -l help -d 
 complete -c rtcm2rinex -n '__fish_seen_subcommand_from summary' -F -a stdin
 complete -c rtcm2rinex -n '__fish_seen_subcommand_from chart' -l text -d 'A picture in characters'
 complete -c rtcm2rinex -n '__fish_seen_subcommand_from chart' -l columns -x -d 'How many characters wide it is with --text, 40 to 400; 80 if not given'
+complete -c rtcm2rinex -n '__fish_seen_subcommand_from chart' -l systems -x -d 'Only satellites of these systems are drawn, as GRE'
+complete -c rtcm2rinex -n '__fish_seen_subcommand_from chart' -l satellites -x -d 'Only these satellites are drawn, as G05,R09'
 complete -c rtcm2rinex -n '__fish_seen_subcommand_from chart' -s h -l help -d 'Print help (see more with \'--help\')'
 complete -c rtcm2rinex -n '__fish_seen_subcommand_from chart' -F -a stdin
 complete -c rtcm2rinex -n '__fish_seen_subcommand_from quality' -l lines -d 'Lines for programs in place of the table'

@@ -127,13 +127,15 @@ def moment(time: int) -> str:
 class Drawn:
     """What is drawn of a file, in at most so many columns."""
 
-    def __init__(self, text: str, most: int) -> None:
+    def __init__(self, text: str, most: int, chosen: set[str] | None = None) -> None:
         header, records = text.split(END)
         lines = header.splitlines()
         self.marker = lines[2][:60].rstrip()
         types = "".join(line[6:60] for line in lines if "SYS / # / OBS TYPES" in line).split()
         self.codes = [it[1:] for it in types[::3]]
         self.epochs = epochs_of(records, len(self.codes))
+        if chosen is not None:
+            self.epochs = [Epoch(it.time, {name: row for name, row in it.satellites.items() if name in chosen}) for it in self.epochs]
         self.names = sorted({name for epoch in self.epochs for name in epoch.satellites})
         if self.epochs:
             self._lay(most)
@@ -186,9 +188,9 @@ class Drawn:
         return ticks
 
 
-def text_picture(text: str, width: int) -> str:
-    """The picture of a file, so many characters wide."""
-    it = Drawn(text, width - 5)
+def text_picture(text: str, width: int, chosen: set[str] | None = None) -> str:
+    """The picture of a file, so many characters wide, of these satellites or of all."""
+    it = Drawn(text, width - 5, chosen)
     if not it.epochs:
         return f"marker {it.marker}\nno records\n"
     out = [f"marker {it.marker}", f"from {moment(it.first)} GPS time", f"until {moment(it.last)} GPS time"]
@@ -230,9 +232,9 @@ SIGNS = [
 # pins: spacing_of, line_top, line_start, code_start, name_start, name_drop
 # pins: band_if_drawn, bands_text, gaps_band, satellites_band, step_part, tick_text, ticks_text, svg_tick_step
 # pins: interval_text, svg_span, svg_numbers, civil_text, svg_picture, svg_start, svg_body, svg_legend, never_end, never_text, never_name, never_if_lacked
-def svg_picture(text: str) -> str:
-    """The picture of a file in SVG."""
-    it = Drawn(text, UNITS)
+def svg_picture(text: str, chosen: set[str] | None = None) -> str:
+    """The picture of a file in SVG, of these satellites or of all."""
+    it = Drawn(text, UNITS, chosen)
     marker = it.marker.replace("&", "&amp;").replace("<", "&lt;").replace(">", "&gt;")
     close = bool(it.epochs) and sum(map(len, it.had.values())) > MOST_WIDE
     highs = {name: band_height(len(it.had[name]), close) for name in it.names} if it.epochs else {}

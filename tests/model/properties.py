@@ -389,12 +389,22 @@ def any_file(case: Case) -> str:
 
 
 def charted_as_modelled(case: Case) -> Answer:
-    """`chart --text` of a file, of any width, is the picture that the slow model makes, or so is `chart`."""
+    """`chart --text` of a file, of any width, is the picture that the slow model makes, or so is `chart`; and so is the picture of
+    some satellites, as of a file without the others."""
     text, width = any_file(case), case.rng.choice((40, 400, *[case.rng.randint(40, 400)] * 6))
-    words, due = ("chart", "--text", "--columns", str(width)), text_picture(text, width)
+    chosen, options = None, []
+    if case.rng.random() < 0.4:
+        chosen = {f"G{case.rng.randint(1, 32):02}" for _ in range(case.rng.randint(1, 12))}
+        options = ["--satellites", ",".join([*chosen, *case.rng.choice(([], ["R09", "E36"]))])]
+        if not any(line[:3] in chosen for line in text.splitlines()):
+            return ends_with(case.program.on(text.encode(), "chart", *options), 3, b"", NONE_CHOSEN)
+    words, due = ("chart", "--text", "--columns", str(width)), text_picture(text, width, chosen)
     if case.rng.random() < 0.5:
-        words, due = ("chart",), svg_picture(text)
-    return ends_with(case.program.on(text.encode(), *words), 0, due.encode(), b"")
+        words, due = ("chart",), svg_picture(text, chosen)
+    return ends_with(case.program.on(text.encode(), *words, *options), 0, due.encode(), b"")
+
+
+NONE_CHOSEN = b"rtcm2rinex: none of the chosen satellites is in the file\n"
 
 
 def assessed_as_modelled(case: Case) -> Answer:

@@ -66,6 +66,32 @@ twice() {
     chart "$@" "$@" "$marks"
     expect "chart_$1_twice" 2 '' "$(error "the argument '$option' cannot be used multiple times" "chart [OPTIONS] <FILE>")"
 }
+# The picture of chosen satellites is that of the file without the rows of the others.
+for form in '' --text; do
+    chart $form "$marks" --satellites G05,G12,G21
+    cp out want
+    chart $form --systems G "$marks"; leaves "chart_of_gps$form" 0 want /dev/null
+    chart $form --systems EG --satellites R09 "$marks"; leaves "chart_of_either$form" 0 want /dev/null
+done
+# pins: narrowed, is_there, is_named
+chart --text --satellites G05,R09 "$marks"
+grep -c '^G' out >got && echo 2 >want # the heading and G05
+same one_satellite_is_drawn got want
+for choice in '--systems R' '--satellites G06,E05' '--systems CJSI --satellites R09'; do
+    chart $choice "$marks"
+    expect "none_of_$(echo $choice | tr -d ' -')" 3 '' 'rtcm2rinex: none of the chosen satellites is in the file'
+done
+chart --satellites G05 empty
+expect none_without_records 3 '' 'rtcm2rinex: none of the chosen satellites is in the file'
+# pins: is_system, are_systems, ListsSatellites, IsChoiceOf
+for letters in g X GX 'G E' G,E ''; do
+    chart --systems "$letters" "$marks"; expect "systems_$letters" 2 '' 'rtcm2rinex: bad --systems'
+done
+for list in G G5 G005 G33 G00 g05 G05, ,G05 'G05 G12' G05,,G12 S19 R28 ''; do
+    chart --satellites "$list" "$marks"; expect "satellites_$list" 2 '' 'rtcm2rinex: bad --satellites'
+done
+chart --systems X --satellites X "$marks"; expect the_systems_first 2 '' 'rtcm2rinex: bad --systems'
+
 twice --text --text
 twice '--columns <N>' --columns 80
 

@@ -1,5 +1,6 @@
 pub mod BitLemmas
 pub mod ChartLemmas
+pub mod ChoiceLemmas
 pub mod FileLemmas
 pub mod GridLemmas
 pub mod HeadingLemmas

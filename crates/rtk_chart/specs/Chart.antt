@@ -1,8 +1,9 @@
 -- The pictures of a table.
-use Rattle.std.specs.Prelude.{◌≡◌, ℕ, ◌-◌, List, [], ◌∷◌, length, Option}
+use Rattle.std.specs.Prelude.{◌≡◌, ℕ, ◌-◌, List, [], ◌∷◌, length, map, Option}
 use Rattle.rtk_rinex.specs.Record.{EpochTableView}
 use Rattle.rtk_rinex.specs.Table.{WellFormedTable, IsWellFormedTable, table_text}
 use Rattle.rtk_tracking.specs.Epochs.{capped, newest_first}
+use Rattle.rtk_chart.specs.Choice.{narrowed}
 use Rattle.rtk_chart.specs.Epochs.{slips_in, returns_in, rises_in}
 use Rattle.rtk_tracking.specs.Interval.{interval_of_file, missing_in}
 use Rattle.rtk_chart.specs.Scale.{scale_of}
@@ -10,6 +11,7 @@ use Rattle.rtk_chart.specs.Grid.{bins_of, outages_of, gaps_of}
 use Rattle.rtk_chart.specs.TextPicture.{text_picture, text_of_none}
 use Rattle.rtk_chart.specs.SvgPicture.{svg_picture, svg_of_none}
 use Rattle.rtk_obs.specs.declared.code.Code.{Code}
+use Rattle.rtk_chart.specs.declared.choice.Choice.{Choice}
 use Rattle.rtk_chart.specs.declared.scale.Scale.{Scale}
 
 -- the slips of epochs as a picture at a scale counts them
@@ -45,6 +47,12 @@ IsTextPicture t width text =
 abbrev pub ShowsTable : List ℕ → ℕ → List ℕ → Type 0
 ShowsTable file width text = (t : WellFormedTable) → IsWellFormedTable t → file ≡ table_text t → IsTextPicture t width text
 
+-- a text is the picture of a choice of each table whose text the file is: the picture of the records narrowed to it
+abbrev pub ShowsChosen : Choice → List ℕ → ℕ → List ℕ → Type 0
+ShowsChosen choice file width text =
+    (t : WellFormedTable) → IsWellFormedTable t → file ≡ table_text t
+    → text ≡ text_of_epochs t.head.marker t.head.listed t.first (interval_of_file t) width (map (narrowed choice) (newest_first t.epochs))
+
 -- ---- in SVG
 
 -- the picture in SVG of these epochs, newest first, at a scale
@@ -67,3 +75,9 @@ IsSvgPicture t text =
 -- a text is the picture of each table whose text the file is
 abbrev pub ShowsTableInSvg : List ℕ → List ℕ → Type 0
 ShowsTableInSvg file text = (t : WellFormedTable) → IsWellFormedTable t → file ≡ table_text t → IsSvgPicture t text
+
+-- a text is the picture of a choice of each such table: the picture of the records narrowed to it
+abbrev pub ShowsChosenInSvg : Choice → List ℕ → List ℕ → Type 0
+ShowsChosenInSvg choice file text =
+    (t : WellFormedTable) → IsWellFormedTable t → file ≡ table_text t
+    → text ≡ svg_of_epochs t.head.marker t.head.listed t.first (interval_of_file t) (map (narrowed choice) (newest_first t.epochs))

@@ -1,4 +1,5 @@
 pub mod Chart
+pub mod Choice
 pub mod Epochs
 pub mod Grid
 pub mod Heading

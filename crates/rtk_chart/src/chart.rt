@@ -2,8 +2,9 @@
 
 ghost use Rattle.std.specs.Prelude.{◌≡◌, IfOk};
 ghost use Rattle.std.specs.Int.{IsInRange};
-ghost use Rattle.rtk_chart.specs.Chart.{ShowsTable, ShowsTableInSvg};
+ghost use Rattle.rtk_chart.specs.Chart.{ShowsTable, ShowsChosen, ShowsTableInSvg, ShowsChosenInSvg};
 
+use crate::choice::Choice;
 use crate::passes::{fill_grid, survey_records};
 use crate::scale::{MOST_BINS, Scale};
 use crate::svg_picture::{svg_of_none, svg_picture};
@@ -22,6 +23,22 @@ pub fn chart_text(alloc: Global, table: &TextTable<'_>, width: u16) -> Result<Ve
     // Fails only if memory is refused: tests/system/calls, row chart_text.
     ensures { IfOk result (λ text. ShowsTable table.now.text width text.items) }
 {
+    let text = chosen_text(alloc, table, &Choice::All, width)?;
+    Ok(text)
+}
+
+/// The same of the satellites of a choice. The records of other satellites count for nothing: the picture is that
+/// of a file without them. Only the records themselves, their times and the codes are those of the file.
+pub fn chosen_text(
+    alloc: Global,
+    table: &TextTable<'_>,
+    choice: &Choice,
+    width: u16,
+) -> Result<Vec<u8>, AllocError>
+    requires { IsInRange 40 400 width }
+    // Fails only if memory is refused: tests/system/calls, row chart_text.
+    ensures { IfOk result (λ text. ShowsChosen choice.now table.now.text width text.items) }
+{
     let heading = table.heading();
     let survey = survey_records(alloc, table, heading.first)?;
     let marker = heading.head.marker();
@@ -32,7 +49,7 @@ pub fn chart_text(alloc: Global, table: &TextTable<'_>, width: u16) -> Result<Ve
     };
     let interval = survey.steps.interval();
     let scale = Scale::new(heading.first, last, interval, u64::from(width - FRAME));
-    let grid = fill_grid(alloc, table, &scale, heading.first)?;
+    let grid = fill_grid(alloc, table, &scale, heading.first, choice)?;
     let text = text_picture(alloc, marker, codes, &scale, width, &survey, &grid)?;
     Ok(text)
 }
@@ -42,6 +59,19 @@ pub fn chart_text(alloc: Global, table: &TextTable<'_>, width: u16) -> Result<Ve
 pub fn chart_svg(alloc: Global, table: &TextTable<'_>) -> Result<Vec<u8>, AllocError>
     // Fails only if memory is refused: tests/system/calls, row chart_svg.
     ensures { IfOk result (λ svg. ShowsTableInSvg table.now.text svg.items) }
+{
+    let svg = chosen_svg(alloc, table, &Choice::All)?;
+    Ok(svg)
+}
+
+/// The same of the satellites of a choice.
+pub fn chosen_svg(
+    alloc: Global,
+    table: &TextTable<'_>,
+    choice: &Choice,
+) -> Result<Vec<u8>, AllocError>
+    // Fails only if memory is refused: tests/system/calls, row chart_svg.
+    ensures { IfOk result (λ svg. ShowsChosenInSvg choice.now table.now.text svg.items) }
 {
     let heading = table.heading();
     let survey = survey_records(alloc, table, heading.first)?;
@@ -53,7 +83,7 @@ pub fn chart_svg(alloc: Global, table: &TextTable<'_>) -> Result<Vec<u8>, AllocE
     };
     let interval = survey.steps.interval();
     let scale = Scale::new(heading.first, last, interval, MOST_BINS);
-    let grid = fill_grid(alloc, table, &scale, heading.first)?;
+    let grid = fill_grid(alloc, table, &scale, heading.first, choice)?;
     let svg = svg_picture(alloc, marker, codes, &scale, &survey, &grid)?;
     Ok(svg)
 }

@@ -50,6 +50,7 @@
 #![tactic(auto)]
 
 mod chart;
+mod choice;
 mod code_marks;
 mod grid;
 mod laws;
@@ -78,8 +79,10 @@ mod time_bin;
 mod time_text;
 mod tracking;
 
-pub use chart::{chart_svg, chart_text};
+pub use chart::{chart_svg, chart_text, chosen_svg, chosen_text};
+pub use choice::{Choice, Chosen};
 pub use laws::{
     bins_are_least, bins_fill_room, counts_are_of_epochs, files_have_numbers, marks_are_of_epochs,
     missing_marks_are_epochs, svg_headings_tell_numbers, text_headings_tell_numbers,
 };
+pub use passes::is_there;

@@ -2,7 +2,7 @@
 use Rattle.std.specs.Prelude.{◌≡◌, ℕ, List, codes}
 use Rattle.rtk_label.specs.declared.label_fault.LabelFault.TheVariants.{RunBy, MarkerNumber, Observer, Agency, ReceiverNumber, ReceiverType, ReceiverVersion, AntennaNumber, AntennaType, DeltaHeight, DeltaEast, DeltaNorth}
 use Rattle.rtk_cli.specs.declared.words.BadWords.{BadWords}
-use Rattle.rtk_cli.specs.declared.words.BadWords.TheVariants.{Near, Made, Codes, Marker, Links, From, Until, Field}
+use Rattle.rtk_cli.specs.declared.words.BadWords.TheVariants.{Near, Made, Codes, Marker, Links, Systems, Satellites, From, Until, Field}
 use Rattle.rtk_cli.specs.declared.words.WordsFault.{WordsFault}
 use Rattle.rtk_cli.specs.declared.words.WordsFault.TheVariants.{Bad, OutOfMemory}
 
@@ -14,6 +14,8 @@ fault_line Made = codes "bad --made"
 fault_line Codes = codes "bad --codes"
 fault_line Marker = codes "bad --marker"
 fault_line Links = codes "bad links"
+fault_line Systems = codes "bad --systems"
+fault_line Satellites = codes "bad --satellites"
 fault_line From = codes "bad --from"
 fault_line Until = codes "bad --until"
 fault_line (Field RunBy) = codes "bad --run-by"

@@ -4,5 +4,6 @@ pub mod CodeList
 pub mod Links
 pub mod MomentText
 pub mod ConvertWords
+pub mod ChartWords
 pub mod CutWords
 pub mod LabelWords

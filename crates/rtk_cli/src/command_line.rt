@@ -54,12 +54,24 @@ fn columns_arg<'a>(alloc: Global) -> Result<Arg<'a>, AllocError> {
     number_arg(alloc, "columns", least, most, help).requires_arg("text")
 }
 
+fn systems_arg<'a>(alloc: Global) -> Arg<'a> {
+    let help = "Only satellites of these systems are drawn, as GRE";
+    option_arg(alloc, "systems", "LETTERS", help)
+}
+
+fn satellites_arg<'a>(alloc: Global) -> Arg<'a> {
+    let help = "Only these satellites are drawn, as G05,R09";
+    option_arg(alloc, "satellites", "LIST", help)
+}
+
 fn chart_command<'a>(alloc: Global) -> Result<Command<'a>, AllocError> {
     Command::new(alloc, "chart")
         .about("Draws a file: its satellites along its time, with slips and gaps")
         .after_long_help(help_texts::CHART)
         .arg(switch_arg(alloc, "text", "A picture in characters"))?
         .arg(columns_arg(alloc)?)?
+        .arg(systems_arg(alloc))?
+        .arg(satellites_arg(alloc))?
         .arg(file_arg(alloc, "The file, or stdin for standard input"))
 }
 

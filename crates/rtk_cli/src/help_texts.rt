@@ -97,12 +97,14 @@ pub(crate) const CHART: &str = "\
 Example:
   rtcm2rinex chart base.rnx >base.svg
   rtcm2rinex chart --text --columns 120 base.rnx
+  rtcm2rinex chart --satellites G05,G12 base.rnx >two.svg
 
 Exit status:
   0  the picture is written
   1  it is not, or in part; standard error says why
   2  the words are refused
-  3  the file is not as convert or label writes it; standard error says where
+  3  the file is not as convert or label writes it, or has none of the chosen
+     satellites; standard error says where
 
 Manual: man rtcm2rinex, or docs/MANUAL.md";
 

@@ -6,13 +6,14 @@ ghost use Rattle.std.specs.Prelude.{IfOk, IfErr, IfSome};
 ghost use Rattle.rtk_cli.specs.Words.{IsWithinLimits, IsWordsFault};
 
 use crate::auto_words::auto_words;
+use crate::chart_words::choice_of;
 use crate::clap_words::{matches_of, missing_word};
 use crate::command_line::program_command;
 use crate::convert_words::convert_job;
 use crate::cut_words::part_of;
 use crate::label_words::label_of;
 use crate::options::{
-    auto_options, chart_width, convert_options, cut_options, label_options, quality_form, shown_msm,
+    auto_options, chart_options, convert_options, cut_options, label_options, quality_form, shown_msm,
 };
 use crate::words::{Job, WordsFault};
 use clap::{ArgMatches, Command};
@@ -61,11 +62,24 @@ fn show_job<'a>(words: &ArgMatches<'a>, file: &'a str) -> Option<Job<'a>>
     }
 }
 
-fn chart_job<'a>(words: &ArgMatches<'a>, file: &'a str) -> Option<Job<'a>>
-    ensures { IfSome result IsWithinLimits }
+fn chart_job<'a>(
+    alloc: Global,
+    words: &ArgMatches<'a>,
+    file: &'a str,
+) -> Result<Option<Job<'a>>, WordsFault>
+    ensures limits { IfOk result (λ job. IfSome job IsWithinLimits) }
+    ensures fault { IfErr result IsWordsFault }
 {
-    let width = chart_width(words)?;
-    Some(Job::Chart { width, file })
+    let Some(options) = chart_options(words) else {
+        return Ok(None);
+    };
+    let choice = choice_of(alloc, &options)?;
+    let width = options.width;
+    Ok(Some(Job::Chart {
+        width,
+        choice,
+        file,
+    }))
 }
 
 fn cut_job<'a>(words: &ArgMatches<'a>, file: &'a str) -> Result<Option<Job<'a>>, WordsFault>
@@ -88,7 +102,11 @@ fn label_job<'a>(words: &ArgMatches<'a>, file: &'a str) -> Result<Option<Job<'a>
 }
 
 // What the words of a command ask for that has one file.
-fn file_job<'a>(command: &str, words: &ArgMatches<'a>) -> Result<Option<Job<'a>>, WordsFault>
+fn file_job<'a>(
+    alloc: Global,
+    command: &str,
+    words: &ArgMatches<'a>,
+) -> Result<Option<Job<'a>>, WordsFault>
     ensures limits { IfOk result (λ job. IfSome job IsWithinLimits) }
     ensures fault { IfErr result IsWordsFault }
 {
@@ -99,7 +117,7 @@ fn file_job<'a>(command: &str, words: &ArgMatches<'a>) -> Result<Option<Job<'a>>
         "show" => Ok(show_job(words, file)),
         "check" => Ok(Some(Job::Check { file })),
         "summary" => Ok(Some(Job::Summary { file })),
-        "chart" => Ok(chart_job(words, file)),
+        "chart" => chart_job(alloc, words, file),
         "quality" => {
             let form = quality_form(words);
             Ok(Some(Job::Quality { form, file }))
@@ -121,7 +139,7 @@ fn job_of_matches<'a>(
     match matches.subcommand() {
         Some(("auto", words)) => auto_job(alloc, words),
         Some(("convert", words)) => conversion(alloc, words),
-        Some((command, words)) => file_job(command, words),
+        Some((command, words)) => file_job(alloc, command, words),
         None => Ok(None),
     }
 }

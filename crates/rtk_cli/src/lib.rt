@@ -26,6 +26,7 @@ mod auto_refusing;
 mod auto_rereading;
 mod auto_running;
 mod auto_words;
+mod chart_words;
 mod clap_words;
 mod code_list;
 mod command_line;

@@ -61,6 +61,17 @@ pub(crate) struct ConvertOptions<'a> {
     pub(crate) msm: MsmKind,
 }
 
+/// The options of `chart`.
+#[derive(Drop)]
+pub(crate) struct ChartOptions<'a> {
+    /// How many characters wide the picture is; `None` is a picture in SVG.
+    pub(crate) width: Option<u16>,
+    /// The letters of the systems that are drawn.
+    pub(crate) systems: Option<&'a str>,
+    /// The names of the satellites that are drawn, with commas between.
+    pub(crate) satellites: Option<&'a str>,
+}
+
 /// The options of `cut`.
 #[derive(Drop)]
 pub(crate) struct CutOptions<'a> {
@@ -153,8 +164,8 @@ pub(crate) fn shown_msm(words: &ArgMatches<'_>) -> Option<Option<MsmKind>> {
     value_if_any(words.get_one::<u32>("msm").map(msm_of))
 }
 
-/// The width of the picture of `chart` in characters; `Some(None)` is a picture in SVG.
-pub(crate) fn chart_width(words: &ArgMatches<'_>) -> Option<Option<u16>>
+// The width of the picture of `chart` in characters; `Some(None)` is a picture in SVG.
+fn chart_width(words: &ArgMatches<'_>) -> Option<Option<u16>>
     ensures { IfSome result (λ width. ForSome width IsWidth) }
 {
     if !words.get_flag("text") {
@@ -165,6 +176,17 @@ pub(crate) fn chart_width(words: &ArgMatches<'_>) -> Option<Option<u16>>
         return None;
     }
     Some(Some(width as u16))
+}
+
+/// The options of `chart`.
+pub(crate) fn chart_options<'a>(words: &ArgMatches<'a>) -> Option<ChartOptions<'a>>
+    ensures { IfSome result (λ options. ForSome options.width IsWidth) }
+{
+    Some(ChartOptions {
+        width: chart_width(words)?,
+        systems: words.get_str("systems"),
+        satellites: words.get_str("satellites"),
+    })
 }
 
 /// The form in which `quality` tells its numbers. clap refuses both words together.

@@ -1,5 +1,6 @@
 //! What the words of a command line ask for, and why a command is not done.
 
+use rtk_chart::Choice;
 use rtk_convert::Setup;
 use rtk_cut::Part;
 use rtk_label::{Label, LabelFault};
@@ -60,6 +61,8 @@ pub enum Job<'a> {
     Chart {
         /// How many characters wide the picture is, 40 to 400; `None` is a picture in SVG.
         width: Option<u16>,
+        /// Which satellites are drawn.
+        choice: Choice,
         file: &'a str,
     },
     /// The numbers of a file.
@@ -79,7 +82,7 @@ pub enum Job<'a> {
     },
 }
 
-/// Why words that clap takes give no conversion, no part or no label: the first cause that holds, in this
+/// Why words that clap takes give no conversion, no picture, no part or no label: the first cause that holds, in this
 /// order; but that no time is dated near the reference is found last.
 #[derive(Clone, Copy)]
 pub(crate) enum BadWords {
@@ -96,6 +99,10 @@ pub(crate) enum BadWords {
     Marker,
     /// The links are not 1 to 16, or standard input stands twice.
     Links,
+    /// A letter is that of no system, or there is none.
+    Systems,
+    /// A name is that of no satellite.
+    Satellites,
     /// The begin of a part is written in another form, or there is no such moment.
     From,
     /// The end of a part is written in another form, or there is no such moment, or it is before the
@@ -119,6 +126,8 @@ impl BadWords {
             BadWords::Codes => "bad --codes",
             BadWords::Marker => "bad --marker",
             BadWords::Links => "bad links",
+            BadWords::Systems => "bad --systems",
+            BadWords::Satellites => "bad --satellites",
             BadWords::From => "bad --from",
             BadWords::Until => "bad --until",
             BadWords::Field(LabelFault::RunBy) => "bad --run-by",
@@ -148,7 +157,7 @@ pub enum WordsFault {
         /// The exit status of the program.
         status: u8,
     },
-    /// Words that clap takes give no conversion, no part or no label (status 2).
+    /// Words that clap takes give no conversion, no picture, no part or no label (status 2).
     Bad {
         /// The fault line, as `bad --near`.
         line: &'static str,

@@ -1,22 +1,36 @@
 -- The command `chart`: what it writes of a table.
-use Rattle.std.specs.Prelude.{◌≡◌, ℕ, List, Option, None, Some}
+use Rattle.std.specs.Prelude.{◌≡◌, ◌⊎◌, ℕ, Bool, true, false, List, [], Option, None, Some}
 use Rattle.std.specs.Int.{IsInRange}
 use Rattle.rtk_rinex.specs.Table.{WellFormedTable, table_text}
 use Rattle.rtk_label.specs.Labelled.{LabelView}
-use Rattle.rtk_chart.specs.Chart.{ShowsTable, ShowsTableInSvg}
+use Rattle.rtk_tracking.specs.Epochs.{HoldsOfEpochs}
+use Rattle.rtk_chart.specs.Choice.{is_there}
+use Rattle.rtk_chart.specs.Chart.{ShowsChosen, ShowsChosenInSvg}
+use Rattle.rtk_chart.specs.declared.choice.Choice.{Choice}
+use Rattle.rtk_commands.specs.declared.charting.Chart.{Chart}
 use Rattle.rtk_commands.specs.declared.file_answer.FileAnswer.{FileAnswer}
-use Rattle.rtk_commands.specs.declared.file_answer.FileAnswer.TheVariants.{Written}
+use Rattle.rtk_commands.specs.declared.file_answer.FileAnswer.TheVariants.{Written, NoneChosen}
 
 -- constant
 -- the width of a picture in characters (this project's rule)
 abbrev pub IsWidth : ℕ → Type 0
 IsWidth width = IsInRange 40 400 width
 
--- a picture of a file: in characters if a width is given, else in SVG
-abbrev pub IsPicture : Option ℕ → List ℕ → List ℕ → Type 0
-IsPicture None file picture = ShowsTableInSvg file picture
-IsPicture (Some width) file picture = ShowsTable file width picture
+-- a picture of the choice of a file: in characters if a width is given, else in SVG
+abbrev pub IsPicture : Option ℕ → Choice → List ℕ → List ℕ → Type 0
+IsPicture None choice file picture = ShowsChosenInSvg choice file picture
+IsPicture (Some width) choice file picture = ShowsChosen choice file width picture
 
--- a picture of the table, whatever its label
-abbrev pub DrawsTable : Option ℕ → WellFormedTable → LabelView → FileAnswer → List ℕ → Type 0
-DrawsTable width t l answer bytes = (answer ≡ Written) × IsPicture width (table_text t) bytes
+-- the file has something of the choice, or nothing
+abbrev pub Has : Choice → List ℕ → Bool → Type 0
+Has choice file some = HoldsOfEpochs file (λ es. some ≡ is_there choice es)
+
+-- a picture of what is chosen of a file; or the file has nothing of it, and nothing is written
+abbrev pub DrawsFile : Chart → List ℕ → FileAnswer → List ℕ → Type 0
+DrawsFile chart file answer bytes =
+    ((answer ≡ Written) × Has chart.choice file true × IsPicture chart.width chart.choice file bytes)
+    ⊎ ((answer ≡ NoneChosen) × Has chart.choice file false × (bytes ≡ []))
+
+-- the same of the table, whatever its label
+abbrev pub DrawsTable : Chart → WellFormedTable → LabelView → FileAnswer → List ℕ → Type 0
+DrawsTable chart t l answer bytes = DrawsFile chart (table_text t) answer bytes

@@ -1,6 +1,6 @@
 -- Laws of what is written: after the bytes that a writer held before stands exactly the line, the
 -- picture, the numbers, the part or the file with a label of the whole text, and nothing else.
-use Rattle.std.specs.Prelude.{◌≡◌, ℕ, Bool, List, ◌++◌, Option, Some}
+use Rattle.std.specs.Prelude.{◌≡◌, ℕ, Bool, List, ◌++◌, Some}
 use Rattle.rtk_rinex.specs.Table.{WellFormedTable, IsWellFormedTable, table_text}
 use Rattle.rtk_quality.specs.QualityText.{TellsQuality}
 use Rattle.rtk_quality.specs.declared.form.Form.{Form}
@@ -8,6 +8,7 @@ use Rattle.rtk_cut.specs.declared.part.Part.{Part}
 use Rattle.rtk_cut.specs.declared.counts.CutCounts.{CutCounts}
 use Rattle.rtk_cut.specs.Cut.{cut_of}
 use Rattle.rtk_label.specs.Labelled.{LabelView, IsLabel, IsFor, labelled_text}
+use Rattle.rtk_commands.specs.declared.charting.Chart.{Chart}
 use Rattle.rtk_commands.specs.declared.file_answer.FileAnswer.TheVariants.{Written, Cut}
 use Rattle.rtk_commands.specs.CheckInput.{SaysVerdict, Tells}
 use Rattle.rtk_commands.specs.ChartInput.{IsPicture, DrawsTable}
@@ -23,12 +24,12 @@ LineFollows =
     (text first last : List ℕ) (valid : Bool) → Tells text valid (Some first) (Some last)
     → (line : List ℕ) × SaysVerdict text valid line × (last ≡ first ++ line)
 
--- the picture of a file
+-- the picture of what is chosen of a file
 abbrev pub PictureFollows : Type 0
 PictureFollows =
-    (width : Option ℕ) (text first last : List ℕ) → WritesAll (WritesOfTable (DrawsTable width) text Written) (Some first) (Some last)
+    (chart : Chart) (text first last : List ℕ) → WritesAll (WritesOfTable (DrawsTable chart) text Written) (Some first) (Some last)
     → (t : WellFormedTable) × IsWellFormedTable t × IsWithLabel text t
-    × ((picture : List ℕ) × IsPicture width (table_text t) picture × (last ≡ first ++ picture))
+    × ((picture : List ℕ) × IsPicture chart.width chart.choice (table_text t) picture × (last ≡ first ++ picture))
 
 -- the numbers of a file
 abbrev pub NumbersFollow : Type 0

@@ -2,14 +2,14 @@
 
 ghost use Rattle.std.specs.Prelude.{◌≡◌, IfOk};
 ghost use Rattle.std.specs.Option.{ForSome};
-ghost use Rattle.rtk_commands.specs.ChartInput.{IsWidth, IsPicture, DrawsTable};
+ghost use Rattle.rtk_commands.specs.ChartInput.{IsWidth, IsPicture, DrawsFile, DrawsTable};
 ghost use Rattle.rtk_commands.specs.WithLabel.{WritesOfTable};
 
 use crate::file_answer::FileAnswer;
 use crate::file_command::FileCommand;
 use crate::rendered::{Rendered, write_rendered};
 use crate::with_label::table_with_label;
-use rtk_chart::{chart_svg, chart_text};
+use rtk_chart::{Choice, chosen_svg, chosen_text, is_there};
 use rtk_frame::Sink;
 use rtk_rinex::TextTable;
 use rtk_streams::ToolFault;
@@ -20,37 +20,57 @@ use std::alloc::{AllocError, Global};
 pub struct Chart {
     /// How many characters wide the picture is, 40 to 400; `None` is a picture in SVG.
     pub width: Option<u16>,
+    /// Which satellites are drawn.
+    pub choice: Choice,
 }
 
 // The picture of a table.
 fn picture_of(
     alloc: Global,
     table: &TextTable<'_>,
-    width: Option<u16>,
+    chart: &Chart,
 ) -> Result<Vec<u8>, AllocError>
-    requires { ForSome width IsWidth }
-    ensures { IfOk result (λ picture. IsPicture width table.now.text picture.items) }
+    requires { ForSome chart.now.width IsWidth }
+    ensures { IfOk result (λ picture. IsPicture chart.now.width chart.now.choice table.now.text picture.items) }
 {
-    match width {
-        Some(width) => chart_text(alloc, table, width),
-        None => chart_svg(alloc, table),
+    match chart.width {
+        Some(width) => chosen_text(alloc, table, &chart.choice, width),
+        None => chosen_svg(alloc, table, &chart.choice),
     }
+}
+
+// The picture of a table, if it has something of what is chosen.
+fn picture_if_any(
+    alloc: Global,
+    table: &TextTable<'_>,
+    chart: &Chart,
+) -> Result<Rendered, AllocError>
+    requires { ForSome chart.now.width IsWidth }
+    ensures { IfOk result (λ picture. DrawsFile chart.now table.now.text picture.answer picture.bytes.items) }
+{
+    if !is_there(table, &chart.choice) {
+        return Ok(Rendered {
+            answer: FileAnswer::NoneChosen,
+            bytes: Vec::new(alloc),
+        });
+    }
+    Ok(Rendered {
+        answer: FileAnswer::Written,
+        bytes: picture_of(alloc, table, chart)?,
+    })
 }
 
 // The picture of a text, without the label that it has.
 fn picture_of_text(
     alloc: Global,
     text: &mut [u8],
-    width: Option<u16>,
+    chart: &Chart,
 ) -> Result<Rendered, AllocError>
-    requires { ForSome width IsWidth }
-    ensures { IfOk result (λ picture. WritesOfTable (DrawsTable width) text.old picture.answer picture.bytes.items) }
+    requires { ForSome chart.now.width IsWidth }
+    ensures { IfOk result (λ picture. WritesOfTable (DrawsTable chart.now) text.old picture.answer picture.bytes.items) }
 {
     match table_with_label(text) {
-        Ok(file) => Ok(Rendered {
-            answer: FileAnswer::Written,
-            bytes: picture_of(alloc, &file.table, width)?,
-        }),
+        Ok(file) => Ok(picture_if_any(alloc, &file.table, chart)?),
         Err(fault) => Ok(Rendered::refusal(alloc, fault)),
     }
 }
@@ -67,7 +87,7 @@ impl FileCommand for Chart {
 
     ghost IsAllowed = { λ chart. ForSome chart.width IsWidth };
 
-    ghost writes = { λ chart. WritesOfTable (DrawsTable chart.width) };
+    ghost writes = { λ chart. WritesOfTable (DrawsTable chart) };
 
     fn write<W: Sink + Drop>(
         &self,
@@ -75,6 +95,6 @@ impl FileCommand for Chart {
         text: &mut [u8],
         out: W,
     ) -> (W, Result<FileAnswer, ToolFault>) {
-        write_rendered(picture_of_text(alloc, text, self.width), out)
+        write_rendered(picture_of_text(alloc, text, self), out)
     }
 }

@@ -18,6 +18,8 @@ pub enum FileAnswer {
     Refused(CheckFault),
     /// Nothing is written: the label has an antenna height, and the stream told one.
     Height,
+    /// Nothing is written: the file has no row of a satellite that is chosen.
+    NoneChosen,
 }
 
 impl FileAnswer {
@@ -47,6 +49,12 @@ impl FileAnswer {
                     "rtcm2rinex: bad --delta-height: the file tells a height"
                 );
                 REFUSED
+            }
+            FileAnswer::NoneChosen => {
+                let _printed = eprintln!(rt;
+                    "rtcm2rinex: none of the chosen satellites is in the file"
+                );
+                NOT_VALID
             }
         }
     }

@@ -1,32 +1,12 @@
-use Rattle.std.proofs.Common.{◌≡◌, ℕ, None, List, Option, sym, ap, ◌∙◌}
+use Rattle.std.proofs.Common.{List, ap, ◌∙◌}
 use Rattle.rtk_rinex.specs.Record.{EpochTableView}
-use Rattle.rtk_tracking.specs.Epochs.{newest_first, newest_moment}
+use Rattle.rtk_tracking.specs.Epochs.{newest_first}
 use Rattle.rtk_tracking.specs.Interval.{interval_of_file}
-use Rattle.rtk_chart.specs.Scale.{scale_of}
-use Rattle.rtk_chart.specs.TextPicture.{text_of_none}
 use Rattle.rtk_chart.specs.Chart.{text_of_epochs}
-use Rattle.rtk_chart.proofs.ChartLemmas.{none-is, text-is}
+use Rattle.rtk_chart.proofs.ChoiceLemmas.{all-chosen}
 use Rattle.rtk_chart.proofs.chart.chart_text.Goals as goal
-
-pub returns-in_default : goal.returns-in_default
-returns-in_default c = λ t is file.
-    let es : List EpochTableView = newest_first t.epochs in
-    let s = c.in_ok-survey.ensures t is file in
-    let parts = c.heading-heading.ensures.parts t is file in
-    let none : newest_moment es ≡ None = sym (c.in_default.ensures es s.steps) in
-    c.in_ok-text.ensures ∙ ap text_of_none (c.marker-marker.ensures.value ∙ ap (λ h. h.marker) parts.0)
-    ∙ none-is t.head.marker t.head.listed t.first c.args.width (interval_of_file t) es none
 
 pub returns : goal.returns
 returns c = λ t is file.
-    let es : List EpochTableView = newest_first t.epochs in
-    let parts = c.heading-heading.ensures.parts t is file in
-    let s = c.in_ok-survey.ensures t is file in
-    let g = c.in_ok-grid.ensures.grid t is file in
-    c.in_ok-text-2.ensures
-    ∙ text-is t.head.marker c.marker-marker.result.now t.head.listed c.codes-codes.result.now t.first c.heading-heading.result.first c.in-Some.last c.args.width
-    c.in_ok-survey.survey.records c.interval-interval.result c.new-scale.result c.in_ok-grid.grid es
-    (c.marker-marker.ensures.value ∙ ap (λ h. h.marker) parts.0) (c.codes-codes.ensures.value ∙ ap (λ h. h.listed) parts.0) parts.2 (c.in-Some.ensures es s.steps)
-    (c.new-scale.ensures.value ∙ ap (λ (n : ℕ). scale_of c.heading-heading.result.first c.in-Some.last c.interval-interval.result n) c.from.ensures)
-    s.records g
-    ∙ ap (λ (interval : Option ℕ). text_of_epochs t.head.marker t.head.listed t.first interval c.args.width es) (c.interval-interval.ensures es s.steps)
+    c.in_ok-text.ensures t is file
+    ∙ ap (λ (es : List EpochTableView). text_of_epochs t.head.marker t.head.listed t.first (interval_of_file t) c.args.width es) (all-chosen (newest_first t.epochs))

@@ -1,4 +1,5 @@
-use Rattle.std.proofs.Common.{[], refl, ◌∙◌}
+use Rattle.std.proofs.Common.{[], map, refl, ◌∙◌}
+use Rattle.rtk_chart.specs.Choice.{narrowed}
 use Rattle.rtk_chart.specs.Steps.Standing.{StandsForGrid}
 use Rattle.rtk_tracking.proofs.PublicLaws.{come-more, come-all}
 use Rattle.rtk_chart.proofs.passes.fill_grid.Goals as goal
@@ -13,14 +14,14 @@ loop-record-init c = record {
 
 pub loop-record-preserved : goal.loop-record-preserved
 loop-record-preserved c = record {
-  bins = c.place_record.ensures.bins ∙ c.loop-record.invariant.bins;
-  outages = c.place_record.ensures.outages ∙ c.loop-record.invariant.outages;
-  gaps = c.place_record.ensures.gaps ∙ c.loop-record.invariant.gaps;
+  bins = c.place_narrowed.ensures.bins ∙ c.loop-record.invariant.bins;
+  outages = c.place_narrowed.ensures.outages ∙ c.loop-record.invariant.outages;
+  gaps = c.place_narrowed.ensures.gaps ∙ c.loop-record.invariant.gaps;
   grid = λ t is text.
-      come-more (λ grid es. StandsForGrid grid c.args.scale.now es) c.loop-record.records c.next.new.self c.loop-record.grid c.place_record.new.self t.epochs c.in-Some._record.now c.next.new.epoch
-      (c.loop-record.invariant.grid t is text) c.in-Some.ensures.next c.place_record.ensures.grid;
+      come-more (λ grid es. StandsForGrid grid c.args.scale.now (map (narrowed c.args.choice.now) es)) c.loop-record.records c.next.new.self c.loop-record.grid c.place_narrowed.new.grid t.epochs c.in-Some._record.now c.next.new.epoch
+      (c.loop-record.invariant.grid t is text) c.in-Some.ensures.next (λ es. c.place_narrowed.ensures.grid (map (narrowed c.args.choice.now) es));
 }
 
 pub returns-clause-grid : goal.returns-clause-grid
 returns-clause-grid c = λ t is text.
-    come-all (λ grid es. StandsForGrid grid c.args.scale.now es) c.loop-record.records c.loop-record.grid t.epochs (c.loop-record.invariant.grid t is text) c.in_default.ensures.next
+    come-all (λ grid es. StandsForGrid grid c.args.scale.now (map (narrowed c.args.choice.now) es)) c.loop-record.records c.loop-record.grid t.epochs (c.loop-record.invariant.grid t is text) c.in_default.ensures.next

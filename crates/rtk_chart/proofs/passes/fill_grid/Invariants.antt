@@ -1,5 +1,6 @@
-use Rattle.std.proofs.Common.{◌≡◌, ◌*◌, length}
+use Rattle.std.proofs.Common.{◌≡◌, ◌*◌, map, length}
 use Rattle.rtk_rinex.specs.Table.{WellFormedTable, IsWellFormedTable, table_text}
+use Rattle.rtk_chart.specs.Choice.{narrowed}
 use Rattle.rtk_chart.specs.Steps.Standing.{StandsForGrid}
 use Rattle.rtk_tracking.proofs.PublicLaws.{HasCome}
 use Rattle.rtk_chart.proofs.passes.fill_grid.Given as goal
@@ -9,7 +10,7 @@ invariant-loop-record l = record {
   bins : length l.grid.bins.items ≡ l.scale.bins;
   outages : length l.grid.outages.items ≡ 32 * l.scale.bins;
   gaps : length l.grid.gaps.items ≡ l.scale.bins;
-  grid : (t : WellFormedTable) → IsWellFormedTable t → l.table.text ≡ table_text t → HasCome (λ grid es. StandsForGrid grid l.scale es) l.records l.grid t.epochs;
+  grid : (t : WellFormedTable) → IsWellFormedTable t → l.table.text ≡ table_text t → HasCome (λ grid es. StandsForGrid grid l.scale (map (narrowed l.choice) es)) l.records l.grid t.epochs;
 }
 
 abbrev pub decreases-loop-record : goal.decreases-loop-record

@@ -1,0 +1,108 @@
+//! The words of `chart`: which satellites its options choose.
+
+ghost use Rattle.std.specs.Prelude.{◌≡◌, ℕ, List, IfOk, IfErr, MatchOption};
+ghost use Rattle.rtk_obs.specs.SatelliteIndex.{IsSatelliteIndex};
+ghost use Rattle.rtk_chart.specs.Choice.{is_chosen};
+ghost use Rattle.rtk_cli.specs.FaultLines.{IsRefusal};
+ghost use Rattle.rtk_cli.specs.Steps.ChartWords.{are_systems, ListsSatellites, is_named, SaysChoice, RefusesChoice};
+
+use crate::options::ChartOptions;
+use crate::words::{BadWords, WordsFault};
+use rtk_chart::{Choice, Chosen};
+use rtk_obs::{SatelliteIndex, satellite_name, satellite_named};
+use std::alloc::{AllocError, Global};
+
+/// The letters of the systems in names of RINEX.
+const SYSTEMS: &[u8] = b"GRECJSI";
+
+// A text is of letters of systems, and has one.
+fn are_systems(text: &[u8]) -> bool
+    ensures { result ≡ are_systems text.now }
+{
+    !text.is_empty() && text.iter().all(|letter| SYSTEMS.contains(letter))
+}
+
+// The satellites whose names a text lists, with commas between; a satellite may stand twice. `None` if it is no such
+// list.
+fn satellites_of(alloc: Global, text: &[u8]) -> Result<Option<Vec<SatelliteIndex>>, AllocError>
+    // An error comes only if memory is refused: tests/system/calls, rows `job of chart`.
+    ensures { IfOk result (λ listed. MatchOption listed ((satellites : List ℕ) → ¬ (ListsSatellites text.now satellites)) (λ satellites. ListsSatellites text.now satellites.items)) }
+{
+    let mut satellites = Vec::new(alloc);
+    let mut rest = text;
+    loop {
+        let Some((name, tail)) = rest.split_first_chunk::<3>() else {
+            return Ok(None);
+        };
+        let Some(satellite) = satellite_named(name) else {
+            return Ok(None);
+        };
+        satellites.push(satellite)?;
+        let Some((comma, next)) = tail.split_first() else {
+            return Ok(Some(satellites));
+        };
+        if *comma != b',' {
+            return Ok(None);
+        }
+        rest = next;
+    }
+}
+
+// A satellite is of a system of these letters, or is listed.
+fn is_named(letters: &[u8], listed: &[SatelliteIndex], satellite: SatelliteIndex) -> bool
+    ensures { result ≡ is_named letters.now listed.now satellite }
+{
+    let [letter, _, _] = satellite_name(satellite);
+    letters.contains(&letter) || listed.iter().any(|one| one.index() == satellite.index())
+}
+
+// The satellites that are of a system of these letters, or listed.
+fn chosen_by(letters: &[u8], listed: &[SatelliteIndex]) -> Chosen
+    ensures { (i : ℕ) → IsSatelliteIndex i → is_chosen result i ≡ is_named letters.now listed.now i }
+{
+    let mut places = [false; 221];
+    for place in 0u8..221 {
+        if let Some(satellite) = SatelliteIndex::new(place + 1) {
+            places[usize::from(place)] = is_named(letters, listed, satellite);
+        }
+    }
+    Chosen { places }
+}
+
+// The letters of systems that an option names; without it there is none.
+fn systems_said<'a>(text: Option<&'a str>) -> Result<&'a [u8], BadWords> {
+    let Some(text) = text else {
+        return Ok(b"");
+    };
+    if are_systems(text.as_bytes()) {
+        return Ok(text.as_bytes());
+    }
+    Err(BadWords::Systems)
+}
+
+// The satellites that an option lists; without it there is none.
+fn satellites_said(alloc: Global, text: Option<&str>) -> Result<Vec<SatelliteIndex>, WordsFault> {
+    let Some(text) = text else {
+        return Ok(Vec::new(alloc));
+    };
+    match satellites_of(alloc, text.as_bytes())? {
+        Some(satellites) => Ok(satellites),
+        None => Err(BadWords::Satellites.into()),
+    }
+}
+
+/// The satellites that the options choose: all without an option, else those of a system that is named, and those
+/// that are listed. The first cause why there is no choice is told: the form of `--systems`, and last the form of
+/// `--satellites`.
+pub(crate) fn choice_of(alloc: Global, options: &ChartOptions<'_>) -> Result<Choice, WordsFault>
+    ensures said { IfOk result (SaysChoice options.now) }
+    // `OutOfMemory` comes only if memory is refused: tests/system/calls, rows `job of chart ..`.
+    ensures refused { IfErr result (IsRefusal (RefusesChoice options.now)) }
+{
+    if options.systems.is_none() && options.satellites.is_none() {
+        return Ok(Choice::All);
+    }
+    let letters = systems_said(options.systems)?;
+    let listed = satellites_said(alloc, options.satellites)?;
+    Ok(Choice::These(chosen_by(letters, listed.as_slice())))
+}
