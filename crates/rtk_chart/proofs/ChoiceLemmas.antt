@@ -1,13 +1,14 @@
 -- Rows of chosen satellites.
-use Rattle.std.proofs.Common.{◌≡◌, ◌<◌, ◌≤◌, ◌+◌, ◌++◌, ℕ, Bool, true, false, cond, List, [], ◌∷◌, length, map, get_or, take, Some, refl, sym, ap, ◌∙◌, arith}
+use Rattle.std.proofs.Common.{◌≡◌, ◌<◌, ◌≤◌, ◌+◌, ◌++◌, ◌||◌, ℕ, Bool, true, false, cond, List, [], ◌∷◌, length, map, get_or, take, Some, refl, sym, ap, ◌∙◌, arith}
+use Rattle.std.proofs.Math.Bool.{or-true}
 use Rattle.std.specs.Prelude.{All, AllPairs, count_by}
-use Rattle.std.specs.List.{filter}
+use Rattle.std.specs.List.{filter, list_any}
 use Rattle.std.proofs.lemmas.List.{get_or-take, get_or_default, length-take-le, map-id, append-nil}
 use Rattle.std.proofs.lemmas.List.Elements.{All-filter, filter_more}
 use Rattle.std.proofs.lemmas.List.Sums.{length-filter, count_by-le-length}
 use Rattle.rtk_rinex.specs.declared.epoch_table.SatelliteRow.{SatelliteRow}
 use Rattle.rtk_rinex.specs.Record.{EpochTableView}
-use Rattle.rtk_tracking.specs.Epochs.{newest_moment}
+use Rattle.rtk_tracking.specs.Epochs.{epochs_onto, newest_moment}
 use Rattle.rtk_chart.specs.Choice.{narrowed}
 use Rattle.rtk_chart.specs.declared.choice.Choice.{Choice}
 use Rattle.rtk_chart.specs.declared.choice.Choice.TheVariants.{All as EachOne, These}
@@ -58,3 +59,8 @@ time-narrowed (These chosen) e = refl
 pub newest-narrowed : (choice : Choice) (es : List EpochTableView) → newest_moment (map (narrowed choice) es) ≡ newest_moment es
 newest-narrowed choice [] = refl
 newest-narrowed choice (e ∷ es) = ap (λ (t : ℕ). Some t) (time-narrowed choice e)
+
+-- an epoch that has a row of a chosen satellite stays among the epochs
+pub found-stays : (p : EpochTableView → Bool) (rest before : List EpochTableView) → list_any p before ≡ true → list_any p (epochs_onto rest before) ≡ true
+found-stays p [] before found = found
+found-stays p (e ∷ rest) before found = found-stays p rest (e ∷ before) (ap (λ (b : Bool). p e || b) found ∙ or-true (p e))

@@ -27,8 +27,8 @@ pub fn chart_text(alloc: Global, table: &TextTable<'_>, width: u16) -> Result<Ve
     Ok(text)
 }
 
-/// The same of the satellites of a choice. The records of other satellites count for nothing: the picture is that
-/// of a file without them. Only the records themselves, their times and the codes are those of the file.
+/// The same picture of chosen satellites. It is that of a file in which the other satellites have no rows, but
+/// which has the same records, times and codes.
 pub fn chosen_text(
     alloc: Global,
     table: &TextTable<'_>,
@@ -64,7 +64,7 @@ pub fn chart_svg(alloc: Global, table: &TextTable<'_>) -> Result<Vec<u8>, AllocE
     Ok(svg)
 }
 
-/// The same of the satellites of a choice.
+/// The same picture of chosen satellites.
 pub fn chosen_svg(
     alloc: Global,
     table: &TextTable<'_>,

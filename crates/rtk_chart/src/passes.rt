@@ -3,7 +3,7 @@
 //! The first pass finds their number and steps, which give the bins. The second one notes each record in
 //! its bin.
 
-ghost use Rattle.std.specs.Prelude.{◌≡◌, ◌*◌, ◌||◌, List, ◌∷◌, map, length, IfOk};
+ghost use Rattle.std.specs.Prelude.{◌≡◌, ◌*◌, List, ◌∷◌, map, length, IfOk};
 ghost use Rattle.std.specs.List.{list_any};
 ghost use Rattle.rtk_rinex.specs.Record.{EpochTableView};
 ghost use Rattle.rtk_chart.specs.Scale.{IsScale};
@@ -36,29 +36,22 @@ pub(crate) fn survey_records(
     Ok(survey)
 }
 
-// One of two holds.
-fn is_either(one: bool, other: bool) -> bool
-    ensures { result ≡ (one || other) }
-{
-    one || other
-}
-
 // Some record of a table has a row of a chosen satellite.
 fn has_chosen(table: &TextTable<'_>, chosen: &Chosen) -> bool
     ensures { HoldsOfEpochs table.now.text (λ es. result ≡ list_any (has_row chosen.now) es) }
 {
     let mut epoch = EpochTable::new(table.heading().first);
     let mut records = table.records();
-    let mut found = false;
     while let Some(_record) = records.next(&mut epoch) {
-        let here = has_row(chosen, &epoch);
-        found = is_either(here, found);
+        if has_row(chosen, &epoch) {
+            return true;
+        }
     }
-    found
+    false
 }
 
-/// There is something to draw of a table: some record has a row of a satellite that is chosen. All of a table can be
-/// drawn, even if it has no record.
+/// Is there something to draw of a table? Of chosen satellites some must have a row in a record. A picture of all
+/// satellites is drawn even of a table without records.
 pub fn is_there(table: &TextTable<'_>, choice: &Choice) -> bool
     ensures { HoldsOfEpochs table.now.text (λ es. result ≡ is_there choice.now es) }
 {

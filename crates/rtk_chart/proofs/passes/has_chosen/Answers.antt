@@ -1,8 +1,9 @@
-use Rattle.std.proofs.Common.{◌≡◌, ◌||◌, Bool, List, ◌∷◌, [], refl, ap, ◌∙◌}
+use Rattle.std.proofs.Common.{◌≡◌, ◌||◌, Bool, true, false, List, [], refl, sym, ap, ◌∙◌}
 use Rattle.std.specs.List.{list_any}
 use Rattle.rtk_rinex.specs.Record.{EpochTableView}
 use Rattle.rtk_chart.specs.Choice.{has_row}
-use Rattle.rtk_tracking.proofs.PublicLaws.{come-more, come-all}
+use Rattle.rtk_tracking.proofs.PublicLaws.{HasCome, come-more, come-all}
+use Rattle.rtk_chart.proofs.ChoiceLemmas.{found-stays}
 use Rattle.rtk_chart.proofs.passes.has_chosen.Goals as goal
 
 pub loop-record-init : goal.loop-record-init
@@ -10,10 +11,21 @@ loop-record-init c = λ t is text. ([], t.epochs, (c.records-records.ensures.rec
 
 pub loop-record-preserved : goal.loop-record-preserved
 loop-record-preserved c = λ t is text.
-    come-more (λ found es. found ≡ list_any (has_row c.args.chosen.now) es) c.loop-record.records c.next.new.self c.loop-record.found c.is_either-found.result t.epochs c.in-Some._record.now c.next.new.epoch
+    let p : EpochTableView → Bool = has_row c.args.chosen.now in
+    come-more (λ found es. list_any p es ≡ found) c.loop-record.records c.next.new.self false false t.epochs c.in-Some._record.now c.next.new.epoch
     (c.loop-record.invariant t is text) c.in-Some.ensures.next
-    (λ es is. c.is_either-found.ensures ∙ ap (λ (b : Bool). b || c.loop-record.found) c.has_row-here.ensures ∙ ap (λ (b : Bool). has_row c.args.chosen.now c.next.new.epoch || b) is)
+    (λ es none. ap (λ (b : Bool). b || list_any p es) (sym c.has_row.ensures ∙ c.if-has_row.false) ∙ none)
+
+pub returns-then-has_row : goal.returns-then-has_row
+returns-then-has_row c = λ t is text.
+    let p : EpochTableView → Bool = has_row c.args.chosen.now in
+    let come : HasCome (λ found es. list_any p es ≡ found) c.next.new.self true t.epochs =
+        come-more (λ found es. list_any p es ≡ found) c.loop-record.records c.next.new.self false true t.epochs c.in-Some._record.now c.next.new.epoch
+        (c.loop-record.invariant t is text) c.in-Some.ensures.next
+        (λ es none. ap (λ (b : Bool). b || list_any p es) (sym c.has_row.ensures ∙ c.if-has_row.true))
+    in
+    sym (ap (list_any p) (sym come.3) ∙ found-stays p come.1 come.0 come.4)
 
 pub returns : goal.returns
 returns c = λ t is text.
-    come-all (λ found es. found ≡ list_any (has_row c.args.chosen.now) es) c.loop-record.records c.loop-record.found t.epochs (c.loop-record.invariant t is text) c.in_default.ensures.next
+    sym (come-all (λ found es. list_any (has_row c.args.chosen.now) es ≡ found) c.loop-record.records false t.epochs (c.loop-record.invariant t is text) c.in_default.ensures.next)
