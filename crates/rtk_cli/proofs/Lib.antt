@@ -2,5 +2,6 @@ mod CodeListLemmas
 mod FaultLineLemmas
 mod LinkLemmas
 mod MomentTextLemmas
+mod NameListLemmas
 mod RefusedLemmas
 mod SaidLemmas

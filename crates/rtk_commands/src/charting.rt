@@ -70,7 +70,7 @@ fn picture_of_text(
     ensures { IfOk result (λ picture. WritesOfTable (DrawsTable chart.now) text.old picture.answer picture.bytes.items) }
 {
     match table_with_label(text) {
-        Ok(file) => Ok(picture_if_any(alloc, &file.table, chart)?),
+        Ok(file) => picture_if_any(alloc, &file.table, chart),
         Err(fault) => Ok(Rendered::refusal(alloc, fault)),
     }
 }

@@ -1,5 +1,5 @@
 -- What the words of `chart` choose, and why they are refused.
-use Rattle.std.specs.Prelude.{◌≡◌, ℕ, ◌==◌, Bool, false, not, ◌&&◌, ◌||◌, List, [], ◌∷◌, length, codes, flat_map, Option, None, Some, All, IsTrue}
+use Rattle.std.specs.Prelude.{◌≡◌, ℕ, ◌==◌, Bool, false, not, ◌&&◌, ◌||◌, List, [], ◌∷◌, length, codes, Option, None, Some, All, IsTrue}
 use Rattle.std.specs.Borrow.{Bor}
 use Rattle.std.specs.List.{list_any, list_all}
 use Rattle.rtk_obs.specs.SatelliteIndex.{IsSatelliteIndex, system_at, letter_of, index_name}
@@ -9,6 +9,7 @@ use Rattle.rtk_chart.specs.declared.choice.Choice.TheVariants.{All as EachOne, T
 use Rattle.rtk_cli.specs.declared.options.ChartOptions.{ChartOptions}
 use Rattle.rtk_cli.specs.declared.words.BadWords.{BadWords}
 use Rattle.rtk_cli.specs.declared.words.BadWords.TheVariants.{Systems, Satellites}
+use Rattle.rtk_cli.specs.Steps.NameList.{comma_names}
 
 -- table
 -- the letter of a system (RINEX 3.05, section 3.5)
@@ -20,15 +21,11 @@ is_system x = list_any (λ y. y == x) (codes "GRECJSI")
 abbrev pub are_systems : List ℕ → Bool
 are_systems text = not (length text == 0) && list_all is_system text
 
--- the names of satellites, a comma before each
-abbrev pub comma_satellites : List ℕ → List ℕ
-comma_satellites = flat_map (λ i. 44 ∷ index_name i)
-
 -- formula
 -- the text lists these satellites, one or more: with a comma before it, it is their names, a comma before each (this
 -- project's rule)
 abbrev pub ListsSatellites : List ℕ → List ℕ → Type 0
-ListsSatellites text satellites = All IsSatelliteIndex satellites × (44 ∷ text ≡ comma_satellites satellites)
+ListsSatellites text satellites = All IsSatelliteIndex satellites × (44 ∷ text ≡ comma_names index_name satellites)
 
 -- formula
 -- a satellite is of a system of these letters, or listed
