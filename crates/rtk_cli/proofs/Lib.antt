@@ -1,3 +1,4 @@
+mod ChoiceLemmas
 mod CodeListLemmas
 mod FaultLineLemmas
 mod LinkLemmas
@@ -5,3 +6,4 @@ mod MomentTextLemmas
 mod NameListLemmas
 mod RefusedLemmas
 mod SaidLemmas
+mod SatelliteListLemmas

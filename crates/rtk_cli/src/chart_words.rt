@@ -4,7 +4,7 @@ ghost use Rattle.std.specs.Prelude.{◌≡◌, ℕ, List, IfOk, IfErr, MatchOpti
 ghost use Rattle.rtk_obs.specs.SatelliteIndex.{IsSatelliteIndex};
 ghost use Rattle.rtk_chart.specs.Choice.{is_chosen};
 ghost use Rattle.rtk_cli.specs.FaultLines.{IsRefusal};
-ghost use Rattle.rtk_cli.specs.Steps.ChartWords.{are_systems, ListsSatellites, is_named, SaysChoice, RefusesChoice};
+ghost use Rattle.rtk_cli.specs.Steps.ChartWords.{are_systems, ListsSatellites, is_named, SaysSystems, SaysSatellites, HasNoSystems, HasNoSatellites, SaysChoice, RefusesChoice};
 
 use crate::options::ChartOptions;
 use crate::words::{BadWords, WordsFault};
@@ -25,7 +25,7 @@ fn are_systems(text: &[u8]) -> bool
 // The satellites whose names a text lists, with commas between; a satellite may stand twice. `None` if it is no such
 // list.
 fn satellites_of(alloc: Global, text: &[u8]) -> Result<Option<Vec<SatelliteIndex>>, AllocError>
-    // An error comes only if memory is refused: tests/system/calls, rows `job of chart`.
+    // An error comes only if memory is refused: tests/system/calls, rows `job of chart ..`.
     ensures { IfOk result (λ listed. MatchOption listed ((satellites : List ℕ) → ¬ (ListsSatellites text.now satellites)) (λ satellites. ListsSatellites text.now satellites.items)) }
 {
     let mut satellites = Vec::new(alloc);
@@ -62,15 +62,19 @@ fn chosen_by(letters: &[u8], listed: &[SatelliteIndex]) -> Chosen
 {
     let mut places = [false; 221];
     for place in 0u8..221 {
-        if let Some(satellite) = SatelliteIndex::new(place + 1) {
-            places[usize::from(place)] = is_named(letters, listed, satellite);
-        }
+        let Some(satellite) = SatelliteIndex::new(place + 1) else {
+            unreachable!();
+        };
+        places[usize::from(place)] = is_named(letters, listed, satellite);
     }
     Chosen { places }
 }
 
-// The letters of systems that an option names; without it there is none.
-fn systems_said<'a>(text: Option<&'a str>) -> Result<&'a [u8], BadWords> {
+// The letters of systems that an option names; without it there are none.
+fn systems_said<'a>(text: Option<&'a str>) -> Result<&'a [u8], BadWords>
+    ensures said { IfOk result (λ letters. SaysSystems text.entry letters.now) }
+    ensures cause { IfErr result (λ told. (told ≡ BadWords.Systems) × HasNoSystems text.entry) }
+{
     let Some(text) = text else {
         return Ok(b"");
     };
@@ -80,8 +84,12 @@ fn systems_said<'a>(text: Option<&'a str>) -> Result<&'a [u8], BadWords> {
     Err(BadWords::Systems)
 }
 
-// The satellites that an option lists; without it there is none.
-fn satellites_said(alloc: Global, text: Option<&str>) -> Result<Vec<SatelliteIndex>, WordsFault> {
+// The satellites that an option lists; without it there are none.
+fn satellites_said(alloc: Global, text: Option<&str>) -> Result<Vec<SatelliteIndex>, WordsFault>
+    ensures said { IfOk result (λ listed. SaysSatellites text.entry listed.items) }
+    // `OutOfMemory` comes only if memory is refused: tests/system/calls, rows `job of chart ..`.
+    ensures refused { IfErr result (IsRefusal (λ cause. (cause ≡ BadWords.Satellites) × HasNoSatellites text.entry)) }
+{
     let Some(text) = text else {
         return Ok(Vec::new(alloc));
     };
@@ -92,7 +100,7 @@ fn satellites_said(alloc: Global, text: Option<&str>) -> Result<Vec<SatelliteInd
 }
 
 /// The satellites that the options choose: all without an option, else those of a system that is named, and those
-/// that are listed. The first cause why there is no choice is told: the form of `--systems`, and last the form of
+/// that are listed. The first cause why they choose none is told: the form of `--systems`, and last the form of
 /// `--satellites`.
 pub(crate) fn choice_of(alloc: Global, options: &ChartOptions<'_>) -> Result<Choice, WordsFault>
     ensures said { IfOk result (SaysChoice options.now) }

@@ -1,0 +1,20 @@
+-- Lists of satellites, read from the front.
+use Rattle.std.proofs.Common.{◌≡◌, ◌++◌, ℕ, List, ◌∷◌, length, refl, sym, ◌∙◌, subst}
+use Rattle.rtk_obs.specs.SatelliteIndex.{IsSatelliteIndex, index_name}
+use Rattle.rtk_cli.specs.Steps.NameList.{comma_names}
+use Rattle.rtk_cli.specs.Steps.ChartWords.{ListsSatellites}
+use Rattle.rtk_cli.proofs.NameListLemmas.{Naming, Next, next-of}
+
+three-characters : (i : ℕ) → length (index_name i) ≡ 3
+three-characters i = refl
+
+-- the names of satellites
+abbrev pub satellites-naming : Naming ℕ
+satellites-naming = record { name = index_name; width = 3; same = three-characters }
+
+pub next-satellite : (text done listed rest : List ℕ) → 44 ∷ text ≡ comma_names index_name done ++ 44 ∷ rest → ListsSatellites text listed → Next IsSatelliteIndex satellites-naming rest
+next-satellite text done listed rest so_far lists = next-of IsSatelliteIndex satellites-naming done listed rest lists.0 (sym so_far ∙ lists.1)
+
+-- a text that is the same lists no satellites either
+pub no-satellites : (written text : List ℕ) → text ≡ written → ((listed : List ℕ) → ¬ (ListsSatellites text listed)) → (listed : List ℕ) → ¬ (ListsSatellites written listed)
+no-satellites written text same none listed lists = none listed (subst (λ (x : List ℕ). ListsSatellites x listed) (sym same) lists)
