@@ -7,7 +7,7 @@ use Rattle.rtk_cli.specs.Steps.NameList.{comma_names}
 use Rattle.rtk_cli.specs.Steps.CodeList.{Lists}
 use Rattle.rtk_cli.proofs.NameListLemmas.{Naming, Next, next-of}
 
-two-characters : (c : Code) → length (name_of c) ≡ 2
+pub two-characters : (c : Code) → length (name_of c) ≡ 2
 two-characters G1C = refl
 two-characters G1P = refl
 two-characters G1W = refl

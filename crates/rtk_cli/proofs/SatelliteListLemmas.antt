@@ -5,7 +5,7 @@ use Rattle.rtk_cli.specs.Steps.NameList.{comma_names}
 use Rattle.rtk_cli.specs.Steps.ChartWords.{ListsSatellites}
 use Rattle.rtk_cli.proofs.NameListLemmas.{Naming, Next, next-of}
 
-three-characters : (i : ℕ) → length (index_name i) ≡ 3
+pub three-characters : (i : ℕ) → length (index_name i) ≡ 3
 three-characters i = refl
 
 -- the names of satellites

@@ -1,10 +1,11 @@
 //! The words of `chart`: which satellites its options choose.
 
 ghost use Rattle.std.specs.Prelude.{◌≡◌, ℕ, List, IfOk, IfErr, MatchOption};
+ghost use Rattle.std.specs.List.{list_all};
 ghost use Rattle.rtk_obs.specs.SatelliteIndex.{IsSatelliteIndex};
 ghost use Rattle.rtk_chart.specs.Choice.{is_chosen};
 ghost use Rattle.rtk_cli.specs.FaultLines.{IsRefusal};
-ghost use Rattle.rtk_cli.specs.Steps.ChartWords.{are_systems, ListsSatellites, is_named, SaysSystems, SaysSatellites, HasNoSystems, HasNoSatellites, SaysChoice, RefusesChoice};
+ghost use Rattle.rtk_cli.specs.Steps.ChartWords.{is_system, are_systems, ListsSatellites, is_of_system, is_named, SaysSystems, SaysSatellites, HasNoSystems, HasNoSatellites, SaysChoice, RefusesChoice};
 
 use crate::options::ChartOptions;
 use crate::words::{BadWords, WordsFault};
@@ -12,14 +13,24 @@ use rtk_chart::{Choice, Chosen};
 use rtk_obs::{SatelliteIndex, satellite_name, satellite_named};
 use std::alloc::{AllocError, Global};
 
-/// The letters of the systems in names of RINEX.
-const SYSTEMS: &[u8] = b"GRECJSI";
+// A letter stands for a system in names of RINEX.
+fn is_system(letter: u8) -> bool
+    ensures { result ≡ is_system letter }
+{
+    b"GRECJSI".contains(&letter)
+}
+
+fn all_systems(letters: &[u8]) -> bool
+    ensures { result ≡ list_all is_system letters.now }
+{
+    letters.iter().all(|letter| is_system(*letter))
+}
 
 // A text is of letters of systems, and has one.
 fn are_systems(text: &[u8]) -> bool
     ensures { result ≡ are_systems text.now }
 {
-    !text.is_empty() && text.iter().all(|letter| SYSTEMS.contains(letter))
+    !text.is_empty() && all_systems(text)
 }
 
 // The satellites whose names a text lists, with commas between; a satellite may stand twice. `None` if it is no such
@@ -48,12 +59,19 @@ fn satellites_of(alloc: Global, text: &[u8]) -> Result<Option<Vec<SatelliteIndex
     }
 }
 
+// A satellite is of a system of these letters.
+fn is_of_system(letters: &[u8], satellite: SatelliteIndex) -> bool
+    ensures { result ≡ is_of_system letters.now satellite }
+{
+    let [letter, _, _] = satellite_name(satellite);
+    letters.contains(&letter)
+}
+
 // A satellite is of a system of these letters, or is listed.
 fn is_named(letters: &[u8], listed: &[SatelliteIndex], satellite: SatelliteIndex) -> bool
     ensures { result ≡ is_named letters.now listed.now satellite }
 {
-    let [letter, _, _] = satellite_name(satellite);
-    letters.contains(&letter) || listed.iter().any(|one| one.index() == satellite.index())
+    is_of_system(letters, satellite) || listed.contains(&satellite)
 }
 
 // The satellites that are of a system of these letters, or listed.

@@ -27,10 +27,14 @@ are_systems text = not (length text == 0) && list_all is_system text
 abbrev pub ListsSatellites : List ℕ → List ℕ → Type 0
 ListsSatellites text satellites = All IsSatelliteIndex satellites × (44 ∷ text ≡ comma_names index_name satellites)
 
+-- a satellite is of a system of these letters
+abbrev pub is_of_system : List ℕ → ℕ → Bool
+is_of_system letters i = list_any (λ x. x == letter_of (system_at i)) letters
+
 -- formula
 -- a satellite is of a system of these letters, or listed
 abbrev pub is_named : List ℕ → List ℕ → ℕ → Bool
-is_named letters listed i = list_any (λ x. x == letter_of (system_at i)) letters || list_any (λ s. s == i) listed
+is_named letters listed i = is_of_system letters i || list_any (λ s. s == i) listed
 
 -- the letters that an option names, or none without it
 abbrev pub SaysSystems : Option (Bor (List ℕ)) → List ℕ → Type 0
