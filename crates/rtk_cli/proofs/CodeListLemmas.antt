@@ -1,5 +1,5 @@
 -- Lists of codes, read from the front.
-use Rattle.std.proofs.Common.{◌≡◌, ◌++◌, ℕ, List, ◌∷◌, length, refl, sym, ◌∙◌, subst}
+use Rattle.std.proofs.Common.{◌≡◌, ◌++◌, ℕ, List, ◌∷◌, length, refl, sym, ◌∙◌}
 use Rattle.rtk_obs.specs.declared.code.Code.{Code}
 use Rattle.rtk_obs.specs.declared.code.Code.TheVariants.{G1C, G1P, G1W, G1S, G1L, G1X, G2C, G2D, G2P, G2W, G2S, G2L, G2X, G5I, G5Q, G5X}
 use Rattle.rtk_obs.specs.Code.{name_of}
@@ -35,7 +35,3 @@ AnyCode c = Unit {0}
 
 pub next-code : (text : List ℕ) (done listed : List Code) (rest : List ℕ) → 44 ∷ text ≡ comma_names name_of done ++ 44 ∷ rest → Lists text listed → Next AnyCode codes-naming rest
 next-code text done listed rest so_far lists = next-of AnyCode codes-naming done listed rest (λ i c lt. tt) (sym so_far ∙ lists)
-
--- a text that is the same lists no codes either
-pub no-list : (written text : List ℕ) → text ≡ written → ((listed : List Code) → ¬ (Lists text listed)) → (listed : List Code) → ¬ (Lists written listed)
-no-list written text same none listed lists = none listed (subst (λ (x : List ℕ). Lists x listed) (sym same) lists)
