@@ -1,7 +1,7 @@
 -- Rows of chosen satellites.
 use Rattle.std.proofs.Common.{◌≡◌, ◌<◌, ◌≤◌, ◌+◌, ◌++◌, ◌||◌, ℕ, Bool, true, false, cond, List, [], ◌∷◌, length, map, get_or, take, Some, refl, sym, ap, ◌∙◌, arith}
 use Rattle.std.proofs.Math.Bool.{or-true}
-use Rattle.std.specs.Prelude.{All, AllPairs, count_by}
+use Rattle.std.specs.Prelude.{All, AllPairs}
 use Rattle.std.specs.List.{filter, list_any}
 use Rattle.std.proofs.lemmas.List.{get_or-take, get_or_default, length-take-le, map-id, append-nil}
 use Rattle.std.proofs.lemmas.List.Elements.{All-filter, filter_more}

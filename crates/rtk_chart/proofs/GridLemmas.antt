@@ -1,5 +1,5 @@
 -- The bins of a picture, epoch by epoch.
-use Rattle.std.proofs.Common.{◌≡◌, ◌≢◌, ◌<◌, ◌≤◌, ◌+◌, ◌-◌, ◌*◌, ◌/◌, ◌%◌, ◌==◌, ℕ, zero, suc, refl, Bool, true, false, cond, ltb, not, ◌&&◌, ◌||◌, List, [], ◌∷◌, Option, None, Some, length, set, get_or, map, replicate, sym, ap, subst, inl, inr, get_or-set_same, get_or-set_other, ◌∙◌, arith}
+use Rattle.std.proofs.Common.{◌≡◌, ◌≢◌, ◌<◌, ◌≤◌, ◌+◌, ◌*◌, ◌/◌, ◌%◌, ◌==◌, ℕ, zero, suc, refl, Bool, true, false, cond, ltb, not, ◌&&◌, ◌||◌, List, [], ◌∷◌, Option, Some, length, set, get_or, map, replicate, sym, ap, subst, inl, inr, get_or-set_same, get_or-set_other, ◌∙◌, arith}
 use Rattle.std.specs.Prelude.{nat_lt, nat_le, is_some, count_by}
 use Rattle.std.specs.List.{range_with_len, sum_by}
 use Rattle.std.proofs.lemmas.Bool.{both_ways, cases_eq, eq-eqb, ne_eqb, lt-ltb, le-ltb}
@@ -9,13 +9,13 @@ use Rattle.rtk_rinex.specs.Record.{EpochTableView}
 use Rattle.rtk_rinex.specs.declared.epoch_table.Observed.{Observed}
 use Rattle.rtk_tracking.specs.Epochs.{capped, newest_moment, shows_phase, observed_in, shown_at}
 use Rattle.rtk_tracking.specs.Extremes.{lesser}
-use Rattle.rtk_tracking.specs.Passes.{Sighting, sightings_of, last_record, has_phase, has_bit_0, is_known, is_kept, is_slip, is_rise, is_return, outage_before}
+use Rattle.rtk_tracking.specs.Passes.{Sighting, sightings_of, last_record, has_phase, has_bit_0, is_known, is_kept, is_slip, is_rise, is_return}
 use Rattle.rtk_tracking.specs.Standing.{AreMarked, StandsForPass}
 use Rattle.rtk_tracking.specs.Interval.{missing_before, missing_in}
 use Rattle.rtk_tracking.specs.declared.passes.Pass.{Pass}
 use Rattle.rtk_chart.specs.Epochs.{sighting_of, is_seen, lacks_phase, has_bit_1, level_at, level_of, times_in_epoch}
 use Rattle.rtk_chart.specs.Scale.{bin_at}
-use Rattle.rtk_chart.specs.Grid.{no_marks, no_tracking, no_bin, code_in, codes_in, tracking_in, trackings_in, bin_in, bins_of, has_missing_before, has_missing, gaps_of, is_out_before, has_outage, outages_of}
+use Rattle.rtk_chart.specs.Grid.{no_marks, no_tracking, no_bin, code_in, codes_in, tracking_in, trackings_in, bin_in, bins_of, has_missing_before, has_missing, gaps_of, has_outage, outages_of}
 use Rattle.rtk_chart.specs.Steps.Standing.{AddsMarks, StandForPasses}
 use Rattle.rtk_chart.specs.Steps.Shown.{called_for, called_at, both_marks, both_codes, both_trackings, both_satellites, both_bins, tracking_of, bin_of}
 use Rattle.rtk_chart.specs.declared.code_marks.CodeMarks.{CodeMarks}

@@ -10,5 +10,6 @@ pub mod MarkLemmas
 pub mod PieceLemmas
 pub mod ScaleLemmas
 pub mod SeenLemmas
+pub mod SizeLemmas
 pub mod SvgLemmas
 pub mod WidthLemmas

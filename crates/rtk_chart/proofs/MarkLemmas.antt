@@ -1,5 +1,5 @@
 -- Each mark of a picture has its epochs, and each epoch its mark.
-use Rattle.std.proofs.Common.{Less, Equal, Greater, ◌≡◌, ◌<◌, ◌+◌, ◌-◌, ◌*◌, ◌/◌, ◌%◌, ◌==◌, ℕ, Bool, true, false, cond, not, ◌&&◌, ◌||◌, inl, inr, Option, None, Some, List, [], ◌∷◌, ◌++◌, get_or, refl, sym, ap, ◌∙◌, arith}
+use Rattle.std.proofs.Common.{Less, Equal, Greater, ◌≡◌, ◌<◌, ◌+◌, ◌-◌, ◌*◌, ◌/◌, ◌%◌, ◌==◌, ℕ, Bool, true, false, cond, ◌&&◌, ◌||◌, inl, inr, Option, None, Some, List, [], ◌∷◌, ◌++◌, get_or, refl, sym, ap, ◌∙◌, arith}
 use Rattle.std.specs.Prelude.{nat_le, nat_lt, ◌↔◌, count_by}
 use Rattle.std.specs.Ordering.{nat_cmp, is_lt, ord_min}
 use Rattle.std.specs.List.{range_with_len, sum_by}

@@ -8,9 +8,8 @@ use Rattle.std.proofs.lemmas.List.FromFn.{length-map-range_with_len}
 use Rattle.std.proofs.lemmas.Nat.{mul-le, div-add-mod', mod_below}
 use Rattle.rtk_rinex.specs.Record.{EpochTableView}
 use Rattle.rtk_chart.specs.Scale.{IsScale, unit_of, half_of, intervals_of, scale_of}
-use Rattle.rtk_chart.specs.Grid.{bin_in, bins_of, tracking_at, has_missing, gaps_of}
+use Rattle.rtk_chart.specs.Grid.{bin_in, bins_of, has_missing, gaps_of}
 use Rattle.rtk_chart.specs.Ticks.{tick_at}
-use Rattle.rtk_chart.specs.Signs.{has_code}
 use Rattle.rtk_chart.specs.TextPicture.{character_at, row_head, satellite_row, gap_mark, gap_row, axis_mark, axis_row}
 use Rattle.rtk_chart.specs.Laws.{FillsRoom, FillsWidth}
 use Rattle.rtk_chart.specs.declared.scale.Scale.{Scale}

@@ -9,6 +9,7 @@ pub mod Layers
 pub mod MarkLaws
 pub mod Scale
 pub mod Signs
+pub mod SizeLaws
 pub mod Steps
 pub mod SvgPath
 pub mod SvgPicture

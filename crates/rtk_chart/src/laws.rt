@@ -1,9 +1,10 @@
 //! Laws of the definitions of a picture: how long and how wide a bin is, what it shows of its
-//! epochs, where epochs are missing, and what a heading tells.
+//! epochs, where epochs are missing, what a heading tells, and how high a picture is.
 
 ghost use Rattle.rtk_chart.specs.Laws.{BinsAreFew, ShorterBinsAreTooMany, ScalesFillRoom, RowsHaveAllBins, ColumnsFillWidth, MissingMarksAreEpochs};
 ghost use Rattle.rtk_chart.specs.MarkLaws.{CodesShowEpochs, SatellitesShowEpochs, CodesAreOfEpochs, GapsAreMissing, OutagesAreOfEpochs, MissingAreOfSteps, SlipsAndRisesAreDigits};
 ghost use Rattle.rtk_chart.specs.HeadingLaws.{TablesHaveNumbers, TextHasHeading, EqualTextHeadings, SvgHasHeading, EqualSvgHeadings};
+ghost use Rattle.rtk_chart.specs.SizeLaws.{SvgIsLow};
 
 use rtk_rinex::one_reading;
 use rtk_tracking::bits_are_of_three_kinds;
@@ -75,3 +76,9 @@ pub fn svg_headings_tell_numbers()
 {
     one_reading();
 }
+
+/// A picture in SVG begins with its height. It is at most 370 units, and so many more for each bar, each satellite and
+/// each line `never`. A satellite that has too few bars for its name takes the room of one bar, or of two close ones.
+pub fn svg_pictures_are_low()
+    ensures { SvgIsLow }
+{}

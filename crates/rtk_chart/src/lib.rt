@@ -83,6 +83,7 @@ pub use chart::{chart_svg, chart_text, chosen_svg, chosen_text};
 pub use choice::{Choice, Chosen};
 pub use laws::{
     bins_are_least, bins_fill_room, counts_are_of_epochs, files_have_numbers, marks_are_of_epochs,
-    missing_marks_are_epochs, svg_headings_tell_numbers, text_headings_tell_numbers,
+    missing_marks_are_epochs, svg_headings_tell_numbers, svg_pictures_are_low,
+    text_headings_tell_numbers,
 };
 pub use passes::is_there;

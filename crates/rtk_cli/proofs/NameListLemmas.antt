@@ -1,5 +1,5 @@
 -- Lists of names of one width, read from the front.
-use Rattle.std.proofs.Common.{◌≡◌, ◌≢◌, ℕ, suc, ◌<◌, List, [], ◌∷◌, ◌++◌, length, take, drop, get_or, arith, sym, ap, ◌∙◌, append_assoc, length-append}
+use Rattle.std.proofs.Common.{◌≡◌, ◌≢◌, ℕ, suc, ◌<◌, List, [], ◌∷◌, ◌++◌, length, take, drop, get_or, arith, sym, ap, ◌∙◌, subst, append_assoc, length-append}
 use Rattle.std.specs.Prelude.{All}
 use Rattle.std.proofs.Math.Seq.{take-append_seam, drop-append_seam}
 use Rattle.rtk_cli.specs.Steps.NameList.{comma_names}
@@ -50,3 +50,7 @@ first-comma name (n ∷ more) x xs e = ap (λ (t : List ℕ). get_or t 0 0) e
 pub no-other : {N : Type 0} (Good : N → Type 0) (g : Naming N) (rest after next : List ℕ) (x : ℕ) → after ≡ drop g.width rest → after ≡ x ∷ next → x ≢ 44 → Next Good g rest → ⊥
 no-other Good g rest after next x e first other n =
     other (first-comma g.name n.more x next (sym first ∙ e ∙ ap (λ (t : List ℕ). drop g.width t) n.split ∙ drop-name g n.one (comma_names g.name n.more)))
+
+-- a text that is the same lists nothing either
+pub none-listed : {X : Type 0} (Lists : List ℕ → X → Type 0) (written text : List ℕ) → text ≡ written → ((listed : X) → ¬ (Lists text listed)) → (listed : X) → ¬ (Lists written listed)
+none-listed Lists written text same none listed lists = none listed (subst (λ (t : List ℕ). Lists t listed) (sym same) lists)

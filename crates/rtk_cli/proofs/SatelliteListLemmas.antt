@@ -1,5 +1,5 @@
 -- Lists of satellites, read from the front.
-use Rattle.std.proofs.Common.{◌≡◌, ◌++◌, ℕ, List, ◌∷◌, length, refl, sym, ◌∙◌, subst}
+use Rattle.std.proofs.Common.{◌≡◌, ◌++◌, ℕ, List, ◌∷◌, length, refl, sym, ◌∙◌}
 use Rattle.rtk_obs.specs.SatelliteIndex.{IsSatelliteIndex, index_name}
 use Rattle.rtk_cli.specs.Steps.NameList.{comma_names}
 use Rattle.rtk_cli.specs.Steps.ChartWords.{ListsSatellites}
@@ -14,7 +14,3 @@ satellites-naming = record { name = index_name; width = 3; same = three-characte
 
 pub next-satellite : (text done listed rest : List ℕ) → 44 ∷ text ≡ comma_names index_name done ++ 44 ∷ rest → ListsSatellites text listed → Next IsSatelliteIndex satellites-naming rest
 next-satellite text done listed rest so_far lists = next-of IsSatelliteIndex satellites-naming done listed rest lists.0 (sym so_far ∙ lists.1)
-
--- a text that is the same lists no satellites either
-pub no-satellites : (written text : List ℕ) → text ≡ written → ((listed : List ℕ) → ¬ (ListsSatellites text listed)) → (listed : List ℕ) → ¬ (ListsSatellites written listed)
-no-satellites written text same none listed lists = none listed (subst (λ (x : List ℕ). ListsSatellites x listed) (sym same) lists)

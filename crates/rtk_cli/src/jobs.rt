@@ -13,7 +13,8 @@ use crate::convert_words::convert_job;
 use crate::cut_words::part_of;
 use crate::label_words::label_of;
 use crate::options::{
-    auto_options, chart_options, convert_options, cut_options, label_options, quality_form, shown_msm,
+    auto_options, chart_options, convert_options, cut_options, label_options, quality_form,
+    shown_msm,
 };
 use crate::words::{Job, WordsFault};
 use clap::{ArgMatches, Command};

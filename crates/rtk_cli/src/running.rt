@@ -52,7 +52,11 @@ fn run_job<R: Env + Clock + Files + Input + Print + Eprint + AllocGlobal, W: Wri
         Job::ShowMsm { hex, msm, file } => show_named(rt, hex, msm, file),
         Job::Check { file } => run_file(rt, &Check, file),
         Job::Summary { file } => summarize_named(rt, file),
-        Job::Chart { width, choice, file } => run_file(rt, &Chart { width, choice }, file),
+        Job::Chart {
+            width,
+            choice,
+            file,
+        } => run_file(rt, &Chart { width, choice }, file),
         Job::Quality { form, file } => run_file(rt, &form, file),
         Job::Cut { part, file } => run_file(rt, &part, file),
         Job::Label { label, file } => run_file(rt, &label, file),

@@ -25,11 +25,7 @@ pub struct Chart {
 }
 
 // The picture of a table.
-fn picture_of(
-    alloc: Global,
-    table: &TextTable<'_>,
-    chart: &Chart,
-) -> Result<Vec<u8>, AllocError>
+fn picture_of(alloc: Global, table: &TextTable<'_>, chart: &Chart) -> Result<Vec<u8>, AllocError>
     requires { ForSome chart.now.width IsWidth }
     ensures { IfOk result (λ picture. IsPicture chart.now.width chart.now.choice table.now.text picture.items) }
 {
@@ -61,11 +57,7 @@ fn picture_if_any(
 }
 
 // The picture of a text, without the label that it has.
-fn picture_of_text(
-    alloc: Global,
-    text: &mut [u8],
-    chart: &Chart,
-) -> Result<Rendered, AllocError>
+fn picture_of_text(alloc: Global, text: &mut [u8], chart: &Chart) -> Result<Rendered, AllocError>
     requires { ForSome chart.now.width IsWidth }
     ensures { IfOk result (λ picture. WritesOfTable (DrawsTable chart.now) text.old picture.answer picture.bytes.items) }
 {

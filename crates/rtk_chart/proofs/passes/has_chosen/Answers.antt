@@ -1,4 +1,4 @@
-use Rattle.std.proofs.Common.{◌≡◌, ◌||◌, Bool, true, false, List, [], refl, sym, ap, ◌∙◌}
+use Rattle.std.proofs.Common.{◌≡◌, ◌||◌, Bool, true, false, [], refl, sym, ap, ◌∙◌}
 use Rattle.std.specs.List.{list_any}
 use Rattle.rtk_rinex.specs.Record.{EpochTableView}
 use Rattle.rtk_chart.specs.Choice.{has_row}
@@ -20,9 +20,9 @@ pub returns-then-has_row : goal.returns-then-has_row
 returns-then-has_row c = λ t is text.
     let p : EpochTableView → Bool = has_row c.args.chosen.now in
     let come : HasCome (λ found es. list_any p es ≡ found) c.next.new.self true t.epochs =
-        come-more (λ found es. list_any p es ≡ found) c.loop-record.records c.next.new.self false true t.epochs c.in-Some._record.now c.next.new.epoch
-        (c.loop-record.invariant t is text) c.in-Some.ensures.next
-        (λ es none. ap (λ (b : Bool). b || list_any p es) (sym c.has_row.ensures ∙ c.if-has_row.true))
+    come-more (λ found es. list_any p es ≡ found) c.loop-record.records c.next.new.self false true t.epochs c.in-Some._record.now c.next.new.epoch
+    (c.loop-record.invariant t is text) c.in-Some.ensures.next
+    (λ es none. ap (λ (b : Bool). b || list_any p es) (sym c.has_row.ensures ∙ c.if-has_row.true))
     in
     sym (ap (list_any p) (sym come.3) ∙ found-stays p come.1 come.0 come.4)
 

@@ -1,4 +1,4 @@
-use Rattle.std.proofs.Common.{◌≡◌, ◌+◌, ℕ, ap, ◌∙◌, arith}
+use Rattle.std.proofs.Common.{◌≡◌, ℕ, ap, ◌∙◌, arith}
 use Rattle.std.specs.List.{range_with_len, sum_by}
 use Rattle.rtk_chart.specs.SvgPicture.{codes_before, lines_before}
 use Rattle.rtk_chart.proofs.ListLemmas.{sum-more}

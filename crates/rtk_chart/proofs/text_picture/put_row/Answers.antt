@@ -1,7 +1,7 @@
 use Rattle.std.proofs.Common.{◌≡◌, ◌++◌, ◌∷◌, [], ℕ, Bool, List, length, get_or, append_assoc, ap, ◌∙◌, arith}
 use Rattle.rtk_chart.specs.declared.time_bin.TimeBin.{TimeBin}
 use Rattle.rtk_chart.specs.declared.tracking.Tracking.{Tracking}
-use Rattle.rtk_chart.specs.Grid.{no_bin, tracking_at, is_out}
+use Rattle.rtk_chart.specs.Grid.{no_bin, tracking_at}
 use Rattle.rtk_chart.specs.Signs.{has_code}
 use Rattle.rtk_chart.specs.TextPicture.{character_of, character_at, satellite_row}
 use Rattle.rtk_chart.proofs.ListLemmas.{push-more, get_or-same}

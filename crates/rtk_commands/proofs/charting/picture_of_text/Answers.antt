@@ -12,8 +12,8 @@ returns-in-Ok c =
     (λ (drawn : Rendered). DrawsFile c.args.chart.now c.in-Ok.file.table.text drawn.answer drawn.bytes.items)
     (λ (drawn : Rendered). WritesOfTable (DrawsTable c.args.chart.now) c.args.text.now drawn.answer drawn.bytes.items)
     (λ drawn draws.
-        made_of_table (DrawsTable c.args.chart.now) c.args.text.now c.in-Ok.file.table.text c.in-Ok.file.label drawn.answer drawn.bytes.items c.in-Ok.ensures.parted
-        (λ t good e. subst (λ (x : List ℕ). DrawsFile c.args.chart.now x drawn.answer drawn.bytes.items) e draws))
+    made_of_table (DrawsTable c.args.chart.now) c.args.text.now c.in-Ok.file.table.text c.in-Ok.file.label drawn.answer drawn.bytes.items c.in-Ok.ensures.parted
+    (λ t good e. subst (λ (x : List ℕ). DrawsFile c.args.chart.now x drawn.answer drawn.bytes.items) e draws))
     c.picture_if_any.ensures
 
 pub returns-in-Err : goal.returns-in-Err
