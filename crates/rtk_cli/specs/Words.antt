@@ -29,7 +29,7 @@ AreLinkNames links = IsLinkCount (length links) × (count_by is_stdin links ≤ 
 abbrev pub IsWithinLimits : Job → Type 0
 IsWithinLimits (Convert setup links) =
     IsStation setup.station × IsWindow setup.window × AreLinkNames (map (λ link. link.now) links.items)
-IsWithinLimits (Chart width choice file) = ForSome width IsWidth
+IsWithinLimits (Chart chart file) = ForSome chart.width IsWidth
 IsWithinLimits (Cut part file) = IsStepOrNone part.every
 IsWithinLimits _ = Unit {0}
 

@@ -18,6 +18,7 @@ use crate::options::{
 };
 use crate::words::{Job, WordsFault};
 use clap::{ArgMatches, Command};
+use rtk_commands::Chart;
 use std::alloc::{AllocError, Global};
 
 // The names that stand for one argument.
@@ -76,11 +77,8 @@ fn chart_job<'a>(
     };
     let choice = choice_of(alloc, &options)?;
     let width = options.width;
-    Ok(Some(Job::Chart {
-        width,
-        choice,
-        file,
-    }))
+    let chart = Chart { width, choice };
+    Ok(Some(Job::Chart { chart, file }))
 }
 
 fn cut_job<'a>(words: &ArgMatches<'a>, file: &'a str) -> Result<Option<Job<'a>>, WordsFault>

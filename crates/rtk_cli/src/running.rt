@@ -10,7 +10,7 @@ use crate::converting::convert_links;
 use crate::jobs::job;
 use crate::refusing::refuse_words;
 use crate::words::Job;
-use rtk_commands::{Chart, Check, run_file, show_named, summarize_named};
+use rtk_commands::{Check, run_file, show_named, summarize_named};
 use rtk_message::MsmKind;
 use rtk_streams::{ToolFault, fail};
 use std::env::Env;
@@ -52,11 +52,7 @@ fn run_job<R: Env + Clock + Files + Input + Print + Eprint + AllocGlobal, W: Wri
         Job::ShowMsm { hex, msm, file } => show_named(rt, hex, msm, file),
         Job::Check { file } => run_file(rt, &Check, file),
         Job::Summary { file } => summarize_named(rt, file),
-        Job::Chart {
-            width,
-            choice,
-            file,
-        } => run_file(rt, &Chart { width, choice }, file),
+        Job::Chart { chart, file } => run_file(rt, &chart, file),
         Job::Quality { form, file } => run_file(rt, &form, file),
         Job::Cut { part, file } => run_file(rt, &part, file),
         Job::Label { label, file } => run_file(rt, &label, file),

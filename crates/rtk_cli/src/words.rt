@@ -1,6 +1,6 @@
 //! What the words of a command line ask for, and why a command is not done.
 
-use rtk_chart::Choice;
+use rtk_commands::Chart;
 use rtk_convert::Setup;
 use rtk_cut::Part;
 use rtk_label::{Label, LabelFault};
@@ -59,10 +59,7 @@ pub enum Job<'a> {
     },
     /// A picture of a file.
     Chart {
-        /// How many characters wide the picture is, 40 to 400; `None` is a picture in SVG.
-        width: Option<u16>,
-        /// Which satellites are drawn.
-        choice: Choice,
+        chart: Chart,
         file: &'a str,
     },
     /// The numbers of a file.
