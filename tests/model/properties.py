@@ -394,9 +394,10 @@ def charted_as_modelled(case: Case) -> Answer:
     text, width = any_file(case), case.rng.choice((40, 400, *[case.rng.randint(40, 400)] * 6))
     chosen, options = None, []
     if case.rng.random() < 0.4:
-        chosen = {f"G{case.rng.randint(1, 32):02}" for _ in range(case.rng.randint(1, 12))}
-        options = ["--satellites", ",".join([*chosen, *case.rng.choice(([], ["R09", "E36"]))])]
-        if not any(line[:3] in chosen for line in text.splitlines()):
+        there = {line[:3] for line in text.partition("END OF HEADER")[2].splitlines() if line.startswith("G")}
+        listed = case.rng.choices([*sorted(there) * 2, "G01", "G16", "G32", "R09", "E36"], k=case.rng.randint(1, 6))
+        chosen, options = {*listed}, ["--satellites", ",".join(listed)]
+        if not chosen & there:
             return ends_with(case.program.on(text.encode(), "chart", *options), 3, b"", NONE_CHOSEN)
     words, due = ("chart", "--text", "--columns", str(width)), text_picture(text, width, chosen)
     if case.rng.random() < 0.5:
