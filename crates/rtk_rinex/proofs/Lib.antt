@@ -48,6 +48,7 @@ mod MixedCheckLemmas
 mod MixedOneLemmas
 mod MixedFormLemmas
 mod MixedTextLemmas
+mod MixedRecordsLemmas
 mod TextPartLemmas
 mod TypesPieceLemmas
 mod SlotsPieceLemmas
