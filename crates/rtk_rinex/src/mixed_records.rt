@@ -167,6 +167,19 @@ impl<'a> MixedRows<'a> {
         self.count
     }
 
+    /// Returns the record with the rows that are still to be read, so that they can be read twice.
+    pub fn again(&self) -> MixedRows<'a>
+        ensures { result ≡ self.now }
+    {
+        MixedRows {
+            form: self.form,
+            time: self.time,
+            text: self.text,
+            lines: self.lines,
+            count: self.count,
+        }
+    }
+
     /// Reads the next row: what the codes of a satellite show into `observed`, and its satellite as the
     /// answer. After the last row the answer is `None`, and `observed` stays as it was.
     ///
