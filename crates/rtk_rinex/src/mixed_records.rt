@@ -169,7 +169,8 @@ impl<'a> MixedRows<'a> {
 
     /// Returns the record with the rows that are still to be read, so that they can be read twice.
     pub fn again(&self) -> MixedRows<'a>
-        ensures { result ≡ self.now }
+        ensures value { result ≡ self.now }
+        ensures few { result.count ≤ 221 }
     {
         MixedRows {
             form: self.form,
