@@ -160,17 +160,22 @@ pub marks-width : (marks : List Bool) (n : ℕ) (rows : List SatelliteRow) → H
 marks-width marks n rows = All-map (λ (r : SatelliteRow). length r.observed.items ≡ n) (row_with_marks marks n) rows
     (λ k d lt. let r = get_or rows k d in length-map-range_with_len (λ c. with_slip ((code_at c r).slip || mark_of marks r.satellite c) (code_at c r)) 0 n)
 
--- the codes of a row show the same by the marks that rows before it left
+-- the codes of a row show the same by the same marks
+pub codes-same : (marks old : List Bool) (n : ℕ) (r : SatelliteRow) → ((c : ℕ) → c < n → mark_of marks r.satellite c ≡ mark_of old r.satellite c) → codes_with_marks marks n r ≡ codes_with_marks old n r
+codes-same marks old n r same =
+    map-agree_below (λ c. with_slip ((code_at c r).slip || mark_of marks r.satellite c) (code_at c r)) (λ c. with_slip ((code_at c r).slip || mark_of old r.satellite c) (code_at c r)) 0 n
+    (λ c inside. let within : c < n = omega arith in ap (λ b. with_slip ((code_at c r).slip || b) (code_at c r)) (same c within))
+
+-- so they do by the marks that rows before it left
 pub codes-before : (old marks : List Bool) (n : ℕ) (rows : List SatelliteRow) (k : ℕ) (d : SatelliteRow) → n ≤ 16 → Rise rows → k < length rows → HasMarks marks (get_or rows k d).satellite
     → MarksBecome marks (λ s c. not (list_any (row_has_phase s c) (take k rows) && ltb c n) && mark_of old s c)
     → codes_with_marks marks n (get_or rows k d) ≡ codes_with_marks old n (get_or rows k d)
 codes-before old marks n rows k d few rise lt low so_far =
     let r : SatelliteRow = get_or rows k d in
-    map-agree_below (λ c. with_slip ((code_at c r).slip || mark_of marks r.satellite c) (code_at c r)) (λ c. with_slip ((code_at c r).slip || mark_of old r.satellite c) (code_at c r)) 0 n
-    (λ c inside. let code : c < 16 = omega arith in
-    ap (λ b. with_slip ((code_at c r).slip || b) (code_at c r))
-    (so_far r.satellite c low code
-    ∙ ap (λ b. not (b && ltb c n) && mark_of old r.satellite c) (none-before (λ x. is_some (code_at c x).phase_millicycles) rows k d rise lt)))
+    codes-same marks old n r (λ c inside.
+    let code : c < 16 = omega arith in
+    so_far r.satellite c low code
+    ∙ ap (λ b. not (b && ltb c n) && mark_of old r.satellite c) (none-before (λ x. is_some (code_at c x).phase_millicycles) rows k d rise lt))
 
 or-cleared : (x y n old : Bool) → (not (y && n) && (not (x && n) && old)) ≡ (not ((x || y) && n) && old)
 or-cleared true true true old = refl
