@@ -71,14 +71,7 @@ impl<F: EpochFile> PartWriter<F> {
         if !self.choice.spans(self.file.time(read)) {
             return Ok(());
         }
-        put_record(
-            alloc,
-            &self.file,
-            self.is_header_out,
-            read,
-            is_changed,
-            out,
-        )?;
+        put_record(alloc, &self.file, self.is_header_out, read, is_changed, out)?;
         self.is_header_out = true;
         self.counts.written = one_more(self.counts.written);
         Ok(())

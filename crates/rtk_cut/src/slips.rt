@@ -76,11 +76,7 @@ fn show_slip(marks: &mut [bool], place: usize, shown: &mut Observed) -> bool
 
 /// Writes what the codes of a satellite show, with the slips that are marked. Is one a slip that the
 /// satellite's own record does not have?
-pub(crate) fn show_in_row(
-    marks: &mut [bool],
-    row: &SatelliteRow,
-    shown: &mut [Observed],
-) -> bool
+pub(crate) fn show_in_row(marks: &mut [bool], row: &SatelliteRow, shown: &mut [Observed]) -> bool
     requires satellite { HasMarks marks.old row.now.satellite }
     requires few { length shown.old ≤ 16 }
     ensures size { length marks.new ≡ length marks.old }
