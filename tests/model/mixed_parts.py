@@ -19,43 +19,45 @@ from systems import GLONASS, LETTERS, SATELLITES
 
 SEED = 5252
 NOON = moment("2024-05-17T12:00:00")
-STEPS = (1000, 1000, 5000, 10_000, 15_000)
+STEPS = (1, 1, 5, 10, 15)  # in s
 
 
-def some_part(rng: Random, times: list[int]) -> Part:
-    """A span whose ends are near the times of records, and a step that some of them are on."""
-    ends = [rng.choice((None, rng.choice(times) // 1000 * 1000 + rng.choice((-1000, 0, 0, 1000)))) for _ in range(2)]
+def some_part(rng: Random, step: int, times: list[int]) -> Part:
+    """A step that some of these times are on, and perhaps a span that begins or ends near one of them."""
+    half = len(times) // 2
+    near = [rng.choice(some) // 1000 * 1000 + rng.choice((-1000, 0, 1000)) for some in (times[: half + 1], times[half:])]
+    ends = [rng.choice((None, None, end)) for end in near]
     since, until = (None if end is None else START + end * MS for end in ends)
-    return Part(since, until, rng.choice((None, 1, 2, 5, 10, 30, 30, 30, 60)))
+    return Part(since, until, rng.choice((None, step, 2 * step, 3 * step, 3 * step, 4 * step, 6 * step)))
 
 
-def some_records(rng: Random, setup: MixedSetup) -> tuple[list[int], list[str]]:
+def some_records(rng: Random, step: int, setup: MixedSetup) -> tuple[list[int], list[str]]:
     """Records of the same few satellites, so that their slips go on, and the times of those that have a line."""
     names = [name for name in SATELLITES if name[0] in setup.codes]
     chosen = sorted(rng.sample(names, min(len(names), rng.choice((1, 2, 3, 8)))))
-    step, time = rng.choice(STEPS), NOON + 1000 * rng.randrange(60)
+    time = NOON + 1000 * step * rng.randrange(6)
     times, lines = [], []
-    for _ in range(rng.choice((0, 1, 4, 12, 24))):
+    for _ in range(rng.choice((0, 1, 6, 12, 12, 24))):
         epoch = {}
         for name in chosen:
             has_channel = name[0] != GLONASS.letter or int(name[1:]) in setup.channels
             if rng.random() < 0.8:
                 epoch[name] = {code: some_shown(rng, has_channel) for code in setup.codes[name[0]] if rng.random() < 0.8}
-        near = time + rng.choice((0, 0, 0, 1, -1, 24, 25, 26, -25))
+        near = time + rng.choice((0, 0, 0, 0, 1, 24, 25, 26, -25))
         more = record(setup, near, epoch)
         times += [near] if more else []
         lines += more
-        time += step * rng.choice((1, 1, 1, 2))
+        time += 1000 * step * rng.choice((1, 1, 1, 2))
     return times, lines
 
 
 def some_file(rng: Random) -> tuple[str, Part]:
     """A file, and a part of it."""
-    setup = some_setup(rng, LETTERS)
-    times, lines = some_records(rng, setup)
+    setup, step = some_setup(rng, LETTERS), rng.choice(STEPS)
+    times, lines = some_records(rng, step, setup)
     first = times[0] if times else NOON
     table = MixedTable(some_header(rng, setup, first), lines)
-    return table.text.decode(), some_part(rng, times or [NOON])
+    return table.text.decode(), some_part(rng, step, times or [NOON])
 
 
 def word(time: datetime | None) -> str:
