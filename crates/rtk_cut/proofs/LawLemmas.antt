@@ -4,28 +4,21 @@ use Rattle.std.specs.Prelude.{All, unwrap_or}
 use Rattle.std.specs.List.{filter}
 use Rattle.std.proofs.lemmas.List.Elements.{All-nil, All-filter, All-head, All-weaker}
 use Rattle.std.proofs.lemmas.List.Kept.{AllPairs-filter}
-use Rattle.rtk_rinex.specs.declared.epoch_table.SatelliteRow.{SatelliteRow}
 use Rattle.rtk_rinex.specs.Reading.{IsMoment}
 use Rattle.rtk_rinex.specs.Record.{EpochTableView}
-use Rattle.rtk_rinex.specs.Table.{WellFormedTable, IsWellFormedTable, IsObserved, IsTableRow, IsTableEpoch, StartsAt}
+use Rattle.rtk_rinex.specs.Table.{WellFormedTable, IsWellFormedTable, IsTableEpoch, StartsAt}
 use Rattle.rtk_rinex.specs.MixedForm.{FormView, form_of_head}
-use Rattle.rtk_rinex.specs.MixedTable.{MixedTable, IsMixedTable, IsMixedRow, IsMixedEpoch}
+use Rattle.rtk_rinex.specs.MixedTable.{MixedTable, IsMixedTable, IsMixedEpoch}
 use Rattle.rtk_cut.specs.declared.part.Part.{Part}
 use Rattle.rtk_cut.specs.declared.part.Choice.{Choice}
 use Rattle.rtk_cut.specs.Cut.{near_of, choice_of, is_in_span, is_chosen, Step, step_of, cut_epoch, thinned_after, kept_after, cut_of_epochs, first_of_part, cut_of, mixed_cut_of}
 use Rattle.rtk_cut.specs.CutLaws.{IsFileEpoch, AreFileEpochs, EpochsAreOfFiles, AreOnStep, IsMomentOrNone, part_of, PartsAreTables, RecordsAreOwn, SpansJoin, OwnStepGivesFile}
+use Rattle.rtk_cut.proofs.GpsFileLemmas.{gps-epoch}
+use Rattle.rtk_cut.proofs.MixedFileLemmas.{mixed-epoch}
 use Rattle.rtk_cut.proofs.SpanLemmas.{TimesRise, filters-join}
 use Rattle.rtk_cut.proofs.ThinnedLemmas.{IsOn, cut-good, cut-good_mixed, thinned-all, thinned-rise, thinned-own}
 
 -- ---- the epochs of files
-
-pub gps-epoch : (n : ℕ) (e : EpochTableView) → IsTableEpoch n e → IsFileEpoch e
-gps-epoch n e good =
-    record { observed = All-weaker (IsTableRow n) (λ (r : SatelliteRow). All IsObserved r.observed.items) (λ r row. row.observed) e.rows good.rows; rise = good.rise }
-
-pub mixed-epoch : (form : FormView) (e : EpochTableView) → IsMixedEpoch form e → IsFileEpoch e
-mixed-epoch form e good =
-    record { observed = All-weaker (IsMixedRow form) (λ (r : SatelliteRow). All IsObserved r.observed.items) (λ r row. row.observed) e.rows good.rows; rise = good.rise }
 
 pub gps-epochs : (t : WellFormedTable) → IsWellFormedTable t → AreFileEpochs t.epochs
 gps-epochs t good =

@@ -1,26 +1,45 @@
 -- The rows of a record of any systems, read one after another: how they change marks, and what they show.
-use Rattle.std.proofs.Common.{◌≡◌, ◌<◌, ◌≤◌, ◌+◌, ◌*◌, ℕ, zero, suc, Bool, true, false, not, ◌&&◌, ◌||◌, eqb, ltb, List, [], ◌∷◌, ◌++◌, map, length, get_or, take, drop, length-append, length-drop, take-append-drop, append-nil, refl, sym, ap, subst, ◌∙◌, arith}
-use Rattle.std.specs.Prelude.{All, is_some, count_by}
+use Rattle.std.proofs.Common.{◌≡◌, ◌<◌, ◌≤◌, ◌+◌, ◌*◌, ℕ, zero, suc, Bool, true, false, not, ◌&&◌, ◌||◌, eqb, ltb, Option, Some, None, List, [], ◌∷◌, ◌++◌, map, length, get_or, take, drop, length-append, length-drop, take-append-drop, append-nil, refl, sym, ap, subst, ◌∙◌, arith}
+use Rattle.std.specs.Prelude.{All, MatchOption, is_some, count_by}
 use Rattle.std.specs.List.{filter, list_any}
 use Rattle.std.proofs.Math.Seq.{drop-cons}
 use Rattle.std.proofs.lemmas.Bool.{ltb-false}
 use Rattle.std.proofs.lemmas.List.{take_more}
+use Rattle.std.proofs.lemmas.List.Elements.{All-nil, All-head, All-more, All-weaker}
 use Rattle.std.proofs.lemmas.List.Folds.{list_any_more}
 use Rattle.std.proofs.lemmas.List.Sums.{length-filter, count_by-le-length}
 use Rattle.rtk_rinex.specs.declared.epoch_table.Observed.{Observed}
 use Rattle.rtk_rinex.specs.declared.epoch_table.SatelliteRow.{SatelliteRow}
 use Rattle.rtk_rinex.specs.Record.{EpochTableView, no_observation, has_line}
+use Rattle.rtk_rinex.specs.Table.{IsObserved}
 use Rattle.rtk_rinex.specs.MixedForm.{FormView}
 use Rattle.rtk_rinex.specs.MixedTable.{IsMixedRow, IsMixedEpoch}
 use Rattle.rtk_rinex.specs.MixedRecord.{MixedLinesView, HoldsMixedLines}
-use Rattle.rtk_rinex.specs.MixedRecords.{MixedRowsView, AreRowsLeft, IsNextRowOf}
+use Rattle.rtk_rinex.specs.MixedRecords.{MixedRecordsView, AreMixedLeft, IsNextRecordOf, MixedRowsView, AreRowsLeft, IsNextRowOf}
 use Rattle.rtk_cut.specs.Cut.{code_at}
+use Rattle.rtk_cut.specs.CutLaws.{IsFileEpoch}
+use Rattle.rtk_cut.specs.Steps.FileTexts.{IsNextIn}
 use Rattle.rtk_cut.specs.Steps.Pending.{mark_of, HasMarks, HaveMarks, MarksBecome, row_has_slip, row_has_phase, codes_with_marks, row_with_marks, row_with_own_marks}
 use Rattle.rtk_cut.specs.Steps.MixedFile.{IsRecordIn}
 use Rattle.rtk_cut.proofs.TestLemmas.{and-nothing, and-all}
 use Rattle.rtk_cut.proofs.CodeLemmas.{code-past}
 use Rattle.rtk_cut.proofs.RowLemmas.{Rise, none-before}
 use Rattle.rtk_cut.proofs.MarkLemmas.{rows-noted, codes-same, map-more, row-kept}
+
+-- ---- the records
+
+next-in : (r r' : MixedRecordsView) (rows : MixedRowsView) (epochs : List EpochTableView) → AreMixedLeft r epochs → IsNextRecordOf epochs rows r' → IsNextIn (AreMixedLeft r') (IsRecordIn rows) epochs
+next-in r r' rows [] left next = absurd next
+next-in r r' rows (e ∷ es) left next = ((next.0, (r.form, All-head (IsMixedEpoch r.form) e es left.are_epochs)), next.1)
+
+pub next-answers : (r r' : MixedRecordsView) (answer : Option MixedRowsView) (epochs : List EpochTableView) → AreMixedLeft r epochs → MatchOption answer (epochs ≡ []) (λ rows. IsNextRecordOf epochs rows r')
+    → MatchOption answer (epochs ≡ []) (λ rows. IsNextIn (AreMixedLeft r') (IsRecordIn rows) epochs)
+next-answers r r' None epochs left next = next
+next-answers r r' (Some rows) epochs left next = next-in r r' rows epochs left next
+
+pub mixed-epoch : (form : FormView) (e : EpochTableView) → IsMixedEpoch form e → IsFileEpoch e
+mixed-epoch form e good =
+    record { observed = All-weaker (IsMixedRow form) (λ (r : SatelliteRow). All IsObserved r.observed.items) (λ r row. row.observed) e.rows good.rows; rise = good.rise }
 
 -- ---- rows of any systems
 
@@ -130,14 +149,18 @@ shown-row old marks all at n row shown rise lt is wide few has so_far made =
     (made ∙ codes-same marks old n row here)
     ∙ ap (λ (k : ℕ). row_with_marks old k row) wide
 
+abbrev pub HasFewCodes : SatelliteRow → Type 0
+HasFewCodes r = length r.observed.items ≤ 16
+
 pub record HasCleared (old marks : List Bool) (is_changed : Bool) (all : List SatelliteRow) (rows : MixedRowsView) : Type 0 where
   pub at : ℕ
   pub are_left : AreRowsLeft rows (drop at all)
+  pub few : All HasFewCodes (take at all)
   pub cleared : AreCleared old marks (take at all)
   pub same : is_changed ≡ false → map (row_with_own_marks old) (take at all) ≡ take at all
 
 pub cleared-none : (marks : List Bool) (all : List SatelliteRow) (rows : MixedRowsView) → AreRowsLeft rows all → HasCleared marks marks false all rows
-cleared-none marks all rows left = record { at = 0; are_left = left; cleared = λ s c satellite code. refl; same = λ unchanged. refl }
+cleared-none marks all rows left = record { at = 0; are_left = left; few = All-nil HasFewCodes; cleared = λ s c satellite code. refl; same = λ unchanged. refl }
 
 or-parts : (a b : Bool) → (a || b) ≡ false → (a ≡ false) × (b ≡ false)
 or-parts true b is = cc
@@ -162,6 +185,7 @@ cleared-more old marks marks' was is_row all rows rows' row n shown rise so_far 
     record {
       at = so_far.at + 1;
       are_left = r.are_left;
+      few = All-more HasFewCodes all so_far.at row r.within so_far.few (subst HasFewCodes r.is (subst (λ (k : ℕ). k ≤ 16) shows.wide shows.few));
       cleared = cleared-row old marks marks' all so_far.at n row r.within r.is shows.wide shows.size so_far.cleared shows.cleared;
       same = λ unchanged.
           let both = or-parts was is_row unchanged in
@@ -175,9 +199,10 @@ cleared-more old marks marks' was is_row all rows rows' row n shown rise so_far 
     }
 
 pub cleared-all : (old marks : List Bool) (is_changed : Bool) (all : List SatelliteRow) (rows : MixedRowsView) → HasCleared old marks is_changed all rows → ((xs : List SatelliteRow) → AreRowsLeft rows xs → xs ≡ [])
-    → AreCleared old marks all × (is_changed ≡ false → map (row_with_own_marks old) all ≡ all)
+    → All HasFewCodes all × AreCleared old marks all × (is_changed ≡ false → map (row_with_own_marks old) all ≡ all)
 cleared-all old marks is_changed all rows so_far none =
     let whole : take so_far.at all ≡ all = all-read all so_far.at (none (drop so_far.at all) so_far.are_left) in (
+      subst (λ xs. All HasFewCodes xs) whole so_far.few,
       subst (λ xs. AreCleared old marks xs) whole so_far.cleared,
       λ unchanged. sym (ap (λ xs. map (row_with_own_marks old) xs) whole) ∙ so_far.same unchanged ∙ whole,
     )

@@ -3,7 +3,7 @@
 //! The rows of a record are read from its text, and none is kept. So a record that shows slips of records
 //! that are left out is read a second time when it is written.
 
-ghost use Rattle.std.specs.Prelude.{◌≡◌, ◌||◌, ◌&&◌, not, false, length, IfOk};
+ghost use Rattle.std.specs.Prelude.{◌≡◌, ◌≤◌, ◌||◌, ◌&&◌, not, false, length, All, IfOk};
 ghost use Rattle.std.specs.List.{list_any};
 ghost use Rattle.rtk_rinex.specs.Record.{EpochTableView};
 ghost use Rattle.rtk_rinex.specs.MixedRecord.{mixed_record_text};
@@ -36,7 +36,7 @@ pub(crate) struct MixedFile<'a> {
 // Marks the slips of a record.
 fn note_record(marks: &mut [bool], read: &MixedRows<'_>)
     requires { length marks.old ≡ 3552 }
-    ensures size { length marks.new ≡ 3552 }
+    ensures size { length marks.new ≡ length marks.old }
     ensures marks { (e : EpochTableView) → IsRecordIn read.now e
         → MarksBecome marks.new (λ s c. list_any (row_has_slip s c) e.rows || mark_of marks.old s c) }
 {
@@ -51,10 +51,11 @@ fn note_record(marks: &mut [bool], read: &MixedRows<'_>)
 // Clears the marks of the phases of a record. Does a mark show a slip that the record itself does not have?
 fn clear_marks(marks: &mut [bool], read: &MixedRows<'_>) -> bool
     requires { length marks.old ≡ 3552 }
-    ensures size { length marks.new ≡ 3552 }
+    ensures size { length marks.new ≡ length marks.old }
     ensures marks { (e : EpochTableView) → IsRecordIn read.now e
         → MarksBecome marks.new (λ s c. not (list_any (row_has_phase s c) e.rows) && mark_of marks.old s c) }
     ensures same { result ≡ false → (e : EpochTableView) → IsRecordIn read.now e → epoch_with_own_marks marks.old e ≡ e }
+    ensures few { (e : EpochTableView) → IsRecordIn read.now e → All (λ r. length r.observed.items ≤ 16) e.rows }
 {
     let mut rows = read.again();
     let mut row = SatelliteRow::default();

@@ -6,7 +6,7 @@ use Rattle.rtk_cut.proofs.mixed_file.clear_marks.Given as goal
 
 abbrev pub invariant-loop-satellite : goal.invariant-loop-satellite
 invariant-loop-satellite l = record {
-  size : length l.marks ≡ 3552;
+  size : length l.marks ≡ length l.fn.marks;
   room : length l.shown ≡ 16;
   so_far : (e : EpochTableView) → IsRecordIn l.read e → HasCleared l.fn.marks l.marks l.is_changed e.rows l.rows;
 }

@@ -6,7 +6,7 @@ use Rattle.rtk_cut.proofs.mixed_file.note_record.Given as goal
 
 abbrev pub invariant-loop-satellite : goal.invariant-loop-satellite
 invariant-loop-satellite l = record {
-  size : length l.marks ≡ 3552;
+  size : length l.marks ≡ length l.fn.marks;
   so_far : (e : EpochTableView) → IsRecordIn l.read e → HasNoted l.fn.marks l.marks e.rows l.rows;
 }
 

@@ -4,7 +4,7 @@ use Rattle.rtk_cut.proofs.mixed_file.text_with_marks.Given as goal
 
 abbrev pub invariant-loop-satellite : goal.invariant-loop-satellite
 invariant-loop-satellite l = record {
-  size : length l.marks ≡ 3552;
+  size : length l.marks ≡ length l.fn.marks;
   room : length l.shown ≡ 16;
   so_far : HasMadeLines l.fn.marks l.marks l.read l.rows l.lines;
 }
