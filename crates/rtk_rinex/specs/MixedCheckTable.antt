@@ -1,5 +1,5 @@
 -- The well-formed table of any systems whose text a text is, or the fault of the text.
-use Rattle.std.specs.Prelude.{◌≡◌, ◌≢◌, ℕ, List, ◌++◌, length, ◌⊎◌, Result, Ok, Err}
+use Rattle.std.specs.Prelude.{◌≡◌, ◌≢◌, ℕ, List, ◌++◌, length, ◌⊎◌}
 use Rattle.rtk_rinex.specs.Reading.{IsMoment}
 use Rattle.rtk_rinex.specs.Header.{PositionView, IsPositionView}
 use Rattle.rtk_rinex.specs.HeaderFault.{AreLines}

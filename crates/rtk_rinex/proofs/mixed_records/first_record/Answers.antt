@@ -1,4 +1,4 @@
-use Rattle.std.proofs.Common.{sym, length}
+use Rattle.std.proofs.Common.{sym}
 use mathlib.Core.Logic.{∥∥₁_map}
 use Rattle.rtk_rinex.specs.MixedRecord.{mixed_satellite_line}
 use Rattle.rtk_rinex.proofs.MixedRowLemmas.{mixed_line-line}

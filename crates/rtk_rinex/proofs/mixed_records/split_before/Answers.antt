@@ -1,4 +1,4 @@
-use Rattle.std.proofs.Common.{◌∙◌, ap, drop}
+use Rattle.std.proofs.Common.{◌∙◌}
 use Rattle.rtk_rinex.proofs.MixedRecordsLemmas.{split-parts}
 use Rattle.rtk_rinex.proofs.mixed_records.split_before.Goals as goal
 

@@ -5,7 +5,7 @@ use Rattle.rtk_rinex.specs.declared.epoch_table.SatelliteRow.{SatelliteRow}
 use Rattle.rtk_rinex.specs.MixedRecord.{mixed_satellite_line}
 use Rattle.rtk_rinex.proofs.LineLemmas.{no_line}
 use Rattle.rtk_rinex.proofs.MixedRowLemmas.{mixed_line-line}
-use Rattle.rtk_rinex.proofs.MixedRecordsLemmas.{rows_view, row-due, line-due, row-read, others-of-rows, no-rows}
+use Rattle.rtk_rinex.proofs.MixedRecordsLemmas.{row-due, line-due, row-read, others-of-rows, no-rows}
 use Rattle.rtk_rinex.proofs.mixed_records.MixedRows.next_row.Goals as goal
 
 pub returns-then-self-eq0-clause-next : goal.returns-then-self-eq0-clause-next
