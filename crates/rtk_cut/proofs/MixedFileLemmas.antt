@@ -19,7 +19,7 @@ use Rattle.rtk_rinex.specs.MixedRecords.{MixedRecordsView, AreMixedLeft, IsNextR
 use Rattle.rtk_cut.specs.Cut.{code_at}
 use Rattle.rtk_cut.specs.CutLaws.{IsFileEpoch}
 use Rattle.rtk_cut.specs.Steps.FileTexts.{IsNextIn}
-use Rattle.rtk_cut.specs.Steps.Pending.{mark_of, HasMarks, HaveMarks, MarksBecome, row_has_slip, row_has_phase, codes_with_marks, row_with_marks, row_with_own_marks}
+use Rattle.rtk_cut.specs.Steps.Pending.{mark_of, HasMarks, HaveMarks, MarksBecome, row_has_slip, row_has_phase, codes_with_marks, row_with_marks, row_with_own_marks, epoch_with_own_marks}
 use Rattle.rtk_cut.specs.Steps.MixedFile.{IsRecordIn}
 use Rattle.rtk_cut.proofs.TestLemmas.{and-nothing, and-all}
 use Rattle.rtk_cut.proofs.CodeLemmas.{code-past}
@@ -271,3 +271,7 @@ made-more old marks marks' read rows rows' lines lines' row n shown is_changed s
 pub made-all : (old marks : List Bool) (all : List SatelliteRow) (rows : MixedRowsView) (made : List SatelliteRow) → HasMadeRows old marks all rows made → ((xs : List SatelliteRow) → AreRowsLeft rows xs → xs ≡ [])
     → made ≡ map (row_with_own_marks old) all
 made-all old marks all rows made so_far none = so_far.are ∙ ap (λ xs. map (row_with_own_marks old) xs) (all-read all so_far.at (none (drop so_far.at all) so_far.are_left))
+
+-- an epoch whose rows are as they are is itself
+pub own-cleared : (old : List Bool) (e : EpochTableView) → map (row_with_own_marks old) e.rows ≡ e.rows → epoch_with_own_marks old e ≡ e
+own-cleared old e same = ap (λ (xs : List SatelliteRow). record { time = e.time; rows = xs }) same

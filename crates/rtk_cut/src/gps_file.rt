@@ -67,11 +67,11 @@ impl<'a> EpochFile for GpsFile<'a> {
 
     ghost size = { λ f. length f.records.text };
 
-    ghost IsRecordOf = { λ f text e. (f.epoch ≡ e) × (text.now ≡ record_text e) × IsTableEpoch (length f.heading.head.listed) e };
+    ghost IsRecordOf = { λ f text e. (f.epoch.value ≡ e) × (text.now ≡ record_text e) × IsTableEpoch (length f.heading.head.listed) e };
 
-    ghost HasShown = { λ f. HasWidth (length f.heading.head.listed) f.shown.rows };
+    ghost HasShown = { λ f. HasWidth (length f.heading.head.listed) f.shown.value.rows };
 
-    ghost IsShownAs = { λ f text e. f.shown ≡ e };
+    ghost IsShownAs = { λ f text e. f.shown.value ≡ e };
 
     fn next(&mut self) -> Option<&'a [u8]> {
         self.records.next(&mut self.epoch)

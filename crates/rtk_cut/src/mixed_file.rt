@@ -65,7 +65,7 @@ fn clear_marks(marks: &mut [bool], read: &MixedRows<'_>) -> bool
     while let Some(satellite) = rows.next_row(&mut row.observed) {
         row.satellite = satellite.index();
         let is_row_changed = show_in_row(marks, &row, &mut shown[..row.observed.len()]);
-        is_changed = is_changed || is_row_changed;
+        is_changed |= is_row_changed;
     }
     is_changed
 }

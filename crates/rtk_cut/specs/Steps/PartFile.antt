@@ -33,8 +33,8 @@ writing texts marks w = record { texts = texts w.file; marks = marks w.file; cho
 
 -- no record was taken
 pub record IsFresh {F : Type 0} (w : PartWriter F) (file : F) (choice : Choice) : Type 0 where
-  pub file : w.file ≡ file
-  pub choice : w.choice ≡ choice
+  pub of_file : w.file ≡ file
+  pub of_choice : w.choice ≡ choice
   pub is_header_out : w.is_header_out ≡ false
   pub records : w.counts.records ≡ 0
   pub written : w.counts.written ≡ 0

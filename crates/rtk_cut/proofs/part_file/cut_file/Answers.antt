@@ -13,12 +13,12 @@ loop-read-init g c =
     let w = c.new-writer.result in
     let fresh = c.new-writer.ensures in
     record {
-      step = subst (λ (p : Choice). IsStepOrNone p.every) (sym fresh.choice) c.requires.step;
-      near = subst (λ (p : Choice). p.near_ms ≤ 25) (sym fresh.choice) c.requires.near;
+      step = subst (λ (p : Choice). IsStepOrNone p.every) (sym fresh.of_choice) c.requires.step;
+      near = subst (λ (p : Choice). p.near_ms ≤ 25) (sym fresh.of_choice) c.requires.near;
       so_far = λ epochs left.
           cut-none (g.F.EpochFile.AreLeft w.file) c.args.choice (g.F.EpochFile.texts c.args.file) epochs (writing g.F.EpochFile.texts g.F.EpochFile.marks w) w.counts (g.W.Sink.taken c.args.out.now)
-          fresh.choice (ap g.F.EpochFile.texts fresh.file) (subst (λ x. StandsForNone (g.F.EpochFile.marks x)) (sym fresh.file) c.requires.marks) fresh.is_header_out fresh.records fresh.written
-          (subst (λ x. g.F.EpochFile.AreLeft x epochs) (sym fresh.file) left);
+          fresh.of_choice (ap g.F.EpochFile.texts fresh.of_file) (subst (λ x. StandsForNone (g.F.EpochFile.marks x)) (sym fresh.of_file) c.requires.marks) fresh.is_header_out fresh.records fresh.written
+          (subst (λ x. g.F.EpochFile.AreLeft x epochs) (sym fresh.of_file) left);
       failures = refl;
     }
 
