@@ -1,6 +1,6 @@
 -- The rows of a record of any systems, read one after another: how they change marks, and what they show.
-use Rattle.std.proofs.Common.{◌≡◌, ◌<◌, ◌≤◌, ◌+◌, ◌*◌, ℕ, zero, suc, Bool, true, false, not, ◌&&◌, ◌||◌, eqb, ltb, Option, Some, None, List, [], ◌∷◌, ◌++◌, map, length, get_or, take, drop, length-append, length-drop, take-append-drop, append-nil, refl, sym, ap, subst, ◌∙◌, arith}
-use Rattle.std.specs.Prelude.{All, MatchOption, is_some, count_by}
+use Rattle.std.proofs.Common.{◌≡◌, ◌<◌, ◌≤◌, ◌+◌, ◌*◌, ℕ, zero, suc, Bool, true, false, not, ◌&&◌, ◌||◌, eqb, ltb, Option, Some, None, Result, Ok, Err, List, [], ◌∷◌, ◌++◌, map, length, get_or, take, drop, length-append, length-drop, take-append-drop, append-nil, refl, sym, ap, subst, ◌∙◌, arith}
+use Rattle.std.specs.Prelude.{All, IfOk, MatchOption, is_some, count_by}
 use Rattle.std.specs.List.{filter, list_any}
 use Rattle.std.proofs.Math.Seq.{drop-cons}
 use Rattle.std.proofs.lemmas.Bool.{ltb-false}
@@ -14,7 +14,7 @@ use Rattle.rtk_rinex.specs.Record.{EpochTableView, no_observation, has_line}
 use Rattle.rtk_rinex.specs.Table.{IsObserved}
 use Rattle.rtk_rinex.specs.MixedForm.{FormView}
 use Rattle.rtk_rinex.specs.MixedTable.{IsMixedRow, IsMixedEpoch}
-use Rattle.rtk_rinex.specs.MixedRecord.{MixedLinesView, HoldsMixedLines}
+use Rattle.rtk_rinex.specs.MixedRecord.{MixedLinesView, HoldsMixedLines, mixed_record_text}
 use Rattle.rtk_rinex.specs.MixedRecords.{MixedRecordsView, AreMixedLeft, IsNextRecordOf, MixedRowsView, AreRowsLeft, IsNextRowOf}
 use Rattle.rtk_cut.specs.Cut.{code_at}
 use Rattle.rtk_cut.specs.CutLaws.{IsFileEpoch}
@@ -275,3 +275,9 @@ made-all old marks all rows made so_far none = so_far.are ∙ ap (λ xs. map (ro
 -- an epoch whose rows are as they are is itself
 pub own-cleared : (old : List Bool) (e : EpochTableView) → map (row_with_own_marks old) e.rows ≡ e.rows → epoch_with_own_marks old e ≡ e
 own-cleared old e same = ap (λ (xs : List SatelliteRow). record { time = e.time; rows = xs }) same
+
+-- a text that was made of a record with marks is that of the epoch with them
+pub ok-shown : {V E : Type 0} (items : V → List ℕ) (r : Result V E) (read : MixedRowsView) (marks : List Bool) → IfOk r (λ v. (e : EpochTableView) → IsRecordIn read e → items v ≡ mixed_record_text (epoch_with_own_marks marks e))
+    → IfOk r (λ v. (e : EpochTableView) → ((x : EpochTableView) × IsRecordIn read x × (e ≡ epoch_with_own_marks marks x)) → items v ≡ mixed_record_text e)
+ok-shown items (Ok v) read marks ok = λ e is. ok is.0 is.1 ∙ ap mixed_record_text (sym is.2)
+ok-shown items (Err x) read marks ok = tt

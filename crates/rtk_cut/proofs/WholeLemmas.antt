@@ -1,14 +1,17 @@
 -- A whole file, epoch by epoch.
 use Rattle.std.proofs.Common.{◌≡◌, ◌+◌, ℕ, Bool, false, List, [], ◌∷◌, ◌++◌, Option, Result, Ok, Err, length, refl, sym, ap, append_assoc, subst, ◌∙◌, arith}
-use Rattle.std.specs.Prelude.{OnOk, OnErr}
+use Rattle.std.specs.Prelude.{IfOk, OnOk, OnErr}
 use Rattle.rtk_frame.specs.Stream.{with_more, TakesPart}
 use Rattle.rtk_frame.proofs.PublicLaws.{with_more-nil, with_more-with_more}
 use Rattle.rtk_rinex.specs.Record.{EpochTableView}
+use Rattle.rtk_rinex.specs.Table.{WellFormedTable, table_text}
+use Rattle.rtk_rinex.specs.MixedTable.{MixedTable, mixed_table_text}
 use Rattle.rtk_cut.specs.declared.counts.CutCounts.{CutCounts}
+use Rattle.rtk_cut.specs.declared.part.Part.{Part}
 use Rattle.rtk_cut.specs.declared.part.Choice.{Choice}
 use Rattle.rtk_tracking.specs.Epochs.{capped}
-use Rattle.rtk_cut.specs.Cut.{step_of, kept_after}
-use Rattle.rtk_cut.specs.Steps.FileTexts.{FileTexts, IsNextIn, part_text}
+use Rattle.rtk_cut.specs.Cut.{step_of, kept_after, near_of, choice_of, cut_of, mixed_cut_of}
+use Rattle.rtk_cut.specs.Steps.FileTexts.{FileTexts, IsNextIn, part_text, gps_texts, mixed_texts}
 use Rattle.rtk_cut.specs.Steps.Pending.{StandsForSlips, StandsForNone}
 use Rattle.rtk_cut.specs.Steps.PartFile.{WritingView, still_to_write, CountsWritten, CountsEpochs, TakesEpoch, TakesEpochInPart, TakesEnd, TakesEndInPart}
 use Rattle.rtk_cut.proofs.PartFileLemmas.{part-after}
@@ -159,7 +162,23 @@ counts-all Left choice f epochs w counts before mid so_far none =
       so_far.written ∙ ap capped (omega (arith, counted, rest)),
     )
 
+-- ---- the file is that of a table
+
+pub gps-part : (choice : Choice) (f : FileTexts) (part : Part) (t : WellFormedTable) → choice ≡ choice_of part (near_of t.epochs) → f ≡ gps_texts t.head t.site t.first → part_text choice f t.epochs ≡ table_text (cut_of part t)
+gps-part choice f part t same texts = ap (λ (x : Choice). part_text x f t.epochs) same ∙ ap (λ (x : FileTexts). part_text (choice_of part (near_of t.epochs)) x t.epochs) texts
+
+pub mixed-part : (choice : Choice) (f : FileTexts) (part : Part) (t : MixedTable) → choice ≡ choice_of part (near_of t.epochs) → f ≡ mixed_texts t.head t.site t.first → part_text choice f t.epochs ≡ mixed_table_text (mixed_cut_of part t)
+mixed-part choice f part t same texts = ap (λ (x : Choice). part_text x f t.epochs) same ∙ ap (λ (x : FileTexts). part_text (choice_of part (near_of t.epochs)) x t.epochs) texts
+
 -- ---- answers
+
+pub if_ok-map : {T E : Type 0} (r : Result T E) {P Q : T → Type 0} → ((x : T) → P x → Q x) → IfOk r P → IfOk r Q
+if_ok-map (Ok x) f p = f x p
+if_ok-map (Err e) f p = tt
+
+pub on_err-map : {T E : Type 0} (r : Result T E) {P Q : Type 0} → (P → Q) → OnErr r P → OnErr r Q
+on_err-map (Ok x) f p = tt
+on_err-map (Err e) f p = f p
 
 pub on_err-from : {T E : Type 0} (r : Result T E) {Q : Type 0} → Q → OnErr r Q
 on_err-from (Ok x) q = tt

@@ -3,6 +3,7 @@
 ghost use Rattle.std.specs.Prelude.{◌≡◌, IfOk};
 ghost use Rattle.rtk_rinex.specs.Table.{WellFormedTable, IsWellFormedTable, table_text};
 ghost use Rattle.rtk_cut.specs.Steps.GpsFile.{IsFileOf};
+ghost use Rattle.rtk_cut.specs.Steps.Pending.{StandsForNone};
 
 use crate::epoch_file::EpochFile;
 use crate::slips::{note_rows, show_in_rows};
@@ -34,7 +35,8 @@ fn new_table(alloc: Global, start: GpsMs) -> Result<Box<EpochTable>, AllocError>
 impl<'a> GpsFile<'a> {
     /// Makes the file of a table, of which no record was read.
     pub(crate) fn new(alloc: Global, table: &TextTable<'a>) -> Result<GpsFile<'a>, AllocError>
-        ensures { IfOk result (λ file. (t : WellFormedTable) → IsWellFormedTable t → table.now.text ≡ table_text t → IsFileOf t file) }
+        ensures file { IfOk result (λ file. (t : WellFormedTable) → IsWellFormedTable t → table.now.text ≡ table_text t → IsFileOf t file) }
+        ensures marks { IfOk result (λ file. StandsForNone file.marks) }
     {
         let heading = table.heading();
         let epoch = new_table(alloc, heading.first)?;

@@ -9,7 +9,7 @@ ghost use Rattle.rtk_rinex.specs.Record.{EpochTableView};
 ghost use Rattle.rtk_rinex.specs.MixedRecord.{mixed_record_text};
 ghost use Rattle.rtk_rinex.specs.MixedTable.{MixedTable, IsMixedTable, mixed_table_text};
 ghost use Rattle.rtk_cut.specs.Steps.MixedFile.{IsMixedFileOf, IsRecordIn};
-ghost use Rattle.rtk_cut.specs.Steps.Pending.{mark_of, MarksBecome, row_has_slip, row_has_phase, epoch_with_own_marks};
+ghost use Rattle.rtk_cut.specs.Steps.Pending.{StandsForNone, mark_of, MarksBecome, row_has_slip, row_has_phase, epoch_with_own_marks};
 
 use crate::epoch_file::EpochFile;
 use crate::slips::{note_row, show_in_row};
@@ -97,7 +97,8 @@ fn text_with_marks(
 impl<'a> MixedFile<'a> {
     /// Makes the file of a table, of which no record was read.
     pub(crate) fn new(table: &MixedTextTable<'a>) -> MixedFile<'a>
-        ensures { (t : MixedTable) → IsMixedTable t → table.now.text ≡ mixed_table_text t → IsMixedFileOf t result }
+        ensures file { (t : MixedTable) → IsMixedTable t → table.now.text ≡ mixed_table_text t → IsMixedFileOf t result }
+        ensures marks { StandsForNone result.marks }
     {
         MixedFile {
             heading: table.heading(),

@@ -7,7 +7,6 @@ use Rattle.rtk_rinex.specs.MixedRecords.{MixedRowsView, AreMixedLeft, IsRecordOf
 use Rattle.rtk_rinex.specs.MixedTable.{MixedTable, IsMixedEpoch}
 use Rattle.rtk_cut.specs.declared.mixed_file.MixedFile.{MixedFile}
 use Rattle.rtk_cut.specs.Steps.FileTexts.{mixed_texts}
-use Rattle.rtk_cut.specs.Steps.Pending.{StandsForNone}
 
 -- this is the record of an epoch of a file, of which no row was read
 abbrev pub IsRecordIn : MixedRowsView → EpochTableView → Type 0
@@ -17,4 +16,3 @@ IsRecordIn r e = IsRecordOf e r × ((form : FormView) × IsMixedEpoch form e)
 pub record IsMixedFileOf (t : MixedTable) (f : MixedFile) : Type 0 where
   pub texts : mixed_texts f.heading.head (position_view f.heading.position) f.heading.first ≡ mixed_texts t.head t.site t.first
   pub left : AreMixedLeft f.records t.epochs
-  pub marks : StandsForNone f.marks

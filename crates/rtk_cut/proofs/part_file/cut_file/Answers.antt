@@ -47,7 +47,7 @@ returns-in_err-write_next-clause-part g c =
     let w = c.loop-read.writer in
     let w_1 = record w { file = c.next.new.self } in
     let view = writing g.F.EpochFile.texts g.F.EpochFile.marks in
-    on_err-from c.from_residual-in_err-write_next.result (λ epochs left.
+    on_err-from c.from_residual.result (λ epochs left.
     cut-broken (g.F.EpochFile.AreLeft w.file) (g.F.EpochFile.AreLeft c.next.new.self) (g.F.EpochFile.IsRecordOf c.next.new.self c.in-Some.read)
     c.args.choice (g.F.EpochFile.texts c.args.file) epochs (view w) (view w_1) w.counts (g.W.Sink.taken c.args.out.now) (g.W.Sink.taken c.loop-read.out) (g.W.Sink.taken c.write_next.new.out)
     (i.so_far epochs left) c.in-Some.ensures.next
