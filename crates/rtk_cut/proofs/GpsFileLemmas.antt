@@ -1,5 +1,5 @@
 -- A file of GPS: its records, one after another, and the epochs that they show.
-use Rattle.std.proofs.Common.{◌≡◌, ◌≤◌, ◌+◌, ◌*◌, ℕ, Bool, true, false, not, ◌&&◌, ltb, Option, Some, None, List, [], ◌∷◌, map, length, sym, ap, subst, ◌∙◌, arith}
+use Rattle.std.proofs.Common.{◌≡◌, ◌≤◌, ℕ, Bool, false, not, ◌&&◌, ltb, Option, Some, None, List, [], ◌∷◌, map, length, sym, ap, subst, ◌∙◌, arith}
 use Rattle.std.specs.Prelude.{All, MatchOption, IfSome}
 use Rattle.std.specs.List.{list_any}
 use Rattle.std.proofs.lemmas.List.Elements.{All-weaker}

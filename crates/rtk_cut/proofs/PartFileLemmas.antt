@@ -11,7 +11,7 @@ use Rattle.rtk_cut.specs.declared.part_writer.PartWriter.{PartWriter}
 use Rattle.rtk_cut.specs.declared.part.Choice.{Choice}
 use Rattle.rtk_cut.specs.Cut.{step_of, is_on_step, is_chosen, cut_epoch, kept_after}
 use Rattle.rtk_cut.specs.Steps.FileTexts.{FileTexts, text_with}
-use Rattle.rtk_cut.specs.Steps.PartRecords.{header_unless, after_header}
+use Rattle.rtk_cut.specs.Steps.PartRecords.{after_header}
 use Rattle.rtk_cut.specs.Steps.PartFile.{still_to_write, WritesUpTo, writing}
 use Rattle.rtk_cut.proofs.ThinnedLemmas.{thinned-on, thinned-off}
 

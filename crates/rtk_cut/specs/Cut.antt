@@ -1,6 +1,6 @@
 -- A part of a file, of GPS or of any systems: the records on a step and in a span, and the slips that they
 -- show. All of it is this project's rule.
-use Rattle.std.specs.Prelude.{ℕ, ◌+◌, ◌*◌, ◌%◌, ◌==◌, nat_le, Bool, true, false, not, ◌&&◌, if◌then◌else◌, nat_lt, List, [], ◌∷◌, length, map, get_or, Option, None, Some, is_some, unwrap_or}
+use Rattle.std.specs.Prelude.{ℕ, ◌+◌, ◌*◌, ◌%◌, ◌==◌, nat_le, Bool, true, not, ◌&&◌, if◌then◌else◌, nat_lt, List, [], ◌∷◌, length, map, get_or, Option, None, Some, is_some, unwrap_or}
 use Rattle.std.specs.Int.{IsInRange}
 use Rattle.std.specs.List.{filter, list_any, take_while, range_with_len}
 use Rattle.rtk_rinex.specs.declared.epoch_table.Observed.{Observed}

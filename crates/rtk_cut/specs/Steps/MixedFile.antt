@@ -1,5 +1,5 @@
 -- A file of any systems of which a part is written.
-use Rattle.std.specs.Prelude.{◌≡◌, List}
+use Rattle.std.specs.Prelude.{◌≡◌}
 use Rattle.rtk_rinex.specs.Header.{position_view}
 use Rattle.rtk_rinex.specs.Record.{EpochTableView}
 use Rattle.rtk_rinex.specs.MixedForm.{FormView}

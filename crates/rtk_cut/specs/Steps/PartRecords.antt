@@ -1,5 +1,5 @@
 -- What is written at once: the header, unless it is out, and the record of an epoch.
-use Rattle.std.specs.Prelude.{◌≡◌, ℕ, Bool, true, false, List, [], ◌++◌}
+use Rattle.std.specs.Prelude.{ℕ, Bool, true, false, List, [], ◌++◌}
 use Rattle.rtk_cut.specs.Steps.FileTexts.{FileTexts}
 
 -- the header, unless it is out

@@ -1,4 +1,4 @@
-use Rattle.std.proofs.Common.{ℕ, refl, sym, subst, ◌∙◌, arith}
+use Rattle.std.proofs.Common.{ℕ, refl, sym, subst, ◌∙◌}
 use Rattle.rtk_rinex.specs.declared.epoch_table.SatelliteRow.{SatelliteRow}
 use Rattle.rtk_rinex.specs.MixedRecords.{MixedRowsView, AreRowsLeft, IsNextRowOf}
 use Rattle.rtk_cut.proofs.MixedFileLemmas.{noted-none, noted-more, noted-all}

@@ -1,9 +1,8 @@
 use Rattle.std.proofs.Common.{◌≡◌, ◌≤◌, ℕ, List, length, take, drop, length-append, length-drop, refl, sym, ap, subst, ◌∙◌, arith}
 use Rattle.std.proofs.lemmas.List.{length-take-le}
 use Rattle.rtk_rinex.specs.declared.epoch_table.SatelliteRow.{SatelliteRow}
-use Rattle.rtk_rinex.specs.Record.{EpochTableView}
 use Rattle.rtk_rinex.specs.MixedRecord.{mixed_record_text}
-use Rattle.rtk_rinex.specs.MixedRecords.{MixedRowsView, AreRowsLeft, IsNextRowOf}
+use Rattle.rtk_rinex.specs.MixedRecords.{IsNextRowOf}
 use Rattle.rtk_cut.specs.Steps.Pending.{HasMarks}
 use Rattle.rtk_cut.proofs.MixedFileLemmas.{made-none, made-room, made-more, made-all}
 use Rattle.rtk_cut.proofs.mixed_file.text_with_marks.Goals as goal

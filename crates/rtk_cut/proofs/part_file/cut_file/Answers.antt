@@ -1,8 +1,7 @@
-use Rattle.std.proofs.Common.{◌≡◌, ◌≤◌, List, refl, sym, ap, subst, ◌∙◌}
-use Rattle.rtk_rinex.specs.Record.{EpochTableView}
+use Rattle.std.proofs.Common.{◌≤◌, refl, sym, ap, subst, ◌∙◌}
 use Rattle.rtk_cut.specs.declared.part.Choice.{Choice}
 use Rattle.rtk_cut.specs.Cut.{IsStepOrNone}
-use Rattle.rtk_cut.specs.Steps.PartFile.{WritingView, writing}
+use Rattle.rtk_cut.specs.Steps.PartFile.{writing}
 use Rattle.rtk_cut.specs.Steps.Pending.{StandsForNone}
 use Rattle.rtk_cut.proofs.PartFileLemmas.{writing-same}
 use Rattle.rtk_cut.proofs.WholeLemmas.{cut-none, cut-more, cut-broken, cut-all, cut-broken_end, counts-all, on_err-from}

@@ -1,4 +1,4 @@
-use Rattle.std.proofs.Common.{◌≡◌, ℕ, length, subst}
+use Rattle.std.proofs.Common.{length}
 use Rattle.rtk_cut.proofs.GpsFileLemmas.{next-answers}
 use Rattle.rtk_cut.proofs.gps_file.GpsFileEpochFile.next.Goals as goal
 

@@ -1,4 +1,4 @@
-use Rattle.std.proofs.Common.{◌||◌, List, sym, subst, ◌∙◌, ap}
+use Rattle.std.proofs.Common.{◌||◌, List, subst, ◌∙◌, ap}
 use Rattle.std.specs.List.{list_any}
 use Rattle.rtk_rinex.specs.declared.epoch_table.SatelliteRow.{SatelliteRow}
 use Rattle.rtk_rinex.specs.Record.{EpochTableView}

@@ -1,4 +1,4 @@
-use Rattle.std.proofs.Common.{◌≡◌, ℕ, true, false, ◌∷◌, sym, ap, ◌∙◌, arith}
+use Rattle.std.proofs.Common.{◌≡◌, ℕ, false, ◌∷◌, sym, ap, ◌∙◌, arith}
 use Rattle.rtk_tracking.specs.Epochs.{capped}
 use Rattle.rtk_cut.specs.Cut.{step_of, is_near_step, is_on_step}
 use Rattle.rtk_cut.specs.Steps.PartFile.{still_to_write}

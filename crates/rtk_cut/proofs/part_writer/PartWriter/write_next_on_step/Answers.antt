@@ -1,5 +1,5 @@
-use Rattle.std.proofs.Common.{◌≡◌, ◌+◌, ◌&&◌, ℕ, true, false, List, ◌∷◌, sym, ap, ◌∙◌, arith}
-use Rattle.rtk_frame.specs.Stream.{with_more, TakesPart}
+use Rattle.std.proofs.Common.{◌≡◌, ◌+◌, ◌&&◌, ℕ, true, false, ◌∷◌, sym, ap, ◌∙◌, arith}
+use Rattle.rtk_frame.specs.Stream.{with_more}
 use Rattle.rtk_rinex.specs.Record.{EpochTableView}
 use Rattle.rtk_tracking.specs.Epochs.{capped}
 use Rattle.rtk_cut.specs.Cut.{step_of, is_at_or_after, is_earlier_than, is_chosen, cut_epoch}
