@@ -1,5 +1,5 @@
 -- A file in the parts that a label tells apart, of GPS or of any systems.
-use Rattle.std.specs.Prelude.{◌≡◌, ◌≤◌, ℕ, List, ◌++◌, length, flat_map, codes}
+use Rattle.std.specs.Prelude.{◌≡◌, ◌≤◌, ℕ, List, [], ◌++◌, length, flat_map, codes}
 use Rattle.rtk_obs.specs.declared.time.Civil.{Civil}
 use Rattle.rtk_rinex.specs.Header.{PositionView, IsMarker, IsPositionView, header_line, types_lines, last_lines, unit_line, first_line}
 use Rattle.rtk_rinex.specs.MixedHeader.{version_letter, by_system, system_types_lines, phase_shift_line, glonass_lines}
