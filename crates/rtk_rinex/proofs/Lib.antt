@@ -63,3 +63,5 @@ mod MixedPartsLemmas
 mod GlonassReadLemmas
 mod MixedReadLemmas
 mod MixedVerdictLemmas
+mod MixedSameHeaderLemmas
+mod MixedOneTableLemmas
