@@ -64,4 +64,7 @@ mod GlonassReadLemmas
 mod MixedReadLemmas
 mod MixedVerdictLemmas
 mod MixedSameHeaderLemmas
+mod MixedOneRecordsLemmas
+mod MixedOneHeaderLemmas
+mod MixedOneFaultLemmas
 mod MixedOneTableLemmas
