@@ -1,5 +1,5 @@
 -- A text of any systems has one fault at most, and with a fault it is the text of no well-formed table.
-use Rattle.std.proofs.Common.{◌≡◌, ◌≢◌, ℕ, List, flat_map, refl, sym, ◌∙◌, ap, arith, ⊎_elim}
+use Rattle.std.proofs.Common.{◌≡◌, ◌≢◌, ℕ, List, flat_map, refl, sym, ◌∙◌, ap, subst, arith, ⊎_elim}
 use Rattle.std.specs.Prelude.{All}
 use Rattle.rtk_rinex.specs.declared.check_fault.CheckFault.{CheckFault}
 use Rattle.rtk_rinex.specs.HeaderFault.{AreLines}
@@ -44,7 +44,8 @@ of_records places texts bytes f g a b =
     let one = one_mixed_header places texts u v a.rest b.rest good other (sym a.text ∙ b.text) in
     let head : a.head ≡ b.head = ap (λ (w : MixedValues). w.head) one.0 in
     let first : a.first ≡ b.first = ap (λ (w : MixedValues). w.first) one.0 in
-    let are : AreLines b.lines (mixed_header_text a.head a.site a.first) = rw (ap mixed_text one.0) b.are_lines in
+    let are : AreLines b.lines (mixed_header_text a.head a.site a.first) =
+    subst (λ (t : List ℕ). AreLines b.lines t) (sym (ap mixed_text one.0)) b.are_lines in
     let lines : b.lines ≡ a.lines = one_number b.lines a.lines (mixed_header_text a.head a.site a.first) are a.are_lines in
     let records : IsFaultOfMixedRecords (form_of_head a.head) a.first a.lines a.rest g = rw (← head, ← first, lines, ← one.1) at b.records in
     one_of_records (form_of_head a.head) a.first a.lines a.rest f g a.records records

@@ -94,8 +94,17 @@ four_lines w p further label text =
     header_line (p ++ take w text) label ++ further_line w further label (drop w text) ++ further_line w further label (drop (w + w) text)
     ++ further_line w further label (drop (w + w + w) text)
 
+-- the further lines, and what follows them
+abbrev further_lines : ℕ → List ℕ → List ℕ → List ℕ → List ℕ → List ℕ
+further_lines w further label text x =
+    further_line w further label (drop w text) ++ (further_line w further label (drop (w + w) text) ++ (further_line w further label (drop (w + w + w) text) ++ x))
+
 in_row : (a b c d x : List ℕ) → (((a ++ b) ++ c) ++ d) ++ x ≡ a ++ (b ++ (c ++ (d ++ x)))
 in_row a b c d x = simp append_assoc
+
+first_then : (w : ℕ) (p further label t x : List ℕ) → four_lines w p further label t ++ x ≡ header_line (p ++ take w t) label ++ further_lines w further label t x
+first_then w p further label t x =
+    in_row (header_line (p ++ take w t) label) (further_line w further label (drop w t)) (further_line w further label (drop (w + w) t)) (further_line w further label (drop (w + w + w) t)) x
 
 same_split : (w k : ℕ) (t u : List ℕ) → take w (drop k t) ≡ take w (drop k u) → drop (k + w) t ≡ drop (k + w) u → drop k t ≡ drop k u
 same_split w k t u e f =
@@ -105,17 +114,17 @@ same_split w k t u e f =
 same_four : (w : ℕ) (p further label t u x y : List ℕ) → length t ≡ length u → length t ≤ w + w + w + w → four_lines w p further label t ++ x ≡ four_lines w p further label u ++ y
     → (t ≡ u) × (x ≡ y)
 same_four w p further label t u x y long few e =
-    let a1 : List ℕ = header_line (p ++ take w t) label in
-    let b1 : List ℕ = header_line (p ++ take w u) label in
-    let row : a1 ++ (further_line w further label (drop w t) ++ (further_line w further label (drop (w + w) t) ++ (further_line w further label (drop (w + w + w) t) ++ x)))
-        ≡ b1 ++ (further_line w further label (drop w u) ++ (further_line w further label (drop (w + w) u) ++ (further_line w further label (drop (w + w + w) u) ++ y))) =
-    sym (in_row a1 _ _ _ x) ∙ e ∙ in_row b1 _ _ _ y in
+    let row : header_line (p ++ take w t) label ++ further_lines w further label t x ≡ header_line (p ++ take w u) label ++ further_lines w further label u y =
+    sym (first_then w p further label t x) ∙ e ∙ first_then w p further label u y in
     let size : (k : ℕ) → length (drop k t) ≡ length (drop k u) = λ k. length-drop k t ∙ ap (λ (n : ℕ). n - k) long ∙ sym (length-drop k u) in
     let m = length-take w t in
     let n = length-take w u in
-    let first = same_content (p ++ take w t) (p ++ take w u) label _ _ (omega (arith, length-append p (take w t), length-append p (take w u), m, n, long)) row in
-    let second = same_further w further label (drop w t) (drop w u) _ _ (size w) first.1 in
-    let third = same_further w further label (drop (w + w) t) (drop (w + w) u) _ _ (size (w + w)) second.1 in
+    let first = same_content (p ++ take w t) (p ++ take w u) label (further_lines w further label t x) (further_lines w further label u y)
+    (omega (arith, length-append p (take w t), length-append p (take w u), m, n, long)) row in
+    let last_t : List ℕ = further_line w further label (drop (w + w + w) t) ++ x in
+    let last_u : List ℕ = further_line w further label (drop (w + w + w) u) ++ y in
+    let second = same_further w further label (drop w t) (drop w u) (further_line w further label (drop (w + w) t) ++ last_t) (further_line w further label (drop (w + w) u) ++ last_u) (size w) first.1 in
+    let third = same_further w further label (drop (w + w) t) (drop (w + w) u) last_t last_u (size (w + w)) second.1 in
     let fourth = same_further w further label (drop (w + w + w) t) (drop (w + w + w) u) x y (size (w + w + w)) third.1 in
     let k = length-drop (w + w + w) t in
     let l = length-drop (w + w + w) u in
@@ -163,9 +172,11 @@ length-first s n h = length-append (s ∷ codes "  ") (right 3 (decimal (3 * n))
 
 one_count : (s n m : ℕ) (t u x y : List ℕ) → n ≤ 16 → m ≤ 16 → types_lines_of s n t ++ x ≡ types_lines_of s m u ++ y → n ≡ m
 one_count s n m t u x y h g e =
-    let row = sym (in_row (header_line (first_of s n ++ take 52 t) types_label) _ _ _ x) ∙ e ∙ in_row (header_line (first_of s m ++ take 52 u) types_label) _ _ _ y in
+    let alike : four_lines 52 (first_of s n) (codes "      ") types_label t ++ x ≡ four_lines 52 (first_of s m) (codes "      ") types_label u ++ y = e in
+    let row = sym (first_then 52 (first_of s n) (codes "      ") types_label t x) ∙ alike ∙ first_then 52 (first_of s m) (codes "      ") types_label u y in
     let front : first_of s n ≡ first_of s m =
-    same_columns (first_of s n) (first_of s m) (take 52 t) (take 52 u) types_label _ _ (length-first s m g ∙ sym (length-first s n h)) row in
+    same_columns (first_of s n) (first_of s m) (take 52 t) (take 52 u) types_label (further_lines 52 (codes "      ") types_label t x) (further_lines 52 (codes "      ") types_label u y)
+    (length-first s m g ∙ sym (length-first s n h)) row in
     let digits : right 3 (decimal (3 * n)) ≡ right 3 (decimal (3 * m)) = append_cancel_left (s ∷ codes "  ") (right 3 (decimal (3 * n))) (right 3 (decimal (3 * m))) front in
     let three : 3 * n ≡ 3 * m = sym (digits_from-right 3 (3 * n) (omega arith)) ∙ ap (digits_from 0) digits ∙ digits_from-right 3 (3 * m) (omega arith) in
     omega (arith, three)
@@ -230,9 +241,9 @@ one_list file other cs ds x y places texts h g e =
     let sbas = next_system 83 (codes "I") file other cs ds x y refl (omega arith) places texts h g qzss.1 in
     let navic = next_system 73 [] file other cs ds x y refl (omega arith) places texts h g sbas.1 in (
       in_groups cs h.list.order
-      ∙ same_seven (codes_of 71 cs) (codes_of 82 cs) (codes_of 69 cs) (codes_of 67 cs) (codes_of 74 cs) (codes_of 83 cs) (codes_of 73 cs) (codes_of 71 ds) (codes_of 82 ds) (codes_of 69 ds) (codes_of 67 ds) (codes_of 74 ds) (codes_of 83 ds) (codes_of 73 ds)
+          ∙ same_seven (codes_of 71 cs) (codes_of 82 cs) (codes_of 69 cs) (codes_of 67 cs) (codes_of 74 cs) (codes_of 83 cs) (codes_of 73 cs) (codes_of 71 ds) (codes_of 82 ds) (codes_of 69 ds) (codes_of 67 ds) (codes_of 74 ds) (codes_of 83 ds) (codes_of 73 ds)
           gps.0 glonass.0 galileo.0 beidou.0 qzss.0 sbas.0 navic.0
-      ∙ sym (in_groups ds g.list.order),
+          ∙ sym (in_groups ds g.list.order),
       append_cancel_left unit_line x y navic.1,
     )
 
@@ -274,9 +285,8 @@ no_later ks n front k small e =
           let low = last.small in
           let a : List ℕ = slot_text last.slot (Some last.channel) in
           let same = same_ends last.front front a (slot_text (suc n) (Some k)) (length-slot_some last.slot last.channel ∙ sym (length-slot_some (suc n) k)) (sym last.is ∙ e) in
-          let mine = (slot_shown a last.slot last.channel (omega (arith, low, small)) refl).number in
-          let other = (slot_shown a (suc n) k small same.1).number in
-          omega (arith, mine, other, low)
+          let number : last.slot ≡ suc n = sym (slot_shown a last.slot last.channel (omega (arith, low, small)) refl).number ∙ (slot_shown a (suc n) k small same.1).number in
+          omega (arith, number, low)
     ]
 
 same_if : (ks us : List (Option ℤ)) (n : ℕ) (o p : Option ℤ) → suc n ≤ 27 → slots_text ks n ++ slot_text (suc n) o ≡ slots_text us n ++ slot_text (suc n) p → (slots_text ks n ≡ slots_text us n) × (o ≡ p)
@@ -330,15 +340,17 @@ one_slots ks us x y h g e =
     let m = number us in
     let t : List ℕ = slots_text ks 27 in
     let u : List ℕ = slots_text us 27 in
-    let row = sym (in_row (header_line (front_of n ++ take 56 t) slots_label) _ _ _ x) ∙ e ∙ in_row (header_line (front_of m ++ take 56 u) slots_label) _ _ _ y in
+    let lines : four_lines 56 (front_of n) (codes "    ") slots_label t ++ x ≡ four_lines 56 (front_of m) (codes "    ") slots_label u ++ y = e in
+    let row = sym (first_then 56 (front_of n) (codes "    ") slots_label t x) ∙ lines ∙ first_then 56 (front_of m) (codes "    ") slots_label u y in
     let front : front_of n ≡ front_of m =
-    same_columns (front_of n) (front_of m) (take 56 t) (take 56 u) slots_label _ _ (length-front m (few_slots us g) ∙ sym (length-front n (few_slots ks h))) row in
+    same_columns (front_of n) (front_of m) (take 56 t) (take 56 u) slots_label (further_lines 56 (codes "    ") slots_label t x) (further_lines 56 (codes "    ") slots_label u y)
+    (length-front m (few_slots us g) ∙ sym (length-front n (few_slots ks h))) row in
     let digits : right 3 (decimal n) ≡ right 3 (decimal m) = (same_ends (right 3 (decimal n)) (right 3 (decimal m)) (codes " ") (codes " ") refl front).0 in
     let few = few_slots ks h in
     let less = few_slots us g in
     let count : n ≡ m = sym (digits_from-right 3 n (omega (arith, few))) ∙ ap (digits_from 0) digits ∙ digits_from-right 3 m (omega (arith, less)) in
     let alike : four_lines 56 (front_of m) (codes "    ") slots_label t ++ x ≡ four_lines 56 (front_of m) (codes "    ") slots_label u ++ y =
-    ap (λ (k : ℕ). four_lines 56 (front_of k) (codes "    ") slots_label t ++ x) (sym count) ∙ e in
+    ap (λ (k : ℕ). four_lines 56 (front_of k) (codes "    ") slots_label t ++ x) (sym count) ∙ lines in
     let p = length-slots ks h in
     let q = length-slots us g in
     let same = same_four 56 (front_of m) (codes "    ") slots_label t u x y (omega (arith, p, q, count)) (omega (arith, p, few)) alike in
@@ -363,8 +375,8 @@ one_glonass cs (Some g) None x y t u e = absurd (let clash : false ≡ true = sy
 one_glonass cs (Some g) (Some h) x y t u e =
     let row : slots_lines g.channels ++ (biases_line ++ (leap_line g.leap_seconds ++ x)) ≡ slots_lines h.channels ++ (biases_line ++ (leap_line h.leap_seconds ++ y)) =
     sym (three_rows (slots_lines g.channels) biases_line (leap_line g.leap_seconds) x) ∙ e ∙ three_rows (slots_lines h.channels) biases_line (leap_line h.leap_seconds) y in
-    let slots = one_slots g.channels h.channels _ _ t.1.channels u.1.channels row in
-    let leap : leap_line g.leap_seconds ++ x ≡ leap_line h.leap_seconds ++ y = append_cancel_left biases_line _ _ slots.1 in
+    let slots = one_slots g.channels h.channels (biases_line ++ (leap_line g.leap_seconds ++ x)) (biases_line ++ (leap_line h.leap_seconds ++ y)) t.1.channels u.1.channels row in
+    let leap : leap_line g.leap_seconds ++ x ≡ leap_line h.leap_seconds ++ y = append_cancel_left biases_line (leap_line g.leap_seconds ++ x) (leap_line h.leap_seconds ++ y) slots.1 in
     let seconds : g.leap_seconds ≡ h.leap_seconds =
     sym (leap_is (leap_line g.leap_seconds ++ x) x g.leap_seconds t.1.leap_seconds refl) ∙ leap_is (leap_line g.leap_seconds ++ x) y h.leap_seconds u.1.leap_seconds leap in
     (ap Some (same_view g h slots.0 seconds), append_cancel_left (leap_line h.leap_seconds) x y (ap (λ (n : ℕ). leap_line n ++ x) (sym seconds) ∙ leap))
