@@ -1,6 +1,6 @@
 -- Two well-formed tables of any systems of one text are equal, and what is answered to the text of such a
 -- table is this table.
-use Rattle.std.proofs.Common.{◌≡◌, ℕ, List, length, refl, sym, ◌∙◌, ap, flat_map}
+use Rattle.std.proofs.Common.{◌≡◌, length, refl, sym, ◌∙◌, ap, flat_map}
 use Rattle.std.specs.Prelude.{Ok, Err, All}
 use Rattle.rtk_rinex.specs.CheckText.{satellite_lines}
 use Rattle.rtk_rinex.specs.MixedRecord.{mixed_record_text}

@@ -1,5 +1,5 @@
 -- Two headers of any systems that begin one text are equal, part by part.
-use Rattle.std.proofs.Common.{◌≡◌, ◌≢◌, ◌⊎◌, ℕ, zero, suc, ◌+◌, ◌-◌, ◌*◌, ◌<◌, ◌≤◌, ◌%◌, List, [], ◌∷◌, ◌++◌, length, take, drop, get_or, codes, decimal, arith, refl, sym, ◌∙◌, ap, subst, append_assoc, length-append, inl, inr, Bool, true, false, ◌==◌, if◌then◌else◌, ℤ, pos, negsuc, Option, Some, None, is_some}
+use Rattle.std.proofs.Common.{◌≡◌, ◌⊎◌, ℕ, zero, suc, ◌+◌, ◌-◌, ◌*◌, ◌<◌, ◌≤◌, List, [], ◌∷◌, ◌++◌, length, take, drop, get_or, codes, decimal, arith, refl, sym, ◌∙◌, ap, subst, append_assoc, length-append, inl, inr, Bool, true, false, ◌==◌, if◌then◌else◌, ℤ, pos, negsuc, Option, Some, None, is_some}
 use Rattle.std.specs.Prelude.{All}
 use Rattle.std.specs.List.{count_by}
 use Rattle.std.proofs.lemmas.Bool.{eqb-true}
@@ -17,7 +17,7 @@ use Rattle.rtk_obs.proofs.PublicLaws.{one_moment}
 use Rattle.rtk_rinex.specs.Columns.{left, right}
 use Rattle.rtk_rinex.specs.Reading.{IsMoment, reading_of}
 use Rattle.rtk_rinex.specs.Header.{PositionView, header_line, made_line, marker_line, place_line, height_line, types_label, unit_line, first_line}
-use Rattle.rtk_rinex.specs.MixedHead.{MixedHeadView, GlonassView, TellsGlonass, letter}
+use Rattle.rtk_rinex.specs.MixedHead.{GlonassView, TellsGlonass, letter}
 use Rattle.rtk_rinex.specs.MixedHeader.{codes_of, three_types, types_text, types_lines_of, system_types_lines, phase_shift_line, by_system, channel_text, slot_text, slots_text, slots_label, slots_lines, biases_line, leap_line, glonass_lines, unknown_lines, version_letter, mixed_version_line}
 use Rattle.rtk_rinex.specs.Steps.Digits.{digits_from}
 use Rattle.rtk_rinex.specs.Steps.MixedRoom.{codes_of_letter}
