@@ -8,10 +8,10 @@ use Rattle.rtk_rinex.specs.Header.{HeadView, IsMarker, IsPositionView, header_li
 use Rattle.rtk_rinex.specs.MixedHead.{MixedHeadView}
 use Rattle.rtk_rinex.specs.Record.{record_text}
 use Rattle.rtk_rinex.specs.MixedRecord.{mixed_record_text}
-use Rattle.rtk_rinex.specs.Table.{WellFormedTable, IsWellFormedTable, table_text}
-use Rattle.rtk_rinex.specs.MixedTable.{MixedTable, IsMixedTable, mixed_table_text}
+use Rattle.rtk_rinex.specs.Table.{WellFormedTable, table_text}
+use Rattle.rtk_rinex.specs.MixedTable.{mixed_table_text}
 use Rattle.rtk_label.specs.Fields.{marker_number_line}
-use Rattle.rtk_label.specs.Labelled.{LabelView, IsLabel, IsFor, blank_label, top_lines, middle_lines, front_lines, labelled_text, mixed_front_lines, labelled_mixed_text}
+use Rattle.rtk_label.specs.Labelled.{LabelView, IsLabel, IsFor, blank_label, top_lines, middle_lines, front_lines, mixed_front_lines}
 use Rattle.rtk_label.specs.LabelLaws.{BlankIsFile, FrontIsChanged, LabelsAreTold, RecordsStay, MixedLabelsAreTold, MixedFrontIsChanged, MixedRecordsStay, MixedLabelLaws}
 use Rattle.rtk_label.specs.Steps.FileParts.{FileParts, AreFileParts, text_of_parts, parts_of, mixed_parts_of}
 use Rattle.rtk_label.specs.Steps.Shown.{IsNumberIn}

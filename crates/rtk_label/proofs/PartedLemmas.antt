@@ -7,8 +7,6 @@ use Rattle.std.proofs.lemmas.List.{take_at, drop_at, drop-drop, take-append-drop
 use Rattle.rtk_rinex.specs.Columns.{left, IsField}
 use Rattle.rtk_rinex.specs.Header.{header_line, header_text}
 use Rattle.rtk_rinex.specs.Reading.{date_after}
-use Rattle.rtk_rinex.specs.Table.{WellFormedTable, IsWellFormedTable, table_text}
-use Rattle.rtk_rinex.specs.MixedTable.{MixedTable, IsMixedTable}
 use Rattle.rtk_label.specs.Fields.{marker_number_line}
 use Rattle.rtk_label.specs.Labelled.{LabelView, IsLabel, IsFor, blank_label, top_lines, middle_lines}
 use Rattle.rtk_label.specs.LabelWriting.{WasLabelled, IsOfEveryTable, WasLabelledMixed, IsOfEveryMixedTable, whole_len, plain_file, completed, IsCutText, IsParted}

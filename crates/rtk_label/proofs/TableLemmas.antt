@@ -1,7 +1,6 @@
 -- The text of a table with a label, in its parts; a blank label is none.
 use Rattle.std.proofs.Common.{◌≡◌, ◌≤◌, ℕ, ◌+◌, List, [], ◌∷◌, ◌++◌, length, codes, pos, ap, sym, arith, refl, ◌∙◌, append_assoc, length-append}
 use Rattle.std.specs.Prelude.{flat_map}
-use Rattle.std.proofs.lemmas.List.{append-nil}
 use Rattle.rtk_obs.specs.declared.time.Civil.{Civil}
 use Rattle.rtk_rinex.specs.Columns.{left, fixed}
 use Rattle.rtk_rinex.specs.Header.{HeadView, PositionView, IsMarker, IsPositionView, header_line, made_text, made_line, marker_line, place_line, height_line, types_lines, unit_line, first_line, first_text, last_lines, header_text}

@@ -2,6 +2,7 @@
 
 ghost use Rattle.std.specs.Prelude.{◌≡◌, ◌++◌, drop, OnOk, OnErr, Decides};
 ghost use Rattle.rtk_frame.specs.Stream.{with_more, TakesPart, CountRises};
+ghost use Rattle.rtk_rinex.specs.Header.{position_view};
 ghost use Rattle.rtk_rinex.specs.Table.{WellFormedTable, IsWellFormedTable, table_text};
 ghost use Rattle.rtk_rinex.specs.MixedTable.{MixedTable, IsMixedTable, mixed_table_text};
 ghost use Rattle.rtk_label.specs.Labelled.{IsLabel, IsFor};
@@ -13,7 +14,15 @@ use crate::fields::after;
 use crate::front::filled;
 use crate::label::Label;
 use rtk_frame::{Sink, StreamFault, write_all};
+use rtk_obs::Position;
 use rtk_rinex::{MixedTextTable, TextTable};
+
+// Did the stream tell no height of the antenna?
+fn has_no_height(position: &Position) -> bool
+    ensures { Decides result ((position_view position.now).height ≡ 0) }
+{
+    position.height == 0
+}
 
 /// Is a label for this file? If the stream told the antenna's height, it is for none that has one.
 pub fn is_for(label: &Label, table: &TextTable<'_>) -> bool
@@ -23,7 +32,7 @@ pub fn is_for(label: &Label, table: &TextTable<'_>) -> bool
     if label.height.len() == 0 {
         return true;
     }
-    table.heading().position.height == 0
+    has_no_height(&table.heading().position)
 }
 
 /// Is a label for this file of any systems, as `is_for` has it for GPS?
@@ -34,7 +43,7 @@ pub fn is_for_mixed(label: &Label, table: &MixedTextTable<'_>) -> bool
     if label.height.len() == 0 {
         return true;
     }
-    table.heading().position.height == 0
+    has_no_height(&table.heading().position)
 }
 
 // Writes the first nine lines of a text with the fields of a label.

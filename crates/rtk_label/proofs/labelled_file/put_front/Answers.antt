@@ -1,5 +1,4 @@
 use Rattle.rtk_label.proofs.labelled_file.put_front.Goals as goal
-use Rattle.rtk_label.proofs.WriteLemmas.{on_ok-map}
 
 pub returns-clause-all : goal.returns-clause-all
 returns-clause-all g c = rw (c.as_slice.ensures.value, c.filled-front.ensures.value) at c.write_all.ensures.all
