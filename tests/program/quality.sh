@@ -50,7 +50,7 @@ END
 # pins: counts_of, passes_of, epochs_in_passes, percent_tenths, mean_hundredths
 # pins: padded, lined_up, Lists.closed, satellite_mark, numbers_columns, code_row, tracked_row, pass_row, hour_row, codes_heading
 # pins: section_heading, hours_heading, span_part, listed_text, burst_row, burst_line, bursts_heading, run_row, run_line, runs_heading
-# pins: open_run, ended_run, half_runs, half_runs_in, longest_half_runs, last_hour, burst_of, all_bursts, all_bursts_in, largest_bursts
+# pins: open_where, ended_where, half_runs, half_runs_in, longest_half_runs, last_hour, burst_of, all_bursts, all_bursts_in, largest_bursts
 quality "$file";              leaves quality_of_a_file 0 "$table" /dev/null
 quality stdin <"$file";       leaves quality_of_standard_input 0 "$table" /dev/null
 lines "$file";                leaves quality_in_lines 0 "$numbers" /dev/null
@@ -225,7 +225,7 @@ half-run G05 from 2024-05-17 12:13:00.000 until 2024-05-17 12:14:30.000 epochs 4
 half-run G05 from 2024-05-17 13:08:00.000 until 2024-05-17 13:09:30.000 epochs 4
 half-run G05 from 2024-05-17 13:50:00.000 until 2024-05-17 13:50:30.000 epochs 2
 END
-# pins: open_run, ended_run, half_runs, longest_half_runs, last_hour, burst_of, all_bursts, largest_bursts
+# pins: open_where, ended_where, half_runs, longest_half_runs, last_hour, burst_of, all_bursts, largest_bursts
 same quality_of_bursts_and_half_cycles got want
 
 # Two hours of two satellites at 30 s. G01 lacks L5 for 40 minutes of its pass, and G02 for two minutes, which are too short, and for
@@ -251,7 +251,7 @@ missing-codes 2
 missing-code G01 5Q from 2024-05-17 12:30:00.000 until 2024-05-17 13:09:30.000 epochs 80
 missing-code G02 5Q from 2024-05-17 12:50:00.000 until 2024-05-17 12:52:00.000 epochs 5
 END
-# pins: open_missing, ended_missing, Missing.is_listed, missing_of, all_missing, missing_codes_in, longest_missing, missing_line
+# pins: lacks, open_where, ended_where, Missing.is_listed, missing_of, all_missing, missing_codes_in, longest_missing, missing_line
 same quality_of_missing_codes got want
 quality holes; grep -A 2 '^missing from' out >got
 cat >want <<'END'

@@ -10,10 +10,9 @@ use Rattle.rtk_obs.specs.declared.time.Civil.{Civil}
 use Rattle.rtk_rinex.specs.Reading.{reading_of}
 use Rattle.rtk_rinex.specs.Record.{EpochTableView}
 use Rattle.rtk_rinex.specs.declared.epoch_table.SatelliteRow.{SatelliteRow}
-use Rattle.rtk_tracking.specs.Epochs.{shows_phase}
 use Rattle.rtk_tracking.specs.Passes.{Sighting, sightings_of, has_phase, begins_pass}
 use Rattle.rtk_quality.specs.Largest.{list_of, AreLargest}
-use Rattle.rtk_quality.specs.Missing.{open_missing, ended_missing, ended_missings, if_listed, missing_code, missing_of, missing_from}
+use Rattle.rtk_quality.specs.Missing.{lacks, ended_missings, if_listed, missing_code, missing_of, missing_from}
 use Rattle.rtk_quality.specs.Runs.{run_after, run_ended}
 use Rattle.rtk_quality.specs.Standing.{absent_at, without_rows, StandsForMissing, StandForCodes, StandForMissing}
 use Rattle.rtk_quality.specs.declared.largest.Largest.{Largest}
@@ -22,42 +21,30 @@ use Rattle.rtk_quality.specs.declared.missing.MissingCodes.{MissingCodes}
 use Rattle.rtk_quality.specs.declared.missing.MissingRuns.{MissingRuns}
 use Rattle.rtk_quality.specs.declared.runs.Run.{Run}
 use Rattle.rtk_quality.proofs.ListLemmas.{range-more}
-use Rattle.rtk_quality.proofs.RowLemmas.{first_rows, IsRowAt, row-set}
+use Rattle.rtk_quality.proofs.RunLemmas.{run-more, run-same, run-ends, no-run-ends}
+use Rattle.rtk_quality.proofs.RowLemmas.{first_rows, IsRowAt, before-it, row-set}
 
 -- ---- an epoch more
 
-pub missing-more : (interval : Option ℕ) (place : ℕ) (before : List Sighting) (s : Sighting) (old new : MissingRuns) (begins lacks : Bool) (reading : Civil)
-    → StandsForMissing old interval place before → begins ≡ begins_pass interval before s → lacks ≡ not (shows_phase place s.observed) → reading ≡ reading_of s.time
-    → has_phase s.observed ≡ true → new.newest ≡ run_after old.newest begins lacks reading
-    → new.ended.items ≡ old.ended.items ++ list_of (if_listed interval (run_ended old.newest begins lacks))
+pub missing-more : (interval : Option ℕ) (place : ℕ) (before : List Sighting) (s : Sighting) (old new : MissingRuns) (begins holds : Bool) (reading : Civil)
+    → StandsForMissing old interval place before → begins ≡ begins_pass interval before s → holds ≡ lacks place s.observed → reading ≡ reading_of s.time
+    → has_phase s.observed ≡ true → new.newest ≡ run_after old.newest begins holds reading
+    → new.ended.items ≡ old.ended.items ++ list_of (if_listed interval (run_ended old.newest begins holds))
     → StandsForMissing new interval place (s ∷ before)
-missing-more interval place before s old new begins lacks reading was is_begin is_lack at has took added =
-    let run : Option Run = open_missing interval place before in
-    let starts : Bool = begins_pass interval before s in
-    let none : Bool = not (shows_phase place s.observed) in
-    record {
-      newest = took ∙ ap (λ (o : Option Run). run_after o begins lacks reading) was.newest ∙ ap (λ (b : Bool). run_after run b lacks reading) is_begin
-          ∙ ap (λ (b : Bool). run_after run starts b reading) is_lack ∙ ap (λ (c : Civil). run_after run starts none c) at
-          ∙ sym (ap (λ (b : Bool). cond b (run_after run starts none (reading_of s.time)) run) has);
-      ended = added ∙ ap (λ (rs : List Run). rs ++ list_of (if_listed interval (run_ended old.newest begins lacks))) was.ended
-          ∙ ap (λ (o : Option Run). ended_missings interval place before ++ list_of (if_listed interval (run_ended o begins lacks))) was.newest
-          ∙ ap (λ (b : Bool). ended_missings interval place before ++ list_of (if_listed interval (run_ended run b lacks))) is_begin
-          ∙ ap (λ (b : Bool). ended_missings interval place before ++ list_of (if_listed interval (run_ended run starts b))) is_lack
-          ∙ sym (ap (λ (b : Bool). ended_missings interval place before ++ list_of (if_listed interval (cond b (run_ended run starts none) None))) has);
-    }
+missing-more interval place before s old new begins holds reading was is_begin is_one at has took added = record {
+  newest = run-more (lacks place) interval before s old.newest new.newest begins holds reading was.newest is_begin is_one at has took;
+  ended = added ∙ ap (λ (rs : List Run). rs ++ list_of (if_listed interval (run_ended old.newest begins holds))) was.ended
+      ∙ ap (λ (o : Option Run). ended_missings interval place before ++ list_of (if_listed interval o))
+      (run-ends (lacks place) interval before s old.newest (run_ended old.newest begins holds) begins holds was.newest is_begin is_one has refl);
+}
 
 missing-same : (interval : Option ℕ) (place : ℕ) (before : List Sighting) (s : Sighting) (m : MissingRuns)
     → has_phase s.observed ≡ false → StandsForMissing m interval place before → StandsForMissing m interval place (s ∷ before)
-missing-same interval place before s m none was =
-    let run : Option Run = open_missing interval place before in
-    let starts : Bool = begins_pass interval before s in
-    let lacks : Bool = not (shows_phase place s.observed) in
-    record {
-      newest = was.newest ∙ sym (ap (λ (b : Bool). cond b (run_after run starts lacks (reading_of s.time)) run) none);
-      ended = was.ended
-          ∙ sym (append-nil (ended_missings interval place before))
-          ∙ sym (ap (λ (b : Bool). ended_missings interval place before ++ list_of (if_listed interval (cond b (run_ended run starts lacks) None))) none);
-    }
+missing-same interval place before s m none was = record {
+  newest = was.newest ∙ sym (run-same (lacks place) interval before s none);
+  ended = was.ended ∙ sym (append-nil (ended_missings interval place before))
+      ∙ ap (λ (o : Option Run). ended_missings interval place before ++ list_of (if_listed interval o)) (no-run-ends (lacks place) interval before s none);
+}
 
 -- without a phase nothing changes
 pub codes-same : (interval : Option ℕ) (count : ℕ) (before : List Sighting) (s : Sighting) (codes : List MissingRuns)
@@ -118,6 +105,27 @@ no-row-yet xs count interval time es are = record {
   size = are.size;
   each = λ place d within. codes-same interval count (sightings_of (place + 1) es) (absent_at time) (get_or xs place d).codes.items refl (are.each place d within);
 }
+
+missing-due : (interval : Option ℕ) (place : ℕ) (before : List Sighting) (time : ℕ) (m : MissingRuns) → StandsForMissing m interval place (absent_at time ∷ before) → StandsForMissing m interval place before
+missing-due interval place before time m was = record {
+  newest = was.newest;
+  ended = was.ended ∙ append-nil (ended_missings interval place before);
+}
+
+-- the satellite of the row has none in the epoch so far
+pub codes-due : (e : EpochTableView) (i place : ℕ) (r : SatelliteRow) (xs : List MissingCodes) (d : MissingCodes) (count : ℕ) (interval : Option ℕ) (es : List EpochTableView)
+    → IsRowAt e i r → place + 1 ≡ r.satellite → place < 32 → StandForMissing xs count interval (first_rows e i ∷ es)
+    → StandForCodes (get_or xs place d).codes.items count interval (sightings_of r.satellite es)
+codes-due e i place r xs d count interval es at number few are =
+    let own : List MissingRuns = (get_or xs place d).codes.items in
+    let before : List Sighting = sightings_of r.satellite es in
+    let was : StandForCodes own count interval (absent_at e.time ∷ before) =
+    subst (λ (ss : List Sighting). StandForCodes own count interval ss) (before-it e i r es at)
+    (subst (λ (n : ℕ). StandForCodes own count interval (sightings_of n (first_rows e i ∷ es))) number (are.each place d few)) in
+    record {
+      size = was.size;
+      each = λ k m within. missing-due interval k before e.time (get_or own k m) (was.each k m within);
+    }
 
 pub codes-noted : (e : EpochTableView) (i place : ℕ) (r : SatelliteRow) (xs : List MissingCodes) (y : MissingCodes) (count : ℕ) (interval : Option ℕ) (es : List EpochTableView)
     → IsRowAt e i r → place + 1 ≡ r.satellite → place < 32 → StandForMissing xs count interval (first_rows e i ∷ es)

@@ -81,7 +81,7 @@ rows-more : (e : EpochTableView) (i : ℕ) (r : SatelliteRow) → IsRowAt e i r 
 rows-more e i r at = take_more e.rows i r at.within ∙ ap (λ (x : SatelliteRow). take i e.rows ++ x ∷ []) (sym at.is)
 
 -- what came of its satellite before it, and with it
-before-it : (e : EpochTableView) (i : ℕ) (r : SatelliteRow) (es : List EpochTableView) → IsRowAt e i r
+pub before-it : (e : EpochTableView) (i : ℕ) (r : SatelliteRow) (es : List EpochTableView) → IsRowAt e i r
     → sightings_of r.satellite (first_rows e i ∷ es) ≡ absent_at e.time ∷ sightings_of r.satellite es
 before-it e i r es at =
     ap (λ (os : List Observed). seen e.time os ∷ sightings_of r.satellite es) (none-of r.satellite (take i e.rows) r (others-before e i r at))

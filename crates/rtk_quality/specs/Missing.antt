@@ -3,32 +3,31 @@
 use Rattle.std.specs.Prelude.{ℕ, ◌+◌, ◌*◌, ◌==◌, nat_lt, Bool, not, List, [], ◌∷◌, ◌++◌, map, flat_map, Option, None, Some, unwrap_or, if◌then◌else◌}
 use Rattle.std.specs.List.{range_with_len}
 use Rattle.rtk_obs.specs.declared.code.Code.{Code}
-use Rattle.rtk_rinex.specs.Reading.{reading_of}
 use Rattle.rtk_rinex.specs.Record.{EpochTableView}
+use Rattle.rtk_rinex.specs.declared.epoch_table.Observed.{Observed}
 use Rattle.rtk_tracking.specs.Epochs.{capped, shows_phase}
 use Rattle.rtk_tracking.specs.Interval.{nearness_of}
-use Rattle.rtk_tracking.specs.Passes.{Sighting, sightings_of, has_phase, begins_pass}
+use Rattle.rtk_tracking.specs.Passes.{Sighting, sightings_of}
 use Rattle.rtk_quality.specs.Largest.{list_of, ten_largest, count_of}
 use Rattle.rtk_quality.specs.Quality.{numbers_of}
-use Rattle.rtk_quality.specs.Runs.{run_after, run_ended}
+use Rattle.rtk_quality.specs.Runs.{open_where, ended_where}
 use Rattle.rtk_quality.specs.declared.missing.MissingCode.{MissingCode}
 use Rattle.rtk_quality.specs.declared.runs.Run.{Run}
 
 -- ---- the runs of a code of a satellite
 
 -- formula
+-- the code at this place has no phase
+abbrev pub lacks : ℕ → List Observed → Bool
+lacks place os = not (shows_phase place os)
+
 -- the run at the end of these epochs: the last epochs with a phase in the last pass, if none of them has one of the code
 abbrev pub open_missing : Option ℕ → ℕ → List Sighting → Option Run
-open_missing interval place [] = None
-open_missing interval place (s ∷ before) =
-    if has_phase s.observed then run_after (open_missing interval place before) (begins_pass interval before s) (not (shows_phase place s.observed)) (reading_of s.time)
-    else open_missing interval place before
+open_missing interval place before = open_where (lacks place) interval before
 
--- formula
 -- the run that ends before an epoch, because it has a phase of the code or begins a pass
 abbrev pub ended_missing : Option ℕ → ℕ → List Sighting → Sighting → Option Run
-ended_missing interval place before s =
-    if has_phase s.observed then run_ended (open_missing interval place before) (begins_pass interval before s) (not (shows_phase place s.observed)) else None
+ended_missing interval place before s = ended_where (lacks place) interval before s
 
 -- formula
 -- the epochs of a run, each of them one interval, are together longer than 120 s, by more than twice the nearness that

@@ -154,7 +154,7 @@ fn note_rows(
         let notes = satellites[place].note_row(interval, record_ms, time, reading, observed);
         locks = locks.plus(&notes.locks);
         together = together.plus(notes.locks.slips, notes.is_tracked);
-        codes[place].note_row(interval, notes.is_tracked, notes.begins, reading, observed)?;
+        codes[place].note_codes(interval, notes.is_tracked, notes.begins, reading, observed)?;
         add_ended(ended, row.satellite, notes.ended)?;
         events.note_row(row.satellite, &notes)?;
     }

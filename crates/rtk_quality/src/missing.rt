@@ -130,7 +130,7 @@ impl MissingCodes {
     }
 
     /// Notes an epoch, in which the codes of the satellite show this, and some code perhaps a phase.
-    pub(crate) fn note_row(
+    pub(crate) fn note_codes(
         &mut self,
         interval: Option<u64>,
         is_tracked: bool,
@@ -218,7 +218,7 @@ fn note_code(
 }
 
 // Notes the runs of the codes of a satellite.
-fn note_codes(
+fn note_satellite(
     missing: &mut Largest<MissingCode>,
     interval: Option<u64>,
     satellite: u8,
@@ -256,7 +256,7 @@ pub(crate) fn note_missing(
     for (place, counts) in satellites.iter().enumerate() {
         let satellite = place as u8 + 1;
         let runs = runs[place].codes.as_slice();
-        note_codes(missing, interval, satellite, codes, counts, runs)?;
+        note_satellite(missing, interval, satellite, codes, counts, runs)?;
     }
     Ok(())
 }

@@ -20,8 +20,8 @@ loop-place-preserved c = λ es all stand runs are.
     let within : i < 32 = omega (arith, c.loop-place-test.true, c.requires.satellites) in
     satellites-more size_of_missing (λ satellite. missing_from c.args.interval (sightings_of satellite es) satellite 0 c.args.codes.now) i c.loop-place.missing _ all
     (c.loop-place.invariant es all stand runs are)
-    (λ ms so_far. c.in_ok-note_codes.ensures (sightings_of (i + 1) es) ms (stand.each i _ within)
-        (subst (λ (xs : List MissingRuns). StandForCodes xs (length c.args.codes.now) c.args.interval (sightings_of (i + 1) es)) (sym c.as_slice-runs.ensures.value) (runs.each i _ within)) so_far)
+    (λ ms so_far. c.in_ok-note_satellite.ensures (sightings_of (i + 1) es) ms (stand.each i _ within)
+    (subst (λ (xs : List MissingRuns). StandForCodes xs (length c.args.codes.now) c.args.interval (sightings_of (i + 1) es)) (sym c.as_slice-runs.ensures.value) (runs.each i _ within)) so_far)
 
 pub returns : goal.returns
 unfolding all_missing

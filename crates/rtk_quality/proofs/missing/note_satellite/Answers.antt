@@ -5,7 +5,7 @@ use Rattle.rtk_quality.specs.Largest.{AreLargest}
 use Rattle.rtk_quality.specs.Missing.{missing_from, size_of_missing}
 use Rattle.rtk_quality.specs.declared.missing.MissingCode.{MissingCode}
 use Rattle.rtk_quality.proofs.MissingCodeLemmas.{codes-more}
-use Rattle.rtk_quality.proofs.missing.note_codes.Goals as goal
+use Rattle.rtk_quality.proofs.missing.note_satellite.Goals as goal
 
 pub loop-place-init : goal.loop-place-init
 loop-place-init c = λ before all counts runs are. subst (λ (ms : List MissingCode). AreLargest size_of_missing c.args.missing.now ms) (sym (append-nil all)) are

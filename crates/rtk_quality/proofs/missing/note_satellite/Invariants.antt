@@ -4,7 +4,7 @@ use Rattle.rtk_quality.specs.Largest.{AreLargest}
 use Rattle.rtk_quality.specs.Missing.{missing_from, size_of_missing}
 use Rattle.rtk_quality.specs.Standing.{StandsForSatellite, StandForCodes}
 use Rattle.rtk_quality.specs.declared.missing.MissingCode.{MissingCode}
-use Rattle.rtk_quality.proofs.missing.note_codes.Given as goal
+use Rattle.rtk_quality.proofs.missing.note_satellite.Given as goal
 
 abbrev pub invariant-loop-place : goal.invariant-loop-place
 invariant-loop-place l =

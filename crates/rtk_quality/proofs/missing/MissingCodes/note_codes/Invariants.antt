@@ -3,7 +3,7 @@ use Rattle.rtk_rinex.specs.Reading.{reading_of}
 use Rattle.rtk_tracking.specs.Passes.{Sighting, begins_pass}
 use Rattle.rtk_quality.specs.Standing.{StandForCodes}
 use Rattle.rtk_quality.proofs.MissingCodeLemmas.{CodesUpTo}
-use Rattle.rtk_quality.proofs.missing.MissingCodes.note_row.Given as goal
+use Rattle.rtk_quality.proofs.missing.MissingCodes.note_codes.Given as goal
 
 abbrev pub invariant-loop-place : goal.invariant-loop-place
 invariant-loop-place l =
