@@ -1,5 +1,5 @@
 -- The runs of epochs at which a code is missing, an epoch more, and all of them one after another.
-use Rattle.std.proofs.Common.{◌≡◌, ◌≢◌, ◌<◌, ◌≤◌, ◌+◌, ◌++◌, cond, ℕ, zero, suc, Bool, true, false, not, List, [], ◌∷◌, length, take, set, get_or, map, Option, None, Some, refl, sym, ap, subst, inl, inr, ◌∙◌, get_or-set_same, get_or-set_other, length-set, arith, append_assoc}
+use Rattle.std.proofs.Common.{◌≡◌, ◌≢◌, ◌<◌, ◌≤◌, ◌+◌, ◌++◌, cond, ℕ, zero, suc, Bool, true, false, not, List, [], ◌∷◌, length, take, set, get_or, map, All, Option, None, Some, refl, sym, ap, subst, inl, inr, ◌∙◌, get_or-set_same, get_or-set_other, length-set, arith, append_assoc}
 use Rattle.std.specs.Prelude.{flat_map}
 use Rattle.std.specs.List.{range_with_len}
 use Rattle.std.proofs.lemmas.Bool.{cases_eq}
@@ -23,6 +23,20 @@ use Rattle.rtk_quality.specs.declared.runs.Run.{Run}
 use Rattle.rtk_quality.proofs.ListLemmas.{range-more}
 use Rattle.rtk_quality.proofs.RunLemmas.{run-more, run-same, run-ends, no-run-ends}
 use Rattle.rtk_quality.proofs.RowLemmas.{first_rows, IsRowAt, before-it, row-set}
+
+-- ---- before the first epoch
+
+-- no run came
+abbrev pub IsFresh : MissingRuns → Type 0
+IsFresh m = (m.newest ≡ None) × (m.ended.items ≡ [])
+
+pub fresh-codes : (codes : List MissingRuns) (count : ℕ) (interval : Option ℕ) → length codes ≡ count → All IsFresh codes → StandForCodes codes count interval []
+fresh-codes codes count interval size fresh = record {
+  size = size;
+  each = λ place d within.
+      let inside : place < length codes = omega (arith, size) in
+      record { newest = (fresh place d inside).0; ended = (fresh place d inside).1 };
+}
 
 -- ---- an epoch more
 
@@ -169,16 +183,17 @@ from-append interval before satellite at (x ∷ codes) c =
     ∙ ap (λ (k : ℕ). (own ++ rest) ++ missing_of interval before satellite k c) here
 
 -- a code more
-pub codes-more : (interval : Option ℕ) (before : List Sighting) (satellite i : ℕ) (codes : List Code) (c : Code) (size : MissingCode → ℕ) (old new : Largest MissingCode) (all : List MissingCode)
-    → i < length codes → c ≡ get_or codes i c → AreLargest size old (all ++ missing_from interval before satellite 0 (take i codes))
-    → ((ms : List MissingCode) → AreLargest size old ms → AreLargest size new (ms ++ missing_of interval before satellite i c))
+pub codes-more : (interval : Option ℕ) (before : List Sighting) (satellite i : ℕ) (codes : List Code) (d : Code) (size : MissingCode → ℕ) (old new : Largest MissingCode) (all : List MissingCode)
+    → i < length codes → AreLargest size old (all ++ missing_from interval before satellite 0 (take i codes))
+    → ((ms : List MissingCode) → AreLargest size old ms → AreLargest size new (ms ++ missing_of interval before satellite i (get_or codes i d)))
     → AreLargest size new (all ++ missing_from interval before satellite 0 (take (i + 1) codes))
-codes-more interval before satellite i codes c size old new all within is was took =
+codes-more interval before satellite i codes d size old new all within was took =
+    let c : Code = get_or codes i d in
     let had : List MissingCode = missing_from interval before satellite 0 (take i codes) in
     let few : i ≤ length codes = omega (arith, within) in
     let here : 0 + length (take i codes) ≡ i = let long = length-take-le i codes few in omega (arith, long) in
     let longer : missing_from interval before satellite 0 (take (i + 1) codes) ≡ had ++ missing_of interval before satellite i c =
-    ap (λ (cs : List Code). missing_from interval before satellite 0 cs) (take_more codes i c within ∙ ap (λ (x : Code). take i codes ++ x ∷ []) (sym is))
+    ap (λ (cs : List Code). missing_from interval before satellite 0 cs) (take_more codes i d within)
     ∙ from-append interval before satellite 0 (take i codes) c ∙ ap (λ (k : ℕ). had ++ missing_of interval before satellite k c) here in
     subst (λ (ms : List MissingCode). AreLargest size new ms)
     (append_assoc all had (missing_of interval before satellite i c) ∙ ap (λ (ms : List MissingCode). all ++ ms) (sym longer)) (took (all ++ had) was)

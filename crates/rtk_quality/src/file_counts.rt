@@ -230,7 +230,7 @@ fn missing_codes(alloc: Global, count: usize) -> Result<Vec<MissingCodes>, Alloc
     ensures { IfOk result (λ missing. (interval : Option ℕ) → StandForMissing missing.items count interval []) }
 {
     let mut missing = Vec::new(alloc);
-    for _ in 0..32 {
+    for _satellite in 0..32_usize {
         missing.push(MissingCodes::new(alloc, count)?)?;
     }
     Ok(missing)

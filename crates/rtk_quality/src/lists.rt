@@ -59,11 +59,11 @@ fn end_array(text: &mut Vec<u8>, start: ListStart) -> Result<(), AllocError>
     ensures { OnOk result ((before first entries : List ℕ) → length (before ++ first) ≡ start.entries
         → text.old.items ≡ (before ++ first) ++ entries → text.new.items ≡ before ++ closed Json first entries) }
 {
-    if text.len() == start.entries {
-        return text.extend_from_slice(b"]");
+    if start.entries < text.len() {
+        text.remove(start.entries);
+        return text.extend_from_slice(b"\n]");
     }
-    text.remove(start.entries);
-    text.extend_from_slice(b"\n]")
+    text.extend_from_slice(b"]")
 }
 
 /// Ends a list whose entries were appended.

@@ -123,7 +123,7 @@ impl MissingCodes {
         ensures { IfOk result (λ missing. (interval : Option ℕ) → StandForCodes missing.codes.items count interval []) }
     {
         let mut codes = Vec::new(alloc);
-        for _ in 0..count {
+        for _code in 0..count {
             codes.push(MissingRuns::new(alloc))?;
         }
         Ok(MissingCodes { codes })
@@ -165,11 +165,10 @@ fn note_ended(
         → AreLargest size_of_missing missing.new (all ++ map (missing_code satellite code) ended.now)) }
 {
     for run in ended {
-        let run = *run;
         missing.note(MissingCode {
             satellite,
             code,
-            run,
+            run: *run,
         })?;
     }
     Ok(())
@@ -188,11 +187,14 @@ fn note_runs(
 {
     note_ended(missing, satellite, code, runs.ended.as_slice())?;
     match if_listed(interval, runs.newest) {
-        Some(run) => missing.note(MissingCode {
-            satellite,
-            code,
-            run,
-        }),
+        Some(run) => {
+            missing.note(MissingCode {
+                satellite,
+                code,
+                run,
+            })?;
+            Ok(())
+        }
         None => Ok(()),
     }
 }

@@ -77,7 +77,7 @@ loop-row-preserved c =
           codes-noted e i place r c.loop-row.codes.items c.note_codes.new.self count interval es at number few so_far
           (c.in_ok-note_codes.ensures count (sightings_of r.satellite es) (record { time = e.time; observed = r.observed.items }) (sym c.as_slice-observed.ensures.value) reads
           (starts (sightings_of r.satellite es) (subst (λ (s : SatelliteCounts). StandsForSatellite s interval (absent_at e.time ∷ sightings_of r.satellite es)) (sym c.index_mut.ensures.value) (was es last stand)))
-          (subst (λ (m : MissingCodes). StandForCodes m.codes.items count interval (sightings_of r.satellite es)) (sym c.index_mut-2.ensures.value)
+          (subst (λ (m : MissingCodes). StandForCodes m.codes.items count interval (sightings_of r.satellite es)) (sym c.index_mut-in-loop-row.ensures.value)
           (codes-due e i place r c.loop-row.codes.items _ count interval es at number few so_far)));
       satellites = λ es last stand.
           row-noted e i place r items new interval es at number few (c.loop-row.invariant.satellites es last stand)
