@@ -153,15 +153,15 @@ codes-noted e i place r xs y count interval es at number few are stands = record
 -- ---- one after another
 
 -- a thing more
-pub thing-more : {X T : Type 0} (size : T → ℕ) (f : X → T) (xs : List X) (i : ℕ) (x : X) (old new : Largest T) (all : List T)
-    → i < length xs → x ≡ get_or xs i x → AreLargest size old (all ++ map f (take i xs))
-    → ((ys : List T) → AreLargest size old ys → AreLargest size new (ys ++ f x ∷ []))
+pub thing-more : {X T : Type 0} (size : T → ℕ) (f : X → T) (xs : List X) (i : ℕ) (d : X) (old new : Largest T) (all : List T)
+    → i < length xs → AreLargest size old (all ++ map f (take i xs))
+    → ((ys : List T) → AreLargest size old ys → AreLargest size new (ys ++ f (get_or xs i d) ∷ []))
     → AreLargest size new (all ++ map f (take (i + 1) xs))
-thing-more size f xs i x old new all within is was took =
+thing-more size f xs i d old new all within was took =
     let before : List _ = map f (take i xs) in
-    let longer : map f (take (i + 1) xs) ≡ before ++ f x ∷ [] =
-    ap (λ (ys : List _). map f ys) (take_more xs i x within) ∙ map_push f (take i xs) (get_or xs i x) ∙ ap (λ (y : _). before ++ f y ∷ []) (sym is) in
-    subst (λ (ys : List _). AreLargest size new ys) (append_assoc all before (f x ∷ []) ∙ ap (λ (ys : List _). all ++ ys) (sym longer)) (took (all ++ before) was)
+    let longer : map f (take (i + 1) xs) ≡ before ++ f (get_or xs i d) ∷ [] =
+    ap (λ (ys : List _). map f ys) (take_more xs i d within) ∙ map_push f (take i xs) (get_or xs i d) in
+    subst (λ (ys : List _). AreLargest size new ys) (append_assoc all before (f (get_or xs i d) ∷ []) ∙ ap (λ (ys : List _). all ++ ys) (sym longer)) (took (all ++ before) was)
 
 -- the run that goes on, after those that ended
 pub last-run : {X T : Type 0} (size : T → ℕ) (f : X → T) (xs : List X) (ys : List X) (new : Largest T) (all : List T)

@@ -12,8 +12,8 @@ loop-run-init c = λ all are. subst (λ (ms : List MissingCode). AreLargest size
 
 pub loop-run-preserved : goal.loop-run-preserved
 loop-run-preserved c = λ all are.
-    thing-more size_of_missing (missing_code c.args.satellite c.args.code) c.args.ended.now c.loop-run.run-index c.run-item.result c.loop-run.missing _ all
-    c.loop-run-test.true c.run-item.is (c.loop-run.invariant all are) c.in_ok-note.ensures
+    thing-more size_of_missing (missing_code c.args.satellite c.args.code) c.args.ended.now c.loop-run.run-index _ c.loop-run.missing _ all
+    c.loop-run-test.true (c.loop-run.invariant all are) c.in_ok-note.ensures
 
 pub returns : goal.returns
 returns c = λ all are.

@@ -12,7 +12,7 @@ pub returns-in_ok-note-in-Some : goal.returns-in_ok-note-in-Some
 returns-in_ok-note-in-Some c = λ place before all stands are.
     let one : Run → MissingCode = missing_code c.args.satellite c.args.code in
     let ended : List Run = ended_missings c.args.interval place before in
-    let listed : if_listed c.args.interval (open_missing c.args.interval place before) ≡ Some c.in-Some.run =
+    let listed : if_listed c.args.interval (open_missing c.args.interval place before) ≡ Some c.in-Some.run' =
     ap (λ (o : Option Run). if_listed c.args.interval o) (sym stands.newest) ∙ sym c.if_listed.ensures ∙ c.in-Some.is in
     let so_far = subst (λ (rs : List Run). AreLargest size_of_missing c.note_ended.new.missing (all ++ map one rs)) (c.as_slice.ensures.value ∙ stands.ended) (c.in_ok-note_ended.ensures all are) in
     last-run size_of_missing one ended (list_of (if_listed c.args.interval (open_missing c.args.interval place before))) _ all

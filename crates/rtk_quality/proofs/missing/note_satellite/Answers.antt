@@ -21,10 +21,10 @@ loop-place-preserved c = λ before all counts runs are.
     codes-more c.args.interval before c.args.satellite i c.args.codes.now _ size_of_missing c.loop-place.missing _ all within (c.loop-place.invariant before all counts runs are)
     (λ ms so_far. c.in_ok-note_code.ensures before ms counts stands so_far)
 
-pub returns-in-None : goal.returns-in-None
-returns-in-None c = λ before all counts runs are.
+pub returns-in_default : goal.returns-in_default
+returns-in_default c = λ before all counts runs are.
     let size = runs.size in
-    absurd (omega (arith, c.loop-place-test.true, size, c.in-None.ensures.lookup.3))
+    absurd (omega (arith, c.loop-place-test.true, size, c.in_default.ensures.lookup.3))
 
 pub returns : goal.returns
 returns c = λ before all counts runs are.

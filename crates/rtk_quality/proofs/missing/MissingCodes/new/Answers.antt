@@ -13,7 +13,7 @@ loop-code-preserved c =
     record {
       size = omega (arith, longer, size);
       fresh = subst (λ (xs : List MissingRuns). All IsFresh xs) (sym c.in_ok-push.ensures.items)
-          (All-push IsFresh had c.new-2.result c.loop-code.invariant.fresh (c.new-2.ensures.newest, c.new-2.ensures.ended));
+          (All-push IsFresh had c.new.result c.loop-code.invariant.fresh (c.new.ensures.newest, c.new.ensures.ended));
     }
 
 pub returns : goal.returns
