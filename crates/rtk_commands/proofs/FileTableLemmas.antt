@@ -1,5 +1,5 @@
 -- The first line of a file says whether it is one of GPS; what is said of a text by its files.
-use Rattle.std.proofs.Common.{◌≡◌, ◌≢◌, inl, inr, ℕ, List, [], ◌∷◌, ◌++◌, codes, ap, sym, refl, ◌∙◌, append_assoc, drop}
+use Rattle.std.proofs.Common.{◌≡◌, ◌≢◌, inl, inr, ℕ, List, [], ◌∷◌, ◌++◌, codes, ap, sym, refl, ◌∙◌, append_assoc, drop, subst}
 use Rattle.std.specs.Prelude.{flat_map}
 use Rattle.rtk_obs.specs.declared.time.Civil.{Civil}
 use Rattle.rtk_rinex.specs.Columns.{left}
@@ -10,7 +10,7 @@ use Rattle.rtk_rinex.specs.Record.{record_text}
 use Rattle.rtk_rinex.specs.MixedRecord.{mixed_record_text}
 use Rattle.rtk_rinex.specs.Table.{WellFormedTable, IsWellFormedTable, table_text}
 use Rattle.rtk_rinex.specs.MixedTable.{MixedTable, IsMixedTable, mixed_table_text}
-use Rattle.rtk_rinex.specs.CheckTable.{HoldsTable, IsWithoutTable}
+use Rattle.rtk_rinex.specs.CheckTable.{TableView, HoldsTable, IsWithoutTable}
 use Rattle.rtk_rinex.specs.MixedCheckTable.{HoldsMixedTable, IsWithoutMixedTable}
 use Rattle.rtk_cut.specs.declared.part.Part.{Part}
 use Rattle.rtk_cut.specs.Cut.{cut_of, mixed_cut_of}
@@ -18,7 +18,9 @@ use Rattle.rtk_label.specs.Labelled.{LabelView, IsLabel, IsFor}
 use Rattle.rtk_label.specs.LabelLaws.{FrontIsChanged, MixedFrontIsChanged}
 use Rattle.rtk_label.specs.LabelWriting.{IsParted}
 use Rattle.rtk_commands.specs.CutInput.{part_of_file}
-use Rattle.rtk_commands.specs.FileTable.{FileTable, OfGps, OfSystems, IsFileTable, file_text, file_site, file_front, labelled_file, letter_in, IsTextOfSomeFile, IsTextOfNoFile}
+use Rattle.rtk_commands.specs.FileTable.{FileTable, OfGps, OfSystems, IsFileTable, file_text, file_site, file_front, labelled_file, letter_in, IsTextOfSomeFile, IsTextOfNoFile, text_of, HasItsLetter}
+use Rattle.rtk_commands.specs.declared.any_table.AnyTable.{AnyTable}
+use Rattle.rtk_commands.specs.declared.any_table.AnyTable.TheVariants.{Gps, Mixed}
 
 -- ---- the letter in the first line
 
@@ -61,6 +63,28 @@ pub mixed-only : (P : FileTable → Type 0) (text : List ℕ) → letter_in text
     → (f : FileTable) → IsFileTable f → text ≡ file_text f → P f
 mixed-only P text other each (OfGps t) good e = absurd (other (ap letter_in e ∙ gps-letter t))
 mixed-only P text other each (OfSystems t) good e = each t good.0 e
+
+-- the same of a table in its text
+pub of-gps : (P : FileTable → Type 0) (table : AnyTable) (v : TableView) → table ≡ Gps v → HasItsLetter table → ((t : WellFormedTable) → IsWellFormedTable t → v.text ≡ table_text t → P (OfGps t))
+    → (f : FileTable) → IsFileTable f → text_of table ≡ file_text f → P f
+of-gps P table v is letter each f good e =
+    gps-only P v.text (subst (λ (x : AnyTable). HasItsLetter x) is letter) each f good (subst (λ (x : AnyTable). text_of x ≡ file_text f) is e)
+
+pub of-mixed : (P : FileTable → Type 0) (table : AnyTable) (v : TableView) → table ≡ Mixed v → HasItsLetter table → ((t : MixedTable) → IsMixedTable t → v.text ≡ mixed_table_text t → P (OfSystems t))
+    → (f : FileTable) → IsFileTable f → text_of table ≡ file_text f → P f
+of-mixed P table v is letter each f good e =
+    mixed-only P v.text (subst (λ (x : AnyTable). HasItsLetter x) is letter) each f good (subst (λ (x : AnyTable). text_of x ≡ file_text f) is e)
+
+-- what holds of each file of a text holds of its table
+pub each-gps : (P : FileTable → Type 0) (table : AnyTable) (v : TableView) → table ≡ Gps v → ((f : FileTable) → IsFileTable f → text_of table ≡ file_text f → P f)
+    → (t : WellFormedTable) → IsWellFormedTable t → v.text ≡ table_text t → P (OfGps t)
+each-gps P table v is each t good e = each (OfGps t) good (subst (λ (x : AnyTable). text_of x ≡ table_text t) (sym is) e)
+
+pub each-mixed : (P : FileTable → Type 0) (table : AnyTable) (v : TableView) → table ≡ Mixed v → HasItsLetter table → ((f : FileTable) → IsFileTable f → text_of table ≡ file_text f → P f)
+    → (t : MixedTable) → IsMixedTable t → v.text ≡ mixed_table_text t → P (OfSystems t)
+each-mixed P table v is letter each t good e =
+    let other : letter_in v.text ≢ 71 = subst (λ (x : AnyTable). HasItsLetter x) is letter in
+    each (OfSystems t) (good, λ gps. other (ap letter_in e ∙ mixed-letter t ∙ gps)) (subst (λ (x : AnyTable). text_of x ≡ mixed_table_text t) (sym is) e)
 
 pub gps-some : (text : List ℕ) (n s : ℕ) → HoldsTable text n s → IsTextOfSomeFile text
 gps-some text n s holds = (OfGps holds.table, holds.is_table, holds.text)
