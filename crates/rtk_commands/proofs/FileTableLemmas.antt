@@ -28,11 +28,11 @@ letter-of_line : (letter : ℕ) (rest : List ℕ) → letter_in (mixed_version_l
 unfolding header_line left
 letter-of_line letter rest = refl
 
-glue-gps : (v m k a b c d p t l r : List ℕ) → ((((((((((v ++ m) ++ k) ++ a) ++ b) ++ c) ++ d) ++ p) ++ t) ++ l) ++ r
+glue-gps : (v m k a b c d p t l r : List ℕ) → (((((((((v ++ m) ++ k) ++ a) ++ b) ++ c) ++ d) ++ p) ++ t) ++ l) ++ r
     ≡ v ++ (m ++ (k ++ (a ++ (b ++ (c ++ (d ++ (p ++ (t ++ (l ++ r)))))))))
 glue-gps v m k a b c d p t l r = simp append_assoc
 
-glue-mixed : (v m k u p t s f h g e r : List ℕ) → (((((((((((v ++ m) ++ k) ++ u) ++ p) ++ t) ++ s) ++ f) ++ h) ++ g) ++ e) ++ r)
+glue-mixed : (v m k u p t s f h g e r : List ℕ) → ((((((((((v ++ m) ++ k) ++ u) ++ p) ++ t) ++ s) ++ f) ++ h) ++ g) ++ e) ++ r
     ≡ v ++ (m ++ (k ++ (u ++ (p ++ (t ++ (s ++ (f ++ (h ++ (g ++ (e ++ r))))))))))
 glue-mixed v m k u p t s f h g e r = simp append_assoc
 
