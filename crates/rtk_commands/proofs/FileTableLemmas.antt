@@ -1,5 +1,5 @@
 -- The first line of a file says whether it is one of GPS; what is said of a text by its files.
-use Rattle.std.proofs.Common.{◌≡◌, ◌≢◌, inl, inr, ℕ, List, [], ◌∷◌, ◌++◌, codes, ap, sym, refl, ◌∙◌, append_assoc, drop, subst}
+use Rattle.std.proofs.Common.{◌≡◌, ◌≢◌, inl, inr, ℕ, List, [], ◌∷◌, ◌++◌, length, codes, ap, sym, refl, ◌∙◌, append_assoc, drop, subst}
 use Rattle.std.specs.Prelude.{flat_map}
 use Rattle.rtk_obs.specs.declared.time.Civil.{Civil}
 use Rattle.rtk_rinex.specs.Columns.{left}
@@ -10,15 +10,17 @@ use Rattle.rtk_rinex.specs.Record.{record_text}
 use Rattle.rtk_rinex.specs.MixedRecord.{mixed_record_text}
 use Rattle.rtk_rinex.specs.Table.{WellFormedTable, IsWellFormedTable, table_text}
 use Rattle.rtk_rinex.specs.MixedTable.{MixedTable, IsMixedTable, mixed_table_text}
-use Rattle.rtk_rinex.specs.CheckTable.{TableView, HoldsTable, IsWithoutTable}
-use Rattle.rtk_rinex.specs.MixedCheckTable.{HoldsMixedTable, IsWithoutMixedTable}
+use Rattle.rtk_rinex.specs.CheckText.{satellite_lines}
+use Rattle.rtk_rinex.specs.CheckTable.{TableView, HoldsTable, IsWithoutTable, OneTable, OneFault}
+use Rattle.rtk_rinex.specs.MixedCheckTable.{HoldsMixedTable, IsWithoutMixedTable, MixedOneTable, MixedOneFault}
+use Rattle.rtk_rinex.specs.declared.check_fault.CheckFault.{CheckFault}
 use Rattle.rtk_cut.specs.declared.part.Part.{Part}
 use Rattle.rtk_cut.specs.Cut.{cut_of, mixed_cut_of}
 use Rattle.rtk_label.specs.Labelled.{LabelView, IsLabel, IsFor}
 use Rattle.rtk_label.specs.LabelLaws.{FrontIsChanged, MixedFrontIsChanged}
 use Rattle.rtk_label.specs.LabelWriting.{IsParted}
 use Rattle.rtk_commands.specs.CutInput.{part_of_file}
-use Rattle.rtk_commands.specs.FileTable.{FileTable, OfGps, OfSystems, IsFileTable, file_text, file_site, file_front, labelled_file, letter_in, IsTextOfSomeFile, IsTextOfNoFile, text_of, HasItsLetter}
+use Rattle.rtk_commands.specs.FileTable.{FileTable, OfGps, OfSystems, IsFileTable, file_text, file_site, file_front, file_epochs, labelled_file, letter_in, IsTextOfSomeFile, HoldsFile, IsTextOfNoFile, IsFaultOfFile, text_of, HasItsLetter}
 use Rattle.rtk_commands.specs.declared.any_table.AnyTable.{AnyTable}
 use Rattle.rtk_commands.specs.declared.any_table.AnyTable.TheVariants.{Gps, Mixed}
 
@@ -92,6 +94,42 @@ gps-some text n s holds = (OfGps holds.table, holds.is_table, holds.text)
 pub mixed-some : (text : List ℕ) (n s : ℕ) → letter_in text ≢ 71 → HoldsMixedTable text n s → IsTextOfSomeFile text
 mixed-some text n s other holds =
     (OfSystems holds.table, (holds.is_table, λ gps. other (ap letter_in holds.text ∙ mixed-letter holds.table ∙ gps)), holds.text)
+
+pub gps-holds : (text : List ℕ) (n s : ℕ) → HoldsTable text n s → HoldsFile text n s
+gps-holds text n s holds = (OfGps holds.table, holds.is_table, holds.text, holds.epochs, holds.satellites)
+
+pub mixed-holds : (text : List ℕ) (n s : ℕ) → letter_in text ≢ 71 → HoldsMixedTable text n s → HoldsFile text n s
+mixed-holds text n s other holds =
+    (OfSystems holds.table, (holds.is_table, λ gps. other (ap letter_in holds.text ∙ mixed-letter holds.table ∙ gps)), holds.text, holds.epochs, holds.satellites)
+
+-- a text is that of one file at most
+pub one-file : OneTable → MixedOneTable → (f g : FileTable) → IsFileTable f → IsFileTable g → file_text f ≡ file_text g → f ≡ g
+one-file one mixed (OfGps t) (OfGps u) good also e = ap OfGps (one t u good also e)
+one-file one mixed (OfGps t) (OfSystems u) good also e = absurd (also.1 (sym (mixed-letter u) ∙ sym (ap letter_in e) ∙ gps-letter t))
+one-file one mixed (OfSystems t) (OfGps u) good also e = absurd (good.1 (sym (mixed-letter t) ∙ ap letter_in e ∙ gps-letter u))
+one-file one mixed (OfSystems t) (OfSystems u) good also e = ap OfSystems (mixed t u good.0 also.0 e)
+
+-- and has one number of records and of satellite lines
+pub one-count : OneTable → MixedOneTable → (text : List ℕ) (records lines other_records other_lines : ℕ) → HoldsFile text records lines → HoldsFile text other_records other_lines
+    → (records ≡ other_records) × (lines ≡ other_lines)
+one-count one mixed text records lines other_records other_lines (f, good, is, rs, ls) (g, also, was, qs, ks) =
+    let same : f ≡ g = one-file one mixed f g good also (sym is ∙ was) in (
+      sym rs ∙ ap (λ h. length (file_epochs h)) same ∙ qs,
+      sym ls ∙ ap (λ h. satellite_lines (file_epochs h)) same ∙ ks,
+    )
+
+-- and has one first fault
+pub one-fault-of-file : OneFault → MixedOneFault → (text : List ℕ) (f g : CheckFault) → IsFaultOfFile text f → IsFaultOfFile text g → f ≡ g
+one-fault-of-file one mixed text f g is was = elim is [
+  | inl gps ↦ elim was [
+    | inl also ↦ one text f g gps.1 also.1
+    | inr other ↦ absurd (other.0 gps.0)
+  ]
+  | inr systems ↦ elim was [
+    | inl gps ↦ absurd (systems.0 gps.0)
+    | inr also ↦ mixed text f g systems.1 also.1
+  ]
+]
 
 pub gps-none : (text : List ℕ) → letter_in text ≡ 71 → IsWithoutTable text → IsTextOfNoFile text
 gps-none text gps none f good e = gps-only (λ _. ⊥) text gps none f good e

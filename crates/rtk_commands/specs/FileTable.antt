@@ -1,10 +1,11 @@
 -- A file that the commands of a file take: of GPS alone, or with other systems.
-use Rattle.std.specs.Prelude.{◌≡◌, ◌≢◌, ◌⊎◌, ℕ, List, get_or}
+use Rattle.std.specs.Prelude.{◌≡◌, ◌≢◌, ◌⊎◌, ℕ, List, length, get_or}
 use Rattle.rtk_rinex.specs.Header.{PositionView}
 use Rattle.rtk_rinex.specs.MixedHeader.{version_letter}
 use Rattle.rtk_rinex.specs.Record.{EpochTableView}
 use Rattle.rtk_rinex.specs.Table.{WellFormedTable, IsWellFormedTable, table_text}
 use Rattle.rtk_rinex.specs.MixedTable.{MixedTable, IsMixedTable, mixed_table_text}
+use Rattle.rtk_rinex.specs.CheckText.{satellite_lines}
 use Rattle.rtk_rinex.specs.CheckTable.{IsFault}
 use Rattle.rtk_rinex.specs.MixedCheckTable.{IsMixedFault}
 use Rattle.rtk_rinex.specs.declared.check_fault.CheckFault.{CheckFault}
@@ -51,6 +52,11 @@ file_front l (OfSystems t) = mixed_front_lines l t.head t.site
 abbrev pub IsTextOfSomeFile : List ℕ → Type 0
 IsTextOfSomeFile text = (f : FileTable) × IsFileTable f × (text ≡ file_text f)
 
+-- the text is that of a file with so many records and satellite lines
+abbrev pub HoldsFile : List ℕ → ℕ → ℕ → Type 0
+HoldsFile text records lines =
+    (f : FileTable) × IsFileTable f × (text ≡ file_text f) × (length (file_epochs f) ≡ records) × (satellite_lines (file_epochs f) ≡ lines)
+
 -- the text is that of no file
 abbrev pub IsTextOfNoFile : List ℕ → Type 0
 IsTextOfNoFile text = (f : FileTable) → IsFileTable f → text ≢ file_text f
@@ -76,3 +82,11 @@ text_of (Mixed table) = table.text
 abbrev pub HasItsLetter : AnyTable → Type 0
 HasItsLetter (Gps table) = letter_in table.text ≡ 71
 HasItsLetter (Mixed table) = letter_in table.text ≢ 71
+
+abbrev pub records_of : AnyTable → ℕ
+records_of (Gps table) = table.epochs
+records_of (Mixed table) = table.epochs
+
+abbrev pub lines_of : AnyTable → ℕ
+lines_of (Gps table) = table.satellites
+lines_of (Mixed table) = table.satellites

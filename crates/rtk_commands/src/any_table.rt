@@ -4,7 +4,7 @@ ghost use Rattle.std.specs.Prelude.{◌≡◌, ◌≢◌, Err, IfOk, OnOk, OnErr
 ghost use Rattle.rtk_frame.specs.Stream.{CountRises};
 ghost use Rattle.rtk_cut.specs.Cut.{IsStepOrNone};
 ghost use Rattle.rtk_cut.specs.declared.fault.CutFault.TheVariants.{Write};
-ghost use Rattle.rtk_commands.specs.FileTable.{IsTextOfSomeFile, IsTextOfNoFile, IsFaultOfFile, letter_in, text_of, HasItsLetter};
+ghost use Rattle.rtk_commands.specs.FileTable.{IsTextOfSomeFile, HoldsFile, IsTextOfNoFile, IsFaultOfFile, letter_in, text_of, records_of, lines_of, HasItsLetter};
 ghost use Rattle.rtk_commands.specs.CutInput.{WritesPartOfFile, WritesFirstOfPartOfFile, CountsPartOfFile};
 ghost use Rattle.rtk_commands.specs.LabelInput.{TellsIsFor, IsForFile, WritesLabelledFile, WritesFirstLabelledFile, WritesFrontOfFile, WritesFirstOfFrontOfFile};
 
@@ -38,6 +38,7 @@ fn check_gps(text: &[u8]) -> Result<AnyTable<'_>, CheckFault>
     ensures text { IfOk result (λ table. text_of table ≡ text.now) }
     ensures letter { IfOk result HasItsLetter }
     ensures table { OnOk result (IsTextOfSomeFile text.now) }
+    ensures counts { IfOk result (λ table. HoldsFile text.now (records_of table) (lines_of table)) }
     ensures fault { IfErr result (IsFaultOfFile text.now) }
     ensures none { OnErr result (IsTextOfNoFile text.now) }
 {
@@ -52,6 +53,7 @@ fn check_mixed(text: &[u8]) -> Result<AnyTable<'_>, CheckFault>
     ensures text { IfOk result (λ table. text_of table ≡ text.now) }
     ensures letter { IfOk result HasItsLetter }
     ensures table { OnOk result (IsTextOfSomeFile text.now) }
+    ensures counts { IfOk result (λ table. HoldsFile text.now (records_of table) (lines_of table)) }
     ensures fault { IfErr result (IsFaultOfFile text.now) }
     ensures none { OnErr result (IsTextOfNoFile text.now) }
 {
@@ -66,6 +68,7 @@ pub(crate) fn check_any(text: &[u8]) -> Result<AnyTable<'_>, CheckFault>
     ensures text { IfOk result (λ table. text_of table ≡ text.now) }
     ensures letter { IfOk result HasItsLetter }
     ensures table { OnOk result (IsTextOfSomeFile text.now) }
+    ensures counts { IfOk result (λ table. HoldsFile text.now (records_of table) (lines_of table)) }
     ensures fault { IfErr result (IsFaultOfFile text.now) }
     ensures none { OnErr result (IsTextOfNoFile text.now) }
 {
@@ -76,6 +79,26 @@ pub(crate) fn check_any(text: &[u8]) -> Result<AnyTable<'_>, CheckFault>
 }
 
 impl AnyTable<'_> {
+    /// How many records the table has.
+    pub(crate) fn epochs(&self) -> usize
+        ensures { result ≡ records_of self.now }
+    {
+        match self {
+            AnyTable::Gps(table) => table.epochs(),
+            AnyTable::Mixed(table) => table.epochs(),
+        }
+    }
+
+    /// How many satellite lines the records of the table have.
+    pub(crate) fn satellites(&self) -> usize
+        ensures { result ≡ lines_of self.now }
+    {
+        match self {
+            AnyTable::Gps(table) => table.satellites(),
+            AnyTable::Mixed(table) => table.satellites(),
+        }
+    }
+
     /// Is a label for this file?
     pub(crate) fn is_for(&self, label: &Label) -> bool
         requires { HasItsLetter self.now }
