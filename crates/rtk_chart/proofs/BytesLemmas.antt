@@ -322,14 +322,14 @@ once : (x from n : ℕ) → sum_by (λ level. cond (x == level) 1 0) (range_with
 once x from zero = omega arith
 once x from (suc n) =
     rw (sum_by-cons (λ (level : ℕ). cond (x == level) 1 0) from (range_with_len (from + 1) n)) (
-      elim (cases_eq x from) [
-        | inl same ↦
-            let rest = none-after x (from + 1) n (omega (arith, same)) in
-            rw (eq-eqb x from same) (omega (arith, rest))
-        | inr other ↦
-            let rest = once x (from + 1) n in
-            rw (ne_eqb x from other) (omega (arith, rest))
-      ]
+    elim (cases_eq x from) [
+      | inl same ↦
+          let rest = none-after x (from + 1) n (omega (arith, same)) in
+          rw (eq-eqb x from same) (omega (arith, rest))
+      | inr other ↦
+          let rest = once x (from + 1) n in
+          rw (ne_eqb x from other) (omega (arith, rest))
+    ]
     )
 
 no-level : (n from : ℕ) → sum_by (λ level. 0) (range_with_len from n) ≡ 0
@@ -358,7 +358,7 @@ levels-within (bin ∷ bins) place code =
     let here = one-level marks.phase (unwrap_or marks.least 0) in
     let one : ℕ → ℕ = λ level. cond (shows (Level level) marks) 1 0 in
     let sums = sum_by-le-sum_by (level_columns (bin ∷ bins) place code) (λ level. one level + level_columns bins place code level) (range_with_len 0 10)
-        (λ level. rw (sum_by-cons (λ (b : Bool). cond b 1 0) (shows (Level level) marks) (layer_flags bins place code (Level level))) (omega arith)) in
+    (λ level. rw (sum_by-cons (λ (b : Bool). cond b 1 0) (shows (Level level) marks) (layer_flags bins place code (Level level))) (omega arith)) in
     let both = sum-two one (level_columns bins place code) (range_with_len 0 10) in
     omega (arith, rest, here, sums, both)
 
@@ -367,7 +367,7 @@ unfolding forms_in_bar
 forms-few bins place code few =
     let levels = levels-within bins place code in
     let boxes = sum_by-le-sum_by (level_boxes bins place code) (level_columns bins place code) (range_with_len 0 10)
-        (λ level. over-within (layer_flags bins place code (Level level))) in
+    (λ level. over-within (layer_flags bins place code (Level level))) in
     let part = over-within (layer_flags bins place code Part) in
     let absent = over-within (layer_flags bins place code Absent) in
     let within = columns-few bins place code in
