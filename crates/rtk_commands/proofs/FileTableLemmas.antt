@@ -1,7 +1,6 @@
 -- The first line of a file says whether it is one of GPS; what is said of a text by its files.
 use Rattle.std.proofs.Common.{◌≡◌, ◌≢◌, inl, inr, ℕ, List, [], ◌∷◌, ◌++◌, length, codes, ap, sym, refl, ◌∙◌, append_assoc, drop, subst}
 use Rattle.std.specs.Prelude.{flat_map}
-use Rattle.rtk_obs.specs.declared.time.Civil.{Civil}
 use Rattle.rtk_rinex.specs.Columns.{left}
 use Rattle.rtk_rinex.specs.Header.{header_line, version_line, made_line, marker_line, position_lines, types_lines, last_lines, unit_line, first_line, header_text}
 use Rattle.rtk_rinex.specs.MixedHeader.{version_letter, mixed_version_line, unknown_lines, by_system, system_types_lines, phase_shift_line, glonass_lines, mixed_header_text}
@@ -41,7 +40,7 @@ glue-mixed v m k u p t s f h g e r = simp append_assoc
 gps-letter : (t : WellFormedTable) → letter_in (table_text t) ≡ 71
 unfolding header_text
 gps-letter t =
-    let made : Civil = reading_of t.head.made in
+    let made = reading_of t.head.made in
     ap letter_in (glue-gps version_line (made_line made) (marker_line t.head.marker) (header_line (codes "GEODETIC") (codes "MARKER TYPE")) (header_line [] (codes "OBSERVER / AGENCY"))
     (header_line [] (codes "REC # / TYPE / VERS")) (header_line [] (codes "ANT # / TYPE")) (position_lines t.site) (types_lines t.head.listed) (last_lines (reading_of t.first)) (flat_map record_text t.epochs))
     ∙ letter-of_line 71 _
@@ -49,7 +48,7 @@ gps-letter t =
 pub mixed-letter : (t : MixedTable) → letter_in (mixed_table_text t) ≡ version_letter t.head.listed
 unfolding mixed_header_text
 mixed-letter t =
-    let made : Civil = reading_of t.head.made in
+    let made = reading_of t.head.made in
     ap letter_in (glue-mixed (mixed_version_line (version_letter t.head.listed)) (made_line made) (marker_line t.head.marker) unknown_lines (position_lines t.site) (by_system system_types_lines t.head.listed)
     unit_line (first_line (reading_of t.first)) (by_system phase_shift_line t.head.listed) (glonass_lines t.head.glonass) (header_line [] (codes "END OF HEADER")) (flat_map mixed_record_text t.epochs))
     ∙ letter-of_line (version_letter t.head.listed) _
