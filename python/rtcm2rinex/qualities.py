@@ -133,6 +133,18 @@ class HalfRun:
 
 
 @dataclass(frozen=True)
+class MissingCode:
+    """A time in which a satellite has phases but none of a code: the GPS times of the first and the last of these epochs, and how many
+    (`epochs`)."""
+
+    satellite: str
+    code: str
+    first: datetime
+    last: datetime
+    epochs: int
+
+
+@dataclass(frozen=True)
 class Fall:
     """The largest fall of the mean strength of a band, in dB-Hz, and the beginnings of the hours before and after it."""
 
@@ -150,15 +162,15 @@ class Quality:
     `records`, `missing` and `gaps` count the records, the missing epochs, and the gaps in which they are. `satellites` counts the satellites of the file, and the next
     three numbers say how many satellites a record has. `slips`, `moments`, `outages` and `outage_time` add up all satellites, and
     `slips_together` counts the records in which at least two satellites slip, `bursts` the hours in which a satellite slips at two
-    moments at least, and `half_runs` the runs of half cycles. A file
+    moments at least, `half_runs` the runs of half cycles, and `missing_codes` the times for which a code is missing. A file
     without records has only `marker` and `records`, and all else is None or empty.
 
     `codes` has the numbers of each code over all satellites, and `satellite_codes` the numbers of each code of each satellite.
     `tracked` has the numbers of each satellite. `never` has the satellites and codes without any phase. `passes` has the passes of all
     satellites. `hours` has the hours with a record, `longest_gaps` up to ten gaps, the longest first, and `falls` the largest fall of
     strength of each band. `longest_outages` has up to ten outages, the longest first, and `most_slips_together` up to ten of the
-    records in which several satellites slip, the one with most of them first. `largest_bursts` and `longest_half_runs` have up to ten
-    bursts and runs, the largest first.
+    records in which several satellites slip, the one with most of them first. `largest_bursts`, `longest_half_runs` and `longest_missing_codes`
+    have up to ten bursts, runs and times for which a code is missing, the largest first.
     """
 
     marker: str
@@ -179,6 +191,7 @@ class Quality:
     slips_together: Optional[int]
     bursts: Optional[int]
     half_runs: Optional[int]
+    missing_codes: Optional[int]
     codes: Tuple[CodeQuality, ...]
     satellite_codes: Tuple[CodeQuality, ...]
     tracked: Tuple[Tracked, ...]
@@ -191,6 +204,7 @@ class Quality:
     most_slips_together: Tuple[SlipsTogether, ...]
     largest_bursts: Tuple[Burst, ...]
     longest_half_runs: Tuple[HalfRun, ...]
+    longest_missing_codes: Tuple[MissingCode, ...]
 
 
 def quality(file: Input, *, program: Optional[Location] = None) -> Quality:
@@ -212,7 +226,8 @@ def read_quality(text: str) -> Quality:
             hours=tuple(map(hour_of, rows["hours"])), longest_gaps=tuple(map(gap_of, rows["gaps"])),
             falls=tuple(map(fall_of, rows["falls"])), longest_outages=tuple(map(outage_of, rows["outages"])),
             most_slips_together=tuple(map(slips_together_of, rows["slips_together"])),
-            largest_bursts=tuple(map(burst_of, rows["bursts"])), longest_half_runs=tuple(map(half_run_of, rows["half_runs"])))
+            largest_bursts=tuple(map(burst_of, rows["bursts"])), longest_half_runs=tuple(map(half_run_of, rows["half_runs"])),
+            longest_missing_codes=tuple(map(missing_code_of, rows["missing_codes"])))
     except (ValueError, KeyError, TypeError) as fault:
         raise FormError(1, f"the JSON of quality has another form: {fault!r}") from fault
 
@@ -226,10 +241,10 @@ def file_of(row: Dict[str, Any]) -> Dict[str, Any]:
     """The numbers of the whole file. Without records there are only two."""
     if row["records"] == 0:
         absent = ("first", "last", "interval", "missing", "gaps", "satellites", "least_satellites", "mean_satellites", "greatest_satellites",
-            "slips", "moments", "outages", "outage_time", "slips_together", "bursts", "half_runs")
+            "slips", "moments", "outages", "outage_time", "slips_together", "bursts", "half_runs", "missing_codes")
         return {"marker": row["marker"], "records": 0, **dict.fromkeys(absent)}
     same = ("marker", "records", "missing", "gaps", "satellites", "least_satellites", "greatest_satellites", "slips", "moments", "outages",
-        "slips_together", "bursts", "half_runs")
+        "slips_together", "bursts", "half_runs", "missing_codes")
     return {**{name: row[name] for name in same}, "first": moment_of(row["from"]), "last": moment_of(row["until"]),
         "interval": part_of(row["interval_ms"], 1000), "mean_satellites": part_of(row["mean_satellites_tenths"], 10),
         "outage_time": row["outage_time_ms"] / 1000}
@@ -313,3 +328,8 @@ def burst_of(row: Dict[str, Any]) -> Burst:
 def half_run_of(row: Dict[str, Any]) -> HalfRun:
     """A run of half cycles of a satellite."""
     return HalfRun(row["satellite"], *span_of(row), row["epochs"])
+
+
+def missing_code_of(row: Dict[str, Any]) -> MissingCode:
+    """A time in which a code of a satellite is missing."""
+    return MissingCode(row["satellite"], row["code"], *span_of(row), row["epochs"])

@@ -1,7 +1,7 @@
 """Mixed files that are changed in one to three places, as one may write them wrong, or anywhere.
 
-    mixed_damages.py FOLDER COUNT    writes FOLDER/stdin with so many headers as hex text, a line each, and FOLDER/stdout with what
-                                     tests/values/headers.rt.in is due to print of them
+    mixed_damages.py FOLDER COUNT    writes FOLDER/stdin with so many texts as hex text, a line each, and FOLDER/stdout with what
+                                     tests/values/headers.rt.in is due to print of them; two of three texts are headers alone
 """
 
 from __future__ import annotations
@@ -12,7 +12,7 @@ from random import Random
 from typing import Callable
 
 from damages import any_byte, changed, cut_short, deleted, ended, inserted, revalued, timed
-from mixed_checker import Heading, header_fault
+from mixed_checker import Heading, header_fault, mixed_fault
 from mixed_tables import some_table
 from systems import BY_LETTER, LETTERS, SATELLITES
 
@@ -136,21 +136,33 @@ def damaged_mixed(rng: Random, text: bytes) -> bytes:
 
 
 def due_line(text: bytes) -> str:
-    """What the test program prints of a text: the fault of its header, or what the header says."""
+    """What the test program prints of a text: the fault of its header, or what the header says and then the fault of the records
+    or their numbers."""
     found = header_fault(text)
     if not isinstance(found, Heading):
         return f"line {found[0]}: {found[1]}"
     codes = [letter + code for letter, its in found.codes.items() for code in its]
     slots = [f"{slot}:{channel}" for slot, channel in sorted(found.channels.items())]
     leap = "-" if found.leap is None else found.leap
-    return " ".join(["header", str(found.first), ",".join(codes), str(leap), *slots])
+    return " ".join(["header", str(found.first), ",".join(codes), str(leap), *slots, due_records(text)])
+
+
+def due_records(text: bytes) -> str:
+    """The fault of the records after a good header, or how many records and rows they are."""
+    fault = mixed_fault(text)
+    if fault is not None:
+        return f"line {fault[0]}: {fault[1]}"
+    records = text[text.index(b"END OF HEADER       \n") :].splitlines()[1:]
+    epochs = sum(line.startswith(b">") for line in records)
+    return f"{epochs} {len(records) - epochs}"
 
 
 def main() -> None:
     folder, count = Path(sys.argv[1]), int(sys.argv[2])
     rng = Random(SEED)
-    headers = ["".join(f"{line}\n" for line in some_table(rng).header).encode() for _ in range(count)]
-    texts = [damaged_mixed(rng, it) for it in headers]
+    tables = [some_table(rng) for _ in range(count)]
+    wholes = [table.text if turn % 3 == 2 else table._replace(records=[]).text for turn, table in enumerate(tables)]
+    texts = [damaged_mixed(rng, it) for it in wholes]
     (folder / "stdin").write_text("".join(f"{text.hex()}\n" for text in texts))
     (folder / "stdout").write_text("".join(f"{due_line(text)}\n" for text in texts))
 

@@ -1,4 +1,4 @@
-"""The slow model, fourth part: a part of a file. Each digit is looked for backwards, record by record."""
+"""The slow model, fourth part: a part of a file, of GPS or of any systems. Each digit is looked for backwards, record by record."""
 # pins: is_near_step, nearness_of, is_in_span, has_slipped_since, first_of_part
 
 from __future__ import annotations
@@ -11,6 +11,7 @@ START = datetime(1980, 1, 6)
 MS = timedelta(milliseconds=1)
 END = "END OF HEADER       \n"
 FIRST = "TIME OF FIRST OBS"
+TYPES = "SYS / # / OBS TYPES"
 
 
 class Part(NamedTuple):
@@ -89,10 +90,16 @@ def line_of(records: list[Record], at: int, satellite: str, codes: int, part: Pa
     return line.rstrip(" ") + "\n"
 
 
+def widths_of(header: str) -> dict[str, int]:
+    """How many codes the header lists of each system, by its letter."""
+    lines = [line for line in header.splitlines() if line[60:].startswith(TYPES) and line[0] != " "]
+    return {line[0]: int(line[3:6]) // 3 for line in lines}
+
+
 def part_of(text: str, part: Part) -> str:
     """The file of a part of a file."""
     header, end, body = text.partition(END)
-    codes = int(header.partition("\nG  ")[2][:3]) // 3
+    widths = widths_of(header)
     records = records_of(body)
     near = nearness(records)
     kept = [at for at, it in enumerate(records) if part.has_step(it.time, near) and part.spans(it.time, near)]
@@ -104,5 +111,5 @@ def part_of(text: str, part: Part) -> str:
         lines = [f"{time:60}{FIRST:20}\n" if FIRST in line else line for line in lines]
     for at in kept:
         end += records[at].first
-        end += "".join(line_of(records, at, it, codes, part, near) for it in records[at].lines)
+        end += "".join(line_of(records, at, it, widths[it[0]], part, near) for it in records[at].lines)
     return "".join(lines) + end

@@ -37,7 +37,8 @@ def columns(rng: Random, code: Code, time: int) -> str:
 
 
 def absences(rng: Random, times: list[int], interval: int) -> set[int]:
-    """The places of the records without a satellite: up to three spans, often about as long as an outage or as ends a pass."""
+    """The places of the records without a satellite, or without a phase of a code: up to three spans, often about as long as an outage or as
+    ends a pass."""
     longest = rng.choice((120_000, 120_000, 1_800_000)) // interval
     gone: set[int] = set()
     for _ in range(rng.choice((0, 1, 2, 3))):
@@ -58,10 +59,12 @@ def file_of_passes(rng: Random, setup: Setup) -> str:
     times = [start + at * interval + clock[at] for at in range(count) if rng.random() < 0.95] or [start]
     codes_of = {name: [code_of(rng) for _ in setup.codes] for name in sorted(rng.sample(range(1, 33), rng.randint(1, 4)))}
     gone = {name: absences(rng, times, interval) for name in codes_of}
+    lost = {name: [absences(rng, times, interval) if rng.random() < 0.4 else set() for _ in codes] for name, codes in codes_of.items()}
     lines: list[str] = []
     first = None
     for at, time in enumerate(times):
-        shown = {name: "".join(columns(rng, it, time) for it in codes) for name, codes in codes_of.items() if at not in gone[name]}
+        shown = {name: "".join(columns(rng, it._replace(phase=0) if at in out else it, time) for it, out in zip(codes, lost[name]))
+            for name, codes in codes_of.items() if at not in gone[name]}
         rows = [f"G{name:02}{row}".rstrip() for name, row in shown.items() if row.strip()]
         if rows:
             first = time if first is None else first

@@ -1,5 +1,5 @@
 """The slow model of the numbers of a file: each number is counted on its own, over the text."""
-# pins: absence_of, is_longer, begins_pass, ends_outage, is_rise, is_return, is_slip, counts_of, passes_of, epochs_in_passes, percent_tenths, mean_hundredths
+# pins: Missing.is_listed, all_missing, absence_of, is_longer, begins_pass, ends_outage, is_rise, is_return, is_slip, counts_of, passes_of, epochs_in_passes, percent_tenths, mean_hundredths
 
 from __future__ import annotations
 
@@ -295,6 +295,32 @@ class Station:
             counted("epochs", -n),
         ]) for n, _, name, since, until in self.half_runs()[:10]]
 
+    def missing_codes(self, interval: int | None) -> list[tuple[int, str, int, int, int]]:
+        """The times for which a satellite has phases but none of a code, of which it has one elsewhere: how many records with a phase of the
+        satellite follow one another in a pass without one of the code, if they are longer than 120 s, and the first and the last one."""
+        found = []
+        for it in self.satellites:
+            for c in range(len(self.codes)):
+                if not any(rows[c].phase for rows in it.shown.values()):
+                    continue
+                for row in it.spans:
+                    tracked = [at for span in row for at, _ in span]
+                    there = [n for n, at in enumerate(tracked) if it.shown[at][c].phase]
+                    for a, b in zip([-1, *there], [*there, len(tracked)]):
+                        without = tracked[a + 1 : b]
+                        if len(without) * (interval or 0) > 120_000 + 2 * self.near:
+                            found.append((-len(without), it.name, c, self.times[without[0]], self.times[without[-1]]))
+        return sorted(found)
+
+    def longest_missing_codes(self, interval: int | None) -> list[tuple[str, list[Field]]]:
+        return [("missing-code", [
+            text("", "satellite", name),
+            text("", "code", self.codes[c]),
+            text("from", "from", moment(since)),
+            text("until", "until", moment(until)),
+            counted("epochs", -n),
+        ]) for n, name, c, since, until in self.missing_codes(interval)[:10]]
+
     def falls(self) -> list[tuple[str, list[Field]]]:
         lines: list[tuple[str, list[Field]]] = []
         for band in self.bands:
@@ -343,6 +369,7 @@ def entries_of(file: str) -> tuple[list[Field], list[tuple[str, list[Field]]]]:
         counted("slips-together", len(station.slips_together())),
         counted("bursts", len(station.bursts())),
         counted("half-runs", len(station.half_runs())),
+        counted("missing-codes", len(station.missing_codes(interval))),
     ]
     out: list[tuple[str, list[Field]]] = []
     for c, code in enumerate(codes):
@@ -362,7 +389,7 @@ def entries_of(file: str) -> tuple[list[Field], list[tuple[str, list[Field]]]]:
             span = [text("from", "from", moment(row[0][0][1])), text("until", "until", moment(row[-1][-1][1]))]
             out.append(("pass", [text("", "satellite", it.name), *span, *it.sums([row], interval)]))
     times = station.hours() + station.longest_gaps() + station.falls() + station.longest_outages(interval) + station.largest_slips_together()
-    return heading, out + times + station.events()
+    return heading, out + times + station.events() + station.longest_missing_codes(interval)
 
 
 def lines(file: str) -> str:
@@ -374,11 +401,12 @@ def lines(file: str) -> str:
 
 LISTS = {"code": "codes", "satellite": "satellites", "tracked": "tracked", "never": "never", "pass": "passes", "hour": "hours", "gap": "gaps",
     "fall": "falls", "outage": "outages", "slip-together": "slips_together",
-    "burst": "bursts", "half-run": "half_runs"}
+    "burst": "bursts", "half-run": "half_runs", "missing-code": "missing_codes"}
 
 # The lists of times, which stand first in the table. Those with a count in the head have ten entries at most.
-TIMES = ("hour", "gap", "fall", "outage", "slip-together", "burst", "half-run")
-MOST = {"gap": "gaps", "outage": "outages", "slip-together": "slips-together", "burst": "bursts", "half-run": "half-runs"}
+TIMES = ("hour", "gap", "fall", "outage", "slip-together", "burst", "half-run", "missing-code")
+MOST = {"gap": "gaps", "outage": "outages", "slip-together": "slips-together", "burst": "bursts", "half-run": "half-runs",
+    "missing-code": "missing-codes"}
 
 
 def in_json(file: str) -> str:
@@ -387,8 +415,7 @@ def in_json(file: str) -> str:
     lists: dict[str, list[str]] = {it: [] for it in LISTS.values()}
     for keyword, fields in entries:
         lists[LISTS[keyword]].append(compact(fields))
-    empty = "" if entries else "[]"
-    arrays = [f'"{name}":' + (empty or "[" + ",".join("\n" + it for it in rows) + "\n]") for name, rows in lists.items()]
+    arrays = [f'"{name}":[' + ",".join("\n" + it for it in rows) + ("\n]" if rows else "]") for name, rows in lists.items()]
     return ",\n".join(['{"file":' + compact(heading), *arrays]) + "}\n"
 
 
@@ -402,11 +429,12 @@ SUMS = ("phases", "slips", "moments", "outages", "outage_time_ms")
 SIGNALS = ("phases 7", "possible 7", "percent_tenths 7", "ranges_only 7", "slips 6", "returns 8", "rises 6", "half_cycles 5",
     "least_strength_millidbhz 8", "mean_strength_centidbhz 6", "greatest_strength_millidbhz 7")
 TABLES = {
-    "code": ("signal phases     of      % ranges slips returns rises half     min  mean    max", SIGNALS),
+    "code": ("                            ranges                             strength in dB-Hz\n"
+        "signal phases     of      %   only slips returns rises half     min  mean    max", SIGNALS),
     "satellite": (None, SIGNALS),
     "tracked": ("sat    phases  slips  moments  outages        time", ("phases 10", "slips 7", "moments 9", "outages 9", "outage_time_ms 12")),
     "never": ("never a phase", ()),
-    "pass": ("sat from                until               phases slips moments outages   time",
+    "pass": ("sat from                until               phases slips moments  out      time",
         ("from 19", "until 19", "phases 7", "slips 6", "moments 8", "outages 5", "outage_time_ms 10")),
     "hour": ("hour             records    of satellites  slips returns  band 1  band 2  band 5",
         ("hour 16", "records 8", "expected 6", "mean_satellites_tenths 11", "slips 7", "returns 8", "mean_strength_1_centidbhz 8",
@@ -416,6 +444,7 @@ TABLES = {
     "slip-together": ("slips together      satellites    of", ("time 19", "satellites 11", "tracked 6")),
     "burst": ("burst hour           moments", ("hour 16", "moments 8")),
     "half-run": ("half from               until                  epochs", ("from 19", "until 19", "epochs 10")),
+    "missing-code": ("missing from               until                  epochs", ("from 19", "until 19", "epochs 10")),
     "fall": ("band falls from       until                by", ("band 4", "from 16", "until 16", "mean_strength_centidbhz 8")),
 }
 

@@ -11,7 +11,7 @@ lines() { quality --lines "$@"; }
 # Its numbers, slip.numbers, were looked up in it by hand, and slip.table has them in columns.
 numbers=$root/tests/program/slip.numbers table=$root/tests/program/slip.table
 cat >json <<'END'
-{"file":{"marker":"BASE","from":"2024-05-17 12:00:00.000","until":"2024-05-17 12:01:00.000","interval_ms":1000,"records":61,"missing":0,"gaps":0,"satellites":2,"least_satellites":1,"mean_satellites_tenths":18,"greatest_satellites":2,"slips":4,"moments":4,"outages":0,"outage_time_ms":0,"slips_together":0,"bursts":1,"half_runs":2},
+{"file":{"marker":"BASE","from":"2024-05-17 12:00:00.000","until":"2024-05-17 12:01:00.000","interval_ms":1000,"records":61,"missing":0,"gaps":0,"satellites":2,"least_satellites":1,"mean_satellites_tenths":18,"greatest_satellites":2,"slips":4,"moments":4,"outages":0,"outage_time_ms":0,"slips_together":0,"bursts":1,"half_runs":2,"missing_codes":0},
 "codes":[
 {"code":"1C","phases":112,"possible":122,"percent_tenths":918,"satellites":2,"tracked":2,"ranges_only":0,"slips":2,"returns":0,"rises":0,"half_cycles":2,"phases_per_slip":56,"least_strength_millidbhz":41500,"mean_strength_centidbhz":4341,"greatest_strength_millidbhz":45000},
 {"code":"2W","phases":112,"possible":122,"percent_tenths":918,"satellites":2,"tracked":2,"ranges_only":0,"slips":2,"returns":0,"rises":0,"half_cycles":0,"phases_per_slip":56,"least_strength_millidbhz":30250,"mean_strength_centidbhz":3284,"greatest_strength_millidbhz":35000}
@@ -26,8 +26,7 @@ cat >json <<'END'
 {"satellite":"G05","phases":122,"slips":3,"moments":3,"outages":0,"outage_time_ms":0},
 {"satellite":"G07","phases":102,"slips":1,"moments":1,"outages":0,"outage_time_ms":0}
 ],
-"never":[
-],
+"never":[],
 "passes":[
 {"satellite":"G05","from":"2024-05-17 12:00:00.000","until":"2024-05-17 12:01:00.000","phases":122,"slips":3,"moments":3,"outages":0,"outage_time_ms":0},
 {"satellite":"G07","from":"2024-05-17 12:00:00.000","until":"2024-05-17 12:01:00.000","phases":102,"slips":1,"moments":1,"outages":0,"outage_time_ms":0}
@@ -35,26 +34,23 @@ cat >json <<'END'
 "hours":[
 {"hour":"2024-05-17 12:00:00.000","records":61,"expected":61,"mean_satellites_tenths":18,"slips":4,"returns":0,"mean_strength_1_centidbhz":4341,"mean_strength_2_centidbhz":3284}
 ],
-"gaps":[
-],
-"falls":[
-],
-"outages":[
-],
-"slips_together":[
-],
+"gaps":[],
+"falls":[],
+"outages":[],
+"slips_together":[],
 "bursts":[
 {"satellite":"G05","hour":"2024-05-17 12:00:00.000","moments":3}
 ],
 "half_runs":[
 {"satellite":"G07","from":"2024-05-17 12:00:10.000","until":"2024-05-17 12:00:10.000","epochs":1},
 {"satellite":"G07","from":"2024-05-17 12:01:00.000","until":"2024-05-17 12:01:00.000","epochs":1}
-]}
+],
+"missing_codes":[]}
 END
 # pins: counts_of, passes_of, epochs_in_passes, percent_tenths, mean_hundredths
 # pins: padded, lined_up, Lists.closed, satellite_mark, numbers_columns, code_row, tracked_row, pass_row, hour_row, codes_heading
 # pins: section_heading, hours_heading, span_part, listed_text, burst_row, burst_line, bursts_heading, run_row, run_line, runs_heading
-# pins: open_run, ended_run, half_runs, half_runs_in, longest_half_runs, last_hour, burst_of, all_bursts, all_bursts_in, largest_bursts
+# pins: open_where, ended_where, half_runs, half_runs_in, longest_half_runs, last_hour, burst_of, all_bursts, all_bursts_in, largest_bursts
 quality "$file";              leaves quality_of_a_file 0 "$table" /dev/null
 quality stdin <"$file";       leaves quality_of_standard_input 0 "$table" /dev/null
 lines "$file";                leaves quality_in_lines 0 "$numbers" /dev/null
@@ -62,7 +58,7 @@ quality "$file" --lines;      leaves quality_in_lines_after_the_file 0 "$numbers
 quality --json "$file";       leaves quality_in_json 0 json /dev/null
 quality "$file" --json;       leaves quality_in_json_after_the_file 0 json /dev/null
 quality --json stdin <"$file"; leaves quality_of_standard_input_in_json 0 json /dev/null
-python3 -c 'import json, sys; print(*json.load(sys.stdin))' <out >got; echo file codes satellites tracked never passes hours gaps falls outages slips_together bursts half_runs >want
+python3 -c 'import json, sys; print(*json.load(sys.stdin))' <out >got; echo file codes satellites tracked never passes hours gaps falls outages slips_together bursts half_runs missing_codes >want
 same other_programs_read_the_document got want
 
 # Fields in the header change no number.
@@ -77,17 +73,17 @@ quality empty; { echo 'marker B~"\<&>'; printf '%-8s%35s\n' records 0; } >want
 leaves quality_without_records 0 want /dev/null
 lines empty; expect quality_without_records_in_lines 0 "$(printf '%s\n' 'marker B~"\<&>' 'records 0')" ''
 quality --json empty
-printf '%s,\n' '{"file":{"marker":"B~\"\\<&>","records":0}' '"codes":[]' '"satellites":[]' '"tracked":[]' '"never":[]' '"passes":[]' '"hours":[]' '"gaps":[]' '"falls":[]' '"outages":[]' '"slips_together":[]' '"bursts":[]' >want
-echo '"half_runs":[]}' >>want
+printf '%s,\n' '{"file":{"marker":"B~\"\\<&>","records":0}' '"codes":[]' '"satellites":[]' '"tracked":[]' '"never":[]' '"passes":[]' '"hours":[]' '"gaps":[]' '"falls":[]' '"outages":[]' '"slips_together":[]' '"bursts":[]' '"half_runs":[]' >want
+echo '"missing_codes":[]}' >>want
 # pins: no_lists
 leaves quality_without_records_in_json 0 want /dev/null
 
 # A record alone has no interval.
 sed '/^> .* 1.0000000 /,$d' "$file" >one
-lines one; sed '19,$d' out >heading
+lines one; sed '20,$d' out >heading
 printf '%s\n' 'marker BASE' 'from 2024-05-17 12:00:00.000' 'until 2024-05-17 12:00:00.000' 'interval -' 'records 1' 'missing 0' 'gaps 0' \
     'satellites 2' 'least-satellites 2' 'mean-satellites 2.0' 'greatest-satellites 2' 'slips 0' 'moments 0' 'outages 0' \
-    'outage-time 0.000' 'slips-together 0' 'bursts 0' 'half-runs 0' >want
+    'outage-time 0.000' 'slips-together 0' 'bursts 0' 'half-runs 0' 'missing-codes 0' >want
 same quality_of_a_record heading want
 
 # away N: six hours at 1 s of G05 and G07. G05 is away for the last N seconds of each 600 but the last ones, so 35 times, and bit 0
@@ -229,8 +225,50 @@ half-run G05 from 2024-05-17 12:13:00.000 until 2024-05-17 12:14:30.000 epochs 4
 half-run G05 from 2024-05-17 13:08:00.000 until 2024-05-17 13:09:30.000 epochs 4
 half-run G05 from 2024-05-17 13:50:00.000 until 2024-05-17 13:50:30.000 epochs 2
 END
-# pins: open_run, ended_run, half_runs, longest_half_runs, last_hour, burst_of, all_bursts, largest_bursts
+# pins: open_where, ended_where, half_runs, longest_half_runs, last_hour, burst_of, all_bursts, largest_bursts
 same quality_of_bursts_and_half_cycles got want
+
+# Two hours of two satellites at 30 s. G01 lacks L5 for 40 minutes of its pass, and G02 for two minutes, which are too short, and for
+# two and a half. G03 has it nowhere.
+{
+    sed '/END OF HEADER/q; s/^G    6 C1C L1C S1C C2W L2W S2W/G    6 C1C L1C S1C C5Q L5Q S5Q/' "$file"
+    awk 'BEGIN {
+        for (s = 0; s < 7200; s += 30) {
+            printf "> 2024 05 17 %02d %02d %2d.0000000  0  3\n", 12 + int(s / 3600), int(s / 60) % 60, s % 60
+            for (n = 1; n <= 3; n++) {
+                lacks = n == 3 || n == 1 && s >= 1800 && s < 4200 || n == 2 && (s >= 600 && s < 720 || s >= 3000 && s < 3150)
+                printf "G0%d  21085472.060 7 110804903.547 7        45.000", n
+                if (!lacks) printf "    21085474.060 5  82743902.120 5        35.000"
+                print ""
+            }
+        }
+    }'
+} >holes
+lines holes; grep '^missing' out >got
+cat >want <<'END'
+missing 0
+missing-codes 2
+missing-code G01 5Q from 2024-05-17 12:30:00.000 until 2024-05-17 13:09:30.000 epochs 80
+missing-code G02 5Q from 2024-05-17 12:50:00.000 until 2024-05-17 12:52:00.000 epochs 5
+END
+# pins: lacks, open_where, ended_where, Missing.is_listed, missing_of, all_missing, missing_codes_in, longest_missing, missing_line
+same quality_of_missing_codes got want
+quality holes; grep -A 2 '^missing from' out >got
+cat >want <<'END'
+missing from               until                  epochs
+G01 5Q 2024-05-17 12:30:00 2024-05-17 13:09:30        80
+G02 5Q 2024-05-17 12:50:00 2024-05-17 12:52:00         5
+END
+# pins: missing_row, missing_heading
+same quality_of_missing_codes_in_a_table got want
+quality --json holes; sed -n '/^"missing_codes"/,$p' out >got
+cat >want <<'END'
+"missing_codes":[
+{"satellite":"G01","code":"5Q","from":"2024-05-17 12:30:00.000","until":"2024-05-17 13:09:30.000","epochs":80},
+{"satellite":"G02","code":"5Q","from":"2024-05-17 12:50:00.000","until":"2024-05-17 12:52:00.000","epochs":5}
+]}
+END
+same quality_of_missing_codes_in_json got want
 
 # Seven records of three hours. The third one lies 20 ms before its hour, and 118 and 60 epochs are missing up to the next hour and in
 # it. 2W has no strength in the second hour. Its strengths fall by 5 from the first hour to the third, and those of 1C by 2 and by 3.
@@ -285,7 +323,8 @@ band falls from       until                by
    1 2024-05-17 13:00 2024-05-17 14:00    3.00
    2 2024-05-17 12:00 2024-05-17 14:00    5.00
 
-signal phases     of      % ranges slips returns rises half     min  mean    max
+                            ranges                             strength in dB-Hz
+signal phases     of      %   only slips returns rises half     min  mean    max
 END
 # pins: hour_row, gaps_heading, falls_heading, span_part, body_text
 same quality_of_three_hours_in_a_table got want

@@ -111,6 +111,7 @@ class Qualities(Case):
         self.assertEqual((found.slips_together, found.longest_outages, found.most_slips_together), (0, (), ()))
         self.assertEqual((found.bursts, found.largest_bursts), (0, ()))
         self.assertEqual((found.half_runs, found.longest_half_runs), (1, (rtcm2rinex.HalfRun("G12", second(55), second(58), 4),)))
+        self.assertEqual((found.missing_codes, found.longest_missing_codes), (0, ()))
 
     def test_a_burst(self) -> None:
         found = rtcm2rinex.quality(SLIP)
@@ -130,6 +131,17 @@ class Qualities(Case):
         self.assertEqual((found.outages, found.longest_outages), (1, (rtcm2rinex.Outage("G05", second(19), second(200), 180.0),)))
         self.assertEqual((found.slips_together, found.most_slips_together), (1, (rtcm2rinex.SlipsTogether(second(10), 2, 2),)))
 
+    def test_a_missing_code(self) -> None:
+        """Of five minutes G07 lacks 2W from the second 60 to 180, which are 121 s."""
+        header, _ = (EXAMPLES / "slip.rnx").read_text().split("END OF HEADER       \n")
+        text = header + "END OF HEADER       \n"
+        for at in range(300):
+            text += f"> 2024 05 17 12 {at // 60:02} {at % 60:2}.0000000  0  1\n"
+            text += "G07  22963108.863 6 120671906.430 6        41.500"
+            text += "\n" if 60 <= at <= 180 else "    22963108.870 5  94029401.117 5        30.250\n"
+        found = rtcm2rinex.quality(io.BytesIO(text.encode("ascii")))
+        self.assertEqual((found.missing_codes, found.longest_missing_codes), (1, (rtcm2rinex.MissingCode("G07", "2W", second(60), second(180), 121),)))
+
     def test_codes_that_a_satellite_never_has(self) -> None:
         found = rtcm2rinex.quality(EXAMPLES / "session.rnx")
         self.assertEqual(found.never, (("G13", "5X"), ("G21", "5X")))
@@ -142,6 +154,7 @@ class Qualities(Case):
         self.assertEqual((found.gaps, found.slips, found.outage_time, found.tracked, found.hours), (None, None, None, (), ()))
         self.assertEqual((found.slips_together, found.longest_outages, found.most_slips_together), (None, (), ()))
         self.assertEqual((found.bursts, found.largest_bursts, found.half_runs, found.longest_half_runs), (None, (), None, ()))
+        self.assertEqual((found.missing_codes, found.longest_missing_codes), (None, ()))
 
     def test_a_wrong_file(self) -> None:
         text = (EXAMPLES / "base.rnx").read_bytes().replace(b"45.000", b"45.100")

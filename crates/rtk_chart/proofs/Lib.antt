@@ -1,4 +1,5 @@
 pub mod BitLemmas
+pub mod BytesLemmas
 pub mod ChartLemmas
 pub mod ChoiceLemmas
 pub mod FileLemmas
@@ -10,6 +11,7 @@ pub mod MarkLemmas
 pub mod PieceLemmas
 pub mod ScaleLemmas
 pub mod SeenLemmas
+pub mod SizeLemmas
 pub mod StrengthLemmas
 pub mod SvgLemmas
 pub mod WidthLemmas

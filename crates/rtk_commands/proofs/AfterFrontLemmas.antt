@@ -3,12 +3,10 @@ use Rattle.std.proofs.Common.{◌≡◌, ◌<◌, ◌≤◌, ◌+◌, ◌-◌, �
 use Rattle.std.proofs.lemmas.List.{append-nil, length-append, length-take-le, length-drop, take-append-le, drop-append-le, take-append-drop, drop-take, drop_all, drop_at}
 use Rattle.std.proofs.Math.Seq.{take-length, drop-length}
 use Rattle.rtk_frame.specs.Stream.{with_more, TakesPart}
-use Rattle.rtk_rinex.specs.Table.{table_text}
 use Rattle.rtk_cut.specs.declared.part.Part.{Part}
-use Rattle.rtk_cut.specs.Cut.{cut_of}
-use Rattle.rtk_cut.specs.CutWriting.{WritesPart, WritesFirstOfPart}
 use Rattle.rtk_commands.specs.AfterFront.{taken_after, IsAfterFront}
-use Rattle.rtk_commands.specs.CutInput.{WritesRestOfPart, WritesFirstOfRest}
+use Rattle.rtk_commands.specs.CutInput.{part_of_file, WritesPartOfFile, WritesFirstOfPartOfFile, WritesRestOfPart, WritesFirstOfRest}
+use Rattle.rtk_commands.specs.FileTable.{file_text}
 
 -- before its first call
 pub fresh-front : (start : Option (List ℕ)) → IsAfterFront start [] start
@@ -103,11 +101,11 @@ first-of-rest start taken over text is (n, within, e) =
     (k, short, rest-of start taken over (take n text) is e ∙ ap (with_more start) (first-after n text within))
 
 pub wrote-rest : {T E : Type 0} (r : Result T E) (plain : List ℕ) (part : Part) (start taken : Option (List ℕ)) (over : List ℕ) → IsAfterFront start over taken
-    → OnOk r (WritesPart plain part (taken_after start [] start) (taken_after start over taken)) → OnOk r (WritesRestOfPart plain part start taken)
-wrote-rest (Ok x) plain part start taken over is wrote = λ t good e. rest-of start taken over (table_text (cut_of part t)) is (wrote t good e)
+    → OnOk r (WritesPartOfFile plain part (taken_after start [] start) (taken_after start over taken)) → OnOk r (WritesRestOfPart plain part start taken)
+wrote-rest (Ok x) plain part start taken over is wrote = λ f good e. rest-of start taken over (file_text (part_of_file part f)) is (wrote f good e)
 wrote-rest (Err fault) plain part start taken over is wrote = tt
 
 pub wrote-first-of-rest : {T E : Type 0} (r : Result T E) (plain : List ℕ) (part : Part) (start taken : Option (List ℕ)) (over : List ℕ) → IsAfterFront start over taken
-    → OnErr r (WritesFirstOfPart plain part (taken_after start [] start) (taken_after start over taken)) → OnErr r (WritesFirstOfRest plain part start taken)
+    → OnErr r (WritesFirstOfPartOfFile plain part (taken_after start [] start) (taken_after start over taken)) → OnErr r (WritesFirstOfRest plain part start taken)
 wrote-first-of-rest (Ok x) plain part start taken over is wrote = tt
-wrote-first-of-rest (Err fault) plain part start taken over is wrote = λ t good e. first-of-rest start taken over (table_text (cut_of part t)) is (wrote t good e)
+wrote-first-of-rest (Err fault) plain part start taken over is wrote = λ f good e. first-of-rest start taken over (file_text (part_of_file part f)) is (wrote f good e)

@@ -2,14 +2,14 @@
 use Rattle.std.proofs.Common.{◌≡◌, ◌==◌, ℕ, List, [], ◌∷◌, ◌++◌, cond, codes, decimal, get_or, length, refl, sym, ap, ap₂, ◌∙◌, append_assoc, arith}
 use Rattle.std.proofs.lemmas.List.{append_cancel_left, append_cancel_right}
 use Rattle.rtk_rinex.specs.CauseText.{cause_text}
-use Rattle.rtk_rinex.specs.CheckTable.{HoldsTable, OneFault}
-use Rattle.rtk_rinex.specs.Table.{WellFormedTable}
-use Rattle.rtk_rinex.specs.CheckText.{satellite_lines}
+use Rattle.rtk_rinex.specs.CheckTable.{OneTable, OneFault}
+use Rattle.rtk_rinex.specs.MixedCheckTable.{MixedOneTable, MixedOneFault}
 use Rattle.rtk_rinex.specs.declared.check_fault.Cause.{Cause}
 use Rattle.rtk_rinex.specs.declared.check_fault.Cause.TheVariants.{HeaderLine, Columns, Value, Order, Truncated, OutOfMemory}
 use Rattle.rtk_rinex.specs.declared.check_fault.CheckFault.{CheckFault}
 use Rattle.rtk_commands.specs.CheckInput.{valid_text, check_fault_text}
 use Rattle.rtk_commands.specs.CheckLaws.{ValidTellsNumbers, FaultTextTellsFault, YesTellsNumbers, NoTellsFault, NoLineSaysBoth}
+use Rattle.rtk_commands.proofs.FileTableLemmas.{one-count, one-fault-of-file}
 use Rattle.rtk_message.proofs.PublicLaws.{number-then}
 
 valid-regrouped : (v e m s w : List ℕ) → v ++ e ++ m ++ s ++ w ++ 10 ∷ [] ≡ v ++ (e ++ (m ++ (s ++ (w ++ 10 ∷ []))))
@@ -61,26 +61,17 @@ fault-tells fault other f g same =
 
 -- ---- the answers
 
--- a text holds one table, so it has one number of records and of satellite lines
-same-table : (text : List ℕ) (epochs satellites other_epochs other_satellites : ℕ) → HoldsTable text epochs satellites → HoldsTable text other_epochs other_satellites
-    → (epochs ≡ other_epochs) × (satellites ≡ other_satellites)
-same-table text epochs satellites other_epochs other_satellites h k =
-    let one : k.table ≡ h.table = h.only k.table k.is_table k.text in (
-      sym h.epochs ∙ ap (λ (t : WellFormedTable). length t.epochs) (sym one) ∙ k.epochs,
-      sym h.satellites ∙ ap (λ (t : WellFormedTable). satellite_lines t.epochs) (sym one) ∙ k.satellites,
-    )
-
-pub yes-tells : YesTellsNumbers
-yes-tells text other line epochs satellites other_epochs other_satellites h k e s f t says said =
-    let here = same-table text epochs satellites says.0 says.1 h says.2 in
-    let there = same-table other other_epochs other_satellites said.0 said.1 k said.2 in
+pub yes-tells : OneTable → MixedOneTable → YesTellsNumbers
+yes-tells one mixed text other line epochs satellites other_epochs other_satellites h k e s f t says said =
+    let here = one-count one mixed text epochs satellites says.0 says.1 h says.2 in
+    let there = one-count one mixed other other_epochs other_satellites said.0 said.1 k said.2 in
     valid-tells epochs satellites other_epochs other_satellites e s f t
     (ap₂ valid_text here.0 here.1 ∙ sym says.3 ∙ said.3 ∙ sym (ap₂ valid_text there.0 there.1))
 
-pub no-tells : OneFault → NoTellsFault
-no-tells one text other line fault other_fault is was f g says said =
-    let here : fault ≡ says.0 = one text fault says.0 is says.1 in
-    let there : other_fault ≡ said.0 = one other other_fault said.0 was said.1 in
+pub no-tells : OneFault → MixedOneFault → NoTellsFault
+no-tells one mixed text other line fault other_fault is was f g says said =
+    let here : fault ≡ says.0 = one-fault-of-file one mixed text fault says.0 is says.1 in
+    let there : other_fault ≡ said.0 = one-fault-of-file one mixed other other_fault said.0 was said.1 in
     fault-tells fault other_fault f g (ap check_fault_text here ∙ sym says.3 ∙ said.3 ∙ sym (ap check_fault_text there))
 
 pub both-never : NoLineSaysBoth

@@ -1,6 +1,7 @@
 mod AfterFrontLemmas
 mod CheckLineLemmas
 mod FileLemmas
+mod FileTableLemmas
 mod KindLemmas
 mod LabelLemmas
 mod LabelledPartLemmas

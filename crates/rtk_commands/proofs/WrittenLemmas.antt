@@ -1,8 +1,17 @@
 -- What is written stands right after what was held.
 use Rattle.std.proofs.Common.{◌≡◌, ◌≢◌, inl, inr, ℕ, List, ◌++◌, Some, ◌∙◌, ap}
+use Rattle.rtk_rinex.specs.Table.{WellFormedTable, IsWellFormedTable, table_text}
 use Rattle.rtk_rinex.specs.declared.check_fault.CheckFault.{CheckFault}
 use Rattle.rtk_cut.specs.declared.counts.CutCounts.{CutCounts}
-use Rattle.rtk_commands.specs.declared.file_answer.FileAnswer.TheVariants.{Written, Cut, Refused, Height, NoneChosen}
+use Rattle.rtk_label.specs.Labelled.{LabelView, IsLabel, IsFor}
+use Rattle.rtk_quality.specs.QualityText.{TellsQuality}
+use Rattle.rtk_quality.specs.declared.form.Form.{Form}
+use Rattle.rtk_commands.specs.declared.charting.Chart.{Chart}
+use Rattle.rtk_commands.specs.declared.file_answer.FileAnswer.TheVariants.{Written, Cut, Refused, Height, NoneChosen, OtherSystems}
+use Rattle.rtk_commands.specs.ChartInput.{IsPicture, DrawsTable}
+use Rattle.rtk_commands.specs.QualityInput.{TellsTable}
+use Rattle.rtk_commands.specs.FileTable.{FileTable, OfGps, OfSystems, IsFileTable, file_site, labelled_file}
+use Rattle.rtk_commands.specs.WithLabel.{IsWithLabel}
 use Rattle.rtk_commands.specs.WrittenLaws.{LineFollows, PictureFollows, NumbersFollow, PartFollows, LabelFollows}
 
 same-bytes : (first more last : List ℕ) → Some last ≡ Some (first ++ more) → last ≡ first ++ more
@@ -20,24 +29,40 @@ not-height e = cc
 not-none : Written ≢ NoneChosen
 not-none e = cc
 
+not-other : Written ≢ OtherSystems
+not-other e = cc
+
 own-counts : (counts other : CutCounts) → Cut counts ≡ Cut other → counts ≡ other
 own-counts counts other e = cc
 
 pub line-follows : LineFollows
 line-follows text first last valid told = (told.0, told.1, same-bytes first told.0 last told.2)
 
+-- the file is one of GPS
+picture-of : (chart : Chart) (text first last bytes : List ℕ) (f : FileTable) (l : LabelView) → IsFileTable f → IsLabel l → IsFor l (file_site f) → text ≡ labelled_file l f
+    → DrawsTable chart f l Written bytes → last ≡ first ++ bytes
+    → (t : WellFormedTable) × IsWellFormedTable t × IsWithLabel text (OfGps t) × ((picture : List ℕ) × IsPicture chart.width chart.choice (table_text t) picture × (last ≡ first ++ picture))
+picture-of chart text first last bytes (OfGps t) l good is for e drawn same = elim drawn [
+  | inl some ↦ (t, good, (l, is, for, e), (bytes, some.2, same))
+  | inr none ↦ absurd (not-none none.0)
+]
+picture-of chart text first last bytes (OfSystems t) l good is for e none same = absurd (not-other none.0)
+
+numbers-of : (form : Form) (text first last bytes : List ℕ) (f : FileTable) (l : LabelView) → IsFileTable f → IsLabel l → IsFor l (file_site f) → text ≡ labelled_file l f
+    → TellsTable form f l Written bytes → last ≡ first ++ bytes
+    → (t : WellFormedTable) × IsWellFormedTable t × IsWithLabel text (OfGps t) × ((numbers : List ℕ) × TellsQuality form (table_text t) numbers × (last ≡ first ++ numbers))
+numbers-of form text first last bytes (OfGps t) l good is for e told same = (t, good, (l, is, for, e), (bytes, told.1, same))
+numbers-of form text first last bytes (OfSystems t) l good is for e none same = absurd (not-other none.0)
+
 pub picture-follows : PictureFollows
 picture-follows chart text first last (bytes, made, same) = elim made [
-  | inl some ↦ elim some.6 [
-    | inl drawn ↦ (some.0, some.2, (some.1, some.3, some.4, some.5), (bytes, drawn.2, same-bytes first bytes last same))
-    | inr none ↦ absurd (not-none none.0)
-  ]
+  | inl some ↦ picture-of chart text first last bytes some.0 some.1 some.2 some.3 some.4 some.5 some.6 (same-bytes first bytes last same)
   | inr refused ↦ absurd (not-refused refused.0 refused.1)
 ]
 
 pub numbers-follow : NumbersFollow
 numbers-follow form text first last (bytes, made, same) = elim made [
-  | inl some ↦ (some.0, some.2, (some.1, some.3, some.4, some.5), (bytes, some.6.1, same-bytes first bytes last same))
+  | inl some ↦ numbers-of form text first last bytes some.0 some.1 some.2 some.3 some.4 some.5 some.6 (same-bytes first bytes last same)
   | inr refused ↦ absurd (not-refused refused.0 refused.1)
 ]
 

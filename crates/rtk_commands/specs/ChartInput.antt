@@ -1,7 +1,7 @@
 -- The command `chart`: what it writes of a table.
 use Rattle.std.specs.Prelude.{◌≡◌, ◌⊎◌, ℕ, Bool, true, false, List, [], Option, None, Some}
 use Rattle.std.specs.Int.{IsInRange}
-use Rattle.rtk_rinex.specs.Table.{WellFormedTable, table_text}
+use Rattle.rtk_rinex.specs.Table.{table_text}
 use Rattle.rtk_label.specs.Labelled.{LabelView}
 use Rattle.rtk_tracking.specs.Epochs.{HoldsOfEpochs}
 use Rattle.rtk_chart.specs.Choice.{is_there}
@@ -9,7 +9,8 @@ use Rattle.rtk_chart.specs.Chart.{ShowsChosen, ShowsChosenInSvg}
 use Rattle.rtk_chart.specs.declared.choice.Choice.{Choice}
 use Rattle.rtk_commands.specs.declared.charting.Chart.{Chart}
 use Rattle.rtk_commands.specs.declared.file_answer.FileAnswer.{FileAnswer}
-use Rattle.rtk_commands.specs.declared.file_answer.FileAnswer.TheVariants.{Written, NoneChosen}
+use Rattle.rtk_commands.specs.declared.file_answer.FileAnswer.TheVariants.{Written, NoneChosen, OtherSystems}
+use Rattle.rtk_commands.specs.FileTable.{FileTable, OfGps, OfSystems}
 
 -- constant
 -- the width of a picture in characters (this project's rule)
@@ -31,6 +32,7 @@ DrawsFile chart file answer bytes =
     ((answer ≡ Written) × Has chart.choice file true × IsPicture chart.width chart.choice file bytes)
     ⊎ ((answer ≡ NoneChosen) × Has chart.choice file false × (bytes ≡ []))
 
--- the same of the table, whatever its label
-abbrev pub DrawsTable : Chart → WellFormedTable → LabelView → FileAnswer → List ℕ → Type 0
-DrawsTable chart t l answer bytes = DrawsFile chart (table_text t) answer bytes
+-- the same of a file of GPS, whatever its label; of one with other systems nothing
+abbrev pub DrawsTable : Chart → FileTable → LabelView → FileAnswer → List ℕ → Type 0
+DrawsTable chart (OfGps t) l answer bytes = DrawsFile chart (table_text t) answer bytes
+DrawsTable chart (OfSystems t) l answer bytes = (answer ≡ OtherSystems) × (bytes ≡ [])

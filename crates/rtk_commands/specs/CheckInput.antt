@@ -3,8 +3,8 @@
 use Rattle.std.specs.Prelude.{◌≡◌, ◌⊎◌, ℕ, ◌≤◌, Bool, true, false, List, [], ◌∷◌, ◌++◌, length, codes, decimal, Option}
 use Rattle.rtk_frame.specs.Stream.{with_more, TakesPart}
 use Rattle.rtk_rinex.specs.CauseText.{cause_text}
-use Rattle.rtk_rinex.specs.CheckTable.{HoldsTable, IsFault, IsWithoutTable}
 use Rattle.rtk_rinex.specs.declared.check_fault.CheckFault.{CheckFault}
+use Rattle.rtk_commands.specs.FileTable.{HoldsFile, IsFaultOfFile, IsTextOfNoFile}
 use Rattle.rtk_commands.specs.declared.file_command.TheConstants.{CHECK_LIMIT}
 use Rattle.rtk_commands.specs.declared.file_answer.FileAnswer.{FileAnswer}
 use Rattle.rtk_commands.specs.declared.file_answer.FileAnswer.TheVariants.{Written, NotValid}
@@ -20,16 +20,15 @@ valid_text epochs satellites =
 abbrev pub check_fault_text : CheckFault → List ℕ
 check_fault_text fault = codes "line " ++ decimal fault.line ++ codes ": " ++ cause_text fault.cause ++ 10 ∷ []
 
--- a yes: the text is the text of a well-formed table, and the line tells how many records and
--- satellite lines it has
+-- a yes: the text is that of a file, and the line tells how many records and satellite lines it has
 abbrev pub SaysYes : List ℕ → List ℕ → Type 0
 SaysYes text line =
-    (epochs : ℕ) × (satellites : ℕ) × HoldsTable text epochs satellites × (line ≡ valid_text epochs satellites)
+    (epochs : ℕ) × (satellites : ℕ) × HoldsFile text epochs satellites × (line ≡ valid_text epochs satellites)
 
--- a no: the text is the text of no well-formed table, and the line tells its first fault
+-- a no: the text is that of no file, and the line tells its first fault
 abbrev pub SaysNo : List ℕ → List ℕ → Type 0
 SaysNo text line =
-    (fault : CheckFault) × IsFault text fault × IsWithoutTable text × (line ≡ check_fault_text fault)
+    (fault : CheckFault) × IsFaultOfFile text fault × IsTextOfNoFile text × (line ≡ check_fault_text fault)
 
 -- the answer, and the line that says it of the text
 abbrev pub SaysVerdict : List ℕ → Bool → List ℕ → Type 0

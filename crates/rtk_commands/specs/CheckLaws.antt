@@ -1,8 +1,8 @@
 -- Laws of the lines of `check`: equal lines tell equal numbers and causes, as far as a u64 holds the
 -- numbers.
 use Rattle.std.specs.Prelude.{◌≡◌, ◌<◌, ◌^◌, ℕ, List}
-use Rattle.rtk_rinex.specs.CheckTable.{HoldsTable, IsFault}
 use Rattle.rtk_rinex.specs.declared.check_fault.CheckFault.{CheckFault}
+use Rattle.rtk_commands.specs.FileTable.{HoldsFile, IsFaultOfFile}
 use Rattle.rtk_commands.specs.CheckInput.{valid_text, check_fault_text, SaysYes, SaysNo}
 
 -- equal lines of tables tell as many records and satellite lines
@@ -19,14 +19,14 @@ FaultTextTellsFault = (fault other : CheckFault) → fault.line < 2 ^ 64 → oth
 abbrev pub YesTellsNumbers : Type 0
 YesTellsNumbers =
     (text other line : List ℕ) (epochs satellites other_epochs other_satellites : ℕ)
-    → HoldsTable text epochs satellites → HoldsTable other other_epochs other_satellites
+    → HoldsFile text epochs satellites → HoldsFile other other_epochs other_satellites
     → epochs < 2 ^ 64 → satellites < 2 ^ 64 → other_epochs < 2 ^ 64 → other_satellites < 2 ^ 64
     → SaysYes text line → SaysYes other line → (epochs ≡ other_epochs) × (satellites ≡ other_satellites)
 
 -- two texts to which one line says no have one fault
 abbrev pub NoTellsFault : Type 0
 NoTellsFault =
-    (text other line : List ℕ) (fault other_fault : CheckFault) → IsFault text fault → IsFault other other_fault
+    (text other line : List ℕ) (fault other_fault : CheckFault) → IsFaultOfFile text fault → IsFaultOfFile other other_fault
     → fault.line < 2 ^ 64 → other_fault.line < 2 ^ 64 → SaysNo text line → SaysNo other line → fault ≡ other_fault
 
 -- no line says yes to one text and no to another

@@ -1,13 +1,42 @@
--- The command `label`: what it writes of a table.
-use Rattle.std.specs.Prelude.{◌≡◌, ◌⊎◌, ℕ, List, []}
-use Rattle.rtk_rinex.specs.Table.{WellFormedTable}
-use Rattle.rtk_label.specs.Labelled.{LabelView, IsFor, labelled_text}
+-- The command `label`: what it writes of a file.
+use Rattle.std.specs.Prelude.{◌≡◌, ◌⊎◌, ℕ, Bool, List, [], Option, Decides}
+use Rattle.rtk_frame.specs.Stream.{with_more, TakesPart}
+use Rattle.rtk_label.specs.Labelled.{LabelView, IsFor}
 use Rattle.rtk_commands.specs.declared.file_answer.FileAnswer.{FileAnswer}
 use Rattle.rtk_commands.specs.declared.file_answer.FileAnswer.TheVariants.{Written, Height}
+use Rattle.rtk_commands.specs.FileTable.{FileTable, IsFileTable, file_text, file_site, file_front, labelled_file}
 
--- the table with a label in place of the one that it has; or this label has a height, and the stream told
+-- the file with a label in place of the one that it has; or this label has a height, and the stream told
 -- one, and nothing is written
-abbrev pub LabelsTable : LabelView → WellFormedTable → LabelView → FileAnswer → List ℕ → Type 0
-LabelsTable l t old answer bytes =
-    ((answer ≡ Written) × IsFor l t.site × (bytes ≡ labelled_text l t))
-    ⊎ ((answer ≡ Height) × ¬ (IsFor l t.site) × (bytes ≡ []))
+abbrev pub LabelsTable : LabelView → FileTable → LabelView → FileAnswer → List ℕ → Type 0
+LabelsTable l f old answer bytes =
+    ((answer ≡ Written) × IsFor l (file_site f) × (bytes ≡ labelled_file l f))
+    ⊎ ((answer ≡ Height) × ¬ (IsFor l (file_site f)) × (bytes ≡ []))
+
+-- whether the label is for the file whose text this is
+abbrev pub TellsIsFor : LabelView → List ℕ → Bool → Type 0
+TellsIsFor l plain told = (f : FileTable) → IsFileTable f → plain ≡ file_text f → Decides told (IsFor l (file_site f))
+
+-- it is
+abbrev pub IsForFile : LabelView → List ℕ → Type 0
+IsForFile l plain = (f : FileTable) → IsFileTable f → plain ≡ file_text f → IsFor l (file_site f)
+
+-- the file whose text this is was written with the label: before, after
+abbrev pub WritesLabelledFile : List ℕ → LabelView → Option (List ℕ) → Option (List ℕ) → Type 0
+WritesLabelledFile plain l before after =
+    (f : FileTable) → IsFileTable f → plain ≡ file_text f → after ≡ with_more before (labelled_file l f)
+
+-- of this a first part was written, perhaps none or all of it
+abbrev pub WritesFirstLabelledFile : List ℕ → LabelView → Option (List ℕ) → Option (List ℕ) → Type 0
+WritesFirstLabelledFile plain l before after =
+    (f : FileTable) → IsFileTable f → plain ≡ file_text f → TakesPart before after (labelled_file l f)
+
+-- of the file whose text this is the lines were written that the label changes
+abbrev pub WritesFrontOfFile : List ℕ → LabelView → Option (List ℕ) → Option (List ℕ) → Type 0
+WritesFrontOfFile plain l before after =
+    (f : FileTable) → IsFileTable f → plain ≡ file_text f → after ≡ with_more before (file_front l f)
+
+-- of these a first part was written, perhaps none or all of it
+abbrev pub WritesFirstOfFrontOfFile : List ℕ → LabelView → Option (List ℕ) → Option (List ℕ) → Type 0
+WritesFirstOfFrontOfFile plain l before after =
+    (f : FileTable) → IsFileTable f → plain ≡ file_text f → TakesPart before after (file_front l f)

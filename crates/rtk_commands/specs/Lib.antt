@@ -3,8 +3,8 @@ pub mod AnswerStatus
 pub mod ChartInput
 pub mod CheckInput
 pub mod CheckLaws
-pub mod CheckedInput
 pub mod CutInput
+pub mod FileTable
 pub mod FileText
 pub mod Hex
 pub mod LabelInput

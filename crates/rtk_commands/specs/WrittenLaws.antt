@@ -6,15 +6,15 @@ use Rattle.rtk_quality.specs.QualityText.{TellsQuality}
 use Rattle.rtk_quality.specs.declared.form.Form.{Form}
 use Rattle.rtk_cut.specs.declared.part.Part.{Part}
 use Rattle.rtk_cut.specs.declared.counts.CutCounts.{CutCounts}
-use Rattle.rtk_cut.specs.Cut.{cut_of}
-use Rattle.rtk_label.specs.Labelled.{LabelView, IsLabel, IsFor, labelled_text}
+use Rattle.rtk_label.specs.Labelled.{LabelView, IsLabel, IsFor}
 use Rattle.rtk_commands.specs.declared.charting.Chart.{Chart}
 use Rattle.rtk_commands.specs.declared.file_answer.FileAnswer.TheVariants.{Written, Cut}
 use Rattle.rtk_commands.specs.CheckInput.{SaysVerdict, Tells}
 use Rattle.rtk_commands.specs.ChartInput.{IsPicture, DrawsTable}
 use Rattle.rtk_commands.specs.QualityInput.{TellsTable}
-use Rattle.rtk_commands.specs.CutInput.{part_counts, CutsTable}
+use Rattle.rtk_commands.specs.CutInput.{part_of_file, part_counts, CutsTable}
 use Rattle.rtk_commands.specs.LabelInput.{LabelsTable}
+use Rattle.rtk_commands.specs.FileTable.{FileTable, OfGps, IsFileTable, file_site, labelled_file}
 use Rattle.rtk_commands.specs.FileText.{WritesAll}
 use Rattle.rtk_commands.specs.WithLabel.{IsWithLabel, WritesOfTable}
 
@@ -28,25 +28,25 @@ LineFollows =
 abbrev pub PictureFollows : Type 0
 PictureFollows =
     (chart : Chart) (text first last : List ℕ) → WritesAll (WritesOfTable (DrawsTable chart) text Written) (Some first) (Some last)
-    → (t : WellFormedTable) × IsWellFormedTable t × IsWithLabel text t
+    → (t : WellFormedTable) × IsWellFormedTable t × IsWithLabel text (OfGps t)
     × ((picture : List ℕ) × IsPicture chart.width chart.choice (table_text t) picture × (last ≡ first ++ picture))
 
 -- the numbers of a file
 abbrev pub NumbersFollow : Type 0
 NumbersFollow =
     (form : Form) (text first last : List ℕ) → WritesAll (WritesOfTable (TellsTable form) text Written) (Some first) (Some last)
-    → (t : WellFormedTable) × IsWellFormedTable t × IsWithLabel text t
+    → (t : WellFormedTable) × IsWellFormedTable t × IsWithLabel text (OfGps t)
     × ((numbers : List ℕ) × TellsQuality form (table_text t) numbers × (last ≡ first ++ numbers))
 
 -- the part of a file, and its counts
 abbrev pub PartFollows : Type 0
 PartFollows =
     (text first last : List ℕ) (part : Part) (counts : CutCounts) → WritesAll (WritesOfTable (CutsTable part) text (Cut counts)) (Some first) (Some last)
-    → (t : WellFormedTable) × IsWellFormedTable t × (counts ≡ part_counts part t)
-    × ((l : LabelView) × IsLabel l × IsFor l t.site × (text ≡ labelled_text l t) × (last ≡ first ++ labelled_text l (cut_of part t)))
+    → (f : FileTable) × IsFileTable f × (counts ≡ part_counts part f)
+    × ((l : LabelView) × IsLabel l × IsFor l (file_site f) × (text ≡ labelled_file l f) × (last ≡ first ++ labelled_file l (part_of_file part f)))
 
 -- the file with a label
 abbrev pub LabelFollows : Type 0
 LabelFollows =
     (l : LabelView) (text first last : List ℕ) → WritesAll (WritesOfTable (LabelsTable l) text Written) (Some first) (Some last)
-    → (t : WellFormedTable) × IsWellFormedTable t × IsWithLabel text t × IsFor l t.site × (last ≡ first ++ labelled_text l t)
+    → (f : FileTable) × IsFileTable f × IsWithLabel text f × IsFor l (file_site f) × (last ≡ first ++ labelled_file l f)

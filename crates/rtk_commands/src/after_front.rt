@@ -3,15 +3,15 @@
 ghost use Rattle.std.specs.Prelude.{◌≡◌, ◌≢◌, ◌⊎◌, IfOk, OnOk, OnErr, IfErr, Err, [], IsErrOf};
 ghost use Rattle.rtk_frame.specs.Stream.{CountRises};
 ghost use Rattle.rtk_cut.specs.Cut.{IsStepOrNone};
-ghost use Rattle.rtk_cut.specs.CutWriting.{WritesPart, CountsPart, WritesFirstOfPart};
 ghost use Rattle.rtk_streams.specs.declared.fault.ToolFault.TheVariants.{OutOfMemory, Output};
-ghost use Rattle.rtk_commands.specs.CutInput.{WritesRestOfPart, WritesFirstOfRest};
+ghost use Rattle.rtk_commands.specs.CutInput.{WritesPartOfFile, WritesFirstOfPartOfFile, CountsPartOfFile, WritesRestOfPart, WritesFirstOfRest};
+ghost use Rattle.rtk_commands.specs.FileTable.{text_of, HasItsLetter};
 
+use crate::any_table::AnyTable;
 use arrayvec::ArrayVec;
-use rtk_cut::{CutCounts, CutFault, Part, cut};
+use rtk_cut::{CutCounts, CutFault, Part};
 use rtk_frame::{Sink, StreamFault};
 use rtk_label::PLAIN_FRONT;
-use rtk_rinex::TextTable;
 use rtk_streams::{Before, ToolFault};
 use std::alloc::Global;
 use std::marker::{Brand, Model, PhantomData};
@@ -87,19 +87,20 @@ impl<W: Sink, K: Before> Sink for AfterFront<W, K> {
 // Writes the part of a table.
 fn cut_table<W: Sink>(
     alloc: Global,
-    table: &TextTable<'_>,
+    table: &AnyTable<'_>,
     part: Part,
     out: &mut W,
 ) -> Result<CutCounts, ToolFault>
+    requires letter { HasItsLetter table.now }
     requires step { IsStepOrNone part.every }
-    ensures all { OnOk result (WritesPart table.now.text part (W.taken out.old) (W.taken out.new)) }
-    ensures counts { IfOk result (CountsPart table.now.text part) }
-    ensures first { OnErr result (WritesFirstOfPart table.now.text part (W.taken out.old) (W.taken out.new)) }
+    ensures all { OnOk result (WritesPartOfFile (text_of table.now) part (W.taken out.old) (W.taken out.new)) }
+    ensures counts { IfOk result (CountsPartOfFile (text_of table.now) part) }
+    ensures first { OnErr result (WritesFirstOfPartOfFile (text_of table.now) part (W.taken out.old) (W.taken out.new)) }
     ensures output { IsErrOf result Output → CountRises (W.failures out.old) (W.failures out.new) }
     ensures no_failed_write { result ≢ Err Output → W.failures out.new ≡ W.failures out.old }
     ensures faults { IfErr result (λ fault. (fault ≡ OutOfMemory) ⊎ (fault ≡ Output)) }
 {
-    match cut(alloc, table, part, out) {
+    match table.cut(alloc, part, out) {
         Ok(counts) => Ok(counts),
         Err(CutFault::OutOfMemory) => Err(ToolFault::OutOfMemory),
         Err(CutFault::Write) => Err(ToolFault::Output),
@@ -109,15 +110,16 @@ fn cut_table<W: Sink>(
 // `cut_rest` by what `K` knows of the sink.
 fn cut_rest_by<W: Sink + Drop, K: Before>(
     alloc: Global,
-    table: &TextTable<'_>,
+    table: &AnyTable<'_>,
     part: Part,
     out: W,
 ) -> (W, Result<CutCounts, ToolFault>)
+    requires letter { HasItsLetter table.now }
     requires step { IsStepOrNone part.every }
     requires known { K.held 0 ≡ W.taken out }
-    ensures all { OnOk result.1 (WritesRestOfPart table.now.text part (W.taken out) (W.taken result.0)) }
-    ensures counts { IfOk result.1 (CountsPart table.now.text part) }
-    ensures first { OnErr result.1 (WritesFirstOfRest table.now.text part (W.taken out) (W.taken result.0)) }
+    ensures all { OnOk result.1 (WritesRestOfPart (text_of table.now) part (W.taken out) (W.taken result.0)) }
+    ensures counts { IfOk result.1 (CountsPartOfFile (text_of table.now) part) }
+    ensures first { OnErr result.1 (WritesFirstOfRest (text_of table.now) part (W.taken out) (W.taken result.0)) }
     ensures output { IsErrOf result.1 Output → CountRises (W.failures out) (W.failures result.0) }
     ensures no_failed_write { result.1 ≢ Err Output → W.failures result.0 ≡ W.failures out }
     ensures faults { IfErr result.1 (λ fault. (fault ≡ OutOfMemory) ⊎ (fault ≡ Output)) }
@@ -130,14 +132,15 @@ fn cut_rest_by<W: Sink + Drop, K: Before>(
 /// Writes the part of a table without the nine lines that a label changes.
 pub(crate) fn cut_rest<W: Sink + Drop>(
     alloc: Global,
-    table: &TextTable<'_>,
+    table: &AnyTable<'_>,
     part: Part,
     out: W,
 ) -> (W, Result<CutCounts, ToolFault>)
+    requires letter { HasItsLetter table.now }
     requires step { IsStepOrNone part.every }
-    ensures all { OnOk result.1 (WritesRestOfPart table.now.text part (W.taken out) (W.taken result.0)) }
-    ensures counts { IfOk result.1 (CountsPart table.now.text part) }
-    ensures first { OnErr result.1 (WritesFirstOfRest table.now.text part (W.taken out) (W.taken result.0)) }
+    ensures all { OnOk result.1 (WritesRestOfPart (text_of table.now) part (W.taken out) (W.taken result.0)) }
+    ensures counts { IfOk result.1 (CountsPartOfFile (text_of table.now) part) }
+    ensures first { OnErr result.1 (WritesFirstOfRest (text_of table.now) part (W.taken out) (W.taken result.0)) }
     ensures output { IsErrOf result.1 Output → CountRises (W.failures out) (W.failures result.0) }
     ensures no_failed_write { result.1 ≢ Err Output → W.failures result.0 ≡ W.failures out }
     ensures faults { IfErr result.1 (λ fault. (fault ≡ OutOfMemory) ⊎ (fault ≡ Output)) }

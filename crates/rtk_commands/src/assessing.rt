@@ -2,8 +2,10 @@
 
 ghost use Rattle.std.specs.Prelude.{◌≡◌, IfOk};
 ghost use Rattle.rtk_commands.specs.QualityInput.{TellsTable};
-ghost use Rattle.rtk_commands.specs.WithLabel.{WritesOfTable};
+ghost use Rattle.rtk_commands.specs.FileTable.{text_of, HasItsLetter};
+ghost use Rattle.rtk_commands.specs.WithLabel.{MakesOfFile, WritesOfTable};
 
+use crate::any_table::AnyTable;
 use crate::file_answer::FileAnswer;
 use crate::file_command::FileCommand;
 use crate::rendered::{Rendered, write_rendered};
@@ -13,15 +15,26 @@ use rtk_quality::{Form, quality};
 use rtk_streams::ToolFault;
 use std::alloc::{AllocError, Global};
 
+// The numbers of a file, if it is one of GPS.
+fn numbers_of_file(alloc: Global, table: &AnyTable<'_>, form: Form) -> Result<Rendered, AllocError>
+    requires { HasItsLetter table.now }
+    ensures { IfOk result (λ numbers. MakesOfFile (TellsTable form) (text_of table.now) numbers.answer numbers.bytes.items) }
+{
+    match table {
+        AnyTable::Gps(table) => Ok(Rendered {
+            answer: FileAnswer::Written,
+            bytes: quality(alloc, form, table)?,
+        }),
+        AnyTable::Mixed(_) => Ok(Rendered::other_systems(alloc)),
+    }
+}
+
 // The numbers of a text, without the label that it has.
 fn numbers_of(alloc: Global, text: &mut [u8], form: Form) -> Result<Rendered, AllocError>
     ensures { IfOk result (λ numbers. WritesOfTable (TellsTable form) text.old numbers.answer numbers.bytes.items) }
 {
     match table_with_label(text) {
-        Ok(file) => Ok(Rendered {
-            answer: FileAnswer::Written,
-            bytes: quality(alloc, form, &file.table)?,
-        }),
+        Ok(file) => numbers_of_file(alloc, &file.table, form),
         Err(fault) => Ok(Rendered::refusal(alloc, fault)),
     }
 }

@@ -3,8 +3,10 @@
 ghost use Rattle.std.specs.Prelude.{◌≡◌, IfOk};
 ghost use Rattle.std.specs.Option.{ForSome};
 ghost use Rattle.rtk_commands.specs.ChartInput.{IsWidth, IsPicture, DrawsFile, DrawsTable};
-ghost use Rattle.rtk_commands.specs.WithLabel.{WritesOfTable};
+ghost use Rattle.rtk_commands.specs.FileTable.{text_of, HasItsLetter};
+ghost use Rattle.rtk_commands.specs.WithLabel.{MakesOfFile, WritesOfTable};
 
+use crate::any_table::AnyTable;
 use crate::file_answer::FileAnswer;
 use crate::file_command::FileCommand;
 use crate::rendered::{Rendered, write_rendered};
@@ -56,13 +58,29 @@ fn picture_if_any(
     })
 }
 
+// The picture of a file, if it is one of GPS.
+fn picture_of_file(
+    alloc: Global,
+    table: &AnyTable<'_>,
+    chart: &Chart,
+) -> Result<Rendered, AllocError>
+    requires width { ForSome chart.now.width IsWidth }
+    requires letter { HasItsLetter table.now }
+    ensures { IfOk result (λ picture. MakesOfFile (DrawsTable chart.now) (text_of table.now) picture.answer picture.bytes.items) }
+{
+    match table {
+        AnyTable::Gps(table) => picture_if_any(alloc, table, chart),
+        AnyTable::Mixed(_) => Ok(Rendered::other_systems(alloc)),
+    }
+}
+
 // The picture of a text, without the label that it has.
 fn picture_of_text(alloc: Global, text: &mut [u8], chart: &Chart) -> Result<Rendered, AllocError>
     requires { ForSome chart.now.width IsWidth }
     ensures { IfOk result (λ picture. WritesOfTable (DrawsTable chart.now) text.old picture.answer picture.bytes.items) }
 {
     match table_with_label(text) {
-        Ok(file) => picture_if_any(alloc, &file.table, chart),
+        Ok(file) => picture_of_file(alloc, &file.table, chart),
         Err(fault) => Ok(Rendered::refusal(alloc, fault)),
     }
 }

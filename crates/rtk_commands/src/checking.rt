@@ -5,21 +5,23 @@ ghost use Rattle.std.specs.Prelude.{◌≡◌, ◌≢◌, ◌++◌, Err, IfOk, O
 ghost use Rattle.rtk_frame.specs.Stream.{CountRises};
 ghost use Rattle.rtk_streams.specs.Input.{GivesText, ReadsWhole};
 ghost use Rattle.rtk_rinex.specs.CauseText.{cause_text};
+ghost use Rattle.rtk_commands.specs.FileTable.{records_of, lines_of};
 ghost use Rattle.rtk_commands.specs.CheckInput.{valid_text, check_fault_text, WritesVerdict, ChecksText, ChecksPartOf};
 ghost use Rattle.rtk_streams.specs.declared.fault.ToolFault.TheVariants.{Output};
 ghost use Rattle.rtk_commands.specs.declared.file_answer.FileAnswer.TheVariants.{Written};
 
+use crate::any_table::{AnyTable, check_any};
 use crate::file_answer::FileAnswer;
 use crate::file_command::{CHECK_LIMIT, FileCommand};
 use crate::rendered::{Rendered, write_rendered};
 use rtk_frame::{Sink, Source, write_all};
 use rtk_message::put_named;
-use rtk_rinex::{Cause, CheckFault, TextTable, check_text};
+use rtk_rinex::{Cause, CheckFault};
 use rtk_streams::{ToolFault, read_whole};
 use std::alloc::{AllocError, Global};
 
-fn valid_line(alloc: Global, table: &TextTable<'_>) -> Result<Vec<u8>, AllocError>
-    ensures { IfOk result (λ line. line.items ≡ valid_text table.now.epochs table.now.satellites) }
+fn valid_line(alloc: Global, table: &AnyTable<'_>) -> Result<Vec<u8>, AllocError>
+    ensures { IfOk result (λ line. line.items ≡ valid_text (records_of table.now) (lines_of table.now)) }
 {
     let mut line = Vec::new(alloc);
     put_named(&mut line, b"valid: ", table.epochs() as u64)?;
@@ -49,7 +51,7 @@ fn fault_line(alloc: Global, fault: CheckFault) -> Result<Vec<u8>, AllocError>
 fn verdict_of(alloc: Global, text: &[u8]) -> Result<Rendered, AllocError>
     ensures { IfOk result (λ verdict. WritesVerdict text.now verdict.answer verdict.bytes.items) }
 {
-    match check_text(text) {
+    match check_any(text) {
         Ok(table) => Ok(Rendered {
             answer: FileAnswer::Written,
             bytes: valid_line(alloc, &table)?,

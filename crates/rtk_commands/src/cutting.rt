@@ -3,8 +3,8 @@
 ghost use Rattle.std.specs.Prelude.{◌≡◌, ◌≢◌, ◌⊎◌, Err, IfOk, OnOk, OnErr, IfErr, IsErrOf};
 ghost use Rattle.rtk_frame.specs.Stream.{CountRises};
 ghost use Rattle.rtk_cut.specs.Cut.{IsStepOrNone};
-ghost use Rattle.rtk_cut.specs.CutWriting.{CountsPart};
-ghost use Rattle.rtk_commands.specs.CutInput.{WritesLabelledPart, WritesFirstOfLabelledPart};
+ghost use Rattle.rtk_commands.specs.CutInput.{CountsPartOfFile, WritesLabelledPart, WritesFirstOfLabelledPart};
+ghost use Rattle.rtk_commands.specs.FileTable.{text_of, HasItsLetter};
 ghost use Rattle.rtk_streams.specs.declared.fault.ToolFault.TheVariants.{OutOfMemory, Output};
 
 use crate::after_front::cut_rest;
@@ -13,7 +13,7 @@ use crate::file_command::FileCommand;
 use crate::with_label::{LabelledTable, table_with_label};
 use rtk_cut::{CutCounts, Part};
 use rtk_frame::Sink;
-use rtk_label::{front_is_changed, write_front};
+use rtk_label::{front_is_changed, mixed_label_laws};
 use rtk_streams::ToolFault;
 use std::alloc::Global;
 
@@ -24,17 +24,19 @@ fn cut_labelled<W: Sink + Drop>(
     part: Part,
     out: W,
 ) -> (W, Result<CutCounts, ToolFault>)
+    requires letter { HasItsLetter file.now.table }
     requires step { IsStepOrNone part.every }
-    ensures all { OnOk result.1 (WritesLabelledPart file.now.label file.now.table.text part (W.taken out) (W.taken result.0)) }
-    ensures counts { IfOk result.1 (CountsPart file.now.table.text part) }
-    ensures first { OnErr result.1 (WritesFirstOfLabelledPart file.now.label file.now.table.text part (W.taken out) (W.taken result.0)) }
+    ensures all { OnOk result.1 (WritesLabelledPart file.now.label (text_of file.now.table) part (W.taken out) (W.taken result.0)) }
+    ensures counts { IfOk result.1 (CountsPartOfFile (text_of file.now.table) part) }
+    ensures first { OnErr result.1 (WritesFirstOfLabelledPart file.now.label (text_of file.now.table) part (W.taken out) (W.taken result.0)) }
     ensures output { IsErrOf result.1 Output → CountRises (W.failures out) (W.failures result.0) }
     ensures no_failed_write { result.1 ≢ Err Output → W.failures result.0 ≡ W.failures out }
     ensures faults { IfErr result.1 (λ fault. (fault ≡ OutOfMemory) ⊎ (fault ≡ Output)) }
 {
     front_is_changed();
+    mixed_label_laws();
     let mut out = out;
-    if write_front(&file.label, &file.table, &mut out).is_err() {
+    if file.table.write_front(&file.label, &mut out).is_err() {
         return (out, Err(ToolFault::Output));
     }
     cut_rest(alloc, &file.table, part, out)

@@ -20,6 +20,8 @@ pub enum FileAnswer {
     Height,
     /// Nothing is written: the file has no row of a satellite that is chosen.
     NoneChosen,
+    /// Nothing is written: the file has other systems than GPS, of which this command knows nothing.
+    OtherSystems,
 }
 
 impl FileAnswer {
@@ -54,6 +56,10 @@ impl FileAnswer {
                 let _printed = eprintln!(rt;
                     "rtcm2rinex: none of the chosen satellites is in the file"
                 );
+                NOT_VALID
+            }
+            FileAnswer::OtherSystems => {
+                let _printed = eprintln!(rt; "rtcm2rinex: other systems than GPS");
                 NOT_VALID
             }
         }

@@ -4,7 +4,7 @@ use crate::file_answer::FileAnswer;
 use crate::file_command::FileCommand;
 use crate::with_label::table_with_label;
 use rtk_frame::Sink;
-use rtk_label::{Label, is_for, write_labelled};
+use rtk_label::Label;
 use rtk_streams::ToolFault;
 use std::alloc::Global;
 
@@ -32,11 +32,11 @@ impl FileCommand for Label {
             Ok(file) => file,
             Err(fault) => return (out, Ok(FileAnswer::Refused(fault))),
         };
-        if !is_for(self, &file.table) {
+        if !file.table.is_for(self) {
             return (out, Ok(FileAnswer::Height));
         }
         let mut out = out;
-        match write_labelled(self, &file.table, &mut out) {
+        match file.table.write_labelled(self, &mut out) {
             Ok(()) => (out, Ok(FileAnswer::Written)),
             Err(_) => (out, Err(ToolFault::Output)),
         }

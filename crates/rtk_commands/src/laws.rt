@@ -12,7 +12,7 @@ ghost use Rattle.rtk_commands.specs.Shown.{IsLineOf, AreLinesBy, AreLinesOf};
 ghost use Rattle.rtk_commands.specs.ShownByKind.{IsLineOfKind};
 ghost use Rattle.rtk_commands.specs.WrittenLaws.{LineFollows, PictureFollows, NumbersFollow, PartFollows, LabelFollows};
 
-use rtk_rinex::one_fault;
+use rtk_rinex::{one_fault, one_mixed_fault, text_of_a_mixed_table, text_of_a_table};
 
 /// A payload has one line, in `show` and by each kind of MSM.
 pub fn one_line_of_a_payload()
@@ -51,6 +51,9 @@ pub fn one_line_tells_one_answer()
     ensures apart { NoLineSaysBoth }
 {
     one_fault();
+    one_mixed_fault();
+    text_of_a_table();
+    text_of_a_mixed_table();
 }
 
 /// What `check`, `chart`, `quality`, `cut` and `label` are said to have written stands right after what the

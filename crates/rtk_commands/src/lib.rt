@@ -31,6 +31,7 @@
 #![tactic(auto)]
 
 mod after_front;
+mod any_table;
 mod assessing;
 mod charting;
 mod checking;

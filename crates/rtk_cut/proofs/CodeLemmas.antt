@@ -9,6 +9,8 @@ use Rattle.rtk_rinex.specs.declared.epoch_table.Observed.{Observed}
 use Rattle.rtk_rinex.specs.declared.epoch_table.SatelliteRow.{SatelliteRow}
 use Rattle.rtk_rinex.specs.Record.{IsStrengthOrNone, has_observation, has_line, no_observation}
 use Rattle.rtk_rinex.specs.Table.{IsLock, IsObserved, IsTableRow}
+use Rattle.rtk_rinex.specs.MixedForm.{FormView}
+use Rattle.rtk_rinex.specs.MixedTable.{HasNoPhase, IsMixedRow}
 use Rattle.rtk_cut.specs.Cut.{code_at, with_slip, row_with_slips}
 use Rattle.rtk_cut.proofs.TestLemmas.{map-agree_below}
 
@@ -86,8 +88,8 @@ codes-strong [] c good = tt
 codes-strong (x ∷ xs) zero good = All-head HasStrength x xs good
 codes-strong (x ∷ xs) (suc c) good = codes-strong xs c (All-tail HasStrength x xs good)
 
-pub row-no_slip : (n c : ℕ) (r : SatelliteRow) → IsTableRow n r → is_some (code_at c r).phase_millicycles ≡ false → (code_at c r).slip ≡ false
-row-no_slip n c r good none = no-slip (code_at c r) (codes-good r.observed.items c good.observed) none
+pub row-no_slip : (c : ℕ) (r : SatelliteRow) → All IsObserved r.observed.items → is_some (code_at c r).phase_millicycles ≡ false → (code_at c r).slip ≡ false
+row-no_slip c r good none = no-slip (code_at c r) (codes-good r.observed.items c good) none
 
 -- past the last code there is nothing
 pub code-past : (c : ℕ) (r : SatelliteRow) → length r.observed.items ≤ c → code_at c r ≡ no_observation
@@ -106,15 +108,45 @@ line-kept : (slips : ℕ → Bool) (r : SatelliteRow) → has_line (row_with_sli
 line-kept slips r =
     any-kept slips (λ c. code_at c r) (range_with_len 0 (length r.observed.items)) ∙ ap (λ (os : List Observed). list_any has_observation os) (codes-own r.observed.items)
 
+pub row-wide : (slips : ℕ → Bool) (r : SatelliteRow) → length (row_with_slips slips r).observed.items ≡ length r.observed.items
+row-wide slips r = length-map-range_with_len (λ c. with_slip (slips c) (code_at c r)) 0 (length r.observed.items)
+
+-- what holds of each observation with any slip, holds of those of a row with any slips
+pub row-all : (P : Observed → Type 0) (slips : ℕ → Bool) (r : SatelliteRow) → ((c : ℕ) → P (with_slip (slips c) (code_at c r))) → All P (row_with_slips slips r).observed.items
+row-all P slips r each =
+    All-map P (λ c. with_slip (slips c) (code_at c r)) (range_with_len 0 (length r.observed.items))
+    (λ k d lt. each (get_or (range_with_len 0 (length r.observed.items)) k d))
+
+pub row-observed : (slips : ℕ → Bool) (r : SatelliteRow) → All IsObserved r.observed.items → All IsObserved (row_with_slips slips r).observed.items
+row-observed slips r good = row-all IsObserved slips r (λ c. with_slip-good (slips c) (code_at c r) (codes-good r.observed.items c good))
+
 -- a satellite of a file with any slips is one of a file
 pub row-good : (slips : ℕ → Bool) (n : ℕ) (r : SatelliteRow) → IsTableRow n r → IsTableRow n (row_with_slips slips r)
 row-good slips n r good =
     record {
       satellite = good.satellite;
-      width = length-map-range_with_len (λ c. with_slip (slips c) (code_at c r)) 0 (length r.observed.items) ∙ good.width;
-      observed = All-map IsObserved (λ c. with_slip (slips c) (code_at c r)) (range_with_len 0 (length r.observed.items))
-          (λ k d lt. let c = get_or (range_with_len 0 (length r.observed.items)) k d in
-          with_slip-good (slips c) (code_at c r) (codes-good r.observed.items c good.observed));
+      width = row-wide slips r ∙ good.width;
+      observed = row-observed slips r good.observed;
+      line = line-kept slips r ∙ good.line;
+    }
+
+codes-without_phase : (xs : List Observed) (c : ℕ) → All HasNoPhase xs → HasNoPhase (get_or xs c no_observation)
+codes-without_phase [] c none = refl
+codes-without_phase (x ∷ xs) zero none = All-head HasNoPhase x xs none
+codes-without_phase (x ∷ xs) (suc c) none = codes-without_phase xs c (All-tail HasNoPhase x xs none)
+
+phase-kept : (b slip : Bool) (o : Observed) → is_some o.phase_millicycles ≡ b → HasNoPhase o → HasNoPhase (with_slip slip o)
+phase-kept true slip o is none = rw is none
+phase-kept false slip o is none = rw is none
+
+-- so is one of any systems
+pub row-good_mixed : (slips : ℕ → Bool) (f : FormView) (r : SatelliteRow) → IsMixedRow f r → IsMixedRow f (row_with_slips slips r)
+row-good_mixed slips f r good =
+    record {
+      satellite = good.satellite;
+      width = row-wide slips r ∙ good.width;
+      observed = row-observed slips r good.observed;
+      phases = λ none. row-all HasNoPhase slips r (λ c. phase-kept (is_some (code_at c r).phase_millicycles) (slips c) (code_at c r) refl (codes-without_phase r.observed.items c (good.phases none)));
       line = line-kept slips r ∙ good.line;
     }
 

@@ -5,6 +5,8 @@ pub mod RowLemmas
 pub mod ShownLemmas
 pub mod PendingLemmas
 pub mod MarkLemmas
+pub mod GpsFileLemmas
+pub mod MixedFileLemmas
 pub mod SpanLemmas
 pub mod ThinnedLemmas
 pub mod PartFileLemmas

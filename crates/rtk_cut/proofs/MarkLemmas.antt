@@ -11,8 +11,8 @@ use Rattle.std.proofs.lemmas.List.FromFn.{fill_by_all, length-map-range_with_len
 use Rattle.rtk_rinex.specs.declared.epoch_table.Observed.{Observed}
 use Rattle.rtk_rinex.specs.declared.epoch_table.SatelliteRow.{SatelliteRow}
 use Rattle.rtk_rinex.specs.Record.{IsSatelliteRow, HasWidth, no_observation}
-use Rattle.rtk_cut.specs.Cut.{Step, code_at, with_slip}
-use Rattle.rtk_cut.specs.Steps.Pending.{mark_of, MarksBecome, StandsForSlips, row_has_slip, row_has_phase, codes_with_marks, row_with_marks}
+use Rattle.rtk_cut.specs.Cut.{code_at, with_slip}
+use Rattle.rtk_cut.specs.Steps.Pending.{mark_of, HasMarks, MarksBecome, StandsForNone, row_has_slip, row_has_phase, codes_with_marks, row_with_marks}
 use Rattle.rtk_cut.proofs.TestLemmas.{or-moved, and-nothing, map-agree_below}
 use Rattle.rtk_cut.proofs.CodeLemmas.{HasStrength, codes-strong, code-past, with_slip-strength}
 use Rattle.rtk_cut.proofs.RowLemmas.{Rise, none-before}
@@ -59,15 +59,16 @@ note-none r marks = λ s c satellite code.
     sym (ap (λ b. (eqb r.satellite s && (b && (code_at c r).slip)) || mark_of marks s c) (le-ltb c 0 (omega arith))
     ∙ ap (λ b. b || mark_of marks s c) (and-nothing (eqb r.satellite s)))
 
-pub note-more : (r : SatelliteRow) (old marks marks' : List Bool) (i : ℕ) → i < 16 → length marks ≡ 528
+pub note-more : (r : SatelliteRow) (old marks marks' : List Bool) (i : ℕ) → i < 16 → length marks' ≡ length marks
     → MarksBecome marks (λ s c. (eqb r.satellite s && (ltb c i && (code_at c r).slip)) || mark_of old s c)
     → ((n : ℕ) → n < length marks → get_or marks' n false ≡ (((code_at i r).slip && eqb (16 * r.satellite + i) n) || get_or marks n false))
     → MarksBecome marks' (λ s c. (eqb r.satellite s && (ltb c (i + 1) && (code_at c r).slip)) || mark_of old s c)
 note-more r old marks marks' i small size so_far marked = λ s c satellite code.
-    let within : 16 * s + c < length marks = omega (arith, size, satellite, code) in
+    let has : HasMarks marks s = omega (arith, size, satellite) in
+    let within : 16 * s + c < length marks = omega (arith, has, code) in
     marked (16 * s + c) within
     ∙ ap (λ b. ((code_at i r).slip && b) || mark_of marks s c) (place-same r.satellite i s c small code)
-    ∙ ap (λ b. ((code_at i r).slip && (eqb r.satellite s && eqb i c)) || b) (so_far s c satellite code)
+    ∙ ap (λ b. ((code_at i r).slip && (eqb r.satellite s && eqb i c)) || b) (so_far s c has code)
     ∙ note-at (eqb i c) (eqb r.satellite s) (code_at i r).slip (code_at c r).slip (ltb c i) (ltb c (i + 1)) (mark_of old s c)
     (λ is. let below = below-same i c is in (ap (λ (k : ℕ). (code_at k r).slip) (eqb-true i c is), below.0, below.1)) (below-other i c)
 
@@ -83,11 +84,12 @@ pub note-all : (r : SatelliteRow) (old marks : List Bool) (i : ℕ) → length r
 note-all r old marks i past so_far = λ s c satellite code.
     so_far s c satellite code ∙ ap (λ b. (eqb r.satellite s && b) || mark_of old s c) (all-below i c r (ltb c i) refl past)
 
-pub rows-noted : (rows : List SatelliteRow) (i : ℕ) (d : SatelliteRow) (old marks marks' : List Bool) → i < length rows
+pub rows-noted : (rows : List SatelliteRow) (i : ℕ) (d : SatelliteRow) (old marks marks' : List Bool) → i < length rows → length marks' ≡ length marks
     → MarksBecome marks (λ s c. list_any (row_has_slip s c) (take i rows) || mark_of old s c) → MarksBecome marks' (λ s c. row_has_slip s c (get_or rows i d) || mark_of marks s c)
     → MarksBecome marks' (λ s c. list_any (row_has_slip s c) (take (i + 1) rows) || mark_of old s c)
-rows-noted rows i d old marks marks' lt so_far marked = λ s c satellite code.
-    marked s c satellite code ∙ ap (λ b. row_has_slip s c (get_or rows i d) || b) (so_far s c satellite code)
+rows-noted rows i d old marks marks' lt size so_far marked = λ s c satellite code.
+    let has : HasMarks marks s = omega (arith, size, satellite) in
+    marked s c satellite code ∙ ap (λ b. row_has_slip s c (get_or rows i d) || b) (so_far s c has code)
     ∙ sym (or-moved (list_any (row_has_slip s c) (take i rows)) (row_has_slip s c (get_or rows i d)) (mark_of old s c))
     ∙ ap (λ b. b || mark_of old s c) (sym (list_any_more (row_has_slip s c) rows i d lt))
 
@@ -117,20 +119,21 @@ clear-none r marks = λ s c satellite code.
     sym (ap (λ b. not (row_has_phase s c r && b) && mark_of marks s c) (le-ltb c 0 (omega arith))
     ∙ ap (λ b. not b && mark_of marks s c) (and-nothing (row_has_phase s c r)))
 
-pub clear-more : (r : SatelliteRow) (old marks marks' : List Bool) (i : ℕ) → i < 16 → length marks ≡ 528
+pub clear-more : (r : SatelliteRow) (old marks marks' : List Bool) (i : ℕ) → i < 16 → length marks' ≡ length marks
     → MarksBecome marks (λ s c. not (row_has_phase s c r && ltb c i) && mark_of old s c)
     → ((n : ℕ) → n < length marks → get_or marks' n false ≡ (not (is_some (code_at i r).phase_millicycles && eqb (16 * r.satellite + i) n) && get_or marks n false))
     → MarksBecome marks' (λ s c. not (row_has_phase s c r && ltb c (i + 1)) && mark_of old s c)
 clear-more r old marks marks' i small size so_far marked = λ s c satellite code.
-    let within : 16 * s + c < length marks = omega (arith, size, satellite, code) in
+    let has : HasMarks marks s = omega (arith, size, satellite) in
+    let within : 16 * s + c < length marks = omega (arith, has, code) in
     marked (16 * s + c) within
     ∙ ap (λ b. not (is_some (code_at i r).phase_millicycles && b) && mark_of marks s c) (place-same r.satellite i s c small code)
-    ∙ ap (λ b. not (is_some (code_at i r).phase_millicycles && (eqb r.satellite s && eqb i c)) && b) (so_far s c satellite code)
+    ∙ ap (λ b. not (is_some (code_at i r).phase_millicycles && (eqb r.satellite s && eqb i c)) && b) (so_far s c has code)
     ∙ clear-at (eqb i c) (eqb r.satellite s) (is_some (code_at i r).phase_millicycles) (is_some (code_at c r).phase_millicycles) (ltb c i) (ltb c (i + 1)) (mark_of old s c)
     (λ is. let below = below-same i c is in (ap (λ (k : ℕ). is_some (code_at k r).phase_millicycles) (eqb-true i c is), below.0, below.1)) (below-other i c)
 
 -- the mark of a code that is not reached yet
-pub not-reached : (r : SatelliteRow) (old marks : List Bool) (i : ℕ) → r.satellite ≤ 32 → i < 16
+pub not-reached : (r : SatelliteRow) (old marks : List Bool) (i : ℕ) → HasMarks marks r.satellite → i < 16
     → MarksBecome marks (λ s c. not (row_has_phase s c r && ltb c i) && mark_of old s c) → mark_of marks r.satellite i ≡ mark_of old r.satellite i
 not-reached r old marks i low small so_far =
     so_far r.satellite i low small ∙ ap (λ b. not (row_has_phase r.satellite i r && b) && mark_of old r.satellite i) (le-ltb i i (omega arith))
@@ -157,17 +160,22 @@ pub marks-width : (marks : List Bool) (n : ℕ) (rows : List SatelliteRow) → H
 marks-width marks n rows = All-map (λ (r : SatelliteRow). length r.observed.items ≡ n) (row_with_marks marks n) rows
     (λ k d lt. let r = get_or rows k d in length-map-range_with_len (λ c. with_slip ((code_at c r).slip || mark_of marks r.satellite c) (code_at c r)) 0 n)
 
--- the codes of a row show the same by the marks that rows before it left
-pub codes-before : (old marks : List Bool) (n : ℕ) (rows : List SatelliteRow) (k : ℕ) (d : SatelliteRow) → n ≤ 16 → Rise rows → k < length rows → (get_or rows k d).satellite ≤ 32
+-- the codes of a row show the same by the same marks
+pub codes-same : (marks old : List Bool) (n : ℕ) (r : SatelliteRow) → ((c : ℕ) → c < n → mark_of marks r.satellite c ≡ mark_of old r.satellite c) → codes_with_marks marks n r ≡ codes_with_marks old n r
+codes-same marks old n r same =
+    map-agree_below (λ c. with_slip ((code_at c r).slip || mark_of marks r.satellite c) (code_at c r)) (λ c. with_slip ((code_at c r).slip || mark_of old r.satellite c) (code_at c r)) 0 n
+    (λ c inside. let within : c < n = omega arith in ap (λ b. with_slip ((code_at c r).slip || b) (code_at c r)) (same c within))
+
+-- so they do by the marks that rows before it left
+pub codes-before : (old marks : List Bool) (n : ℕ) (rows : List SatelliteRow) (k : ℕ) (d : SatelliteRow) → n ≤ 16 → Rise rows → k < length rows → HasMarks marks (get_or rows k d).satellite
     → MarksBecome marks (λ s c. not (list_any (row_has_phase s c) (take k rows) && ltb c n) && mark_of old s c)
     → codes_with_marks marks n (get_or rows k d) ≡ codes_with_marks old n (get_or rows k d)
 codes-before old marks n rows k d few rise lt low so_far =
     let r : SatelliteRow = get_or rows k d in
-    map-agree_below (λ c. with_slip ((code_at c r).slip || mark_of marks r.satellite c) (code_at c r)) (λ c. with_slip ((code_at c r).slip || mark_of old r.satellite c) (code_at c r)) 0 n
-    (λ c inside. let code : c < 16 = omega arith in
-    ap (λ b. with_slip ((code_at c r).slip || b) (code_at c r))
-    (so_far r.satellite c low code
-    ∙ ap (λ b. not (b && ltb c n) && mark_of old r.satellite c) (none-before (λ x. is_some (code_at c x).phase_millicycles) rows k d rise lt)))
+    codes-same marks old n r (λ c inside.
+    let code : c < 16 = omega arith in
+    so_far r.satellite c low code
+    ∙ ap (λ b. not (b && ltb c n) && mark_of old r.satellite c) (none-before (λ x. is_some (code_at c x).phase_millicycles) rows k d rise lt))
 
 or-cleared : (x y n old : Bool) → (not (y && n) && (not (x && n) && old)) ≡ (not ((x || y) && n) && old)
 or-cleared true true true old = refl
@@ -179,12 +187,13 @@ or-cleared false true false old = refl
 or-cleared false false true old = refl
 or-cleared false false false old = refl
 
-pub rows-cleared : (n : ℕ) (rows : List SatelliteRow) (i : ℕ) (d : SatelliteRow) (old marks marks' : List Bool) → i < length rows
+pub rows-cleared : (n : ℕ) (rows : List SatelliteRow) (i : ℕ) (d : SatelliteRow) (old marks marks' : List Bool) → i < length rows → length marks' ≡ length marks
     → MarksBecome marks (λ s c. not (list_any (row_has_phase s c) (take i rows) && ltb c n) && mark_of old s c)
     → MarksBecome marks' (λ s c. not (row_has_phase s c (get_or rows i d) && ltb c n) && mark_of marks s c)
     → MarksBecome marks' (λ s c. not (list_any (row_has_phase s c) (take (i + 1) rows) && ltb c n) && mark_of old s c)
-rows-cleared n rows i d old marks marks' lt so_far marked = λ s c satellite code.
-    marked s c satellite code ∙ ap (λ b. not (row_has_phase s c (get_or rows i d) && ltb c n) && b) (so_far s c satellite code)
+rows-cleared n rows i d old marks marks' lt size so_far marked = λ s c satellite code.
+    let has : HasMarks marks s = omega (arith, size, satellite) in
+    marked s c satellite code ∙ ap (λ b. not (row_has_phase s c (get_or rows i d) && ltb c n) && b) (so_far s c has code)
     ∙ or-cleared (list_any (row_has_phase s c) (take i rows)) (row_has_phase s c (get_or rows i d)) (ltb c n) (mark_of old s c)
     ∙ ap (λ b. not (b && ltb c n) && mark_of old s c) (sym (list_any_more (row_has_phase s c) rows i d lt))
 
@@ -205,12 +214,12 @@ mapped-below marks n rows k r made rise lt is are =
     omega (arith, below, here, there)))
 
 -- a row as it is made by the marks that rows before it left
-pub row-made : (old marks : List Bool) (n : ℕ) (rows : List SatelliteRow) (k : ℕ) (r : SatelliteRow) (shown : List Observed) → n ≤ 16 → Rise rows → k < length rows → r.satellite ≤ 32
+pub row-made : (old marks : List Bool) (n : ℕ) (rows : List SatelliteRow) (k : ℕ) (r : SatelliteRow) (shown : List Observed) → n ≤ 16 → Rise rows → k < length rows → HasMarks marks r.satellite
     → r ≡ get_or rows k r → MarksBecome marks (λ s c. not (list_any (row_has_phase s c) (take k rows) && ltb c n) && mark_of old s c) → shown ≡ codes_with_marks marks n r
     → record { satellite = r.satellite; observed = record { items = shown } } ≡ row_with_marks old n (get_or rows k r)
 row-made old marks n rows k r shown few rise lt low is so_far made =
     let there : (get_or rows k r).satellite ≡ r.satellite = ap (λ (x : SatelliteRow). x.satellite) (sym is) in
-    let within : (get_or rows k r).satellite ≤ 32 = omega (arith, there, low) in
+    let within : HasMarks marks (get_or rows k r).satellite = omega (arith, there, low) in
     ap (λ (xs : List Observed). record { satellite = r.satellite; observed = record { items = xs } }) (made ∙ ap (λ (x : SatelliteRow). codes_with_marks marks n x) is ∙ codes-before old marks n rows k r few rise lt within so_far)
     ∙ ap (λ (s : ℕ). record { satellite = s; observed = record { items = codes_with_marks old n (get_or rows k r) } }) (sym there)
 
@@ -229,10 +238,8 @@ rows-kept rows k r row before after lt is so_far pushed same =
 
 -- ---- at the start
 
-pub fresh : (marks : List Bool) (step : Step) → marks ≡ replicate 528 false → StandsForSlips marks step []
-fresh marks step are = record {
-  size = ap (λ xs. length xs) are ∙ length-replicate 528 false;
-  marked = λ s c satellite code.
-      let within : 16 * s + c < 528 = omega (arith, satellite, code) in
-      ap (λ xs. get_or xs (16 * s + c) false) are ∙ get_or-replicate 528 (16 * s + c) false false within;
-}
+pub fresh : (n : ℕ) (marks : List Bool) → marks ≡ replicate n false → StandsForNone marks
+fresh n marks are = λ step s c satellite code.
+    let size : length marks ≡ n = ap (λ xs. length xs) are ∙ length-replicate n false in
+    let within : 16 * s + c < n = omega (arith, satellite, code, size) in
+    ap (λ xs. get_or xs (16 * s + c) false) are ∙ get_or-replicate n (16 * s + c) false false within

@@ -8,7 +8,8 @@ use Rattle.std.proofs.lemmas.List.Elements.{All-head, All-tail}
 use Rattle.std.proofs.lemmas.List.Folds.{list_any_none}
 use Rattle.rtk_rinex.specs.declared.epoch_table.Observed.{Observed}
 use Rattle.rtk_rinex.specs.declared.epoch_table.SatelliteRow.{SatelliteRow}
-use Rattle.rtk_rinex.specs.Table.{IsTableRow}
+use Rattle.rtk_rinex.specs.Record.{HasWidth}
+use Rattle.rtk_rinex.specs.Table.{IsObserved}
 use Rattle.rtk_cut.specs.Cut.{code_at}
 use Rattle.rtk_cut.specs.Steps.Pending.{row_has_slip, row_has_phase}
 use Rattle.rtk_cut.proofs.TestLemmas.{differ-and, same-and, or-nothing, and-nothing, and-all, pairs-head, pairs-tail}
@@ -57,25 +58,30 @@ slip-needs-phase true true slip x y here rest none = cc
 slip-needs-phase true false slip x y here rest none = rw (here refl, rest none) refl
 slip-needs-phase false phase slip x y here rest none = rest none
 
+-- what each code of each row shows can be shown by a file
+abbrev pub ShowObserved : List SatelliteRow → Type 0
+ShowObserved rows = All (λ r. All IsObserved r.observed.items) rows
+
 -- where no row has this phase, none has its slip
-pub rows-no_slip : (n s c : ℕ) (rows : List SatelliteRow) → All (IsTableRow n) rows → list_any (row_has_phase s c) rows ≡ false → list_any (row_has_slip s c) rows ≡ false
-rows-no_slip n s c [] good none = refl
-rows-no_slip n s c (r ∷ rows) good none =
+pub rows-no_slip : (s c : ℕ) (rows : List SatelliteRow) → ShowObserved rows → list_any (row_has_phase s c) rows ≡ false → list_any (row_has_slip s c) rows ≡ false
+rows-no_slip s c [] good none = refl
+rows-no_slip s c (r ∷ rows) good none =
+    let P : SatelliteRow → Type 0 = λ x. All IsObserved x.observed.items in
     slip-needs-phase (eqb r.satellite s) (is_some (code_at c r).phase_millicycles) (code_at c r).slip (list_any (row_has_phase s c) rows) (list_any (row_has_slip s c) rows)
-    (row-no_slip n c r (All-head (IsTableRow n) r rows good)) (rows-no_slip n s c rows (All-tail (IsTableRow n) r rows good)) none
+    (row-no_slip c r (All-head P r rows good)) (rows-no_slip s c rows (All-tail P r rows good)) none
 
 -- past the last code no row has a phase
-pub rows-past : (n s c : ℕ) (rows : List SatelliteRow) → All (IsTableRow n) rows → n ≤ c → list_any (row_has_phase s c) rows ≡ false
-rows-past n s c rows good past = list_any_none (row_has_phase s c) rows (λ k d lt.
+pub rows-past : (n s c : ℕ) (rows : List SatelliteRow) → HasWidth n rows → n ≤ c → list_any (row_has_phase s c) rows ≡ false
+rows-past n s c rows wide past = list_any_none (row_has_phase s c) rows (λ k d lt.
     let r = get_or rows k d in
-    let wide : length r.observed.items ≡ n = (good k d lt).width in
+    let own : length r.observed.items ≡ n = wide k d lt in
     let beyond : length r.observed.items ≤ c = omega arith in
     ap (λ (o : Observed). eqb r.satellite s && is_some o.phase_millicycles) (code-past c r beyond) ∙ and-nothing (eqb r.satellite s))
 
-within-if : (n s c : ℕ) (rows : List SatelliteRow) → All (IsTableRow n) rows → (b : Bool) → ltb c n ≡ b → (list_any (row_has_phase s c) rows && b) ≡ list_any (row_has_phase s c) rows
-within-if n s c rows good true is = and-all (list_any (row_has_phase s c) rows)
-within-if n s c rows good false is = and-nothing (list_any (row_has_phase s c) rows) ∙ sym (rows-past n s c rows good (ltb-false c n is))
+within-if : (n s c : ℕ) (rows : List SatelliteRow) → HasWidth n rows → (b : Bool) → ltb c n ≡ b → (list_any (row_has_phase s c) rows && b) ≡ list_any (row_has_phase s c) rows
+within-if n s c rows wide true is = and-all (list_any (row_has_phase s c) rows)
+within-if n s c rows wide false is = and-nothing (list_any (row_has_phase s c) rows) ∙ sym (rows-past n s c rows wide (ltb-false c n is))
 
 -- no phase stands past the last code
-pub rows-within : (n s c : ℕ) (rows : List SatelliteRow) → All (IsTableRow n) rows → (list_any (row_has_phase s c) rows && ltb c n) ≡ list_any (row_has_phase s c) rows
-rows-within n s c rows good = within-if n s c rows good (ltb c n) refl
+pub rows-within : (n s c : ℕ) (rows : List SatelliteRow) → HasWidth n rows → (list_any (row_has_phase s c) rows && ltb c n) ≡ list_any (row_has_phase s c) rows
+rows-within n s c rows wide = within-if n s c rows wide (ltb c n) refl

@@ -1,6 +1,6 @@
 -- What an epoch shows of a satellite and a code, and what the part shows of it.
 use Rattle.std.proofs.Common.{◌≡◌, ◌<◌, ℕ, Bool, true, false, ◌&&◌, eqb, Some, inl, inr, List, [], ◌∷◌, map, length, slice_get, refl, sym, ap, subst, ◌∙◌, arith}
-use Rattle.std.specs.Prelude.{is_some}
+use Rattle.std.specs.Prelude.{All, is_some}
 use Rattle.std.specs.List.{range_with_len, list_any}
 use Rattle.std.proofs.lemmas.Bool.{eqb-true, eq-eqb, and_parts, and_from, both_ways, cases_lt}
 use Rattle.std.proofs.lemmas.List.Folds.{Any-from_list_any, list_any-from_Any}
@@ -9,9 +9,9 @@ use Rattle.std.proofs.lemmas.Option.{slice_get_within, slice_get-get_or, get_or_
 use Rattle.rtk_rinex.specs.declared.epoch_table.Observed.{Observed}
 use Rattle.rtk_rinex.specs.declared.epoch_table.SatelliteRow.{SatelliteRow}
 use Rattle.rtk_rinex.specs.Record.{EpochTableView, no_observation}
-use Rattle.rtk_rinex.specs.Table.{IsObserved, IsTableRow, IsTableEpoch}
+use Rattle.rtk_rinex.specs.Table.{IsObserved}
 use Rattle.rtk_cut.specs.Cut.{Step, code_at, has_phase_of, has_slip_of, has_slipped_since, with_slip, row_with_slips, cut_epoch}
-use Rattle.rtk_cut.specs.CutLaws.{Observes, ShowsPhase, ShowsSlip, without_slip, row_without_slips, without_slips}
+use Rattle.rtk_cut.specs.CutLaws.{IsFileEpoch, Observes, ShowsPhase, ShowsSlip, without_slip, row_without_slips, without_slips}
 use Rattle.rtk_cut.proofs.AnyLemmas.{any-weaker, any-where, any-map, any-unmap}
 use Rattle.rtk_cut.proofs.CodeLemmas.{codes-good, codes-own, code-past}
 
@@ -50,10 +50,10 @@ pub slip-shown : (s c : ℕ) (e : EpochTableView) → ShowsSlip s c e → has_sl
 slip-shown s c e shows = any-seen (λ o. o.slip) s c shows.0 e shows.1 shows.2
 
 -- an observation of a file is good
-pub observes-good : (n s c : ℕ) (o : Observed) (e : EpochTableView) → IsTableEpoch n e → Observes s c o e → IsObserved o
-observes-good n s c o e good a =
-    let w = any-where (IsTableRow n) (λ r. (r.satellite ≡ s) × (slice_get r.observed.items c ≡ Some o)) e.rows good.rows a in
-    subst IsObserved (get_or_from_slice_get w.0.observed.items c o no_observation w.2.1) (codes-good w.0.observed.items c w.1.observed)
+pub observes-good : (s c : ℕ) (o : Observed) (e : EpochTableView) → IsFileEpoch e → Observes s c o e → IsObserved o
+observes-good s c o e good a =
+    let w = any-where (λ r. All IsObserved r.observed.items) (λ r. (r.satellite ≡ s) × (slice_get r.observed.items c ≡ Some o)) e.rows good.observed a in
+    subst IsObserved (get_or_from_slice_get w.0.observed.items c o no_observation w.2.1) (codes-good w.0.observed.items c w.1)
 
 -- ---- what the part shows of it
 

@@ -11,16 +11,17 @@ use Rattle.std.proofs.lemmas.List.Folds.{Any-from_list_any, length-prefix_len}
 use Rattle.std.proofs.lemmas.List.Sums.{prefix_len_passes}
 use Rattle.rtk_rinex.specs.declared.epoch_table.Observed.{Observed}
 use Rattle.rtk_rinex.specs.Record.{EpochTableView}
-use Rattle.rtk_rinex.specs.Table.{IsTableEpoch}
+use Rattle.rtk_rinex.specs.Table.{WellFormedTable, IsWellFormedTable, table_text}
+use Rattle.rtk_rinex.specs.MixedTable.{MixedTable, IsMixedTable, mixed_table_text}
 use Rattle.rtk_cut.specs.declared.part.Part.{Part}
 use Rattle.rtk_cut.specs.declared.part.Choice.{Choice}
-use Rattle.rtk_cut.specs.Cut.{near_of, choice_of, Step, step_of, is_near_step, is_on_step, is_at_or_after, is_earlier_than, is_chosen, has_phase_of, has_slip_of, since_phase, has_slipped_since, with_slip, cut_epoch, thinned_after, kept_after, first_of_part, cut_of}
-use Rattle.rtk_cut.specs.CutLaws.{IsNearSteps, IsAskedFor, RecordsAreAskedFor, Observes, ShowsPhase, ShowsSlip, HasSlipToShow, SlipsAreKept, SlipsAreFound, without_slips, OthersStay, PartsAreWritten}
+use Rattle.rtk_cut.specs.Cut.{near_of, choice_of, Step, step_of, is_near_step, is_on_step, is_at_or_after, is_earlier_than, is_chosen, has_phase_of, has_slip_of, since_phase, has_slipped_since, with_slip, cut_epoch, thinned_after, kept_after, cut_of_epochs, first_of_part, cut_of, mixed_cut_of}
+use Rattle.rtk_cut.specs.CutLaws.{IsFileEpoch, AreFileEpochs, IsMomentOrNone, AreEpochsOfPart, IsTextOfPart, IsTextOfMixedPart, IsNearSteps, IsAskedFor, RecordsAreAskedFor, Observes, ShowsPhase, ShowsSlip, HasSlipToShow, SlipsAreKept, SlipsAreFound, without_slips, OthersStay, PartsAreWritten}
 use Rattle.rtk_cut.proofs.AnyLemmas.{any-here, any-weaker, any-where, any-left, any-middle, any-split, any-none, any-append, any-splits, any-if, any-filter, any-while, onto, onto-append, onto-long, onto-parts, all-onto, any-onto}
 use Rattle.rtk_cut.proofs.CodeLemmas.{no-slip}
 use Rattle.rtk_cut.proofs.ShownLemmas.{shows-phase, phase-shown, shows-slip, slip-shown, observes-good, cut-shows, cut-shown, slip-with_phase, slip-without_phase, cut-kept}
 use Rattle.rtk_cut.proofs.ThinnedLemmas.{thinned-on}
-use Rattle.rtk_cut.proofs.LawLemmas.{parts-are_tables}
+use Rattle.rtk_cut.proofs.LawLemmas.{gps-epochs, mixed-epochs, parts-are_tables}
 
 -- ---- which moments are asked for
 
@@ -125,21 +126,21 @@ kept-has P near asking time es before e after are asked same at p =
     (subst (λ (xs : List EpochTableView). Any P (thinned_after step [] xs)) (sym are) (thinned-has P step [] before e after (asked-on near asking e time asked same) p))
 
 pub records-are_asked_for : RecordsAreAskedFor
-records-are_asked_for asking t = λ time. (
+records-are_asked_for asking es = λ time. (
   λ any.
-      let near : ℕ = near_of t in
+      let near : ℕ = near_of es in
       let part : Choice = choice_of asking near in
       let step : Step = step_of part in
-      let a = any-where (λ g. IsFrom step [] t.epochs g × (is_chosen part g ≡ true)) (λ g. g.time ≡ time) (kept_after part [] t.epochs) (kept-from part t.epochs) any in
-      let f : IsFrom step [] t.epochs a.0 = a.1.0 in
+      let a = any-where (λ g. IsFrom step [] es g × (is_chosen part g ≡ true)) (λ g. g.time ≡ time) (kept_after part [] es) (kept-from part es) any in
+      let f : IsFrom step [] es a.0 = a.1.0 in
       let own : f.own.time ≡ a.0.time = sym (ap (λ (x : EpochTableView). x.time) f.is) in
       let inside : is_chosen part f.own ≡ true = ap (λ (n : ℕ). is_at_or_after part.from (n + near) && is_earlier_than part.until (n + near)) own ∙ a.1.1 in (
-        subst (λ (es : List EpochTableView). Any (λ e. e.time ≡ time) es) (sym f.are) (any-middle (λ (e : EpochTableView). e.time ≡ time) f.before f.own f.after (own ∙ a.2)),
+        subst (λ (xs : List EpochTableView). Any (λ e. e.time ≡ time) xs) (sym f.are) (any-middle (λ (e : EpochTableView). e.time ≡ time) f.before f.own f.after (own ∙ a.2)),
         subst (λ (n : ℕ). IsAskedFor near asking n) (own ∙ a.2) (asked-for near asking f.own f.on inside),
       ),
   λ both.
-      let s = any-splits (λ (e : EpochTableView). e.time ≡ time) t.epochs both.0 in
-      kept-has (λ g. g.time ≡ time) (near_of t) asking time t.epochs s.0 s.1 s.2 s.3 both.1 s.4 (λ g same. same) s.4,
+      let s = any-splits (λ (e : EpochTableView). e.time ≡ time) es both.0 in
+      kept-has (λ g. g.time ≡ time) (near_of es) asking time es s.0 s.1 s.2 s.3 both.1 s.4 (λ g same. same) s.4,
 )
 
 -- ---- slips
@@ -184,8 +185,8 @@ is-slipped near every s c start gap f unseen slip =
     ]
 
 pub slips-are_kept : SlipsAreKept
-slips-are_kept asking t = λ s c time asked due.
-    let near : ℕ = near_of t in
+slips-are_kept asking es = λ s c time asked due.
+    let near : ℕ = near_of es in
     let step : Step = step_of (choice_of asking near) in
     let before : List EpochTableView = due.start ++ due.gap in
     let f : EpochTableView = due.shows in
@@ -193,7 +194,7 @@ slips-are_kept asking t = λ s c time asked due.
     let o : Observed = due.phase.0 in
     let shown : ShowsSlip s c (cut_epoch step (onto before []) f) =
     (with_slip slipped o, cut-shows step s c (onto before []) o f due.phase.1, slip-with_phase slipped o due.phase.2 ∙ is-slipped near asking.every s c due.start due.gap f due.unseen due.slip) in
-    kept-has (λ g. (g.time ≡ time) × ShowsSlip s c g) near asking time t.epochs before f due.rest due.are asked due.at (λ g is. is.0) (due.at, shown)
+    kept-has (λ g. (g.time ≡ time) × ShowsSlip s c g) near asking time es before f due.rest due.are asked due.at (λ g is. is.0) (due.at, shown)
 
 -- the epochs since the phase are a gap in which it is not shown on the step
 pub record HasGap (near : ℕ) (every : Option ℕ) (s c : ℕ) (before : List EpochTableView) (f : EpochTableView) : Type 0 where
@@ -234,64 +235,79 @@ has-gap near every s c before f slipped =
     }
 
 pub slips-are_found : SlipsAreFound
-slips-are_found asking t good = λ s c.
-    let near : ℕ = near_of t in
+slips-are_found asking es good = λ s c.
+    let near : ℕ = near_of es in
     let part : Choice = choice_of asking near in
     let step : Step = step_of part in
-    let n : ℕ = length t.head.listed in
-    All-weaker (λ g. IsFrom step [] t.epochs g × (is_chosen part g ≡ true)) (λ g. ShowsSlip s c g → HasSlipToShow near asking.every s c t.epochs g.time)
+    All-weaker (λ g. IsFrom step [] es g × (is_chosen part g ≡ true)) (λ g. ShowsSlip s c g → HasSlipToShow near asking.every s c es g.time)
     (λ g kept shows.
-    let f : IsFrom step [] t.epochs g = kept.0 in
+    let f : IsFrom step [] es g = kept.0 in
     let slipped : Bool = has_slipped_since step s c f.own (onto f.before []) in
     let b = cut-shown step s c (onto f.before []) shows.0 f.own (subst (Observes s c shows.0) f.is shows.1) in
     let o : Observed = b.0 in
-    let own = any-where (IsTableEpoch n) (λ e. e ≡ f.own) t.epochs good.epochs
-    (subst (λ (es : List EpochTableView). Any (λ e. e ≡ f.own) es) (sym f.are) (any-middle (λ e. e ≡ f.own) f.before f.own f.after refl)) in
-    let fine : IsTableEpoch n f.own = subst (IsTableEpoch n) own.2 own.1 in
+    let own = any-where IsFileEpoch (λ e. e ≡ f.own) es good.all
+    (subst (λ (xs : List EpochTableView). Any (λ e. e ≡ f.own) xs) (sym f.are) (any-middle (λ e. e ≡ f.own) f.before f.own f.after refl)) in
+    let fine : IsFileEpoch f.own = subst IsFileEpoch own.2 own.1 in
     let slip : (with_slip slipped o).slip ≡ true = sym (ap (λ (x : Observed). x.slip) b.2) ∙ shows.2 in
     let phase : is_some o.phase_millicycles ≡ true =
     true_from_ne_false (is_some o.phase_millicycles)
-    (λ none. both_ways o.slip (no-slip o (observes-good n s c o f.own fine b.1) none) (sym (slip-without_phase slipped o none) ∙ slip)) in
+    (λ none. both_ways o.slip (no-slip o (observes-good s c o f.own fine b.1) none) (sym (slip-without_phase slipped o none) ∙ slip)) in
     let gap = has-gap near asking.every s c f.before f.own (sym (slip-with_phase slipped o phase) ∙ slip) in
     record {
       start = gap.start;
       gap = gap.gap;
       shows = f.own;
       rest = f.after;
-      are = f.are ∙ ap (λ (es : List EpochTableView). es ++ f.own ∷ f.after) gap.are;
+      are = f.are ∙ ap (λ (xs : List EpochTableView). xs ++ f.own ∷ f.after) gap.are;
       at = sym (ap (λ (x : EpochTableView). x.time) f.is);
       phase = (o, b.1, phase);
       unseen = gap.unseen;
       slip = gap.slip;
-    }) (kept_after part [] t.epochs) (kept-from part t.epochs)
+    }) (kept_after part [] es) (kept-from part es)
 
 -- ---- the others
 
 pub others-stay : OthersStay
-others-stay asking t = let part : Choice = choice_of asking (near_of t) in record {
-  head = refl;
-  site = refl;
-  without_record = λ none. ap (λ (es : List EpochTableView). first_of_part part.from t.first es) none;
-  epochs = All-weaker (λ g. IsFrom (step_of part) [] t.epochs g × (is_chosen part g ≡ true)) (λ g. Any (λ e. without_slips g ≡ without_slips e) t.epochs)
-      (λ g kept.
-      let f : IsFrom (step_of part) [] t.epochs g = kept.0 in
-      subst (λ (es : List EpochTableView). Any (λ e. without_slips g ≡ without_slips e) es) (sym f.are)
-      (any-middle (λ e. without_slips g ≡ without_slips e) f.before f.own f.after (ap without_slips f.is ∙ cut-kept (step_of part) (onto f.before []) f.own)))
-      (kept_after part [] t.epochs) (kept-from part t.epochs);
-}
+others-stay asking es = let part : Choice = choice_of asking (near_of es) in
+    All-weaker (λ g. IsFrom (step_of part) [] es g × (is_chosen part g ≡ true)) (λ g. Any (λ e. without_slips g ≡ without_slips e) es)
+    (λ g kept.
+    let f : IsFrom (step_of part) [] es g = kept.0 in
+    subst (λ (xs : List EpochTableView). Any (λ e. without_slips g ≡ without_slips e) xs) (sym f.are)
+    (any-middle (λ e. without_slips g ≡ without_slips e) f.before f.own f.after (ap without_slips f.is ∙ cut-kept (step_of part) (onto f.before []) f.own)))
+    (kept_after part [] es) (kept-from part es)
 
 -- ---- and all of them
 
-pub parts-are_written : PartsAreWritten
-parts-are_written text part t good moment is = record {
+are-of_part : (part : Part) (es : List EpochTableView) → AreFileEpochs es → AreEpochsOfPart part es (cut_of_epochs part es)
+are-of_part part es good = record { records = records-are_asked_for part es; kept = slips-are_kept part es; found = slips-are_found part es good; others = others-stay part es }
+
+gps-written : (text : List ℕ) (part : Part) (t : WellFormedTable) → IsWellFormedTable t → IsMomentOrNone part.from → text ≡ table_text t → IsTextOfPart text part t
+gps-written text part t good moment is = record {
   shown = cut_of part t;
   is = record {
-    table = parts-are_tables part t moment good;
-    records = records-are_asked_for part t;
-    kept = slips-are_kept part t;
-    found = slips-are_found part t good;
-    others = others-stay part t;
+    table = parts-are_tables.gps part t moment good;
+    head = refl;
+    site = refl;
+    without_record = λ none. ap (λ (es : List EpochTableView). first_of_part part.from t.first es) none;
+    epochs = are-of_part part t.epochs (gps-epochs t good);
   };
   all = λ before after writes. writes t good is;
   first = λ before after writes. writes t good is;
 }
+
+mixed-written : (text : List ℕ) (part : Part) (t : MixedTable) → IsMixedTable t → IsMomentOrNone part.from → text ≡ mixed_table_text t → IsTextOfMixedPart text part t
+mixed-written text part t good moment is = record {
+  shown = mixed_cut_of part t;
+  is = record {
+    table = parts-are_tables.mixed part t moment good;
+    head = refl;
+    site = refl;
+    without_record = λ none. ap (λ (es : List EpochTableView). first_of_part part.from t.first es) none;
+    epochs = are-of_part part t.epochs (mixed-epochs t good);
+  };
+  all = λ before after writes. writes t good is;
+  first = λ before after writes. writes t good is;
+}
+
+pub parts-are_written : PartsAreWritten
+parts-are_written = record { gps = gps-written; mixed = mixed-written }

@@ -9,9 +9,12 @@ use Rattle.std.proofs.lemmas.List.Kept.{AllPairs-cons}
 use Rattle.rtk_rinex.specs.declared.epoch_table.SatelliteRow.{SatelliteRow}
 use Rattle.rtk_rinex.specs.Record.{EpochTableView}
 use Rattle.rtk_rinex.specs.Table.{IsTableRow, IsTableEpoch}
+use Rattle.rtk_rinex.specs.MixedForm.{FormView}
+use Rattle.rtk_rinex.specs.MixedTable.{IsMixedRow, IsMixedEpoch}
 use Rattle.rtk_cut.specs.Cut.{Step, is_on_step, code_at, has_phase_of, has_slip_of, since_phase, has_slipped_since, row_with_slips, cut_epoch, thinned_after}
 use Rattle.rtk_cut.proofs.TestLemmas.{or-nothing, pairs-head, pairs-tail}
-use Rattle.rtk_cut.proofs.CodeLemmas.{row-good, row-own}
+use Rattle.rtk_cut.specs.CutLaws.{IsFileEpoch}
+use Rattle.rtk_cut.proofs.CodeLemmas.{row-good, row-good_mixed, row-own}
 use Rattle.rtk_cut.proofs.RowLemmas.{Rise, only-row}
 use Rattle.rtk_cut.proofs.SpanLemmas.{TimesRise}
 use Rattle.rtk_cut.proofs.PendingLemmas.{since-on}
@@ -38,6 +41,16 @@ cut-good n step earlier e good =
       time = good.time;
       some = some-mapped f e.rows good.some;
       rows = All-map (IsTableRow n) f e.rows (λ k d lt. let r : SatelliteRow = get_or e.rows k d in row-good (λ c. has_slipped_since step r.satellite c e earlier) n r (good.rows k d lt));
+      rise = cut-rise step earlier e good.rise;
+    }
+
+pub cut-good_mixed : (form : FormView) (step : Step) (earlier : List EpochTableView) (e : EpochTableView) → IsMixedEpoch form e → IsMixedEpoch form (cut_epoch step earlier e)
+cut-good_mixed form step earlier e good =
+    let f : SatelliteRow → SatelliteRow = λ r. row_with_slips (λ c. has_slipped_since step r.satellite c e earlier) r in
+    record {
+      time = good.time;
+      some = some-mapped f e.rows good.some;
+      rows = All-map (IsMixedRow form) f e.rows (λ k d lt. let r : SatelliteRow = get_or e.rows k d in row-good_mixed (λ c. has_slipped_since step r.satellite c e earlier) form r (good.rows k d lt));
       rise = cut-rise step earlier e good.rise;
     }
 
@@ -84,30 +97,30 @@ none-and true b none = refl
 none-and false b none = none
 
 -- no slip is left of epochs that are all on the step
-pub none-since : (n : ℕ) (step : Step) (s c : ℕ) (earlier : List EpochTableView) → All (IsTableEpoch n) earlier → All (IsOn step) earlier → list_any (has_slip_of s c) (since_phase step s c earlier) ≡ false
-none-since n step s c [] good on = refl
-none-since n step s c (e ∷ earlier) good on =
-    since-on n step s c e earlier (All-head (IsTableEpoch n) e earlier good).rows (All-head (IsOn step) e earlier on)
+pub none-since : (step : Step) (s c : ℕ) (earlier : List EpochTableView) → All IsFileEpoch earlier → All (IsOn step) earlier → list_any (has_slip_of s c) (since_phase step s c earlier) ≡ false
+none-since step s c [] good on = refl
+none-since step s c (e ∷ earlier) good on =
+    since-on step s c e earlier (All-head IsFileEpoch e earlier good).observed (All-head (IsOn step) e earlier on)
     ∙ none-and (has_phase_of s c e) (list_any (has_slip_of s c) (since_phase step s c earlier))
-    (none-since n step s c earlier (All-tail (IsTableEpoch n) e earlier good) (All-tail (IsOn step) e earlier on))
+    (none-since step s c earlier (All-tail IsFileEpoch e earlier good) (All-tail (IsOn step) e earlier on))
 
 -- so each epoch shows its own slips
-pub cut-own : (n : ℕ) (step : Step) (earlier : List EpochTableView) (e : EpochTableView) → IsTableEpoch n e → All (IsTableEpoch n) earlier → All (IsOn step) earlier → cut_epoch step earlier e ≡ e
-cut-own n step earlier e good before on =
+pub cut-own : (step : Step) (earlier : List EpochTableView) (e : EpochTableView) → IsFileEpoch e → All IsFileEpoch earlier → All (IsOn step) earlier → cut_epoch step earlier e ≡ e
+cut-own step earlier e good before on =
     ap (λ (rows : List SatelliteRow). record { time = e.time; rows = rows })
     (map_fixed (λ r. row_with_slips (λ c. has_slipped_since step r.satellite c e earlier) r) e.rows (λ k d lt.
     let r : SatelliteRow = get_or e.rows k d in
     row-own (λ c. has_slipped_since step r.satellite c e earlier) r (λ c inside has.
-    ap (λ b. has_slip_of r.satellite c e || b) (none-since n step r.satellite c earlier before on)
+    ap (λ b. has_slip_of r.satellite c e || b) (none-since step r.satellite c earlier before on)
     ∙ or-nothing (has_slip_of r.satellite c e) ∙ only-row (λ x. (code_at c x).slip) e.rows k d good.rise lt)))
 
-pub thinned-own : (n : ℕ) (step : Step) (earlier es : List EpochTableView) → All (IsTableEpoch n) es → All (IsOn step) es → All (IsTableEpoch n) earlier → All (IsOn step) earlier → thinned_after step earlier es ≡ es
-thinned-own n step earlier [] good on before on_before = refl
-thinned-own n step earlier (e ∷ es) good on before on_before =
-    let here = All-head (IsTableEpoch n) e es good in
+pub thinned-own : (step : Step) (earlier es : List EpochTableView) → All IsFileEpoch es → All (IsOn step) es → All IsFileEpoch earlier → All (IsOn step) earlier → thinned_after step earlier es ≡ es
+thinned-own step earlier [] good on before on_before = refl
+thinned-own step earlier (e ∷ es) good on before on_before =
+    let here = All-head IsFileEpoch e es good in
     let is_on = All-head (IsOn step) e es on in
     thinned-on step earlier e es is_on
-    ∙ ap (λ (x : EpochTableView). x ∷ thinned_after step (e ∷ earlier) es) (cut-own n step earlier e here before on_before)
+    ∙ ap (λ (x : EpochTableView). x ∷ thinned_after step (e ∷ earlier) es) (cut-own step earlier e here before on_before)
     ∙ ap (λ xs. e ∷ xs)
-    (thinned-own n step (e ∷ earlier) es (All-tail (IsTableEpoch n) e es good) (All-tail (IsOn step) e es on)
-    (All-cons (IsTableEpoch n) e earlier here before) (All-cons (IsOn step) e earlier is_on on_before))
+    (thinned-own step (e ∷ earlier) es (All-tail IsFileEpoch e es good) (All-tail (IsOn step) e es on)
+    (All-cons IsFileEpoch e earlier here before) (All-cons (IsOn step) e earlier is_on on_before))

@@ -1,13 +1,14 @@
--- A part of a file: the records on a step and in a span, and the slips that they show. All of it is
--- this project's rule.
-use Rattle.std.specs.Prelude.{ℕ, ◌+◌, ◌*◌, ◌%◌, ◌==◌, nat_le, Bool, true, false, not, ◌&&◌, if◌then◌else◌, nat_lt, List, [], ◌∷◌, length, map, get_or, Option, None, Some, is_some, unwrap_or}
+-- A part of a file, of GPS or of any systems: the records on a step and in a span, and the slips that they
+-- show. All of it is this project's rule.
+use Rattle.std.specs.Prelude.{ℕ, ◌+◌, ◌*◌, ◌%◌, ◌==◌, nat_le, Bool, true, not, ◌&&◌, if◌then◌else◌, nat_lt, List, [], ◌∷◌, length, map, get_or, Option, None, Some, is_some, unwrap_or}
 use Rattle.std.specs.Int.{IsInRange}
 use Rattle.std.specs.List.{filter, list_any, take_while, range_with_len}
 use Rattle.rtk_rinex.specs.declared.epoch_table.Observed.{Observed}
 use Rattle.rtk_rinex.specs.declared.epoch_table.SatelliteRow.{SatelliteRow}
 use Rattle.rtk_rinex.specs.Record.{EpochTableView, no_observation}
 use Rattle.rtk_rinex.specs.Table.{WellFormedTable}
-use Rattle.rtk_tracking.specs.Interval.{interval_of_file, nearness_of}
+use Rattle.rtk_rinex.specs.MixedTable.{MixedTable}
+use Rattle.rtk_tracking.specs.Interval.{interval_of_epochs, nearness_of}
 use Rattle.rtk_cut.specs.declared.part.Part.{Part}
 use Rattle.rtk_cut.specs.declared.part.Choice.{Choice}
 
@@ -19,9 +20,9 @@ abbrev pub IsStepOrNone : Option ℕ → Type 0
 IsStepOrNone None = Unit {0}
 IsStepOrNone (Some every) = IsInRange 1 86_400 every
 
--- how far in ms a record of a file may lie from a moment and still counts as being there
-abbrev pub near_of : WellFormedTable → ℕ
-near_of t = nearness_of (interval_of_file t)
+-- how far in ms a record of a file of these epochs may lie from a moment and still counts as being there
+abbrev pub near_of : List EpochTableView → ℕ
+near_of epochs = nearness_of (interval_of_epochs epochs)
 
 -- which records of a file: a part, and how near is near enough
 abbrev pub choice_of : Part → ℕ → Choice
@@ -113,6 +114,10 @@ thinned_after step earlier (e ∷ es) =
 abbrev pub kept_after : Choice → List EpochTableView → List EpochTableView → List EpochTableView
 kept_after choice earlier es = filter (is_chosen choice) (thinned_after (step_of choice) earlier es)
 
+-- the epochs of the part of a file of these epochs
+abbrev pub cut_of_epochs : Part → List EpochTableView → List EpochTableView
+cut_of_epochs part epochs = kept_after (choice_of part (near_of epochs)) [] epochs
+
 -- formula
 -- the first time in the header: that of the first record, else the span's, else the file's
 abbrev pub first_of_part : Option ℕ → ℕ → List EpochTableView → ℕ
@@ -123,10 +128,14 @@ first_of_part from first (e ∷ es) = e.time
 abbrev pub table_with : Option ℕ → WellFormedTable → List EpochTableView → WellFormedTable
 table_with from t es = record { head = t.head; site = t.site; first = first_of_part from t.first es; epochs = es }
 
--- the chosen part of a file
-abbrev pub cut_by : Choice → WellFormedTable → WellFormedTable
-cut_by choice t = table_with choice.from t (kept_after choice [] t.epochs)
-
 -- the part of a file
 abbrev pub cut_of : Part → WellFormedTable → WellFormedTable
-cut_of part t = cut_by (choice_of part (near_of t)) t
+cut_of part t = table_with part.from t (cut_of_epochs part t.epochs)
+
+-- the file of any systems with these epochs of it
+abbrev pub mixed_table_with : Option ℕ → MixedTable → List EpochTableView → MixedTable
+mixed_table_with from t es = record { head = t.head; site = t.site; first = first_of_part from t.first es; epochs = es }
+
+-- the part of a file of any systems
+abbrev pub mixed_cut_of : Part → MixedTable → MixedTable
+mixed_cut_of part t = mixed_table_with part.from t (cut_of_epochs part t.epochs)

@@ -1,10 +1,16 @@
-//! Laws over the definition of a part.
+//! Laws over the definition of a part. They hold of files of GPS and of any systems.
 //!
 //! Each function here does nothing. Its contract is the law, and a caller that calls it may cite
 //! it.
 
-ghost use Rattle.rtk_cut.specs.CutLaws.{PartsAreTables, RecordsAreOwn, SpansJoin, OwnStepGivesFile};
+ghost use Rattle.rtk_cut.specs.CutLaws.{EpochsAreOfFiles, PartsAreTables, RecordsAreOwn, SpansJoin, OwnStepGivesFile};
 ghost use Rattle.rtk_cut.specs.CutLaws.{RecordsAreAskedFor, SlipsAreKept, SlipsAreFound, OthersStay, PartsAreWritten};
+
+/// In the epochs of a well-formed file each satellite stands once, each code shows what a code of a file can
+/// show, and the moments rise. Other laws ask for this.
+pub fn epochs_are_of_files()
+    ensures { EpochsAreOfFiles }
+{}
 
 /// A part of a well-formed file is a well-formed file.
 pub fn parts_are_tables()
@@ -44,13 +50,13 @@ pub fn slips_are_found()
     ensures { SlipsAreFound }
 {}
 
-/// Without its slips each record of a part is one of the file's, and the header too is the file's,
-/// but for the first time.
+/// Without its slips each record of a part is one of the file's.
 pub fn others_stay()
     ensures { OthersStay }
 {}
 
-/// What `cut` writes is the text of a part of which all of this holds.
+/// What `cut` and `cut_mixed` write is the text of a part of which all of this holds, and its header is the
+/// file's, but for the first time.
 pub fn parts_are_written()
     ensures { PartsAreWritten }
 {}

@@ -63,8 +63,11 @@
 #![tactic(auto)]
 
 mod counts;
+mod epoch_file;
 mod fault;
+mod gps_file;
 mod laws;
+mod mixed_file;
 mod part;
 mod part_file;
 mod part_records;
@@ -74,8 +77,8 @@ mod slips;
 pub use counts::CutCounts;
 pub use fault::CutFault;
 pub use laws::{
-    others_stay, own_step_gives_file, parts_are_tables, parts_are_written, records_are_asked_for,
-    records_are_own, slips_are_found, slips_are_kept, spans_join,
+    epochs_are_of_files, others_stay, own_step_gives_file, parts_are_tables, parts_are_written,
+    records_are_asked_for, records_are_own, slips_are_found, slips_are_kept, spans_join,
 };
 pub use part::Part;
-pub use part_file::cut;
+pub use part_file::{cut, cut_mixed};

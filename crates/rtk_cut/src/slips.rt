@@ -1,24 +1,16 @@
-//! The slips that are still to be shown: of each satellite and code, whether its phase has slipped
-//! since it stood in a record on the step.
+//! The marks of slips that are still to be shown: of each satellite 16, one for each place of a code,
+//! whether its phase has slipped since it stood in a record on the step.
 //!
 //! A record off the step sets marks. A record on the step shows and clears the marks of its phases,
 //! whether it is in the span or not.
 
-ghost use Rattle.std.specs.Prelude.{◌≡◌, ℕ, ◌+◌, ◌*◌, ◌<◌, ◌≤◌, ◌||◌, ◌&&◌, ◌==◌, not, true, false, nat_lt, [], ◌∷◌, List, length, map, get_or, is_some, All, AllPairs};
+ghost use Rattle.std.specs.Prelude.{◌≡◌, ℕ, ◌<◌, ◌≤◌, ◌||◌, ◌&&◌, ◌==◌, not, false, nat_lt, [], length, map, get_or, is_some, All, AllPairs};
 ghost use Rattle.std.specs.List.{list_any};
-ghost use Rattle.rtk_rinex.specs.Record.{EpochTableView, IsSatelliteRow, HasWidth, no_observation};
-ghost use Rattle.rtk_rinex.specs.Table.{IsTableEpoch};
-ghost use Rattle.rtk_cut.specs.Cut.{Step, is_on_step, code_at, with_slip, cut_epoch};
-ghost use Rattle.rtk_cut.specs.Steps.Pending.{mark_of, MarksAt, MarksBecome, StandsForSlips, NotesSlips, ShowsSlipsIn, ClearsSlips, row_has_slip, row_has_phase, codes_with_marks, row_with_marks};
+ghost use Rattle.rtk_rinex.specs.Record.{IsSatelliteRow, HasWidth, no_observation};
+ghost use Rattle.rtk_cut.specs.Cut.{code_at, with_slip};
+ghost use Rattle.rtk_cut.specs.Steps.Pending.{mark_of, HasMarks, HaveMarks, MarksAt, MarksBecome, row_has_slip, row_has_phase, codes_with_marks, row_with_marks};
 
 use rtk_rinex::{EpochTable, Observed, SatelliteRow};
-
-/// Of each satellite and code, whether a slip is still to be shown.
-#[derive(Clone, Copy)]
-pub(crate) struct Slips {
-    /// 16 for each satellite, one for each place of a code; no satellite has the number 0.
-    pub(crate) marks: [bool; 528],
-}
 
 // What a satellite shows of the code at this place.
 fn code_at(row: &SatelliteRow, code: usize) -> Observed
@@ -40,11 +32,10 @@ fn mark(marks: &mut [bool], place: usize, has_slipped: bool)
     }
 }
 
-// Marks the slips of a satellite.
-fn note_row(marks: &mut [bool], row: &SatelliteRow)
-    requires satellite { row.now.satellite ≤ 32 }
-    requires size { length marks.old ≡ 528 }
-    ensures size { length marks.new ≡ 528 }
+/// Marks the slips of a satellite.
+pub(crate) fn note_row(marks: &mut [bool], row: &SatelliteRow)
+    requires satellite { HasMarks marks.old row.now.satellite }
+    ensures size { length marks.new ≡ length marks.old }
     ensures marks { MarksBecome marks.new (λ s c. row_has_slip s c row.now || mark_of marks.old s c) }
 {
     let first = 16 * usize::from(row.satellite);
@@ -53,10 +44,10 @@ fn note_row(marks: &mut [bool], row: &SatelliteRow)
     }
 }
 
-fn note_rows(marks: &mut [bool], rows: &[SatelliteRow])
-    requires satellites { All (λ r. r.satellite ≤ 32) rows.now }
-    requires size { length marks.old ≡ 528 }
-    ensures size { length marks.new ≡ 528 }
+/// Marks the slips of satellites.
+pub(crate) fn note_rows(marks: &mut [bool], rows: &[SatelliteRow])
+    requires satellites { HaveMarks marks.old rows.now }
+    ensures size { length marks.new ≡ length marks.old }
     ensures marks { MarksBecome marks.new (λ s c. list_any (row_has_slip s c) rows.now || mark_of marks.old s c) }
 {
     for row in rows {
@@ -83,13 +74,12 @@ fn show_slip(marks: &mut [bool], place: usize, shown: &mut Observed) -> bool
     shown.slip != had_slip
 }
 
-// Writes what the codes of a satellite show, with the slips that are marked. Is one a slip that the
-// satellite's own record does not have?
-fn show_in_row(marks: &mut [bool], row: &SatelliteRow, shown: &mut [Observed]) -> bool
-    requires satellite { row.now.satellite ≤ 32 }
-    requires size { length marks.old ≡ 528 }
+/// Writes what the codes of a satellite show, with the slips that are marked. Is one a slip that the
+/// satellite's own record does not have?
+pub(crate) fn show_in_row(marks: &mut [bool], row: &SatelliteRow, shown: &mut [Observed]) -> bool
+    requires satellite { HasMarks marks.old row.now.satellite }
     requires few { length shown.old ≤ 16 }
-    ensures size { length marks.new ≡ 528 }
+    ensures size { length marks.new ≡ length marks.old }
     ensures shown { shown.new ≡ codes_with_marks marks.old (length shown.old) row.now }
     ensures marks { MarksBecome marks.new (λ s c. not (row_has_phase s c row.now && nat_lt c (length shown.old)) && mark_of marks.old s c) }
     ensures same { result ≡ false → (c : ℕ) → c < length shown.old → get_or shown.new c no_observation ≡ code_at c row.now }
@@ -104,9 +94,9 @@ fn show_in_row(marks: &mut [bool], row: &SatelliteRow, shown: &mut [Observed]) -
     is_changed
 }
 
-// Makes the rows of an epoch, with the slips that are marked. Is one a slip that the epoch itself
-// does not have?
-fn show_in_rows(
+/// Makes the rows of an epoch of GPS, with the slips that are marked. Is one a slip that the epoch itself
+/// does not have?
+pub(crate) fn show_in_rows(
     marks: &mut [bool],
     rows: &[SatelliteRow],
     code_count: usize,
@@ -115,12 +105,12 @@ fn show_in_rows(
     requires good { All IsSatelliteRow rows.now }
     requires rise { AllPairs (λ a b. a.satellite < b.satellite) rows.now }
     requires few { length rows.now ≤ 32 }
-    requires size { length marks.old ≡ 528 }
+    requires satellites { HaveMarks marks.old rows.now }
     requires few_codes { code_count ≤ 16 }
     requires empty { shown.old.rows ≡ [] }
     ensures time { shown.new.time ≡ shown.old.time }
     ensures rows { shown.new.rows ≡ map (row_with_marks marks.old code_count) rows.now }
-    ensures size { length marks.new ≡ 528 }
+    ensures size { length marks.new ≡ length marks.old }
     ensures marks { MarksBecome marks.new (λ s c. not (list_any (row_has_phase s c) rows.now && nat_lt c code_count) && mark_of marks.old s c) }
     ensures same { result ≡ false → HasWidth code_count rows.now → shown.new.rows ≡ rows.now }
 {
@@ -134,40 +124,4 @@ fn show_in_rows(
         is_changed = is_changed || is_row_changed;
     }
     is_changed
-}
-
-impl Slips {
-    /// There is no earlier epoch.
-    pub(crate) fn new() -> Slips
-        ensures { (step : Step) → StandsForSlips result.marks step [] }
-    {
-        Slips {
-            marks: [false; 528],
-        }
-    }
-
-    /// Marks the slips of an epoch that is not on the step.
-    pub(crate) fn note(&mut self, epoch: &EpochTable)
-        ensures slips { NotesSlips self.old.marks self.new.marks epoch.now }
-    {
-        note_rows(&mut self.marks, epoch.rows());
-    }
-
-    /// Makes the table of an epoch that is on the step, in a file of so many codes, with each slip
-    /// that is still to be shown. Does it show a slip that the epoch itself does not have?
-    pub(crate) fn show(
-        &mut self,
-        epoch: &EpochTable,
-        code_count: usize,
-        shown: &mut EpochTable,
-    ) -> bool
-        requires few { code_count ≤ 16 }
-        ensures code_count { HasWidth code_count shown.new.rows }
-        ensures shown { IsTableEpoch code_count epoch.now → ShowsSlipsIn self.old.marks epoch.now shown.new }
-        ensures slips { IsTableEpoch code_count epoch.now → ClearsSlips self.old.marks self.new.marks epoch.now }
-        ensures same { result ≡ false → IsTableEpoch code_count epoch.now → shown.new ≡ epoch.now }
-    {
-        shown.restart(epoch.time());
-        show_in_rows(&mut self.marks, epoch.rows(), code_count, shown)
-    }
 }

@@ -4,6 +4,7 @@ use Rattle.std.proofs.lemmas.List.{append-nil, drop_all, length-drop, length-tak
 use Rattle.rtk_obs.specs.declared.time.Civil.{Civil}
 use Rattle.rtk_rinex.specs.Columns.{left, right, fixed}
 use Rattle.rtk_rinex.specs.Header.{PositionView, IsMarker, IsPositionView, header_line, made_text}
+use Rattle.rtk_rinex.specs.MixedHeader.{mixed_version_line}
 use Rattle.rtk_label.specs.Fields.{offset_columns}
 use Rattle.rtk_label.specs.Labelled.{LabelView, IsLabel, height_columns, top_lines, middle_lines}
 use Rattle.rtk_label.proofs.PieceLemmas.{joined, HasWidths, next_piece}
@@ -117,8 +118,8 @@ cells_are m l = record {
 
 -- ---- the lines of a header, in pieces
 
-unfoldable pub top_front : List ℕ
-top_front = header_line (codes "     3.05           OBSERVATION DATA    G") (codes "RINEX VERSION / TYPE") ++ codes "rtcm2rinex          "
+unfoldable pub top_front : ℕ → List ℕ
+top_front letter = mixed_version_line letter ++ codes "rtcm2rinex          "
 
 unfoldable pub top_back : List ℕ → Civil → List ℕ
 top_back marker made = (made_text made ++ line_end 0 (codes "PGM / RUN BY / DATE")) ++ header_line marker (codes "MARKER NAME")
@@ -133,26 +134,26 @@ program_size run made h =
     let lit : length (codes "rtcm2rinex          ") ≡ 20 = refl in
     omega (arith, a, b, lit, length-left 20 run h, length-made made)
 
-pub top_is : (run marker : List ℕ) (made : Civil) → length run ≤ 20
-    → top_lines run marker made ≡ joined (top_front ∷ left 20 run ∷ top_back marker made ∷ [])
+pub top_is : (letter : ℕ) (run marker : List ℕ) (made : Civil) → length run ≤ 20
+    → top_lines letter run marker made ≡ joined (top_front letter ∷ left 20 run ∷ top_back marker made ∷ [])
 unfolding top_front top_back
-top_is run marker made h =
-    let v : List ℕ = header_line (codes "     3.05           OBSERVATION DATA    G") (codes "RINEX VERSION / TYPE") in
+top_is letter run marker made h =
+    let v : List ℕ = mixed_version_line letter in
     let n : List ℕ = header_line marker (codes "MARKER NAME") in
     let line = line_of ((codes "rtcm2rinex          " ++ left 20 run) ++ made_text made) (codes "PGM / RUN BY / DATE") 60 0 (program_size run made h) refl in
     ap (λ (r : List ℕ). (v ++ r) ++ n) line
     ∙ glue_top v (codes "rtcm2rinex          ") (left 20 run) (made_text made) (line_end 0 (codes "PGM / RUN BY / DATE")) n
 
-pub top_is_sized : (run marker : List ℕ) (made : Civil) → length run ≤ 20 → IsMarker marker
-    → HasWidths top_widths (top_front ∷ left 20 run ∷ top_back marker made ∷ [])
+pub top_is_sized : (letter : ℕ) (run marker : List ℕ) (made : Civil) → length run ≤ 20 → IsMarker marker
+    → HasWidths top_widths (top_front letter ∷ left 20 run ∷ top_back marker made ∷ [])
 unfolding top_front top_back line_end left
-top_is_sized run marker made h m =
+top_is_sized letter run marker made h m =
     let n = length-line marker (codes "MARKER NAME") (omega (arith, m.0)) (omega arith) in
     let e : length (line_end 0 (codes "PGM / RUN BY / DATE")) ≡ 21 = refl in
     let a = length-append (made_text made ++ line_end 0 (codes "PGM / RUN BY / DATE")) (header_line marker (codes "MARKER NAME")) in
     let b = length-append (made_text made) (line_end 0 (codes "PGM / RUN BY / DATE")) in
-    let v = length-line (codes "     3.05           OBSERVATION DATA    G") (codes "RINEX VERSION / TYPE") (omega arith) (omega arith) in
-    let f = length-append (header_line (codes "     3.05           OBSERVATION DATA    G") (codes "RINEX VERSION / TYPE")) (codes "rtcm2rinex          ") in
+    let v = length-line (codes "     3.05           OBSERVATION DATA    " ++ letter ∷ []) (codes "RINEX VERSION / TYPE") (omega arith) (omega arith) in
+    let f = length-append (mixed_version_line letter) (codes "rtcm2rinex          ") in
     let lit : length (codes "rtcm2rinex          ") ≡ 20 = refl in
     (omega (arith, v, f, lit), (length-left 20 run h, (omega (arith, a, b, e, n, length-made made), tt)))
 

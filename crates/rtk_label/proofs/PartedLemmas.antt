@@ -6,11 +6,11 @@ use Rattle.std.proofs.lemmas.Bool.{cases_order}
 use Rattle.std.proofs.lemmas.List.{take_at, drop_at, drop-drop, take-append-drop, take-append-le, drop-append-le, length-take-le, length-drop, append-nil, append_cancel_left}
 use Rattle.rtk_rinex.specs.Columns.{left, IsField}
 use Rattle.rtk_rinex.specs.Header.{header_line, header_text}
-use Rattle.rtk_rinex.specs.Reading.{date_after, reading_of}
-use Rattle.rtk_rinex.specs.Table.{WellFormedTable, IsWellFormedTable, table_text}
+use Rattle.rtk_rinex.specs.Reading.{date_after}
 use Rattle.rtk_label.specs.Fields.{marker_number_line}
-use Rattle.rtk_label.specs.Labelled.{LabelView, IsLabel, IsFor, blank_label, top_lines, middle_lines, labelled_text}
-use Rattle.rtk_label.specs.LabelWriting.{WasLabelled, IsOfEveryTable, whole_len, plain_file, completed, IsCutText, IsParted}
+use Rattle.rtk_label.specs.Labelled.{LabelView, IsLabel, IsFor, blank_label, top_lines, middle_lines}
+use Rattle.rtk_label.specs.LabelWriting.{WasLabelled, IsOfEveryTable, WasLabelledMixed, IsOfEveryMixedTable, whole_len, plain_file, completed, IsCutText, IsParted}
+use Rattle.rtk_label.specs.Steps.FileParts.{FileParts, AreFileParts, text_of_parts, parts_of, mixed_parts_of, WasOfParts, IsOfEveryParts}
 use Rattle.rtk_label.specs.Steps.Shown.{IsNumberIn, IsLabelIn}
 use Rattle.rtk_label.specs.Steps.Fronts.{plain_columns, plain_top, plain_middle}
 use Rattle.rtk_label.proofs.PieceLemmas.{same_parts, next_piece, joined}
@@ -20,7 +20,7 @@ use Rattle.rtk_label.proofs.LineLemmas.{length-line}
 use Rattle.rtk_label.proofs.FrontLemmas.{length-piece, top_columns, middle_columns, top_sizes, type_line, middle_sizes, line_cells, middle_is}
 use Rattle.rtk_label.proofs.NumberLemmas.{no_number, length-number}
 use Rattle.rtk_label.proofs.PlainLemmas.{blank_is_label, glue_three, top_was, top_is_plain, plain_cells, plain_cells_are, plain_middle_is, middle_was, middle_is_plain}
-use Rattle.rtk_label.proofs.TableLemmas.{length-three, length-six, length-top, length-middle, text_after, blank_text, label_parts, plain_parts, length-labelled}
+use Rattle.rtk_label.proofs.TableLemmas.{length-three, length-six, length-top, length-middle, label_parts, plain_parts, parts-good, mixed_label_parts, mixed_plain_parts, mixed_parts-good, length-labelled}
 
 -- ---- the parts of a text
 
@@ -109,63 +109,62 @@ length-front text number from l r =
 
 -- ---- what the plain text says of the text
 
-pub was_labelled : (text number : List ℕ) (from : ℕ) (l : LabelView) (t : WellFormedTable) → IsRead text number from l → IsWellFormedTable t
-    → front_of text from l ++ drop (from + 729) text ≡ table_text t → (text ≡ labelled_text l t) × IsFor l t.site
-was_labelled text number from l t r good e =
+pub was_labelled : (text number : List ℕ) (from : ℕ) (l : LabelView) (p : FileParts) → IsRead text number from l → AreFileParts p
+    → front_of text from l ++ drop (from + 729) text ≡ text_of_parts blank_label p → (text ≡ text_of_parts l p) × IsFor l p.site
+was_labelled text number from l p r good e =
     let top : List ℕ = take 243 text in
     let m : List ℕ = take 486 (drop (from + 243) text) in
     let rest : List ℕ = drop (from + 729) text in
     let a = length-first text r.long in
     let b = length-next text from r.long (within text number from l r) in
-    let two = same_parts (plain_top l top) (top_lines [] t.head.marker (reading_of t.head.made)) (plain_middle l m ++ rest) (middle_lines blank_label t.site ++ text_after t)
-    (length-plain_top l top a ∙ sym (length-top [] t.head.marker (reading_of t.head.made) (omega arith) good.head.0))
-    (sym (append_assoc (plain_top l top) (plain_middle l m) rest) ∙ e ∙ plain_parts t) in
-    let next = same_parts (plain_middle l m) (middle_lines blank_label t.site) rest (text_after t)
-    (length-plain_middle l m b ∙ sym (length-middle blank_label t.site blank_is_label good.site)) two.1 in
-    let first : top ≡ top_lines l.run_by t.head.marker (reading_of t.head.made) =
-    top_was top l.run_by t.head.marker (reading_of t.head.made) a good.head.0 r.label.run_by two.0 in
-    let six = middle_was m top number l t.site b r.good good.site r.label next.0 in (
+    let two = same_parts (plain_top l top) (top_lines p.letter [] p.marker p.made) (plain_middle l m ++ rest) (middle_lines blank_label p.site ++ p.rest)
+    (length-plain_top l top a ∙ sym (length-top p.letter [] p.marker p.made (omega arith) good.marker))
+    (sym (append_assoc (plain_top l top) (plain_middle l m) rest) ∙ e) in
+    let next = same_parts (plain_middle l m) (middle_lines blank_label p.site) rest p.rest
+    (length-plain_middle l m b ∙ sym (length-middle blank_label p.site blank_is_label good.site)) two.1 in
+    let first : top ≡ top_lines p.letter l.run_by p.marker p.made =
+    top_was p.letter top l.run_by p.marker p.made a good.marker r.label.run_by two.0 in
+    let six = middle_was m top number l p.site b r.good good.site r.label next.0 in (
       text_cut text number from l r
           ∙ ap (λ (x : List ℕ). x ++ (marker_number_line number ++ (m ++ rest))) first
-          ∙ ap (λ (x : List ℕ). top_lines l.run_by t.head.marker (reading_of t.head.made) ++ (marker_number_line x ++ (m ++ rest))) (sym r.label.marker_number)
-          ∙ ap (λ (x : List ℕ). top_lines l.run_by t.head.marker (reading_of t.head.made) ++ (marker_number_line l.marker_number ++ (x ++ rest))) six.0
-          ∙ ap (λ (x : List ℕ). top_lines l.run_by t.head.marker (reading_of t.head.made) ++ (marker_number_line l.marker_number ++ (middle_lines l t.site ++ x))) next.1
-          ∙ sym (label_parts l t),
+          ∙ ap (λ (x : List ℕ). top_lines p.letter l.run_by p.marker p.made ++ (marker_number_line x ++ (m ++ rest))) (sym r.label.marker_number)
+          ∙ ap (λ (x : List ℕ). top_lines p.letter l.run_by p.marker p.made ++ (marker_number_line l.marker_number ++ (x ++ rest))) six.0
+          ∙ ap (λ (x : List ℕ). top_lines p.letter l.run_by p.marker p.made ++ (marker_number_line l.marker_number ++ (middle_lines l p.site ++ x))) next.1,
       six.1,
     )
 
 -- ---- what a labelled text is parted into
 
-pub first_of_middle : (g : LabelView) (t : WellFormedTable) → IsLabel g → IsWellFormedTable t → (rest : List ℕ) → length type_line ≡ 81
-    → take 81 (middle_lines g t.site ++ rest) ≡ type_line
-first_of_middle g t is good rest size =
-    let tail : List ℕ = drop 81 (joined (line_cells g t.site)) in
-    ap (λ (x : List ℕ). take 81 (x ++ rest)) (middle_is g t.site is good.site)
+pub first_of_middle : (g : LabelView) (p : FileParts) → IsLabel g → AreFileParts p → (rest : List ℕ) → length type_line ≡ 81
+    → take 81 (middle_lines g p.site ++ rest) ≡ type_line
+first_of_middle g p is good rest size =
+    let tail : List ℕ = drop 81 (joined (line_cells g p.site)) in
+    ap (λ (x : List ℕ). take 81 (x ++ rest)) (middle_is g p.site is good.site)
     ∙ ap (take 81) (append_assoc type_line _ rest) ∙ take_at type_line _ 81 size
 
 pub length-type : length type_line ≡ 81
 unfolding type_line
 length-type = length-line (codes "GEODETIC") (codes "MARKER TYPE") (omega arith) (omega arith)
 
-number_told : (text number : List ℕ) (from : ℕ) (l g : LabelView) (t : WellFormedTable) → IsRead text number from l → IsLabel g → IsWellFormedTable t
-    → drop 243 text ≡ marker_number_line g.marker_number ++ (middle_lines g t.site ++ text_after t) → number ≡ g.marker_number
-number_told text number from l g t r is good e =
+number_told : (text number : List ℕ) (from : ℕ) (l g : LabelView) (p : FileParts) → IsRead text number from l → IsLabel g → AreFileParts p
+    → drop 243 text ≡ marker_number_line g.marker_number ++ (middle_lines g p.site ++ p.rest) → number ≡ g.marker_number
+number_told text number from l g p r is good e =
     elim (blank_or_filled g.marker_number) [
       | inl none ↦
-          let below : drop 243 text ≡ middle_lines g t.site ++ text_after t =
-          e ∙ ap (λ (x : List ℕ). x ++ (middle_lines g t.site ++ text_after t)) (if_blank g.marker_number [] (header_line (left 20 g.marker_number) (codes "MARKER NUMBER")) none) in
-          let line : take 81 (drop 243 text) ≡ type_line = ap (take 81) below ∙ first_of_middle g t is good (text_after t) length-type in
+          let below : drop 243 text ≡ middle_lines g p.site ++ p.rest =
+          e ∙ ap (λ (x : List ℕ). x ++ (middle_lines g p.site ++ p.rest)) (if_blank g.marker_number [] (header_line (left 20 g.marker_number) (codes "MARKER NUMBER")) none) in
+          let line : take 81 (drop 243 text) ≡ type_line = ap (take 81) below ∙ first_of_middle g p is good p.rest length-type in
           elim (blank_or_filled number) [
             | inl blank ↦ none_is number blank ∙ sym (none_is g.marker_number none)
             | inr some ↦ absurd (no_number number r.line.good some (sym line ∙ r.line.some some))
           ]
       | inr some ↦
           r.line.all g.marker_number is.marker_number some
-          (ap (take 81) e ∙ take_at (marker_number_line g.marker_number) (middle_lines g t.site ++ text_after t) 81 (length-number g.marker_number is.marker_number some))
+          (ap (take 81) e ∙ take_at (marker_number_line g.marker_number) (middle_lines g p.site ++ p.rest) 81 (length-number g.marker_number is.marker_number some))
     ]
 
-pub record IsPlainOf (text : List ℕ) (from : ℕ) (l g : LabelView) (t : WellFormedTable) : Type 0 where
-  pub plain : front_of text from l ++ drop (from + 729) text ≡ table_text t
+pub record IsPlainOf (text : List ℕ) (from : ℕ) (l g : LabelView) (p : FileParts) : Type 0 where
+  pub plain : front_of text from l ++ drop (from + 729) text ≡ text_of_parts blank_label p
   pub label : l ≡ g
 
 abbrev label_with : List ℕ → List ℕ → List ℕ → List ℕ → List ℕ → List ℕ → List ℕ → List ℕ → List ℕ → List ℕ → List ℕ → List ℕ → LabelView
@@ -198,29 +197,27 @@ one_label l g a b c d e f h i j k m n =
     g.run_by g.marker_number g.observer g.agency g.receiver_number g.receiver_type g.receiver_version g.antenna_number g.antenna_type g.height g.east g.north
     a b c d e f h i j k m n
 
-pub is_plain : (text number : List ℕ) (from : ℕ) (l g : LabelView) (t : WellFormedTable) → IsRead text number from l → IsWellFormedTable t → IsLabel g → IsFor g t.site
-    → text ≡ labelled_text g t → IsPlainOf text from l g t
-is_plain text number from l g t r good is for e =
+pub is_plain : (text number : List ℕ) (from : ℕ) (l g : LabelView) (p : FileParts) → IsRead text number from l → AreFileParts p → IsLabel g → IsFor g p.site
+    → text ≡ text_of_parts g p → IsPlainOf text from l g p
+is_plain text number from l g p r good is for e =
     let top : List ℕ = take 243 text in
     let m : List ℕ = take 486 (drop (from + 243) text) in
     let rest : List ℕ = drop (from + 729) text in
     let a = length-first text r.long in
     let b = length-next text from r.long (within text number from l r) in
-    let made = reading_of t.head.made in
-    let two = same_parts top (top_lines g.run_by t.head.marker made) (drop 243 text) (marker_number_line g.marker_number ++ (middle_lines g t.site ++ text_after t))
-    (a ∙ sym (length-top g.run_by t.head.marker made is.run_by.0 good.head.0)) (take-append-drop 243 text ∙ e ∙ label_parts g t) in
-    let same : number ≡ g.marker_number = number_told text number from l g t r is good two.1 in
-    let tail : m ++ rest ≡ middle_lines g t.site ++ text_after t =
-    append_cancel_left (marker_number_line number) (m ++ rest) (middle_lines g t.site ++ text_after t)
-    (sym (below_cut text number from l r) ∙ two.1 ∙ ap (λ (x : List ℕ). marker_number_line x ++ (middle_lines g t.site ++ text_after t)) (sym same)) in
-    let next = same_parts m (middle_lines g t.site) rest (text_after t) (b ∙ sym (length-middle g t.site is good.site)) tail in
-    let first = top_is_plain top l.run_by g.run_by t.head.marker made a good.head.0 r.label.run_by is.run_by two.0 in
-    let six = middle_is_plain m top number l g t.site b is for good.site r.label next.0 in record {
+    let two = same_parts top (top_lines p.letter g.run_by p.marker p.made) (drop 243 text) (marker_number_line g.marker_number ++ (middle_lines g p.site ++ p.rest))
+    (a ∙ sym (length-top p.letter g.run_by p.marker p.made is.run_by.0 good.marker)) (take-append-drop 243 text ∙ e) in
+    let same : number ≡ g.marker_number = number_told text number from l g p r is good two.1 in
+    let tail : m ++ rest ≡ middle_lines g p.site ++ p.rest =
+    append_cancel_left (marker_number_line number) (m ++ rest) (middle_lines g p.site ++ p.rest)
+    (sym (below_cut text number from l r) ∙ two.1 ∙ ap (λ (x : List ℕ). marker_number_line x ++ (middle_lines g p.site ++ p.rest)) (sym same)) in
+    let next = same_parts m (middle_lines g p.site) rest p.rest (b ∙ sym (length-middle g p.site is good.site)) tail in
+    let first = top_is_plain p.letter top l.run_by g.run_by p.marker p.made a good.marker r.label.run_by is.run_by two.0 in
+    let six = middle_is_plain m top number l g p.site b is for good.site r.label next.0 in record {
       plain = append_assoc (plain_top l top) (plain_middle l m) rest
           ∙ ap (λ (x : List ℕ). x ++ (plain_middle l m ++ rest)) first.0
-          ∙ ap (λ (x : List ℕ). top_lines [] t.head.marker made ++ (x ++ rest)) six.plain
-          ∙ ap (λ (x : List ℕ). top_lines [] t.head.marker made ++ (middle_lines blank_label t.site ++ x)) next.1
-          ∙ sym (plain_parts t);
+          ∙ ap (λ (x : List ℕ). top_lines p.letter [] p.marker p.made ++ (x ++ rest)) six.plain
+          ∙ ap (λ (x : List ℕ). top_lines p.letter [] p.marker p.made ++ (middle_lines blank_label p.site ++ x)) next.1;
       label = one_label l g first.1 (r.label.marker_number ∙ same) six.observer six.agency six.receiver_number six.receiver_type six.receiver_version
           six.antenna_number six.antenna_type six.height six.east six.north;
     }
@@ -260,56 +257,77 @@ plain_more text rest number front from l r is =
     ∙ ap (λ (t : List ℕ). front ++ t) (drop-append-le (from + 729) text rest (omega (arith, long, lt)))
 
 pub labelled_more : (text rest number front : List ℕ) (from : ℕ) (l : LabelView) → IsRead text number from l → front ≡ front_of text from l
-    → WasLabelled (text ++ rest) (front ++ (drop (from + 729) text ++ rest)) l
-labelled_more text rest number front from l r is t good e =
-    was_labelled (text ++ rest) number from l t (read_more text rest number from l r) good (plain_more text rest number front from l r is ∙ e)
+    → WasOfParts (text ++ rest) (front ++ (drop (from + 729) text ++ rest)) l
+labelled_more text rest number front from l r is p good e =
+    was_labelled (text ++ rest) number from l p (read_more text rest number from l r) good (plain_more text rest number front from l r is ∙ e)
 
 pub every_more : (text rest number front : List ℕ) (from : ℕ) (l : LabelView) → IsRead text number from l → front ≡ front_of text from l
-    → IsOfEveryTable (text ++ rest) (front ++ (drop (from + 729) text ++ rest)) l
-every_more text rest number front from l r is t g good fits for e =
-    let p = is_plain (text ++ rest) number from l g t (read_more text rest number from l r) good fits for e in
-    (sym (plain_more text rest number front from l r is) ∙ p.plain, p.label)
+    → IsOfEveryParts (text ++ rest) (front ++ (drop (from + 729) text ++ rest)) l
+every_more text rest number front from l r is p g good fits for e =
+    let q = is_plain (text ++ rest) number from l g p (read_more text rest number from l r) good fits for e in
+    (sym (plain_more text rest number front from l r is) ∙ q.plain, q.label)
 
-abbrev pub WasLabelledMore : List ℕ → List ℕ → ℕ → LabelView → Type 0
-WasLabelledMore text front from l = (rest : List ℕ) → WasLabelled (text ++ rest) (front ++ (drop (from + 729) text ++ rest)) l
+abbrev pub WasOfPartsMore : List ℕ → List ℕ → ℕ → LabelView → Type 0
+WasOfPartsMore text front from l = (rest : List ℕ) → WasOfParts (text ++ rest) (front ++ (drop (from + 729) text ++ rest)) l
 
-abbrev pub IsOfEveryTableMore : List ℕ → List ℕ → ℕ → LabelView → Type 0
-IsOfEveryTableMore text front from l = (rest : List ℕ) → IsOfEveryTable (text ++ rest) (front ++ (drop (from + 729) text ++ rest)) l
+abbrev pub IsOfEveryPartsMore : List ℕ → List ℕ → ℕ → LabelView → Type 0
+IsOfEveryPartsMore text front from l = (rest : List ℕ) → IsOfEveryParts (text ++ rest) (front ++ (drop (from + 729) text ++ rest)) l
 
 -- the same texts by other names
-was_as : (text other plain left : List ℕ) (l : LabelView) → other ≡ text → left ≡ plain → WasLabelled text plain l → WasLabelled other left l
+was_as : (text other plain left : List ℕ) (l : LabelView) → other ≡ text → left ≡ plain → WasOfParts text plain l → WasOfParts other left l
 was_as text other plain left l e f was = rw (e, f) was
 
-every_as : (text other plain left : List ℕ) (l : LabelView) → other ≡ text → left ≡ plain → IsOfEveryTable text plain l → IsOfEveryTable other left l
+every_as : (text other plain left : List ℕ) (l : LabelView) → other ≡ text → left ≡ plain → IsOfEveryParts text plain l → IsOfEveryParts other left l
 every_as text other plain left l e f every = rw (e, f) every
 
-pub parted : (text front plain : List ℕ) (from : ℕ) (l : LabelView) → 810 ≤ length text → IsLabel l → WasLabelledMore text front from l → IsOfEveryTableMore text front from l
+-- ---- the parts are those of a table
+
+was_gps : (text plain : List ℕ) (l : LabelView) → WasOfParts text plain l → WasLabelled text plain l
+was_gps text plain l was t good e =
+    let is = was (parts_of t) (parts-good t good) (e ∙ plain_parts t) in (is.0 ∙ sym (label_parts l t), is.1)
+
+every_gps : (text plain : List ℕ) (l : LabelView) → IsOfEveryParts text plain l → IsOfEveryTable text plain l
+every_gps text plain l every t m good is for e =
+    let p = every (parts_of t) m (parts-good t good) is for (e ∙ label_parts m t) in (p.0 ∙ sym (plain_parts t), p.1)
+
+was_mixed : (text plain : List ℕ) (l : LabelView) → WasOfParts text plain l → WasLabelledMixed text plain l
+was_mixed text plain l was t good e =
+    let is = was (mixed_parts_of t) (mixed_parts-good t good) (e ∙ mixed_plain_parts t) in (is.0 ∙ sym (mixed_label_parts l t), is.1)
+
+every_mixed : (text plain : List ℕ) (l : LabelView) → IsOfEveryParts text plain l → IsOfEveryMixedTable text plain l
+every_mixed text plain l every t m good is for e =
+    let p = every (mixed_parts_of t) m (mixed_parts-good t good) is for (e ∙ mixed_label_parts m t) in (p.0 ∙ sym (mixed_plain_parts t), p.1)
+
+parted_by : (text plain : List ℕ) (l : LabelView) → IsLabel l → WasOfParts text plain l → IsOfEveryParts text plain l → (length text < 810 → IsCutText text plain l) → IsParted text plain l
+parted_by text plain l good was every cut = record {
+  good = good;
+  labelled = was_gps text plain l was;
+  every = every_gps text plain l every;
+  labelled_mixed = was_mixed text plain l was;
+  every_mixed = every_mixed text plain l every;
+  cut = cut;
+}
+
+pub parted : (text front plain : List ℕ) (from : ℕ) (l : LabelView) → 810 ≤ length text → IsLabel l → WasOfPartsMore text front from l → IsOfEveryPartsMore text front from l
     → plain ≡ front ++ drop (from + 729) text → IsParted text plain l
 parted text front plain from l long good was every is =
-    let end : plain ≡ front ++ (drop (from + 729) text ++ []) = is ∙ ap (λ (t : List ℕ). front ++ t) (sym (append-nil (drop (from + 729) text))) in record {
-      good = good;
-      labelled = was_as (text ++ []) text _ plain l (sym (append-nil text)) end (was []);
-      every = every_as (text ++ []) text _ plain l (sym (append-nil text)) end (every []);
-      cut = λ short. absurd (omega (arith, short, long));
-    }
+    let end : plain ≡ front ++ (drop (from + 729) text ++ []) = is ∙ ap (λ (t : List ℕ). front ++ t) (sym (append-nil (drop (from + 729) text))) in
+    parted_by text plain l good (was_as (text ++ []) text _ plain l (sym (append-nil text)) end (was [])) (every_as (text ++ []) text _ plain l (sym (append-nil text)) end (every []))
+    (λ short. absurd (omega (arith, short, long)))
 
 -- ---- a text that ends within its first ten lines
 
 -- it is that of no table
 pub parted_cut : (text plain : List ℕ) (l : LabelView) → length text < 810 → length plain ≤ length text → IsLabel l → IsCutText text plain l → IsParted text plain l
-parted_cut text plain l short small good is = record {
-  good = good;
-  labelled = λ t table e.
-      let size = ap length e in
-      let blank = ap length (blank_text t) in absurd (omega (arith, short, small, size, blank, length-labelled blank_label t blank_is_label table));
-  every = λ t g table fits for e.
-      let size = ap length e in absurd (omega (arith, short, size, length-labelled g t fits table));
-  cut = λ h. is;
-}
+parted_cut text plain l short small good is =
+    parted_by text plain l good
+    (λ p parts e. let size = ap length e in absurd (omega (arith, short, small, size, length-labelled blank_label p blank_is_label parts)))
+    (λ p g parts fits for e. let size = ap length e in absurd (omega (arith, short, size, length-labelled g p fits parts)))
+    (λ h. is)
 
 pub cut_is : (text lines ten front plain : List ℕ) (from : ℕ) (l : LabelView) → lines ≡ take (whole_len text) text
     → ten ≡ take 810 (lines ++ drop (length lines - from) plain_file) → from ≡ length (marker_number_line l.marker_number)
-    → WasLabelledMore ten front from l → IsOfEveryTableMore ten front from l
+    → WasOfPartsMore ten front from l → IsOfEveryPartsMore ten front from l
     → plain ≡ take (whole_len text - from) front ++ drop (whole_len text) text → IsCutText text plain l
 cut_is text lines ten front plain from l lines_are ten_are number was every parts =
     let whole : ℕ = whole_len text in
@@ -327,8 +345,8 @@ cut_is text lines ten front plain from l lines_are ten_are number was every part
       lines = take (whole - from) front;
       end = end;
       parts = parts;
-      labelled = was_as (ten ++ rest) _ _ _ l (sym text_is) (sym plain_is) (was rest);
-      every = every_as (ten ++ rest) _ _ _ l (sym text_is) (sym plain_is) (every rest);
+      labelled = was_gps _ _ l (was_as (ten ++ rest) _ _ _ l (sym text_is) (sym plain_is) (was rest));
+      every = every_gps _ _ l (every_as (ten ++ rest) _ _ _ l (sym text_is) (sym plain_is) (every rest));
     }
 
 -- the fourth of its lines, if it has four

@@ -41,16 +41,16 @@ three : (a b c a' b' c' : List ℕ) → a ≡ a' → b ≡ b' → c ≡ c' → j
 three a b c a' b' c' e f g = ap joined (same_more a a' _ _ e (same_more b b' _ _ f (same_more c c' [] [] g refl)))
 
 -- what stands before and after the field of three lines, and the field
-record TopIs (top run cell marker : List ℕ) (made : Civil) : Type 0 where
-  pub front : take 101 top ≡ top_front
+record TopIs (letter : ℕ) (top run cell marker : List ℕ) (made : Civil) : Type 0 where
+  pub front : take 101 top ≡ top_front letter
   pub shown : cell ≡ left 20 run
   pub back : take 122 (drop 121 top) ≡ top_back marker made
 
-top_told : (top run cell marker : List ℕ) (made : Civil) → length top ≡ 243 → length cell ≡ 20 → length run ≤ 20 → IsMarker marker
-    → joined (top_columns top cell) ≡ top_lines run marker made → TopIs top run cell marker made
-top_told top run cell marker made l size h m e =
-    let same = same_pieces top_widths (top_columns top cell) (top_front ∷ left 20 run ∷ top_back marker made ∷ [])
-    (top_sizes top cell l size) (top_is_sized run marker made h m) (e ∙ top_is run marker made h) in record {
+top_told : (letter : ℕ) (top run cell marker : List ℕ) (made : Civil) → length top ≡ 243 → length cell ≡ 20 → length run ≤ 20 → IsMarker marker
+    → joined (top_columns top cell) ≡ top_lines letter run marker made → TopIs letter top run cell marker made
+top_told letter top run cell marker made l size h m e =
+    let same = same_pieces top_widths (top_columns top cell) (top_front letter ∷ left 20 run ∷ top_back marker made ∷ [])
+    (top_sizes top cell l size) (top_is_sized letter run marker made h m) (e ∙ top_is letter run marker made h) in record {
       front = ap (λ (p : List (List ℕ)). get_or p 0 []) same;
       shown = ap (λ (p : List (List ℕ)). get_or p 1 []) same;
       back = ap (λ (p : List (List ℕ)). get_or p 2 []) same;
@@ -59,34 +59,34 @@ top_told top run cell marker made l size h m e =
 length-cell : (t : List ℕ) → length t ≡ 243 → length (take 20 (drop 101 t)) ≡ 20
 length-cell t l = length-piece 101 20 t (omega (arith, l))
 
-pub top_was : (top run marker : List ℕ) (made : Civil) → length top ≡ 243 → IsMarker marker → IsFieldIn 20 (take 20 (drop 101 top)) run
-    → (take 101 top ++ plain_columns 20 run (take 20 (drop 101 top))) ++ take 122 (drop 121 top) ≡ top_lines [] marker made
-    → top ≡ top_lines run marker made
-top_was top run marker made l m is e =
+pub top_was : (letter : ℕ) (top run marker : List ℕ) (made : Civil) → length top ≡ 243 → IsMarker marker → IsFieldIn 20 (take 20 (drop 101 top)) run
+    → (take 101 top ++ plain_columns 20 run (take 20 (drop 101 top))) ++ take 122 (drop 121 top) ≡ top_lines letter [] marker made
+    → top ≡ top_lines letter run marker made
+top_was letter top run marker made l m is e =
     let cell : List ℕ = take 20 (drop 101 top) in
     let plain : List ℕ = plain_columns 20 run cell in
     let size : length plain ≡ 20 = length-plain_columns 20 run cell (length-cell top l) in
-    let t = top_told top [] plain marker made l size (omega arith) m (sym (glue_three (take 101 top) plain (take 122 (drop 121 top))) ∙ e) in
-    top_cut top l ∙ three _ _ _ _ _ _ t.front (field_was 20 cell run is t.shown) t.back ∙ sym (top_is run marker made is.good.0)
+    let t = top_told letter top [] plain marker made l size (omega arith) m (sym (glue_three (take 101 top) plain (take 122 (drop 121 top))) ∙ e) in
+    top_cut top l ∙ three _ _ _ _ _ _ t.front (field_was 20 cell run is t.shown) t.back ∙ sym (top_is letter run marker made is.good.0)
 
-pub top_is_plain : (top run g marker : List ℕ) (made : Civil) → length top ≡ 243 → IsMarker marker → IsFieldIn 20 (take 20 (drop 101 top)) run → IsField 20 g
-    → top ≡ top_lines g marker made
-    → ((take 101 top ++ plain_columns 20 run (take 20 (drop 101 top))) ++ take 122 (drop 121 top) ≡ top_lines [] marker made) × (run ≡ g)
-top_is_plain top run g marker made l m is good e =
+pub top_is_plain : (letter : ℕ) (top run g marker : List ℕ) (made : Civil) → length top ≡ 243 → IsMarker marker → IsFieldIn 20 (take 20 (drop 101 top)) run → IsField 20 g
+    → top ≡ top_lines letter g marker made
+    → ((take 101 top ++ plain_columns 20 run (take 20 (drop 101 top))) ++ take 122 (drop 121 top) ≡ top_lines letter [] marker made) × (run ≡ g)
+top_is_plain letter top run g marker made l m is good e =
     let cell : List ℕ = take 20 (drop 101 top) in
     let plain : List ℕ = plain_columns 20 run cell in
-    let t = top_told top g cell marker made l (length-cell top l) good.0 m (sym (top_cut top l) ∙ e) in (
+    let t = top_told letter top g cell marker made l (length-cell top l) good.0 m (sym (top_cut top l) ∙ e) in (
       glue_three (take 101 top) plain (take 122 (drop 121 top)) ∙ three _ _ _ _ _ _ t.front (field_is_blank 20 cell run g is good t.shown) t.back
-          ∙ sym (top_is [] marker made (omega arith)),
+          ∙ sym (top_is letter [] marker made (omega arith)),
       is.all g good t.shown,
     )
 
-pub top_filled : (top run marker : List ℕ) (made : Civil) → length top ≡ 243 → IsMarker marker → length run ≤ 20 → top ≡ top_lines [] marker made
-    → (take 101 top ++ left 20 run) ++ take 122 (drop 121 top) ≡ top_lines run marker made
-top_filled top run marker made l m h e =
+pub top_filled : (letter : ℕ) (top run marker : List ℕ) (made : Civil) → length top ≡ 243 → IsMarker marker → length run ≤ 20 → top ≡ top_lines letter [] marker made
+    → (take 101 top ++ left 20 run) ++ take 122 (drop 121 top) ≡ top_lines letter run marker made
+top_filled letter top run marker made l m h e =
     let cell : List ℕ = take 20 (drop 101 top) in
-    let t = top_told top [] cell marker made l (length-cell top l) (omega arith) m (sym (top_cut top l) ∙ e) in
-    glue_three (take 101 top) (left 20 run) (take 122 (drop 121 top)) ∙ three _ _ _ _ _ _ t.front refl t.back ∙ sym (top_is run marker made h)
+    let t = top_told letter top [] cell marker made l (length-cell top l) (omega arith) m (sym (top_cut top l) ∙ e) in
+    glue_three (take 101 top) (left 20 run) (take 122 (drop 121 top)) ∙ three _ _ _ _ _ _ t.front refl t.back ∙ sym (top_is letter run marker made h)
 
 -- ---- six lines
 
@@ -308,10 +308,10 @@ middle_filled m l s long is p e =
 
 -- ---- the lines of a label show it
 
-pub top_in : (top run marker : List ℕ) (made : Civil) → length top ≡ 243 → IsMarker marker → IsField 20 run → top ≡ top_lines run marker made
+pub top_in : (letter : ℕ) (top run marker : List ℕ) (made : Civil) → length top ≡ 243 → IsMarker marker → IsField 20 run → top ≡ top_lines letter run marker made
     → IsFieldIn 20 (take 20 (drop 101 top)) run
-top_in top run marker made l m good e =
-    let t = top_told top run (take 20 (drop 101 top)) marker made l (length-cell top l) good.0 m (sym (top_cut top l) ∙ e) in
+top_in letter top run marker made l m good e =
+    let t = top_told letter top run (take 20 (drop 101 top)) marker made l (length-cell top l) good.0 m (sym (top_cut top l) ∙ e) in
     field_in 20 _ run good t.shown
 
 pub label_in : (top number m : List ℕ) (l : LabelView) (s : PositionView) → length m ≡ 486 → IsLabel l → IsPositionView s → IsFieldIn 20 (take 20 (drop 101 top)) l.run_by

@@ -5,8 +5,9 @@ use Rattle.rtk_frame.specs.Stream.{with_more, TakesPart}
 use Rattle.rtk_obs.specs.declared.code.Code.TheVariants.{G1C}
 use Rattle.rtk_rinex.specs.Header.{header_text}
 use Rattle.rtk_rinex.specs.Table.{WellFormedTable, IsWellFormedTable, table_text}
+use Rattle.rtk_rinex.specs.MixedTable.{MixedTable, IsMixedTable, mixed_table_text}
 use Rattle.rtk_label.specs.Fields.{marker_number_line}
-use Rattle.rtk_label.specs.Labelled.{LabelView, IsLabel, IsFor, front_lines, labelled_text}
+use Rattle.rtk_label.specs.Labelled.{LabelView, IsLabel, IsFor, front_lines, labelled_text, mixed_front_lines, labelled_mixed_text}
 
 -- the label is for the table whose text this is
 abbrev pub IsForText : LabelView → List ℕ → Type 0
@@ -41,6 +42,34 @@ abbrev pub IsOfEveryTable : List ℕ → List ℕ → LabelView → Type 0
 IsOfEveryTable text plain l =
     (t : WellFormedTable) (m : LabelView) → IsWellFormedTable t → IsLabel m → IsFor m t.site → text ≡ labelled_text m t → (plain ≡ table_text t) × (l ≡ m)
 
+-- ---- a file of any systems, as one of GPS
+
+abbrev pub IsForMixedText : LabelView → List ℕ → Type 0
+IsForMixedText l text = (t : MixedTable) → IsMixedTable t → text ≡ mixed_table_text t → IsFor l t.site
+
+abbrev pub WritesLabelledMixed : List ℕ → LabelView → Option (List ℕ) → Option (List ℕ) → Type 0
+WritesLabelledMixed text l before after =
+    (t : MixedTable) → IsMixedTable t → text ≡ mixed_table_text t → after ≡ with_more before (labelled_mixed_text l t)
+
+abbrev pub WritesFirstLabelledMixed : List ℕ → LabelView → Option (List ℕ) → Option (List ℕ) → Type 0
+WritesFirstLabelledMixed text l before after =
+    (t : MixedTable) → IsMixedTable t → text ≡ mixed_table_text t → TakesPart before after (labelled_mixed_text l t)
+
+abbrev pub WritesMixedFront : List ℕ → LabelView → Option (List ℕ) → Option (List ℕ) → Type 0
+WritesMixedFront text l before after =
+    (t : MixedTable) → IsMixedTable t → text ≡ mixed_table_text t → after ≡ with_more before (mixed_front_lines l t.head t.site)
+
+abbrev pub WritesFirstOfMixedFront : List ℕ → LabelView → Option (List ℕ) → Option (List ℕ) → Type 0
+WritesFirstOfMixedFront text l before after =
+    (t : MixedTable) → IsMixedTable t → text ≡ mixed_table_text t → TakesPart before after (mixed_front_lines l t.head t.site)
+
+abbrev pub WasLabelledMixed : List ℕ → List ℕ → LabelView → Type 0
+WasLabelledMixed text plain l = (t : MixedTable) → IsMixedTable t → plain ≡ mixed_table_text t → (text ≡ labelled_mixed_text l t) × IsFor l t.site
+
+abbrev pub IsOfEveryMixedTable : List ℕ → List ℕ → LabelView → Type 0
+IsOfEveryMixedTable text plain l =
+    (t : MixedTable) (m : LabelView) → IsMixedTable t → IsLabel m → IsFor m t.site → text ≡ labelled_mixed_text m t → (plain ≡ mixed_table_text t) × (l ≡ m)
+
 -- ---- a text that ends within its first ten lines, of 81 bytes each
 
 -- formula
@@ -69,12 +98,15 @@ pub record IsCutText (text plain : List ℕ) (l : LabelView) : Type 0 where
   pub labelled : WasLabelled (completed (length (marker_number_line l.marker_number)) text) (lines ++ end) l
   pub every : IsOfEveryTable (completed (length (marker_number_line l.marker_number)) text) (lines ++ end) l
 
--- a text was parted into a label and a plain text. If the plain text is that of a table, the text is
--- that of this table with the label, and of no other table and label. Else it is that of none.
+-- a text was parted into a label and a plain text. If the plain text is that of a table, of GPS or of any
+-- systems, the text is that of this table with the label, and of no other table and label. Else it is that of
+-- none.
 pub record IsParted (text plain : List ℕ) (l : LabelView) : Type 0 where
   pub good : IsLabel l
   pub labelled : WasLabelled text plain l
   pub every : IsOfEveryTable text plain l
+  pub labelled_mixed : WasLabelledMixed text plain l
+  pub every_mixed : IsOfEveryMixedTable text plain l
   pub cut : length text < 810 → IsCutText text plain l
 
 -- formula

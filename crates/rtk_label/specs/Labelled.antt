@@ -1,13 +1,17 @@
--- The header of an observation file with the fields of a label (RINEX 3.05, Table A2). The header of
--- a conversion is the one whose label is blank.
+-- The header of an observation file of GPS or of any systems with the fields of a label (RINEX 3.05, Table
+-- A2). The header of a conversion is the one whose label is blank.
 -- Source: RINEX 3.05, Table A2
 use Rattle.std.specs.Prelude.{◌≡◌, ◌<◌, ℕ, ◌==◌, List, [], ◌++◌, length, codes, flat_map, pos, if◌then◌else◌}
 use Rattle.rtk_obs.specs.declared.time.Civil.{Civil}
 use Rattle.rtk_rinex.specs.Columns.{left, right, fixed, IsField}
-use Rattle.rtk_rinex.specs.Header.{HeadView, PositionView, header_line, made_text, types_lines, last_lines}
+use Rattle.rtk_rinex.specs.Header.{HeadView, PositionView, header_line, made_text, types_lines, last_lines, unit_line, first_line}
+use Rattle.rtk_rinex.specs.MixedHead.{MixedHeadView}
+use Rattle.rtk_rinex.specs.MixedHeader.{version_letter, mixed_version_line, by_system, system_types_lines, phase_shift_line, glonass_lines}
 use Rattle.rtk_rinex.specs.Reading.{reading_of}
 use Rattle.rtk_rinex.specs.Record.{record_text}
+use Rattle.rtk_rinex.specs.MixedRecord.{mixed_record_text}
 use Rattle.rtk_rinex.specs.Table.{WellFormedTable}
+use Rattle.rtk_rinex.specs.MixedTable.{MixedTable}
 use Rattle.rtk_label.specs.Fields.{IsOffset, offset_columns, marker_number_line}
 
 -- the fields of a header that no message of the stream tells; no characters stand for a blank field
@@ -71,10 +75,10 @@ abbrev pub height_columns : List ℕ → PositionView → List ℕ
 height_columns text s = if length text == 0 then fixed 4 14 (pos s.height) else right 14 text
 
 -- formula
--- the three lines before the marker's number
-abbrev pub top_lines : List ℕ → List ℕ → Civil → List ℕ
-top_lines run_by marker made =
-    header_line (codes "     3.05           OBSERVATION DATA    G") (codes "RINEX VERSION / TYPE")
+-- the three lines before the marker's number, by the letter of the file's system, or M for several
+abbrev pub top_lines : ℕ → List ℕ → List ℕ → Civil → List ℕ
+top_lines letter run_by marker made =
+    mixed_version_line letter
     ++ header_line (codes "rtcm2rinex          " ++ left 20 run_by ++ made_text made) (codes "PGM / RUN BY / DATE")
     ++ header_line marker (codes "MARKER NAME")
 
@@ -90,15 +94,17 @@ middle_lines l s =
     ++ header_line (fixed 4 14 s.x ++ fixed 4 14 s.y ++ fixed 4 14 s.z) (codes "APPROX POSITION XYZ")
     ++ header_line (height_columns l.height s ++ offset_columns l.east ++ offset_columns l.north) (codes "ANTENNA: DELTA H/E/N")
 
+-- ---- a file of GPS
+
 -- the lines that a label changes
 abbrev pub front_lines : LabelView → HeadView → PositionView → List ℕ
-front_lines l h s = top_lines l.run_by h.marker (reading_of h.made) ++ marker_number_line l.marker_number ++ middle_lines l s
+front_lines l h s = top_lines 71 l.run_by h.marker (reading_of h.made) ++ marker_number_line l.marker_number ++ middle_lines l s
 
 -- formula
 -- the header of a label, a head, a position and the moment of the first observation
 unfoldable pub labelled_header : LabelView → HeadView → PositionView → ℕ → List ℕ
 labelled_header l h s first =
-    top_lines l.run_by h.marker (reading_of h.made)
+    top_lines 71 l.run_by h.marker (reading_of h.made)
     ++ marker_number_line l.marker_number
     ++ middle_lines l s
     ++ types_lines h.listed
@@ -107,3 +113,27 @@ labelled_header l h s first =
 -- the text of a table with a label: this header, then a record for each epoch
 abbrev pub labelled_text : LabelView → WellFormedTable → List ℕ
 labelled_text l t = labelled_header l t.head t.site t.first ++ flat_map record_text t.epochs
+
+-- ---- a file of any systems
+
+-- the lines that a label changes
+abbrev pub mixed_front_lines : LabelView → MixedHeadView → PositionView → List ℕ
+mixed_front_lines l h s = top_lines (version_letter h.listed) l.run_by h.marker (reading_of h.made) ++ marker_number_line l.marker_number ++ middle_lines l s
+
+-- formula
+-- the header of a label, a head, a position and the moment of the first observation
+unfoldable pub labelled_mixed_header : LabelView → MixedHeadView → PositionView → ℕ → List ℕ
+labelled_mixed_header l h s first =
+    top_lines (version_letter h.listed) l.run_by h.marker (reading_of h.made)
+    ++ marker_number_line l.marker_number
+    ++ middle_lines l s
+    ++ by_system system_types_lines h.listed
+    ++ unit_line
+    ++ first_line (reading_of first)
+    ++ by_system phase_shift_line h.listed
+    ++ glonass_lines h.glonass
+    ++ header_line [] (codes "END OF HEADER")
+
+-- the text of a table with a label
+abbrev pub labelled_mixed_text : LabelView → MixedTable → List ℕ
+labelled_mixed_text l t = labelled_mixed_header l t.head t.site t.first ++ flat_map mixed_record_text t.epochs

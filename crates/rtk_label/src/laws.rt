@@ -3,7 +3,7 @@
 //! Each function here does nothing but call laws. Its contract is the law, and a caller that calls it
 //! may cite it.
 
-ghost use Rattle.rtk_label.specs.LabelLaws.{BlankIsFile, FrontIsChanged, LabelsAreTold, RecordsStay};
+ghost use Rattle.rtk_label.specs.LabelLaws.{BlankIsFile, FrontIsChanged, LabelsAreTold, RecordsStay, MixedLabelLaws};
 
 use rtk_rinex::text_of_a_table;
 
@@ -29,4 +29,9 @@ pub fn front_is_changed()
 /// Every byte after the header stays.
 pub fn records_stay()
     ensures { RecordsStay }
+{}
+
+/// These laws hold of files of any systems too.
+pub fn mixed_label_laws()
+    ensures { MixedLabelLaws }
 {}

@@ -62,6 +62,8 @@ mod unlabelled;
 pub use columns::PLAIN_FRONT;
 pub use label::{Label, LabelParts};
 pub use label_fault::LabelFault;
-pub use labelled_file::{is_for, write_front, write_labelled};
-pub use laws::{blank_is_file, front_is_changed, labels_are_told, records_stay};
+pub use labelled_file::{
+    is_for, is_for_mixed, write_front, write_front_mixed, write_labelled, write_labelled_mixed,
+};
+pub use laws::{blank_is_file, front_is_changed, labels_are_told, mixed_label_laws, records_stay};
 pub use unlabelled::{Unlabelled, unlabel};

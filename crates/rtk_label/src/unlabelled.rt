@@ -7,7 +7,8 @@ ghost use Rattle.std.specs.Prelude.{◌≡◌, ◌+◌, ◌-◌, ◌^◌, ◌<�
 ghost use Rattle.rtk_rinex.specs.Columns.{IsField};
 ghost use Rattle.rtk_label.specs.Fields.{marker_number_line};
 ghost use Rattle.rtk_label.specs.Labelled.{IsLabel};
-ghost use Rattle.rtk_label.specs.LabelWriting.{WasLabelled, IsOfEveryTable, plain_file, IsCutText, IsParted, line_in_text};
+ghost use Rattle.rtk_label.specs.LabelWriting.{plain_file, IsCutText, IsParted, line_in_text};
+ghost use Rattle.rtk_label.specs.Steps.FileParts.{WasOfParts, IsOfEveryParts};
 ghost use Rattle.rtk_label.specs.Steps.Shown.{IsNumberIn, IsLabelIn};
 
 use crate::columns::{FRONT, add, put_number_line};
@@ -116,9 +117,9 @@ fn reading_of(text: &[u8], number: Field, from: usize) -> Reading
     requires blank { length number.items ≡ 0 → from ≡ 0 }
     requires filled { 0 < length number.items → from ≡ 81 }
     ensures labelled { (rest : List ℕ)
-        → WasLabelled (text.now ++ rest) (result.front.items ++ (drop (from + 729) text.now ++ rest)) result.unlabelled.label }
+        → WasOfParts (text.now ++ rest) (result.front.items ++ (drop (from + 729) text.now ++ rest)) result.unlabelled.label }
     ensures every { (rest : List ℕ)
-        → IsOfEveryTable (text.now ++ rest) (result.front.items ++ (drop (from + 729) text.now ++ rest)) result.unlabelled.label }
+        → IsOfEveryParts (text.now ++ rest) (result.front.items ++ (drop (from + 729) text.now ++ rest)) result.unlabelled.label }
     ensures good { IsLabel result.unlabelled.label }
     ensures from { from ≡ length (marker_number_line result.unlabelled.label.marker_number) }
     ensures same { result.unlabelled.from ≡ from }

@@ -13,6 +13,7 @@ mod LawLemmas
 mod LineLemmas
 mod ListLemmas
 mod ListTextLemmas
+mod MissingCodeLemmas
 mod MissingLemmas
 mod NeverLemmas
 mod OrderLemmas

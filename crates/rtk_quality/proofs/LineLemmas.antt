@@ -8,11 +8,11 @@ use Rattle.rtk_obs.specs.declared.time.Civil.{Civil}
 use Rattle.rtk_rinex.specs.Reading.{reading_of}
 use Rattle.rtk_quality.specs.Counts.{plus, phases_per_slip, mean_hundredths, mean_tenths}
 use Rattle.rtk_quality.specs.Forms.{value_text, moment_text, start_text, end_text}
-use Rattle.rtk_quality.specs.LineText.{satellite_name, having_text, per_slip_text, locks_text, sums_text, strengths_text}
+use Rattle.rtk_quality.specs.LineText.{satellite_name, code_name, having_text, per_slip_text, locks_text, sums_text, strengths_text}
 use Rattle.rtk_quality.specs.QualityText.{marker_text, satellites_text, station_text, span_text, listed_text, heading_text, falls_of}
 use Rattle.rtk_quality.specs.Hours.{start_of}
 use Rattle.rtk_quality.specs.Strengths.{number_of}
-use Rattle.rtk_quality.specs.StationText.{strength_text, hour_counts_text, hour_line, gap_line, outage_line, together_line, burst_line, run_line, fall_line}
+use Rattle.rtk_quality.specs.StationText.{strength_text, hour_counts_text, hour_line, gap_line, outage_line, together_line, burst_line, run_line, missing_line, fall_line}
 use Rattle.rtk_quality.specs.Entries.{fall_part}
 use Rattle.rtk_quality.specs.declared.hours.HourCounts.{HourCounts}
 use Rattle.rtk_quality.specs.declared.gaps.Gap.{Gap}
@@ -20,6 +20,7 @@ use Rattle.rtk_quality.specs.declared.heading.ListedCounts.{ListedCounts}
 use Rattle.rtk_quality.specs.declared.moments.Moment.{Moment}
 use Rattle.rtk_quality.specs.declared.outages.Outage.{Outage}
 use Rattle.rtk_quality.specs.declared.runs.HalfRun.{HalfRun}
+use Rattle.rtk_quality.specs.declared.missing.MissingCode.{MissingCode}
 use Rattle.rtk_quality.specs.declared.bursts.Burst.{Burst}
 use Rattle.rtk_quality.specs.declared.falls.Fall.{Fall}
 use Rattle.rtk_quality.specs.declared.form.Form.{Form}
@@ -200,6 +201,20 @@ run-is form h t0 t1 t2 t3 t4 t5 t6 e1 e2 e3 e4 e5 e6 =
     (moment_text form (codes " until ") (codes ",\"until\":") h.run.until) (value_text form (codes " epochs ") (codes ",\"epochs\":") Whole (Some h.run.epochs))
     (end_text form) e1 e2 e3 e4 e5 e6
 
+pub missing-is : (form : Form) (m : MissingCode) (t0 t1 t2 t3 t4 t5 t6 t7 : List ℕ)
+    → t1 ≡ t0 ++ start_text form (codes "missing-code") → t2 ≡ t1 ++ satellite_name form m.satellite → t3 ≡ t2 ++ code_name form m.code
+    → t4 ≡ t3 ++ moment_text form (codes " from ") (codes ",\"from\":") m.run.from
+    → t5 ≡ t4 ++ moment_text form (codes " until ") (codes ",\"until\":") m.run.until
+    → t6 ≡ t5 ++ value_text form (codes " epochs ") (codes ",\"epochs\":") Whole (Some m.run.epochs) → t7 ≡ t6 ++ end_text form → t7 ≡ t0 ++ missing_line form m
+unfolding missing_line
+missing-is form m t0 t1 t2 t3 t4 t5 t6 t7 e1 e2 e3 e4 e5 e6 e7 =
+    let start : List ℕ = start_text form (codes "missing-code") in
+    let from : List ℕ = moment_text form (codes " from ") (codes ",\"from\":") m.run.from in
+    let until : List ℕ = moment_text form (codes " until ") (codes ",\"until\":") m.run.until in
+    let epochs : List ℕ = value_text form (codes " epochs ") (codes ",\"epochs\":") Whole (Some m.run.epochs) in
+    and-then t0 t6 t7 (((((start ++ satellite_name form m.satellite) ++ code_name form m.code) ++ from) ++ until) ++ epochs) (end_text form)
+    (six t0 t1 t2 t3 t4 t5 t6 start (satellite_name form m.satellite) (code_name form m.code) from until epochs e1 e2 e3 e4 e5 e6) e7
+
 pub fall-is : (form : Form) (band : Band) (f : Fall) (number : ℕ) (from until : Civil) (t0 t1 t2 t3 t4 t5 t6 : List ℕ)
     → number ≡ number_of band → from ≡ reading_of (start_of f.from) → until ≡ reading_of (start_of f.until)
     → t1 ≡ t0 ++ start_text form (codes "fall") → t2 ≡ t1 ++ value_text form (codes " band ") (codes "\"band\":") Whole (Some number)
@@ -220,16 +235,18 @@ pub falls-are : (form : Form) (hours : List HourCounts) (t0 t1 t2 t3 : List ℕ)
 unfolding falls_of
 falls-are form hours t0 t1 t2 t3 e1 e2 e3 = three t0 t1 t2 t3 (fall_part form hours L1) (fall_part form hours L2) (fall_part form hours L5) e1 e2 e3
 
-pub listed-is : (form : Form) (n : ListedCounts) (t0 t1 t2 t3 : List ℕ)
+pub listed-is : (form : Form) (n : ListedCounts) (t0 t1 t2 t3 t4 : List ℕ)
     → t1 ≡ t0 ++ value_text form (codes "\nslips-together ") (codes ",\"slips_together\":") Whole (Some n.moments)
     → t2 ≡ t1 ++ value_text form (codes "\nbursts ") (codes ",\"bursts\":") Whole (Some n.bursts)
     → t3 ≡ t2 ++ value_text form (codes "\nhalf-runs ") (codes ",\"half_runs\":") Whole (Some n.runs)
-    → t3 ≡ t0 ++ listed_text form n
+    → t4 ≡ t3 ++ value_text form (codes "\nmissing-codes ") (codes ",\"missing_codes\":") Whole (Some n.missing)
+    → t4 ≡ t0 ++ listed_text form n
 unfolding listed_text
-listed-is form n t0 t1 t2 t3 e1 e2 e3 =
-    three t0 t1 t2 t3 (value_text form (codes "\nslips-together ") (codes ",\"slips_together\":") Whole (Some n.moments))
+listed-is form n t0 t1 t2 t3 t4 e1 e2 e3 e4 =
+    four t0 t1 t2 t3 t4 (value_text form (codes "\nslips-together ") (codes ",\"slips_together\":") Whole (Some n.moments))
     (value_text form (codes "\nbursts ") (codes ",\"bursts\":") Whole (Some n.bursts))
-    (value_text form (codes "\nhalf-runs ") (codes ",\"half_runs\":") Whole (Some n.runs)) e1 e2 e3
+    (value_text form (codes "\nhalf-runs ") (codes ",\"half_runs\":") Whole (Some n.runs))
+    (value_text form (codes "\nmissing-codes ") (codes ",\"missing_codes\":") Whole (Some n.missing)) e1 e2 e3 e4
 
 pub heading-is : (form : Form) (marker : List ℕ) (from until : Civil) (interval : Option ℕ) (satellites : ℕ) (r : RecordCounts) (n : ListedCounts) (s : PassSums) (t0 t1 t2 t3 t4 t5 t6 t7 : List ℕ)
     → t1 ≡ t0 ++ marker_text form marker → t2 ≡ t1 ++ span_text form from until interval r

@@ -81,7 +81,7 @@ rows-more : (e : EpochTableView) (i : ℕ) (r : SatelliteRow) → IsRowAt e i r 
 rows-more e i r at = take_more e.rows i r at.within ∙ ap (λ (x : SatelliteRow). take i e.rows ++ x ∷ []) (sym at.is)
 
 -- what came of its satellite before it, and with it
-before-it : (e : EpochTableView) (i : ℕ) (r : SatelliteRow) (es : List EpochTableView) → IsRowAt e i r
+pub before-it : (e : EpochTableView) (i : ℕ) (r : SatelliteRow) (es : List EpochTableView) → IsRowAt e i r
     → sightings_of r.satellite (first_rows e i ∷ es) ≡ absent_at e.time ∷ sightings_of r.satellite es
 before-it e i r es at =
     ap (λ (os : List Observed). seen e.time os ∷ sightings_of r.satellite es) (none-of r.satellite (take i e.rows) r (others-before e i r at))
@@ -123,25 +123,33 @@ row-due e i place r xs d interval es at number few are =
     subst (λ (ss : List Sighting). StandsForSatellite (get_or xs place d) interval ss) (before-it e i r es at)
     (subst (λ (n : ℕ). StandsForSatellite (get_or xs place d) interval (sightings_of n (first_rows e i ∷ es))) number (are.each place d few))
 
+-- what is known of each satellite by what came of it, with a row more
+pub row-set : {X : Type 0} (P : X → List Sighting → Type 0) (e : EpochTableView) (i place : ℕ) (r : SatelliteRow) (xs : List X) (y : X) (es : List EpochTableView)
+    → IsRowAt e i r → place + 1 ≡ r.satellite → place < 32 → length xs ≡ 32
+    → ((k : ℕ) (d : X) → k < 32 → P (get_or xs k d) (sightings_of (k + 1) (first_rows e i ∷ es)))
+    → P y (record { time = e.time; observed = r.observed.items } ∷ sightings_of r.satellite es)
+    → (k : ℕ) (d : X) → k < 32 → P (get_or (set xs place y) k d) (sightings_of (k + 1) (first_rows e (i + 1) ∷ es))
+row-set P e i place r xs y es at number few size each stands k z within =
+    elim (cases_eq k place) [
+      | inl same ↦
+          let inside : place < length xs = omega (arith, size, few) in
+          subst (λ (j : ℕ). P (get_or (set xs place y) j z) (sightings_of (j + 1) (first_rows e (i + 1) ∷ es))) (sym same)
+          (subst (λ (s : _). P s (sightings_of (place + 1) (first_rows e (i + 1) ∷ es))) (sym (get_or-set_same xs place y z inside))
+          (subst (λ (n : ℕ). P y (sightings_of n (first_rows e (i + 1) ∷ es))) (sym number)
+          (subst (λ (ss : List Sighting). P y ss) (sym (with-it e i r es at)) stands)))
+      | inr other ↦
+          let apart : r.satellite ≢ k + 1 = λ alike. absurd (other (omega (arith, alike, number))) in
+          subst (λ (s : _). P s (sightings_of (k + 1) (first_rows e (i + 1) ∷ es))) (sym (get_or-set_other xs place k y z other))
+          (subst (λ (ss : List Sighting). P (get_or xs k z) ss) (same-for (k + 1) e i r es at apart) (each k z within))
+    ]
+
 pub row-noted : (e : EpochTableView) (i place : ℕ) (r : SatelliteRow) (xs : List SatelliteCounts) (y : SatelliteCounts) (interval : Option ℕ) (es : List EpochTableView)
     → IsRowAt e i r → place + 1 ≡ r.satellite → place < 32 → StandForSatellites xs interval (first_rows e i ∷ es)
     → StandsForSatellite y interval (record { time = e.time; observed = r.observed.items } ∷ sightings_of r.satellite es)
     → StandForSatellites (set xs place y) interval (first_rows e (i + 1) ∷ es)
 row-noted e i place r xs y interval es at number few are stands = record {
   size = length-set xs place y ∙ are.size;
-  each = λ k z within.
-      elim (cases_eq k place) [
-        | inl same ↦
-            let inside : place < length xs = let size = are.size in omega (arith, size, few) in
-            subst (λ (j : ℕ). StandsForSatellite (get_or (set xs place y) j z) interval (sightings_of (j + 1) (first_rows e (i + 1) ∷ es))) (sym same)
-            (subst (λ (s : SatelliteCounts). StandsForSatellite s interval (sightings_of (place + 1) (first_rows e (i + 1) ∷ es))) (sym (get_or-set_same xs place y z inside))
-            (subst (λ (n : ℕ). StandsForSatellite y interval (sightings_of n (first_rows e (i + 1) ∷ es))) (sym number)
-            (subst (λ (ss : List Sighting). StandsForSatellite y interval ss) (sym (with-it e i r es at)) stands)))
-        | inr other ↦
-            let apart : r.satellite ≢ k + 1 = λ alike. absurd (other (omega (arith, alike, number))) in
-            subst (λ (s : SatelliteCounts). StandsForSatellite s interval (sightings_of (k + 1) (first_rows e (i + 1) ∷ es))) (sym (get_or-set_other xs place k y z other))
-            (subst (λ (ss : List Sighting). StandsForSatellite (get_or xs k z) interval ss) (same-for (k + 1) e i r es at apart) (are.each k z within))
-      ];
+  each = row-set (λ (s : SatelliteCounts) (ss : List Sighting). StandsForSatellite s interval ss) e i place r xs y es at number few are.size are.each stands;
 }
 
 pub row-ended : (e : EpochTableView) (i : ℕ) (r : SatelliteRow) (old new : List EndedPass) (pass : Option PassCounts) (interval : Option ℕ) (es : List EpochTableView)

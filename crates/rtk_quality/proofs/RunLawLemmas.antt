@@ -1,14 +1,16 @@
--- The laws of hours with slips, and of runs of half cycles.
+-- The laws of hours with slips, and of runs of epochs.
 use Rattle.std.proofs.Common.{◌≡◌, ◌<◌, ◌≤◌, ◌+◌, ◌^◌, ◌==◌, ◌&&◌, cond, ltb, ℕ, Bool, true, false, arith, List, [], ◌∷◌, length, Option, None, Some, inl, inr, refl, ap}
 use Rattle.std.proofs.lemmas.Bool.{cases_Bool}
 use Rattle.rtk_obs.specs.declared.time.Civil.{Civil}
 use Rattle.rtk_rinex.specs.Reading.{reading_of}
+use Rattle.rtk_rinex.specs.declared.epoch_table.Observed.{Observed}
 use Rattle.rtk_tracking.specs.Passes.{Sighting, has_phase, begins_pass}
 use Rattle.rtk_quality.specs.Counts.{plus}
 use Rattle.rtk_quality.specs.Hours.{hour_at, slips_of}
-use Rattle.rtk_quality.specs.Runs.{has_half, run_after, run_ended, open_run, ended_run, half_runs, size_of_run}
+use Rattle.rtk_quality.specs.Runs.{run_after, run_ended, open_where, ended_where, half_runs, size_of_run}
+use Rattle.rtk_quality.specs.Missing.{all_missing, size_of_missing}
 use Rattle.rtk_quality.specs.Bursts.{hour_with, other_hour, hour_after, hour_ended, last_hour, all_bursts, size_of_burst}
-use Rattle.rtk_quality.specs.Laws.{moments_or_0, epochs_or_0, slipping_epochs, HoursHaveAllMoments, half_epochs, RunsHaveAllHalves, LargestBurstsAreFirst, LongestRunsAreFirst}
+use Rattle.rtk_quality.specs.Laws.{moments_or_0, epochs_or_0, slipping_epochs, HoursHaveAllMoments, epochs_where, RunsHaveAllEpochs, LargestBurstsAreFirst, LongestRunsAreFirst, LongestMissingAreFirst}
 use Rattle.rtk_quality.specs.declared.runs.Run.{Run}
 use Rattle.rtk_quality.specs.declared.bursts.HourMoments.{HourMoments}
 use Rattle.rtk_quality.proofs.LargestLemmas.{largest-are-first}
@@ -79,55 +81,58 @@ largest-bursts-first interval es = largest-are-first size_of_burst (all_bursts i
 
 -- ---- runs
 
-run-counts : (run : Option Run) (begins half : Bool) (reading : Civil) → epochs_or_0 run + 1 < 2 ^ 64
-    → epochs_or_0 (run_ended run begins half) + epochs_or_0 (run_after run begins half reading) ≡ epochs_or_0 run + once half
+run-counts : (run : Option Run) (begins holds : Bool) (reading : Civil) → epochs_or_0 run + 1 < 2 ^ 64
+    → epochs_or_0 (run_ended run begins holds) + epochs_or_0 (run_after run begins holds reading) ≡ epochs_or_0 run + once holds
 run-counts run true true reading few = omega arith
 run-counts run true false reading few = omega arith
 run-counts run false false reading few = omega arith
 run-counts None false true reading few = refl
 run-counts (Some r) false true reading few = omega (arith, few)
 
-few-halves : (before : List Sighting) → half_epochs before ≤ length before
-few-halves [] = omega arith
-few-halves (s ∷ before) =
-    let rest = few-halves before in
-    elim (cases_Bool (has_phase s.observed && has_half s.observed)) [
-      | inl some ↦ let one : once (has_phase s.observed && has_half s.observed) ≡ 1 = ap once some in omega (arith, rest, one)
-      | inr none ↦ let zero : once (has_phase s.observed && has_half s.observed) ≡ 0 = ap once none in omega (arith, rest, zero)
+few-epochs : (test : List Observed → Bool) (before : List Sighting) → epochs_where test before ≤ length before
+few-epochs test [] = omega arith
+few-epochs test (s ∷ before) =
+    let rest = few-epochs test before in
+    elim (cases_Bool (has_phase s.observed && test s.observed)) [
+      | inl some ↦ let one : once (has_phase s.observed && test s.observed) ≡ 1 = ap once some in omega (arith, rest, one)
+      | inr none ↦ let zero : once (has_phase s.observed && test s.observed) ≡ 0 = ap once none in omega (arith, rest, zero)
     ]
 
-run-step : (interval : Option ℕ) (before : List Sighting) (s : Sighting) → epochs_or_0 (open_run interval before) + 1 < 2 ^ 64
-    → epochs_or_0 (ended_run interval before s) + epochs_or_0 (open_run interval (s ∷ before))
-    ≡ epochs_or_0 (open_run interval before) + once (has_phase s.observed && has_half s.observed)
-run-step interval before s few =
-    let old : Option Run = open_run interval before in
+run-step : (test : List Observed → Bool) (interval : Option ℕ) (before : List Sighting) (s : Sighting) → epochs_or_0 (open_where test interval before) + 1 < 2 ^ 64
+    → epochs_or_0 (ended_where test interval before s) + epochs_or_0 (open_where test interval (s ∷ before))
+    ≡ epochs_or_0 (open_where test interval before) + once (has_phase s.observed && test s.observed)
+run-step test interval before s few =
+    let old : Option Run = open_where test interval before in
     let begins : Bool = begins_pass interval before s in
-    let half : Bool = has_half s.observed in
+    let holds : Bool = test s.observed in
     elim (cases_Bool (has_phase s.observed)) [
       | inl has ↦
-          let left : epochs_or_0 (ended_run interval before s) ≡ epochs_or_0 (run_ended old begins half) = ap (λ (b : Bool). epochs_or_0 (cond b (run_ended old begins half) None)) has in
-          let right : epochs_or_0 (open_run interval (s ∷ before)) ≡ epochs_or_0 (run_after old begins half (reading_of s.time)) =
-          ap (λ (b : Bool). epochs_or_0 (cond b (run_after old begins half (reading_of s.time)) old)) has in
-          let here : once (has_phase s.observed && half) ≡ once half = ap (λ (b : Bool). once (b && half)) has in
-          let both = run-counts old begins half (reading_of s.time) few in
+          let left : epochs_or_0 (ended_where test interval before s) ≡ epochs_or_0 (run_ended old begins holds) = ap (λ (b : Bool). epochs_or_0 (cond b (run_ended old begins holds) None)) has in
+          let right : epochs_or_0 (open_where test interval (s ∷ before)) ≡ epochs_or_0 (run_after old begins holds (reading_of s.time)) =
+          ap (λ (b : Bool). epochs_or_0 (cond b (run_after old begins holds (reading_of s.time)) old)) has in
+          let here : once (has_phase s.observed && holds) ≡ once holds = ap (λ (b : Bool). once (b && holds)) has in
+          let both = run-counts old begins holds (reading_of s.time) few in
           omega (arith, left, right, here, both)
       | inr none ↦
-          let left : epochs_or_0 (ended_run interval before s) ≡ 0 = ap (λ (b : Bool). epochs_or_0 (cond b (run_ended old begins half) None)) none in
-          let right : epochs_or_0 (open_run interval (s ∷ before)) ≡ epochs_or_0 old =
-          ap (λ (b : Bool). epochs_or_0 (cond b (run_after old begins half (reading_of s.time)) old)) none in
-          let here : once (has_phase s.observed && half) ≡ 0 = ap (λ (b : Bool). once (b && half)) none in
+          let left : epochs_or_0 (ended_where test interval before s) ≡ 0 = ap (λ (b : Bool). epochs_or_0 (cond b (run_ended old begins holds) None)) none in
+          let right : epochs_or_0 (open_where test interval (s ∷ before)) ≡ epochs_or_0 old =
+          ap (λ (b : Bool). epochs_or_0 (cond b (run_after old begins holds (reading_of s.time)) old)) none in
+          let here : once (has_phase s.observed && holds) ≡ 0 = ap (λ (b : Bool). once (b && holds)) none in
           omega (arith, left, right, here)
     ]
 
-pub runs-have-all : RunsHaveAllHalves
-runs-have-all interval [] few = refl
-runs-have-all interval (s ∷ before) few =
+pub runs-have-all : RunsHaveAllEpochs
+runs-have-all test interval [] few = refl
+runs-have-all test interval (s ∷ before) few =
     let shorter : length before < 2 ^ 64 = omega (arith, few) in
-    let rest = runs-have-all interval before shorter in
-    let most = few-halves before in
-    let fits : epochs_or_0 (open_run interval before) + 1 < 2 ^ 64 = omega (arith, rest, most, few) in
-    let step = run-step interval before s fits in
+    let rest = runs-have-all test interval before shorter in
+    let most = few-epochs test before in
+    let fits : epochs_or_0 (open_where test interval before) + 1 < 2 ^ 64 = omega (arith, rest, most, few) in
+    let step = run-step test interval before s fits in
     omega (arith, rest, step)
 
 pub longest-runs-first : LongestRunsAreFirst
 longest-runs-first interval es = largest-are-first size_of_run (half_runs interval es)
+
+pub longest-missing-first : LongestMissingAreFirst
+longest-missing-first interval listed es = largest-are-first size_of_missing (all_missing interval listed es)

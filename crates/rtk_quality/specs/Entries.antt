@@ -6,8 +6,8 @@ use Rattle.rtk_obs.specs.declared.code.Code.{Code}
 use Rattle.rtk_quality.specs.Falls.{largest_fall}
 use Rattle.rtk_quality.specs.Strengths.{number_of}
 use Rattle.rtk_quality.specs.LineText.{code_line, satellite_line, tracked_line, pass_line}
-use Rattle.rtk_quality.specs.StationText.{hour_line, gap_line, outage_line, together_line, burst_line, run_line, fall_line}
-use Rattle.rtk_quality.specs.Rows.{code_row, signal_row, tracked_row, pass_row, hour_row, gap_row, outage_row, moment_row, burst_row, run_row, fall_row}
+use Rattle.rtk_quality.specs.StationText.{hour_line, gap_line, outage_line, together_line, burst_line, run_line, missing_line, fall_line}
+use Rattle.rtk_quality.specs.Rows.{code_row, signal_row, tracked_row, pass_row, hour_row, gap_row, outage_row, moment_row, burst_row, run_row, missing_row, fall_row}
 use Rattle.rtk_quality.specs.declared.form.Form.{Form}
 use Rattle.rtk_quality.specs.declared.form.Form.TheVariants.{Table, Lines, Json}
 use Rattle.rtk_quality.specs.declared.code_numbers.CodeNumbers.{CodeNumbers}
@@ -19,6 +19,7 @@ use Rattle.rtk_quality.specs.declared.falls.Fall.{Fall}
 use Rattle.rtk_quality.specs.declared.moments.Moment.{Moment}
 use Rattle.rtk_quality.specs.declared.outages.Outage.{Outage}
 use Rattle.rtk_quality.specs.declared.runs.HalfRun.{HalfRun}
+use Rattle.rtk_quality.specs.declared.missing.MissingCode.{MissingCode}
 use Rattle.rtk_quality.specs.declared.bursts.Burst.{Burst}
 
 -- a row of the table, or else a line or an object
@@ -56,6 +57,9 @@ burst_entry form b = in_table form (burst_row b) (burst_line form b)
 
 unfoldable pub run_entry : Form → HalfRun → List ℕ
 run_entry form h = in_table form (run_row h) (run_line form h)
+
+unfoldable pub missing_entry : Form → MissingCode → List ℕ
+missing_entry form m = in_table form (missing_row m) (missing_line form m)
 
 unfoldable pub fall_entry : Form → Band → Fall → List ℕ
 fall_entry form band f = in_table form (fall_row (number_of band) f) (fall_line form band f)

@@ -122,6 +122,6 @@ abbrev pub hours_of : Option ℕ → ℕ → List Code → List EpochTableView �
 hours_of interval unit listed es = map (counts_of_hour interval unit listed es) (hours_in interval es)
 
 -- formula
--- the beginning of an hour, to the end of 2100
+-- the beginning of an hour. A record just before the end of 2100 counts for the hour that begins then.
 abbrev pub start_of : ℕ → ℕ
-start_of hour = min (hour * 3_600_000) 3_818_015_999_999
+start_of hour = min (hour * 3_600_000) 3_818_016_000_000

@@ -4,6 +4,7 @@ use Rattle.std.specs.List.{list_any, range_with_len}
 use Rattle.rtk_obs.specs.declared.code.Band.{Band}
 use Rattle.rtk_obs.specs.declared.code.Code.{Code}
 use Rattle.rtk_rinex.specs.Record.{EpochTableView}
+use Rattle.rtk_rinex.specs.declared.epoch_table.Observed.{Observed}
 use Rattle.rtk_tracking.specs.Interval.{missing_before, missing_in}
 use Rattle.rtk_tracking.specs.Passes.{Sighting, sightings_of, has_phase, begins_pass, outage_before}
 use Rattle.rtk_quality.specs.Counts.{Noted, plus, tally, noted_of, counts_of, rounded_fraction, mean_hundredths}
@@ -13,7 +14,8 @@ use Rattle.rtk_quality.specs.Gaps.{gaps_of, size_of_gap}
 use Rattle.rtk_quality.specs.Largest.{largest_first}
 use Rattle.rtk_quality.specs.Moments.{together_in, common_moments, size_of_moment}
 use Rattle.rtk_quality.specs.Outages.{all_outages, size_of_outage}
-use Rattle.rtk_quality.specs.Runs.{has_half, open_run, ended_run, half_runs, size_of_run}
+use Rattle.rtk_quality.specs.Missing.{all_missing, size_of_missing}
+use Rattle.rtk_quality.specs.Runs.{open_where, ended_where, half_runs, size_of_run}
 use Rattle.rtk_quality.specs.Bursts.{last_hour, hour_before, all_bursts, size_of_burst}
 use Rattle.rtk_quality.specs.declared.runs.Run.{Run}
 use Rattle.rtk_quality.specs.declared.bursts.HourMoments.{HourMoments}
@@ -220,21 +222,21 @@ HoursHaveAllMoments =
     (interval : Option ℕ) (before : List Sighting) → length before < 2 ^ 64
     → ended_moments interval before + moments_or_0 (last_hour interval before) ≡ slipping_epochs interval before
 
--- the epochs with a half cycle, in all runs of a satellite that ended and in the last one
-abbrev pub ended_epochs : Option ℕ → List Sighting → ℕ
-ended_epochs interval [] = 0
-ended_epochs interval (s ∷ before) = ended_epochs interval before + epochs_or_0 (ended_run interval before s)
+-- the epochs for which a test holds, in all runs of a satellite that ended
+abbrev pub ended_epochs : (List Observed → Bool) → Option ℕ → List Sighting → ℕ
+ended_epochs test interval [] = 0
+ended_epochs test interval (s ∷ before) = ended_epochs test interval before + epochs_or_0 (ended_where test interval before s)
 
--- the epochs of a satellite with a phase and a half cycle
-abbrev pub half_epochs : List Sighting → ℕ
-half_epochs [] = 0
-half_epochs (s ∷ before) = half_epochs before + (if has_phase s.observed && has_half s.observed then 1 else 0)
+-- the epochs of a satellite with a phase for which it holds
+abbrev pub epochs_where : (List Observed → Bool) → List Sighting → ℕ
+epochs_where test [] = 0
+epochs_where test (s ∷ before) = epochs_where test before + (if has_phase s.observed && test s.observed then 1 else 0)
 
--- each of them is in one run
-abbrev pub RunsHaveAllHalves : Type 0
-RunsHaveAllHalves =
-    (interval : Option ℕ) (before : List Sighting) → length before < 2 ^ 64
-    → ended_epochs interval before + epochs_or_0 (open_run interval before) ≡ half_epochs before
+-- each of them is in one run, that of half cycles, and of a code that is missing
+abbrev pub RunsHaveAllEpochs : Type 0
+RunsHaveAllEpochs =
+    (test : List Observed → Bool) (interval : Option ℕ) (before : List Sighting) → length before < 2 ^ 64
+    → ended_epochs test interval before + epochs_or_0 (open_where test interval before) ≡ epochs_where test before
 
 -- no burst has more epochs than one before it
 abbrev pub LargestBurstsAreFirst : Type 0
@@ -245,3 +247,9 @@ LargestBurstsAreFirst =
 abbrev pub LongestRunsAreFirst : Type 0
 LongestRunsAreFirst =
     (interval : Option ℕ) (es : List EpochTableView) → AllPairs (λ a b. size_of_run b ≤ size_of_run a) (largest_first size_of_run (half_runs interval es))
+
+-- no time for which a code is missing is longer than one before it
+abbrev pub LongestMissingAreFirst : Type 0
+LongestMissingAreFirst =
+    (interval : Option ℕ) (listed : List Code) (es : List EpochTableView)
+    → AllPairs (λ a b. size_of_missing b ≤ size_of_missing a) (largest_first size_of_missing (all_missing interval listed es))

@@ -10,6 +10,7 @@ pub mod Largest
 pub mod Laws
 pub mod LineText
 pub mod Lists
+pub mod Missing
 pub mod Moments
 pub mod Never
 pub mod Outages

@@ -1,5 +1,5 @@
 -- Lists of entries in the three forms (this project's rule).
-use Rattle.std.specs.Prelude.{ℕ, ◌-◌, nat_lt, List, [], ◌∷◌, ◌++◌, drop, flat_map, codes, decimal, if◌then◌else◌}
+use Rattle.std.specs.Prelude.{ℕ, ◌-◌, nat_lt, List, [], ◌∷◌, ◌++◌, flat_map, codes, decimal, if◌then◌else◌}
 use Rattle.rtk_quality.specs.declared.form.Form.{Form}
 use Rattle.rtk_quality.specs.declared.form.Form.TheVariants.{Table, Lines, Json}
 
@@ -11,12 +11,13 @@ opening Json heading key = key
 
 -- formula
 -- a list whose entries follow its first text: in a table no list is empty, and in JSON, where a comma stands
--- before each entry, the first comma is left out
+-- before each entry, the first comma is left out, and an empty array has no line end
 abbrev pub closed : Form → List ℕ → List ℕ → List ℕ
 closed Table first [] = []
 closed Table first (x ∷ xs) = first ++ x ∷ xs
 closed Lines first entries = first ++ entries
-closed Json first entries = first ++ drop 1 entries ++ codes "\n]"
+closed Json first [] = first ++ codes "]"
+closed Json first (x ∷ xs) = first ++ xs ++ codes "\n]"
 
 -- a list of entries, with its heading in a table, and its key in JSON
 unfoldable pub list_text : Form → List ℕ → List ℕ → List ℕ → List ℕ

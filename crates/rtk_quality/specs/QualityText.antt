@@ -20,10 +20,11 @@ use Rattle.rtk_quality.specs.Moments.{largest_moments, moments_in}
 use Rattle.rtk_quality.specs.Outages.{longest_outages, all_outages}
 use Rattle.rtk_quality.specs.Runs.{longest_half_runs, half_runs_in}
 use Rattle.rtk_quality.specs.Bursts.{largest_bursts, all_bursts_in}
+use Rattle.rtk_quality.specs.Missing.{longest_missing, missing_codes_in}
 use Rattle.rtk_quality.specs.Lists.{list_text, largest_text}
 use Rattle.rtk_quality.specs.LineText.{never_line}
 use Rattle.rtk_quality.specs.Never.{never_rows}
-use Rattle.rtk_quality.specs.Entries.{in_table, code_entry, satellite_entry, tracked_entry, pass_entry, hour_entry, gap_entry, outage_entry, moment_entry, burst_entry, run_entry, fall_part}
+use Rattle.rtk_quality.specs.Entries.{in_table, code_entry, satellite_entry, tracked_entry, pass_entry, hour_entry, gap_entry, outage_entry, moment_entry, burst_entry, run_entry, missing_entry, fall_part}
 use Rattle.rtk_quality.specs.Quality.{numbers_of, code_of_station, station_sums, is_in_file, satellites_in}
 use Rattle.rtk_quality.specs.Forms.{in_form, value_text, moment_text, end_text, json_text}
 use Rattle.rtk_quality.specs.declared.form.Form.{Form}
@@ -40,6 +41,7 @@ use Rattle.rtk_quality.specs.declared.heading.ListedCounts.{ListedCounts}
 use Rattle.rtk_quality.specs.declared.moments.Moment.{Moment}
 use Rattle.rtk_quality.specs.declared.outages.Outage.{Outage}
 use Rattle.rtk_quality.specs.declared.runs.HalfRun.{HalfRun}
+use Rattle.rtk_quality.specs.declared.missing.MissingCode.{MissingCode}
 use Rattle.rtk_quality.specs.declared.bursts.Burst.{Burst}
 
 -- ---- the codes and satellites
@@ -90,7 +92,7 @@ abbrev pub section_heading : Section → List ℕ
 section_heading Codes = []
 section_heading Tracked = codes "\nsat    phases  slips  moments  outages        time\n"
 section_heading Never = codes "\nnever a phase\n"
-section_heading Passes = codes "\nsat from                until               phases slips moments outages   time\n"
+section_heading Passes = codes "\nsat from                until               phases slips moments  out      time\n"
 
 -- table
 -- the keys of the sections in JSON
@@ -108,7 +110,7 @@ section_text form section listed interval es =
 -- table
 -- the heading of the columns of codes
 abbrev pub codes_heading : List ℕ
-codes_heading = codes "\nsignal phases     of      % ranges slips returns rises half     min  mean    max\n"
+codes_heading = codes "\n                            ranges                             strength in dB-Hz\nsignal phases     of      %   only slips returns rises half     min  mean    max\n"
 
 -- the codes of the station
 unfoldable pub codes_text : Form → List Code → Option ℕ → List EpochTableView → List ℕ
@@ -143,6 +145,10 @@ abbrev pub runs_heading : List ℕ
 runs_heading = codes "\nhalf from               until                  epochs\n"
 
 -- table
+abbrev pub missing_heading : List ℕ
+missing_heading = codes "\nmissing from               until                  epochs\n"
+
+-- table
 abbrev pub falls_heading : List ℕ
 falls_heading = codes "\nband falls from       until                by\n"
 
@@ -163,6 +169,9 @@ bursts_text form n bursts = largest_text burst_entry form bursts_heading (codes 
 
 unfoldable pub runs_text : Form → ℕ → List HalfRun → List ℕ
 runs_text form n runs = largest_text run_entry form runs_heading (codes ",\n\"half_runs\":[") n runs
+
+unfoldable pub missing_text : Form → ℕ → List MissingCode → List ℕ
+missing_text form n missing = largest_text missing_entry form missing_heading (codes ",\n\"missing_codes\":[") n missing
 
 -- the falls of all bands
 unfoldable pub falls_of : Form → List HourCounts → List ℕ
@@ -208,9 +217,15 @@ station_text form s =
 
 -- formula
 -- how many there are of what has a list of the ten largest
-abbrev pub listed_counts : Option ℕ → ℕ → List EpochTableView → ListedCounts
-listed_counts interval unit es =
-    record { gaps = gaps_in unit es; moments = moments_in interval es; bursts = all_bursts_in interval es; runs = half_runs_in interval es }
+abbrev pub listed_counts : Option ℕ → ℕ → List Code → List EpochTableView → ListedCounts
+listed_counts interval unit listed es =
+    record {
+      gaps = gaps_in unit es;
+      moments = moments_in interval es;
+      bursts = all_bursts_in interval es;
+      runs = half_runs_in interval es;
+      missing = missing_codes_in interval listed es;
+    }
 
 -- formula
 -- the counts that follow the outages
@@ -219,6 +234,7 @@ listed_text form n =
     value_text form (codes "\nslips-together ") (codes ",\"slips_together\":") Whole (Some n.moments)
     ++ value_text form (codes "\nbursts ") (codes ",\"bursts\":") Whole (Some n.bursts)
     ++ value_text form (codes "\nhalf-runs ") (codes ",\"half_runs\":") Whole (Some n.runs)
+    ++ value_text form (codes "\nmissing-codes ") (codes ",\"missing_codes\":") Whole (Some n.missing)
 
 -- the lines of the whole file
 unfoldable pub heading_text : Form → List ℕ → Civil → Civil → Option ℕ → ℕ → RecordCounts → ListedCounts → PassSums → List ℕ
@@ -233,13 +249,15 @@ close_text form = in_form form [] (codes "}\n")
 
 -- formula
 -- the hours, and the ten longest gaps; the largest falls; the ten longest outages; the ten epochs at which most
--- satellites slip; the ten hours in which a satellite slips at most epochs; the ten longest runs of half cycles
+-- satellites slip; the ten hours in which a satellite slips at most epochs; the ten longest runs of half cycles; the ten
+-- longest runs of epochs at which a code is missing
 unfoldable pub station_part : Form → List Code → Option ℕ → ℕ → List EpochTableView → List ℕ
 station_part form listed interval unit es =
     hours_text form listed (reverse (hours_of interval unit listed es)) ++ gaps_text form (gaps_in unit es) (longest_gaps unit es)
     ++ falls_text form (reverse (hours_of interval unit listed es)) ++ outages_text form (count_of (all_outages interval es)) (longest_outages interval es)
     ++ moments_text form (moments_in interval es) (largest_moments interval es) ++ bursts_text form (all_bursts_in interval es) (largest_bursts interval es)
     ++ runs_text form (half_runs_in interval es) (longest_half_runs interval es)
+    ++ missing_text form (missing_codes_in interval listed es) (longest_missing interval listed es)
 
 -- formula
 -- the codes of the station and of satellites, the sums of satellites, and their passes
@@ -261,7 +279,7 @@ body_text Json listed interval unit es = signals_part Json listed interval es ++
 unfoldable pub quality_text : Form → List ℕ → List Code → ℕ → ℕ → Option ℕ → List EpochTableView → List ℕ
 quality_text form marker listed first last interval es =
     heading_text form marker (reading_of first) (reading_of last) interval (satellites_in interval es)
-    (record_counts_of (unit_of interval) es) (listed_counts interval (unit_of interval) es) (station_sums interval es)
+    (record_counts_of (unit_of interval) es) (listed_counts interval (unit_of interval) listed es) (station_sums interval es)
     ++ body_text form listed interval (unit_of interval) es ++ close_text form
 
 -- table
@@ -269,7 +287,7 @@ quality_text form marker listed first last interval es =
 abbrev pub no_lists : Form → List ℕ
 no_lists form =
     in_form form []
-    (codes ",\n\"codes\":[],\n\"satellites\":[],\n\"tracked\":[],\n\"never\":[],\n\"passes\":[],\n\"hours\":[],\n\"gaps\":[],\n\"falls\":[],\n\"outages\":[],\n\"slips_together\":[],\n\"bursts\":[],\n\"half_runs\":[]")
+    (codes ",\n\"codes\":[],\n\"satellites\":[],\n\"tracked\":[],\n\"never\":[],\n\"passes\":[],\n\"hours\":[],\n\"gaps\":[],\n\"falls\":[],\n\"outages\":[],\n\"slips_together\":[],\n\"bursts\":[],\n\"half_runs\":[],\n\"missing_codes\":[]")
 
 -- a file without records has no other numbers
 unfoldable pub text_of_none : Form → List ℕ → List ℕ

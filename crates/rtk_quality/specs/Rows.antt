@@ -22,6 +22,7 @@ use Rattle.rtk_quality.specs.declared.falls.Fall.{Fall}
 use Rattle.rtk_quality.specs.declared.moments.Moment.{Moment}
 use Rattle.rtk_quality.specs.declared.outages.Outage.{Outage}
 use Rattle.rtk_quality.specs.declared.runs.HalfRun.{HalfRun}
+use Rattle.rtk_quality.specs.declared.missing.MissingCode.{MissingCode}
 use Rattle.rtk_quality.specs.declared.bursts.Burst.{Burst}
 
 -- formula
@@ -127,6 +128,12 @@ burst_row b =
 unfoldable pub run_row : HalfRun → List ℕ
 run_row h =
     satellite_mark h.satellite ++ span_part h.run.from h.run.until 19 ++ cells_text (column 10 Whole (Some h.run.epochs) ∷ []) ++ codes "\n"
+
+-- table
+-- the row of a run of epochs at which a code of a satellite is missing: its span in whole seconds, and its epochs
+unfoldable pub missing_row : MissingCode → List ℕ
+missing_row m =
+    satellite_mark m.satellite ++ codes " " ++ name_of m.code ++ span_part m.run.from m.run.until 19 ++ cells_text (column 10 Whole (Some m.run.epochs) ∷ []) ++ codes "\n"
 
 -- the row of the largest fall of a band, by the number of the band
 unfoldable pub fall_row : ℕ → Fall → List ℕ

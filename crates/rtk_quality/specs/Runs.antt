@@ -1,4 +1,5 @@
--- Runs of half cycles of satellites (this project's rule). What came is listed newest first, and the runs oldest first.
+-- Runs of epochs of a satellite, and its runs of half cycles (this project's rule). What came is listed newest first, and
+-- the runs oldest first.
 use Rattle.std.specs.Prelude.{ℕ, Bool, not, ◌||◌, List, [], ◌∷◌, ◌++◌, flat_map, Option, None, Some, if◌then◌else◌}
 use Rattle.std.specs.List.{list_any, range_with_len}
 use Rattle.rtk_obs.specs.declared.time.Civil.{Civil}
@@ -34,19 +35,26 @@ abbrev pub run_ended : Option Run → Bool → Bool → Option Run
 run_ended run begins half = if begins || not half then run else None
 
 -- formula
--- the run at the end of these epochs: the last epochs with a phase in the last pass, if each of them has a half
--- cycle
-abbrev pub open_run : Option ℕ → List Sighting → Option Run
-open_run interval [] = None
-open_run interval (s ∷ before) =
-    if has_phase s.observed then run_after (open_run interval before) (begins_pass interval before s) (has_half s.observed) (reading_of s.time)
-    else open_run interval before
+-- the run at the end of these epochs for which a test holds: the last epochs with a phase in the last pass, if it holds
+-- for each of them
+abbrev pub open_where : (List Observed → Bool) → Option ℕ → List Sighting → Option Run
+open_where test interval [] = None
+open_where test interval (s ∷ before) =
+    if has_phase s.observed then run_after (open_where test interval before) (begins_pass interval before s) (test s.observed) (reading_of s.time)
+    else open_where test interval before
 
 -- formula
--- the run that ends before an epoch, because it has a phase without a half cycle or begins a pass
+-- the run that ends before an epoch, because it has a phase and the test fails, or because it begins a pass
+abbrev pub ended_where : (List Observed → Bool) → Option ℕ → List Sighting → Sighting → Option Run
+ended_where test interval before s =
+    if has_phase s.observed then run_ended (open_where test interval before) (begins_pass interval before s) (test s.observed) else None
+
+-- those of half cycles
+abbrev pub open_run : Option ℕ → List Sighting → Option Run
+open_run interval before = open_where has_half interval before
+
 abbrev pub ended_run : Option ℕ → List Sighting → Sighting → Option Run
-ended_run interval before s =
-    if has_phase s.observed then run_ended (open_run interval before) (begins_pass interval before s) (has_half s.observed) else None
+ended_run interval before s = ended_where has_half interval before s
 
 abbrev pub half_run : ℕ → Option Run → Option HalfRun
 half_run satellite None = None

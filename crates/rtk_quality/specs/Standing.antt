@@ -13,9 +13,13 @@ use Rattle.rtk_quality.specs.Largest.{AreLargest}
 use Rattle.rtk_quality.specs.Outages.{all_outages, size_of_outage}
 use Rattle.rtk_quality.specs.Moments.{common_moments, size_of_moment}
 use Rattle.rtk_quality.specs.Hours.{hours_of}
+use Rattle.rtk_quality.specs.Missing.{open_missing, ended_missings, all_missing, size_of_missing}
 use Rattle.rtk_quality.specs.Runs.{open_run, ended_runs, half_runs, size_of_run}
 use Rattle.rtk_quality.specs.Bursts.{last_hour, ended_bursts, all_bursts, size_of_burst}
 use Rattle.rtk_quality.specs.declared.runs.HalfRun.{HalfRun}
+use Rattle.rtk_quality.specs.declared.missing.MissingCode.{MissingCode}
+use Rattle.rtk_quality.specs.declared.missing.MissingRuns.{MissingRuns}
+use Rattle.rtk_quality.specs.declared.missing.MissingCodes.{MissingCodes}
 use Rattle.rtk_quality.specs.declared.bursts.Burst.{Burst}
 use Rattle.rtk_quality.specs.Steps.Noted.{noted_hours, AreHours}
 use Rattle.rtk_quality.specs.declared.hours.HourCounts.{HourCounts}
@@ -62,6 +66,16 @@ pub record StandsForSatellite (s : SatelliteCounts) (interval : Option ℕ) (bef
 abbrev pub StandsForEnded : Option PassCounts → Option ℕ → List Sighting → Sighting → Type 0
 StandsForEnded ended interval before s = ended ≡ (if begins_pass interval before s then newest_pass (passes_of interval before) else None)
 
+-- a code of a satellite: the run of epochs at which it is missing, and those that ended
+pub record StandsForMissing (m : MissingRuns) (interval : Option ℕ) (place : ℕ) (before : List Sighting) : Type 0 where
+  pub newest : m.newest ≡ open_missing interval place before
+  pub ended : m.ended.items ≡ ended_missings interval place before
+
+-- so many codes of a satellite
+pub record StandForCodes (codes : List MissingRuns) (count : ℕ) (interval : Option ℕ) (before : List Sighting) : Type 0 where
+  pub size : length codes ≡ count
+  pub each : (place : ℕ) (d : MissingRuns) → place < count → StandsForMissing (get_or codes place d) interval place before
+
 -- ---- a file
 
 -- an epoch of which no row came so far
@@ -72,6 +86,11 @@ without_rows time = record { time = time; rows = [] }
 pub record StandForSatellites (satellites : List SatelliteCounts) (interval : Option ℕ) (es : List EpochTableView) : Type 0 where
   pub size : length satellites ≡ 32
   pub each : (place : ℕ) (d : SatelliteCounts) → place < 32 → StandsForSatellite (get_or satellites place d) interval (sightings_of (place + 1) es)
+
+-- so many codes of the satellites 1 to 32
+pub record StandForMissing (missing : List MissingCodes) (count : ℕ) (interval : Option ℕ) (es : List EpochTableView) : Type 0 where
+  pub size : length missing ≡ 32
+  pub each : (place : ℕ) (d : MissingCodes) → place < 32 → StandForCodes (get_or missing place d).codes.items count interval (sightings_of (place + 1) es)
 
 -- the passes of a satellite among those that ended
 abbrev pub ended_of : ℕ → List EndedPass → List PassCounts
@@ -91,8 +110,8 @@ HasEnded ended interval before satellite = ended_of satellite ended ≡ reverse 
 abbrev pub StandForEnded : List EndedPass → Option ℕ → List EpochTableView → Type 0
 StandForEnded ended interval es = (place : ℕ) → place < 32 → HasEnded ended interval (sightings_of (place + 1) es) (place + 1)
 
--- a file after these epochs, whose hours are given newest first, with these runs and bursts
-pub record StandsForFile (f : FileCounts) (interval : Option ℕ) (unit : ℕ) (es : List EpochTableView) (hs : List HourCounts) (runs_so_far : List HalfRun) (bursts_so_far : List Burst) : Type 0 where
+-- a file of these codes after these epochs, whose hours are given newest first, with these runs, bursts and missing codes
+pub record StandsForFile (f : FileCounts) (interval : Option ℕ) (unit : ℕ) (listed : List Code) (es : List EpochTableView) (hs : List HourCounts) (runs_so_far : List HalfRun) (bursts_so_far : List Burst) (missing_so_far : List MissingCode) : Type 0 where
   pub records : f.records ≡ record_counts_of unit es
   pub satellites : StandForSatellites f.satellites.items interval es
   pub ended : StandForEnded f.ended.items interval es
@@ -102,11 +121,13 @@ pub record StandsForFile (f : FileCounts) (interval : Option ℕ) (unit : ℕ) (
   pub outages : AreLargest size_of_outage f.events.outages (all_outages interval es)
   pub runs : AreLargest size_of_run f.events.runs runs_so_far
   pub bursts : AreLargest size_of_burst f.events.bursts bursts_so_far
+  pub codes : StandForMissing f.codes.items (length listed) interval es
+  pub missing : AreLargest size_of_missing f.missing missing_so_far
 
 -- a file after these epochs, with the runs and bursts that ended
 abbrev pub IsCounting : FileCounts → Option ℕ → ℕ → List Code → List EpochTableView → Type 0
-IsCounting f interval unit listed es = StandsForFile f interval unit es (noted_hours interval unit listed es) (ended_runs interval es) (ended_bursts interval es)
+IsCounting f interval unit listed es = StandsForFile f interval unit listed es (noted_hours interval unit listed es) (ended_runs interval es) (ended_bursts interval es) []
 
 -- a file of these epochs, with all of them
 abbrev pub HasCounted : FileCounts → Option ℕ → ℕ → List Code → List EpochTableView → Type 0
-HasCounted f interval unit listed es = StandsForFile f interval unit es (hours_of interval unit listed es) (half_runs interval es) (all_bursts interval es)
+HasCounted f interval unit listed es = StandsForFile f interval unit listed es (hours_of interval unit listed es) (half_runs interval es) (all_bursts interval es) (all_missing interval listed es)

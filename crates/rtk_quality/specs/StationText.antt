@@ -8,7 +8,7 @@ use Rattle.rtk_rinex.specs.Reading.{reading_of}
 use Rattle.rtk_quality.specs.Counts.{plus, mean_hundredths, mean_tenths}
 use Rattle.rtk_quality.specs.Hours.{start_of}
 use Rattle.rtk_quality.specs.Strengths.{number_of, is_of_band, of_band}
-use Rattle.rtk_quality.specs.LineText.{having_text, satellite_name}
+use Rattle.rtk_quality.specs.LineText.{having_text, satellite_name, code_name}
 use Rattle.rtk_quality.specs.Forms.{value_text, moment_text, start_text, end_text}
 use Rattle.rtk_quality.specs.declared.form.Form.{Form}
 use Rattle.rtk_quality.specs.declared.form.Decimals.TheVariants.{Whole, Tenths, Hundredths, Thousandths}
@@ -18,6 +18,7 @@ use Rattle.rtk_quality.specs.declared.falls.Fall.{Fall}
 use Rattle.rtk_quality.specs.declared.moments.Moment.{Moment}
 use Rattle.rtk_quality.specs.declared.outages.Outage.{Outage}
 use Rattle.rtk_quality.specs.declared.runs.HalfRun.{HalfRun}
+use Rattle.rtk_quality.specs.declared.missing.MissingCode.{MissingCode}
 use Rattle.rtk_quality.specs.declared.bursts.Burst.{Burst}
 use Rattle.rtk_quality.specs.declared.strengths.Strengths.{Strengths}
 
@@ -96,6 +97,14 @@ run_line form h =
     start_text form (codes "half-run") ++ satellite_name form h.satellite
     ++ moment_text form (codes " from ") (codes ",\"from\":") h.run.from ++ moment_text form (codes " until ") (codes ",\"until\":") h.run.until
     ++ value_text form (codes " epochs ") (codes ",\"epochs\":") Whole (Some h.run.epochs) ++ end_text form
+
+-- formula
+-- the line of a run of epochs at which a code of a satellite is missing
+unfoldable pub missing_line : Form → MissingCode → List ℕ
+missing_line form m =
+    start_text form (codes "missing-code") ++ satellite_name form m.satellite ++ code_name form m.code
+    ++ moment_text form (codes " from ") (codes ",\"from\":") m.run.from ++ moment_text form (codes " until ") (codes ",\"until\":") m.run.until
+    ++ value_text form (codes " epochs ") (codes ",\"epochs\":") Whole (Some m.run.epochs) ++ end_text form
 
 -- the line of a fall
 unfoldable pub fall_line : Form → Band → Fall → List ℕ

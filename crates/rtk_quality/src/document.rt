@@ -13,7 +13,7 @@ use crate::lines::put_count;
 use crate::satellite_counts::SatelliteCounts;
 use crate::sections::{Section, put_codes, put_section};
 use crate::station::{
-    put_bursts, put_falls, put_gaps, put_hours, put_moments, put_outages, put_runs,
+    put_bursts, put_falls, put_gaps, put_hours, put_missing, put_moments, put_outages, put_runs,
 };
 use rtk_obs::{Code, GpsMs, civil};
 use rtk_rinex::TextTable;
@@ -37,7 +37,7 @@ fn put_no_lists(text: &mut Vec<u8>, form: Form) -> Result<(), AllocError>
         text,
         form,
         b"",
-        b",\n\"codes\":[],\n\"satellites\":[],\n\"tracked\":[],\n\"never\":[],\n\"passes\":[],\n\"hours\":[],\n\"gaps\":[],\n\"falls\":[],\n\"outages\":[],\n\"slips_together\":[],\n\"bursts\":[],\n\"half_runs\":[]",
+        b",\n\"codes\":[],\n\"satellites\":[],\n\"tracked\":[],\n\"never\":[],\n\"passes\":[],\n\"hours\":[],\n\"gaps\":[],\n\"falls\":[],\n\"outages\":[],\n\"slips_together\":[],\n\"bursts\":[],\n\"half_runs\":[],\n\"missing_codes\":[]",
     )
 }
 
@@ -74,6 +74,7 @@ fn put_station_lines(
     put_moments(text, form, &counts.moments)?;
     put_bursts(text, form, &counts.events.bursts)?;
     put_runs(text, form, &counts.events.runs)?;
+    put_missing(text, form, &counts.missing)?;
     Ok(())
 }
 
@@ -153,6 +154,7 @@ fn text_of(
         moments: counts.moments.count,
         bursts: counts.events.bursts.count,
         runs: counts.events.runs.count,
+        missing: counts.missing.count,
     };
     let from = civil(first);
     let until = civil(last);

@@ -1,7 +1,7 @@
 //! The entries of lists, each of them a row of a table, a line, or an object in JSON.
 
 ghost use Rattle.std.specs.Prelude.{◌≡◌, ◌++◌, OnOk};
-ghost use Rattle.rtk_quality.specs.Entries.{code_entry, satellite_entry, tracked_entry, pass_entry, hour_entry, gap_entry, outage_entry, moment_entry, burst_entry, run_entry, fall_entry};
+ghost use Rattle.rtk_quality.specs.Entries.{code_entry, satellite_entry, tracked_entry, pass_entry, hour_entry, gap_entry, outage_entry, moment_entry, burst_entry, run_entry, missing_entry, fall_entry};
 
 use crate::bursts::Burst;
 use crate::code_numbers::CodeNumbers;
@@ -11,18 +11,19 @@ use crate::gaps::Gap;
 use crate::hours::HourCounts;
 use crate::largest::Measured;
 use crate::lines::{put_code_line, put_pass_line, put_satellite_line, put_tracked_line};
+use crate::missing::MissingCode;
 use crate::moments::Moment;
 use crate::outages::Outage;
 use crate::pass_sums::PassSums;
 use crate::rows::{
-    put_burst_row, put_code_row, put_fall_row, put_gap_row, put_hour_row, put_moment_row,
-    put_outage_row, put_pass_row, put_run_row, put_signal_row, put_tracked_row,
+    put_burst_row, put_code_row, put_fall_row, put_gap_row, put_hour_row, put_missing_row,
+    put_moment_row, put_outage_row, put_pass_row, put_run_row, put_signal_row, put_tracked_row,
 };
 use crate::runs::HalfRun;
 use crate::satellite_counts::PassCounts;
 use crate::station_lines::{
-    put_burst_line, put_fall_line, put_gap_line, put_hour_line, put_moment_line, put_outage_line,
-    put_run_line,
+    put_burst_line, put_fall_line, put_gap_line, put_hour_line, put_missing_line, put_moment_line,
+    put_outage_line, put_run_line,
 };
 use crate::strengths::number_of;
 use rtk_obs::{Band, Code};
@@ -169,6 +170,31 @@ impl Listed for HalfRun {
 
     fn put_entry(&self, text: &mut Vec<u8>, form: Form) -> Result<(), AllocError> {
         put_run_entry(text, form, self)
+    }
+}
+
+impl Listed for MissingCode {
+    ghost use Rattle.rtk_quality.specs.Entries.{missing_entry};
+
+    ghost entry = { missing_entry };
+
+    fn put_entry(&self, text: &mut Vec<u8>, form: Form) -> Result<(), AllocError> {
+        put_missing_entry(text, form, self)
+    }
+}
+
+// Appends a run of epochs at which a code of a satellite is missing.
+#[tactic(auto, unfolding(crate::specs::Entries::missing_entry))]
+fn put_missing_entry(
+    text: &mut Vec<u8>,
+    form: Form,
+    missing: &MissingCode,
+) -> Result<(), AllocError>
+    ensures { OnOk result (text.new.items ≡ text.old.items ++ missing_entry form missing.now) }
+{
+    match form {
+        Form::Table => put_missing_row(text, missing),
+        Form::Lines | Form::Json => put_missing_line(text, form, missing),
     }
 }
 

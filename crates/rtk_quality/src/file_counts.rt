@@ -1,6 +1,6 @@
 //! The counts of a file, record by record.
 
-ghost use Rattle.std.specs.Prelude.{◌≡◌, ◌<◌, ℕ, List, [], ◌∷◌, ◌++◌, length, Option, IfOk, OnOk};
+ghost use Rattle.std.specs.Prelude.{◌≡◌, ◌<◌, ◌≤◌, ℕ, List, [], ◌∷◌, ◌++◌, length, Option, IfOk, OnOk};
 ghost use Rattle.std.specs.List.{range_with_len};
 ghost use Rattle.rtk_rinex.specs.Record.{EpochTableView};
 ghost use Rattle.rtk_obs.specs.declared.code.Code.{Code};
@@ -16,7 +16,7 @@ ghost use Rattle.rtk_quality.specs.declared.runs.HalfRun.{HalfRun};
 ghost use Rattle.rtk_quality.specs.declared.bursts.Burst.{Burst};
 ghost use Rattle.rtk_quality.specs.Quality.{totals_of, station_sums, possible_in, satellites_in};
 ghost use Rattle.rtk_tracking.specs.Epochs.{HoldsOfEpochs, newest_moment};
-ghost use Rattle.rtk_quality.specs.Standing.{without_rows, with_ended, StandForSatellites, StandForEnded, IsCounting, HasCounted};
+ghost use Rattle.rtk_quality.specs.Standing.{without_rows, with_ended, StandForSatellites, StandForMissing, StandForEnded, IsCounting, HasCounted};
 
 use crate::bursts::burst_of;
 use crate::code_numbers::CodeNumbers;
@@ -24,6 +24,7 @@ use crate::events::Events;
 use crate::gaps::{Gap, gap_between};
 use crate::hours::{Hours, Locks};
 use crate::largest::Largest;
+use crate::missing::{MissingCode, MissingCodes, note_missing};
 use crate::moments::{Moment, Together, moment_if_several};
 use crate::pass_sums::PassSums;
 use crate::record_counts::{RecordCounts, unit_ms};
@@ -46,12 +47,16 @@ pub(crate) struct FileCounts {
     pub(crate) records: RecordCounts,
     /// The satellites 1 to 32.
     pub(crate) satellites: Vec<SatelliteCounts>,
+    /// The codes of the satellites 1 to 32.
+    pub(crate) codes: Vec<MissingCodes>,
     /// The passes that ended, in the order in which others began.
     pub(crate) ended: Vec<EndedPass>,
     pub(crate) hours: Hours,
     pub(crate) gaps: Largest<Gap>,
     pub(crate) moments: Largest<Moment>,
     pub(crate) events: Events,
+    /// The times at which codes are missing, once all records are counted.
+    pub(crate) missing: Largest<MissingCode>,
 }
 
 /// What the rows of an epoch add up to.
@@ -103,17 +108,23 @@ fn note_satellites(satellites: &mut Vec<SatelliteCounts>)
 // Counts the rows of that epoch, which comes after a record at this moment or is the first one.
 fn note_rows(
     satellites: &mut Vec<SatelliteCounts>,
+    codes: &mut Vec<MissingCodes>,
     ended: &mut Vec<EndedPass>,
     events: &mut Events,
     interval: Option<u64>,
     record_ms: Option<u64>,
     epoch: &EpochTable,
 ) -> Result<EpochNotes, AllocError>
-    requires { length satellites.old.items ≡ 32 }
+    requires satellites { length satellites.old.items ≡ 32 }
+    requires codes { length codes.old.items ≡ 32 }
     ensures size { OnOk result (length satellites.new.items ≡ 32) }
+    ensures codes_size { OnOk result (length codes.new.items ≡ 32) }
     ensures satellites { OnOk result ((es : List EpochTableView) → record_ms ≡ newest_moment es
         → StandForSatellites satellites.old.items interval (without_rows epoch.now.time ∷ es)
         → StandForSatellites satellites.new.items interval (epoch.now ∷ es)) }
+    ensures codes { OnOk result ((es : List EpochTableView) (count : ℕ) → record_ms ≡ newest_moment es
+        → StandForSatellites satellites.old.items interval (without_rows epoch.now.time ∷ es)
+        → StandForMissing codes.old.items count interval es → StandForMissing codes.new.items count interval (epoch.now ∷ es)) }
     ensures ended { OnOk result ((es : List EpochTableView) → record_ms ≡ newest_moment es
         → StandForSatellites satellites.old.items interval (without_rows epoch.now.time ∷ es)
         → StandForEnded ended.old.items interval es → StandForEnded ended.new.items interval (epoch.now ∷ es)) }
@@ -143,6 +154,7 @@ fn note_rows(
         let notes = satellites[place].note_row(interval, record_ms, time, reading, observed);
         locks = locks.plus(&notes.locks);
         together = together.plus(notes.locks.slips, notes.is_tracked);
+        codes[place].note_codes(interval, notes.is_tracked, notes.begins, reading, observed)?;
         add_ended(ended, row.satellite, notes.ended)?;
         events.note_row(row.satellite, &notes)?;
     }
@@ -213,20 +225,34 @@ pub(crate) fn satellites_in(satellites: &[SatelliteCounts]) -> usize
     seen
 }
 
+// So many codes of each of the satellites 1 to 32, without an epoch.
+fn missing_codes(alloc: Global, count: usize) -> Result<Vec<MissingCodes>, AllocError>
+    ensures { IfOk result (λ missing. (interval : Option ℕ) → StandForMissing missing.items count interval []) }
+{
+    let mut missing = Vec::new(alloc);
+    for _satellite in 0..32_usize {
+        missing.push(MissingCodes::new(alloc, count)?)?;
+    }
+    Ok(missing)
+}
+
 impl FileCounts {
-    /// Of a file without records: 32 satellites, each of them without an epoch.
-    pub(crate) fn new(alloc: Global) -> Result<FileCounts, AllocError>
+    /// Of a file of these codes without records: 32 satellites, each of them without an epoch.
+    pub(crate) fn new(alloc: Global, codes: &[Code]) -> Result<FileCounts, AllocError>
         ensures size { IfOk result (λ counts. length counts.satellites.items ≡ 32) }
-        ensures counts { IfOk result (λ counts. (interval : Option ℕ) (unit : ℕ) (codes : List Code) → IsCounting counts interval unit codes []) }
+        ensures codes { IfOk result (λ counts. length counts.codes.items ≡ 32) }
+        ensures counts { IfOk result (λ counts. (interval : Option ℕ) (unit : ℕ) → IsCounting counts interval unit codes.now []) }
     {
         Ok(FileCounts {
             records: RecordCounts::new(),
             satellites: vec![in alloc; SatelliteCounts::new(); 32]?,
+            codes: missing_codes(alloc, codes.len())?,
             ended: Vec::new(alloc),
             hours: Hours::new(alloc),
             gaps: Largest::new(alloc),
             moments: Largest::new(alloc),
             events: Events::new(alloc),
+            missing: Largest::new(alloc),
         })
     }
 
@@ -240,7 +266,9 @@ impl FileCounts {
     ) -> Result<(), AllocError>
         requires unit { 0 < unit_ms }
         requires size { length self.old.satellites.items ≡ 32 }
+        requires codes { length self.old.codes.items ≡ 32 }
         ensures size { OnOk result (length self.new.satellites.items ≡ 32) }
+        ensures codes { OnOk result (length self.new.codes.items ≡ 32) }
         ensures counts { OnOk result ((es : List EpochTableView)
             → IsCounting self.old interval unit_ms codes.now es → IsCounting self.new interval unit_ms codes.now (epoch.now ∷ es)) }
     {
@@ -248,6 +276,7 @@ impl FileCounts {
         note_satellites(&mut self.satellites);
         let notes = note_rows(
             &mut self.satellites,
+            &mut self.codes,
             &mut self.ended,
             &mut self.events,
             interval,
@@ -278,17 +307,25 @@ pub(crate) fn count_file(
     codes: &[Code],
     interval: Option<u64>,
 ) -> Result<FileCounts, AllocError>
+    requires { length codes.now ≤ 16 }
     ensures size { IfOk result (λ counts. length counts.satellites.items ≡ 32) }
     ensures counts { IfOk result (λ counts. HoldsOfEpochs table.now.text
         (λ es. HasCounted counts interval (unit_of interval) codes.now es)) }
 {
     let unit_ms = unit_ms(interval);
-    let mut counts = FileCounts::new(alloc)?;
+    let mut counts = FileCounts::new(alloc, codes)?;
     let mut epoch = EpochTable::new(table.heading().first);
     let mut records = table.records();
     while let Some(_record) = records.next(&mut epoch) {
         counts.note_epoch(interval, unit_ms, codes, &epoch)?;
     }
     note_last(&mut counts.events, counts.satellites.as_slice())?;
+    note_missing(
+        &mut counts.missing,
+        interval,
+        codes,
+        counts.satellites.as_slice(),
+        counts.codes.as_slice(),
+    )?;
     Ok(counts)
 }

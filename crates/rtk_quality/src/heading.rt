@@ -21,6 +21,8 @@ pub(crate) struct ListedCounts {
     pub(crate) bursts: u64,
     /// Runs of half cycles.
     pub(crate) runs: u64,
+    /// Runs of epochs at which a code is missing.
+    pub(crate) missing: u64,
 }
 
 /// Appends the marker.
@@ -147,6 +149,13 @@ fn put_listed(text: &mut Vec<u8>, form: Form, listed: &ListedCounts) -> Result<(
     )?;
     put_count(text, form, b"\nbursts ", b",\"bursts\":", listed.bursts)?;
     put_count(text, form, b"\nhalf-runs ", b",\"half_runs\":", listed.runs)?;
+    put_count(
+        text,
+        form,
+        b"\nmissing-codes ",
+        b",\"missing_codes\":",
+        listed.missing,
+    )?;
     Ok(())
 }
 

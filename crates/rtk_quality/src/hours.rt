@@ -6,13 +6,24 @@ ghost use Rattle.rtk_quality.specs.Hours.{hour_at, start_of};
 ghost use Rattle.rtk_quality.specs.Steps.Noted.{since_hour, missing_since, missing_until, no_locks, locks_plus, without_records, with_record, ended_hour, hour_onto, ended_by, list_of_hour, hours_with, AreHours};
 
 use crate::strengths::Strengths;
-use rtk_obs::{Civil, Code, GpsMs, LAST_MS, civil};
+use rtk_obs::{Civil, Code, GpsMs, civil};
 use rtk_rinex::EpochTable;
 use rtk_tracking::{missing_between, nearness_ms};
 use std::alloc::{AllocError, Global};
 
 /// An hour in ms.
 const HOUR_MS: u64 = 3_600_000;
+
+/// The end of 2100.
+const AFTER_2100: Civil = Civil {
+    year: 2101,
+    month: 1,
+    day: 1,
+    hour: 0,
+    minute: 0,
+    second: 0,
+    millisecond: 0,
+};
 
 /// The slips and returns of all codes.
 #[derive(Clone, Copy)]
@@ -109,14 +120,14 @@ fn missing_before(
     }
 }
 
-/// The beginning of an hour.
+/// The beginning of an hour. A record just before the end of 2100 counts for the hour that begins then.
 pub(crate) fn start_of(hour: u64) -> Civil
     ensures { result ≡ reading_of (start_of hour) }
 {
-    let Some(start) = GpsMs::new(hour.saturating_mul(HOUR_MS).min(LAST_MS)) else {
-        unreachable!();
-    };
-    civil(start)
+    match GpsMs::new(hour.saturating_mul(HOUR_MS)) {
+        Some(start) => civil(start),
+        None => AFTER_2100,
+    }
 }
 
 impl Locks {

@@ -3,7 +3,7 @@
 //!
 //! Each function here does nothing. Its contract is the law, and a caller that calls it may cite it.
 
-ghost use Rattle.rtk_quality.specs.Laws.{CountsHideNothing, EachIsCounted, MeanIsOfAll, EachInPassIsCounted, PhasesAreInPasses, TotalsAreSums, RowsAreSum, EachHourHasOneLine, HoursHaveAllRecords, HoursHaveAllMissing, MeanOfHourIsOfAll, GapsHaveAllMissing, LongestGapsAreFirst, OutagesHaveAllTime, LongestOutagesAreFirst, MomentsAreAll, LargestMomentsAreFirst, HoursHaveAllMoments, LargestBurstsAreFirst, RunsHaveAllHalves, LongestRunsAreFirst};
+ghost use Rattle.rtk_quality.specs.Laws.{CountsHideNothing, EachIsCounted, MeanIsOfAll, EachInPassIsCounted, PhasesAreInPasses, TotalsAreSums, RowsAreSum, EachHourHasOneLine, HoursHaveAllRecords, HoursHaveAllMissing, MeanOfHourIsOfAll, GapsHaveAllMissing, LongestGapsAreFirst, OutagesHaveAllTime, LongestOutagesAreFirst, MomentsAreAll, LargestMomentsAreFirst, HoursHaveAllMoments, LargestBurstsAreFirst, RunsHaveAllEpochs, LongestRunsAreFirst, LongestMissingAreFirst};
 
 /// The rises, the returns and the slips of a code are together its digits with bit 0.
 pub fn no_bit_is_hidden()
@@ -46,12 +46,13 @@ pub fn events_hide_nothing()
     ensures largest { LargestMomentsAreFirst }
 {}
 
-/// Each epoch at which a satellite slips is in one of its hours, and each epoch with a half cycle in one of its runs.
-/// The hours come from the one with most such epochs to the one with fewest, and the runs from the longest to the
-/// shortest.
+/// Each epoch at which a satellite slips is in one of its hours, and each epoch with a half cycle or without a code in
+/// one of the runs. The hours come from the one with most such epochs to the one with fewest, and the runs from the
+/// longest to the shortest.
 pub fn satellites_hide_nothing()
     ensures hours { HoursHaveAllMoments }
     ensures bursts { LargestBurstsAreFirst }
-    ensures halves { RunsHaveAllHalves }
+    ensures epochs { RunsHaveAllEpochs }
     ensures runs { LongestRunsAreFirst }
+    ensures missing { LongestMissingAreFirst }
 {}

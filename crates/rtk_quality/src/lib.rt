@@ -65,6 +65,7 @@ mod largest;
 mod laws;
 mod lines;
 mod lists;
+mod missing;
 mod moments;
 mod never;
 mod outages;

@@ -163,9 +163,9 @@ fn put_counts(text: &mut Vec<u8>, form: Form, counts: &CodeCounts) -> Result<(),
     put_end(text, form)
 }
 
-// Appends a code behind the satellite that has it.
+/// Appends a code behind the satellite that has it.
 #[tactic(auto, unfolding(crate::specs::LineText::code_name))]
-fn put_code_name(text: &mut Vec<u8>, form: Form, code: Code) -> Result<(), AllocError>
+pub(crate) fn put_code_name(text: &mut Vec<u8>, form: Form, code: Code) -> Result<(), AllocError>
     ensures { OnOk result (text.new.items ≡ text.old.items ++ code_name form code) }
 {
     put_name(text, form, b",\"code\":\"", &code.name())

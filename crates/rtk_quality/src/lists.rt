@@ -54,15 +54,16 @@ fn end_table(text: &mut Vec<u8>, start: ListStart)
     }
 }
 
-// Takes the comma before the first entry away, if there is one, and ends the array.
+// Ends the array, without the comma before its first entry, if there is one.
 fn end_array(text: &mut Vec<u8>, start: ListStart) -> Result<(), AllocError>
     ensures { OnOk result ((before first entries : List ℕ) → length (before ++ first) ≡ start.entries
         → text.old.items ≡ (before ++ first) ++ entries → text.new.items ≡ before ++ closed Json first entries) }
 {
     if start.entries < text.len() {
         text.remove(start.entries);
+        return text.extend_from_slice(b"\n]");
     }
-    text.extend_from_slice(b"\n]")
+    text.extend_from_slice(b"]")
 }
 
 /// Ends a list whose entries were appended.

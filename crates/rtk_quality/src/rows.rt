@@ -1,7 +1,7 @@
 //! The rows of a table.
 
 ghost use Rattle.std.specs.Prelude.{◌≡◌, ◌++◌, OnOk};
-ghost use Rattle.rtk_quality.specs.Rows.{satellite_mark, numbers_text, span_part, strength_column, signal_row, code_row, tracked_row, pass_row, hour_row, gap_row, outage_row, moment_row, burst_row, run_row, fall_row};
+ghost use Rattle.rtk_quality.specs.Rows.{satellite_mark, numbers_text, span_part, strength_column, signal_row, code_row, tracked_row, pass_row, hour_row, gap_row, outage_row, moment_row, burst_row, run_row, missing_row, fall_row};
 
 use crate::bursts::Burst;
 use crate::code_numbers::{
@@ -13,6 +13,7 @@ use crate::form::{Decimals, Form, widened};
 use crate::gaps::Gap;
 use crate::hours::{HourCounts, start_of};
 use crate::lines::{put_having, put_per_slip};
+use crate::missing::MissingCode;
 use crate::moments::Moment;
 use crate::outages::Outage;
 use crate::pass_sums::PassSums;
@@ -254,6 +255,19 @@ pub(crate) fn put_run_row(text: &mut Vec<u8>, half: &HalfRun) -> Result<(), Allo
     put_satellite(text, half.satellite)?;
     put_span(text, half.run.from, half.run.until, SECOND)?;
     put_cells(text, &[Cell::count(10, half.run.epochs)])?;
+    text.extend_from_slice(b"\n")
+}
+
+/// Appends the row of a run of epochs at which a code of a satellite is missing.
+#[tactic(auto, unfolding(crate::specs::Rows::missing_row))]
+pub(crate) fn put_missing_row(text: &mut Vec<u8>, missing: &MissingCode) -> Result<(), AllocError>
+    ensures { OnOk result (text.new.items ≡ text.old.items ++ missing_row missing.now) }
+{
+    put_satellite(text, missing.satellite)?;
+    text.extend_from_slice(b" ")?;
+    text.extend_from_slice(&missing.code.name())?;
+    put_span(text, missing.run.from, missing.run.until, SECOND)?;
+    put_cells(text, &[Cell::count(10, missing.run.epochs)])?;
     text.extend_from_slice(b"\n")
 }
 

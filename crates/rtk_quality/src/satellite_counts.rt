@@ -3,7 +3,7 @@
 ghost use Rattle.std.specs.Prelude.{◌≡◌, ◌<◌, ℕ, ◌&&◌, not, List, [], ◌∷◌, Option, None, Some, if◌then◌else◌};
 ghost use Rattle.std.specs.List.{list_any};
 ghost use Rattle.rtk_rinex.specs.Reading.{reading_of};
-ghost use Rattle.rtk_tracking.specs.Passes.{Sighting, last_record, has_phase, is_kept, is_slip, is_return};
+ghost use Rattle.rtk_tracking.specs.Passes.{Sighting, last_record, has_phase, begins_pass, is_kept, is_slip, is_return};
 ghost use Rattle.rtk_tracking.specs.Standing.{AreMarked, AreKnown};
 ghost use Rattle.rtk_tracking.specs.Epochs.{shown_at};
 ghost use Rattle.rtk_quality.specs.Counts.{plus, code_counts_of};
@@ -36,14 +36,15 @@ pub(crate) struct PassCounts {
 }
 
 /// What a row tells beside the counts: the pass that ended when another one began, the slips and returns, the
-/// absence with which an outage ended, whether there is a phase, the run of half cycles that ended before it, and
-/// the hour with slips that did.
+/// absence with which an outage ended, whether there is a phase, whether a pass begins with it, the run of half
+/// cycles that ended before it, and the hour with slips that did.
 #[derive(Clone, Copy)]
 pub(crate) struct RowNotes {
     pub(crate) ended: Option<PassCounts>,
     pub(crate) locks: Locks,
     pub(crate) absence: Option<Absence>,
     pub(crate) is_tracked: bool,
+    pub(crate) begins: bool,
     pub(crate) run: Option<Run>,
     pub(crate) hour: Option<HourMoments>,
 }
@@ -306,6 +307,8 @@ impl SatelliteCounts {
         ensures absence { (before : List Sighting) → StandsForSatellite self.old interval (absent_at time ∷ before)
             → record_ms ≡ last_record before → result.absence ≡ absence_at interval before (record { time = time; observed = observed.now }) }
         ensures tracked { result.is_tracked ≡ has_phase observed.now }
+        ensures begins { (before : List Sighting) → StandsForSatellite self.old interval (absent_at time ∷ before)
+            → result.begins ≡ begins_pass interval before (record { time = time; observed = observed.now }) }
         ensures run { (before : List Sighting) → StandsForSatellite self.old interval (absent_at time ∷ before)
             → record_ms ≡ last_record before → result.run ≡ ended_run interval before (record { time = time; observed = observed.now }) }
         ensures hour { (before : List Sighting) → StandsForSatellite self.old interval (absent_at time ∷ before)
@@ -324,6 +327,7 @@ impl SatelliteCounts {
                 locks,
                 absence: None,
                 is_tracked: false,
+                begins: false,
                 run: None,
                 hour: None,
             };
@@ -342,6 +346,7 @@ impl SatelliteCounts {
             locks: Locks { slips, returns },
             absence,
             is_tracked: true,
+            begins,
             run: run.ended,
             hour: hour.ended,
         }

@@ -43,7 +43,7 @@ fn section_heading(section: Section) -> &'static [u8]
         Section::Tracked => b"\nsat    phases  slips  moments  outages        time\n",
         Section::Never => b"\nnever a phase\n",
         Section::Passes => {
-            b"\nsat from                until               phases slips moments outages   time\n"
+            b"\nsat from                until               phases slips moments  out      time\n"
         }
     }
 }
@@ -94,7 +94,7 @@ pub(crate) fn put_codes(
     let start = begin_list(
         text,
         form,
-        b"\nsignal phases     of      % ranges slips returns rises half     min  mean    max\n",
+        b"\n                            ranges                             strength in dB-Hz\nsignal phases     of      %   only slips returns rises half     min  mean    max\n",
         b",\n\"codes\":[",
     )?;
     put_each_code(text, form, codes, satellites)?;

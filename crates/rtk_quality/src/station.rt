@@ -3,7 +3,7 @@
 ghost use Rattle.std.specs.Prelude.{◌≡◌, ◌++◌, flat_map, OnOk};
 ghost use Rattle.rtk_quality.specs.Entries.{hour_entry, fall_part};
 ghost use Rattle.rtk_quality.specs.Lists.{more_text, largest_text};
-ghost use Rattle.rtk_quality.specs.QualityText.{hours_text, gaps_text, outages_text, moments_text, bursts_text, runs_text, falls_of, falls_text};
+ghost use Rattle.rtk_quality.specs.QualityText.{hours_text, gaps_text, outages_text, moments_text, bursts_text, runs_text, missing_text, falls_of, falls_text};
 
 use crate::bursts::Burst;
 use crate::entries::{Listed, put_fall_entry, put_hour_entry};
@@ -13,6 +13,7 @@ use crate::gaps::Gap;
 use crate::hours::HourCounts;
 use crate::largest::Largest;
 use crate::lists::{begin_list, end_list};
+use crate::missing::MissingCode;
 use crate::moments::Moment;
 use crate::outages::Outage;
 use crate::runs::HalfRun;
@@ -187,6 +188,24 @@ pub(crate) fn put_runs(
         b"\nhalf from               until                  epochs\n",
         b",\n\"half_runs\":[",
         runs,
+    )
+}
+
+/// Appends the runs of epochs at which codes are missing.
+#[tactic(auto, unfolding(crate::specs::QualityText::missing_text))]
+pub(crate) fn put_missing(
+    text: &mut Vec<u8>,
+    form: Form,
+    missing: &Largest<MissingCode>,
+) -> Result<(), AllocError>
+    ensures { OnOk result (text.new.items ≡ text.old.items ++ missing_text form missing.now.count missing.now.things.items) }
+{
+    put_largest(
+        text,
+        form,
+        b"\nmissing from               until                  epochs\n",
+        b",\n\"missing_codes\":[",
+        missing,
     )
 }
 

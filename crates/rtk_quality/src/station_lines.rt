@@ -1,7 +1,7 @@
 //! The lines of hours, of falls, and of the lists of the ten largest things.
 
 ghost use Rattle.std.specs.Prelude.{◌≡◌, ◌++◌, OnOk};
-ghost use Rattle.rtk_quality.specs.StationText.{has_band, strength_words, strength_key, strength_text, hour_counts_text, hour_line, gap_line, outage_line, together_line, burst_line, run_line, fall_line};
+ghost use Rattle.rtk_quality.specs.StationText.{has_band, strength_words, strength_key, strength_text, hour_counts_text, hour_line, gap_line, outage_line, together_line, burst_line, run_line, missing_line, fall_line};
 
 use crate::bursts::Burst;
 use crate::code_numbers::{mean_hundredths, mean_tenths};
@@ -9,7 +9,8 @@ use crate::falls::Fall;
 use crate::form::{Decimals, Form, put_end, put_moment, put_start, put_value};
 use crate::gaps::Gap;
 use crate::hours::{HourCounts, start_of};
-use crate::lines::{put_count, put_having, put_satellite_name};
+use crate::lines::{put_code_name, put_count, put_having, put_satellite_name};
+use crate::missing::MissingCode;
 use crate::moments::Moment;
 use crate::outages::Outage;
 use crate::runs::HalfRun;
@@ -197,6 +198,26 @@ pub(crate) fn put_run_line(text: &mut Vec<u8>, form: Form, half: &HalfRun) -> Re
     put_moment(text, form, b" from ", b",\"from\":", half.run.from)?;
     put_moment(text, form, b" until ", b",\"until\":", half.run.until)?;
     put_count(text, form, b" epochs ", b",\"epochs\":", half.run.epochs)?;
+    put_end(text, form)?;
+    Ok(())
+}
+
+/// Appends the line of a run of epochs at which a code of a satellite is missing.
+#[tactic(auto, unfolding(crate::specs::StationText::missing_line))]
+pub(crate) fn put_missing_line(
+    text: &mut Vec<u8>,
+    form: Form,
+    missing: &MissingCode,
+) -> Result<(), AllocError>
+    ensures { OnOk result (text.new.items ≡ text.old.items ++ missing_line form missing.now) }
+{
+    let run = &missing.run;
+    put_start(text, form, b"missing-code")?;
+    put_satellite_name(text, form, missing.satellite)?;
+    put_code_name(text, form, missing.code)?;
+    put_moment(text, form, b" from ", b",\"from\":", run.from)?;
+    put_moment(text, form, b" until ", b",\"until\":", run.until)?;
+    put_count(text, form, b" epochs ", b",\"epochs\":", run.epochs)?;
     put_end(text, form)?;
     Ok(())
 }

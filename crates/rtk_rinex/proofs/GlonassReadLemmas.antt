@@ -1,17 +1,13 @@
 -- The lines of GLONASS are read back.
-use Rattle.std.proofs.Common.{◌≡◌, ◌≢◌, ℕ, ◌≤◌, ◌+◌, List, [], ◌∷◌, ◌++◌, length, drop, take, decimal, codes, arith, refl, sym, ◌∙◌, ap, subst, append_assoc, Bool, true, false, ℤ, Option, Some, None}
-use Rattle.std.specs.Prelude.{All}
+use Rattle.std.proofs.Common.{◌≡◌, ℕ, ◌≤◌, List, ◌++◌, length, drop, decimal, codes, arith, refl, sym, ◌∙◌, ap, append_assoc, true, false, ℤ, Option, Some, None}
 use Rattle.std.proofs.lemmas.Fmt.{length-decimal-le}
 use Rattle.rtk_obs.specs.declared.any_code.AnyCode.{AnyCode}
 use Rattle.rtk_obs.specs.Carriers.{AreChannels}
 use Rattle.rtk_rinex.specs.Columns.{right}
-use Rattle.rtk_rinex.specs.Header.{header_line}
-use Rattle.rtk_rinex.specs.Lines.{HasNoEnd, text_of}
 use Rattle.rtk_rinex.specs.MixedHead.{GlonassView, IsGlonassView, has_glonass, TellsGlonass}
 use Rattle.rtk_rinex.specs.MixedHeader.{slots_lines, biases_line, leap_line, glonass_lines}
-use Rattle.rtk_rinex.specs.Steps.Digits.{digits_from}
 use Rattle.rtk_rinex.specs.Steps.HeaderShown.{StartsWith, number_at}
-use Rattle.rtk_rinex.specs.Steps.MixedHeaderRead.{Goes, Reads, ShowsSlots}
+use Rattle.rtk_rinex.specs.Steps.MixedHeaderRead.{Reads, ShowsSlots}
 use Rattle.rtk_rinex.proofs.DigitsLemmas.{take-exact, digits_from-right, length-right}
 use Rattle.rtk_rinex.proofs.HeaderShownLemmas.{line_rest, line_is}
 use Rattle.rtk_rinex.proofs.MixedPartsLemmas.{of_leap, whole_biases}

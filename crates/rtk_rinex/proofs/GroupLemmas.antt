@@ -1,12 +1,12 @@
 -- The lines of the observation types of one system are read back.
-use Rattle.std.proofs.Common.{◌≡◌, ◌≢◌, ℕ, zero, suc, ◌+◌, ◌-◌, ◌*◌, ◌/◌, ◌%◌, ◌<◌, ◌≤◌, List, [], ◌∷◌, ◌++◌, length, take, drop, get_or, decimal, codes, arith, refl, sym, ◌∙◌, ap, subst, append_assoc, length-append, inl, inr, min, AllPairs, Bool, true, false, ◌==◌, if◌then◌else◌}
+use Rattle.std.proofs.Common.{◌≡◌, ◌≢◌, ℕ, suc, ◌+◌, ◌*◌, ◌/◌, ◌%◌, ◌<◌, ◌≤◌, List, [], ◌∷◌, ◌++◌, length, take, drop, get_or, decimal, codes, arith, refl, sym, ◌∙◌, ap, subst, append_assoc, length-append, inl, inr, min, Bool, true, false, ◌==◌, if◌then◌else◌}
 use Rattle.std.specs.Prelude.{All}
 use Rattle.std.specs.Int.{IsInRange}
 use Rattle.std.proofs.Math.Seq.{drop-cons}
 use Rattle.std.proofs.lemmas.Bool.Decides.{Decides-eqb, leb_tells}
 use Rattle.std.proofs.lemmas.Grind.{flat_map-append}
 use Rattle.std.proofs.lemmas.List.{same_lists, get_or-take, length-take, take_all, take-append-drop, take-append-le, append-nil, append_cancel_left, length-drop}
-use Rattle.std.proofs.lemmas.List.Elements.{All-nil, All-cons, All-head, All-tail}
+use Rattle.std.proofs.lemmas.List.Elements.{All-nil, All-head, All-tail}
 use Rattle.rtk_obs.specs.declared.any_code.AnyCode.{AnyCode}
 use Rattle.rtk_obs.specs.declared.any_code.AnyCode.TheVariants.{G1C, G1P, G1W, G1S, G1L, G1X, G2C, G2D, G2P, G2W, G2S, G2L, G2X, G5I, G5Q, G5X, R1C, R1P, R2C, R2P, E1C, E1B, E1X, E6C, E6B, E6X, E7I, E7Q, E7X, E8I, E8Q, E8X, E5I, E5Q, E5X, C2I, C2Q, C2X, C6I, C6Q, C6X, C7I, C7Q, C7X, C5D, C5P, C5X, C7D, C1D, C1P, C1X, J1C, J6S, J6L, J6X, J2S, J2L, J2X, J5I, J5Q, J5X, J1S, J1L, J1X, S1C, S5I, S5Q, S5X, I5A}
 use Rattle.rtk_obs.specs.AnyCode.{name_of}
@@ -18,7 +18,7 @@ use Rattle.rtk_rinex.specs.MixedHeader.{codes_of, three_types, types_text, types
 use Rattle.rtk_rinex.specs.Steps.Digits.{digits_from}
 use Rattle.rtk_rinex.specs.Steps.HeaderShown.{line_at, name_at, number_at}
 use Rattle.rtk_rinex.specs.Steps.MixedRoom.{codes_of_letter, types_line_count}
-use Rattle.rtk_rinex.specs.Steps.MixedHeaderRead.{Goes, Reads, IsGroup, ShowsGroup}
+use Rattle.rtk_rinex.specs.Steps.MixedHeaderRead.{Reads, IsGroup, ShowsGroup}
 use Rattle.rtk_rinex.proofs.DigitsLemmas.{piece, digits_from-right}
 use Rattle.rtk_rinex.proofs.HeaderGoodLemmas.{known}
 use Rattle.rtk_rinex.proofs.HeaderPartsLemmas.{lines_begin}

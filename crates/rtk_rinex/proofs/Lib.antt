@@ -48,6 +48,7 @@ mod MixedCheckLemmas
 mod MixedOneLemmas
 mod MixedFormLemmas
 mod MixedTextLemmas
+mod MixedRecordsLemmas
 mod TextPartLemmas
 mod TypesPieceLemmas
 mod SlotsPieceLemmas
@@ -62,3 +63,8 @@ mod MixedPartsLemmas
 mod GlonassReadLemmas
 mod MixedReadLemmas
 mod MixedVerdictLemmas
+mod MixedSameHeaderLemmas
+mod MixedOneRecordsLemmas
+mod MixedOneHeaderLemmas
+mod MixedOneFaultLemmas
+mod MixedOneTableLemmas

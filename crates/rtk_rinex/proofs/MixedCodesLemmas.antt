@@ -1,6 +1,6 @@
 -- The codes of one system, and codes exchanged among them.
-use Rattle.std.proofs.Common.{◌≡◌, ◌≢◌, ℕ, zero, suc, ◌+◌, ◌-◌, ◌*◌, ◌<◌, ◌≤◌, List, [], ◌∷◌, ◌++◌, length, take, get_or, slice_index_or, codes, arith, refl, sym, ◌∙◌, ap, subst, Bool, true, false, ◌==◌, ◌&&◌, if◌then◌else◌, inl, inr}
-use Rattle.std.specs.Prelude.{All, AllPairs, Contains}
+use Rattle.std.proofs.Common.{◌≡◌, ◌≢◌, ℕ, zero, suc, ◌+◌, ◌<◌, ◌≤◌, List, [], ◌∷◌, ◌++◌, length, take, get_or, slice_index_or, codes, arith, refl, sym, ◌∙◌, ap, subst, Bool, true, false, ◌==◌, ◌&&◌, if◌then◌else◌, inl, inr}
+use Rattle.std.specs.Prelude.{AllPairs, Contains}
 use Rattle.std.specs.List.{filter, refill, SwappedAt}
 use Rattle.std.proofs.lemmas.Bool.{cases_order, eqb-true}
 use Rattle.std.proofs.lemmas.Bool.Decides.{Decides-eqb, nat_tests}

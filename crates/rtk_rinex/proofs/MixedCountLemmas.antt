@@ -8,7 +8,7 @@ use Rattle.rtk_message.specs.declared.system.System.{System}
 use Rattle.rtk_message.specs.declared.system.System.TheVariants.{Gps, Glonass, Galileo, Beidou, Qzss, Sbas, Navic}
 use Rattle.rtk_obs.specs.SatelliteIndex.{IsSatelliteIndex}
 use Rattle.rtk_rinex.specs.declared.epoch_table.SatelliteRow.{SatelliteRow}
-use Rattle.rtk_rinex.specs.MixedForm.{FormView, codes_in, width_at, satellites_with, most_satellites}
+use Rattle.rtk_rinex.specs.MixedForm.{FormView, codes_in, width_at, most_satellites}
 use Rattle.rtk_rinex.specs.MixedTable.{IsMixedRow}
 use Rattle.rtk_rinex.proofs.MixedRowLemmas.{mixed-wide}
 use Rattle.rtk_rinex.proofs.OneLemmas.{Below, pairs-head, pairs-tail}

@@ -1,20 +1,17 @@
 -- A text of records of any systems is the text of one list of epochs at most.
-use Rattle.std.proofs.Common.{◌≡◌, ◌≢◌, ℕ, ◌+◌, ◌-◌, ◌<◌, ◌≤◌, ◌==◌, Bool, true, false, if◌then◌else◌, Option, Some, None, List, [], ◌∷◌, ◌++◌, length, take, refl, sym, ◌∙◌, ap, arith, subst, append_assoc, length-append, flat_map, inl, inr}
-use Rattle.std.specs.Prelude.{All, AllPairs, min}
+use Rattle.std.proofs.Common.{◌≡◌, ◌≢◌, ℕ, ◌<◌, ◌≤◌, Option, Some, None, List, [], ◌∷◌, ◌++◌, length, refl, sym, ◌∙◌, ap, arith, append_assoc, length-append, flat_map}
+use Rattle.std.specs.Prelude.{All, AllPairs}
 use Rattle.std.specs.Int.{IsInRange}
-use Rattle.std.proofs.lemmas.Bool.Decides.{leb_tells, nat_tests}
 use Rattle.std.proofs.lemmas.List.Elements.{All-nil, All-cons, All-head, All-tail}
 use Rattle.std.proofs.lemmas.List.Kept.{AllPairs-cons}
 use Rattle.std.proofs.lemmas.List.{append-nil, nil_from_length}
-use Rattle.rtk_obs.specs.SatelliteIndex.{IsSatelliteIndex}
 use Rattle.rtk_rinex.specs.declared.epoch_table.SatelliteRow.{SatelliteRow}
-use Rattle.rtk_rinex.specs.Reading.{IsMoment, reading_of}
+use Rattle.rtk_rinex.specs.Reading.{reading_of}
 use Rattle.rtk_rinex.specs.Record.{EpochTableView, epoch_line}
 use Rattle.rtk_rinex.specs.Table.{StartsAt}
 use Rattle.rtk_rinex.specs.MixedRecord.{mixed_satellite_line, mixed_record_text}
 use Rattle.rtk_rinex.specs.MixedForm.{FormView, most_satellites}
 use Rattle.rtk_rinex.specs.MixedTable.{IsMixedRow, IsMixedEpoch}
-use Rattle.rtk_rinex.specs.CheckLine.{IsNextTime}
 use Rattle.rtk_rinex.specs.Lines.{IsLine}
 use Rattle.rtk_rinex.specs.MixedCheckText.{AreMixedEpochs}
 use Rattle.rtk_rinex.proofs.EpochLemmas.{length-line}

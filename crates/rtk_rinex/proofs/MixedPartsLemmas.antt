@@ -1,6 +1,5 @@
 -- The parts of a header of any systems: each is a text of whole lines.
-use Rattle.std.proofs.Common.{◌≡◌, ◌≢◌, ◌⊎◌, ℕ, zero, suc, ◌+◌, ◌*◌, ◌<◌, ◌≤◌, List, [], ◌∷◌, ◌++◌, length, take, drop, get_or, slice_index_or, decimal, codes, arith, refl, sym, ◌∙◌, ap, subst, append_assoc, length-append, inl, inr, Bool, true, false, not, ◌==◌, if◌then◌else◌, ℤ, pos, Option, Some, None}
-use Rattle.std.specs.Prelude.{All}
+use Rattle.std.proofs.Common.{◌≡◌, ◌≢◌, ◌⊎◌, ℕ, zero, suc, ◌<◌, ◌≤◌, List, [], ◌∷◌, ◌++◌, slice_index_or, decimal, codes, arith, refl, sym, subst, append_assoc, inl, inr, Bool, true, false, not, ◌==◌, if◌then◌else◌, pos, Option, Some, None}
 use Rattle.std.specs.List.{list_all}
 use Rattle.rtk_obs.specs.declared.any_code.AnyCode.{AnyCode}
 use Rattle.rtk_obs.specs.AnyCode.{system_of}
@@ -10,7 +9,7 @@ use Rattle.rtk_rinex.specs.Header.{PositionView, IsMarker, IsPositionView, heade
 use Rattle.rtk_rinex.specs.Lines.{HasNoEnd}
 use Rattle.rtk_rinex.specs.MixedHead.{GlonassView, MixedHeadView, letter, IsMixedHead, TellsGlonass}
 use Rattle.rtk_rinex.specs.MixedHeader.{version_letter, mixed_version_line, codes_of, system_types_lines, phase_shift_line, by_system, slots_lines, biases_line, leap_line, glonass_lines, unknown_lines, mixed_header_text}
-use Rattle.rtk_rinex.specs.Steps.MixedRoom.{IsSystemLetter, IsFileLetter}
+use Rattle.rtk_rinex.specs.Steps.MixedRoom.{IsFileLetter}
 use Rattle.rtk_rinex.specs.Steps.MixedHeaderRead.{IsGroup, types_and_unit, IsListOf}
 use Rattle.rtk_rinex.proofs.HeaderGoodLemmas.{known, printed, of_row, of_fixed, of_made, of_first}
 use Rattle.rtk_rinex.proofs.HeaderShownLemmas.{IsCoordinate-height}

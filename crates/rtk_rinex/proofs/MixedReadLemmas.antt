@@ -1,9 +1,9 @@
 -- A header of any systems is read back from its parts.
-use Rattle.std.proofs.Common.{◌≡◌, ◌∙◌, ◌++◌, ◌<◌, ◌≤◌, ◌%◌, ℕ, List, [], ◌∷◌, length, drop, codes, ap, sym, refl, subst, arith, ℤ, pos, Option, append_assoc}
+use Rattle.std.proofs.Common.{◌≡◌, ◌∙◌, ◌++◌, ◌<◌, ◌%◌, ℕ, List, [], ◌∷◌, length, drop, codes, ap, sym, refl, subst, ℤ, pos, Option, append_assoc}
 use Rattle.rtk_obs.specs.declared.any_code.AnyCode.{AnyCode}
 use Rattle.rtk_rinex.specs.Columns.{fixed}
-use Rattle.rtk_rinex.specs.Header.{PositionView, IsMarker, IsPositionView, header_line, made_text, first_text, made_line, marker_line, place_line, height_line, first_line}
-use Rattle.rtk_rinex.specs.MixedHead.{MixedHeadView, GlonassView, TellsGlonass, IsMixedHead}
+use Rattle.rtk_rinex.specs.Header.{PositionView, IsMarker, IsPositionView, made_text, first_text, made_line, marker_line, place_line, height_line, first_line}
+use Rattle.rtk_rinex.specs.MixedHead.{MixedHeadView, GlonassView, TellsGlonass}
 use Rattle.rtk_rinex.specs.MixedHeader.{version_letter, mixed_version_line, phase_shift_line, by_system, glonass_lines, unknown_lines}
 use Rattle.rtk_rinex.specs.Reading.{IsMoment, reading_of}
 use Rattle.rtk_rinex.specs.Steps.HeaderShown.{StartsWith}
@@ -11,7 +11,7 @@ use Rattle.rtk_rinex.specs.Steps.MixedHeaderRead.{Reads, types_and_unit, IsListO
 use Rattle.rtk_rinex.specs.Steps.MixedRoom.{IsFileLetter}
 use Rattle.rtk_rinex.proofs.HeaderGoodLemmas.{of_made, of_first}
 use Rattle.rtk_rinex.proofs.MixedListLemmas.{HaveOnePlace}
-use Rattle.rtk_rinex.proofs.MixedPartsLemmas.{MixedValues, IsGoodMixed, mixed_text, end_line, all_mixed, all_is, from_made, from_marker, from_unknown, from_place, from_height, from_types, from_first, from_shift, from_glonass, from_end, file_letter, list_of, of_version, of_marker, of_place, of_height, whole_unknown, whole_types, whole_shifts, whole_glonass}
+use Rattle.rtk_rinex.proofs.MixedPartsLemmas.{MixedValues, IsGoodMixed, mixed_text, end_line, all_mixed, all_is, from_made, from_marker, from_unknown, from_place, from_height, from_types, from_first, from_shift, from_glonass, from_end, file_letter, of_version, of_marker, of_place, of_height, whole_unknown, whole_types, whole_shifts, whole_glonass}
 use Rattle.rtk_rinex.proofs.TextPartLemmas.{whole_line, reads_then, reads_fixed, reads_known, reads_line, reads_at, reads_from}
 
 -- what each part shows where it is read, and where the parts are put

@@ -1,5 +1,5 @@
 -- The text of a record of any systems that is written satellite by satellite.
-use Rattle.std.proofs.Common.{◌≡◌, ◌≢◌, ℕ, zero, suc, ◌+◌, ◌<◌, ◌≤◌, ◌==◌, if◌then◌else◌, replicate, [], ◌∷◌, ◌++◌, List, length, take, drop, ap, arith, refl, sym, ◌∙◌, length-append, true, false, flat_map}
+use Rattle.std.proofs.Common.{◌≡◌, ◌≢◌, ℕ, zero, suc, ◌+◌, ◌<◌, ◌≤◌, ◌==◌, if◌then◌else◌, replicate, [], ◌∷◌, ◌++◌, List, length, drop, ap, arith, refl, sym, ◌∙◌, length-append, true, false, flat_map}
 use Rattle.std.specs.List.{filter}
 use Rattle.std.proofs.Math.Seq.{drop-append_seam}
 use Rattle.std.proofs.lemmas.Grind.{flat_map-append}

@@ -85,7 +85,7 @@ same-padded a b text j k e f n =
     let same : j ≡ k = omega (arith, blanks-at a text j e, blanks-at b text k f, n) in
     sym e ∙ ap (λ (m : ℕ). text ++ replicate m 32) same ∙ f
 
-same-columns : (os ps : List Observed) → All IsObserved os → All IsObserved ps → length os ≡ length ps → flat_map observations os ≡ flat_map observations ps → os ≡ ps
+pub same-columns : (os ps : List Observed) → All IsObserved os → All IsObserved ps → length os ≡ length ps → flat_map observations os ≡ flat_map observations ps → os ≡ ps
 same-columns os ps h g n e =
     let a : observations_in (length os) (flat_map observations os ++ []) ≡ take (length os) os = cells (length os) os [] h (omega arith) in
     let b : observations_in (length os) (flat_map observations ps ++ []) ≡ take (length os) ps = cells (length os) ps [] g (omega (arith, n)) in

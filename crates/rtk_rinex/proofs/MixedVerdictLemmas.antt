@@ -1,19 +1,17 @@
 -- With the first line in which a text differs from the header of any systems that it shows, no header
 -- begins; so the text begins with no header.
-use Rattle.std.proofs.Common.{◌≡◌, ◌≢◌, ℕ, ◌+◌, ◌≤◌, List, [], ◌∷◌, ◌++◌, length, take, drop, refl, sym, ◌∙◌, ap, arith, append_assoc, length-append}
+use Rattle.std.proofs.Common.{◌≡◌, ℕ, List, [], ◌∷◌, ◌++◌, length, drop, refl, sym, ◌∙◌, ap, arith, append_assoc, length-append}
 use Rattle.std.specs.Prelude.{All}
 use Rattle.std.proofs.Math.Seq.{drop-append_seam}
 use Rattle.std.proofs.lemmas.List.{append-nil, append_cancel_left}
 use Rattle.std.proofs.lemmas.List.Elements.{All-nil, All-cons, All-append}
-use Rattle.rtk_rinex.specs.HeaderFault.{AreLines}
 use Rattle.rtk_rinex.specs.Lines.{HasNoEnd, text_of}
 use Rattle.rtk_rinex.specs.MixedHeaderFault.{IsMixedHeader, BeginsMixedHeader, BeginsWithMixedHeader, IsMixedLineFault, IsFaultOfMixedHeader, IsOnlyMixedHeader}
 use Rattle.rtk_rinex.specs.Steps.HeaderRead.{BeginAlike, IsLineCause, IsUnlike}
-use Rattle.rtk_rinex.specs.Steps.MixedHeaderRead.{Goes, Reads, ShowsMixedHeader}
+use Rattle.rtk_rinex.specs.Steps.MixedHeaderRead.{Reads, ShowsMixedHeader}
 use Rattle.rtk_rinex.specs.declared.check_fault.Cause.{Cause}
 use Rattle.rtk_rinex.specs.declared.check_fault.Cause.TheVariants.{HeaderLine, Columns, Value, Order, Truncated, OutOfMemory}
 use Rattle.rtk_rinex.specs.declared.check_fault.CheckFault.{CheckFault}
-use Rattle.rtk_rinex.proofs.HeaderRowsLemmas.{ended}
 use Rattle.rtk_rinex.proofs.HeaderVerdictLemmas.{HasAll, more_text, none_left}
 use Rattle.rtk_rinex.proofs.LineLemmas.{same_front}
 use Rattle.rtk_rinex.proofs.MixedPartsLemmas.{MixedValues, IsGoodMixed, mixed_values, mixed_text}

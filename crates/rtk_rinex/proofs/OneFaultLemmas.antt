@@ -53,7 +53,7 @@ fault_with line cause = record { line = line; cause = cause }
 same_parts : (l m : ℕ) (c d : Cause) → l ≡ m → c ≡ d → fault_with l c ≡ fault_with m d
 same_parts l m c d e f = cc
 
-same_fault : (f g : CheckFault) → IsSame f g → f ≡ g
+pub same_fault : (f g : CheckFault) → IsSame f g → f ≡ g
 same_fault f g s = same_parts f.line g.line f.cause g.cause s.0 s.1
 
 pub one-fault : OneFault

@@ -19,7 +19,7 @@ use Rattle.rtk_rinex.proofs.TextLemmas.{line_bytes}
 
 -- ---- the lines of a text
 
-no_text : (more : List (List ℕ)) (x : List ℕ) → text_of more ++ x ≡ [] → length more ≡ 0
+pub no_text : (more : List (List ℕ)) (x : List ℕ) → text_of more ++ x ≡ [] → length more ≡ 0
 no_text more x e =
     let size = ap length e in
     omega (arith, size, line_bytes more, length-append (text_of more) x)
@@ -94,7 +94,7 @@ no_next front rest Value l y x f is e h = f
 no_next front rest Order l y x f is e h = f
 no_next front rest OutOfMemory l y x f is e h = f
 
-more_lines : (ls ms : List (List ℕ)) → All HasNoEnd (ls ++ ms) → All HasNoEnd ms
+pub more_lines : (ls ms : List (List ℕ)) → All HasNoEnd (ls ++ ms) → All HasNoEnd ms
 more_lines [] ms h = h
 more_lines (l ∷ ls) ms h = more_lines ls ms (All-tail HasNoEnd l (ls ++ ms) h)
 

@@ -24,7 +24,7 @@ use Rattle.rtk_rinex.proofs.TextLemmas.{rows_more, all_more, record-fault}
 -- ---- a line has one cause
 
 -- one cause holds of a line at most
-abbrev HasOneCause : (List ℕ → Cause → Type 0) → Type 0
+abbrev pub HasOneCause : (List ℕ → Cause → Type 0) → Type 0
 HasOneCause Fault = (line : List ℕ) (c d : Cause) → Fault line c → Fault line d → c ≡ d
 
 one_satellite_cause : (n : ℕ) (last : Option ℕ) → HasOneCause (IsSatelliteFault n last)
@@ -87,7 +87,7 @@ begun Fault text Order b = inr b
 begun Fault text Truncated b = inl (refl, b)
 begun Fault text OutOfMemory b = inr b
 
-one_beginning : (Fault : List ℕ → Cause → Type 0) (text : List ℕ) (c d : Cause) → HasOneCause Fault
+pub one_beginning : (Fault : List ℕ → Cause → Type 0) (text : List ℕ) (c d : Cause) → HasOneCause Fault
     → BeginsWithFault Fault text c → BeginsWithFault Fault text d → c ≡ d
 one_beginning Fault text c d one a b =
     ⊎_elim

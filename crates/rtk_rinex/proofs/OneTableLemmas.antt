@@ -28,7 +28,7 @@ one_table names t u g f e =
 abbrev view_with : List ℕ → ℕ → ℕ → TableView
 view_with text epochs satellites = record { text = text; epochs = epochs; satellites = satellites }
 
-same_view : (a b : List ℕ) (k l m n : ℕ) → a ≡ b → k ≡ l → m ≡ n → view_with a k m ≡ view_with b l n
+pub same_view : (a b : List ℕ) (k l m n : ℕ) → a ≡ b → k ≡ l → m ≡ n → view_with a k m ≡ view_with b l n
 same_view a b k l m n e f g = cc
 
 pub text-is_accepted : TextIsAccepted

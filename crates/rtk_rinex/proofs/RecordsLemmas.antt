@@ -18,7 +18,7 @@ use Rattle.rtk_rinex.specs.CheckText.{last_satellite, AreRows}
 use Rattle.rtk_rinex.specs.CheckTable.{HoldsTable}
 use Rattle.rtk_rinex.specs.Records.{RecordsView, AreLeft, IsRecordsView, IsNextOf, IsNextTimeOf}
 use Rattle.rtk_rinex.specs.Steps.HeaderRead.{IsOnlyHeader}
-use Rattle.rtk_rinex.specs.Steps.ReadRecords.{ReadsRows, BeginsWithRecord}
+use Rattle.rtk_rinex.specs.Steps.ReadRecords.{ReadsRows, WritesLines, BeginsWithRecord}
 use Rattle.rtk_rinex.proofs.DigitsLemmas.{take-exact}
 use Rattle.rtk_rinex.proofs.FieldLemmas.{none_of}
 use Rattle.rtk_rinex.proofs.CheckLemmas.{rows-all, rows-rise, record-lines, record-is}
@@ -245,23 +245,24 @@ records-of bytes rest h s first records lines good split only holds = (
 -- ---- records whose values are not read
 
 -- the line that stands after so many rows is that of the next one
-pub line-skipped : (rows : List SatelliteRow) (k : ℕ) (line after bytes rest : List ℕ) → k < length rows → bytes ≡ flat_map satellite_line (drop k rows) ++ rest
-    → IsLine line → bytes ≡ line ++ after → after ≡ flat_map satellite_line (drop (k + 1) rows) ++ rest
-line-skipped [] k line after bytes rest less at is split = absurd (omega (arith, less))
-line-skipped (r ∷ rows) zero line after bytes rest less at is split =
-    (same_line line (satellite_line r) after (flat_map satellite_line rows ++ rest) is (satellite_line-line r)
-    (sym split ∙ at ∙ append_assoc (satellite_line r) (flat_map satellite_line rows) rest)).1
-line-skipped (r ∷ rows) (suc k) line after bytes rest less at is split =
+pub line-skipped : (line_of : SatelliteRow → List ℕ) → WritesLines line_of → (rows : List SatelliteRow) (k : ℕ) (line after bytes rest : List ℕ) → k < length rows
+    → bytes ≡ flat_map line_of (drop k rows) ++ rest → IsLine line → bytes ≡ line ++ after → after ≡ flat_map line_of (drop (k + 1) rows) ++ rest
+line-skipped line_of of [] k line after bytes rest less at is split = absurd (omega (arith, less))
+line-skipped line_of of (r ∷ rows) zero line after bytes rest less at is split =
+    (same_line line (line_of r) after (flat_map line_of rows ++ rest) is (of r)
+    (sym split ∙ at ∙ append_assoc (line_of r) (flat_map line_of rows) rest)).1
+line-skipped line_of of (r ∷ rows) (suc k) line after bytes rest less at is split =
     let next : suc k + 1 ≡ suc (k + 1) = omega arith in
-    line-skipped rows k line after bytes rest (omega (arith, less)) at is split
-    ∙ ap (λ (m : ℕ). flat_map satellite_line (drop m (r ∷ rows)) ++ rest) (sym next)
+    line-skipped line_of of rows k line after bytes rest (omega (arith, less)) at is split
+    ∙ ap (λ (m : ℕ). flat_map line_of (drop m (r ∷ rows)) ++ rest) (sym next)
 
 -- there is such a line
-pub row-there : (rows : List SatelliteRow) (k : ℕ) (bytes rest : List ℕ) → k < length rows → bytes ≡ flat_map satellite_line (drop k rows) ++ rest → HasNoEnd bytes → ⊥
-row-there [] k bytes rest less at none = omega (arith, less)
-row-there (r ∷ rows) zero bytes rest less at none =
-    no_line bytes (satellite_line r) (flat_map satellite_line rows ++ rest) none (satellite_line-line r) (at ∙ append_assoc (satellite_line r) (flat_map satellite_line rows) rest)
-row-there (r ∷ rows) (suc k) bytes rest less at none = row-there rows k bytes rest (omega (arith, less)) at none
+pub row-there : (line_of : SatelliteRow → List ℕ) → WritesLines line_of → (rows : List SatelliteRow) (k : ℕ) (bytes rest : List ℕ) → k < length rows
+    → bytes ≡ flat_map line_of (drop k rows) ++ rest → HasNoEnd bytes → ⊥
+row-there line_of of [] k bytes rest less at none = omega (arith, less)
+row-there line_of of (r ∷ rows) zero bytes rest less at none =
+    no_line bytes (line_of r) (flat_map line_of rows ++ rest) none (of r) (at ∙ append_assoc (line_of r) (flat_map line_of rows) rest)
+row-there line_of of (r ∷ rows) (suc k) bytes rest less at none = row-there line_of of rows k bytes rest (omega (arith, less)) at none
 
 -- the record that begins a text: its moment, and the text after it
 abbrev pub SkipsRecord : List ℕ → ℕ → List ℕ → Type 0

@@ -4,19 +4,18 @@ use Rattle.std.specs.Prelude.{All}
 use Rattle.std.specs.List.{count_by}
 use Rattle.std.proofs.lemmas.Bool.Decides.{Decides-eqb, leb_tells}
 use Rattle.std.proofs.lemmas.Fmt.{length-decimal-le}
-use Rattle.std.proofs.lemmas.Int.{ints}
-use Rattle.std.proofs.lemmas.List.{append-nil, append_cancel_left, length-drop, take_all, take-take, length-take}
-use Rattle.std.proofs.lemmas.List.Elements.{All-nil, All-cons, All-head, All-tail}
+use Rattle.std.proofs.lemmas.List.{append-nil, append_cancel_left, length-drop, take_all}
+use Rattle.std.proofs.lemmas.List.Elements.{All-nil}
 use Rattle.std.proofs.lemmas.List.Sums.{count_by-le-length}
 use Rattle.rtk_obs.specs.Carriers.{IsChannel, AreChannels, channel_at}
 use Rattle.rtk_obs.specs.CivilText.{last_digits}
-use Rattle.rtk_rinex.specs.Columns.{left, right}
+use Rattle.rtk_rinex.specs.Columns.{right}
 use Rattle.rtk_rinex.specs.Header.{header_line}
 use Rattle.rtk_rinex.specs.Lines.{HasNoEnd, text_of}
 use Rattle.rtk_rinex.specs.MixedHeader.{channel_text, slot_text, slots_text, slots_label, further_slots_line, slots_lines}
 use Rattle.rtk_rinex.specs.Steps.Digits.{digits_from}
 use Rattle.rtk_rinex.specs.Steps.HeaderShown.{line_at, number_at}
-use Rattle.rtk_rinex.specs.Steps.MixedHeaderRead.{Goes, Reads, slot_at, slot_of, HasSlots, ShowsSlots}
+use Rattle.rtk_rinex.specs.Steps.MixedHeaderRead.{Reads, slot_at, slot_of, ShowsSlots}
 use Rattle.rtk_rinex.proofs.DigitsLemmas.{piece, digits_from-right, length-right}
 use Rattle.rtk_rinex.proofs.HeaderGoodLemmas.{known}
 use Rattle.rtk_rinex.proofs.HeaderPartsLemmas.{lines_begin}

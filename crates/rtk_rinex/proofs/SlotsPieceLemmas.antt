@@ -1,14 +1,14 @@
 -- Columns of slots that fill several lines, 56 on each after 4 others: the lines, and what stands in them.
-use Rattle.std.proofs.Common.{◌≡◌, ℕ, zero, suc, ◌+◌, ◌-◌, ◌*◌, ◌/◌, ◌<◌, ◌≤◌, List, [], ◌∷◌, ◌++◌, length, take, drop, get_or, codes, arith, refl, sym, ◌∙◌, ap, append_assoc, length-append, min, inl, inr}
+use Rattle.std.proofs.Common.{◌≡◌, ℕ, zero, suc, ◌+◌, ◌-◌, ◌*◌, ◌<◌, ◌≤◌, List, [], ◌∷◌, ◌++◌, length, take, drop, get_or, codes, arith, refl, sym, ◌∙◌, ap, append_assoc, length-append}
 use Rattle.std.specs.Prelude.{All}
-use Rattle.std.proofs.Math.Seq.{drop-append-add, take-append-add}
+use Rattle.std.proofs.Math.Seq.{drop-append-add}
 use Rattle.std.proofs.Math.ListN.{get_or-append}
-use Rattle.std.proofs.lemmas.List.{same_lists, get_or-take, length-take, length-drop, take-append-le, take-append-drop, take-take, drop-take, drop-drop, drop-append-le, append-nil}
+use Rattle.std.proofs.lemmas.List.{same_lists, get_or-take, length-take, length-drop, take-append-le, take-append-drop, take-take, drop-take, drop-drop, drop-append-le}
 use Rattle.std.proofs.lemmas.List.Elements.{All-nil, All-cons}
 use Rattle.rtk_rinex.specs.Columns.{left}
 use Rattle.rtk_rinex.specs.Lines.{HasNoEnd, text_of}
 use Rattle.rtk_rinex.specs.Steps.HeaderShown.{line_at}
-use Rattle.rtk_rinex.proofs.DigitsLemmas.{piece, length-left}
+use Rattle.rtk_rinex.proofs.DigitsLemmas.{length-left}
 use Rattle.rtk_rinex.proofs.HeaderGoodLemmas.{of_row, of_take, of_drop, known}
 use Rattle.rtk_rinex.proofs.HeaderRowsLemmas.{row, line_of, ended}
 use Rattle.rtk_rinex.proofs.HeaderShownLemmas.{line_rest, line_is}

@@ -1,14 +1,13 @@
 -- The slots of GLONASS are read back.
-use Rattle.std.proofs.Common.{◌≡◌, ◌≢◌, ℕ, zero, suc, ◌+◌, ◌-◌, ◌*◌, ◌/◌, ◌%◌, ◌<◌, ◌≤◌, List, [], ◌∷◌, ◌++◌, length, take, drop, get_or, slice_index_or, arith, refl, sym, ◌∙◌, ap, subst, append_assoc, length-append, inl, inr, Bool, true, false, ◌==◌, if◌then◌else◌, ℤ, pos, negsuc, unsigned_abs, Option, Some, None, is_some}
-use Rattle.std.specs.Prelude.{Decides, IfSome, ◌≤ℤ◌}
+use Rattle.std.proofs.Common.{◌≡◌, ◌≢◌, ℕ, zero, suc, ◌+◌, ◌-◌, ◌*◌, ◌<◌, ◌≤◌, List, [], ◌∷◌, ◌++◌, length, take, drop, get_or, arith, refl, sym, ◌∙◌, ap, subst, append_assoc, length-append, inl, inr, Bool, true, false, ℤ, pos, negsuc, unsigned_abs, Option, Some, None, is_some}
+use Rattle.std.specs.Prelude.{Decides}
 use Rattle.std.specs.List.{count_by}
-use Rattle.std.proofs.Math.Seq.{drop-append_seam, take-append_seam}
+use Rattle.std.proofs.Math.Seq.{drop-append_seam}
 use Rattle.std.proofs.lemmas.Bool.Decides.{leb_tells, nat_tests}
 use Rattle.std.proofs.lemmas.Int.{ints}
-use Rattle.std.proofs.lemmas.List.{append-nil, same_lists, get_or_default, take-append-le, take_all, drop-drop, length-take, drop-append-le}
+use Rattle.std.proofs.lemmas.List.{append-nil, same_lists, get_or_default, take-append-le, take_all, drop-drop}
 use Rattle.std.proofs.lemmas.List.Sums.{count_by_more_no, count_by_more_yes}
 use Rattle.rtk_obs.specs.Carriers.{IsChannel, IsSlot, AreChannels, channel_at}
-use Rattle.rtk_obs.specs.CivilText.{last_digits}
 use Rattle.rtk_rinex.specs.Columns.{is_negative}
 use Rattle.rtk_rinex.specs.MixedHeader.{channel_text, slot_text, slots_text}
 use Rattle.rtk_rinex.specs.Steps.Digits.{digits_from}

@@ -1,5 +1,5 @@
 -- The lines of the observation types of one system, and what follows them, are read back.
-use Rattle.std.proofs.Common.{◌≡◌, ◌≢◌, ◌⊎◌, ℕ, ◌+◌, ◌*◌, ◌<◌, ◌≤◌, List, [], ◌∷◌, ◌++◌, length, take, drop, get_or, codes, refl, sym, ◌∙◌, ap, subst, append_assoc, inl, inr, Bool, true, false, ◌==◌, ◌&&◌, ◌||◌, not, if◌then◌else◌}
+use Rattle.std.proofs.Common.{◌≡◌, ◌≢◌, ◌⊎◌, ℕ, List, [], ◌∷◌, ◌++◌, length, take, drop, get_or, codes, refl, sym, ◌∙◌, ap, subst, append_assoc, inl, inr, Bool, true, false, ◌==◌, ◌&&◌, ◌||◌, not}
 use Rattle.std.specs.Prelude.{All}
 use Rattle.std.specs.List.{list_any, list_all}
 use Rattle.std.proofs.lemmas.Bool.Decides.{Decides-eqb}
@@ -8,7 +8,6 @@ use Rattle.rtk_obs.specs.declared.any_code.AnyCode.{AnyCode}
 use Rattle.rtk_rinex.specs.Columns.{left}
 use Rattle.rtk_rinex.specs.Header.{header_line, unit_line}
 use Rattle.rtk_rinex.specs.Lines.{HasNoEnd, text_of}
-use Rattle.rtk_rinex.specs.MixedHead.{letter}
 use Rattle.rtk_rinex.specs.MixedHeader.{codes_of, types_lines_of, types_text, system_types_lines}
 use Rattle.rtk_rinex.specs.Steps.MixedHeaderRead.{Goes, Reads, IsGroup, ShowsGroup, types_and_unit}
 use Rattle.rtk_rinex.proofs.GroupLemmas.{group_reads, whole_group}

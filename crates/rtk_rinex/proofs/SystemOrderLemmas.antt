@@ -1,5 +1,5 @@
 -- Codes in their order are the codes of one system after those of another.
-use Rattle.std.proofs.Common.{◌≡◌, ◌≢◌, ◌⊎◌, ℕ, ◌+◌, ◌*◌, ◌<◌, ◌≤◌, List, [], ◌∷◌, ◌++◌, length, drop, get_or, codes, arith, refl, sym, ◌∙◌, ap, subst, length-append, Bool, true, false, ◌==◌, ◌&&◌, ◌||◌, not, if◌then◌else◌, AllPairs}
+use Rattle.std.proofs.Common.{◌≡◌, ◌≢◌, ℕ, ◌+◌, ◌<◌, ◌≤◌, List, [], ◌∷◌, ◌++◌, length, drop, get_or, arith, refl, sym, ◌∙◌, ap, subst, length-append, Bool, true, false, ◌==◌, ◌&&◌, not, if◌then◌else◌, AllPairs}
 use Rattle.std.specs.Prelude.{All}
 use Rattle.std.specs.List.{list_all}
 use Rattle.std.proofs.lemmas.Bool.{eqb-true}
@@ -14,7 +14,6 @@ use Rattle.rtk_obs.specs.declared.any_code.AnyCode.{AnyCode}
 use Rattle.rtk_obs.specs.declared.any_code.AnyCode.TheVariants.{G1C}
 use Rattle.rtk_obs.specs.AnyCode.{system_of, codes_before}
 use Rattle.rtk_obs.specs.SatelliteIndex.{letter_of}
-use Rattle.rtk_rinex.specs.Columns.{left}
 use Rattle.rtk_rinex.specs.MixedHead.{letter, AreInOrder}
 use Rattle.rtk_rinex.specs.MixedHeader.{version_letter, codes_of}
 use Rattle.rtk_rinex.specs.Steps.MixedRoom.{IsSystemLetter, codes_before_letter}

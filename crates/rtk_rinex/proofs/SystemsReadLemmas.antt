@@ -1,5 +1,5 @@
 -- The observation types of all systems are read back, one system after another.
-use Rattle.std.proofs.Common.{◌≡◌, ◌≢◌, ◌⊎◌, ℕ, zero, suc, ◌+◌, ◌*◌, ◌<◌, ◌≤◌, List, [], ◌∷◌, ◌++◌, length, take, drop, slice_index_or, codes, arith, refl, sym, ◌∙◌, ap, subst, append_assoc, length-append, inl, inr, Bool, true, false, ◌==◌, ◌&&◌, ◌||◌, not, if◌then◌else◌, AllPairs}
+use Rattle.std.proofs.Common.{◌≡◌, ◌≢◌, ◌⊎◌, ℕ, zero, suc, ◌<◌, ◌≤◌, List, [], ◌∷◌, ◌++◌, length, take, drop, slice_index_or, codes, arith, refl, sym, ◌∙◌, ap, subst, append_assoc, length-append, inl, inr, Bool, true, false, ◌==◌, not, if◌then◌else◌, AllPairs}
 use Rattle.std.specs.Prelude.{All, Decides}
 use Rattle.std.proofs.lemmas.Bool.{eqb-true}
 use Rattle.std.proofs.lemmas.List.{append-nil, nil_from_length}

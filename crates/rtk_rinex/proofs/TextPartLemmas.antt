@@ -1,19 +1,19 @@
 -- Parts of a header one after another, each as a text: parts that are read where the part before them ends
 -- as it is written, are read back.
-use Rattle.std.proofs.Common.{◌≡◌, ℕ, ◌+◌, ◌≤◌, List, [], ◌∷◌, ◌++◌, length, drop, refl, sym, ◌∙◌, ap, arith, append_assoc, length-append, inl, inr}
+use Rattle.std.proofs.Common.{◌≡◌, ℕ, List, [], ◌∷◌, ◌++◌, length, drop, refl, sym, ◌∙◌, ap, arith, append_assoc, length-append, inl, inr}
 use Rattle.std.specs.Prelude.{All}
 use Rattle.std.proofs.Math.Seq.{drop-append_seam}
 use Rattle.std.proofs.lemmas.Bool.Decides.{leb_tells}
 use Rattle.std.proofs.lemmas.Grind.{flat_map-append}
-use Rattle.std.proofs.lemmas.List.{append-nil, drop-drop, append_cancel_left}
+use Rattle.std.proofs.lemmas.List.{append-nil, drop-drop}
 use Rattle.std.proofs.lemmas.List.Elements.{All-nil, All-cons, All-head, All-tail, All-append, All-same}
 use Rattle.rtk_rinex.specs.Header.{header_line}
 use Rattle.rtk_rinex.specs.Lines.{HasNoEnd, text_of}
 use Rattle.rtk_rinex.specs.Steps.HeaderShown.{StartsWith}
-use Rattle.rtk_rinex.specs.Steps.MixedHeaderRead.{Goes, Reads}
+use Rattle.rtk_rinex.specs.Steps.MixedHeaderRead.{Reads}
 use Rattle.rtk_rinex.proofs.HeaderRowsLemmas.{row, row_ended, ended}
 use Rattle.rtk_rinex.proofs.HeaderPartsLemmas.{same_lines}
-use Rattle.rtk_rinex.proofs.LineLemmas.{no_front, same_front}
+use Rattle.rtk_rinex.proofs.LineLemmas.{same_front}
 
 -- ---- texts of lines
 

@@ -49,3 +49,34 @@ IsMixedFault bytes fault = IsFaultOfMixedHeader bytes fault ⊎ IsFaultAfterMixe
 -- the text is the text of no well-formed table of any systems
 abbrev pub IsWithoutMixedTable : List ℕ → Type 0
 IsWithoutMixedTable bytes = (t : MixedTable) → IsMixedTable t → bytes ≢ mixed_table_text t
+
+-- two faults of one text are the same line and cause
+abbrev pub MixedOneFault : Type 0
+MixedOneFault = (bytes : List ℕ) (f g : CheckFault) → IsMixedFault bytes f → IsMixedFault bytes g → f ≡ g
+
+-- a text with a fault is the text of no well-formed table of any systems
+abbrev pub MixedFaultMeansNoTable : Type 0
+MixedFaultMeansNoTable = (bytes : List ℕ) (f : CheckFault) → IsMixedFault bytes f → IsWithoutMixedTable bytes
+
+-- two well-formed tables of one text are equal
+abbrev pub MixedOneTable : Type 0
+MixedOneTable = (t u : MixedTable) → IsMixedTable t → IsMixedTable u → mixed_table_text t ≡ mixed_table_text u → t ≡ u
+
+-- what is seen of a well-formed table by its text
+abbrev pub mixed_table_view : MixedTable → TableView
+mixed_table_view t = record { text = mixed_table_text t; epochs = length t.epochs; satellites = satellite_lines t.epochs }
+
+-- an answer as clauses of `check_mixed_text` have it: the table of this text, or a fault of the text
+abbrev pub IsMixedAnswerTo : List ℕ → Result TableView CheckFault → Type 0
+IsMixedAnswerTo bytes (Ok t) = (t.text ≡ bytes) × HoldsMixedTable bytes t.epochs t.satellites
+IsMixedAnswerTo bytes (Err fault) = IsMixedFault bytes fault
+
+-- the answer is this table
+abbrev pub AnswersMixedTable : MixedTable → Result TableView CheckFault → Type 0
+AnswersMixedTable t (Ok v) = v ≡ mixed_table_view t
+AnswersMixedTable t (Err fault) = ⊥
+
+-- so is each answer to the text of a well-formed table
+abbrev pub MixedTextIsAccepted : Type 0
+MixedTextIsAccepted =
+    (t : MixedTable) (answer : Result TableView CheckFault) → IsMixedTable t → IsMixedAnswerTo (mixed_table_text t) answer → AnswersMixedTable t answer

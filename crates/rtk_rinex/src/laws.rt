@@ -8,6 +8,7 @@ ghost use Rattle.rtk_obs.specs.declared.time.Civil.{Civil};
 ghost use Rattle.rtk_obs.specs.Calendar.{ReadsAs};
 ghost use Rattle.rtk_rinex.specs.CheckTable.{OneFault, FaultMeansNoTable, OneTable, TextIsAccepted};
 ghost use Rattle.rtk_rinex.specs.KeptTable.{TextIsKept};
+ghost use Rattle.rtk_rinex.specs.MixedCheckTable.{MixedOneFault, MixedFaultMeansNoTable, MixedOneTable, MixedTextIsAccepted};
 ghost use Rattle.rtk_rinex.specs.MixedHeader.{GpsFilesStay};
 ghost use Rattle.rtk_rinex.specs.MixedRecord.{GpsRecordsStay};
 ghost use Rattle.rtk_rinex.specs.Reading.{IsMoment, reading_of};
@@ -20,7 +21,7 @@ ghost use Rattle.rtk_rinex.specs.declared.mixed_head_fault.MixedHeadFault.{Mixed
 use crate::check_fault::{Cause, CheckFault};
 use crate::head_fault::HeadFault;
 use crate::mixed_head_fault::MixedHeadFault;
-use rtk_obs::code_laws;
+use rtk_obs::{any_code_laws, code_laws};
 
 /// A moment has one reading, which `reading_of` gives.
 pub fn one_reading()
@@ -54,6 +55,24 @@ pub fn text_of_a_table()
     ensures one { OneTable }
 {
     code_laws();
+}
+
+/// Two faults of one text of any systems are the same line and the same cause, and a text with a fault is
+/// the text of no well-formed table of any systems.
+pub fn one_mixed_fault()
+    ensures one { MixedOneFault }
+    ensures table { MixedFaultMeansNoTable }
+{
+    any_code_laws();
+}
+
+/// What `check_mixed_text` answers to the text of a well-formed table of any systems is this table with its
+/// numbers; and two well-formed tables of one text are equal.
+pub fn text_of_a_mixed_table()
+    ensures accepted { MixedTextIsAccepted }
+    ensures one { MixedOneTable }
+{
+    any_code_laws();
 }
 
 /// In a file of any systems the header of codes of GPS alone, and the record of satellites of GPS alone,

@@ -61,6 +61,7 @@ mod mixed_head_fault;
 mod mixed_header_check;
 mod mixed_header_text;
 mod mixed_record_lines;
+mod mixed_records;
 mod mixed_records_check;
 mod mixed_satellite_line_check;
 mod mixed_slots_read;
@@ -85,8 +86,8 @@ pub use head::{Head, is_code_list};
 pub use head_fault::HeadFault;
 pub use header_text::header;
 pub use laws::{
-    fault_laws, files_are_tables, gps_files_stay, one_fault, one_reading, records_are_of_tables,
-    text_of_a_table,
+    fault_laws, files_are_tables, gps_files_stay, one_fault, one_mixed_fault, one_reading,
+    records_are_of_tables, text_of_a_mixed_table, text_of_a_table,
 };
 pub use marker_name::Marker;
 pub use mixed_head::{MixedHead, is_mixed_list};
@@ -94,6 +95,7 @@ pub use mixed_head_fault::MixedHeadFault;
 pub use mixed_header_check::{MixedHeading, check_mixed_header};
 pub use mixed_header_text::mixed_header;
 pub use mixed_record_lines::MixedRecordLines;
+pub use mixed_records::{MixedRecords, MixedRows};
 pub use mixed_table_check::{MixedTextTable, check_mixed_text};
 pub use owned_table::{Table, check, text};
 pub use record_lines::{RecordLines, record};

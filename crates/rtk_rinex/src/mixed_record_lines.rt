@@ -153,4 +153,11 @@ impl MixedRecordLines {
     {
         self.text.as_slice()
     }
+
+    /// Returns the text, with its memory.
+    pub fn into_text(self) -> Vec<u8>
+        ensures { result.items ≡ self.text }
+    {
+        self.text
+    }
 }

@@ -6,6 +6,7 @@ ghost use Rattle.std.specs.Prelude.{◌≡◌, ◌≢◌, IfOk, IfErr, OnErr};
 use crate::check_fault::{Cause, CheckFault};
 use crate::mixed_form::RecordForm;
 use crate::mixed_header_check::{MixedHeading, check_mixed_header};
+use crate::mixed_records::MixedRecords;
 use crate::mixed_records_check::check_mixed_records;
 use crate::records_check::LineCounts;
 use std::marker::Model;
@@ -31,6 +32,8 @@ impl<'a> Model for MixedTextTable<'a> {
 impl<'a> MixedTextTable<'a> {
     ghost use Rattle.rtk_rinex.specs.Header.{IsPositionView, position_view};
     ghost use Rattle.rtk_rinex.specs.MixedHead.{IsMixedHead};
+    ghost use Rattle.rtk_rinex.specs.MixedForm.{form_of_head};
+    ghost use Rattle.rtk_rinex.specs.MixedRecords.{AreMixedLeft, IsMixedRecordsView};
     ghost use Rattle.rtk_rinex.specs.MixedTable.{MixedTable, IsMixedTable, mixed_table_text};
     ghost use Rattle.rtk_rinex.specs.Reading.{IsMoment};
 
@@ -74,6 +77,18 @@ impl<'a> MixedTextTable<'a> {
             unreachable!();
         };
         heading
+    }
+
+    /// Returns the records of the table, from the first one.
+    pub fn records(&self) -> MixedRecords<'a>
+        ensures records { (t : MixedTable) → IsMixedTable t → self.now.text ≡ mixed_table_text t
+            → (result.form ≡ form_of_head t.head) × AreMixedLeft result t.epochs }
+        ensures good { IsMixedRecordsView result }
+    {
+        let Ok(heading) = check_mixed_header(self.text) else {
+            unreachable!();
+        };
+        MixedRecords::of_text(heading.records, RecordForm::of_head(&heading.head))
     }
 }
 

@@ -8,7 +8,7 @@ ghost use Rattle.rtk_rinex.specs.declared.epoch_table.SatelliteRow.{SatelliteRow
 ghost use Rattle.rtk_rinex.specs.Record.{EpochTableView, satellite_line, record_text};
 ghost use Rattle.rtk_rinex.specs.Table.{IsTableEpoch};
 ghost use Rattle.rtk_rinex.specs.CheckText.{AreRows};
-ghost use Rattle.rtk_rinex.specs.Steps.ReadRecords.{ReadsRows, BeginsWithRows, BeginsWithRecord};
+ghost use Rattle.rtk_rinex.specs.Steps.ReadRecords.{ReadsRows, WritesLines, BeginsWithRows, BeginsWithRecord};
 ghost use Rattle.rtk_rinex.specs.Records.{IsRecordsView};
 
 use crate::columns::{EPOCH_LINE, GPS_SATELLITES};
@@ -82,11 +82,12 @@ fn read_record<'a>(text: &'a [u8], code_count: usize, epoch: &mut EpochTable) ->
     read_rows(after, code_count, stamp.count, epoch)
 }
 
-// Returns the text after `count` satellite lines.
-fn skip_rows<'a>(text: &'a [u8], count: usize) -> &'a [u8]
-    requires { ∥ BeginsWithRows count text.now ∥₁ }
-    ensures { (rows : List SatelliteRow) (rest : List ℕ) → length rows ≡ count → text.now ≡ flat_map satellite_line rows ++ rest
-        → result.now ≡ rest }
+/// Returns the text after the lines of `count` rows.
+pub(crate) fn skip_rows<'a>(text: &'a [u8], count: usize) -> &'a [u8]
+    requires { ∥ ((line_of : SatelliteRow → List ℕ) × WritesLines line_of × BeginsWithRows line_of count text.now) ∥₁ }
+    ensures rest { (line_of : SatelliteRow → List ℕ) (rows : List SatelliteRow) (rest : List ℕ) → WritesLines line_of → length rows ≡ count
+        → text.now ≡ flat_map line_of rows ++ rest → result.now ≡ rest }
+    ensures len { length result.now ≤ length text.now }
 {
     let mut rest = text;
     for _ in 0..count {

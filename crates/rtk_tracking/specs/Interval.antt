@@ -48,9 +48,13 @@ abbrev pub interval_of : List ℕ → Option ℕ
 interval_of [] = None
 interval_of (step ∷ steps) = more_frequent step steps (interval_of steps)
 
+-- the interval of the epochs of a file, of GPS or of any systems
+abbrev pub interval_of_epochs : List EpochTableView → Option ℕ
+interval_of_epochs epochs = interval_of (steps_in (newest_first epochs))
+
 -- the interval of a file
 abbrev pub interval_of_file : WellFormedTable → Option ℕ
-interval_of_file t = interval_of (steps_in (newest_first t.epochs))
+interval_of_file t = interval_of_epochs t.epochs
 
 -- formula
 -- how many intervals long a step is: the nearest whole number, of two alike the lesser one

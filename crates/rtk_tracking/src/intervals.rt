@@ -3,10 +3,11 @@
 ghost use Rattle.std.specs.Prelude.{◌≡◌, ◌<◌, ◌≤◌, Some, IfOk};
 ghost use Rattle.rtk_rinex.specs.Reading.{IsMoment};
 ghost use Rattle.rtk_rinex.specs.Table.{WellFormedTable, IsWellFormedTable, table_text};
-ghost use Rattle.rtk_tracking.specs.Interval.{interval_of_file, missing_before, nearness_of};
+ghost use Rattle.rtk_rinex.specs.MixedTable.{MixedTable, IsMixedTable, mixed_table_text};
+ghost use Rattle.rtk_tracking.specs.Interval.{interval_of_file, interval_of_epochs, missing_before, nearness_of};
 
 use crate::steps::StepCounts;
-use rtk_rinex::TextTable;
+use rtk_rinex::{MixedTextTable, TextTable};
 use std::alloc::{AllocError, Global};
 
 /// How far in ms an epoch may lie from a moment at most and still counts as being there.
@@ -23,6 +24,20 @@ pub fn interval(alloc: Global, table: &TextTable<'_>) -> Result<Option<u64>, All
     let mut records = table.records();
     while let Some(time) = records.next_time() {
         steps.note_time(time)?;
+    }
+    Ok(steps.interval())
+}
+
+/// Returns the interval in ms of a table of any systems, as `interval` does for GPS.
+pub fn mixed_interval(alloc: Global, table: &MixedTextTable<'_>) -> Result<Option<u64>, AllocError>
+    // Fails only if memory is refused: tests/system/calls, row mixed_interval.
+    ensures { IfOk result (λ interval. (t : MixedTable) → IsMixedTable t → table.now.text ≡ mixed_table_text t
+        → interval ≡ interval_of_epochs t.epochs) }
+{
+    let mut steps = StepCounts::new(alloc);
+    let mut records = table.records();
+    while let Some(rows) = records.next() {
+        steps.note_time(rows.time())?;
     }
     Ok(steps.interval())
 }

@@ -24,7 +24,7 @@ mod passes;
 mod steps;
 
 pub use extremes::{greater, lesser};
-pub use intervals::{interval, missing_between, nearness_ms};
+pub use intervals::{interval, missing_between, mixed_interval, nearness_ms};
 pub use laws::{absences_stay, bits_are_of_three_kinds, interval_is_most_frequent};
 pub use observations::{observed_in, shows_phase};
 pub use passes::{Known, Pass};

@@ -1383,6 +1383,13 @@ class Count:
                 print(f"    {fault}")
 
 
+def is_chosen(name):
+    """Words choose the scenes whose names have one of them, and behind --but those whose names have none."""
+    if WORDS[:1] == ["--but"]:
+        return not any(word in name for word in WORDS[1:])
+    return not WORDS or any(word in name for word in WORDS)
+
+
 def main():
     for number in map(int, os.listdir("/proc/self/fd")):
         if number > 2 and os.path.exists(f"/proc/self/fd/{number}"):
@@ -1403,7 +1410,7 @@ def main():
     if "--tmpfs" in WORDS:
         count.scene("a full tmpfs", map(attempt, tmpfs_scenes()))
     else:
-        chosen = [(name, function) for name, function in SCENES if not WORDS or any(word in name for word in WORDS)]
+        chosen = [(name, function) for name, function in SCENES if is_chosen(name)]
         try:
             with ProcessPoolExecutor(os.cpu_count(), multiprocessing.get_context("fork")) as pool:
                 for name, answers in [(name, pool.map(attempt, list(function()), chunksize=16)) for name, function in chosen]:

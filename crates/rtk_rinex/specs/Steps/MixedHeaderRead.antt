@@ -1,5 +1,5 @@
 -- What the lines of a header of any systems show, and the header that a text shows.
-use Rattle.std.specs.Prelude.{◌≡◌, ◌≢◌, ◌⊎◌, ℕ, ◌+◌, ◌*◌, ◌/◌, ◌%◌, ◌<◌, ◌≤◌, Bool, true, false, not, ◌==◌, ◌&&◌, ◌||◌, if◌then◌else◌, List, [], ◌∷◌, ◌++◌, length, take, drop, ℤ, Option, is_some, All, AllPairs, Contains, slice_index_or, Decides}
+use Rattle.std.specs.Prelude.{◌≡◌, ◌≢◌, ℕ, ◌+◌, ◌*◌, ◌/◌, ◌%◌, ◌<◌, ◌≤◌, Bool, true, false, not, ◌==◌, if◌then◌else◌, List, [], ◌∷◌, ◌++◌, length, take, drop, ℤ, Option, is_some, All, AllPairs, Contains, slice_index_or, Decides}
 use Rattle.std.specs.Int.{IsInRange}
 use Rattle.std.specs.List.{count_by}
 use Rattle.rtk_obs.specs.declared.any_code.AnyCode.{AnyCode}

@@ -32,6 +32,10 @@ pub record ReadsMixedRows (f : FormView) (due : ℕ) (bytes rest : List ℕ) : T
   pub count : length rows ≡ due
   pub text : bytes ≡ flat_map mixed_satellite_line rows ++ rest
 
+-- the record of some epoch begins the text
+abbrev pub BeginsWithMixedRecord : FormView → List ℕ → Type 0
+BeginsWithMixedRecord f bytes = (e : EpochTableView) × (rest : List ℕ) × IsMixedEpoch f e × (bytes ≡ mixed_record_text e ++ rest)
+
 -- the record of an epoch begins the text
 pub record ReadsMixedRecord (f : FormView) (first : ℕ) (last : Option ℕ) (time due : ℕ) (bytes rest : List ℕ) : Type 0 where
   pub rows : List SatelliteRow

@@ -2,6 +2,7 @@
 use Rattle.std.specs.Prelude.{◌≡◌, ℕ, List, ◌++◌, length, flat_map, Option, None}
 use Rattle.rtk_rinex.specs.Record.{EpochTableView, satellite_line, record_text}
 use Rattle.rtk_rinex.specs.Table.{IsTableRow, IsTableEpoch}
+use Rattle.rtk_rinex.specs.Lines.{IsLine}
 use Rattle.rtk_rinex.specs.CheckLine.{IsNextTime}
 use Rattle.rtk_rinex.specs.CheckText.{AreRows, AreEpochs, satellite_lines}
 use Rattle.rtk_rinex.specs.declared.epoch_table.SatelliteRow.{SatelliteRow}
@@ -17,9 +18,13 @@ pub record ReadsRows (n due : ℕ) (bytes rest : List ℕ) : Type 0 where
   pub count : length rows ≡ due
   pub text : bytes ≡ flat_map satellite_line rows ++ rest
 
+-- a line is written for each row
+abbrev pub WritesLines : (SatelliteRow → List ℕ) → Type 0
+WritesLines line_of = (r : SatelliteRow) → IsLine (line_of r)
+
 -- the lines of this many rows begin the text
-abbrev pub BeginsWithRows : ℕ → List ℕ → Type 0
-BeginsWithRows count bytes = (rows : List SatelliteRow) × (rest : List ℕ) × (length rows ≡ count) × (bytes ≡ flat_map satellite_line rows ++ rest)
+abbrev pub BeginsWithRows : (SatelliteRow → List ℕ) → ℕ → List ℕ → Type 0
+BeginsWithRows line_of count bytes = (rows : List SatelliteRow) × (rest : List ℕ) × (length rows ≡ count) × (bytes ≡ flat_map line_of rows ++ rest)
 
 -- the record of some epoch begins the text
 abbrev pub BeginsWithRecord : ℕ → List ℕ → Type 0

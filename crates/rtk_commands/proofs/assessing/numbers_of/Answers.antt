@@ -1,13 +1,18 @@
-use Rattle.std.proofs.Common.{refl, List, ℕ, subst}
-use Rattle.rtk_quality.specs.QualityText.{TellsQuality}
+use Rattle.std.proofs.lemmas.Result.{IfOk-weaker}
+use Rattle.rtk_commands.specs.FileTable.{text_of}
 use Rattle.rtk_commands.specs.QualityInput.{TellsTable}
+use Rattle.rtk_commands.specs.WithLabel.{MakesOfFile, WritesOfTable}
+use Rattle.rtk_commands.specs.declared.rendered.Rendered.{Rendered}
 use Rattle.rtk_commands.proofs.WithLabelLemmas.{made_of_table, made_of_refused}
 use Rattle.rtk_commands.proofs.assessing.numbers_of.Goals as goal
 
-pub returns-in_ok-quality-in-Ok : goal.returns-in_ok-quality-in-Ok
-returns-in_ok-quality-in-Ok c =
-    made_of_table (TellsTable c.args.form) c.args.text.now c.in-Ok.file.table.text c.in-Ok.file.label _ _ c.in-Ok.ensures.parted
-    (λ t good e. (refl, subst (λ (x : List ℕ). TellsQuality c.args.form x c.in_ok-quality-in-Ok.field-0.items) e c.in_ok-quality-in-Ok.ensures))
+pub returns-in-Ok : goal.returns-in-Ok
+returns-in-Ok c =
+    IfOk-weaker c.numbers_of_file.result
+    (λ (told : Rendered). MakesOfFile (TellsTable c.args.form) (text_of c.in-Ok.file.table) told.answer told.bytes.items)
+    (λ (told : Rendered). WritesOfTable (TellsTable c.args.form) c.args.text.now told.answer told.bytes.items)
+    (λ told tells. made_of_table (TellsTable c.args.form) c.args.text.now (text_of c.in-Ok.file.table) c.in-Ok.file.label told.answer told.bytes.items c.in-Ok.ensures.parted tells)
+    c.numbers_of_file.ensures
 
 pub returns-in-Err : goal.returns-in-Err
 returns-in-Err c = rw (c.refusal.ensures.answer, c.refusal.ensures.bytes) (made_of_refused (TellsTable c.args.form) c.args.text.now c.in-Err.fault c.in-Err.ensures.refused)

@@ -1,12 +1,13 @@
 use Rattle.std.proofs.Common.{◌∙◌, arith, refl}
-use Rattle.rtk_commands.proofs.WithLabelLemmas.{parted_as, holds_as, refused_with}
+use Rattle.rtk_commands.specs.FileTable.{text_of}
+use Rattle.rtk_commands.proofs.WithLabelLemmas.{parted_as, some_as, refused_with}
 use Rattle.rtk_commands.proofs.with_label.table_with_label.Goals as goal
 
 pub returns-in-Ok-clause-parted : goal.returns-in-Ok-clause-parted
 returns-in-Ok-clause-parted c =
-    let plain = c.in-Ok.table.text in (
+    let plain = text_of c.in-Ok.table in (
       parted_as _ c.args.text.now _ plain c.unlabel-unlabelled.result.label refl (c.in-Ok.ensures.text ∙ c.split_at.ensures.back) c.unlabel-unlabelled.ensures.parted,
-      (_, _, holds_as _ plain _ _ c.in-Ok.ensures.text c.in-Ok.ensures.table),
+      some_as _ plain c.in-Ok.ensures.text c.in-Ok.ensures.table,
     )
 
 pub returns-in-Err-clause-refused : goal.returns-in-Err-clause-refused

@@ -5,6 +5,6 @@ use Rattle.rtk_cut.proofs.slips.note_rows.Given as goal
 
 abbrev pub invariant-loop-row : goal.invariant-loop-row
 invariant-loop-row l = record {
-  size : length l.marks ≡ 528;
+  size : length l.marks ≡ length l.fn.marks;
   marks : MarksBecome l.marks (λ s c. list_any (row_has_slip s c) (take l.row-index l.rows) || mark_of l.fn.marks s c);
 }

@@ -3,7 +3,7 @@ use Rattle.std.proofs.lemmas.Bool.{both_ways}
 use Rattle.rtk_rinex.specs.declared.epoch_table.Observed.{Observed}
 use Rattle.rtk_rinex.specs.declared.epoch_table.SatelliteRow.{SatelliteRow}
 use Rattle.rtk_rinex.specs.Record.{EpochTableView, IsSatelliteRow}
-use Rattle.rtk_cut.specs.Steps.Pending.{mark_of, row_has_phase, codes_with_marks, row_with_marks}
+use Rattle.rtk_cut.specs.Steps.Pending.{mark_of, HasMarks, row_has_phase, codes_with_marks, row_with_marks}
 use Rattle.rtk_cut.proofs.MarkLemmas.{marks-good, rows-cleared, map-more, mapped-below, row-made, row-kept, rows-kept}
 use Rattle.rtk_cut.proofs.slips.show_in_rows.Goals as goal
 use Rattle.rtk_cut.proofs.slips.show_in_rows.Goals.{then-is_changed, else-is_changed}
@@ -32,18 +32,19 @@ loop-row-preserved c =
     let lt : k < length rows = c.loop-row-test.true in
     let is : r ≡ get_or rows k r = c.row-item.is in
     let row : SatelliteRow = record { satellite = r.satellite; observed = record { items = c.show_in_row-is_row_changed.new.shown } } in
-    let good : IsSatelliteRow r = subst (λ (x : SatelliteRow). IsSatelliteRow x) (sym is) (c.requires.good k r lt) in
+    let has : HasMarks c.loop-row.marks r.satellite =
+    subst (λ (x : SatelliteRow). HasMarks c.loop-row.marks x.satellite) (sym is) (let wide = c.requires.satellites k r lt in let size = i.size in omega (arith, wide, size)) in
     let here : row ≡ row_with_marks marks c.args.code_count (get_or rows k r) =
-    row-made c.args.marks.now c.loop-row.marks c.args.code_count rows k r c.show_in_row-is_row_changed.new.shown c.requires.few_codes c.requires.rise lt good.satellite.1 is i.marks
+    row-made c.args.marks.now c.loop-row.marks c.args.code_count rows k r c.show_in_row-is_row_changed.new.shown c.requires.few_codes c.requires.rise lt has is i.marks
     (c.show_in_row-is_row_changed.ensures.shown ∙ ap (λ (n : ℕ). codes_with_marks c.loop-row.marks n r) i.width) in
     let pushed : c.push_row.new.self.rows ≡ c.loop-row.shown.rows ++ row ∷ [] = ap (λ (e : EpochTableView). e.rows) c.push_row.ensures in
     record {
-      size = c.show_in_row-is_row_changed.ensures.size;
+      size = c.show_in_row-is_row_changed.ensures.size ∙ i.size;
       width = c.show_in_row-is_row_changed.auto.shown ∙ i.width;
       time = ap (λ (e : EpochTableView). e.time) c.push_row.ensures ∙ i.time;
       rows = pushed ∙ ap (λ xs. xs ++ row ∷ []) i.rows ∙ ap (λ x. map (row_with_marks marks c.args.code_count) (take k rows) ++ x ∷ []) here
           ∙ sym (map-more (row_with_marks marks c.args.code_count) rows k r lt);
-      marks = rows-cleared c.args.code_count rows k r marks c.loop-row.marks c.show_in_row-is_row_changed.new.marks lt i.marks (λ s code satellite within.
+      marks = rows-cleared c.args.code_count rows k r marks c.loop-row.marks c.show_in_row-is_row_changed.new.marks lt c.show_in_row-is_row_changed.ensures.size i.marks (λ s code satellite within.
           c.show_in_row-is_row_changed.ensures.marks s code satellite within
           ∙ ap (λ (x : SatelliteRow). not (row_has_phase s code x && ltb code (length c.loop-row.observed)) && mark_of c.loop-row.marks s code) is
           ∙ ap (λ (n : ℕ). not (row_has_phase s code (get_or rows k r) && ltb code n) && mark_of c.loop-row.marks s code) i.width);

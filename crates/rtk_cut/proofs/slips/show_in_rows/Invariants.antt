@@ -6,7 +6,7 @@ use Rattle.rtk_cut.proofs.slips.show_in_rows.Given as goal
 
 abbrev pub invariant-loop-row : goal.invariant-loop-row
 invariant-loop-row l = record {
-  size : length l.marks ≡ 528;
+  size : length l.marks ≡ length l.fn.marks;
   width : length l.observed ≡ l.code_count;
   time : l.shown.time ≡ l.fn.shown.time;
   rows : l.shown.rows ≡ map (row_with_marks l.fn.marks l.code_count) (take l.row-index l.rows);

@@ -3,10 +3,9 @@ use Rattle.rtk_label.proofs.labelled_file.write_front.Goals as goal
 
 pub returns-clause-all : goal.returns-clause-all
 returns-clause-all g c =
-    on_ok-map c.write_all.result (λ taken. wrote_lines c.args.table.now.text c.args.label.now (g.W.Sink.taken c.args.out.now) (g.W.Sink.taken c.write_all.new.sink) c.filled-front.ensures.good
-    (rw (c.as_slice.ensures.value, c.filled-front.ensures.value, c.as_bytes.ensures.value) at taken)) c.write_all.ensures.all
+    on_ok-map c.put_front.result
+    (λ taken. wrote_lines c.args.table.now.text c.args.label.now (g.W.Sink.taken c.args.out.now) (g.W.Sink.taken c.put_front.new.out) c.put_front.ensures.good (rw c.as_bytes.ensures.value at taken)) c.put_front.ensures.all
 
 pub returns-clause-first : goal.returns-clause-first
 returns-clause-first g c =
-    wrote_some c.args.table.now.text c.args.label.now (g.W.Sink.taken c.args.out.now) (g.W.Sink.taken c.write_all.new.sink) c.filled-front.ensures.good
-    (rw (c.as_slice.ensures.value, c.filled-front.ensures.value, c.as_bytes.ensures.value) at c.write_all.ensures.part)
+    wrote_some c.args.table.now.text c.args.label.now (g.W.Sink.taken c.args.out.now) (g.W.Sink.taken c.put_front.new.out) c.put_front.ensures.good (rw c.as_bytes.ensures.value at c.put_front.ensures.part)

@@ -15,7 +15,7 @@ returns c = λ es stands.
     let satellites : StandForSatellites c.as_slice-satellites.result.now interval es =
     subst (λ (xs : List SatelliteCounts). StandForSatellites xs interval es) (sym c.as_slice-satellites.ensures.value) stands.satellites in
     let counts : FileCounts = c.args.counts.now in
-    let listed : ListedCounts = record { gaps = counts.gaps.count; moments = counts.moments.count; bursts = counts.events.bursts.count; runs = counts.events.runs.count } in
+    let listed : ListedCounts = record { gaps = counts.gaps.count; moments = counts.moments.count; bursts = counts.events.bursts.count; runs = counts.events.runs.count; missing = counts.missing.count } in
     text-is c.args.form c.args.marker.now c.args.codes.now c.args.first c.args.last c.args.interval es c.civil-from.result c.civil-until.result c.satellites_in-seen.result c.args.counts.now.records listed c.station_sums-sums.result
     _ _ _ (reading_is _ _ c.civil-from.ensures.reading) (reading_is _ _ c.civil-until.ensures.reading) (c.satellites_in-seen.ensures interval es satellites) stands.records (listed-are interval (unit_of interval) c.args.codes.now es counts stands) (c.station_sums-sums.ensures interval es satellites)
     (c.in_ok-put_heading.ensures

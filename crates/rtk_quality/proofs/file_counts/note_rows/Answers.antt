@@ -1,6 +1,7 @@
 use Rattle.std.proofs.Common.{◌≡◌, ◌<◌, ◌≤◌, ◌+◌, ◌-◌, ◌∷◌, ◌++◌, ◌∙◌, ℕ, List, length, get_or, sym, ap, subst, length-set, arith, Option}
 use Rattle.std.proofs.lemmas.List.{append-nil, take_all, at_drop_all}
 use Rattle.rtk_rinex.proofs.PublicLaws.{reading_is}
+use Rattle.rtk_rinex.specs.Reading.{reading_of}
 use Rattle.rtk_rinex.specs.Record.{EpochTableView, IsSatelliteRow}
 use Rattle.rtk_rinex.specs.declared.epoch_table.SatelliteRow.{SatelliteRow}
 use Rattle.rtk_tracking.specs.Epochs.{newest_moment}
@@ -18,14 +19,18 @@ use Rattle.rtk_quality.specs.declared.runs.Run.{Run}
 use Rattle.rtk_quality.specs.declared.bursts.HourMoments.{HourMoments}
 use Rattle.rtk_quality.specs.Steps.Noted.{locks_onto}
 use Rattle.rtk_quality.specs.declared.hours.Locks.{Locks}
-use Rattle.rtk_quality.specs.Standing.{absent_at, without_rows, StandsForSatellite, StandForSatellites, StandForEnded}
+use Rattle.rtk_quality.specs.Standing.{absent_at, without_rows, StandsForSatellite, StandForSatellites, StandForCodes, StandForMissing, StandForEnded}
 use Rattle.rtk_quality.specs.declared.satellite_counts.SatelliteCounts.{SatelliteCounts}
+use Rattle.rtk_quality.specs.declared.missing.MissingCodes.{MissingCodes}
+use Rattle.rtk_quality.proofs.MissingCodeLemmas.{no-row-yet, codes-due, codes-noted}
 use Rattle.rtk_quality.proofs.RowLemmas.{all-rows, IsRowAt, record-is, row-due, row-noted, row-ended, locks-more, told-more, together-more}
 use Rattle.rtk_quality.proofs.file_counts.note_rows.Goals as goal
 
 pub loop-row-init : goal.loop-row-init
 loop-row-init c = record {
-  size = c.requires;
+  size = c.requires.satellites;
+  codes_size = c.requires.codes;
+  codes = λ es count last stand are. no-row-yet c.args.codes.now.items count c.args.interval c.args.epoch.now.time es are;
   satellites = λ es last stand. stand;
   ended = λ es last stand ended. ended;
   locks = λ es last stand. ap (λ (x : Locks). locks_onto c.args.interval es c.args.epoch.now.time x c.args.epoch.now.rows) (sym c.none-locks.ensures);
@@ -59,11 +64,21 @@ loop-row-preserved c =
     let runs = rw (c.time-time.ensures, c.as_slice-observed.ensures.value) at c.note_row-notes.ensures.run in
     let hours = rw (c.time-time.ensures, c.as_slice-observed.ensures.value) at c.note_row-notes.ensures.hour in
     let tracked = rw c.as_slice-observed.ensures.value at c.note_row-notes.ensures.tracked in
+    let starts = rw (c.time-time.ensures, c.as_slice-observed.ensures.value) at c.note_row-notes.ensures.begins in
+    let reads : c.civil-reading.result ≡ reading_of e.time = reading_is c.time-time.result c.civil-reading.result c.civil-reading.ensures.reading ∙ ap reading_of c.time-time.ensures in
     let was : (es : List EpochTableView) → c.args.record_ms ≡ newest_moment es → StandForSatellites c.args.satellites.now.items interval (without_rows e.time ∷ es)
     → StandsForSatellite (get_or items place _) interval (absent_at e.time ∷ sightings_of r.satellite es) =
     λ es last stand. row-due e i place r items _ interval es at number few (c.loop-row.invariant.satellites es last stand) in
     record {
       size = length-set items place new ∙ c.loop-row.invariant.size;
+      codes_size = length-set c.loop-row.codes.items place c.note_codes.new.self ∙ c.loop-row.invariant.codes_size;
+      codes = λ es count last stand are.
+          let so_far = c.loop-row.invariant.codes es count last stand are in
+          codes-noted e i place r c.loop-row.codes.items c.note_codes.new.self count interval es at number few so_far
+          (c.in_ok-note_codes.ensures count (sightings_of r.satellite es) (record { time = e.time; observed = r.observed.items }) (sym c.as_slice-observed.ensures.value) reads
+          (starts (sightings_of r.satellite es) (subst (λ (s : SatelliteCounts). StandsForSatellite s interval (absent_at e.time ∷ sightings_of r.satellite es)) (sym c.index_mut.ensures.value) (was es last stand)))
+          (subst (λ (m : MissingCodes). StandForCodes m.codes.items count interval (sightings_of r.satellite es)) (sym c.index_mut-in-loop-row.ensures.value)
+          (codes-due e i place r c.loop-row.codes.items _ count interval es at number few so_far)));
       satellites = λ es last stand.
           row-noted e i place r items new interval es at number few (c.loop-row.invariant.satellites es last stand)
           (stands (sightings_of r.satellite es) (subst (λ (s : SatelliteCounts). StandsForSatellite s interval (absent_at e.time ∷ sightings_of r.satellite es)) (sym c.index_mut.ensures.value) (was es last stand)) (last ∙ record-is r.satellite es));
@@ -103,6 +118,13 @@ returns-clause-satellites c = λ es last stand.
     let long : length e.rows ≤ c.loop-row.row-index = rw c.rows-row-items.ensures.value at c.loop-row-test.false in
     subst (λ (x : EpochTableView). StandForSatellites c.loop-row.satellites.items c.args.interval (x ∷ es)) (all-rows e c.loop-row.row-index (take_all c.loop-row.row-index e.rows long))
     (c.loop-row.invariant.satellites es last stand)
+
+pub returns-clause-codes : goal.returns-clause-codes
+returns-clause-codes c = λ es count last stand are.
+    let e : EpochTableView = c.args.epoch.now in
+    let long : length e.rows ≤ c.loop-row.row-index = rw c.rows-row-items.ensures.value at c.loop-row-test.false in
+    subst (λ (x : EpochTableView). StandForMissing c.loop-row.codes.items count c.args.interval (x ∷ es)) (all-rows e c.loop-row.row-index (take_all c.loop-row.row-index e.rows long))
+    (c.loop-row.invariant.codes es count last stand are)
 
 pub returns-clause-ended : goal.returns-clause-ended
 returns-clause-ended c = λ es last stand ended.

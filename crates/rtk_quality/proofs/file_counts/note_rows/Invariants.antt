@@ -1,4 +1,4 @@
-use Rattle.std.proofs.Common.{◌≡◌, ◌∷◌, ◌++◌, List, length, take, drop}
+use Rattle.std.proofs.Common.{◌≡◌, ◌∷◌, ◌++◌, ℕ, List, length, take, drop}
 use Rattle.rtk_rinex.specs.Record.{EpochTableView}
 use Rattle.rtk_tracking.specs.Epochs.{newest_moment}
 use Rattle.rtk_quality.specs.Largest.{AreLargest}
@@ -10,15 +10,18 @@ use Rattle.rtk_quality.specs.Bursts.{bursts_in, size_of_burst}
 use Rattle.rtk_quality.specs.declared.runs.HalfRun.{HalfRun}
 use Rattle.rtk_quality.specs.declared.bursts.Burst.{Burst}
 use Rattle.rtk_quality.specs.Steps.Noted.{no_locks, locks_onto}
-use Rattle.rtk_quality.specs.Standing.{without_rows, StandForSatellites, StandForEnded}
+use Rattle.rtk_quality.specs.Standing.{without_rows, StandForSatellites, StandForMissing, StandForEnded}
 use Rattle.rtk_quality.proofs.RowLemmas.{first_rows}
 use Rattle.rtk_quality.proofs.file_counts.note_rows.Given as goal
 
 abbrev pub invariant-loop-row : goal.invariant-loop-row
 invariant-loop-row l = record {
   size : length l.satellites.items ≡ 32;
+  codes_size : length l.codes.items ≡ 32;
   satellites : (es : List EpochTableView) → l.record_ms ≡ newest_moment es → StandForSatellites l.fn.satellites.items l.interval (without_rows l.epoch.time ∷ es)
       → StandForSatellites l.satellites.items l.interval (first_rows l.epoch l.row-index ∷ es);
+  codes : (es : List EpochTableView) (count : ℕ) → l.record_ms ≡ newest_moment es → StandForSatellites l.fn.satellites.items l.interval (without_rows l.epoch.time ∷ es)
+      → StandForMissing l.fn.codes.items count l.interval es → StandForMissing l.codes.items count l.interval (first_rows l.epoch l.row-index ∷ es);
   ended : (es : List EpochTableView) → l.record_ms ≡ newest_moment es → StandForSatellites l.fn.satellites.items l.interval (without_rows l.epoch.time ∷ es) → StandForEnded l.fn.ended.items l.interval es
       → StandForEnded l.ended.items l.interval (first_rows l.epoch l.row-index ∷ es);
   locks : (es : List EpochTableView) → l.record_ms ≡ newest_moment es → StandForSatellites l.fn.satellites.items l.interval (without_rows l.epoch.time ∷ es)

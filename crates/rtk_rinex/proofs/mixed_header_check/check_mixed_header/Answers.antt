@@ -8,7 +8,7 @@ use Rattle.rtk_rinex.specs.MixedHeaderFault.{IsOnlyMixedHeader}
 use Rattle.rtk_rinex.specs.Steps.MixedHeaderRead.{ShowsMixedHeader}
 use Rattle.rtk_rinex.specs.declared.mixed_header_check.MixedHeaderParts.{MixedHeaderParts}
 use Rattle.rtk_rinex.proofs.HeaderVerdictLemmas.{HasAll}
-use Rattle.rtk_rinex.proofs.MixedPartsLemmas.{MixedValues, IsGoodMixed, mixed_values, mixed_text, whole_mixed}
+use Rattle.rtk_rinex.proofs.MixedPartsLemmas.{MixedValues, mixed_values, mixed_text, whole_mixed}
 use Rattle.rtk_rinex.proofs.MixedVerdictLemmas.{has_all_mixed, IsRead, mixed_fault, no_mixed}
 use Rattle.rtk_rinex.proofs.TextLemmas.{on_err}
 use Rattle.rtk_rinex.proofs.TextPartLemmas.{AreWhole}

@@ -1,7 +1,7 @@
-use Rattle.std.proofs.Common.{◌≡◌, ◌∙◌, ◌++◌, ℕ, List, [], length, drop, codes, ap, sym, refl, subst, arith, Option, append_assoc}
+use Rattle.std.proofs.Common.{◌≡◌, ◌∙◌, ◌++◌, ℕ, List, [], length, drop, codes, ap, sym, subst, arith, Option, append_assoc}
 use Rattle.rtk_obs.specs.declared.any_code.AnyCode.{AnyCode}
 use Rattle.rtk_obs.specs.declared.time.Civil.{Civil}
-use Rattle.rtk_rinex.specs.Header.{PositionView, position_view, header_line, made_line, marker_line, place_line, height_line, first_line}
+use Rattle.rtk_rinex.specs.Header.{position_view, header_line, made_line, marker_line, place_line, height_line, first_line}
 use Rattle.rtk_rinex.specs.MixedHead.{MixedHeadView, GlonassView, TellsGlonass}
 use Rattle.rtk_rinex.specs.MixedHeader.{version_letter, mixed_version_line, phase_shift_line, by_system, glonass_lines, unknown_lines}
 use Rattle.rtk_rinex.specs.Reading.{reading_of}

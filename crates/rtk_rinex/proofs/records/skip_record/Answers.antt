@@ -2,7 +2,8 @@ use Rattle.std.proofs.Common.{◌∙◌, ◌<◌, length, sym, arith}
 use Rattle.std.proofs.lemmas.Grind.{not_there}
 use mathlib.Core.Logic.{∥∥₁_map}
 use Rattle.rtk_rinex.proofs.EpochLemmas.{length-line, line-columns}
-use Rattle.rtk_rinex.proofs.LineLemmas.{no_line, same_line}
+use Rattle.rtk_rinex.specs.Record.{satellite_line}
+use Rattle.rtk_rinex.proofs.LineLemmas.{satellite_line-line, no_line, same_line}
 use Rattle.rtk_rinex.proofs.OneLemmas.{count-of, epoch-front, epoch_line-of}
 use Rattle.rtk_rinex.proofs.RecordsLemmas.{epoch_line-due, below}
 use Rattle.rtk_rinex.proofs.records.skip_record.Goals as goal
@@ -40,7 +41,7 @@ skip_rows-requires c =
     let same = same_line c.in-Some.line.now _ c.in-Some.after.now _ line.0 due.line (sym line.1 ∙ due.text) in
     let one = c.in-Some-stamp_in.ensures.3 due.epoch.time _ due.is_epoch.time due.count
     (c.split_at.ensures.front ∙ line-columns c.in-Some.line.now due.epoch.time _ due.is_epoch.time (omega (arith, due.count)) same.0) in
-    (due.epoch.rows, due.rest, sym one.1, same.1))
+    (satellite_line, satellite_line-line, (due.epoch.rows, due.rest, sym one.1, same.1)))
 
 pub returns : goal.returns
 returns c = λ n e rest is text.
@@ -48,4 +49,4 @@ returns c = λ n e rest is text.
     let count = count-of n e is in
     let same = same_line c.in-Some.line.now _ c.in-Some.after.now _ line.0 (epoch_line-of n e is) (sym line.1 ∙ text ∙ epoch-front n e rest is) in
     let one = c.in-Some-stamp_in.ensures.3 e.time _ is.time count (c.split_at.ensures.front ∙ line-columns c.in-Some.line.now e.time _ is.time (omega (arith, count)) same.0) in
-    (one.0, c.skip_rows.ensures e.rows rest (sym one.1) same.1)
+    (one.0, c.skip_rows.ensures.rest satellite_line e.rows rest satellite_line-line (sym one.1) same.1)

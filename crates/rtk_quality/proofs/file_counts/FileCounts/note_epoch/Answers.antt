@@ -1,4 +1,4 @@
-use Rattle.std.proofs.Common.{◌≡◌, ◌∙◌, ℕ, Option, ap}
+use Rattle.std.proofs.Common.{◌≡◌, ◌∙◌, ℕ, length, Option, ap}
 use Rattle.rtk_tracking.specs.Epochs.{newest_moment}
 use Rattle.rtk_quality.specs.Outages.{all_outages}
 use Rattle.rtk_quality.specs.Runs.{ended_runs}
@@ -19,6 +19,8 @@ returns-clause-counts c = λ es stands.
     record {
       records = c.note_record-2.ensures es stands.records;
       satellites = c.in_ok-notes.ensures.satellites es record_ms fresh;
+      codes = c.in_ok-notes.ensures.codes es (length c.args.codes.now) record_ms fresh stands.codes;
+      missing = stands.missing;
       ended = c.in_ok-notes.ensures.ended es record_ms fresh stands.ended;
       hours = hours-noted interval c.args.unit_ms c.args.codes.now c.args.epoch.now es c.args.self.now.records.last _ c.args.self.now.hours _
           last (c.in_ok-notes.ensures.locks es record_ms fresh) stands.hours c.in_ok-note_record.ensures;

@@ -7,6 +7,7 @@ use Rattle.rtk_tracking.specs.declared.passes.Pass.{Pass}
 use Rattle.rtk_quality.specs.Counts.{plus}
 use Rattle.rtk_quality.specs.SatellitePasses.{phases_in, slips_at, sums_of, sums_at, sums_plus, sums_in, passes_of, epochs_since_phase, epochs_in_passes}
 use Rattle.rtk_quality.specs.Hours.{returns_at}
+use Rattle.rtk_quality.specs.Runs.{has_half}
 use Rattle.rtk_quality.specs.Steps.Noted.{no_locks}
 use Rattle.rtk_quality.specs.Standing.{newest_pass, with_epoch}
 use Rattle.rtk_quality.specs.declared.hours.Locks.{Locks}
@@ -35,7 +36,7 @@ returns-then-not-has_phase-clause-stands c = λ before absent last.
           ∙ sym (ap (λ (b : Bool). cond b 0 (plus (epochs_since_phase before) 1)) none);
       last = stands.last ∙ sym (ap newest_pass (same-passes interval before s none));
       sums = stands.sums ∙ sym (ap (λ (b : Bool). cond b (sums_plus (sums_in interval before) (sums_at interval before s)) (sums_in interval before)) none);
-      run = stands.run ∙ sym (run-same interval before s none);
+      run = stands.run ∙ sym (run-same has_half interval before s none);
       hour = stands.hour ∙ sym (hour-same interval before s none);
     }
 
@@ -85,7 +86,7 @@ returns-clause-stands c = λ before absent last.
           ∙ ap (λ (k : PassSums). sums_plus k c.of-sums.result) stands.sums
           ∙ ap (λ (k : PassSums). sums_plus (sums_in interval before) k) sums
           ∙ sym (ap (λ (b : Bool). cond b (sums_plus (sums_in interval before) (sums_at interval before s)) (sums_in interval before)) has);
-      run = run-more interval before s c.args.self.now.run c.next_run-run.result.newest c.begins-begins.result c.has_half.result c.args.reading stands.run begins c.has_half.ensures
+      run = run-more has_half interval before s c.args.self.now.run c.next_run-run.result.newest c.begins-begins.result c.has_half.result c.args.reading stands.run begins c.has_half.ensures
           c.requires has c.next_run-run.ensures.newest;
       hour = hour-more interval before s c.args.self.now.hour c.next_hour-hour.result.last c.slips_in-slips.result c.hour_at.result stands.hour slips c.hour_at.ensures
           has c.next_hour-hour.ensures.last;
@@ -140,7 +141,7 @@ returns-clause-absence c = λ before absent last.
 pub returns-then-not-has_phase-clause-run : goal.returns-then-not-has_phase-clause-run
 returns-then-not-has_phase-clause-run c = λ before absent last.
     let s : Sighting = record { time = c.args.time; observed = c.args.observed.now } in
-    no-run-ends c.args.interval before s (sym c.has_phase.ensures ∙ c.if-not-has_phase.true)
+    no-run-ends has_half c.args.interval before s (sym c.has_phase.ensures ∙ c.if-not-has_phase.true)
 
 pub returns-then-not-has_phase-clause-hour : goal.returns-then-not-has_phase-clause-hour
 returns-then-not-has_phase-clause-hour c = λ before absent last.
@@ -155,7 +156,7 @@ returns-clause-run c = λ before absent last.
     let has : has_phase s.observed ≡ true = sym c.has_phase.ensures ∙ c.if-not-has_phase.false in
     let begins : c.begins-begins.result ≡ begins_pass interval before s =
     c.begins-begins.ensures before stands.pass ∙ ap (λ (t : ℕ). begins_pass interval before (record { time = t; observed = c.args.observed.now })) c.ms-time_ms.ensures.value in
-    run-ends interval before s c.args.self.now.run c.next_run-run.result.ended c.begins-begins.result c.has_half.result stands.run begins c.has_half.ensures has c.next_run-run.ensures.ended
+    run-ends has_half interval before s c.args.self.now.run c.next_run-run.result.ended c.begins-begins.result c.has_half.result stands.run begins c.has_half.ensures has c.next_run-run.ensures.ended
 
 pub returns-clause-hour : goal.returns-clause-hour
 returns-clause-hour c = λ before absent last.
@@ -168,3 +169,14 @@ returns-clause-hour c = λ before absent last.
     subst (λ (t : ℕ). AreKnown c.known-known.result interval before (record { time = t; observed = c.args.observed.now })) at (c.known-known.ensures before stands.pass last) in
     hour-ends interval before s c.args.self.now.hour c.next_hour-hour.result.ended c.slips_in-slips.result c.hour_at.result stands.hour
     (c.slips_in-slips.ensures interval before s refl marked.kept) c.hour_at.ensures has c.next_hour-hour.ensures.ended
+
+pub returns-then-not-has_phase-clause-begins : goal.returns-then-not-has_phase-clause-begins
+returns-then-not-has_phase-clause-begins c = λ before absent.
+    let s : Sighting = record { time = c.args.time; observed = c.args.observed.now } in
+    let none : has_phase s.observed ≡ false = sym c.has_phase.ensures ∙ c.if-not-has_phase.true in
+    sym (ap (λ (b : Bool). b && is_away c.args.interval (last_phase before) s.time) none)
+
+pub returns-clause-begins : goal.returns-clause-begins
+returns-clause-begins c = λ before absent.
+    let stands = before-row c.args.self.now c.args.interval c.args.time before absent in
+    c.begins-begins.ensures before stands.pass ∙ ap (λ (t : ℕ). begins_pass c.args.interval before (record { time = t; observed = c.args.observed.now })) c.ms-time_ms.ensures.value

@@ -1,0 +1,154 @@
+-- The first line of a file says whether it is one of GPS; what is said of a text by its files.
+use Rattle.std.proofs.Common.{◌≡◌, ◌≢◌, inl, inr, ℕ, List, [], ◌∷◌, ◌++◌, length, codes, ap, sym, refl, ◌∙◌, append_assoc, drop, subst}
+use Rattle.std.specs.Prelude.{flat_map}
+use Rattle.rtk_rinex.specs.Columns.{left}
+use Rattle.rtk_rinex.specs.Header.{header_line, version_line, made_line, marker_line, position_lines, types_lines, last_lines, unit_line, first_line, header_text}
+use Rattle.rtk_rinex.specs.MixedHeader.{version_letter, mixed_version_line, unknown_lines, by_system, system_types_lines, phase_shift_line, glonass_lines, mixed_header_text}
+use Rattle.rtk_rinex.specs.Reading.{reading_of}
+use Rattle.rtk_rinex.specs.Record.{record_text}
+use Rattle.rtk_rinex.specs.MixedRecord.{mixed_record_text}
+use Rattle.rtk_rinex.specs.Table.{WellFormedTable, IsWellFormedTable, table_text}
+use Rattle.rtk_rinex.specs.MixedTable.{MixedTable, IsMixedTable, mixed_table_text}
+use Rattle.rtk_rinex.specs.CheckText.{satellite_lines}
+use Rattle.rtk_rinex.specs.CheckTable.{TableView, HoldsTable, IsWithoutTable, OneTable, OneFault}
+use Rattle.rtk_rinex.specs.MixedCheckTable.{HoldsMixedTable, IsWithoutMixedTable, MixedOneTable, MixedOneFault}
+use Rattle.rtk_rinex.specs.declared.check_fault.CheckFault.{CheckFault}
+use Rattle.rtk_cut.specs.declared.part.Part.{Part}
+use Rattle.rtk_cut.specs.Cut.{cut_of, mixed_cut_of}
+use Rattle.rtk_label.specs.Labelled.{LabelView, IsLabel, IsFor}
+use Rattle.rtk_label.specs.LabelLaws.{FrontIsChanged, MixedFrontIsChanged}
+use Rattle.rtk_label.specs.LabelWriting.{IsParted}
+use Rattle.rtk_commands.specs.CutInput.{part_of_file}
+use Rattle.rtk_commands.specs.FileTable.{FileTable, OfGps, OfSystems, IsFileTable, file_text, file_site, file_front, file_epochs, labelled_file, letter_in, IsTextOfSomeFile, HoldsFile, IsTextOfNoFile, IsFaultOfFile, text_of, HasItsLetter}
+use Rattle.rtk_commands.specs.declared.any_table.AnyTable.{AnyTable}
+use Rattle.rtk_commands.specs.declared.any_table.AnyTable.TheVariants.{Gps, Mixed}
+
+-- ---- the letter in the first line
+
+letter-of_line : (letter : ℕ) (rest : List ℕ) → letter_in (mixed_version_line letter ++ rest) ≡ letter
+unfolding header_line left
+letter-of_line letter rest = refl
+
+glue-gps : (v m k a b c d p t l r : List ℕ) → (((((((((v ++ m) ++ k) ++ a) ++ b) ++ c) ++ d) ++ p) ++ t) ++ l) ++ r
+    ≡ v ++ (m ++ (k ++ (a ++ (b ++ (c ++ (d ++ (p ++ (t ++ (l ++ r)))))))))
+glue-gps v m k a b c d p t l r = simp append_assoc
+
+glue-mixed : (v m k u p t s f h g e r : List ℕ) → ((((((((((v ++ m) ++ k) ++ u) ++ p) ++ t) ++ s) ++ f) ++ h) ++ g) ++ e) ++ r
+    ≡ v ++ (m ++ (k ++ (u ++ (p ++ (t ++ (s ++ (f ++ (h ++ (g ++ (e ++ r))))))))))
+glue-mixed v m k u p t s f h g e r = simp append_assoc
+
+gps-letter : (t : WellFormedTable) → letter_in (table_text t) ≡ 71
+unfolding header_text
+gps-letter t =
+    let made = reading_of t.head.made in
+    ap letter_in (glue-gps version_line (made_line made) (marker_line t.head.marker) (header_line (codes "GEODETIC") (codes "MARKER TYPE")) (header_line [] (codes "OBSERVER / AGENCY"))
+    (header_line [] (codes "REC # / TYPE / VERS")) (header_line [] (codes "ANT # / TYPE")) (position_lines t.site) (types_lines t.head.listed) (last_lines (reading_of t.first)) (flat_map record_text t.epochs))
+    ∙ letter-of_line 71 _
+
+pub mixed-letter : (t : MixedTable) → letter_in (mixed_table_text t) ≡ version_letter t.head.listed
+unfolding mixed_header_text
+mixed-letter t =
+    let made = reading_of t.head.made in
+    ap letter_in (glue-mixed (mixed_version_line (version_letter t.head.listed)) (made_line made) (marker_line t.head.marker) unknown_lines (position_lines t.site) (by_system system_types_lines t.head.listed)
+    unit_line (first_line (reading_of t.first)) (by_system phase_shift_line t.head.listed) (glonass_lines t.head.glonass) (header_line [] (codes "END OF HEADER")) (flat_map mixed_record_text t.epochs))
+    ∙ letter-of_line (version_letter t.head.listed) _
+
+-- ---- which files a text can be
+
+pub gps-only : (P : FileTable → Type 0) (text : List ℕ) → letter_in text ≡ 71 → ((t : WellFormedTable) → IsWellFormedTable t → text ≡ table_text t → P (OfGps t))
+    → (f : FileTable) → IsFileTable f → text ≡ file_text f → P f
+gps-only P text gps each (OfGps t) good e = each t good e
+gps-only P text gps each (OfSystems t) good e = absurd (good.1 (sym (mixed-letter t) ∙ sym (ap letter_in e) ∙ gps))
+
+pub mixed-only : (P : FileTable → Type 0) (text : List ℕ) → letter_in text ≢ 71 → ((t : MixedTable) → IsMixedTable t → text ≡ mixed_table_text t → P (OfSystems t))
+    → (f : FileTable) → IsFileTable f → text ≡ file_text f → P f
+mixed-only P text other each (OfGps t) good e = absurd (other (ap letter_in e ∙ gps-letter t))
+mixed-only P text other each (OfSystems t) good e = each t good.0 e
+
+-- the same of a table in its text
+pub of-gps : (P : FileTable → Type 0) (table : AnyTable) (v : TableView) → table ≡ Gps v → HasItsLetter table → ((t : WellFormedTable) → IsWellFormedTable t → v.text ≡ table_text t → P (OfGps t))
+    → (f : FileTable) → IsFileTable f → text_of table ≡ file_text f → P f
+of-gps P table v is letter each f good e =
+    gps-only P v.text (subst (λ (x : AnyTable). HasItsLetter x) is letter) each f good (subst (λ (x : AnyTable). text_of x ≡ file_text f) is e)
+
+pub of-mixed : (P : FileTable → Type 0) (table : AnyTable) (v : TableView) → table ≡ Mixed v → HasItsLetter table → ((t : MixedTable) → IsMixedTable t → v.text ≡ mixed_table_text t → P (OfSystems t))
+    → (f : FileTable) → IsFileTable f → text_of table ≡ file_text f → P f
+of-mixed P table v is letter each f good e =
+    mixed-only P v.text (subst (λ (x : AnyTable). HasItsLetter x) is letter) each f good (subst (λ (x : AnyTable). text_of x ≡ file_text f) is e)
+
+-- what holds of each file of a text holds of its table
+pub each-gps : (P : FileTable → Type 0) (table : AnyTable) (v : TableView) → table ≡ Gps v → ((f : FileTable) → IsFileTable f → text_of table ≡ file_text f → P f)
+    → (t : WellFormedTable) → IsWellFormedTable t → v.text ≡ table_text t → P (OfGps t)
+each-gps P table v is each t good e = each (OfGps t) good (subst (λ (x : AnyTable). text_of x ≡ table_text t) (sym is) e)
+
+pub each-mixed : (P : FileTable → Type 0) (table : AnyTable) (v : TableView) → table ≡ Mixed v → HasItsLetter table → ((f : FileTable) → IsFileTable f → text_of table ≡ file_text f → P f)
+    → (t : MixedTable) → IsMixedTable t → v.text ≡ mixed_table_text t → P (OfSystems t)
+each-mixed P table v is letter each t good e =
+    let other : letter_in v.text ≢ 71 = subst (λ (x : AnyTable). HasItsLetter x) is letter in
+    each (OfSystems t) (good, λ gps. other (ap letter_in e ∙ mixed-letter t ∙ gps)) (subst (λ (x : AnyTable). text_of x ≡ mixed_table_text t) (sym is) e)
+
+pub gps-some : (text : List ℕ) (n s : ℕ) → HoldsTable text n s → IsTextOfSomeFile text
+gps-some text n s holds = (OfGps holds.table, holds.is_table, holds.text)
+
+pub mixed-some : (text : List ℕ) (n s : ℕ) → letter_in text ≢ 71 → HoldsMixedTable text n s → IsTextOfSomeFile text
+mixed-some text n s other holds =
+    (OfSystems holds.table, (holds.is_table, λ gps. other (ap letter_in holds.text ∙ mixed-letter holds.table ∙ gps)), holds.text)
+
+pub gps-holds : (text : List ℕ) (n s : ℕ) → HoldsTable text n s → HoldsFile text n s
+gps-holds text n s holds = (OfGps holds.table, holds.is_table, holds.text, holds.epochs, holds.satellites)
+
+pub mixed-holds : (text : List ℕ) (n s : ℕ) → letter_in text ≢ 71 → HoldsMixedTable text n s → HoldsFile text n s
+mixed-holds text n s other holds =
+    (OfSystems holds.table, (holds.is_table, λ gps. other (ap letter_in holds.text ∙ mixed-letter holds.table ∙ gps)), holds.text, holds.epochs, holds.satellites)
+
+-- a text is that of one file at most
+pub one-file : OneTable → MixedOneTable → (f g : FileTable) → IsFileTable f → IsFileTable g → file_text f ≡ file_text g → f ≡ g
+one-file one mixed (OfGps t) (OfGps u) good also e = ap OfGps (one t u good also e)
+one-file one mixed (OfGps t) (OfSystems u) good also e = absurd (also.1 (sym (mixed-letter u) ∙ sym (ap letter_in e) ∙ gps-letter t))
+one-file one mixed (OfSystems t) (OfGps u) good also e = absurd (good.1 (sym (mixed-letter t) ∙ ap letter_in e ∙ gps-letter u))
+one-file one mixed (OfSystems t) (OfSystems u) good also e = ap OfSystems (mixed t u good.0 also.0 e)
+
+-- and has one number of records and of satellite lines
+pub one-count : OneTable → MixedOneTable → (text : List ℕ) (records lines other_records other_lines : ℕ) → HoldsFile text records lines → HoldsFile text other_records other_lines
+    → (records ≡ other_records) × (lines ≡ other_lines)
+one-count one mixed text records lines other_records other_lines (f, good, is, rs, ls) (g, also, was, qs, ks) =
+    let same : f ≡ g = one-file one mixed f g good also (sym is ∙ was) in (
+      sym rs ∙ ap (λ h. length (file_epochs h)) same ∙ qs,
+      sym ls ∙ ap (λ h. satellite_lines (file_epochs h)) same ∙ ks,
+    )
+
+-- and has one first fault
+pub one-fault-of-file : OneFault → MixedOneFault → (text : List ℕ) (f g : CheckFault) → IsFaultOfFile text f → IsFaultOfFile text g → f ≡ g
+one-fault-of-file one mixed text f g is was = elim is [
+  | inl gps ↦ elim was [
+    | inl also ↦ one text f g gps.1 also.1
+    | inr other ↦ absurd (other.0 gps.0)
+  ]
+  | inr systems ↦ elim was [
+    | inl gps ↦ absurd (systems.0 gps.0)
+    | inr also ↦ mixed text f g systems.1 also.1
+  ]
+]
+
+pub gps-none : (text : List ℕ) → letter_in text ≡ 71 → IsWithoutTable text → IsTextOfNoFile text
+gps-none text gps none f good e = gps-only (λ _. ⊥) text gps none f good e
+
+pub mixed-none : (text : List ℕ) → letter_in text ≢ 71 → IsWithoutMixedTable text → IsTextOfNoFile text
+mixed-none text other none f good e = mixed-only (λ _. ⊥) text other none f good e
+
+-- ---- the label of a file
+
+pub labelled-file : (text plain : List ℕ) (m : LabelView) → IsParted text plain m → (f : FileTable) → IsFileTable f → plain ≡ file_text f → (text ≡ labelled_file m f) × IsFor m (file_site f)
+labelled-file text plain m parted (OfGps t) good e = parted.labelled t good e
+labelled-file text plain m parted (OfSystems t) good e = parted.labelled_mixed t good.0 e
+
+pub every-file : (text plain : List ℕ) (m : LabelView) → IsParted text plain m → (f : FileTable) (l : LabelView) → IsFileTable f → IsLabel l → IsFor l (file_site f) → text ≡ labelled_file l f
+    → (plain ≡ file_text f) × (m ≡ l)
+every-file text plain m parted (OfGps t) l good is for e = parted.every t l good is for e
+every-file text plain m parted (OfSystems t) l good is for e = parted.every_mixed t l good.0 is for e
+
+-- a label changes the first nine lines of a part alone
+pub front-of_part : FrontIsChanged → MixedFrontIsChanged → (l : LabelView) (part : Part) (f : FileTable) → IsFileTable f
+    → labelled_file l (part_of_file part f) ≡ file_front l f ++ drop 729 (file_text (part_of_file part f))
+front-of_part law mixed l part (OfGps t) good = law l t (cut_of part t) good refl refl
+front-of_part law mixed l part (OfSystems t) good = mixed l t (mixed_cut_of part t) good.0 refl refl

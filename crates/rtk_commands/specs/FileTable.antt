@@ -1,0 +1,92 @@
+-- A file that the commands of a file take: of GPS alone, or with other systems.
+use Rattle.std.specs.Prelude.{◌≡◌, ◌≢◌, ◌⊎◌, ℕ, List, length, get_or}
+use Rattle.rtk_rinex.specs.Header.{PositionView}
+use Rattle.rtk_rinex.specs.MixedHeader.{version_letter}
+use Rattle.rtk_rinex.specs.Record.{EpochTableView}
+use Rattle.rtk_rinex.specs.Table.{WellFormedTable, IsWellFormedTable, table_text}
+use Rattle.rtk_rinex.specs.MixedTable.{MixedTable, IsMixedTable, mixed_table_text}
+use Rattle.rtk_rinex.specs.CheckText.{satellite_lines}
+use Rattle.rtk_rinex.specs.CheckTable.{IsFault}
+use Rattle.rtk_rinex.specs.MixedCheckTable.{IsMixedFault}
+use Rattle.rtk_rinex.specs.declared.check_fault.CheckFault.{CheckFault}
+use Rattle.rtk_label.specs.Labelled.{LabelView, front_lines, labelled_text, mixed_front_lines, labelled_mixed_text}
+use Rattle.rtk_commands.specs.declared.any_table.AnyTable.{AnyTable}
+use Rattle.rtk_commands.specs.declared.any_table.AnyTable.TheVariants.{Gps, Mixed}
+
+-- a file, by its table
+pub data FileTable : Type 0 where
+  OfGps : (t : WellFormedTable) → FileTable
+  OfSystems : (t : MixedTable) → FileTable
+
+-- formula
+-- the table is well-formed; a file of GPS alone is one of GPS
+abbrev pub IsFileTable : FileTable → Type 0
+IsFileTable (OfGps t) = IsWellFormedTable t
+IsFileTable (OfSystems t) = IsMixedTable t × (version_letter t.head.listed ≢ 71)
+
+abbrev pub file_text : FileTable → List ℕ
+file_text (OfGps t) = table_text t
+file_text (OfSystems t) = mixed_table_text t
+
+abbrev pub file_site : FileTable → PositionView
+file_site (OfGps t) = t.site
+file_site (OfSystems t) = t.site
+
+abbrev pub file_epochs : FileTable → List EpochTableView
+file_epochs (OfGps t) = t.epochs
+file_epochs (OfSystems t) = t.epochs
+
+-- the file with a label
+abbrev pub labelled_file : LabelView → FileTable → List ℕ
+labelled_file l (OfGps t) = labelled_text l t
+labelled_file l (OfSystems t) = labelled_mixed_text l t
+
+-- its lines that a label changes
+abbrev pub file_front : LabelView → FileTable → List ℕ
+file_front l (OfGps t) = front_lines l t.head t.site
+file_front l (OfSystems t) = mixed_front_lines l t.head t.site
+
+-- ---- texts
+
+-- the text is that of a file
+abbrev pub IsTextOfSomeFile : List ℕ → Type 0
+IsTextOfSomeFile text = (f : FileTable) × IsFileTable f × (text ≡ file_text f)
+
+-- the text is that of a file with so many records and satellite lines
+abbrev pub HoldsFile : List ℕ → ℕ → ℕ → Type 0
+HoldsFile text records lines =
+    (f : FileTable) × IsFileTable f × (text ≡ file_text f) × (length (file_epochs f) ≡ records) × (satellite_lines (file_epochs f) ≡ lines)
+
+-- the text is that of no file
+abbrev pub IsTextOfNoFile : List ℕ → Type 0
+IsTextOfNoFile text = (f : FileTable) → IsFileTable f → text ≢ file_text f
+
+-- formula
+-- the letter of the system in the first line, column 41 (RINEX 3.05, Table A2)
+abbrev pub letter_in : List ℕ → ℕ
+letter_in text = get_or text 40 0
+
+-- formula
+-- the first fault of a text: with the letter of GPS that of a file of GPS, and else that of a file of any
+-- systems (this project's rule)
+abbrev pub IsFaultOfFile : List ℕ → CheckFault → Type 0
+IsFaultOfFile text fault = ((letter_in text ≡ 71) × IsFault text fault) ⊎ ((letter_in text ≢ 71) × IsMixedFault text fault)
+
+-- ---- a table in its text
+
+abbrev pub text_of : AnyTable → List ℕ
+text_of (Gps table) = table.text
+text_of (Mixed table) = table.text
+
+-- its letter says which it is
+abbrev pub HasItsLetter : AnyTable → Type 0
+HasItsLetter (Gps table) = letter_in table.text ≡ 71
+HasItsLetter (Mixed table) = letter_in table.text ≢ 71
+
+abbrev pub records_of : AnyTable → ℕ
+records_of (Gps table) = table.epochs
+records_of (Mixed table) = table.epochs
+
+abbrev pub lines_of : AnyTable → ℕ
+lines_of (Gps table) = table.satellites
+lines_of (Mixed table) = table.satellites

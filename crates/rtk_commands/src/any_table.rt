@@ -1,0 +1,166 @@
+//! A table in its text, of GPS alone or with other systems.
+
+ghost use Rattle.std.specs.Prelude.{◌≡◌, ◌≢◌, Err, IfOk, OnOk, OnErr, IfErr, IsErrOf};
+ghost use Rattle.rtk_frame.specs.Stream.{CountRises};
+ghost use Rattle.rtk_cut.specs.Cut.{IsStepOrNone};
+ghost use Rattle.rtk_cut.specs.declared.fault.CutFault.TheVariants.{Write};
+ghost use Rattle.rtk_commands.specs.FileTable.{IsTextOfSomeFile, HoldsFile, IsTextOfNoFile, IsFaultOfFile, letter_in, text_of, records_of, lines_of, HasItsLetter};
+ghost use Rattle.rtk_commands.specs.CutInput.{WritesPartOfFile, WritesFirstOfPartOfFile, CountsPartOfFile};
+ghost use Rattle.rtk_commands.specs.LabelInput.{TellsIsFor, IsForFile, WritesLabelledFile, WritesFirstLabelledFile, WritesFrontOfFile, WritesFirstOfFrontOfFile};
+
+use rtk_cut::{CutCounts, CutFault, Part, cut, cut_mixed};
+use rtk_frame::{Sink, StreamFault};
+use rtk_label::{
+    Label, is_for, is_for_mixed, write_front, write_front_mixed, write_labelled,
+    write_labelled_mixed,
+};
+use rtk_rinex::{CheckFault, MixedTextTable, TextTable, check_mixed_text, check_text};
+use std::alloc::Global;
+
+/// A well-formed table in its text.
+#[derive(Drop)]
+pub(crate) enum AnyTable<'a> {
+    /// Of GPS alone.
+    Gps(TextTable<'a>),
+    /// With other systems.
+    Mixed(MixedTextTable<'a>),
+}
+
+// The letter of the system in the first line of a text; 0 if the text is shorter.
+fn letter(text: &[u8]) -> u8
+    ensures { result ≡ letter_in text.now }
+{
+    text.get(40).copied().unwrap_or_default()
+}
+
+fn check_gps(text: &[u8]) -> Result<AnyTable<'_>, CheckFault>
+    requires { letter_in text.now ≡ 71 }
+    ensures text { IfOk result (λ table. text_of table ≡ text.now) }
+    ensures letter { IfOk result HasItsLetter }
+    ensures table { OnOk result (IsTextOfSomeFile text.now) }
+    ensures counts { IfOk result (λ table. HoldsFile text.now (records_of table) (lines_of table)) }
+    ensures fault { IfErr result (IsFaultOfFile text.now) }
+    ensures none { OnErr result (IsTextOfNoFile text.now) }
+{
+    match check_text(text) {
+        Ok(table) => Ok(AnyTable::Gps(table)),
+        Err(fault) => Err(fault),
+    }
+}
+
+fn check_mixed(text: &[u8]) -> Result<AnyTable<'_>, CheckFault>
+    requires { letter_in text.now ≢ 71 }
+    ensures text { IfOk result (λ table. text_of table ≡ text.now) }
+    ensures letter { IfOk result HasItsLetter }
+    ensures table { OnOk result (IsTextOfSomeFile text.now) }
+    ensures counts { IfOk result (λ table. HoldsFile text.now (records_of table) (lines_of table)) }
+    ensures fault { IfErr result (IsFaultOfFile text.now) }
+    ensures none { OnErr result (IsTextOfNoFile text.now) }
+{
+    match check_mixed_text(text) {
+        Ok(table) => Ok(AnyTable::Mixed(table)),
+        Err(fault) => Err(fault),
+    }
+}
+
+/// Returns the table of a text, or the first line that is wrong.
+pub(crate) fn check_any(text: &[u8]) -> Result<AnyTable<'_>, CheckFault>
+    ensures text { IfOk result (λ table. text_of table ≡ text.now) }
+    ensures letter { IfOk result HasItsLetter }
+    ensures table { OnOk result (IsTextOfSomeFile text.now) }
+    ensures counts { IfOk result (λ table. HoldsFile text.now (records_of table) (lines_of table)) }
+    ensures fault { IfErr result (IsFaultOfFile text.now) }
+    ensures none { OnErr result (IsTextOfNoFile text.now) }
+{
+    if letter(text) == b'G' {
+        return check_gps(text);
+    }
+    check_mixed(text)
+}
+
+impl AnyTable<'_> {
+    /// How many records the table has.
+    pub(crate) fn epochs(&self) -> usize
+        ensures { result ≡ records_of self.now }
+    {
+        match self {
+            AnyTable::Gps(table) => table.epochs(),
+            AnyTable::Mixed(table) => table.epochs(),
+        }
+    }
+
+    /// How many satellite lines the records of the table have.
+    pub(crate) fn satellites(&self) -> usize
+        ensures { result ≡ lines_of self.now }
+    {
+        match self {
+            AnyTable::Gps(table) => table.satellites(),
+            AnyTable::Mixed(table) => table.satellites(),
+        }
+    }
+
+    /// Is a label for this file?
+    pub(crate) fn is_for(&self, label: &Label) -> bool
+        requires { HasItsLetter self.now }
+        ensures { TellsIsFor label.now (text_of self.now) result }
+    {
+        match self {
+            AnyTable::Gps(table) => is_for(label, table),
+            AnyTable::Mixed(table) => is_for_mixed(label, table),
+        }
+    }
+
+    /// Writes the file with a label.
+    pub(crate) fn write_labelled<W: Sink>(
+        &self,
+        label: &Label,
+        out: &mut W,
+    ) -> Result<(), StreamFault>
+        requires letter { HasItsLetter self.now }
+        requires is_for { IsForFile label.now (text_of self.now) }
+        ensures all { OnOk result (WritesLabelledFile (text_of self.now) label.now (W.taken out.old) (W.taken out.new)) }
+        ensures first { OnErr result (WritesFirstLabelledFile (text_of self.now) label.now (W.taken out.old) (W.taken out.new)) }
+        ensures write_failed { OnErr result (CountRises (W.failures out.old) (W.failures out.new)) }
+        ensures no_failed_write { OnOk result (W.failures out.new ≡ W.failures out.old) }
+    {
+        match self {
+            AnyTable::Gps(table) => write_labelled(label, table, out),
+            AnyTable::Mixed(table) => write_labelled_mixed(label, table, out),
+        }
+    }
+
+    /// Writes only the lines that a label changes.
+    pub(crate) fn write_front<W: Sink>(&self, label: &Label, out: &mut W) -> Result<(), StreamFault>
+        requires { HasItsLetter self.now }
+        ensures all { OnOk result (WritesFrontOfFile (text_of self.now) label.now (W.taken out.old) (W.taken out.new)) }
+        ensures first { WritesFirstOfFrontOfFile (text_of self.now) label.now (W.taken out.old) (W.taken out.new) }
+        ensures write_failed { OnErr result (CountRises (W.failures out.old) (W.failures out.new)) }
+        ensures no_failed_write { OnOk result (W.failures out.new ≡ W.failures out.old) }
+    {
+        match self {
+            AnyTable::Gps(table) => write_front(label, table, out),
+            AnyTable::Mixed(table) => write_front_mixed(label, table, out),
+        }
+    }
+
+    /// Writes a part of the file.
+    pub(crate) fn cut<W: Sink>(
+        &self,
+        alloc: Global,
+        part: Part,
+        out: &mut W,
+    ) -> Result<CutCounts, CutFault>
+        requires letter { HasItsLetter self.now }
+        requires step { IsStepOrNone part.every }
+        ensures all { OnOk result (WritesPartOfFile (text_of self.now) part (W.taken out.old) (W.taken out.new)) }
+        ensures counts { IfOk result (CountsPartOfFile (text_of self.now) part) }
+        ensures first { OnErr result (WritesFirstOfPartOfFile (text_of self.now) part (W.taken out.old) (W.taken out.new)) }
+        ensures write_failed { IsErrOf result Write → CountRises (W.failures out.old) (W.failures out.new) }
+        ensures no_failed_write { result ≢ Err Write → W.failures out.new ≡ W.failures out.old }
+    {
+        match self {
+            AnyTable::Gps(table) => cut(alloc, table, part, out),
+            AnyTable::Mixed(table) => cut_mixed(alloc, table, part, out),
+        }
+    }
+}

@@ -1,0 +1,15 @@
+use Rattle.std.proofs.Common.{◌≡◌, length}
+use Rattle.rtk_rinex.specs.Record.{EpochTableView}
+use Rattle.rtk_cut.specs.Steps.MixedFile.{IsRecordIn}
+use Rattle.rtk_cut.proofs.MixedFileLemmas.{HasCleared}
+use Rattle.rtk_cut.proofs.mixed_file.clear_marks.Given as goal
+
+abbrev pub invariant-loop-satellite : goal.invariant-loop-satellite
+invariant-loop-satellite l = record {
+  size : length l.marks ≡ length l.fn.marks;
+  room : length l.shown ≡ 16;
+  so_far : (e : EpochTableView) → IsRecordIn l.read e → HasCleared l.fn.marks l.marks l.is_changed e.rows l.rows;
+}
+
+abbrev pub decreases-loop-satellite : goal.decreases-loop-satellite
+decreases-loop-satellite l = l.rows.count

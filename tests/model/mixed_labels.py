@@ -1,0 +1,94 @@
+"""Mixed files with the fields of a label, some of them changed behind the lines of the fields.
+
+    mixed_labels.py FOLDER COUNT    writes FOLDER/stdin with so many texts as hex text, a line each, and FOLDER/stdout with what
+                                    tests/values/labels.rt.in is due to print of them
+"""
+
+from __future__ import annotations
+
+import sys
+from pathlib import Path
+from random import Random
+from typing import NamedTuple
+
+from mixed_checker import mixed_fault
+from mixed_damages import damaged_mixed
+from mixed_files import header_line
+from mixed_parts import some_file
+
+SEED = 7373
+SOLID = [chr(it) for it in range(0x21, 0x7F)]
+
+
+class Fields(NamedTuple):
+    """The fields of a label by their lines, as they stand in their columns; the marker's number has a line of its own."""
+
+    run_by: str
+    number: str
+    observer: str
+    receiver: str
+    antenna: str
+    offsets: list[str]
+
+
+def some_field(rng: Random, width: int) -> str:
+    """No field, or printable characters that neither begin nor end with a blank, in this width."""
+    count = rng.choice((0, 0, 1, 2, width, rng.randint(1, width)))
+    inner = "".join(rng.choices([*SOLID, " "], k=max(count - 2, 0)))
+    return "".join(rng.choices(SOLID, k=min(count, 1)) + [inner] + rng.choices(SOLID, k=count > 1)).ljust(width)
+
+
+def some_offset(rng: Random, is_free: bool) -> str:
+    """No offset, or a sign, one to four digits, a point and four digits."""
+    digits = f"{rng.randrange(10 ** rng.randint(1, 4))}.{rng.randrange(10_000):04}"
+    return rng.choice(("", "+" + digits, "-" + digits)) if is_free else ""
+
+
+def some_fields(rng: Random, has_height: bool) -> Fields:
+    texts = ["".join(some_field(rng, width) for width in widths) for widths in ((20,), (20,), (20, 40), (20, 20, 20), (20, 20))]
+    offsets = [some_offset(rng, is_free) for is_free in (not has_height, True, True)]
+    return Fields(*texts, offsets)
+
+
+def labelled(front: list[str], fields: Fields) -> list[str]:
+    """The first nine lines of a file with these fields."""
+    columns = [front[8][at : at + 14] for at in (0, 14, 28)]
+    offsets = "".join(f"{new:>14}" if new else old for new, old in zip(fields.offsets, columns))
+    return [
+        front[0],
+        front[1][:20] + fields.run_by + front[1][40:],
+        front[2],
+        *([header_line(fields.number, "MARKER NUMBER")] if fields.number.strip() else []),
+        front[3],
+        header_line(fields.observer, "OBSERVER / AGENCY"),
+        header_line(fields.receiver, "REC # / TYPE / VERS"),
+        header_line(fields.antenna, "ANT # / TYPE"),
+        front[7],
+        offsets + front[8][42:],
+    ]
+
+
+def some_text(rng: Random) -> tuple[bytes, str]:
+    """A text, and what is due to be printed of it."""
+    lines = some_file(rng)[0].splitlines()
+    front, rest = lines[:9], "".join(f"{line}\n" for line in lines[9:]).encode()
+    fields = some_fields(rng, float(front[8][:14]) != 0)
+    rest = damaged_mixed(rng, rest) if rng.random() < 0.7 else rest
+    plain, text = ("".join(f"{line}\n" for line in its).encode() + rest for its in (front, labelled(front, fields)))
+    fault = mixed_fault(plain)
+    if fault is None:
+        return text, f"again\n{plain.decode()}"
+    line = fault[0] + (fault[0] > 3 and bool(fields.number.strip()))
+    return text, f"line {line}: {fault[1]}\n"
+
+
+def main() -> None:
+    folder, count = Path(sys.argv[1]), int(sys.argv[2])
+    rng = Random(SEED)
+    texts = [some_text(rng) for _ in range(count)]
+    (folder / "stdin").write_text("".join(f"{text.hex()}\n" for text, _ in texts))
+    (folder / "stdout").write_text("".join(due for _, due in texts))
+
+
+if __name__ == "__main__":
+    main()

@@ -1,0 +1,84 @@
+"""Mixed files that chance makes, and parts of them.
+
+    mixed_parts.py FOLDER COUNT    writes FOLDER/stdin with so many files as hex text, a line each, with a span and a step, and
+                                   FOLDER/stdout with what tests/values/parts.rt.in is due to print of them
+"""
+
+from __future__ import annotations
+
+import sys
+from datetime import datetime
+from pathlib import Path
+from random import Random
+
+from mixed_files import MixedSetup, record
+from mixed_tables import MixedTable, some_header, some_setup, some_shown
+from model import civil, moment
+from parts import END, MS, START, Part, part_of
+from systems import GLONASS, LETTERS, SATELLITES
+
+SEED = 5252
+NOON = moment("2024-05-17T12:00:00")
+STEPS = (1, 1, 5, 10, 15)  # in s
+
+
+def some_part(rng: Random, step: int, times: list[int]) -> Part:
+    """A step that some of these times are on, and perhaps a span that begins or ends near one of them."""
+    half = len(times) // 2
+    near = [rng.choice(some) // 1000 * 1000 + rng.choice((-1000, 0, 1000)) for some in (times[: half + 1], times[half:])]
+    ends = [rng.choice((None, None, end)) for end in near]
+    since, until = (None if end is None else START + end * MS for end in ends)
+    return Part(since, until, rng.choice((None, step, 2 * step, 3 * step, 3 * step, 4 * step, 6 * step)))
+
+
+def some_records(rng: Random, step: int, setup: MixedSetup) -> tuple[list[int], list[str]]:
+    """Records of the same few satellites, so that their slips go on, and the times of those that have a line."""
+    names = [name for name in SATELLITES if name[0] in setup.codes]
+    chosen = sorted(rng.sample(names, min(len(names), rng.choice((1, 2, 3, 8)))))
+    time = NOON + 1000 * step * rng.randrange(6)
+    times, lines = [], []
+    for _ in range(rng.choice((0, 1, 6, 12, 12, 24))):
+        epoch = {}
+        for name in chosen:
+            has_channel = name[0] != GLONASS.letter or int(name[1:]) in setup.channels
+            if rng.random() < 0.8:
+                epoch[name] = {code: some_shown(rng, has_channel) for code in setup.codes[name[0]] if rng.random() < 0.8}
+        near = time + rng.choice((0, 0, 0, 0, 1, 24, 25, 26, -25))
+        more = record(setup, near, epoch)
+        times += [near] if more else []
+        lines += more
+        time += 1000 * step * rng.choice((1, 1, 1, 2))
+    return times, lines
+
+
+def some_file(rng: Random) -> tuple[str, Part]:
+    """A file, and a part of it."""
+    setup, step = some_setup(rng, LETTERS), rng.choice(STEPS)
+    times, lines = some_records(rng, step, setup)
+    first = times[0] if times else NOON
+    table = MixedTable(some_header(rng, setup, first), lines)
+    return table.text.decode(), some_part(rng, step, times or [NOON])
+
+
+def word(time: datetime | None) -> str:
+    return "-" if time is None else str((time - START) // MS)
+
+
+def counts(text: str) -> int:
+    return sum(line.startswith(">") for line in text.partition(END)[2].splitlines())
+
+
+def main() -> None:
+    folder, count = Path(sys.argv[1]), int(sys.argv[2])
+    rng = Random(SEED)
+    files = [some_file(rng) for _ in range(count)]
+    assert civil(NOON)
+    asked = [f"{text.encode().hex()} {word(part.since)} {word(part.until)} {part.every or '-'}\n" for text, part in files]
+    parts = [part_of(text, part) for text, part in files]
+    due = [f"{counts(text)} {counts(part)}\n{part}" for (text, _), part in zip(files, parts)]
+    (folder / "stdin").write_text("".join(asked))
+    (folder / "stdout").write_text("".join(due))
+
+
+if __name__ == "__main__":
+    main()
