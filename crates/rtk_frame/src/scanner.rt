@@ -152,6 +152,14 @@ impl Scanner {
         }
     }
 
+    /// Returns how many bytes are pending. Directly after `Found` these are the bytes that were fed
+    /// behind the frame.
+    pub fn pending_len(&self) -> usize
+        ensures { result ≡ length self.now.pending }
+    {
+        self.ring.len() - self.passed
+    }
+
     /// Returns whether `rest` was called.
     pub fn ended(&self) -> bool
         ensures { result ≡ self.now.ended }

@@ -1,11 +1,11 @@
 //! The epochs of a station in a capture, and what the capture tells of the first of them.
 
 ghost use Rattle.std.specs.Prelude.{◌≡◌};
-ghost use Rattle.rtk_survey.specs.CaptureDates.{no_dates, with_tellings, with_waiting, with_epoch_time, with_date};
+ghost use Rattle.rtk_survey.specs.CaptureDates.{no_dates, with_tellings, with_waiting, with_epoch_time, with_date, first_by_own, is_first_told};
 
 use crate::date_message::DateMessage;
 use crate::span::Span;
-use crate::tellings::Tellings;
+use crate::tellings::{Tellings, first_epoch_told};
 use arrayvec::ArrayVec;
 use rtk_obs::GpsMs;
 
@@ -75,6 +75,34 @@ impl CaptureDates {
         match &self.span {
             None => self.wait(message),
             Some(span) => self.told.take(now, station, span, &message),
+        }
+    }
+
+    /// The first epoch that a message tells, if it is a 1013 or a 1029 of this station and an epoch came.
+    pub(crate) fn first_by_own(
+        &self,
+        now: GpsMs,
+        station: u16,
+        message: &DateMessage,
+    ) -> Option<u64>
+        ensures { result ≡ first_by_own now station self.now message.now }
+    {
+        let span = self.span?;
+        match message {
+            DateMessage::Utc(date) if date.station == station => {
+                first_epoch_told(now, &span, message)
+            }
+            _ => None,
+        }
+    }
+
+    /// Is this the first epoch that the 1013 and 1029 of the station tell first, as far as they came?
+    pub(crate) fn is_first_told(&self, first: u64) -> bool
+        ensures { result ≡ is_first_told self.now.told.own.items first }
+    {
+        match self.told.own.as_slice().first() {
+            Some(told) => told.first == first,
+            None => true,
         }
     }
 }

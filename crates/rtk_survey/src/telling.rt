@@ -56,6 +56,13 @@ pub fn is_date(date: UtcDate) -> bool
     EARLIEST_DAY <= date.day && u64::from(date.second) <= LAST_SECOND
 }
 
+/// Is it a date that is still to come: is its day more than one after that of now?
+pub(crate) fn is_to_come(now: GpsMs, date: UtcDate) -> bool
+    ensures { result ≡ spec.is_to_come now date }
+{
+    is_date(date) && !is_possible(now, date)
+}
+
 // Is it a date, and none that is still to come?
 fn is_possible(now: GpsMs, date: UtcDate) -> bool
     ensures { result ≡ spec.is_possible now date }

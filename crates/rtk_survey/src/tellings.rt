@@ -56,8 +56,8 @@ fn first_epoch_from(span: &Span, last: u64) -> Option<u64>
     }
 }
 
-// The first epoch that a message tells after these epochs.
-fn first_epoch_told(now: GpsMs, span: &Span, message: &DateMessage) -> Option<u64>
+/// The first epoch that a message tells after these epochs.
+pub(crate) fn first_epoch_told(now: GpsMs, span: &Span, message: &DateMessage) -> Option<u64>
     ensures { result ≡ first_epoch_told now span.now message.now }
 {
     let last = told(now, message, span.last_time_of_week())?;
