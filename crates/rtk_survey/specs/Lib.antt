@@ -12,11 +12,13 @@ pub mod FrameDates
 pub mod FrameEquipment
 pub mod Look
 pub mod NumberLaws
+pub mod Parting
 pub mod Phases
 pub mod Placing
 pub mod Proposal
 pub mod ReadFrames
 pub mod ReferencePoints
+pub mod Sbas
 pub mod Steps
 pub mod Summary
 pub mod SummaryText

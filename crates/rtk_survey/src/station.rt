@@ -1,7 +1,6 @@
 //! What a capture tells of one station.
 
 ghost use Rattle.std.specs.Prelude.{◌≡◌, List, [], ◌∷◌, OnOk};
-ghost use Rattle.rtk_message.specs.AnyDecoded.{number_of};
 ghost use Rattle.rtk_message.specs.declared.any_message.AnyMessage.{AnyMessage};
 ghost use Rattle.rtk_survey.specs.Contents.{equipment_at, CountsMessages, HasCodes, IsStationOf};
 ghost use Rattle.rtk_survey.specs.EquipmentHistory.{no_equipment, with_message};
@@ -18,6 +17,7 @@ use crate::equipment::Equipment;
 use crate::equipment_message::EquipmentMessage;
 use crate::msm_parts::MsmParts;
 use crate::reference_point::{ReferencePoint, first_point_with};
+use crate::sbas::has_sbas;
 use crate::signals::{Codes, Signals};
 use crate::station_dates::StationDates;
 use crate::times_of_week::Times;
@@ -33,6 +33,8 @@ pub struct MessageCounts {
     pub obs_1004: u64,
     pub arp_1005: u64,
     pub arp_1006: u64,
+    /// The 1004 that have a satellite of SBAS.
+    pub sbas_1004: u64,
 }
 
 /// What one capture tells of a station that was heard in it.
@@ -62,18 +64,20 @@ impl MessageCounts {
             obs_1004: 0,
             arp_1005: 0,
             arp_1006: 0,
+            sbas_1004: 0,
         }
     }
 
     /// Counts a message under its number.
-    pub fn count_number(&mut self, number: u16)
-        ensures { (ms : List AnyMessage) (m : AnyMessage) → number ≡ number_of m
-            → CountsMessages self.old ms → CountsMessages self.new (m ∷ ms) }
+    pub fn count_message(&mut self, message: &AnyMessage)
+        ensures { (ms : List AnyMessage) → CountsMessages self.old ms → CountsMessages self.new (message.now ∷ ms) }
     {
+        let number = message.number();
         self.messages = count_if(self.messages, true);
         self.obs_1004 = count_if(self.obs_1004, number == 1004);
         self.arp_1005 = count_if(self.arp_1005, number == 1005);
         self.arp_1006 = count_if(self.arp_1006, number == 1006);
+        self.sbas_1004 = count_if(self.sbas_1004, has_sbas(message));
     }
 }
 
@@ -116,7 +120,7 @@ impl StationSurvey {
         ensures { (ms : List AnyMessage) (d : StationDates) (e : Equipment) → IsStationOf ms d e self.old
             → IsStationOf (message.now ∷ ms) d e self.new }
     {
-        self.counts.count_number(message.number());
+        self.counts.count_message(message);
         self.times.note_message(message);
         self.signals.mark_entries(entries);
         self.msm.add_message(message, entries, codes);
