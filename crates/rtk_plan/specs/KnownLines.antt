@@ -35,11 +35,18 @@ abbrev pub is_undated : StationCapture → Bool
 is_undated c = is_some c.span && is_none c.told
 
 -- formula
--- how many messages were late, if some were; the window is the number of epochs that are kept open
-unfoldable pub late_count_line : ℕ → ℕ → List ℕ
-late_count_line late window =
+-- how many late messages came on a link with a stray epoch, if some did
+abbrev pub late_by_stray : ℕ → List ℕ
+late_by_stray count = if count == 0 then [] else codes ", " ++ decimal count ++ codes " of them on a link with the stray epoch"
+
+-- formula
+-- how many messages were late, if some were, and how many of them on a link with a stray epoch; the window is the
+-- number of epochs that are kept open
+unfoldable pub late_count_line : ℕ → ℕ → ℕ → List ℕ
+late_count_line late by_stray window =
     if late == 0 then [] else
-    codes " late " ++ decimal late ++ codes ": messages after " ++ decimal window ++ codes " newer epochs are left out\n"
+    codes " late " ++ decimal late ++ codes ": messages after " ++ decimal window ++ codes " newer epochs are left out"
+    ++ late_by_stray by_stray ++ codes "\n"
 
 -- formula
 -- how many conflicts there were, if there were some
@@ -50,5 +57,5 @@ conflicts_line conflicts =
 
 -- formula
 -- what was known before the conversion, and between it the line of late messages
-unfoldable pub known_lines : Known → ℕ → List ℕ
-known_lines k late = k.first.items ++ late_count_line late k.window ++ k.last.items
+unfoldable pub known_lines : Known → ℕ → ℕ → List ℕ
+known_lines k late by_stray = k.first.items ++ late_count_line late by_stray k.window ++ k.last.items

@@ -16,6 +16,7 @@ pub mod SaidCommand
 pub mod SpanLine
 pub mod StationCaptures
 pub mod Steps
+pub mod Stray
 pub mod TextsLeftOut
 pub mod ToldLabel
 pub mod Values

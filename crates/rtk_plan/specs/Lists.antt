@@ -1,5 +1,5 @@
 -- The lines that list what a refusal or a warning speaks of (this project's rule).
-use Rattle.std.specs.Prelude.{ℕ, ◌==◌, List, [], ◌∷◌, ◌++◌, length, nat_lt, flat_map, codes, decimal, Option, None, Some, if◌then◌else◌}
+use Rattle.std.specs.Prelude.{ℕ, ◌+◌, ◌==◌, List, [], ◌∷◌, ◌++◌, length, nat_lt, flat_map, codes, decimal, Option, None, Some, if◌then◌else◌}
 use Rattle.std.specs.List.{range_with_len}
 use Rattle.rtk_message.specs.declared.msm_kind.MsmKind.{MsmKind}
 use Rattle.rtk_message.specs.declared.msm_kind.MsmKind.TheVariants.{Msm4, Msm5, Msm6, Msm7}
@@ -8,8 +8,11 @@ use Rattle.rtk_message.specs.ShellText.{sh_quoted}
 use Rattle.rtk_survey.specs.declared.survey.CaptureSurvey.{CaptureSurvey}
 use Rattle.rtk_plan.specs.ChosenStation.{observes}
 use Rattle.rtk_plan.specs.StationCaptures.{epochs_heard, station_in}
-use Rattle.rtk_plan.specs.Values.{messages_in_captures, others_in_captures}
+use Rattle.rtk_plan.specs.Values.{messages_in_captures, others_in_captures, sbas_in_captures}
 use Rattle.rtk_obs.specs.declared.time.TheConstants.{LAST_MS}
+use Rattle.rtk_survey.specs.Telling.{moment_of}
+use Rattle.rtk_survey.specs.declared.date_message.DateMessage.TheVariants.{Utc}
+use Rattle.rtk_survey.specs.declared.date_message.UtcDate.{UtcDate}
 use Rattle.rtk_survey.specs.declared.tellings.Told.{Told}
 use Rattle.rtk_plan.specs.SaidCommand.{time_text}
 use Rattle.rtk_plan.specs.SpanLine.{date_message_text}
@@ -151,3 +154,34 @@ station_line s station name =
     if observes station s then
     codes " station " ++ decimal station ++ words_and_name (codes " in ") name ++ epochs_text (epochs_heard (station_in station s))
     else []
+
+-- formula
+-- the 1004 of a station that have satellites of SBAS
+abbrev pub sbas_line : List CaptureSurvey → ℕ → List ℕ
+sbas_line ss station = count_line_of (codes " not in the file: SBAS of ") 1004 (sbas_in_captures ss station)
+
+-- formula
+-- a date that is to come, and its capture
+abbrev pub to_come_line : UtcDate → List ℕ → List ℕ
+to_come_line d name =
+    codes " " ++ time_text (moment_of d) ++ date_message_text (Utc d) ++ words_and_name (codes " in ") name
+    ++ codes ": it is after the time of making\n"
+
+-- formula
+-- a stray epoch, and its capture
+abbrev pub stray_line : ℕ → List ℕ → List ℕ
+stray_line epoch name = words_and_name (codes " stray ") name ++ codes " " ++ time_text epoch ++ line_end
+
+-- formula
+-- a command that takes a part of a capture to a file, which is named after the capture
+abbrev pub part_command : List ℕ → ℕ → List ℕ → List ℕ → List ℕ
+part_command command bytes name end =
+    command ++ decimal bytes ++ words_and_name (codes " ") name ++ words_and_name (codes " >") name ++ end
+
+-- formula
+-- the byte at which the second date of a capture begins, and the commands that part it there
+abbrev pub parting_text : List ℕ → ℕ → List ℕ
+parting_text name byte =
+    words_and_name (codes " ") name ++ codes ": the second date begins at byte " ++ decimal byte
+    ++ codes "; these commands part it there:\n"
+    ++ part_command (codes "head -c ") byte name (codes ".1\n") ++ part_command (codes "tail -c +") (byte + 1) name (codes ".2\n")

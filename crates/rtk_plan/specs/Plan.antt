@@ -10,7 +10,7 @@ use Rattle.rtk_survey.specs.Placing.{second_of}
 use Rattle.rtk_survey.specs.declared.placing.Placed.{Placed}
 use Rattle.rtk_survey.specs.declared.survey.CaptureSurvey.{CaptureSurvey}
 use Rattle.rtk_plan.specs.ChosenStation.{IsObservedStation, IsOnlyObserved}
-use Rattle.rtk_plan.specs.Reach.{least_of_captures, placed_if_any, reach_after, is_out_of_reach}
+use Rattle.rtk_plan.specs.Reach.{least_told, placed_if_any, reach_after, is_out_of_reach}
 use Rattle.rtk_plan.specs.declared.station_capture.StationCapture.{StationCapture}
 use Rattle.rtk_plan.specs.declared.reach.Base.{Base}
 use Rattle.rtk_plan.specs.declared.reach.Base.TheVariants.{Given, Told}
@@ -41,7 +41,7 @@ marker_chosen (Some named) station = named
 
 -- the moment near which captures are dated: the one that is given; else the least first epoch that they tell
 abbrev pub IsBaseOf : Option ℕ → List StationCapture → Base → Type 0
-IsBaseOf None cs base = (least : ℕ) × (least_of_captures None cs ≡ Some least) × (base ≡ Told least)
+IsBaseOf None cs base = (least : ℕ) × (least_told cs ≡ Some least) × (base ≡ Told least)
 IsBaseOf (Some near) cs base = base ≡ Given near
 
 -- the epochs of captures that are dated near a base have this reach

@@ -20,6 +20,19 @@ abbrev pub least_of_captures : Option ℕ → List StationCapture → Option ℕ
 least_of_captures least [] = least
 least_of_captures least (c ∷ cs) = least_of_captures (least_with_if_any least (moment_told c.told)) cs
 
+-- the least moment that captures without an epoch name, if one does
+abbrev pub least_of_moments : Option ℕ → List StationCapture → Option ℕ
+least_of_moments least [] = least
+least_of_moments least (c ∷ cs) = least_of_moments (least_with_if_any least (moment_told c.moment)) cs
+
+abbrev pub or_least_moment : Option ℕ → List StationCapture → Option ℕ
+or_least_moment None cs = least_of_moments None cs
+or_least_moment (Some first) cs = Some first
+
+-- the least first epoch that captures tell; if none tells one, the least moment that one without an epoch names
+abbrev pub least_told : List StationCapture → Option ℕ
+least_told cs = or_least_moment (least_of_captures None cs) cs
+
 -- ---- the epochs with their dates
 
 abbrev pub base_moment : Base → ℕ

@@ -87,6 +87,14 @@ messages_of_station kind (Some t) = (msm_part t.msm kind).messages
 abbrev pub messages_in_captures : List CaptureSurvey → ℕ → MsmKind → ℕ
 messages_in_captures ss n kind = shown_count (sum_by (λ s. messages_of_station kind (station_in n s)) ss)
 
+abbrev pub sbas_of_station : Option StationSurvey → ℕ
+sbas_of_station None = 0
+sbas_of_station (Some t) = t.counts.sbas_1004
+
+-- how many 1004 of a station captures have in which there is a satellite of SBAS
+abbrev pub sbas_in_captures : List CaptureSurvey → ℕ → ℕ
+sbas_in_captures ss n = shown_count (sum_by (λ s. sbas_of_station (station_in n s)) ss)
+
 -- how many messages of a number that is not read captures have
 abbrev pub others_in_captures : List CaptureSurvey → ℕ → ℕ
 others_in_captures ss number = shown_count (sum_by (λ s. count_at s.contents.unread.others number) ss)

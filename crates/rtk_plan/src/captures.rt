@@ -3,8 +3,9 @@
 use crate::chosen_station::STATIONS;
 use crate::lists::{
     put_capture_line, put_date_line, put_held, put_name_line, put_reach_line, put_station_line,
+    put_to_come_line,
 };
-use crate::station_capture::{StationCapture, epochs_heard, told_in};
+use crate::station_capture::{StationCapture, epochs_heard, to_come_in, told_in};
 use rtk_survey::{CaptureSurvey, Placed};
 use std::alloc::{AllocError, Global};
 
@@ -63,6 +64,17 @@ impl<'n> Captures<'_, 'n> {
         let mut lines = Vec::new(alloc);
         for station in 0..STATIONS {
             self.put_station_lines(&mut lines, station)?;
+        }
+        Ok(lines)
+    }
+
+    /// A line for each capture with a date that is to come.
+    pub(crate) fn list_to_come(&self, alloc: Global) -> Result<Vec<u8>, AllocError> {
+        let mut lines = Vec::new(alloc);
+        for (place, survey) in self.surveys.iter().enumerate() {
+            if let Some(date) = to_come_in(survey) {
+                put_to_come_line(&mut lines, date, self.name(place))?;
+            }
         }
         Ok(lines)
     }

@@ -1,8 +1,8 @@
 //! The dates of the captures that are converted.
 
-ghost use Rattle.std.specs.Prelude.{◌≡◌, ◌<◌, false, map, IfOk, IfErr};
+ghost use Rattle.std.specs.Prelude.{◌≡◌, ◌<◌, true, false, None, map, IfOk, IfErr, IfSome};
 ghost use Rattle.std.specs.List.{list_any};
-ghost use Rattle.rtk_plan.specs.Causes.{IfRefused, IsReachCause, IsDatingCause, has_several_dates, has_week, is_dated_by_week, is_dated_by_day, is_told_later, have_week_and_day};
+ghost use Rattle.rtk_plan.specs.Causes.{IfRefused, IsReachCause, IsDatingCause, IsPartedAt, has_several_dates, has_week, is_dated_by_week, is_dated_by_day, is_told_later, have_week_and_day};
 ghost use Rattle.rtk_plan.specs.Plan.{IsBaseOf, IsReachOf, IsNearOf, ArePlaced, some_out_of_reach};
 ghost use Rattle.rtk_plan.specs.Reach.{placed_if_any};
 ghost use Rattle.rtk_obs.specs.declared.time.TheConstants.{LAST_MS};
@@ -14,6 +14,7 @@ use crate::reach::{Base, is_out_of_reach, least_told, near_of, place_captures, r
 use crate::refusal::{PlanFault, Refusal, refused};
 use crate::span_line::{DateSource, DatedSpan};
 use crate::station_capture::StationCapture;
+use crate::stray::strays;
 use rtk_convert::Reference;
 use rtk_obs::{GpsMs, HALF_WEEK_MS};
 use rtk_survey::{DateMessage, Placed};
@@ -26,6 +27,8 @@ pub(crate) struct Dating {
     /// The moment near which a conversion dates them.
     pub(crate) near: GpsMs,
     pub(crate) span: DatedSpan,
+    /// The places of the captures with a stray epoch.
+    pub(crate) strays: Vec<usize>,
 }
 
 fn have_differing_dates(captures: &[StationCapture]) -> bool
@@ -98,6 +101,29 @@ fn have_week_and_day(captures: &[StationCapture], least: GpsMs) -> bool
         && is_one_told_later(captures, least)
 }
 
+// The first capture in which a second date of the station begins, with how many frames come before it.
+fn first_parted(captures: &[StationCapture]) -> Option<(usize, u64)>
+    ensures { IfSome result (λ found. IsPartedAt captures.now found.0 found.1) }
+{
+    for (place, capture) in captures.iter().enumerate() {
+        if let Some(frame) = capture.parting {
+            return Some((place, frame));
+        }
+    }
+    None
+}
+
+// Why captures are refused that tell dates that differ: one is to be parted, or a date is to be chosen.
+fn refusal_of_dates(captures: &[StationCapture]) -> Refusal
+    requires { list_any has_several_dates captures.now ≡ true }
+    ensures { IsDatingCause None captures.now result }
+{
+    match first_parted(captures) {
+        Some((capture, frame)) => Refusal::TwoDates { capture, frame },
+        None => Refusal::DatesDiffer,
+    }
+}
+
 // The moment near which the captures are dated.
 fn base(
     alloc: Global,
@@ -112,14 +138,14 @@ fn base(
         return Ok(Base::Given(near.moment()));
     }
     if have_differing_dates(captures) {
-        return refused(Refusal::DatesDiffer, captured.list_dates(alloc)?);
+        return refused(refusal_of_dates(captures), captured.list_dates(alloc)?);
     }
     match least_told(captures) {
         Some(least) if have_week_and_day(captures, least) => {
             refused(Refusal::DatesDiffer, captured.list_told(alloc)?)
         }
         Some(least) => Ok(Base::Told(least)),
-        None => refused(Refusal::NoDate, Vec::new(alloc)),
+        None => refused(Refusal::NoDate, captured.all.list_to_come(alloc)?),
     }
 }
 
@@ -138,7 +164,7 @@ fn source_of(captures: &[StationCapture], base: Base, station: u16) -> DateSourc
         return DateSource::Words;
     };
     for capture in captures {
-        if let Some(told) = capture.told {
+        if let Some(told) = capture.told.or(capture.moment) {
             if told.first == least.ms() {
                 return source_of_message(told.message, station);
             }
@@ -193,12 +219,18 @@ fn dating_by(
         let reaches = captured.list_reaches(alloc, placed.as_slice())?;
         return refused(Refusal::TooLong, reaches);
     }
+    let strays = strays(alloc, captures, placed.as_slice(), reach.until)?;
     let span = DatedSpan {
         from: moment(alloc, reach.from)?,
         until: moment(alloc, reach.until)?,
         source: source_of(captures, base, captured.station),
     };
-    Ok(Dating { placed, near, span })
+    Ok(Dating {
+        placed,
+        near,
+        span,
+        strays,
+    })
 }
 
 /// The dates of the captures that are converted: as they tell them, or near a moment that is given.

@@ -6,11 +6,12 @@ ghost use Rattle.rtk_plan.specs.KnownLines as spec;
 use crate::captures::Captures;
 use crate::few_phases::CapturePhases;
 use crate::lists::{
-    put_capture_line, put_date_line, put_doppler, put_msms, put_name_line, put_undated_line,
-    put_unread,
+    put_capture_line, put_date_line, put_doppler, put_msms, put_name_line, put_sbas,
+    put_stray_line, put_undated_line, put_unread,
 };
 use crate::planning::Plan;
 use crate::positions::put_no_position;
+use crate::reported::Reported;
 use crate::span_line::{DateSource, DatedSpan, put_span};
 use crate::station_capture::{StationCapture, passed_over_in, span_in, told_in};
 use crate::texts_left_out::put_texts_left_out;
@@ -143,17 +144,47 @@ fn put_few_phases(
     Ok(())
 }
 
-// Appends how many messages were late.
+// Appends the captures with a stray epoch, which is the last one.
+fn put_strays(
+    lines: &mut Vec<u8>,
+    captures: &Captures<'_, '_>,
+    plan: &Plan,
+) -> Result<(), AllocError> {
+    for place in &plan.strays {
+        put_stray_line(lines, plan.span.until, captures.name(*place))?;
+    }
+    Ok(())
+}
+
+// Appends how many late messages came on a link with a stray epoch.
+fn put_late_by_stray(lines: &mut Vec<u8>, count: u64) -> Result<(), AllocError>
+    ensures { OnOk result (lines.new.items ≡ lines.old.items ++ spec.late_by_stray count) }
+{
+    if count == 0 {
+        return Ok(());
+    }
+    put_named(lines, b", ", count)?;
+    lines.extend_from_slice(b" of them on a link with the stray epoch")
+}
+
+// Appends how many messages were late, and how many of them because of a stray epoch.
 #[tactic(auto, unfolding(crate::specs::KnownLines::late_count_line))]
-fn put_late(lines: &mut Vec<u8>, late: u64, window: usize) -> Result<(), AllocError>
-    ensures { OnOk result (lines.new.items ≡ lines.old.items ++ spec.late_count_line late window) }
+fn put_late(
+    lines: &mut Vec<u8>,
+    late: u64,
+    by_stray: u64,
+    window: usize,
+) -> Result<(), AllocError>
+    ensures { OnOk result (lines.new.items ≡ lines.old.items ++ spec.late_count_line late by_stray window) }
 {
     if late == 0 {
         return Ok(());
     }
     put_named(lines, b" late ", late)?;
     put_named(lines, b": messages after ", window as u64)?;
-    lines.extend_from_slice(b" newer epochs are left out\n")
+    lines.extend_from_slice(b" newer epochs are left out")?;
+    put_late_by_stray(lines, by_stray)?;
+    lines.extend_from_slice(b"\n")
 }
 
 // Appends the captures that are left out.
@@ -212,6 +243,33 @@ pub struct Known {
     window: usize,
     /// By what the epochs are dated.
     source: DateSource,
+    /// The places of the links that have a stray epoch.
+    stray_links: Vec<usize>,
+}
+
+// Has a link a capture at one of these places?
+fn has_one_of(link: &[usize], places: &[usize]) -> bool {
+    link.iter().any(|place| places.contains(place))
+}
+
+// The places of the links with a stray epoch.
+fn links_with_strays(alloc: Global, plan: &Plan) -> Result<Vec<usize>, AllocError> {
+    let mut found = Vec::new(alloc);
+    for (place, link) in plan.links.iter().enumerate() {
+        if has_one_of(link.as_slice(), plan.strays.as_slice()) {
+            found.push(place)?;
+        }
+    }
+    Ok(found)
+}
+
+// How many late messages a report lists on links with a stray epoch.
+fn late_by_stray(known: &Known, reported: &Reported) -> u64 {
+    let mut count = 0u64;
+    for link in &known.stray_links {
+        count = count.saturating_add(reported.late_of(*link));
+    }
+    count
 }
 
 /// What a person should know of a conversion, a line each, only where it is so: captures that are dated near the others; a date that is told and does not count; codes with few phases; texts that messages told and
@@ -230,17 +288,20 @@ pub fn what_is_known(
     put_other_dates(&mut first, captures, plan)?;
     put_few_phases(&mut first, captures, setup)?;
     put_texts_left_out(&mut first, told)?;
+    put_strays(&mut first, captures, plan)?;
     let mut last = Vec::new(alloc);
     put_skipped(&mut last, captures, plan)?;
     put_epochs(&mut last, captures, plan)?;
     put_msms(&mut last, surveys, setup.station(), setup.msm())?;
     put_doppler(&mut last, surveys, setup.station(), setup.msm())?;
+    put_sbas(&mut last, surveys, setup.station())?;
     put_unread(&mut last, surveys)?;
     Ok(Known {
         first,
         last,
         window: setup.window(),
         source: plan.span.source,
+        stray_links: links_with_strays(alloc, plan)?,
     })
 }
 
@@ -282,20 +343,27 @@ pub fn put_file(
     lines: &mut Vec<u8>,
     known: &Known,
     file: &WrittenFile,
-    conflicts: u64,
+    reported: &Reported,
 ) -> Result<(), AllocError> {
     put_span_of(lines, file, known.source)?;
     put_no_position(lines, file.has_position())?;
     file.put_gaps(lines)?;
-    put_conflicts(lines, conflicts)
+    put_conflicts(lines, reported.conflicts())
 }
 
 /// Appends what a person should know of a conversion that is done, with its late messages.
 #[tactic(auto, unfolding(crate::specs::KnownLines::known_lines))]
-pub fn put_known(lines: &mut Vec<u8>, known: &Known, counts: &Counts) -> Result<(), AllocError>
-    ensures { OnOk result (lines.new.items ≡ lines.old.items ++ spec.known_lines known.now counts.now.late) }
+pub fn put_known(
+    lines: &mut Vec<u8>,
+    known: &Known,
+    counts: &Counts,
+    reported: &Reported,
+) -> Result<(), AllocError>
+    ensures { OnOk result (lines.new.items ≡ lines.old.items
+        ++ spec.known_lines known.now counts.now.late (spec.late_of_links known.now.stray_links.items reported.now)) }
 {
     lines.extend_from_slice(known.first.as_slice())?;
-    put_late(lines, counts.late, known.window)?;
+    let by_stray = late_by_stray(known, reported);
+    put_late(lines, counts.late, by_stray, known.window)?;
     lines.extend_from_slice(known.last.as_slice())
 }

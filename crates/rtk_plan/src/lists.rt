@@ -2,17 +2,21 @@
 //!
 //! If memory is refused, a first part of what is put may stand there.
 
-ghost use Rattle.std.specs.Prelude.{◌≡◌, ◌≤◌, ◌+◌, ◌++◌, OnOk};
+ghost use Rattle.std.specs.Prelude.{◌≡◌, ◌<◌, ◌≤◌, ◌+◌, ◌^◌, ◌++◌, OnOk};
 ghost use Rattle.rtk_plan.specs.Lists as spec;
 
 use crate::chosen_station::observes;
 use crate::said_command::put_time;
 use crate::span_line::put_message;
 use crate::station_capture::epochs_heard;
-use crate::values::{held_in_captures, messages_in_captures, others_in_captures};
+use crate::values::{
+    held_in_captures, messages_in_captures, others_in_captures, sbas_in_captures,
+};
 use rtk_message::{MsmKind, put_named, put_number, put_sh_quoted};
 use rtk_obs::{GpsMs, LAST_MS};
-use rtk_survey::{CaptureSurvey, Look, Placed, ReferencePoint, Told};
+use rtk_survey::{
+    CaptureSurvey, DateMessage, Look, Placed, ReferencePoint, Told, UtcDate, moment_of,
+};
 use std::alloc::AllocError;
 
 /// How many message numbers there are: DF002 has 12 bits.
@@ -331,6 +335,75 @@ pub(crate) fn put_doppler(
         MsmKind::Msm4 | MsmKind::Msm6 => Ok(()),
         MsmKind::Msm5 | MsmKind::Msm7 => put_doppler_of(lines, surveys, station, taken),
     }
+}
+
+/// Appends a line if 1004 of a station have satellites of SBAS, which no file has.
+pub(crate) fn put_sbas(
+    lines: &mut Vec<u8>,
+    surveys: &[CaptureSurvey],
+    station: u16,
+) -> Result<(), AllocError>
+    ensures { OnOk result (lines.new.items ≡ lines.old.items ++ spec.sbas_line surveys.now station) }
+{
+    let count = sbas_in_captures(surveys, station);
+    put_count_line(lines, b" not in the file: SBAS of ", 1004, count)
+}
+
+/// Appends the line of a date that is to come.
+pub(crate) fn put_to_come_line(
+    lines: &mut Vec<u8>,
+    date: UtcDate,
+    name: &str,
+) -> Result<(), AllocError>
+    ensures { OnOk result (lines.new.items ≡ lines.old.items ++ spec.to_come_line date name.now) }
+{
+    lines.extend_from_slice(b" ")?;
+    put_time(lines, moment_of(date))?;
+    put_message(lines, DateMessage::Utc(date))?;
+    put_words_and_name(lines, b" in ", name)?;
+    lines.extend_from_slice(b": it is after the time of making\n")
+}
+
+/// Appends the line of a capture with a stray epoch.
+pub(crate) fn put_stray_line(
+    lines: &mut Vec<u8>,
+    epoch: GpsMs,
+    name: &str,
+) -> Result<(), AllocError>
+    ensures { OnOk result (lines.new.items ≡ lines.old.items ++ spec.stray_line epoch name.now) }
+{
+    put_words_and_name(lines, b" stray ", name)?;
+    lines.extend_from_slice(b" ")?;
+    put_time(lines, epoch)?;
+    end_line(lines)
+}
+
+// Appends a command that takes a part of a capture to a file, which is named after the capture.
+fn put_part_command(
+    lines: &mut Vec<u8>,
+    command: &[u8],
+    bytes: u64,
+    name: &str,
+    end: &[u8],
+) -> Result<(), AllocError>
+    ensures { OnOk result (lines.new.items ≡ lines.old.items ++ spec.part_command command.now bytes name.now end.now) }
+{
+    put_named(lines, command, bytes)?;
+    put_words_and_name(lines, b" ", name)?;
+    put_words_and_name(lines, b" >", name)?;
+    lines.extend_from_slice(end)
+}
+
+/// Appends where the second date of a capture begins, by its byte, and the commands that part it there.
+pub fn put_parting(lines: &mut Vec<u8>, name: &str, byte: u64) -> Result<(), AllocError>
+    requires { byte < 2 ^ 63 }
+    ensures { OnOk result (lines.new.items ≡ lines.old.items ++ spec.parting_text name.now byte) }
+{
+    put_words_and_name(lines, b" ", name)?;
+    put_named(lines, b": the second date begins at byte ", byte)?;
+    lines.extend_from_slice(b"; these commands part it there:\n")?;
+    put_part_command(lines, b"head -c ", byte, name, b".1\n")?;
+    put_part_command(lines, b"tail -c +", byte + 1, name, b".2\n")
 }
 
 /// Appends the line of a first epoch that a capture tells, if it can be written.

@@ -40,6 +40,8 @@ pub struct Plan {
     pub links: Vec<Vec<usize>>,
     /// The places of the captures that are left out.
     pub skipped: Vec<usize>,
+    /// The places of the captures whose last epoch is more than a day after all others: it is the last one.
+    pub strays: Vec<usize>,
     /// What each capture tells of the station.
     pub captures: Vec<StationCapture>,
 }
@@ -51,6 +53,7 @@ struct Planned {
     span: DatedSpan,
     links: Vec<Vec<usize>>,
     skipped: Vec<usize>,
+    strays: Vec<usize>,
 }
 
 // The station that is named, if it has observations.
@@ -309,6 +312,7 @@ fn plan_of_station(
         span: dating.span,
         links,
         skipped,
+        strays: dating.strays,
     })
 }
 
@@ -351,6 +355,7 @@ pub fn plan_of(
         span: plan.span,
         links: plan.links,
         skipped: plan.skipped,
+        strays: plan.strays,
         captures: of_station,
     })
 }

@@ -5,7 +5,9 @@ ghost use Rattle.std.specs.List.{list_any};
 ghost use Rattle.std.specs.Option.{option_copied};
 ghost use Rattle.rtk_plan.specs.StationCaptures as spec;
 
-use rtk_survey::{CaptureSurvey, Look, ReferencePoint, Span, StationSurvey, Tellings, Told};
+use rtk_survey::{
+    CaptureSurvey, Look, ReferencePoint, Span, StationSurvey, Tellings, Told, UtcDate,
+};
 use std::alloc::{AllocError, Global};
 
 /// What a capture tells of a station. It has at most 200 bytes.
@@ -23,6 +25,11 @@ pub struct StationCapture {
     pub told: Option<Told>,
     /// How many first epochs that differ were told by messages that count.
     pub dates: usize,
+    /// The moment that a message names, if the capture has a message of the station and no epoch.
+    pub moment: Option<Told>,
+    /// How many frames come before the place at which a second date begins, if 1013 or 1029 of the
+    /// station tell one.
+    pub parting: Option<u64>,
 }
 
 fn is_heard(station: Option<&StationSurvey>) -> bool
@@ -135,6 +142,41 @@ fn first_told(told: &[Told]) -> Option<Told>
     told.first().copied()
 }
 
+// The moment that messages of a capture without an epoch name.
+fn moment_in(station: u16, survey: &CaptureSurvey) -> Option<Told>
+    ensures { result ≡ spec.moment_in station survey.now }
+{
+    let target = survey.contents.target.as_ref()?;
+    if target.dates.station.unwrap_or(station) == station {
+        target.dates.capture.own_moment(target.present, station)
+    } else {
+        None
+    }
+}
+
+fn moment_if_heard(is_heard: bool, moment: Option<Told>) -> Option<Told>
+    ensures { result ≡ spec.moment_if_heard is_heard moment }
+{
+    if is_heard { moment } else { None }
+}
+
+// How many frames come before the place at which a second date of the station begins.
+fn parting_in(station: u16, survey: &CaptureSurvey) -> Option<u64>
+    ensures { result ≡ spec.parting_in station survey.now }
+{
+    match &survey.contents.target {
+        Some(target) if is_station(station, target.dates.station) => target.parting.frame(),
+        _ => None,
+    }
+}
+
+/// The first date in a capture that is passed over since it is to come.
+pub(crate) fn to_come_in(survey: &CaptureSurvey) -> Option<UtcDate>
+    ensures { result ≡ spec.to_come_in survey.now }
+{
+    survey.contents.target.as_ref()?.to_come
+}
+
 /// What a capture tells of a station.
 pub(crate) fn capture_of(station: u16, survey: &CaptureSurvey) -> StationCapture
     ensures { result ≡ spec.capture_of station survey.now }
@@ -148,6 +190,8 @@ pub(crate) fn capture_of(station: u16, survey: &CaptureSurvey) -> StationCapture
         span: span_in(station, survey),
         told: first_told(told),
         dates: told.len(),
+        moment: moment_if_heard(is_heard(heard), moment_in(station, survey)),
+        parting: parting_in(station, survey),
     }
 }
 

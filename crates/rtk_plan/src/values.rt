@@ -181,6 +181,27 @@ pub(crate) fn messages_in_captures(surveys: &[CaptureSurvey], station: u16, kind
     count
 }
 
+fn sbas_of_station(station: Option<&StationSurvey>) -> u64
+    ensures { result ≡ spec.sbas_of_station (option_copied station.entry) }
+{
+    match station {
+        Some(station) => station.counts.sbas_1004,
+        None => 0,
+    }
+}
+
+/// How many 1004 of a station captures have in which there is a satellite of SBAS.
+pub(crate) fn sbas_in_captures(surveys: &[CaptureSurvey], station: u16) -> u64
+    ensures { result ≡ spec.sbas_in_captures surveys.now station }
+{
+    let mut count = 0u64;
+    for survey in surveys {
+        let more = sbas_of_station(survey.contents.stations.get(&station));
+        count = count.saturating_add(more);
+    }
+    count
+}
+
 /// How many messages of a number that is not read captures have.
 pub(crate) fn others_in_captures(surveys: &[CaptureSurvey], number: u16) -> u64
     ensures { result ≡ spec.others_in_captures surveys.now number }

@@ -1,5 +1,5 @@
-//! What a file and a report have that are written, by their texts as they pass: the epochs and satellites of
-//! the file, whether its header has a position, and the conflicts of the report.
+//! What a file has that is written, by its text as it passes: its epochs and satellites, and whether its header
+//! has a position.
 
 ghost use Rattle.std.specs.Prelude.{◌<◌};
 
@@ -271,68 +271,6 @@ impl TakesText for WrittenFile {
             let (line, more) = rest.split_at(end);
             self.take_part(line);
             self.take_line()?;
-            rest = more.split_at(more.len().min(1)).1;
-        }
-        self.take_part(rest);
-        Ok(())
-    }
-}
-
-/// The columns of a line of the report that say of what it is, as `link 16 conflict`.
-const REPORT_COLUMNS: usize = 16;
-
-/// How many conflicts a report lists so far.
-#[derive(Clone, Drop)]
-pub struct Conflicts {
-    // The first columns of a line that goes on.
-    line: ArrayVec<u8, REPORT_COLUMNS>,
-    count: u64,
-}
-
-// Is it the line of a conflict? Links have one digit or two.
-fn is_conflict(line: &[u8]) -> bool {
-    let columns = line.len().min(6);
-    let rest = &line[columns..];
-    line.starts_with(b"link ") && (rest.starts_with(b" conflict") || rest.ends_with(b" conflict"))
-}
-
-impl Conflicts {
-    /// Nothing was written.
-    pub fn new() -> Conflicts {
-        Conflicts {
-            line: ArrayVec::new(),
-            count: 0,
-        }
-    }
-
-    /// How many conflicts the report lists.
-    pub fn count(&self) -> u64 {
-        self.count
-    }
-
-    fn take_part(&mut self, part: &[u8]) {
-        let count = part.len().min(self.line.remaining_capacity());
-        let _kept = self.line.try_extend_from_slice(&part[..count]);
-    }
-
-    fn take_line(&mut self) {
-        if is_conflict(self.line.as_slice()) {
-            self.count = self.count.saturating_add(1);
-        }
-        self.line.clear();
-    }
-}
-
-impl TakesText for Conflicts {
-    fn take(&mut self, text: &[u8]) -> Result<(), AllocError> {
-        let mut rest = text;
-        for _line in 0..text.len() {
-            let Some(end) = memchr(b'\n', rest) else {
-                break;
-            };
-            let (line, more) = rest.split_at(end);
-            self.take_part(line);
-            self.take_line();
             rest = more.split_at(more.len().min(1)).1;
         }
         self.take_part(rest);
