@@ -1,5 +1,5 @@
 -- The lines that list what a refusal or a warning speaks of (this project's rule).
-use Rattle.std.specs.Prelude.{ℕ, ◌+◌, ◌==◌, List, [], ◌∷◌, ◌++◌, length, nat_lt, flat_map, codes, decimal, Option, None, Some, if◌then◌else◌}
+use Rattle.std.specs.Prelude.{ℕ, ◌+◌, ◌==◌, List, [], ◌∷◌, ◌++◌, length, nat_lt, min, flat_map, codes, decimal, Option, None, Some, if◌then◌else◌}
 use Rattle.std.specs.List.{range_with_len}
 use Rattle.rtk_message.specs.declared.msm_kind.MsmKind.{MsmKind}
 use Rattle.rtk_message.specs.declared.msm_kind.MsmKind.TheVariants.{Msm4, Msm5, Msm6, Msm7}
@@ -184,4 +184,4 @@ abbrev pub parting_text : List ℕ → ℕ → List ℕ
 parting_text name byte =
     words_and_name (codes " ") name ++ codes ": the second date begins at byte " ++ decimal byte
     ++ codes "; these commands part it there:\n"
-    ++ part_command (codes "head -c ") byte name (codes ".1\n") ++ part_command (codes "tail -c +") (byte + 1) name (codes ".2\n")
+    ++ part_command (codes "head -c ") byte name (codes ".1\n") ++ part_command (codes "tail -c +") (min (byte + 1) 18_446_744_073_709_551_615) name (codes ".2\n")

@@ -2,7 +2,7 @@
 //!
 //! If memory is refused, a first part of what is put may stand there.
 
-ghost use Rattle.std.specs.Prelude.{◌≡◌, ◌<◌, ◌≤◌, ◌+◌, ◌^◌, ◌++◌, OnOk};
+ghost use Rattle.std.specs.Prelude.{◌≡◌, ◌≤◌, ◌+◌, ◌++◌, OnOk};
 ghost use Rattle.rtk_plan.specs.Lists as spec;
 
 use crate::chosen_station::observes;
@@ -396,14 +396,13 @@ fn put_part_command(
 
 /// Appends where the second date of a capture begins, by its byte, and the commands that part it there.
 pub fn put_parting(lines: &mut Vec<u8>, name: &str, byte: u64) -> Result<(), AllocError>
-    requires { byte < 2 ^ 63 }
     ensures { OnOk result (lines.new.items ≡ lines.old.items ++ spec.parting_text name.now byte) }
 {
     put_words_and_name(lines, b" ", name)?;
     put_named(lines, b": the second date begins at byte ", byte)?;
     lines.extend_from_slice(b"; these commands part it there:\n")?;
     put_part_command(lines, b"head -c ", byte, name, b".1\n")?;
-    put_part_command(lines, b"tail -c +", byte + 1, name, b".2\n")
+    put_part_command(lines, b"tail -c +", byte.saturating_add(1), name, b".2\n")
 }
 
 /// Appends the line of a first epoch that a capture tells, if it can be written.
