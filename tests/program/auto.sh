@@ -19,7 +19,7 @@ unfinished() { ls | grep '^file' >>err; rm -f file*; }
 while IFS='|' read -r want words lines <&3; do
     eval "auto -o file.rnx $words"
     unfinished
-    # pins: words_and_name, look_text, looks_like, unpacker, unpacking, unpacking_by, count_line_of, unread_line, unread_gps, unread_glonass_to_sbas, unread_qzss_to_navic, all_unread, station_line, epochs_text, epochs_heard, number_and_station, date_message_text, is_told_later
+    # pins: words_and_name, look_text, looks_like, unpacker, unpacking, unpacking_by, count_line_of, unread_line, unread_gps, unread_glonass_to_sbas, unread_qzss_to_navic, all_unread, station_line, epochs_text, epochs_heard, number_and_station, date_message_text, is_told_later, is_break, parted_frame, parting_text, part_command, to_come_line, is_to_come
     expect "refused_$(echo "$words" | tr ' ' _)" "$want" '' "rtcm2rinex: $(printf '%b' "$lines")"
 done 3<<'ROWS'
 1|nowhere|cannot open nowhere
@@ -54,13 +54,18 @@ done 3<<'ROWS'
 3|no_value position|the captures have no GPS observations that are read\n holds GPS 1004, 1 messages\n holds 1005, 1 messages\n holds 1013, 1 messages
 3|--station 7 one|station 7 has no GPS observations that are read\n station 2003 in one: 2 epochs
 3|--station 7 foreign|station 7 has no GPS observations that are read\n station 2003 in foreign: 2 epochs
-3|differ|the captures tell dates that differ; choose one by --near\n 2024-05-17T12:00:00 by 1013 of station 2003 in differ\n 2024-05-10T12:00:00 by 1013 of station 2003 in differ
+3|differ|a capture tells two dates; part it, or choose one by --near\n 2024-05-17T12:00:00 by 1013 of station 2003 in differ\n 2024-05-10T12:00:00 by 1013 of station 2003 in differ\n differ: the second date begins at byte 107; these commands part it there:\nhead -c 107 differ >differ.1\ntail -c +108 differ >differ.2
+3|sessions|a capture tells two dates; part it, or choose one by --near\n 2024-05-17T12:00:00 by 1013 of station 2003 in sessions\n 2024-05-24T12:00:00 by 1013 of station 2003 in sessions\n sessions: the second date begins at byte 107; these commands part it there:\nhead -c 107 sessions >sessions.1\ntail -c +108 sessions >sessions.2
+3|again|a capture tells two dates; part it, or choose one by --near\n 2024-05-17T12:00:00 by 1013 of station 2003 in again\n 2024-05-24T12:00:00 by 1029 of station 2003 in again\n again: the second date begins at byte 107; these commands part it there:\nhead -c 107 again >again.1\ntail -c +108 again >again.2
+3|jumps|a capture tells two dates; part it, or choose one by --near\n 2024-05-17T12:00:00 by 1013 of station 2003 in jumps\n 2024-05-24T12:00:00 by 1013 of station 2003 in jumps\n jumps: the second date begins at byte 153; these commands part it there:\nhead -c 153 jumps >jumps.1\ntail -c +154 jumps >jumps.2
+3|among_others|a capture tells two dates; part it, or choose one by --near\n 2024-05-17T12:00:00 by 1013 of station 2003 in among_others\n 2024-05-10T12:00:00 by 1013 of station 2003 in among_others\n among_others: the second date begins at byte 134; these commands part it there:\nhead -c 134 among_others >among_others.1\ntail -c +135 among_others >among_others.2
+3|two_before|the captures tell dates that differ; choose one by --near\n 2024-05-17T12:00:00 by 1013 of station 2003 in two_before\n 2024-05-24T12:00:00 by 1013 of station 2003 in two_before
 3|weeks|the captures tell dates that differ; choose one by --near\n 2024-05-17T12:00:00 by 1019 in weeks\n 2024-05-10T12:00:00 by 1019 in weeks
 3|last_week one|the captures tell dates that differ; choose one by --near\n 2024-05-10T12:00:02 by 1019 in last_week\n 2024-05-17T12:00:00 by 1013 of station 2003 in one
 3|one half_week|the captures are longer than half a week; convert them in parts\n 2024-05-21T00:00:00 until 2024-05-21T00:00:00 in half_week: 1 epochs\n 2024-05-17T12:00:00 until 2024-05-17T12:00:01 in one: 2 epochs
 3|one over_half_week|the captures tell dates that differ; choose one by --near\n 2024-05-17T12:00:00 by 1013 of station 2003 in one\n 2024-05-21T00:00:01 by 1019 in over_half_week
 3|undated|the captures tell no date; give one, as in --near GPS-TIME-WITHIN-HALF-A-WEEK
-3|passed_over|the captures tell no date; give one, as in --near GPS-TIME-WITHIN-HALF-A-WEEK
+3|passed_over|the captures tell no date; give one, as in --near GPS-TIME-WITHIN-HALF-A-WEEK\n 2024-07-09T12:00:00 by 1013 of station 2003 in passed_over: it is after the time of making
 3|one next_week|the captures are longer than half a week; convert them in parts\n 2024-05-26T23:59:50 until 2024-05-26T23:59:50 in next_week: 1 epochs\n 2024-05-17T12:00:00 until 2024-05-17T12:00:01 in one: 2 epochs
 3|--codes 5X --msm 7 --near 2099-12-31T23:59:59 --skip-empty empty nmea|the captures have no frame of RTCM 3\n empty is empty\n nmea looks like NMEA
 3|same.*|more than 16 captures are of the same time, and 16 links are taken\n same.00\n same.01\n same.02\n same.03\n same.04\n same.05\n same.06\n same.07\n same.08\n same.09\n same.10\n same.11\n same.12\n same.13\n same.14\n same.15\n same.16
@@ -75,6 +80,11 @@ run auto --made 2024-06-01 one; expect form_of_made 2 '' 'rtcm2rinex: bad --made
  --made takes YYYY-MM-DDTHH:MM:SS (UTC), from 1980-01-06T00:00:00 to 2100-12-31T23:59:59'
 # The command that unpacks a capture, pasted, makes one that is converted.
 auto 'one 3.gz'; sed -n "s/.*; unpack it: //p" err >said; . ./said; auto -o file 'one 3.gz.rtcm'; same unpacked_as_said file one.rnx; rm file
+# The commands that part a capture, pasted, make captures of one session each.
+cp sessions 's s'; auto 's s'; grep -E '^(head|tail) ' err >said; . ./said
+same the_first_session 's s.1' one; tail -c 153 sessions >want; same the_second_session 's s.2' want
+auto 's s.1'; same the_first_session_as_said out one.rnx; auto 's s.2'; grep '^ from' err >told
+echo ' from 2024-05-24T12:00:00 until 2024-05-24T12:00:02 by 1013' >want; same the_second_session_as_said told want
 auto -o '' one; expect an_output_without_a_name 2 '' "$(error "a value is required for '--output <FILE>' but none was supplied")"
 auto -o folder one; expect an_output_that_is_a_folder 1 '' 'rtcm2rinex: folder is there, and -f would replace it'
 auto -f -o folder one; expect an_output_that_is_a_folder_and_force 1 '' 'rtcm2rinex: folder is no regular file'
@@ -229,6 +239,29 @@ finds only_null "$two 1013" "$one_command only_null" '4 2 0 0 2 0 0 0 2' 0 one.r
 finds unfit "$two 1013" "$one_command unfit$(labelled " --antenna-type GPPNULLANTENNAS --antenna-number blank --receiver-number --'it'\\''s'")" '4 2 0 0 2 0 0 0 2' 0 one.rnx \
     ' not-in-label receiver-type has more than 20 characters: of 21 characters here\n not-in-label receiver-version has characters that are no printable ASCII: tab\\x09'
 finds padded "$two 1013" "$one_command padded$(labelled " --antenna-type 'TRM55971.00     NONE' --antenna-number 144 --receiver-type 'TRIMBLE NETR9' --receiver-number 5148K72868")" '4 2 0 0 2 0 0 0 2' 0 one.rnx
+# pins: Sbas.is_sbas, sbas_line
+finds with_sbas "$noon until 2024-05-17T12:00:02 by 1013" "$one_command with_sbas" '4 1 0 0 3 0 0 0 3' 0 '' ' not in the file: SBAS of 1004, 2 messages'
+finds without_sbas "$noon until $noon by 1013" "$one_command without_sbas" '2 1 0 0 1 0 0 0 1' 0 ''
+# pins: next_before, is_stray, stray_line
+finds astray "$noon until 2024-05-19T12:00:00 by 1013" "$one_command astray" '4 1 0 0 3 0 0 0 3' 0 '' \
+    ' gap 2024-05-17T12:00:02 until 2024-05-19T12:00:00\n stray astray 2024-05-19T12:00:00\n time-falls astray'
+finds day_and_ms "$noon until 2024-05-18T12:00:00 by 1013" "$one_command day_and_ms" "$counts" 0 '' ' stray day_and_ms 2024-05-18T12:00:00'
+finds one_day "$noon until 2024-05-18T12:00:00 by 1013" "$one_command one_day" "$counts" 0 ''
+# Two captures have the stray epoch.
+cp astray astray_2
+finds 'astray_2 astray one' "$noon until 2024-05-19T12:00:00 by 1013" "$one_command one astray astray_2" '11 3 0 0 4 4 0 0 4' 0 '' \
+    ' gap 2024-05-17T12:00:02 until 2024-05-19T12:00:00\n stray astray 2024-05-19T12:00:00\n stray astray_2 2024-05-19T12:00:00\n time-falls astray\n time-falls astray_2'
+# Once the link of led_astray has its stray epoch, the other link is read to its end, so the last three messages are late.
+# pins: late_by_stray, late_count_line
+finds '--window 2 led_astray steady' "$noon until 2024-05-19T12:00:00 by 1013" "$(command $noon | sed 's/4096/2/') steady led_astray" '17 2 0 0 11 1 0 3 11' 0 '' \
+    ' gap 2024-05-17T12:00:09 until 2024-05-19T12:00:00\n stray led_astray 2024-05-19T12:00:00\n late 3: messages after 2 newer epochs are left out, 3 of them on a link with the stray epoch\n time-falls led_astray'
+# A date in a capture without an epoch is its own moment, and counts if no capture with epochs tells a date.
+position=
+# pins: own_moment, own_moment_of_ephemeris
+finds 'undated dated_place' "$noon until $noon by 1013" "cat dated_place undated | $one_command stdin" '3 1 0 0 2 0 0 0 1' 0 '' ' undated undated: dated near the others\n no-epoch dated_place'
+finds 'undated week_place' "$noon until $noon by 1019 (or 2004-10-01, 2044-01-01)" "cat week_place undated | $one_command stdin" '3 1 0 0 2 0 0 0 1' 0 '' ' undated undated: dated near the others\n no-epoch week_place'
+finds 'old_place later one' "$noon until 2024-05-17T12:00:03 by 1013" "cat old_place one later | $one_command stdin" '7 2 0 0 5 0 0 0 4' 0 '' ' undated later: dated near the others\n no-epoch old_place'
+position=$no_position
 # What was told last counts by its time, and not by the order of the captures or of their begins.
 # pins: time_or_first, CaptureEquipment.moment_told
 finds 'antenna_2 antenna_1' "$noon until 2024-05-17T12:00:03 by 1013" "cat antenna_1 antenna_2 | $one_command stdin$(labelled ' --antenna-type B')" '8 4 0 0 4 0 0 0 4' 0 ''
@@ -306,7 +339,8 @@ before=$(date -u +%Y%m%d%H%M%S); env -u SOURCE_DATE_EPOCH "$program" auto one >o
 shown=$(sed -n '2s/.* \([0-9]*\) \([0-9]*\) UTC .*/\1\2/p' out)
 if [ "$before" -le "$shown" ] && [ "$shown" -le "$after" ]; then right a_present_of_the_clock; else wrong a_present_of_the_clock "$shown"; fi
 # A date counts from the day before on.
-run auto --made 2024-05-15T23:59:59 one; [ "$status" = 3 ] && right a_date_after_the_present || wrong a_date_after_the_present "$status"
+run auto --made 2024-05-15T23:59:59 one; expect a_date_after_the_present 3 '' 'rtcm2rinex: the captures tell no date; give one, as in --near GPS-TIME-WITHIN-HALF-A-WEEK
+ 2024-05-17T12:00:00 by 1013 of station 2003 in one: it is after the time of making'
 run auto --made 2024-05-16T00:00:00 one; [ "$status" = 0 ] && right a_date_of_tomorrow || wrong a_date_of_tomorrow "$status"
 
 position=$no_position

@@ -117,11 +117,6 @@ first_by_own_after now station (Some s) d = first_if_own (is_own station d) now 
 abbrev pub first_by_own : ℕ → ℕ → CaptureDates → DateMessage → Option ℕ
 first_by_own now station c d = first_by_own_after now station c.span d
 
--- this is the first epoch that was told first; where none was, it is this one
-abbrev pub is_first_told : List Told → ℕ → Bool
-is_first_told [] first = true
-is_first_told (x ∷ xs) first = x.first == first
-
 -- ---- which of them count
 
 -- the first of these lists that is not empty

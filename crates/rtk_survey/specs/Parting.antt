@@ -1,12 +1,13 @@
 -- Where a capture begins anew: its 1013 and 1029 of the station tell one date, and then a second one
 -- (this project's rule).
-use Rattle.std.specs.Prelude.{ℕ, ◌+◌, ◌-◌, ◌==◌, Bool, true, false, ◌||◌, nat_lt, min, Option, None, Some, is_some, if◌then◌else◌}
-use Rattle.rtk_survey.specs.CaptureDates.{first_by_own, is_first_told}
+use Rattle.std.specs.Prelude.{ℕ, ◌+◌, ◌-◌, ◌==◌, Bool, true, false, ◌||◌, nat_lt, min, List, [], ◌∷◌, Option, None, Some, is_some, if◌then◌else◌}
+use Rattle.rtk_survey.specs.CaptureDates.{first_by_own}
 use Rattle.rtk_survey.specs.declared.capture_dates.CaptureDates.{CaptureDates}
 use Rattle.rtk_survey.specs.declared.date_message.DateMessage.{DateMessage}
 use Rattle.rtk_survey.specs.declared.parting.EpochStep.{EpochStep}
 use Rattle.rtk_survey.specs.declared.parting.Parting.{Parting}
 use Rattle.rtk_survey.specs.declared.span.Span.{Span}
+use Rattle.rtk_survey.specs.declared.tellings.Told.{Told}
 
 abbrev pub no_parting : Parting
 no_parting = record { step = None; second = None; is_known = false }
@@ -18,26 +19,31 @@ no_parting = record { step = None; second = None; is_known = false }
 abbrev pub apart_ms : ℕ → ℕ → ℕ
 apart_ms a b = (a - b) + (b - a)
 
--- how far the last epoch lies from the one before it
-abbrev pub step_ms : Option Span → Option Span → ℕ
-step_ms None after = 0
-step_ms (Some a) None = 0
-step_ms (Some a) (Some b) = apart_ms a.last b.last
+-- constant
+-- the next epoch is before the last one, or more than 60 s after it
+abbrev pub is_break : ℕ → ℕ → Bool
+is_break before after = nat_lt after before || nat_lt (before + 60_000) after
 
 -- the greater of two steps, of two alike the later
 abbrev pub greater_step : Option EpochStep → EpochStep → EpochStep
 greater_step None more = more
 greater_step (Some s) more = if nat_lt more.ms s.ms then s else more
 
--- a step counts until the first one behind the message of the second date
-abbrev pub with_step : ℕ → ℕ → Parting → Parting
-with_step ms frame p =
-    if (ms == 0) || p.is_known then p else
-    record { step = Some (greater_step p.step (record { ms = ms; frame = frame })); second = p.second; is_known = is_some p.second }
+abbrev pub step_with : Option EpochStep → ℕ → ℕ → ℕ → Option EpochStep
+step_with step before after frame =
+    if is_break before after then Some (greater_step step (record { ms = apart_ms before after; frame = frame })) else step
+
+-- the next epoch; the first one behind the message of the second date is the last that counts
+abbrev pub with_step : ℕ → ℕ → ℕ → Parting → Parting
+with_step before after frame p =
+    if (before == after) || p.is_known then p else
+    record { step = step_with p.step before after frame; second = p.second; is_known = is_some p.second }
 
 -- a message more, before and after which these are the epochs
 abbrev pub with_epochs : Option Span → Option Span → ℕ → Parting → Parting
-with_epochs before after frame p = with_step (step_ms before after) frame p
+with_epochs None after frame p = p
+with_epochs (Some a) None frame p = p
+with_epochs (Some a) (Some b) frame p = with_step a.last b.last frame p
 
 -- ---- dates
 
@@ -50,10 +56,16 @@ with_own_after (Some second) is_first frame p = p
 abbrev pub with_own : Bool → ℕ → Parting → Parting
 with_own is_first frame p = with_own_after p.second is_first frame p
 
--- a message that tells this first epoch
+-- a message that tells this first epoch, after others; if two dates were told before an epoch came, no place parts
+-- the capture
+abbrev pub with_told : List Told → ℕ → ℕ → Parting → Parting
+with_told [] first frame p = with_own true frame p
+with_told (x ∷ []) first frame p = with_own (x.first == first) frame p
+with_told (x ∷ y ∷ others) first frame p = p
+
 abbrev pub with_first : Option ℕ → CaptureDates → ℕ → Parting → Parting
 with_first None c frame p = p
-with_first (Some first) c frame p = with_own (is_first_told c.told.own.items first) frame p
+with_first (Some first) c frame p = with_told c.told.own.items first frame p
 
 -- a message more, if it has a date, after this station is known
 abbrev pub with_date_if_any : ℕ → Option ℕ → CaptureDates → Option DateMessage → ℕ → Parting → Parting
@@ -73,7 +85,7 @@ parted_by step (Some second) = Some (earlier_frame step second)
 
 -- formula
 -- how many frames come before the place at which a capture is parted: at the first message of the second date,
--- or at the epoch behind the greatest step between the last message of the first date and the epoch after that
--- message, whichever comes first
+-- or at the epoch behind the greatest step of those that go back or are longer than 60 s, from the last message of
+-- the first date to the epoch behind that message, whichever comes first
 abbrev pub parted_frame : Parting → Option ℕ
 parted_frame p = parted_by p.step p.second

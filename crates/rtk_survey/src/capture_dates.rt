@@ -1,7 +1,7 @@
 //! The epochs of a station in a capture, and what the capture tells of the first of them.
 
 ghost use Rattle.std.specs.Prelude.{◌≡◌};
-ghost use Rattle.rtk_survey.specs.CaptureDates.{no_dates, with_tellings, with_waiting, with_epoch_time, with_date, first_by_own, is_first_told, with_own_moments, first_of, own_moment_of};
+ghost use Rattle.rtk_survey.specs.CaptureDates.{no_dates, with_tellings, with_waiting, with_epoch_time, with_date, first_by_own, with_own_moments, first_of, own_moment_of};
 
 use crate::date_message::DateMessage;
 use crate::span::Span;
@@ -120,16 +120,6 @@ impl CaptureDates {
                 first_epoch_told(now, &span, message)
             }
             _ => None,
-        }
-    }
-
-    /// Is this the first epoch that the 1013 and 1029 of the station tell first, as far as they came?
-    pub(crate) fn is_first_told(&self, first: u64) -> bool
-        ensures { result ≡ is_first_told self.now.told.own.items first }
-    {
-        match self.told.own.as_slice().first() {
-            Some(told) => told.first == first,
-            None => true,
         }
     }
 }

@@ -6,9 +6,13 @@ ghost use Rattle.rtk_survey.specs.Parting as spec;
 use crate::capture_dates::CaptureDates;
 use crate::date_message::DateMessage;
 use crate::span::Span;
+use crate::tellings::Told;
 use rtk_obs::GpsMs;
 
-/// A step from an epoch of a capture to the next one.
+/// A longer step between epochs, or one back, may be where a capture begins anew.
+const LONGEST_STEP_MS: u64 = 60_000;
+
+/// A step between two epochs of a capture, one after another, that goes back or is longer than 60 s.
 #[derive(Clone, Copy, Debug, PartialEq, Eq)]
 pub struct EpochStep {
     /// How long it is, forward or back.
@@ -20,7 +24,7 @@ pub struct EpochStep {
 /// Where a second date begins. Frames are counted from the beginning of the capture.
 #[derive(Clone, Copy, Debug, PartialEq, Eq)]
 pub struct Parting {
-    /// The greatest step between epochs since the last message of the first date; of several the last one.
+    /// The greatest such step since the last message of the first date; of several the last one.
     pub step: Option<EpochStep>,
     /// How many frames came before the first message of the second date.
     pub second: Option<u64>,
@@ -28,20 +32,17 @@ pub struct Parting {
     pub is_known: bool,
 }
 
+// How far two moments are apart.
 fn apart_ms(a: GpsMs, b: GpsMs) -> u64
     ensures { result ≡ spec.apart_ms a b }
 {
-    a.ms().abs_diff(b.ms())
+    a.ms().saturating_sub(b.ms()) + b.ms().saturating_sub(a.ms())
 }
 
-// How far the last epoch lies from the one before it; 0 if it is the same.
-fn step_ms(before: Option<Span>, after: Option<Span>) -> u64
-    ensures { result ≡ spec.step_ms before after }
+fn is_break(before: GpsMs, after: GpsMs) -> bool
+    ensures { result ≡ spec.is_break before after }
 {
-    match (before, after) {
-        (Some(before), Some(after)) => apart_ms(before.last, after.last),
-        _ => 0,
-    }
+    after.ms() < before.ms() || before.ms() + LONGEST_STEP_MS < after.ms()
 }
 
 fn greater_step(step: Option<EpochStep>, more: EpochStep) -> EpochStep
@@ -50,6 +51,23 @@ fn greater_step(step: Option<EpochStep>, more: EpochStep) -> EpochStep
     match step {
         Some(step) if more.ms < step.ms => step,
         _ => more,
+    }
+}
+
+// The greatest of some steps, and of one more if that goes back or is long.
+fn step_with(
+    step: Option<EpochStep>,
+    before: GpsMs,
+    after: GpsMs,
+    frame: u64,
+) -> Option<EpochStep>
+    ensures { result ≡ spec.step_with step before after frame }
+{
+    if is_break(before, after) {
+        let ms = apart_ms(before, after);
+        Some(greater_step(step, EpochStep { ms, frame }))
+    } else {
+        step
     }
 }
 
@@ -65,16 +83,24 @@ impl Parting {
         }
     }
 
+    // The next epoch, after the last one.
+    fn take_step(&mut self, before: GpsMs, after: GpsMs, frame: u64)
+        ensures { self.new ≡ spec.with_step before after frame self.old }
+    {
+        if before.ms() == after.ms() || self.is_known {
+            return;
+        }
+        self.step = step_with(self.step, before, after, frame);
+        self.is_known = self.second.is_some();
+    }
+
     /// A message more: before it and after it these are the epochs.
     pub(crate) fn take_epochs(&mut self, before: Option<Span>, after: Option<Span>, frame: u64)
         ensures { self.new ≡ spec.with_epochs before after frame self.old }
     {
-        let ms = step_ms(before, after);
-        if ms == 0 || self.is_known {
-            return;
+        if let (Some(before), Some(after)) = (before, after) {
+            self.take_step(before.last, after.last, frame);
         }
-        self.step = Some(greater_step(self.step, EpochStep { ms, frame }));
-        self.is_known = self.second.is_some();
     }
 
     // A 1013 or a 1029 of the station: it tells the first date, or another one.
@@ -88,6 +114,18 @@ impl Parting {
             self.step = None;
         } else {
             self.second = Some(frame);
+        }
+    }
+
+    // A 1013 or a 1029 of the station that tells this first epoch, after others. If two dates were told before an
+    // epoch came, no place parts the capture.
+    fn take_told(&mut self, own: &[Told], first: u64, frame: u64)
+        ensures { self.new ≡ spec.with_told own.now first frame self.old }
+    {
+        match own {
+            [] => self.take_own(true, frame),
+            [told] => self.take_own(told.first == first, frame),
+            _ => {}
         }
     }
 
@@ -106,12 +144,13 @@ impl Parting {
             return;
         };
         if let Some(first) = capture.first_by_own(now, station, &message) {
-            self.take_own(capture.is_first_told(first), frame);
+            self.take_told(capture.told.own.as_slice(), first, frame);
         }
     }
 
     /// How many frames come before the place at which the capture is parted: at the first message of the second
-    /// date, or, if the epochs step further before it, at the epoch behind the greatest step.
+    /// date, or at an epoch before it where the time goes back or steps by more than 60 s, if the epoch after the
+    /// message does not step further.
     pub fn frame(&self) -> Option<u64>
         ensures { result ≡ spec.parted_frame self.now }
     {
