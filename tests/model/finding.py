@@ -291,9 +291,10 @@ def first_told(now: int, captures: list[Capture], station: int) -> dict[int, Tol
     all_told = [tellings(now, capture, station) for capture in captures]
     counted = [counting(told, station) for told in all_told]
     if any(len({it.first for it in told}) > 1 for told in counted):
-        seconds = [(at, byte) for at, (it, told) in enumerate(zip(captures, all_told)) for byte in [second_begins(it, told, station)] if byte is not None]
-        if seconds:
-            raise Stopped("two dates", *seconds[0])
+        begins = [second_begins(capture, told, station) for capture, told in zip(captures, all_told)]
+        parted = [(at, byte) for at, byte in enumerate(begins) if byte is not None]
+        if parted:
+            raise Stopped("two dates", *parted[0])
         raise Stopped("dates differ", "-", *sorted(it.first for told in counted for it in told))
     return {place: told[0] for place, told in enumerate(counted) if told}
 
@@ -319,12 +320,12 @@ def first_to_come(now: int, capture: Capture) -> Fields | None:
     return next((it for it in dates if it["day"] > FIRST_DAY + max(6, now // DAY_MS + 1) and it["second"] <= 86_400), None)
 
 
-def stray_of(epochs: list[list[int]]) -> tuple[int, list[int]] | None:
-    """An epoch that is more than a day after all others, and the captures that have it."""
+def stray_of(epochs: list[list[int]], places: list[int]) -> tuple[int, list[int]] | None:
+    """An epoch that is more than a day after all others, and the captures that have it; they are at these places."""
     *others, last = sorted(set().union(*epochs))
     if not others or last <= others[-1] + DAY_MS:
         return None
-    return last, [at for at, of in enumerate(epochs) if last in of]
+    return last, [at for at, of in zip(places, epochs) if last in of]
 
 
 def few_phases(taken: list[Message], codes: list[str]) -> list[str]:
@@ -378,14 +379,13 @@ def find(texts: list[bytes], now: int, station: int | None = None, near: int | N
     if not as_given and any(dist(a, b) > METRES_100 for a, b in combinations(points, 2)):
         raise Stopped("positions differ")
     places = [at for at in range(len(texts)) if at not in skipped]
-    stray = stray_of(epochs)
     msm = msm_of([[it for at in link for it in captures[at].of_station(number)] for link in links])
     messages = [it for capture in captures for it in capture.of_station(number)]
     taken = [it for it in messages if it.header["number"] in (1004, msm)]
     codes = [it for it in CODES if it in set().union(*map(codes_in, taken))]
     return Found(
         number, msm, codes, near, None if by is None else by.fields, [[places[at] for at in link] for link in links], epochs,
-        [places[at] for at, of in enumerate(epochs) if not of], skipped, few_phases(taken, codes), stray and (stray[0], [places[at] for at in stray[1]]),
+        [places[at] for at, of in enumerate(epochs) if not of], skipped, few_phases(taken, codes), stray_of(epochs, places),
     )
 
 
