@@ -42,10 +42,10 @@ has_epoch epoch None = false
 has_epoch epoch (Some p) = p.until == epoch
 
 -- the places, counted from this one, of the captures whose last epoch this is
-abbrev pub places_from : ℕ → ℕ → List (Option Placed) → List ℕ
-places_from at epoch [] = []
-places_from at epoch (p ∷ ps) = if has_epoch epoch p then at ∷ places_from (at + 1) epoch ps else places_from (at + 1) epoch ps
+abbrev pub epoch_places : ℕ → ℕ → List (Option Placed) → List ℕ
+epoch_places at epoch [] = []
+epoch_places at epoch (p ∷ ps) = if has_epoch epoch p then at ∷ epoch_places (at + 1) epoch ps else epoch_places (at + 1) epoch ps
 
 -- the places of the captures that have the greatest epoch, if it is a stray one
 abbrev pub strays : List StationCapture → List (Option Placed) → ℕ → List ℕ
-strays cs ps until = if is_stray until (greatest_of_others None cs ps until) then places_from 0 until ps else []
+strays cs ps until = if is_stray until (greatest_of_others None cs ps until) then epoch_places 0 until ps else []

@@ -84,7 +84,7 @@ fn places_of(
     placed: &[Option<Placed>],
     epoch: u64,
 ) -> Result<Vec<usize>, AllocError>
-    ensures { IfOk result (λ places. places.items ≡ spec.places_from 0 epoch placed.now) }
+    ensures { IfOk result (λ places. places.items ≡ spec.epoch_places 0 epoch placed.now) }
 {
     let mut places = Vec::new(alloc);
     for (place, capture) in placed.iter().enumerate() {
