@@ -3,10 +3,11 @@
 //! If memory is refused, a first part of what is put may stand there.
 
 ghost use Rattle.std.specs.Prelude.{◌≡◌, ◌≤◌, ◌+◌, ◌++◌, OnOk};
+ghost use Rattle.rtk_obs.specs.declared.time.TheConstants.{LAST_MS};
 ghost use Rattle.rtk_plan.specs.Lists as spec;
 
 use crate::chosen_station::observes;
-use crate::said_command::put_time;
+use crate::said_command::{put_time, put_time_at};
 use crate::span_line::put_message;
 use crate::station_capture::epochs_heard;
 use crate::values::{
@@ -263,45 +264,102 @@ fn put_epochs(lines: &mut Vec<u8>, epochs: u64) -> Result<(), AllocError>
     lines.extend_from_slice(b" epochs\n")
 }
 
+// Appends the first and the last of epochs.
+fn put_from_until(lines: &mut Vec<u8>, from: u64, until: u64) -> Result<(), AllocError>
+    requires { (from ≤ LAST_MS) × (until ≤ LAST_MS) }
+    ensures { OnOk result (lines.new.items ≡ lines.old.items ++ spec.from_until from until) }
+{
+    lines.push(b' ')?;
+    put_time_at(lines, from)?;
+    lines.extend_from_slice(b" until ")?;
+    put_time_at(lines, until)
+}
+
 /// Appends the line of the epochs of a capture, if they can be written.
 pub(crate) fn put_reach_line(
     lines: &mut Vec<u8>,
     reach: &Placed,
     epochs: u64,
     name: &str,
-) -> Result<(), AllocError> {
-    let (Some(from), Some(until)) = (GpsMs::new(reach.from), GpsMs::new(reach.until)) else {
+) -> Result<(), AllocError>
+    ensures { OnOk result (lines.new.items ≡ lines.old.items ++ spec.reach_line reach.now epochs name.now) }
+{
+    if LAST_MS < reach.from || LAST_MS < reach.until {
         return Ok(());
-    };
-    lines.push(b' ')?;
-    put_time(lines, from)?;
-    lines.extend_from_slice(b" until ")?;
-    put_time(lines, until)?;
+    }
+    put_from_until(lines, reach.from, reach.until)?;
     put_words_and_name(lines, b" in ", name)?;
     put_epochs(lines, epochs)
 }
 
-/// Appends a line for each number of messages that captures have.
-pub(crate) fn put_held(lines: &mut Vec<u8>, surveys: &[CaptureSurvey]) -> Result<(), AllocError> {
-    for number in 0..NUMBERS {
-        let count = held_in_captures(surveys, number);
-        put_count_line(lines, system_words(number), number, count)?;
+// Is the number among those from a first to a last one?
+fn is_among(first: u16, last: u16, number: u16) -> bool
+    ensures { result ≡ spec.is_among first last number }
+{
+    first <= number && number <= last
+}
+
+// What messages of this number hold, if they are MSM: observations of a system, or other things.
+fn msm_words(number: u16) -> &'static [u8]
+    ensures { result.now ≡ spec.msm_words number }
+{
+    if is_among(1071, 1077, number) {
+        return b" holds GPS ";
     }
-    Ok(())
+    if is_among(1081, 1087, number) {
+        return b" holds GLONASS ";
+    }
+    if is_among(1091, 1097, number) {
+        return b" holds Galileo ";
+    }
+    if is_among(1101, 1107, number) {
+        return b" holds SBAS ";
+    }
+    if is_among(1111, 1117, number) {
+        return b" holds QZSS ";
+    }
+    if is_among(1121, 1127, number) {
+        return b" holds BeiDou ";
+    }
+    if is_among(1131, 1137, number) {
+        return b" holds NavIC ";
+    }
+    b" holds "
 }
 
 // What messages of this number hold: observations of a system, or other things.
-fn system_words(number: u16) -> &'static [u8] {
-    match number {
-        1001..=1004 | 1071..=1077 => b" holds GPS ",
-        1009..=1012 | 1081..=1087 => b" holds GLONASS ",
-        1091..=1097 => b" holds Galileo ",
-        1101..=1107 => b" holds SBAS ",
-        1111..=1117 => b" holds QZSS ",
-        1121..=1127 => b" holds BeiDou ",
-        1131..=1137 => b" holds NavIC ",
-        _ => b" holds ",
+fn system_words(number: u16) -> &'static [u8]
+    ensures { result.now ≡ spec.system_words number }
+{
+    if is_among(1001, 1004, number) {
+        return b" holds GPS ";
     }
+    if is_among(1009, 1012, number) {
+        return b" holds GLONASS ";
+    }
+    msm_words(number)
+}
+
+// Appends the line of messages of this number.
+fn put_held_line(
+    lines: &mut Vec<u8>,
+    surveys: &[CaptureSurvey],
+    number: u16,
+) -> Result<(), AllocError>
+    ensures { OnOk result (lines.new.items ≡ lines.old.items ++ spec.held_line surveys.now number) }
+{
+    let count = held_in_captures(surveys, number);
+    put_count_line(lines, system_words(number), number, count)
+}
+
+/// Appends a line for each number of messages that captures have.
+pub(crate) fn put_held(lines: &mut Vec<u8>, surveys: &[CaptureSurvey]) -> Result<(), AllocError>
+    ensures { OnOk result (lines.new.items ≡ lines.old.items ++ spec.held_lines surveys.now) }
+{
+    for number in 0..NUMBERS {
+        put_held_line(lines, surveys, number)?;
+    }
+    Ok(())
 }
 
 // Appends the line of the Doppler of an MSM that is taken, if there is a message of it.
@@ -413,27 +471,55 @@ pub(crate) fn put_date_line(lines: &mut Vec<u8>, told: &Told, name: &str) -> Res
     if LAST_MS < told.first {
         return Ok(());
     }
-    let Some(first) = GpsMs::new(told.first) else {
-        unreachable!();
-    };
     lines.extend_from_slice(b" ")?;
-    put_time(lines, first)?;
+    put_time_at(lines, told.first)?;
     put_message(lines, told.message)?;
     put_name_line(lines, b" in ", name)
 }
 
-// Appends a coordinate, whose unit is 0.0001 m, in metres.
-fn put_coordinate(lines: &mut Vec<u8>, value: i64) -> Result<(), AllocError> {
-    lines.push(b' ')?;
-    if value < 0 {
+// A point and four digits: the part of a whole metre.
+fn decimals_of(magnitude: u64) -> [u8; 5]
+    ensures { result ≡ spec.four_decimals magnitude }
+{
+    let digit = |place: u64| b'0' + (magnitude / place % 10) as u8;
+    [b'.', digit(1000), digit(100), digit(10), digit(1)]
+}
+
+// Appends a length, whose unit is 0.0001 m, in metres.
+#[tactic(auto, unfolding(crate::specs::Lists::metres))]
+fn put_metres(lines: &mut Vec<u8>, length: u64) -> Result<(), AllocError>
+    ensures { OnOk result (lines.new.items ≡ lines.old.items ++ spec.metres length) }
+{
+    put_number(lines, length / 10_000)?;
+    lines.extend_from_slice(&decimals_of(length))
+}
+
+// Appends a coordinate in metres.
+// By reference: a signed field that is read and passed by value has no range for the prover.
+#[tactic(auto, unfolding(crate::specs::Lists::coordinate))]
+fn put_coordinate(lines: &mut Vec<u8>, value: &i64) -> Result<(), AllocError>
+    ensures { OnOk result (lines.new.items ≡ lines.old.items ++ spec.coordinate value.now) }
+{
+    if *value < 0 {
         lines.push(b'-')?;
     }
-    let value = value.unsigned_abs();
-    put_number(lines, value / 10_000)?;
-    put_named(lines, b".", value / 1_000 % 10)?;
-    put_number(lines, value / 100 % 10)?;
-    put_number(lines, value / 10 % 10)?;
-    put_number(lines, value % 10)
+    put_metres(lines, value.unsigned_abs())
+}
+
+fn put_coordinate_after_blank(lines: &mut Vec<u8>, value: &i64) -> Result<(), AllocError>
+    ensures { OnOk result (lines.new.items ≡ lines.old.items ++ spec.coordinate_after_blank value.now) }
+{
+    lines.extend_from_slice(b" ")?;
+    put_coordinate(lines, value)
+}
+
+// Appends the coordinates of a position.
+fn put_coordinates(lines: &mut Vec<u8>, point: &ReferencePoint) -> Result<(), AllocError>
+    ensures { OnOk result (lines.new.items ≡ lines.old.items ++ spec.coordinates point.now) }
+{
+    put_coordinate_after_blank(lines, &point.x)?;
+    put_coordinate_after_blank(lines, &point.y)?;
+    put_coordinate_after_blank(lines, &point.z)
 }
 
 /// Appends the line of the position that a capture tells, in metres.
@@ -441,10 +527,10 @@ pub(crate) fn put_position_line(
     lines: &mut Vec<u8>,
     point: &ReferencePoint,
     name: &str,
-) -> Result<(), AllocError> {
+) -> Result<(), AllocError>
+    ensures { OnOk result (lines.new.items ≡ lines.old.items ++ spec.position_line point.now name.now) }
+{
     lines.extend_from_slice(b" position")?;
-    put_coordinate(lines, point.x)?;
-    put_coordinate(lines, point.y)?;
-    put_coordinate(lines, point.z)?;
+    put_coordinates(lines, point)?;
     put_name_line(lines, b" in ", name)
 }
