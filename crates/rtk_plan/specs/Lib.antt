@@ -1,4 +1,5 @@
 pub mod CaptureEquipment
+pub mod CaptureNames
 pub mod Causes
 pub mod ChosenStation
 pub mod FewPhases
@@ -12,6 +13,7 @@ pub mod Plan
 pub mod Points
 pub mod Positions
 pub mod Reach
+pub mod Reported
 pub mod SaidCommand
 pub mod SpanLine
 pub mod StationCaptures
@@ -20,3 +22,4 @@ pub mod Stray
 pub mod TextsLeftOut
 pub mod ToldLabel
 pub mod Values
+pub mod WrittenFile

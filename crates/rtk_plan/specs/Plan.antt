@@ -15,6 +15,7 @@ use Rattle.rtk_plan.specs.declared.station_capture.StationCapture.{StationCaptur
 use Rattle.rtk_plan.specs.declared.reach.Base.{Base}
 use Rattle.rtk_plan.specs.declared.reach.Base.TheVariants.{Given, Told}
 use Rattle.rtk_plan.specs.StationCaptures.{capture_of}
+use Rattle.rtk_plan.specs.Stray.{strays}
 use Rattle.rtk_plan.specs.Values.{most_epochs, codes_in_captures}
 use Rattle.rtk_plan.specs.declared.wanted.Wanted.{Wanted}
 
@@ -67,6 +68,11 @@ IsInReach given cs near = (placed : List (Option Placed)) × ArePlaced given cs 
 abbrev pub IsNearOf : Option ℕ → List StationCapture → ℕ → Type 0
 IsNearOf given cs near =
     (base : Base) × IsBaseOf given cs base × ((reach : Placed) × IsReachOf base cs reach × (near ≡ second_of reach.first))
+
+-- the captures that have the greatest epoch, if it is more than a day after all others
+abbrev pub AreStrays : Option ℕ → List StationCapture → List ℕ → Type 0
+AreStrays given cs places =
+    (base : Base) × IsBaseOf given cs base × ((reach : Placed) × IsReachOf base cs reach × (places ≡ strays cs (map (placed_if_any base) cs) reach.until))
 
 -- what captures tell of a station, one after another
 abbrev pub captures_of : List CaptureSurvey → ℕ → List StationCapture

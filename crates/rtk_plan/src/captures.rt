@@ -1,5 +1,8 @@
 //! The captures that were read, and how a refusal lists them.
 
+ghost use Rattle.std.specs.Prelude.{◌≡◌};
+ghost use Rattle.rtk_plan.specs.CaptureNames.{name_at};
+
 use crate::chosen_station::STATIONS;
 use crate::lists::{
     put_capture_line, put_date_line, put_held, put_name_line, put_reach_line, put_station_line,
@@ -34,7 +37,9 @@ pub(crate) fn list_held(alloc: Global, surveys: &[CaptureSurvey]) -> Result<Vec<
 
 impl<'n> Captures<'_, 'n> {
     /// The name of a capture.
-    pub(crate) fn name(&self, place: usize) -> &'n str {
+    pub(crate) fn name(&self, place: usize) -> &'n str
+        ensures { result.now ≡ name_at self.now.names.now place }
+    {
         if place < self.names.len() {
             self.names[place]
         } else {

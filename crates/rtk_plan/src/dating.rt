@@ -3,8 +3,9 @@
 ghost use Rattle.std.specs.Prelude.{◌≡◌, ◌<◌, true, false, None, map, IfOk, IfErr, IfSome};
 ghost use Rattle.std.specs.List.{list_any};
 ghost use Rattle.rtk_plan.specs.Causes.{IfRefused, IsReachCause, IsDatingCause, IsPartedAt, has_several_dates, has_week, is_dated_by_week, is_dated_by_day, is_told_later, have_week_and_day};
-ghost use Rattle.rtk_plan.specs.Plan.{IsBaseOf, IsReachOf, IsNearOf, ArePlaced, some_out_of_reach};
+ghost use Rattle.rtk_plan.specs.Plan.{IsBaseOf, IsReachOf, IsNearOf, ArePlaced, AreStrays, some_out_of_reach};
 ghost use Rattle.rtk_plan.specs.Reach.{placed_if_any};
+ghost use Rattle.rtk_plan.specs.Stray.{strays};
 ghost use Rattle.rtk_obs.specs.declared.time.TheConstants.{LAST_MS};
 ghost use Rattle.rtk_survey.specs.Placing.{second_of};
 ghost use Rattle.rtk_survey.specs.declared.placing.Placed.{Placed};
@@ -207,6 +208,8 @@ fn dating_by(
         × (d.near ≡ second_of reach.first)) }
     ensures placed { IfOk result (λ d. d.placed.items ≡ map (placed_if_any base) captured.now.captures.now) }
     ensures in_reach { IfOk result (λ d. some_out_of_reach d.near captured.now.captures.now d.placed.items ≡ false) }
+    ensures strays { IfOk result (λ d. (reach : Placed) × IsReachOf base captured.now.captures.now reach
+        × (d.strays.items ≡ strays captured.now.captures.now (map (placed_if_any base) captured.now.captures.now) reach.until)) }
     ensures refused { IfErr result (IfRefused (IsReachCause base captured.now.captures.now)) }
 {
     let captures = captured.captures;
@@ -242,6 +245,7 @@ pub(crate) fn date_captures(
     ensures near { IfOk result (λ d. IsNearOf near captured.now.captures.now d.near) }
     ensures placed { IfOk result (λ d. ArePlaced near captured.now.captures.now d.placed.items) }
     ensures in_reach { IfOk result (λ d. some_out_of_reach d.near captured.now.captures.now d.placed.items ≡ false) }
+    ensures strays { IfOk result (λ d. AreStrays near captured.now.captures.now d.strays.items) }
     ensures refused { IfErr result (IfRefused (IsDatingCause near captured.now.captures.now)) }
 {
     let captures = captured.captures;

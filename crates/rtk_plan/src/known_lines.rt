@@ -1,7 +1,9 @@
 //! What a person should know of a conversion that is done.
 
-ghost use Rattle.std.specs.Prelude.{◌≡◌, ◌++◌, OnOk};
+ghost use Rattle.std.specs.Prelude.{◌≡◌, ◌++◌, IfOk, OnOk};
 ghost use Rattle.rtk_plan.specs.KnownLines as spec;
+ghost use Rattle.rtk_plan.specs.Linking.{places_of};
+ghost use Rattle.rtk_plan.specs.StationCaptures.{dates_in};
 
 use crate::captures::Captures;
 use crate::few_phases::CapturePhases;
@@ -15,10 +17,10 @@ use crate::reported::Reported;
 use crate::span_line::{DateSource, DatedSpan, put_span};
 use crate::station_capture::{StationCapture, passed_over_in, span_in, told_in};
 use crate::texts_left_out::put_texts_left_out;
-use crate::written_file::WrittenFile;
+use crate::written_file::{Step, WrittenFile};
 use rtk_convert::{Counts, Setup};
-use rtk_message::put_named;
-use rtk_obs::GpsMs;
+use rtk_message::{MsmKind, put_named};
+use rtk_obs::{Code, GpsMs};
 use rtk_survey::{CaptureEpochs, CaptureSurvey, Equipment, Span, Told, place};
 use std::alloc::{AllocError, Global};
 
@@ -82,17 +84,33 @@ fn put_other_dates_of(
     put_those_of(lines, near, span, name, passed_over_in(station, survey))
 }
 
+// Appends such dates of a capture, if it has epochs.
+fn put_other_dates_at(
+    lines: &mut Vec<u8>,
+    survey: &CaptureSurvey,
+    setup: &Setup,
+    name: &str,
+) -> Result<(), AllocError>
+    ensures { OnOk result (lines.new.items ≡ lines.old.items
+        ++ spec.other_dates_if_any setup.now.station setup.now.near (dates_in setup.now.station survey.now).span survey.now name.now) }
+{
+    match span_in(setup.station(), survey) {
+        Some(span) => put_other_dates_of(lines, survey, setup, &span, name),
+        None => Ok(()),
+    }
+}
+
 // Appends the dates of all captures that tell another first epoch than the conversion gives them.
 fn put_other_dates(
     lines: &mut Vec<u8>,
     captures: &Captures<'_, '_>,
-    plan: &Plan,
-) -> Result<(), AllocError> {
+    setup: &Setup,
+) -> Result<(), AllocError>
+    ensures { OnOk result (lines.new.items ≡ lines.old.items
+        ++ spec.all_other_dates captures.now.names.now setup.now.station setup.now.near captures.now.surveys.now) }
+{
     for (at, survey) in captures.surveys.iter().enumerate() {
-        let setup = &plan.setup;
-        if let Some(span) = span_in(setup.station(), survey) {
-            put_other_dates_of(lines, survey, setup, &span, captures.name(at))?;
-        }
+        put_other_dates_at(lines, survey, setup, captures.name(at))?;
     }
     Ok(())
 }
@@ -104,54 +122,95 @@ fn is_undated(capture: &StationCapture) -> bool
     capture.span.is_some() && capture.told.is_none()
 }
 
+// Appends the line of a capture that is dated near the others, if it is.
+fn put_undated_at(
+    lines: &mut Vec<u8>,
+    capture: &StationCapture,
+    name: &str,
+) -> Result<(), AllocError>
+    ensures { OnOk result (lines.new.items ≡ lines.old.items ++ spec.undated_line_if capture.now name.now) }
+{
+    if is_undated(capture) {
+        put_undated_line(lines, name)
+    } else {
+        Ok(())
+    }
+}
+
 // Appends the captures that are dated near the others.
+fn put_all_undated(
+    lines: &mut Vec<u8>,
+    captures: &Captures<'_, '_>,
+    told: &[StationCapture],
+) -> Result<(), AllocError>
+    ensures { OnOk result (lines.new.items ≡ lines.old.items ++ spec.all_undated captures.now.names.now told.now) }
+{
+    for (at, capture) in told.iter().enumerate() {
+        put_undated_at(lines, capture, captures.name(at))?;
+    }
+    Ok(())
+}
+
+// Appends them, unless words date all captures.
 fn put_undated(
     lines: &mut Vec<u8>,
     captures: &Captures<'_, '_>,
     plan: &Plan,
-) -> Result<(), AllocError> {
-    if plan.span.source == DateSource::Words {
-        return Ok(());
-    }
-    for (at, capture) in plan.captures.iter().enumerate() {
-        if is_undated(capture) {
-            put_undated_line(lines, captures.name(at))?;
+) -> Result<(), AllocError>
+    ensures { OnOk result (lines.new.items ≡ lines.old.items
+        ++ spec.undated_lines plan.now.span.source captures.now.names.now plan.now.captures.items) }
+{
+    match plan.span.source {
+        DateSource::Words => Ok(()),
+        DateSource::Station(_) | DateSource::OtherStation(_, _) | DateSource::Ephemerides => {
+            put_all_undated(lines, captures, plan.captures.as_slice())
         }
     }
-    Ok(())
+}
+
+// Appends the line of a code, if it has few phases.
+fn put_few_phases_of(
+    lines: &mut Vec<u8>,
+    phases: &CapturePhases<'_>,
+    code: Code,
+) -> Result<(), AllocError>
+    ensures { OnOk result (lines.new.items ≡ lines.old.items
+        ++ spec.few_phases_line phases.now.surveys.now phases.now.station phases.now.msm code) }
+{
+    if !phases.has_few(code) {
+        return Ok(());
+    }
+    lines.extend_from_slice(b" few-phases ")?;
+    lines.extend_from_slice(&code.name())?;
+    lines.extend_from_slice(b": its satellites have more than twice as many in another code\n")
 }
 
 // Appends the codes that have few phases.
 fn put_few_phases(
     lines: &mut Vec<u8>,
-    captures: &Captures<'_, '_>,
-    setup: &Setup,
-) -> Result<(), AllocError> {
-    let phases = CapturePhases {
-        surveys: captures.surveys,
-        station: setup.station(),
-        msm: setup.msm(),
-    };
-    for code in setup.head().codes() {
-        if phases.has_few(*code) {
-            lines.extend_from_slice(b" few-phases ")?;
-            lines.extend_from_slice(&code.name())?;
-            lines.extend_from_slice(
-                b": its satellites have more than twice as many in another code\n",
-            )?;
-        }
+    phases: &CapturePhases<'_>,
+    codes: &[Code],
+) -> Result<(), AllocError>
+    ensures { OnOk result (lines.new.items ≡ lines.old.items
+        ++ spec.few_phases_lines phases.now.surveys.now phases.now.station phases.now.msm codes.now) }
+{
+    for code in codes {
+        put_few_phases_of(lines, phases, *code)?;
     }
     Ok(())
 }
 
-// Appends the captures with a stray epoch, which is the last one.
+// Appends the captures with a stray epoch.
 fn put_strays(
     lines: &mut Vec<u8>,
     captures: &Captures<'_, '_>,
-    plan: &Plan,
-) -> Result<(), AllocError> {
-    for place in &plan.strays {
-        put_stray_line(lines, plan.span.until, captures.name(*place))?;
+    epoch: GpsMs,
+    places: &[usize],
+) -> Result<(), AllocError>
+    ensures { OnOk result (lines.new.items ≡ lines.old.items ++ spec.stray_lines captures.now.names.now epoch places.now) }
+{
+    for place in places {
+        put_stray_line(lines, epoch, captures.name(*place))?;
     }
     Ok(())
 }
@@ -187,48 +246,96 @@ fn put_late(
     lines.extend_from_slice(b"\n")
 }
 
+// Appends the line of a capture that is left out.
+fn put_skipped_at(
+    lines: &mut Vec<u8>,
+    captures: &Captures<'_, '_>,
+    told: &[StationCapture],
+    place: usize,
+) -> Result<(), AllocError>
+    ensures { OnOk result (lines.new.items ≡ lines.old.items ++ spec.skipped_line captures.now.names.now told.now place) }
+{
+    match told.get(place) {
+        Some(capture) => {
+            put_capture_line(lines, b" skipped ", captures.name(place), capture.look)
+        }
+        None => Ok(()),
+    }
+}
+
 // Appends the captures that are left out.
 fn put_skipped(
     lines: &mut Vec<u8>,
     captures: &Captures<'_, '_>,
-    plan: &Plan,
-) -> Result<(), AllocError> {
-    for place in &plan.skipped {
-        if let Some(capture) = plan.captures.get(*place) {
-            put_capture_line(lines, b" skipped ", captures.name(*place), capture.look)?;
-        }
+    told: &[StationCapture],
+    places: &[usize],
+) -> Result<(), AllocError>
+    ensures { OnOk result (lines.new.items ≡ lines.old.items ++ spec.skipped_lines captures.now.names.now told.now places.now) }
+{
+    for place in places {
+        put_skipped_at(lines, captures, told, *place)?;
     }
     Ok(())
 }
 
-// Appends the captures without an epoch of the station, and those whose epochs fall.
+// Appends the line of a capture with these epochs, if it has none, or if they fall.
+fn put_epochs_of(
+    lines: &mut Vec<u8>,
+    span: Option<Span>,
+    name: &str,
+) -> Result<(), AllocError>
+    ensures { OnOk result (lines.new.items ≡ lines.old.items ++ spec.epochs_line span name.now) }
+{
+    match span {
+        None => put_name_line(lines, b" no-epoch ", name),
+        Some(span) if span.falls => put_name_line(lines, b" time-falls ", name),
+        Some(_) => Ok(()),
+    }
+}
+
+fn put_epochs_at(
+    lines: &mut Vec<u8>,
+    captures: &Captures<'_, '_>,
+    told: &[StationCapture],
+    place: usize,
+) -> Result<(), AllocError>
+    ensures { OnOk result (lines.new.items ≡ lines.old.items ++ spec.epochs_line_at captures.now.names.now told.now place) }
+{
+    match told.get(place) {
+        Some(capture) => put_epochs_of(lines, capture.span, captures.name(place)),
+        None => Ok(()),
+    }
+}
+
+// Appends such lines of the captures of a link.
+fn put_epochs_in_link(
+    lines: &mut Vec<u8>,
+    captures: &Captures<'_, '_>,
+    told: &[StationCapture],
+    link: &[usize],
+) -> Result<(), AllocError>
+    ensures { OnOk result (lines.new.items ≡ lines.old.items ++ spec.epochs_lines_of captures.now.names.now told.now link.now) }
+{
+    for place in link {
+        put_epochs_at(lines, captures, told, *place)?;
+    }
+    Ok(())
+}
+
+// Appends such lines of the captures of all links.
 fn put_epochs(
     lines: &mut Vec<u8>,
     captures: &Captures<'_, '_>,
-    plan: &Plan,
-) -> Result<(), AllocError> {
-    for link in &plan.links {
-        for place in link {
-            put_epochs_of(lines, captures, plan, *place)?;
-        }
+    told: &[StationCapture],
+    links: &[Vec<usize>],
+) -> Result<(), AllocError>
+    ensures { OnOk result (lines.new.items ≡ lines.old.items
+        ++ spec.epochs_lines captures.now.names.now told.now (places_of links.now)) }
+{
+    for link in links {
+        put_epochs_in_link(lines, captures, told, link.as_slice())?;
     }
     Ok(())
-}
-
-fn put_epochs_of(
-    lines: &mut Vec<u8>,
-    captures: &Captures<'_, '_>,
-    plan: &Plan,
-    place: usize,
-) -> Result<(), AllocError> {
-    let Some(capture) = plan.captures.get(place) else {
-        return Ok(());
-    };
-    match capture.span {
-        None => put_name_line(lines, b" no-epoch ", captures.name(place)),
-        Some(span) if span.falls => { put_name_line(lines, b" time-falls ", captures.name(place)) }
-        Some(_) => Ok(()),
-    }
 }
 
 /// What a person should know of a conversion, but for late messages, which are known only once it is
@@ -247,71 +354,140 @@ pub struct Known {
     stray_links: Vec<usize>,
 }
 
+// Is a place among these?
+fn is_one_of(places: &[usize], place: usize) -> bool
+    ensures { result ≡ spec.is_one_of places.now place }
+{
+    places.iter().any(|other| *other == place)
+}
+
 // Has a link a capture at one of these places?
-fn has_one_of(link: &[usize], places: &[usize]) -> bool {
-    link.iter().any(|place| places.contains(place))
+fn has_one_of(link: &[usize], places: &[usize]) -> bool
+    ensures { result ≡ spec.has_one_of places.now link.now }
+{
+    link.iter().any(|place| is_one_of(places, *place))
 }
 
 // The places of the links with a stray epoch.
-fn links_with_strays(alloc: Global, plan: &Plan) -> Result<Vec<usize>, AllocError> {
+fn links_with_strays(
+    alloc: Global,
+    links: &[Vec<usize>],
+    strays: &[usize],
+) -> Result<Vec<usize>, AllocError>
+    ensures { IfOk result (λ found. found.items ≡ spec.links_with_strays (places_of links.now) strays.now) }
+{
     let mut found = Vec::new(alloc);
-    for (place, link) in plan.links.iter().enumerate() {
-        if has_one_of(link.as_slice(), plan.strays.as_slice()) {
+    for (place, link) in links.iter().enumerate() {
+        if has_one_of(link.as_slice(), strays) {
             found.push(place)?;
         }
     }
     Ok(found)
 }
 
-// How many late messages a report lists on links with a stray epoch.
-fn late_by_stray(known: &Known, reported: &Reported) -> u64 {
+// How many late messages a report lists on these links.
+fn late_on_links(reported: &Reported, links: &[usize]) -> u64
+    ensures { result ≡ spec.late_on_links reported.now links.now }
+{
     let mut count = 0u64;
-    for link in &known.stray_links {
+    for link in links {
         count = count.saturating_add(reported.late_of(*link));
     }
     count
 }
 
-/// What a person should know of a conversion, a line each, only where it is so: captures that are dated near the others; a date that is told and does not count; codes with few phases; texts that messages told and
-/// that a label does not have; captures that are left out, that have no epoch or whose time falls; and
-/// observations that are not taken.
+// Appends what a person should know before the line of late messages.
+fn put_first_lines(
+    lines: &mut Vec<u8>,
+    captures: &Captures<'_, '_>,
+    plan: &Plan,
+    told: &Equipment,
+) -> Result<(), AllocError>
+    ensures { OnOk result (lines.new.items ≡ lines.old.items
+        ++ spec.first_lines captures.now.names.now captures.now.surveys.now plan.now told.now) }
+{
+    let setup = &plan.setup;
+    let phases = CapturePhases {
+        surveys: captures.surveys,
+        station: setup.station(),
+        msm: setup.msm(),
+    };
+    put_undated(lines, captures, plan)?;
+    put_other_dates(lines, captures, setup)?;
+    put_few_phases(lines, &phases, setup.head().codes())?;
+    put_texts_left_out(lines, told)?;
+    put_strays(lines, captures, plan.span.until, plan.strays.as_slice())
+}
+
+// Appends the observations that are not taken.
+fn put_not_taken(
+    lines: &mut Vec<u8>,
+    surveys: &[CaptureSurvey],
+    station: u16,
+    msm: MsmKind,
+) -> Result<(), AllocError>
+    ensures { OnOk result (lines.new.items ≡ lines.old.items ++ spec.not_taken surveys.now station msm) }
+{
+    put_msms(lines, surveys, station, msm)?;
+    put_doppler(lines, surveys, station, msm)?;
+    put_sbas(lines, surveys, station)?;
+    put_unread(lines, surveys)
+}
+
+// Appends what a person should know behind the line of late messages.
+fn put_last_lines(
+    lines: &mut Vec<u8>,
+    captures: &Captures<'_, '_>,
+    plan: &Plan,
+) -> Result<(), AllocError>
+    ensures { OnOk result (lines.new.items ≡ lines.old.items
+        ++ spec.last_lines captures.now.names.now captures.now.surveys.now plan.now) }
+{
+    let (setup, told) = (&plan.setup, plan.captures.as_slice());
+    put_skipped(lines, captures, told, plan.skipped.as_slice())?;
+    put_epochs(lines, captures, told, plan.links.as_slice())?;
+    put_not_taken(lines, captures.surveys, setup.station(), setup.msm())
+}
+
+/// What a person should know of a conversion, a line each, only where it is so: captures that are dated near
+/// the others; a date that is told and does not count; codes with few phases; texts that messages told and that
+/// a label does not have; captures with a stray epoch, that are left out, that have no epoch or whose time falls;
+/// and observations that are not taken.
 pub fn what_is_known(
     alloc: Global,
     captures: &Captures<'_, '_>,
     plan: &Plan,
     told: &Equipment,
-) -> Result<Known, AllocError> {
-    let setup = &plan.setup;
-    let surveys = captures.surveys;
+) -> Result<Known, AllocError>
+    ensures first { IfOk result (λ known. known.first.items ≡ spec.first_lines captures.now.names.now captures.now.surveys.now plan.now told.now) }
+    ensures last { IfOk result (λ known. known.last.items ≡ spec.last_lines captures.now.names.now captures.now.surveys.now plan.now) }
+    ensures window { IfOk result (λ known. known.window ≡ plan.now.setup.window) }
+    ensures source { IfOk result (λ known. known.source ≡ plan.now.span.source) }
+    ensures strays { IfOk result (λ known. known.stray_links.items ≡ spec.links_with_strays (places_of plan.now.links.items) plan.now.strays.items) }
+{
     let mut first = Vec::new(alloc);
-    put_undated(&mut first, captures, plan)?;
-    put_other_dates(&mut first, captures, plan)?;
-    put_few_phases(&mut first, captures, setup)?;
-    put_texts_left_out(&mut first, told)?;
-    put_strays(&mut first, captures, plan)?;
+    put_first_lines(&mut first, captures, plan, told)?;
     let mut last = Vec::new(alloc);
-    put_skipped(&mut last, captures, plan)?;
-    put_epochs(&mut last, captures, plan)?;
-    put_msms(&mut last, surveys, setup.station(), setup.msm())?;
-    put_doppler(&mut last, surveys, setup.station(), setup.msm())?;
-    put_sbas(&mut last, surveys, setup.station())?;
-    put_unread(&mut last, surveys)?;
+    put_last_lines(&mut last, captures, plan)?;
+    let strays = plan.strays.as_slice();
     Ok(Known {
         first,
         last,
-        window: setup.window(),
+        window: plan.setup.window(),
         source: plan.span.source,
-        stray_links: links_with_strays(alloc, plan)?,
+        stray_links: links_with_strays(alloc, plan.links.as_slice(), strays)?,
     })
 }
 
 // Appends the epochs of a file, and by what they are dated.
 fn put_span_of(
     lines: &mut Vec<u8>,
-    file: &WrittenFile,
+    span: Option<Step>,
     source: DateSource,
-) -> Result<(), AllocError> {
-    let Some(span) = file.span() else {
+) -> Result<(), AllocError>
+    ensures { OnOk result (lines.new.items ≡ lines.old.items ++ spec.span_line_if_any span source) }
+{
+    let Some(span) = span else {
         return Ok(());
     };
     put_span(
@@ -344,8 +520,10 @@ pub fn put_file(
     known: &Known,
     file: &WrittenFile,
     reported: &Reported,
-) -> Result<(), AllocError> {
-    put_span_of(lines, file, known.source)?;
+) -> Result<(), AllocError>
+    ensures { OnOk result (lines.new.items ≡ lines.old.items ++ spec.file_lines known.now.source file.now reported.now.conflicts) }
+{
+    put_span_of(lines, file.span(), known.source)?;
     put_no_position(lines, file.has_position())?;
     file.put_gaps(lines)?;
     put_conflicts(lines, reported.conflicts())
@@ -360,10 +538,10 @@ pub fn put_known(
     reported: &Reported,
 ) -> Result<(), AllocError>
     ensures { OnOk result (lines.new.items ≡ lines.old.items
-        ++ spec.known_lines known.now counts.now.late (spec.late_of_links known.now.stray_links.items reported.now)) }
+        ++ spec.known_lines known.now counts.now.late (spec.late_on_links reported.now known.now.stray_links.items)) }
 {
     lines.extend_from_slice(known.first.as_slice())?;
-    let by_stray = late_by_stray(known, reported);
+    let by_stray = late_on_links(reported, known.stray_links.as_slice());
     put_late(lines, counts.late, by_stray, known.window)?;
     lines.extend_from_slice(known.last.as_slice())
 }

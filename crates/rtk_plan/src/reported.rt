@@ -1,6 +1,7 @@
 //! What a report lists, by its text as it passes: how many conflicts, and how many late messages of each link.
 
-ghost use Rattle.std.specs.Prelude.{◌≡◌, ◌<◌};
+ghost use Rattle.std.specs.Prelude.{◌≡◌};
+ghost use Rattle.rtk_plan.specs.Reported as spec;
 
 use crate::written_file::TakesText;
 use arrayvec::ArrayVec;
@@ -55,12 +56,16 @@ impl Reported {
     }
 
     /// How many conflicts the report lists.
-    pub fn conflicts(&self) -> u64 {
+    pub fn conflicts(&self) -> u64
+        ensures { result ≡ self.now.conflicts }
+    {
         self.conflicts
     }
 
     /// How many late messages of a link it lists. Links are counted from 0.
-    pub fn late_of(&self, link: usize) -> u64 {
+    pub fn late_of(&self, link: usize) -> u64
+        ensures { result ≡ spec.late_of self.now link }
+    {
         self.late.get(link).copied().unwrap_or(0)
     }
 

@@ -1,0 +1,7 @@
+use Rattle.std.proofs.Common.{◌≡◌, take}
+use Rattle.std.specs.List.{filter_map}
+use Rattle.rtk_plan.specs.Linking.{places_of, last_of}
+use Rattle.rtk_plan.proofs.linking.last_captures.Given as goal
+
+abbrev pub invariant-loop-link : goal.invariant-loop-link
+invariant-loop-link l = l.places.items ≡ filter_map last_of (places_of (take l.link-index l.links))
