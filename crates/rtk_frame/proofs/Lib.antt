@@ -5,6 +5,7 @@ mod ByteTable
 mod Division
 mod FinalLaw
 mod FirstFrame
+mod FoundPlace
 mod FramesLaw
 mod Framed
 mod Fronts

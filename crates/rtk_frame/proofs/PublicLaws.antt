@@ -4,6 +4,10 @@
 -- the clauses `payloads` of `final_frames_in_any_cut`, `frames_in_any_cut` and
 -- `frames_after_the_first`, and the clause of `final_frames_after_found`
 pub use Rattle.rtk_frame.proofs.FirstFrame.{final_payloads_cut, payloads_cut, first_payloads, after_found}
+-- the clauses `placed` of `final_frames_in_any_cut` and of `frames_in_any_cut`
+pub use Rattle.rtk_frame.proofs.Pieces.{final_cut, frames_cut}
+-- the clauses of `places_after_found`: piece, rest; and frames that are shifted twice
+pub use Rattle.rtk_frame.proofs.FoundPlace.{found_in_piece, found_of_rest, shifted_twice}
 -- the clause of `pending_in_any_cut`
 pub use Rattle.rtk_frame.proofs.Pieces.{pending_cut}
 -- the clauses of `passed_bytes_join`: none, parts

@@ -98,6 +98,19 @@ pub fn final_frames_after_found()
         × (pending (h ++ piece) ≡ pending (rest ++ drop used piece)) }
 {}
 
+/// If the pending bytes h and the used bytes of a piece begin with a final frame, the other final frames are
+/// those of the bytes after it, further on by its end. If no more bytes come, the same holds of all frames. A
+/// caller of `feed` and `rest` that counts bytes needs this law.
+pub fn places_after_found()
+    ensures piece { (h piece : List ℕ) (used : ℕ) (payload rest : List ℕ) → used ≤ length piece
+        → IsFirst (final_frames (h ++ take used piece)) (h ++ take used piece) payload rest
+        → (f : Frame) × (final_frames (h ++ piece) ≡ f ∷ map (shifted (end_of f)) (final_frames (rest ++ drop used piece)))
+        × (f.payload ≡ payload) × (end_of f + length rest ≡ length h + used) }
+    ensures rest { (h payload rest : List ℕ) → IsFirst (frames h) h payload rest
+        → (f : Frame) × (frames h ≡ f ∷ map (shifted (end_of f)) (frames rest))
+        × (f.payload ≡ payload) × (end_of f + length rest ≡ length h) }
+{}
+
 /// If no more bytes pass, nothing changes. Bytes that passed in two parts have passed as one text.
 pub fn passed_bytes_join()
     ensures none { (known : Option (List ℕ)) → with_more known [] ≡ known }

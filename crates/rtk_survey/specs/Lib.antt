@@ -10,6 +10,7 @@ pub mod EquipmentMessages
 pub mod EquipmentText
 pub mod FrameDates
 pub mod FrameEquipment
+pub mod FramePlaces
 pub mod Look
 pub mod NumberLaws
 pub mod Parting
