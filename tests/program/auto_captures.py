@@ -76,6 +76,10 @@ CAPTURES = {
     "sessions": ONE + epochs(NOON, NOON + 1) + date(43_201, 60_454) + epochs(NOON + 2),
     "again": ONE + text_date(43_200, 60_454) + epochs(NOON, NOON + 1),
     "jumps": date(43_200) + epochs(NOON, NOON + 1, NOON, NOON + 3_600) + date(46_800, 60_454) + epochs(NOON + 3_601),
+    # a step of 60 s, and one that is a ms longer; and two steps back that are alike
+    "minute": date(43_200) + epochs(NOON, NOON + 60) + date(43_260, 60_454),
+    "over_minute": date(43_200) + epochs(NOON, NOON + 60.001) + date(43_260, 60_454),
+    "alike": date(43_200) + epochs(NOON + 2, NOON + 1, NOON + 2, NOON + 1) + date(43_201, 60_454),
     # 24 bytes of NMEA and the head of a frame of 1,006 bytes that isn't there, before the second date
     "among_others": ONE + b"$GPGGA,120000,,,,,0*4A\r\n\xD3\x03\xE8" + date(43_202, 60_440),
     "two_before": date(43_200) + date(43_200, 60_454) + epochs(NOON),

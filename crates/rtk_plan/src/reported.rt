@@ -15,7 +15,7 @@ const REPORT_COLUMNS: usize = 16;
 const MOST_LINKS: usize = 16;
 
 /// How many conflicts and late messages a report lists so far.
-#[derive(Clone, Drop)]
+#[derive(Drop)]
 pub struct Reported {
     // The first columns of a line that goes on.
     line: ArrayVec<u8, REPORT_COLUMNS>,
