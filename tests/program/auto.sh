@@ -263,6 +263,8 @@ position=
 # pins: own_moment, own_moment_of_ephemeris
 finds 'undated dated_place' "$noon until $noon by 1013" "cat dated_place undated | $one_command stdin" '3 1 0 0 2 0 0 0 1' 0 '' ' undated undated: dated near the others\n no-epoch dated_place'
 finds 'undated week_place' "$noon until $noon by 1019 (or 2004-10-01, 2044-01-01)" "cat week_place undated | $one_command stdin" '3 1 0 0 2 0 0 0 1' 0 '' ' undated undated: dated near the others\n no-epoch week_place'
+cp week_place a_place # which names the moment of the first epoch too
+finds 'a_place one' "$two 1013" "cat a_place one | $one_command stdin" '5 2 0 0 3 0 0 0 2' 0 '' ' no-epoch a_place'
 finds 'old_place later one' "$noon until 2024-05-17T12:00:03 by 1013" "cat old_place one later | $one_command stdin" '7 2 0 0 5 0 0 0 4' 0 '' ' undated later: dated near the others\n no-epoch old_place'
 position=$no_position
 # What was told last counts by its time, and not by the order of the captures or of their begins.

@@ -18,7 +18,7 @@ use crate::station_capture::StationCapture;
 use crate::stray::strays;
 use rtk_convert::Reference;
 use rtk_obs::{GpsMs, HALF_WEEK_MS};
-use rtk_survey::{DateMessage, Placed};
+use rtk_survey::{DateMessage, Placed, Told};
 use std::alloc::Global;
 
 /// The epochs of captures with their dates.
@@ -159,19 +159,47 @@ fn source_of_message(message: DateMessage, station: u16) -> DateSource {
     }
 }
 
-// By what the captures are dated: the message that told the least first epoch.
+// The message that told this moment, if one did.
+fn message_at(moment: GpsMs, told: Option<Told>) -> Option<DateMessage> {
+    match told {
+        Some(told) if told.first == moment.ms() => Some(told.message),
+        _ => None,
+    }
+}
+
+// The message that told the least first epoch.
+fn message_of_first(captures: &[StationCapture], least: GpsMs) -> Option<DateMessage> {
+    for capture in captures {
+        if let Some(message) = message_at(least, capture.told) {
+            return Some(message);
+        }
+    }
+    None
+}
+
+// The message that names the least moment.
+fn message_of_moment(captures: &[StationCapture], least: GpsMs) -> Option<DateMessage> {
+    for capture in captures {
+        if let Some(message) = message_at(least, capture.moment) {
+            return Some(message);
+        }
+    }
+    None
+}
+
+// By what the captures are dated: the message that told the least first epoch, or else the least moment.
 fn source_of(captures: &[StationCapture], base: Base, station: u16) -> DateSource {
     let Base::Told(least) = base else {
         return DateSource::Words;
     };
-    for capture in captures {
-        if let Some(told) = capture.told.or(capture.moment) {
-            if told.first == least.ms() {
-                return source_of_message(told.message, station);
-            }
-        }
+    let message = match message_of_first(captures, least) {
+        Some(message) => Some(message),
+        None => message_of_moment(captures, least),
+    };
+    match message {
+        Some(message) => source_of_message(message, station),
+        None => DateSource::Words,
     }
-    DateSource::Words
 }
 
 // The moment, if it can be written.
