@@ -118,7 +118,9 @@ impl TargetDates {
 fn time_at(dates: &TargetDates, station: u16) -> Option<u32>
     ensures { result ≡ spec.time_at dates.now station }
 {
-    let span = dates.capture.span?;
+    let Some(span) = &dates.capture.span else {
+        return None;
+    };
     if dates.station.unwrap_or(station) == station {
         Some(span.last_time_of_week())
     } else {
