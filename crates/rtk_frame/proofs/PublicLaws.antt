@@ -8,6 +8,8 @@ pub use Rattle.rtk_frame.proofs.FirstFrame.{final_payloads_cut, payloads_cut, fi
 pub use Rattle.rtk_frame.proofs.Pieces.{final_cut, frames_cut}
 -- the clauses of `places_after_found`: piece, rest; and frames that are shifted twice
 pub use Rattle.rtk_frame.proofs.FoundPlace.{found_in_piece, found_of_rest, shifted_twice}
+-- the clause `is` of `pending_of_a_text`
+pub use Rattle.rtk_frame.proofs.FinalLaw.{is_pending}
 -- the clause of `pending_in_any_cut`
 pub use Rattle.rtk_frame.proofs.Pieces.{pending_cut}
 -- the clauses of `passed_bytes_join`: none, parts

@@ -1,5 +1,5 @@
 -- The place of a frame, one frame after another.
-use Rattle.std.proofs.Common.{◌≡◌, ◌≤◌, ℕ, zero, suc, ◌+◌, ◌-◌, List, [], ◌∷◌, ◌++◌, map, length, take, drop, Option, None, Some, refl, sym, ap, subst, ◌∙◌, append_assoc, add-one, length-append, arith}
+use Rattle.std.proofs.Common.{◌≡◌, ◌≤◌, ℕ, zero, suc, ◌+◌, ◌-◌, List, [], ◌∷◌, ◌++◌, map, length, take, drop, Option, None, Some, inl, inr, refl, sym, ap, subst, ◌∙◌, append_assoc, add-one, length-append, length-drop, arith}
 use Rattle.std.specs.Borrow.{Bor}
 use Rattle.std.specs.Prelude.{option_map}
 use Rattle.std.proofs.lemmas.Grind.{common_steps}
@@ -9,7 +9,7 @@ use Rattle.rtk_frame.specs.Scanner.{FedAnswer, RestAnswer}
 use Rattle.rtk_frame.specs.ScannerView.{ScannerView}
 use Rattle.rtk_frame.specs.Stream.{with_more}
 use Rattle.rtk_frame.specs.declared.scanner.Answer.TheVariants.{Found}
-use Rattle.rtk_frame.proofs.PublicLaws.{shifted_twice, found_of_rest, found_in_piece, final_cut, frames_cut, pending_cut, with_more-nil, with_more-with_more}
+use Rattle.rtk_frame.proofs.PublicLaws.{shifted_twice, found_of_rest, found_in_piece, final_cut, frames_cut, is_pending, pending_cut, with_more-nil, with_more-with_more}
 use Rattle.rtk_survey.specs.Counting.{shown_count}
 use Rattle.rtk_survey.specs.FramePlaces.{place_after, IsPlaceOfFrame}
 use Rattle.rtk_survey.specs.Steps.Looking.{place_if_last, LooksThrough}
@@ -112,6 +112,12 @@ place_of_first (f ∷ fs) gs zero place is = is
 place_of_first (f ∷ fs) gs (suc n) place is = place_of_first fs gs n place is
 
 -- ---- a source that is read piece by piece
+
+pub pending_shorter : (t : List ℕ) → length (pending t) ≤ length t
+pending_shorter t = elim (is_pending t) [
+  | inl none ↦ let size = ap (λ (xs : List ℕ). length xs) none.1 in omega (arith, size)
+  | inr some ↦ let size = ap (λ (xs : List ℕ). length xs) some.3 in let left = length-drop some.0 t in omega (arith, size, left)
+]
 
 -- a source gave some bytes, so many frames of them came, and so many are still to come
 pub record HasLooked (given_old given_new : Option (List ℕ)) (n before fed : ℕ) (waiting : List ℕ) : Type 0 where
