@@ -5,9 +5,10 @@ ghost use Rattle.rtk_plan.specs.CaptureNames.{name_at};
 
 use crate::chosen_station::STATIONS;
 use crate::lists::{
-    put_capture_line, put_date_line, put_held, put_name_line, put_reach_line, put_station_line,
+    put_capture_line, put_date_line, put_name_line, put_reach_line, put_station_line,
     put_to_come_line,
 };
+use crate::message_lines::put_held;
 use crate::station_capture::{StationCapture, epochs_heard, to_come_in, told_in};
 use rtk_survey::{CaptureSurvey, Placed};
 use std::alloc::{AllocError, Global};

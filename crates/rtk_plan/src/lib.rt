@@ -67,6 +67,7 @@
 #![tactic(auto)]
 
 mod capture_equipment;
+mod capture_lines;
 mod captures;
 mod chosen_station;
 mod count_lines;
@@ -78,8 +79,10 @@ mod known_lines;
 mod label_command;
 mod linking;
 mod lists;
+mod message_lines;
 mod planning;
 mod points;
+mod position_lines;
 mod positions;
 mod reach;
 mod refusal;

@@ -6,8 +6,8 @@ ghost use Rattle.rtk_plan.specs.Causes.{IfRefused};
 ghost use Rattle.rtk_plan.specs.Positions as spec;
 
 use crate::captures::StationCaptures;
-use crate::lists::put_position_line;
 use crate::points::are_far;
+use crate::position_lines::put_position_line;
 use crate::refusal::{PlanFault, Refusal, refused};
 use crate::station_capture::StationCapture;
 use rtk_survey::ReferencePoint;

@@ -79,11 +79,7 @@ fn has_epoch(placed: Option<Placed>, epoch: u64) -> bool
 }
 
 // The places of the captures whose last epoch this is.
-fn places_of(
-    alloc: Global,
-    placed: &[Option<Placed>],
-    epoch: u64,
-) -> Result<Vec<usize>, AllocError>
+fn places_of(alloc: Global, placed: &[Option<Placed>], epoch: u64) -> Result<Vec<usize>, AllocError>
     ensures { IfOk result (λ places. places.items ≡ spec.epoch_places 0 epoch placed.now) }
 {
     let mut places = Vec::new(alloc);

@@ -293,11 +293,7 @@ fn put_gap_if(lines: &mut Vec<u8>, step: &Step, greatest: u64) -> Result<(), All
 }
 
 // Appends the lines of those steps that are longer than this.
-fn put_listed_gaps(
-    lines: &mut Vec<u8>,
-    longest: &[Step],
-    greatest: u64,
-) -> Result<(), AllocError>
+fn put_listed_gaps(lines: &mut Vec<u8>, longest: &[Step], greatest: u64) -> Result<(), AllocError>
     ensures { OnOk result (lines.new.items ≡ lines.old.items ++ flat_map (spec.gap_line_if greatest) longest.now) }
 {
     for step in longest {
