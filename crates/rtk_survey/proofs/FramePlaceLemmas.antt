@@ -1,5 +1,5 @@
 -- The place of a frame, one frame after another.
-use Rattle.std.proofs.Common.{◌≡◌, ◌≤◌, ℕ, zero, suc, ◌+◌, ◌-◌, List, [], ◌∷◌, ◌++◌, map, length, take, drop, Option, None, Some, inl, inr, refl, sym, ap, subst, ◌∙◌, append_assoc, add-one, length-append, length-drop, arith}
+use Rattle.std.proofs.Common.{◌≡◌, ◌≤◌, ℕ, zero, suc, ◌+◌, ◌-◌, List, [], ◌∷◌, ◌++◌, map, length, take, drop, Option, None, Some, inl, inr, refl, sym, ap, subst, ◌∙◌, add-one, length-append, length-drop, arith}
 use Rattle.std.specs.Borrow.{Bor}
 use Rattle.std.specs.Prelude.{option_map}
 use Rattle.std.proofs.lemmas.Grind.{common_steps}
@@ -163,14 +163,14 @@ looked-found given_0 given_1 given_2 n before fed place waiting more h gives fou
     let base : ℕ = length t - length (pending t) in
     let fs : List Frame = map (shifted base) (final_frames (pending t ++ more)) in
     let here : place_after before fs ≡ Some place =
-        ap (λ (xs : List ℕ). place_after before (map (shifted (length t - length xs)) (final_frames (xs ++ more)))) (sym h.waits)
-        ∙ ap (λ (k : ℕ). place_after before (map (shifted (k - length waiting)) (final_frames (waiting ++ more)))) (sym h.size)
-        ∙ found in
+    ap (λ (xs : List ℕ). place_after before (map (shifted (length t - length xs)) (final_frames (xs ++ more)))) (sym h.waits)
+    ∙ ap (λ (k : ℕ). place_after before (map (shifted (k - length waiting)) (final_frames (waiting ++ more)))) (sym h.size)
+    ∙ found in
     let final : place_after n (final_frames (t ++ more)) ≡ Some place =
-        ap (λ (gs : List Frame). place_after n gs) (final_cut t more) ∙ place_of_others (final_frames t) fs n before (sym h.count) ∙ here in
+    ap (λ (gs : List Frame). place_after n gs) (final_cut t more) ∙ place_of_others (final_frames t) fs n before (sym h.count) ∙ here in
     let rest : List Frame = map (shifted (length (t ++ more) - length (pending (t ++ more)))) (frames (pending (t ++ more))) in
     let all : place_after n (frames (t ++ more)) ≡ Some place =
-        ap (λ (gs : List Frame). place_after n gs) (frames_cut (t ++ more)) ∙ place_of_first (final_frames (t ++ more)) rest n place final in (
+    ap (λ (gs : List Frame). place_after n gs) (frames_cut (t ++ more)) ∙ place_of_first (final_frames (t ++ more)) rest n place final in (
       t ++ more,
       gives ∙ ap (λ (known : Option (List ℕ)). with_more known more) h.given ∙ with_more-with_more given_0 t more,
       ap (λ (o : Option ℕ). option_map shown_count o) (sym all),
@@ -184,8 +184,8 @@ looked-end given_0 given_1 given_2 n before fed found waiting h gives is =
     let t : List ℕ = h.bytes in
     let fs : List Frame = map (shifted (length t - length (pending t))) (frames (pending t)) in
     let here : found ≡ place_after before fs =
-        is ∙ ap (λ (k : ℕ). place_after before (map (shifted (k - length waiting)) (frames waiting))) h.size
-        ∙ ap (λ (xs : List ℕ). place_after before (map (shifted (length t - length xs)) (frames xs))) h.waits in
+    is ∙ ap (λ (k : ℕ). place_after before (map (shifted (k - length waiting)) (frames waiting))) h.size
+    ∙ ap (λ (xs : List ℕ). place_after before (map (shifted (length t - length xs)) (frames xs))) h.waits in
     let all : place_after n (frames t) ≡ place_after before fs =
-        ap (λ (gs : List Frame). place_after n gs) (frames_cut t) ∙ place_of_others (final_frames t) fs n before (sym h.count) in
+    ap (λ (gs : List Frame). place_after n gs) (frames_cut t) ∙ place_of_others (final_frames t) fs n before (sym h.count) in
     (t, gives ∙ with_more-nil given_1 ∙ h.given, ap (λ (o : Option ℕ). option_map shown_count o) (here ∙ sym all))

@@ -55,12 +55,7 @@ fn greater_step(step: Option<EpochStep>, more: EpochStep) -> EpochStep
 }
 
 // The greatest of some steps, and of one more if that goes back or is long.
-fn step_with(
-    step: Option<EpochStep>,
-    before: GpsMs,
-    after: GpsMs,
-    frame: u64,
-) -> Option<EpochStep>
+fn step_with(step: Option<EpochStep>, before: GpsMs, after: GpsMs, frame: u64) -> Option<EpochStep>
     ensures { result ≡ spec.step_with step before after frame }
 {
     if is_break(before, after) {

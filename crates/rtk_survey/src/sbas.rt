@@ -8,6 +8,7 @@ use rtk_message::{AnyMessage, Message, Satellite};
 
 /// The satellite IDs of SBAS (DF009), for PRN 120 to 138.
 const FIRST_SBAS: u8 = 40;
+
 const LAST_SBAS: u8 = 58;
 
 fn is_sbas(satellite: &Satellite) -> bool

@@ -1,4 +1,4 @@
-use Rattle.std.proofs.Common.{◌≡◌, ◌-◌, ◌++◌, ℕ, List, Ok, length, take, refl, ap, subst, ◌∙◌, arith}
+use Rattle.std.proofs.Common.{◌≡◌, ◌-◌, ◌++◌, ℕ, List, length, take, refl, ap, subst, ◌∙◌, arith}
 use Rattle.rtk_frame.specs.ScannerView.{ScannerView}
 use Rattle.rtk_frame.specs.Stream.{with_more}
 use Rattle.rtk_frame.specs.Frames.{final_frames, shifted}
@@ -34,7 +34,7 @@ returns-then-count-eq0-clause-place g c =
     let before = g.R.Source.given c.reads.reader in
     let buf : List ℕ = c.read.new.buf in
     let found = looked-end (g.R.Source.given c.args.reader.now) before (g.R.Source.given c.read.new.self) c.args.before c.reads.looking.before c.reads.looking.fed c.take_rest.result
-        c.reads.scanner.pending c.reads.invariant.so_far (c.in-Ok-read.ensures.given ∙ ap (λ (n : ℕ). with_more before (take n buf)) c.if-count-eq0.true) c.take_rest.ensures in
+    c.reads.scanner.pending c.reads.invariant.so_far (c.in-Ok-read.ensures.given ∙ ap (λ (n : ℕ). with_more before (take n buf)) c.if-count-eq0.true) c.take_rest.ensures in
     (found.0, found.1, c.shown_place.ensures ∙ found.2)
 
 pub returns-in-Some-clause-place : goal.returns-in-Some-clause-place
@@ -46,7 +46,7 @@ returns-in-Some-clause-place g c =
     let waiting : List ℕ = c.reads.scanner.pending in
     let place = subst (λ (more : List ℕ). place_after c.reads.looking.before (map (shifted (c.reads.looking.fed - length waiting)) (final_frames (waiting ++ more))) ≡ Some c.in-Some.place) same c.in-Some.ensures.found in
     let found = looked-found (g.R.Source.given c.args.reader.now) (g.R.Source.given c.reads.reader) (g.R.Source.given c.read.new.self) c.args.before c.reads.looking.before c.reads.looking.fed
-        c.in-Some.place waiting (take c.in-Ok-read.count buf) c.reads.invariant.so_far c.in-Ok-read.ensures.given place in
+    c.in-Some.place waiting (take c.in-Ok-read.count buf) c.reads.invariant.so_far c.in-Ok-read.ensures.given place in
     (found.0, found.1, c.shown_place-in-Some.ensures ∙ found.2)
 
 pub reads-preserved : goal.reads-preserved
@@ -63,7 +63,7 @@ reads-preserved g c =
     let same : take c.in-Ok-read.count c.deref.result.now ≡ take c.in-Ok-read.count buf = ap (λ (xs : List ℕ). take c.in-Ok-read.count xs) (c.deref.ensures.value ∙ full) in
     let through = subst (λ (more : List ℕ). LooksThrough c.reads.looking waiting more c.take_piece.new.self waits) same (rw c.in_default-take_piece.is at c.take_piece.ensures.none) in
     let so_far = looked-piece (g.R.Source.given c.args.reader.now) (g.R.Source.given c.reads.reader) (g.R.Source.given c.read.new.self) c.args.before c.reads.looking c.take_piece.new.self
-        waiting waits (take c.in-Ok-read.count buf) i.so_far c.in-Ok-read.ensures.given through in
+    waiting waits (take c.in-Ok-read.count buf) i.so_far c.in-Ok-read.ensures.given through in
     let few = length-first c.in-Ok-read.count buf c.in-Ok-read.ensures.bound in
     let bound = c.in-Ok-read.ensures.bound in
     let room = i.room in

@@ -1,6 +1,5 @@
-use Rattle.std.proofs.Common.{ℕ, ap, sym, ◌∙◌, arith}
+use Rattle.std.proofs.Common.{ap, sym, ◌∙◌, arith}
 use Rattle.rtk_survey.specs.declared.frame_place.Looking.{Looking}
-use Rattle.rtk_frame.specs.Frames.{final_frames}
 use Rattle.rtk_survey.proofs.FrameLemmas.{finds-next}
 use Rattle.rtk_survey.proofs.FramePlaceLemmas.{fed-frame, place_here, place_later, not_last}
 use Rattle.rtk_survey.proofs.frame_place.Looking.take_piece.Goals as goal
