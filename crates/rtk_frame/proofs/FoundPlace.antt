@@ -55,9 +55,9 @@ found_before t u payload rest k =
     let by : length t - length (pending t) ≡ end + b = omega (arith, size, pending_short rest 0, ap (λ (xs : List ℕ). length xs) waits) in
     let ys : List Frame = final_frames (pending rest ++ u) in
     let there : more ≡ map (shifted end) (map (shifted b) ys) =
-        ap (λ (n : ℕ). map (shifted n) (final_frames (pending t ++ u))) by
-        ∙ ap (λ (xs : List ℕ). map (shifted (end + b)) (final_frames (xs ++ u))) waits
-        ∙ sym (shifted_twice end b ys) in (
+    ap (λ (n : ℕ). map (shifted n) (final_frames (pending t ++ u))) by
+    ∙ ap (λ (xs : List ℕ). map (shifted (end + b)) (final_frames (xs ++ u))) waits
+    ∙ sym (shifted_twice end b ys) in (
       f,
       final_cut t u
           ∙ ap (λ (fs : List Frame). fs ++ more) k.2

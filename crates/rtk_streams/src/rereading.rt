@@ -103,12 +103,7 @@ pub struct Again<'a, R, M> {
 
 impl<'a, R, M> Again<'a, R, M> {
     /// The reader with this mark, which gave this before.
-    pub fn new(
-        inner: R,
-        mark: M,
-        before: Digest,
-        differing: &'a Cell<Option<M>>,
-    ) -> Again<'a, R, M>
+    pub fn new(inner: R, mark: M, before: Digest, differing: &'a Cell<Option<M>>) -> Again<'a, R, M>
         ensures { result.inner ≡ inner }
     {
         Again {
