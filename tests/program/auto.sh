@@ -19,7 +19,7 @@ unfinished() { ls | grep '^file' >>err; rm -f file*; }
 while IFS='|' read -r want words lines <&3; do
     eval "auto -o file.rnx $words"
     unfinished
-    # pins: words_and_name, look_text, looks_like, unpacker, unpacking, unpacking_by, count_line_of, unread_line, unread_gps, unread_glonass_to_sbas, unread_qzss_to_navic, all_unread, station_line, epochs_text, epochs_heard, number_and_station, date_message_text, is_told_later, is_break, parted_frame, parting_text, part_command, to_come_line, is_to_come
+    # pins: words_and_name, look_text, looks_like, unpacker, unpacking, unpacking_by, count_line_of, unread_line, unread_gps, unread_glonass_to_sbas, unread_qzss_to_navic, all_unread, station_line, epochs_text, epochs_heard, number_and_station, date_message_text, is_told_later, Parting.apart_ms, Parting.is_break, parted_frame, parting_text, part_command, to_come_line, is_to_come, from_until, reach_line, msm_words, system_words, held_line, read_of_station, position_line, coordinate_after_blank, Lists.coordinate, Lists.metres, Lists.four_decimals
     expect "refused_$(echo "$words" | tr ' ' _)" "$want" '' "rtcm2rinex: $(printf '%b' "$lines")"
 done 3<<'ROWS'
 1|nowhere|cannot open nowhere
@@ -136,7 +136,7 @@ two="$noon until 2024-05-17T12:00:01 by"
 one_command="$(command $noon)"
 says "$two 1013" "$one_command one" '3 1 0 0 2 0 0 0 2'
 auto one
-# pins: span_line, time_text, value_words, convert_words, command_text, no_position_line
+# pins: span_line, span_line_if_any, file_lines, time_text, value_words, convert_words, command_text, no_position_line
 leaves one 0 one.rnx want_err; as_said one one.rnx
 cp want_err one.err
 # written NAME: standard error of `auto -o NAME one`
@@ -209,11 +209,13 @@ finds 'positions one position' "$two 1013" "cat position positions one | $one_co
 position=$no_position
 finds 'same.01 same.00' "$two 1013" "$one_command same.00 same.01" '6 2 0 0 4 0 0 0 2' 0 ''
 finds '--links-as-given same.01 same.00' "$two 1013" "$one_command same.01 same.00" '6 2 0 0 4 0 0 0 2' 0 ''
+# pins: step_ms, greatest_step_ms, WrittenFile.gap_line, more_gaps_line
 finds gaps "$noon until 2024-05-17T12:16:19 by 1013" "$one_command gaps" '28 1 0 0 27 0 0 0 27' 0 '' \
     ' gap 2024-05-17T12:13:57 until 2024-05-17T12:15:18\n gap 2024-05-17T12:12:36 until 2024-05-17T12:13:56\n gap 2024-05-17T12:11:16 until 2024-05-17T12:12:35\n gap 2024-05-17T12:09:57 until 2024-05-17T12:11:15\n gap 2024-05-17T12:08:39 until 2024-05-17T12:09:56\n gap 2024-05-17T12:07:22 until 2024-05-17T12:08:38\n gap 2024-05-17T12:06:06 until 2024-05-17T12:07:21\n gap 2024-05-17T12:04:51 until 2024-05-17T12:06:05\n gap 2024-05-17T12:03:37 until 2024-05-17T12:04:50\n gap 2024-05-17T12:02:24 until 2024-05-17T12:03:36\n more-gaps 2'
 finds slow "$noon until 2024-05-17T12:11:30 by 1013" "$one_command slow" '6 1 0 0 5 0 0 0 5' 0 '' ' gap 2024-05-17T12:06:00 until 2024-05-17T12:11:30'
-# pins: IsNearOf
+# pins: IsNearOf, epochs_line
 finds falls "$noon until 2024-05-17T12:00:02 by 1013" "$(command 2024-05-17T12:00:01) falls" '4 1 0 0 3 0 0 0 3' 0 '' ' time-falls falls'
+# pins: few_phases_line
 finds few "$noon until 2024-05-17T12:00:03 by 1013" "$one_command few" '5 1 0 0 4 0 0 0 4' 0 '' \
     ' few-phases 2W: its satellites have more than twice as many in another code'
 # pins: msm_line
@@ -227,6 +229,7 @@ finds '--msm 4 --codes 1C of_1077' "$two 1013" "$(command $noon 1C) of_1077" '3 
     ' not in the file: GPS 1077, 2 messages\nrtcm2rinex: no record came; the file is a header alone'
 finds '--codes 5X one' "$two 1013" "$(command $noon 5X) one" '3 1 0 0 2 0 0 0 0' 3 '' \
     'rtcm2rinex: no record came; the file is a header alone'
+# pins: skipped_line
 finds '--skip-empty one.gz one empty zip' "$two 1013" "$one_command one" "$counts" 0 one.rnx \
     ' skipped empty is empty\n skipped one.gz looks like gzip; unpack it: gzip -dc one.gz >one.gz.rtcm\n skipped zip looks like zip; unpack it: unzip -p zip >zip.rtcm'
 finds '--skip-empty --station 7 one stations' "$noon until $noon by 1013 of station 2003" \

@@ -4,6 +4,7 @@ use Rattle.rtk_frame.specs.Frames.{Frame, frames}
 use Rattle.rtk_frame.specs.Stream.{with_more}
 use Rattle.rtk_survey.specs.Counting.{shown_count}
 
+-- formula
 -- the place of the frame that comes after so many others of these, if there are so many
 abbrev pub place_after : ℕ → List Frame → Option ℕ
 place_after n [] = None
