@@ -15,6 +15,7 @@ from math import dist
 from pathlib import Path
 from typing import NamedTuple
 
+from equipment import equipment_of
 from messages import CODES, Refusal, cells_of, frames_of, read_message
 from model import civil, moment
 from wire import MSMS, WEEK_MS, BitReader, Fields, Message, table
@@ -101,12 +102,14 @@ class Capture(NamedTuple):
     read: list[Message | Fields]
     places: list[int]  # the byte at which the frame of each begins
     frames: int
+    equipped: set[int]  # the stations of which messages tell an antenna
 
     @classmethod
     def of(cls, text: bytes) -> Capture:
         read: list[Message | Fields] = []
         places: list[int] = []
         frames = frames_of(text)
+        equipped = {it[0] for frame in frames for it in [equipment_of(frame.payload)] if it}
         for frame in frames:
             message = read_message(frame.payload, MSMS)
             date = date_of(frame.payload)
@@ -114,7 +117,7 @@ class Capture(NamedTuple):
                 continue
             read.append(date if isinstance(message, Refusal) else message)
             places.append(frame.place)
-        return cls(read, places, len(frames))
+        return cls(read, places, len(frames), equipped)
 
     def messages(self) -> list[Message]:
         return [it for it in self.read if isinstance(it, Message)]
@@ -126,13 +129,23 @@ class Capture(NamedTuple):
     def of_station(self, station: int) -> list[Message]:
         return [it for it in self.messages() if it.header["station"] == station]
 
-    def point(self, station: int) -> list[tuple[int, ...]]:
-        """The position of the station's first 1005 or 1006, if there is one."""
-        return [tuple(it.header[axis] for axis in "xyz") for it in self.of_station(station) if "x" in it.header][:1]
+    def is_of_station(self, station: int) -> bool:
+        """Whether a message of it came, be it one with observations, with a position, with a date, or with an antenna."""
+        return station in self.equipped or any(it.get("station") == station for it in map(fields_of, self.read))
+
+    def points(self, station: int) -> list[tuple[int, ...]]:
+        """The first position of the station, and the first one that is far from it. Zeros are none."""
+        points = [tuple(it.header[axis] for axis in "xyz") for it in self.of_station(station) if "x" in it.header]
+        known = [it for it in points if any(it)]
+        return [*known[:1], *[it for it in known if dist(it, known[0]) > METRES_100][:1]]
 
     def times(self, station: int) -> list[int]:
         """The times of week of the station's messages that have an observation."""
         return [it.header["tow"] for it in self.messages() if is_observation_of(station, it)]
+
+
+def fields_of(entry: Message | Fields) -> Fields:
+    return entry.header if isinstance(entry, Message) else entry
 
 
 def has_observation(message: Message) -> bool:
@@ -351,7 +364,7 @@ def find(texts: list[bytes], now: int, station: int | None = None, near: int | N
     if not any(it.frames for it in everything):
         raise Stopped("no frame")
     number = station_of(everything, station)
-    skipped = [at for at, it in enumerate(everything) if not it.of_station(number)]
+    skipped = [at for at, it in enumerate(everything) if not it.is_of_station(number)]
     if skipped and not skip_empty:
         raise Stopped("nothing of the station", *skipped)
     captures = [it for at, it in enumerate(everything) if at not in skipped]
@@ -375,7 +388,7 @@ def find(texts: list[bytes], now: int, station: int | None = None, near: int | N
     links = links_of(epochs, as_given)
     if len(links) > MOST_LINKS:
         raise Stopped("too many links", len(links))
-    points = [point for capture in captures for point in capture.point(number)]
+    points = [point for capture in captures for point in capture.points(number)]
     if not as_given and any(dist(a, b) > METRES_100 for a, b in combinations(points, 2)):
         raise Stopped("positions differ")
     places = [at for at in range(len(texts)) if at not in skipped]

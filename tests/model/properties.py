@@ -376,7 +376,7 @@ def auto_text(found: Found, said: Setup, due: Conversion, texts: list[bytes], is
     if epochs:
         lines.append(f" from {shown_time(epochs[0])} until {shown_time(epochs[-1])} by {source}")
     if re.search(r"^ {8}0\.0000 {8}0\.0000 {8}0\.0000 +APPROX POSITION XYZ", due.file, re.M):
-        lines.append(" no-position: no 1005 or 1006 came in time, and the header has zeros")
+        lines.append(" no-position: the header has zeros, as no 1005 or 1006 came in time, or the first one has zeros")
     lines += gap_lines(epochs)
     conflicts = sum(" conflict " in line for line in due.report.splitlines()[:-9])
     lines += [f" conflict {conflicts}: later copies differ from the first, which the file has"] * (conflicts > 0)
@@ -394,7 +394,8 @@ def auto_text(found: Found, said: Setup, due: Conversion, texts: list[bytes], is
     with_stray = {number for number, link in enumerate(found.links, 1) if set(link) & set(strays)}
     by_stray = sum(line.split()[2] == "late" and int(line.split()[1]) in with_stray for line in due.report.splitlines()[:-9])
     of_them = f", {by_stray} of them on a link with the stray epoch" if by_stray else ""
-    lines += [f" late {counts['late']}: messages after {said.window} newer epochs are left out{of_them}"] * (counts["late"] != "0")
+    late = f" late {counts['late']}: observations after {said.window} newer epochs, and new positions after {said.window} epochs, are left out"
+    lines += [late + of_them] * (counts["late"] != "0")
     looks = {at: look_of(texts[at]) for at in found.skipped if not frames_of(texts[at])}
     shown = {"unknown": "", "empty": " is empty", "gzip": " looks like gzip; unpack it: gzip -dc NAME >NAME.rtcm"}
     lines += [f" skipped {name_of(at)}{shown.get(looks.get(at), '').replace('NAME', name_of(at))}" for at in found.skipped]

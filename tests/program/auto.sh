@@ -75,6 +75,8 @@ done 3<<'ROWS'
 3|here.0 here.2|the station stands at positions that differ; --links-as-given takes them for one\n position 1114104.5999 -4850729.7108 3975521.4643 in here.0\n position 1114204.6000 -4850729.7108 3975521.4643 in here.2
 3|far_and_later here.1 here.0|the station stands at positions that differ; --links-as-given takes them for one\n position 1114204.6000 -4850729.7108 3975521.4643 in far_and_later\n position 1114104.5999 -4850729.7108 3975521.4643 in here.0
 3|here.0 far|the station stands at positions that differ; --links-as-given takes them for one\n position 1114204.6000 -4850729.7108 3975521.4643 in far\n position 1114104.5999 -4850729.7108 3975521.4643 in here.0
+3|moves|the station stands at positions that differ; --links-as-given takes them for one\n position 1114104.5999 -4850729.7108 3975521.4643 in moves\n position 1114204.6000 -4850729.7108 3975521.4643 in moves
+3|here.0 moves|the station stands at positions that differ; --links-as-given takes them for one\n position 1114104.5999 -4850729.7108 3975521.4643 in here.0\n position 1114204.6000 -4850729.7108 3975521.4643 in moves
 3|--msm 4 of_1077|neither a 1004 nor the MSM of --msm has a GPS observation; choose another MSM\n holds 1013, 1 messages\n holds GPS 1077, 2 messages
 3|--near 1980-01-13T00:00:00 one|the first epoch is not dated from 1980-01-13 to 2099-12-31; choose a date by --near
 3|--near 2099-12-31T23:59:59 one|the first epoch is not dated from 1980-01-13 to 2099-12-31; choose a date by --near
@@ -109,7 +111,7 @@ for option in 'station 4096 4096 is not in 0..=4095' 'window 1 1 is not in 2..=4
 done
 
 # says SPAN COMMAND COUNTS LINE..: standard error of a run that is done, of captures that have a position or not
-no_position=' no-position: no 1005 or 1006 came in time, and the header has zeros'
+no_position=' no-position: the header has zeros, as no 1005 or 1006 came in time, or the first one has zeros'
 position=$no_position
 says() {
     printf ' the same by hand:\n%s\n' "$2"
@@ -207,6 +209,9 @@ finds 'positions one' "$two 1013" "cat positions one | $one_command stdin" '5 1 
 # Captures without an epoch, and those of the same time, go by their names.
 finds 'positions one position' "$two 1013" "cat position positions one | $one_command stdin" '6 1 0 1 3 1 0 0 2' 0 '' ' no-epoch position\n no-epoch positions'
 position=$no_position
+# The first 1005 has zeros, and the header too, though a position follows.
+# pins: is_zero
+finds zeros "$noon until $noon by 1013" "$one_command zeros" '4 1 0 0 2 0 1 0 1' 0 '' ' conflict 1: later copies differ from the first, which the file has'
 finds 'same.01 same.00' "$two 1013" "$one_command same.00 same.01" '6 2 0 0 4 0 0 0 2' 0 ''
 finds '--links-as-given same.01 same.00' "$two 1013" "$one_command same.01 same.00" '6 2 0 0 4 0 0 0 2' 0 ''
 # pins: step_ms, greatest_step_ms, WrittenFile.gap_line, more_gaps_line
@@ -260,7 +265,7 @@ finds 'astray_2 astray one' "$noon until 2024-05-19T12:00:00 by 1013" "$one_comm
 # Once the link of led_astray has its stray epoch, the other link is read to its end, so the last three messages are late.
 # pins: late_by_stray, late_count_line
 finds '--window 2 led_astray steady' "$noon until 2024-05-19T12:00:00 by 1013" "$(command $noon | sed 's/4096/2/') steady led_astray" '17 2 0 0 11 1 0 3 11' 0 '' \
-    ' gap 2024-05-17T12:00:09 until 2024-05-19T12:00:00\n stray led_astray 2024-05-19T12:00:00\n late 3: messages after 2 newer epochs are left out, 3 of them on a link with the stray epoch\n time-falls led_astray'
+    ' gap 2024-05-17T12:00:09 until 2024-05-19T12:00:00\n stray led_astray 2024-05-19T12:00:00\n late 3: observations after 2 newer epochs, and new positions after 2 epochs, are left out, 3 of them on a link with the stray epoch\n time-falls led_astray'
 # A date in a capture without an epoch is its own moment, and counts if no capture with epochs tells a date.
 position=
 # pins: own_moment, own_moment_of_ephemeris
@@ -276,6 +281,8 @@ finds 'antenna_2 antenna_1' "$noon until 2024-05-17T12:00:03 by 1013" "cat anten
 finds 'antenna_3 antenna_1' "$noon until 2024-05-17T12:00:04 by 1013" "cat antenna_1 antenna_3 | $one_command stdin$(labelled ' --antenna-type A --antenna-number 1')" '7 4 0 0 3 0 0 0 3' 0 ''
 finds 'antenna_3 antenna_2 antenna_1' "$noon until 2024-05-17T12:00:04 by 1013" "cat antenna_1 antenna_2 antenna_3 | $one_command stdin$(labelled ' --antenna-type A')" '11 6 0 0 5 0 0 0 5' 0 ''
 finds 'long short' "$noon until 2024-05-17T12:00:09 by 1013" "$one_command long short$(labelled ' --antenna-type NEW --antenna-number 2 --receiver-type R2')" '9 5 0 0 4 0 0 0 4' 0 ''
+# A capture that tells an antenna alone is of the station, and is not left out.
+finds 'equipment_alone one' "$two 1013" "cat equipment_alone one | $one_command stdin$(labelled " --antenna-type 'TRM55971.00     NONE' --antenna-number 144 --receiver-type 'TRIMBLE NETR9' --receiver-version 4.48 --receiver-number 5148")" '5 3 0 0 2 0 0 0 2' 0 one.rnx ' no-epoch equipment_alone'
 auto -o 'a file' equipped; cp err equipped.err; grep '^rtcm2rinex label' err >said
 (PATH=$work/bin:$PATH && . ./said) >labelled_file 2>again_err
 run label --blank labelled_file; leaves the_label_as_said 0 one.rnx /dev/null
@@ -301,9 +308,11 @@ finds '--marker "NEW ROOF" one' "$two 1013" "$(echo "$one_command" | sed "s/--ma
 finds '--marker --x one' "$two 1013" "$(echo "$one_command" | sed "s/--marker 2003/--marker --x/") one" "$counts" 0 ''
 # pins: late_count_line, known_lines
 finds '--window 2 --near 2024-05-17T12:00:00 '"$examples/late.rtcm" "$noon until 2024-05-17T12:00:05 by --near" \
-    "$(command $noon | sed 's/4096/2/') $examples/late.rtcm" '6 0 0 0 5 0 0 1 5' 0 '' " late 1: messages after 2 newer epochs are left out\n time-falls $examples/late.rtcm"
+    "$(command $noon | sed 's/4096/2/') $examples/late.rtcm" '6 0 0 0 5 0 0 1 5' 0 '' " late 1: observations after 2 newer epochs, and new positions after 2 epochs, are left out\n time-falls $examples/late.rtcm"
 finds week_end "2024-05-18T23:59:50 until 2024-05-19T00:00:09 by 1013" "$(command 2024-05-18T23:59:50) week_end" '21 1 0 0 20 0 0 0 20' 0 week_end.rnx
 position=
+# A position that changes once the header is settled is late, though no newer epoch came.
+finds '--window 2 moves_late' "$noon until 2024-05-17T12:00:02 by 1013" "$(command $noon | sed 's/4096/2/') moves_late" '6 1 0 0 4 0 0 1 3' 0 '' " late 1: observations after 2 newer epochs, and new positions after 2 epochs, are left out"
 links='here.0 here.1' # 100 m apart
 conflict=' conflict 1: later copies differ from the first, which the file has'
 # pins: conflicts_line

@@ -60,6 +60,12 @@ CAPTURES = {
     "position": place(),
     "positions": place(1_000_001, station=7) + place(),
     "far": place(1_000_001),
+    # a station that moves within a capture, from a 1005 to a 1006; one that sends zeros first; and one that moves by 1 m after three epochs
+    "moves": date(43_200) + place() + epochs(NOON) + capture(point(1006, x=11_142_046_000)) + epochs(NOON + 1),
+    "zeros": date(43_200) + capture(point(1005, x=0, y=0, z=0)) + epochs(NOON) + place(),
+    "moves_late": date(43_200) + place() + epochs(NOON, NOON + 1, NOON + 2) + place(10_000),
+    # a capture of the station without an epoch or a position
+    "equipment_alone": date(43_260) + equipment(1033, b"TRM55971.00     NONE", 0, b"144", b"TRIMBLE NETR9", b"4.48", b"5148"),
     "far_and_later": date(43_220) + place(1_000_001) + epochs(NOON + 20),
     "undated": epochs(NOON),
     "later": epochs(NOON + 2, NOON + 3),

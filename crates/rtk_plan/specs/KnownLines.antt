@@ -177,7 +177,8 @@ late_by_stray count = if count == 0 then [] else codes ", " ++ decimal count ++ 
 unfoldable pub late_count_line : ℕ → ℕ → ℕ → List ℕ
 late_count_line late by_stray window =
     if late == 0 then [] else
-    codes " late " ++ decimal late ++ codes ": messages after " ++ decimal window ++ codes " newer epochs are left out"
+    codes " late " ++ decimal late ++ codes ": observations after " ++ decimal window
+    ++ codes " newer epochs, and new positions after " ++ decimal window ++ codes " epochs, are left out"
     ++ late_by_stray by_stray ++ codes "\n"
 
 -- formula

@@ -10,7 +10,6 @@ pub mod LabelCommand
 pub mod Linking
 pub mod Lists
 pub mod Plan
-pub mod Points
 pub mod Positions
 pub mod Reach
 pub mod Reported

@@ -1,5 +1,5 @@
 -- The dates of captures that were read (this project's rule).
-use Rattle.std.specs.Prelude.{ℕ, Bool, false, ◌||◌, not, nat_le, min, max, List, [], ◌∷◌, Option, None, Some, if◌then◌else◌}
+use Rattle.std.specs.Prelude.{ℕ, ◌-◌, ◌%◌, Bool, false, ◌||◌, not, nat_le, min, max, List, [], ◌∷◌, Option, None, Some, if◌then◌else◌}
 use Rattle.rtk_obs.specs.declared.time.TheConstants.{LAST_MS}
 use Rattle.rtk_survey.specs.Placing.{least_with_if_any, placed, is_dated_near}
 use Rattle.rtk_survey.specs.declared.placing.Placed.{Placed}
@@ -66,6 +66,11 @@ reach_with (Some r) (Some p) = Some (joined_reach r p)
 abbrev pub reach_after : Option Placed → List (Option Placed) → Option Placed
 reach_after reach [] = reach
 reach_after reach (p ∷ ps) = reach_after (reach_with reach p) ps
+
+-- formula
+-- the whole second
+abbrev pub second_of : ℕ → ℕ
+second_of t = t - t % 1000
 
 abbrev pub is_wide_if_any : Option Span → Bool
 is_wide_if_any None = false

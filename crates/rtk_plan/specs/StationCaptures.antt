@@ -19,15 +19,20 @@ use Rattle.rtk_plan.specs.declared.station_capture.StationCapture.{StationCaptur
 abbrev pub station_in : ℕ → CaptureSurvey → Option StationSurvey
 station_in n s = get nat_cmp s.contents.stations n
 
--- a message of the station was read
+-- a message of the station came: with observations or a position, or one that tells a date, an antenna or a
+-- receiver; only such a station has a survey
 abbrev pub is_heard : Option StationSurvey → Bool
-is_heard None = false
-is_heard (Some t) = not (t.counts.messages == 0)
+is_heard t = is_some t
 
--- the reference point of its first 1005 or 1006
+-- its first reference point
 abbrev pub point_of : Option StationSurvey → Option ReferencePoint
 point_of None = None
 point_of (Some t) = t.reference_point
+
+-- the first one that is far from it
+abbrev pub far_point_of : Option StationSurvey → Option ReferencePoint
+far_point_of None = None
+far_point_of (Some t) = t.far_point
 
 abbrev pub is_marked : Bool → Bool
 is_marked mark = mark
@@ -110,6 +115,7 @@ capture_of n s = record {
   look = s.look;
   is_heard = is_heard (station_in n s);
   point = point_of (station_in n s);
+  far_point = far_point_of (station_in n s);
   span = (dates_in n s).span;
   told = first_told (told_in n s);
   dates = length (told_in n s);

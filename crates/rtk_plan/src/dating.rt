@@ -4,10 +4,9 @@ ghost use Rattle.std.specs.Prelude.{◌≡◌, ◌<◌, true, false, None, map, 
 ghost use Rattle.std.specs.List.{list_any};
 ghost use Rattle.rtk_plan.specs.Causes.{IfRefused, IsReachCause, IsDatingCause, IsPartedAt, has_several_dates, has_week, is_dated_by_week, is_dated_by_day, is_told_later, have_week_and_day};
 ghost use Rattle.rtk_plan.specs.Plan.{IsBaseOf, IsReachOf, IsNearOf, ArePlaced, AreStrays, some_out_of_reach};
-ghost use Rattle.rtk_plan.specs.Reach.{placed_if_any};
+ghost use Rattle.rtk_plan.specs.Reach.{placed_if_any, second_of};
 ghost use Rattle.rtk_plan.specs.Stray.{strays};
 ghost use Rattle.rtk_obs.specs.declared.time.TheConstants.{LAST_MS};
-ghost use Rattle.rtk_survey.specs.Placing.{second_of};
 ghost use Rattle.rtk_survey.specs.declared.placing.Placed.{Placed};
 
 use crate::captures::StationCaptures;

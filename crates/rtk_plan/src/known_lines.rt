@@ -74,8 +74,13 @@ fn put_late(lines: &mut Vec<u8>, late: u64, by_stray: u64, window: usize) -> Res
         return Ok(());
     }
     put_named(lines, b" late ", late)?;
-    put_named(lines, b": messages after ", window as u64)?;
-    lines.extend_from_slice(b" newer epochs are left out")?;
+    put_named(lines, b": observations after ", window as u64)?;
+    put_named(
+        lines,
+        b" newer epochs, and new positions after ",
+        window as u64,
+    )?;
+    lines.extend_from_slice(b" epochs, are left out")?;
     put_late_by_stray(lines, by_stray)?;
     lines.extend_from_slice(b"\n")
 }

@@ -1,7 +1,6 @@
 //! The dates of captures that were read.
 
 ghost use Rattle.std.specs.Prelude.{◌≡◌, ◌-◌, ◌%◌, ◌∷◌, [], None, map, length, Some, IfOk};
-ghost use Rattle.rtk_survey.specs.Placing.{second_of};
 ghost use Rattle.rtk_plan.specs.Reach as spec;
 
 use crate::station_capture::StationCapture;
@@ -141,7 +140,7 @@ pub fn reach_of(placed: &[Option<Placed>]) -> Option<Placed>
 /// The moment near which a conversion dates captures of this reach, in ms: the whole second of the least
 /// first epoch.
 pub fn near_of(reach: &Placed) -> u64
-    ensures { result ≡ second_of reach.now.first }
+    ensures { result ≡ spec.second_of reach.now.first }
 {
     reach.first - reach.first % 1000
 }

@@ -56,7 +56,7 @@ pub enum Refusal {
     /// More than 16 captures are of the same time.
     #[error("more than 16 captures are of the same time, and 16 links are taken")]
     TooManyLinks,
-    /// The station stands at two positions.
+    /// The messages of the captures tell positions of the station that are far from one another.
     #[error("the station stands at positions that differ; --links-as-given takes them for one")]
     PositionsDiffer,
 }

@@ -10,15 +10,18 @@ use rtk_survey::{
 };
 use std::alloc::{AllocError, Global};
 
-/// What a capture tells of a station. It has at most 200 bytes.
+/// What a capture tells of a station. It has at most 240 bytes.
 #[derive(Clone, Copy, Debug, PartialEq, Eq)]
 pub struct StationCapture {
     /// What the capture looks like, if it has no frame.
     pub look: Option<Look>,
-    /// A message of the station was read: a 1004 to 1006 or a 1074 to 1077.
+    /// A message of the station came: with observations or a position, or one that tells a date, an antenna or a
+    /// receiver.
     pub is_heard: bool,
-    /// The reference point of its first 1005 or 1006.
+    /// Its first reference point.
     pub point: Option<ReferencePoint>,
+    /// The first one that is more than 100 m from it.
+    pub far_point: Option<ReferencePoint>,
     /// Its epochs; `None` if there is none.
     pub span: Option<Span>,
     /// The first epoch, as the first message told it that counts.
@@ -36,7 +39,7 @@ fn is_heard(station: Option<&StationSurvey>) -> bool
     ensures { result ≡ spec.is_heard (option_copied station.entry) }
 {
     match station {
-        Some(station) => station.counts.messages != 0,
+        Some(_) => true,
         None => false,
     }
 }
@@ -45,6 +48,12 @@ fn point_of(station: Option<&StationSurvey>) -> Option<ReferencePoint>
     ensures { result ≡ spec.point_of (option_copied station.entry) }
 {
     station?.reference_point
+}
+
+fn far_point_of(station: Option<&StationSurvey>) -> Option<ReferencePoint>
+    ensures { result ≡ spec.far_point_of (option_copied station.entry) }
+{
+    station?.far_point
 }
 
 fn is_marked(mark: &bool) -> bool
@@ -187,6 +196,7 @@ pub(crate) fn capture_of(station: u16, survey: &CaptureSurvey) -> StationCapture
         look: survey.look,
         is_heard: is_heard(heard),
         point: point_of(heard),
+        far_point: far_point_of(heard),
         span: span_in(station, survey),
         told: first_told(told),
         dates: told.len(),

@@ -19,7 +19,7 @@ use Rattle.rtk_survey.specs.FrameDates.{dates_in, no_station_dates, station_date
 use Rattle.rtk_survey.specs.FrameEquipment.{equipment_among}
 use Rattle.rtk_survey.specs.Proposal.{epochs_in, times_with_value, entries_with}
 use Rattle.rtk_survey.specs.ReadFrames.{ReadFrame, bytes_in, messages_in, faults_in, messages_from}
-use Rattle.rtk_survey.specs.ReferencePoints.{first_point}
+use Rattle.rtk_survey.specs.ReferencePoints.{first_point, far_point}
 use Rattle.rtk_survey.specs.Sbas.{has_sbas}
 use Rattle.rtk_survey.specs.Targets.{IsAnswer}
 use Rattle.rtk_survey.specs.Tracing.{is_numbered, is_other, is_short, is_outside_week, is_no_number, is_too_many_cells, times_of_week, newest_time, oldest_time, changes_in, entries_in, gives_satellite, gives_place}
@@ -133,6 +133,7 @@ pub record IsStationOf (ms : List AnyMessage) (d : StationDates) (e : Equipment)
   pub signals : HasSignals s.signals (entries_in ms)
   pub msm : HasMsms s.msm ms
   pub point : s.reference_point ≡ first_point ms
+  pub far : s.far_point ≡ far_point ms
   pub dates : s.dates ≡ d
   pub equipment : equipment_at s.equipment ≡ e
 

@@ -16,6 +16,7 @@ pub mod NumberLaws
 pub mod Parting
 pub mod Phases
 pub mod Placing
+pub mod Points
 pub mod Proposal
 pub mod ReadFrames
 pub mod ReferencePoints

@@ -52,6 +52,7 @@ mod msm_parts;
 mod parting;
 mod phases;
 mod placing;
+mod points;
 mod proposal_lines;
 mod reading;
 mod reference_point;
@@ -88,12 +89,10 @@ pub use look::{Look, look_of};
 pub use msm_parts::{MsmPart, MsmParts};
 pub use parting::{EpochStep, Parting};
 pub use phases::{PhaseCount, Phases, count_in_table};
-pub use placing::{
-    CaptureEpochs, Placed, base_of, is_dated_near, least_with_if_any, near_of, place,
-    place_captures,
-};
+pub use placing::{CaptureEpochs, Placed, is_dated_near, least_with_if_any, place};
+pub use points::are_far;
 pub use reading::survey_capture;
-pub use reference_point::{ReferencePoint, first_point_with};
+pub use reference_point::{ReferencePoint, far_point_with, first_point_with};
 pub use signals::{Codes, Signals, has_value, have_value};
 pub use span::Span;
 pub use station::{MessageCounts, StationSurvey};

@@ -16,7 +16,7 @@ use crate::date_message::UtcDate;
 use crate::equipment::Equipment;
 use crate::equipment_message::EquipmentMessage;
 use crate::msm_parts::MsmParts;
-use crate::reference_point::{ReferencePoint, first_point_with};
+use crate::reference_point::{ReferencePoint, far_point_with, first_point_with};
 use crate::sbas::has_sbas;
 use crate::signals::{Codes, Signals};
 use crate::station_dates::StationDates;
@@ -46,8 +46,10 @@ pub struct StationSurvey {
     /// The satellites and codes that have a value.
     pub signals: Signals,
     pub msm: MsmParts,
-    /// That of its first 1005 or 1006.
+    /// That of its first 1005 or 1006 that has one.
     pub reference_point: Option<ReferencePoint>,
+    /// The first one that is more than 100 m from it.
+    pub far_point: Option<ReferencePoint>,
     /// The dates that its 1013 and 1029 tell.
     pub dates: StationDates,
     /// What its 1007, 1008 and 1033 tell: an entry, or none if there is no such message.
@@ -103,6 +105,7 @@ impl StationSurvey {
             signals: Signals::new(),
             msm: MsmParts::new(),
             reference_point: None,
+            far_point: None,
             dates: StationDates::new(),
             equipment: Vec::new(alloc),
         }
@@ -124,7 +127,9 @@ impl StationSurvey {
         self.times.note_message(message);
         self.signals.mark_entries(entries);
         self.msm.add_message(message, entries, codes);
-        self.reference_point = first_point_with(self.reference_point, message);
+        let first = self.reference_point;
+        self.far_point = far_point_with(first, self.far_point, message);
+        self.reference_point = first_point_with(first, message);
     }
 
     /// A 1013 or a 1029 more of the station.

@@ -11,6 +11,7 @@ returns c = λ ms d e stands. record {
   signals = subst (λ (es : List CellEntry). HasSignals c.mark_entries.new.self (es ++ entries_in ms)) c.requires.entries (c.mark_entries.ensures (entries_in ms) stands.signals);
   msm = c.add_message.ensures ms stands.msm;
   point = c.first_point_with-self.ensures ms stands.point;
+  far = c.far_point_with-self.ensures ms stands.point stands.far;
   dates = stands.dates;
   equipment = stands.equipment;
 }

@@ -1,9 +1,9 @@
 //! How far reference points are apart.
 
 ghost use Rattle.std.specs.Prelude.{◌≡◌, ◌<◌, ◌^◌};
-ghost use Rattle.rtk_plan.specs.Points as spec;
+ghost use Rattle.rtk_survey.specs.Points as spec;
 
-use rtk_survey::ReferencePoint;
+use crate::reference_point::ReferencePoint;
 
 /// More than 100 m, squared; coordinates are in 0.0001 m.
 const FAR_SQUARED: u128 = 1_000_000_000_000;

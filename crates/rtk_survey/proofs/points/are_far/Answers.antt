@@ -1,7 +1,7 @@
 use Rattle.std.proofs.Common.{◌≡◌, ◌<◌, ◌+◌, ℕ, min, nat_lt, ap, ◌∙◌, lit<, arith}
 use Rattle.std.proofs.lemmas.Bool.{ltb-true, lt-ltb, ltb_from_iff}
-use Rattle.rtk_plan.specs.Points.{squared_apart}
-use Rattle.rtk_plan.proofs.points.are_far.Goals as goal
+use Rattle.rtk_survey.specs.Points.{squared_apart}
+use Rattle.rtk_survey.proofs.points.are_far.Goals as goal
 
 -- a sum that stops at a greater number is compared alike
 compared : (k most x y z s t : ℕ) → k < most → s ≡ min (x + y) most → t ≡ min (s + z) most → nat_lt k t ≡ nat_lt k (x + y + z)
