@@ -220,7 +220,7 @@ finds gaps "$noon until 2024-05-17T12:16:19 by 1013" "$one_command gaps" '28 1 0
 finds slow "$noon until 2024-05-17T12:11:30 by 1013" "$one_command slow" '6 1 0 0 5 0 0 0 5' 0 '' ' gap 2024-05-17T12:06:00 until 2024-05-17T12:11:30'
 # pins: IsNearOf, epochs_line
 finds falls "$noon until 2024-05-17T12:00:02 by 1013" "$(command 2024-05-17T12:00:01) falls" '4 1 0 0 3 0 0 0 3' 0 '' ' time-falls falls'
-# pins: few_phases_line
+# pins: few_phases_line_if
 finds few "$noon until 2024-05-17T12:00:03 by 1013" "$one_command few" '5 1 0 0 4 0 0 0 4' 0 '' \
     ' few-phases 2W: its satellites have more than twice as many in another code'
 # pins: msm_line

@@ -79,11 +79,12 @@ undated_lines Ephemerides names cs = all_undated names cs
 
 -- formula
 -- a code whose satellites have more than twice as many phases in another one
+abbrev pub few_phases_line_if : Bool → Code → List ℕ
+few_phases_line_if has_few code =
+    if has_few then codes " few-phases " ++ name_of code ++ codes ": its satellites have more than twice as many in another code\n" else []
+
 abbrev pub few_phases_line : List CaptureSurvey → ℕ → MsmKind → Code → List ℕ
-few_phases_line ss station kind code =
-    if has_few_phases ss station kind code then
-    codes " few-phases " ++ name_of code ++ codes ": its satellites have more than twice as many in another code\n"
-    else []
+few_phases_line ss station kind code = few_phases_line_if (has_few_phases ss station kind code) code
 
 abbrev pub few_phases_lines : List CaptureSurvey → ℕ → MsmKind → List Code → List ℕ
 few_phases_lines ss station kind cs = flat_map (few_phases_line ss station kind) cs

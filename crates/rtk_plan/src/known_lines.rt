@@ -22,6 +22,19 @@ use rtk_obs::Code;
 use rtk_survey::{CaptureSurvey, Equipment};
 use std::alloc::{AllocError, Global};
 
+// Appends the line of a code with few phases.
+fn put_few_phases_line(lines: &mut Vec<u8>, has_few: bool, code: Code) -> Result<(), AllocError>
+    ensures { OnOk result (lines.new.items ≡ lines.old.items ++ spec.few_phases_line_if has_few code) }
+{
+    if !has_few {
+        return Ok(());
+    }
+    lines.extend_from_slice(b" few-phases ")?;
+    lines.extend_from_slice(&code.name())?;
+    lines.extend_from_slice(b": its satellites have more than twice as many in another code\n")?;
+    Ok(())
+}
+
 // Appends the line of a code, if it has few phases.
 fn put_few_phases_of(
     lines: &mut Vec<u8>,
@@ -31,12 +44,7 @@ fn put_few_phases_of(
     ensures { OnOk result (lines.new.items ≡ lines.old.items
         ++ spec.few_phases_line phases.now.surveys.now phases.now.station phases.now.msm code) }
 {
-    if !phases.has_few(code) {
-        return Ok(());
-    }
-    lines.extend_from_slice(b" few-phases ")?;
-    lines.extend_from_slice(&code.name())?;
-    lines.extend_from_slice(b": its satellites have more than twice as many in another code\n")
+    put_few_phases_line(lines, phases.has_few(code), code)
 }
 
 // Appends the codes that have few phases.
@@ -62,7 +70,8 @@ fn put_late_by_stray(lines: &mut Vec<u8>, count: u64) -> Result<(), AllocError>
         return Ok(());
     }
     put_named(lines, b", ", count)?;
-    lines.extend_from_slice(b" of them on a link with the stray epoch")
+    lines.extend_from_slice(b" of them on a link with the stray epoch")?;
+    Ok(())
 }
 
 // Appends how many messages were late, and how many of them because of a stray epoch.
@@ -144,6 +153,7 @@ fn late_on_links(reported: &Reported, links: &[usize]) -> u64
 }
 
 // Appends what a person should know before the line of late messages.
+#[tactic(auto, unfolding(crate::specs::KnownLines::first_lines))]
 fn put_first_lines(
     lines: &mut Vec<u8>,
     captures: &Captures<'_, '_>,
@@ -167,6 +177,7 @@ fn put_first_lines(
 }
 
 // Appends the observations that are not taken.
+#[tactic(auto, unfolding(crate::specs::KnownLines::not_taken))]
 fn put_not_taken(
     lines: &mut Vec<u8>,
     surveys: &[CaptureSurvey],
@@ -182,6 +193,7 @@ fn put_not_taken(
 }
 
 // Appends what a person should know behind the line of late messages.
+#[tactic(auto, unfolding(crate::specs::KnownLines::last_lines))]
 fn put_last_lines(
     lines: &mut Vec<u8>,
     captures: &Captures<'_, '_>,
@@ -262,6 +274,7 @@ fn put_conflicts(lines: &mut Vec<u8>, conflicts: u64) -> Result<(), AllocError>
 
 /// Appends what a file has that was written: its epochs, its gaps, that it has no position, and how many
 /// conflicts the report has.
+#[tactic(auto, unfolding(crate::specs::KnownLines::file_lines))]
 pub fn put_file(
     lines: &mut Vec<u8>,
     known: &Known,
