@@ -1,10 +1,8 @@
 -- The table of an epoch, given the epochs below it. Lists of epochs fall: the greatest stands
 -- first.
-use Rattle.std.specs.Prelude.{ℕ, zero, suc, Bool, false, ◌&&◌, ◌==◌, List, [], ◌∷◌, ◌++◌, map, filter, Option, Some, None, is_some, if◌then◌else◌, ℤ}
+use Rattle.std.specs.Prelude.{ℕ, zero, suc, Bool, false, ◌&&◌, ◌==◌, nat_lt, List, [], ◌∷◌, ◌++◌, map, filter, Option, Some, None, is_some, if◌then◌else◌, ℤ}
 use Rattle.std.specs.List.{list_any}
 use Rattle.rtk_obs.specs.declared.any_code.AnyCode.{AnyCode}
-use Rattle.rtk_obs.specs.declared.carrier.Carrier.{Carrier}
-use Rattle.rtk_obs.specs.declared.carrier.Carrier.TheVariants as carrier
 use Rattle.rtk_obs.specs.declared.cell.Cell.{Cell}
 use Rattle.rtk_obs.specs.declared.cell.CellSource.TheVariants.{Legacy, Msm}
 use Rattle.rtk_obs.specs.declared.code.Band.{Band}
@@ -12,7 +10,7 @@ use Rattle.rtk_obs.specs.declared.code.Band.TheVariants.{L1, L2, L5}
 use Rattle.rtk_obs.specs.declared.signal_cells.SignalEntry.{SignalEntry}
 use Rattle.rtk_obs.specs.declared.track.Track.{Track}
 use Rattle.rtk_obs.specs.declared.track.Digits.{Digits}
-use Rattle.rtk_obs.specs.AnyCode.{number_of, carrier_of}
+use Rattle.rtk_obs.specs.AnyCode.{number_of, place_of}
 use Rattle.rtk_obs.specs.SatelliteIndex.{letter_of, system_at}
 use Rattle.rtk_obs.specs.Slip.{EpochCell, epoch_cell}
 use Rattle.rtk_obs.specs.Rollover.{last_phase, digits_since, rolled_phase}
@@ -52,23 +50,14 @@ cells_at_epochs [] satellite code = []
 cells_at_epochs (e ∷ below) satellite code = and_below e.epoch (cell_at e.cells satellite code) (cells_at_epochs below satellite code)
 
 -- table
--- the band of GPS on a carrier; only a 1004, which is of GPS, tells of rolls, so that of any other carrier
--- is the first one, and tells nothing
-abbrev pub band_on : Carrier → Band
-band_on carrier.L1 = L1
-band_on carrier.L2 = L2
-band_on carrier.L5 = L5
-band_on carrier.G1 = L1
-band_on carrier.G2 = L1
-band_on carrier.B1 = L1
-band_on carrier.B3 = L1
-band_on carrier.E6 = L1
-band_on carrier.E5b = L1
-band_on carrier.E5 = L1
+-- the band of the code of GPS with this place
+abbrev pub band_at : ℕ → Band
+band_at place = if nat_lt place 6 then L1 else if nat_lt place 13 then L2 else L5
 
--- the band by which rolls of a code are counted
+-- the band by whose frequency the rolls of a code are counted. Only phases of a 1004 roll, which is of GPS: that
+-- of a code of another system tells nothing
 abbrev pub band_of : AnyCode → Band
-band_of code = band_on (carrier_of code)
+band_of code = band_at (place_of code)
 
 -- the last phase of a satellite and code at these epochs
 abbrev pub last_phase_of : List (EpochSetView SignalEntry) → ℕ → AnyCode → Option Track

@@ -8,7 +8,7 @@ ghost use Rattle.rtk_convert.specs.FileLaws.{FileIsTable};
 ghost use Rattle.rtk_convert.specs.Headline.{SetHasOneFile};
 ghost use Rattle.rtk_convert.specs.HistoryLaws.{ComesToOne, FeedsToOne, ClosesToOne, EndsAtOne, CallsFindOne, NextIsOne, ReadsComeToOne};
 ghost use Rattle.rtk_convert.specs.NumberLaws.{CountLinesTellCounts, ReportTellsCounts, EpochsAreRecords, EpochsAreOfTable};
-ghost use Rattle.rtk_convert.specs.SetupLaws.{DefaultTakesFour};
+ghost use Rattle.rtk_convert.specs.SetupLaws.{DefaultTakesFour, GpsMessagesStay};
 
 use rtk_collect::{
     epochs_are_bounded, late_arrivals_change_nothing, set_decides, stations_are_final,
@@ -42,13 +42,19 @@ pub fn file_only_grows()
     ensures header { HeaderIsFinal }
 {}
 
-/// For a setup whose MSM is 1074 the messages are 1004, 1005, 1006 and 1074: the class of a payload
-/// is that by `decode`.
+/// For a setup with codes of GPS alone whose MSM is 1074 the messages are 1004, 1005, 1006 and 1074: the class
+/// of a payload is that by `decode`.
 pub fn default_takes_four()
     ensures { DefaultTakesFour }
 {
     decodes_by_four();
 }
+
+/// A setup with codes of GPS alone takes messages of GPS and of stations alone. The cells of these messages are
+/// those of GPS, and their epochs the moments of their times of week.
+pub fn gps_messages_stay()
+    ensures { GpsMessagesStay }
+{}
 
 /// A payload has one class. So the same calls always find the same frames, and come to the same
 /// history. At most one link is next. So the history alone decides which link is read next, and the

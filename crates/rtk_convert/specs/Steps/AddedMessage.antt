@@ -1,14 +1,16 @@
 -- What an arrival changes in a conversion, apart from the count of all frames.
-use Rattle.std.specs.Prelude.{◌≡◌, ℕ, ◌||◌, List, ◌∷◌, Option, None, Result, OnOk, OnErr, IfOk, IfErr}
+use Rattle.std.specs.Prelude.{◌≡◌, ℕ, ◌||◌, List, ◌∷◌, Option, None, Result, OnOk, OnErr, IfOk, IfErr, IsTrue, All}
 use Rattle.rtk_frame.specs.Stream.{with_more, TakesPart}
+use Rattle.rtk_message.specs.declared.any_message.AnyMessage.{AnyMessage as Message}
 use Rattle.rtk_message.specs.declared.system.System.{System}
+use Rattle.rtk_message.specs.AnyDecoded.{number_of}
 use Rattle.rtk_obs.specs.declared.signal_cells.SignalEntry.{SignalEntry}
 use Rattle.rtk_collect.specs.declared.conflicts.AnySatelliteCode.{AnySatelliteCode}
 use Rattle.rtk_collect.specs.declared.outcome.Outcome.{Outcome}
 use Rattle.rtk_collect.specs.declared.outcome.Outcome.TheVariants.{Taken, Conflict, Repeat, Late}
 use Rattle.rtk_collect.specs.Answer.{Class}
 use Rattle.rtk_collect.specs.EpochSet.{EpochSetView}
-use Rattle.rtk_collect.specs.Arrival.{Arrival}
+use Rattle.rtk_collect.specs.Arrival.{Arrival, message_of}
 use Rattle.rtk_collect.specs.Accepted.{closed}
 use Rattle.rtk_collect.specs.Signals.{signals}
 use Rattle.rtk_convert.specs.declared.fault.ConvertFault.{ConvertFault}
@@ -20,7 +22,7 @@ use Rattle.rtk_convert.specs.ClosedEpochs.{HasClosed}
 use Rattle.rtk_convert.specs.Epochs.{EpochsView}
 use Rattle.rtk_convert.specs.Report.{arrival_class, brings, counted_as, frame_lines}
 use Rattle.rtk_convert.specs.Conversion.{ConversionView, HoldsKept}
-use Rattle.rtk_convert.specs.Setup.{SetupView, cells_by}
+use Rattle.rtk_convert.specs.Setup.{SetupView, takes, cells_by}
 use Rattle.rtk_convert.specs.Systems.{has_system}
 use Rattle.rtk_convert.specs.Writing.{Written, WritesRest}
 use Rattle.rtk_convert.specs.Steps.OfferLines.{class_named}
@@ -54,13 +56,18 @@ pub record AddsArrivalPartAs (s : SetupView) (link : ℕ) (a : Arrival) (before 
   pub out : WritesPartOfRest written_old.file written_new.file (file_so_far s before) (file_so_far s (a ∷ before))
   pub log : TakesPart written_old.report written_new.report (frame_lines s link (Dated a) before)
 
--- a message is added, or the call breaks off at it, whatever arrived before
-pub record AddsArrival (s : SetupView) (old : EpochsView) (link : ℕ) (a : Arrival) (result : Result MessageClass ConvertFault)
-    (new : EpochsView) (written_old written_new : Written) : Type 0 where
-  pub ok : IfOk result (λ class. (before : List Arrival) → RepresentsEpochs s old before
+-- a message is added, or the call breaks off at it, whatever messages of this form arrived before
+pub record AddsArrival (HasForm : Message → Type 0) (s : SetupView) (old : EpochsView) (link : ℕ) (a : Arrival)
+    (result : Result MessageClass ConvertFault) (new : EpochsView) (written_old written_new : Written) : Type 0 where
+  pub ok : IfOk result (λ class. (before : List Arrival) → All (λ b. HasForm (message_of b)) before → RepresentsEpochs s old before
       → AddsArrivalAs s old link a class before new written_old written_new)
-  pub err : OnErr result ((before : List Arrival) → RepresentsEpochs s old before → AddsArrivalPartAs s link a before written_old written_new)
+  pub err : OnErr result ((before : List Arrival) → All (λ b. HasForm (message_of b)) before → RepresentsEpochs s old before
+      → AddsArrivalPartAs s link a before written_old written_new)
   pub fault : IfErr result IsFrameFault
+
+-- the setup takes a message
+abbrev pub IsTakenBy : SetupView → Message → Type 0
+IsTakenBy s m = IsTrue (takes s (number_of m))
 
 -- ---- the conversion
 

@@ -1,7 +1,10 @@
 -- The epochs that are left are closed, and a conversion ends.
 use Rattle.std.specs.Prelude.{◌≡◌, ◌⊎◌, ℕ, ◌<◌, List, ◌∷◌, ◌++◌, Option, All, Result, OnOk, OnErr, IfOk, IfErr}
 use Rattle.rtk_obs.specs.declared.signal_cells.SignalEntry.{SignalEntry}
+use Rattle.rtk_collect.specs.Accepted.{kept}
+use Rattle.rtk_collect.specs.Arrival.{Arrival}
 use Rattle.rtk_collect.specs.EpochSet.{EpochSetView}
+use Rattle.rtk_collect.specs.Signals.{signals}
 use Rattle.rtk_rinex.specs.Header.{PositionView}
 use Rattle.rtk_convert.specs.declared.counts.Counts.{Counts}
 use Rattle.rtk_convert.specs.declared.fault.ConvertFault.{ConvertFault}
@@ -12,7 +15,10 @@ use Rattle.rtk_convert.specs.FrameClass.{Found, arrivals}
 use Rattle.rtk_convert.specs.Steps.ShownCells.{AllBelow}
 use Rattle.rtk_convert.specs.ClosedEpochs.{ClosedEpochsView, HasClosed}
 use Rattle.rtk_convert.specs.Report.{lines}
-use Rattle.rtk_convert.specs.Setup.{SetupView}
+use Rattle.rtk_convert.specs.Epochs.{EpochsView}
+use Rattle.rtk_convert.specs.File.{record_count}
+use Rattle.rtk_convert.specs.Setup.{SetupView, cells_by}
+use Rattle.rtk_convert.specs.Steps.AddedMessage.{RepresentsEpochs}
 use Rattle.rtk_convert.specs.Conversion.{ConversionView, RepresentsFound}
 use Rattle.rtk_convert.specs.Writing.{Written, WritesRest}
 use Rattle.rtk_convert.specs.Steps.WritingInPart.{WritesPartOfRest, PutsText}
@@ -50,6 +56,14 @@ pub record ClosesRemaining {T : Type 0} (s : SetupView) (site : PositionView) (o
     (result : Result T ConvertFault) (new : ClosedEpochsView) (out_old out_new : Option (List ℕ)) : Type 0 where
   pub ok : OnOk result (ClosesEpochs s site old epochs new out_old out_new)
   pub err : OnErr result (ClosesEpochsInPart s site old epochs out_old out_new)
+
+-- the epochs end, whatever arrivals they represent: the rest of the file was written, and this is the count of
+-- its records; or the call breaks off, and a first part of the rest was written
+pub record EndsEpochs (s : SetupView) (e : EpochsView) (result : Result ℕ ConvertFault) (out_old out_new : Option (List ℕ)) : Type 0 where
+  pub ok : IfOk result (λ count. (before : List Arrival) → RepresentsEpochs s e before
+      → (count ≡ record_count s.head.listed (kept signals (cells_by s) s.window before)) × WritesRest out_old out_new (file_so_far s before) (kept_file s before))
+  pub err : OnErr result ((before : List Arrival) → RepresentsEpochs s e before → WritesPartOfRest out_old out_new (file_so_far s before) (kept_file s before))
+  pub fault : IfErr result IsFrameFault
 
 -- the end: the rest of the file and of the report was written, and these are the counts
 pub record FinishesConversionAs (old : ConversionView) (found : List Found) (counts : Counts) (written_old written_new : Written) : Type 0 where

@@ -1,0 +1,38 @@
+-- What a payload is read as by the messages of a setup.
+use Rattle.std.specs.Prelude.{ℕ, Option, None, Some, IsTrue}
+use Rattle.rtk_message.specs.declared.any_fault.AnyFault.{AnyFault}
+use Rattle.rtk_message.specs.declared.any_fault.AnyFault.TheVariants.{NoNumber, Other, Short, EpochRange, TooManyCells}
+use Rattle.rtk_message.specs.declared.any_message.AnyMessage.{AnyMessage}
+use Rattle.rtk_message.specs.declared.msm_type.MsmType.{MsmType}
+use Rattle.rtk_message.specs.declared.system.System.{System}
+use Rattle.rtk_message.specs.declared.system.System.TheVariants.{Gps}
+use Rattle.rtk_message.specs.Accepted.{accepts}
+use Rattle.rtk_message.specs.AnyDecoded.{IsValid, number_of}
+use Rattle.rtk_message.specs.Systems.{type_of_number}
+use Rattle.rtk_convert.specs.Setup.{SetupView, taken_by}
+
+-- messages of this number are read
+abbrev pub IsRead : SetupView → ℕ → Type 0
+IsRead s number = IsTrue (accepts (taken_by s) number)
+
+-- a valid message that is read; if no code of GPS is listed, a 1004 is read and not taken
+pub record IsReadMessage (s : SetupView) (m : AnyMessage) : Type 0 where
+  pub valid : IsValid m
+  pub read : IsRead s (number_of m)
+
+-- the system of an MSM of this type, or else GPS
+abbrev pub system_of_type : Option MsmType → System
+system_of_type None = Gps
+system_of_type (Some t) = t.system
+
+-- the system of an observation of this number
+abbrev pub system_of_number : ℕ → System
+system_of_number number = system_of_type (type_of_number number)
+
+-- a fault of a message that is read, or of a payload without a number or with another one
+abbrev pub IsFaultBy : SetupView → AnyFault → Type 0
+IsFaultBy s NoNumber = Unit {0}
+IsFaultBy s (Other number) = Unit {0}
+IsFaultBy s (Short number) = IsRead s number
+IsFaultBy s (EpochRange number) = IsRead s number
+IsFaultBy s (TooManyCells number) = IsRead s number

@@ -1,0 +1,210 @@
+//! What a conversion asks of the cells of its window.
+
+ghost use Rattle.std.specs.Prelude.{◌≡◌, ℕ, ◌<◌, ◌≤◌, List, map, length, All, Option, None, IfOk, OnErr, unsigned_abs, ◌≢◌};
+ghost use Rattle.rtk_message.specs.declared.any_message.AnyMessage.{AnyMessage as Message};
+ghost use Rattle.rtk_obs.specs.declared.any_code.AnyCode.{AnyCode};
+ghost use Rattle.rtk_obs.specs.declared.signal_cells.SignalEntry.{SignalEntry};
+ghost use Rattle.rtk_obs.specs.declared.track.Track.{Track};
+ghost use Rattle.rtk_obs.specs.AnyCode.{place_of, signal_place};
+ghost use Rattle.rtk_obs.specs.Rollover.{digits_since, last_after};
+ghost use Rattle.rtk_obs.specs.SignalCells.{IsSignalInRange, entries_of};
+ghost use Rattle.rtk_obs.specs.Slip.{epoch_cell};
+ghost use Rattle.rtk_obs.specs.Tracks.{IsLater};
+ghost use Rattle.rtk_collect.specs.declared.conflicts.AnySatelliteCode.{AnySatelliteCode};
+ghost use Rattle.rtk_collect.specs.Arrival.{message_of};
+ghost use Rattle.rtk_collect.specs.EpochSet.{AreLeftBeside};
+ghost use Rattle.rtk_collect.specs.Key.{KeysRise};
+ghost use Rattle.rtk_collect.specs.Offered.{ClosesBelow, ClosesLeast, LeastNeverFalls};
+ghost use Rattle.rtk_collect.specs.Signals.{signals, IsGpsMessage};
+ghost use Rattle.rtk_convert.specs.Epochs.{outcome_of, window_of};
+ghost use Rattle.rtk_convert.specs.LastPhases.{track_at};
+ghost use Rattle.rtk_convert.specs.Rows.{band_of};
+ghost use Rattle.rtk_convert.specs.Steps.OfferedMessage.{AnswersMessage};
+
+use crate::row_lines::{RowLines, SignalLines};
+use crate::signal_phases::SignalPhases;
+use rtk_collect::{AnySatelliteCode, Conflicts, DatedRef, Entry, Gatherer, Outcome, SatelliteCode};
+use rtk_obs::{AnyCode, CellEntry, Channels, Digits, GpsMs, SatelliteIndex, SignalEntry, Tracks};
+use rtk_rinex::RecordLines;
+use std::alloc::{AllocError, Global};
+
+/// A cell of a window, as a conversion shows it: one of GPS, or one of any system. Clauses see each as one of
+/// any system.
+pub(crate) trait FileEntry: Entry {
+    /// The last phases of satellites and codes.
+    type Phases: Drop;
+
+    /// The text of a record.
+    type Lines: RowLines;
+
+    /// The cell as one of any system.
+    ghost signal_of: { Self → SignalEntry };
+
+    /// A satellite with a code as those of any system.
+    ghost name_of: { Self.Signal → AnySatelliteCode };
+
+    /// The last phases, at the places of their satellites and codes.
+    ghost places: { Self.Phases → List (Option Track) };
+
+    /// The messages of which there are such cells.
+    ghost HasCells: { Message → Type 0 };
+
+    /// Makes the state in which no phase came, on the heap.
+    fn new_phases(alloc: Global) -> Result<Box<Self::Phases>, AllocError>
+        ensures { IfOk result (λ phases. (satellite : ℕ) (code : AnyCode) → track_at (places phases.value) satellite code ≡ None) };
+
+    /// Returns the index of the satellite.
+    fn satellite(&self) -> u8
+        ensures { result ≡ (signal_of self.now).satellite };
+
+    /// Returns the place of the code among those of its system.
+    fn code_place(&self) -> usize
+        ensures value { result ≡ place_of (signal_of self.now).code }
+        ensures bound { result < 16 };
+
+    /// Returns the digits of the cell. Its phase is the last one of its satellite and code from then on.
+    fn step(&self, phases: &mut Self::Phases, epoch: GpsMs) -> Digits
+        requires range { InRange self.now }
+        requires later { IsLater (track_at (places phases.old) (signal_of self.now).satellite (signal_of self.now).code) epoch }
+        ensures digits { result ≡ digits_since (band_of (signal_of self.now).code)
+            (track_at (places phases.old) (signal_of self.now).satellite (signal_of self.now).code) (epoch_cell epoch (signal_of self.now).cell) }
+        ensures bound { unsigned_abs result.rolls ≤ epoch }
+        ensures same { track_at (places phases.new) (signal_of self.now).satellite (signal_of self.now).code
+            ≡ last_after (band_of (signal_of self.now).code)
+            (track_at (places phases.old) (signal_of self.now).satellite (signal_of self.now).code) (epoch_cell epoch (signal_of self.now).cell) }
+        ensures others { (s : ℕ) (c : AnyCode) → signal_place s c ≢ signal_place (signal_of self.now).satellite (signal_of self.now).code
+            → track_at (places phases.new) s c ≡ track_at (places phases.old) s c };
+
+    /// Returns a satellite with a code as those of any system.
+    fn name(signal: Self::Signal) -> AnySatelliteCode
+        ensures { result ≡ name_of signal };
+
+    /// Takes what is new in a message, as `Gatherer::offer` does.
+    fn offer(
+        window: &mut Gatherer<Self>,
+        dated: DatedRef<'_>,
+        channels: &Channels,
+        conflicts: &mut Conflicts<Self::Signal>,
+    ) -> Result<Outcome<Self>, AllocError>
+        requires { HasCells (message_of dated.entry) }
+        ensures places { window.new.places ≡ window.old.places }
+        ensures bound { length window.new.sets ≤ window.new.places }
+        ensures answer { IfOk result (λ offer. AnswersMessage HasCells channels.now (window_of signal_of window.old) dated.entry
+            (outcome_of signal_of offer) (map name_of conflicts.new) (window_of signal_of window.new)) }
+        ensures closed { IfOk result (λ offer. ClosesBelow offer window.new.sets) }
+        ensures least_closes { IfOk result (λ offer. ClosesLeast window.old.places window.old.sets offer) }
+        ensures least { LeastNeverFalls window.old window.new }
+        ensures err { OnErr result (window.new ≡ window.old) };
+
+    /// The values are those of the cell as one of any system.
+    ghost same_cell: { (e : Self) → entries.cell e ≡ (signal_of e).cell };
+
+    /// Cells that rise do so as cells of any system.
+    ghost rise: { (cells : List Self) → KeysRise entries cells → KeysRise signals (map signal_of cells) };
+
+    /// A cell in range is one as a cell of any system, of a satellite that can have a line.
+    ghost range: { (e : Self) → InRange e → IsSignalInRange (signal_of e) × ((signal_of e).satellite ≤ Lines.greatest) };
+
+    /// The cells that are left beside others are so as cells of any system.
+    ghost left: { (known cells more : List Self) → AreLeftBeside entries known cells more
+        → AreLeftBeside signals (map signal_of known) (map signal_of cells) (map signal_of more) };
+}
+
+impl FileEntry for CellEntry {
+    type Phases = Tracks;
+
+    type Lines = RecordLines;
+
+    ghost use Rattle.rtk_obs.specs.SignalCells.{signal_of};
+    ghost use Rattle.rtk_convert.specs.Steps.OfferedMessage.{name_of_gps};
+
+    ghost signal_of = { signal_of };
+
+    ghost name_of = { name_of_gps };
+
+    ghost places = { λ phases. phases };
+
+    ghost HasCells = { IsGpsMessage };
+
+    // This function is alone in needing the stack for the phases, which is gone when it returns.
+    #[inline(never)]
+    fn new_phases(alloc: Global) -> Result<Box<Tracks>, AllocError> {
+        Ok(Box::new(alloc, Tracks::new())?)
+    }
+
+    fn satellite(&self) -> u8 {
+        self.satellite
+    }
+
+    fn code_place(&self) -> usize {
+        self.code.place()
+    }
+
+    #[inline(always)]
+    fn step(&self, phases: &mut Tracks, epoch: GpsMs) -> Digits {
+        phases.step(self.satellite, self.code, epoch, &self.cell)
+    }
+
+    fn name(signal: SatelliteCode) -> AnySatelliteCode {
+        // Each conflict has the satellite of a cell, so this is never the default.
+        let satellite = SatelliteIndex::new(signal.satellite).unwrap_or_default();
+        AnySatelliteCode {
+            satellite,
+            code: AnyCode::of_gps(signal.code),
+        }
+    }
+
+    #[inline(always)]
+    fn offer(
+        window: &mut Gatherer<CellEntry>,
+        dated: DatedRef<'_>,
+        _channels: &Channels,
+        conflicts: &mut Conflicts<SatelliteCode>,
+    ) -> Result<Outcome<CellEntry>, AllocError> {
+        window.offer(dated, conflicts)
+    }
+}
+
+impl FileEntry for SignalEntry {
+    type Phases = SignalPhases;
+
+    type Lines = SignalLines;
+
+    ghost signal_of = { λ e. e };
+
+    ghost name_of = { λ signal. signal };
+
+    ghost places = { λ phases. phases };
+
+    ghost HasCells = { λ m. Unit {0} };
+
+    fn new_phases(alloc: Global) -> Result<Box<SignalPhases>, AllocError> {
+        let phases = SignalPhases::new(alloc)?;
+        Ok(Box::new(alloc, phases)?)
+    }
+
+    fn satellite(&self) -> u8 {
+        self.satellite.index()
+    }
+
+    fn code_place(&self) -> usize {
+        self.code.place()
+    }
+
+    fn step(&self, phases: &mut SignalPhases, epoch: GpsMs) -> Digits {
+        phases.step(self, epoch)
+    }
+
+    fn name(signal: AnySatelliteCode) -> AnySatelliteCode {
+        signal
+    }
+
+    fn offer(
+        window: &mut Gatherer<SignalEntry>,
+        dated: DatedRef<'_>,
+        channels: &Channels,
+        conflicts: &mut Conflicts<AnySatelliteCode>,
+    ) -> Result<Outcome<SignalEntry>, AllocError> {
+        window.offer_signals(dated, channels, conflicts)
+    }
+}
