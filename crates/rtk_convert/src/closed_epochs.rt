@@ -105,7 +105,7 @@ impl<E: FileEntry> ClosedEpochs<E> {
     {
         let listed = setup.head().codes();
         push_rows(
-            &mut self.phases,
+            &mut *self.phases,
             set,
             listed,
             &mut self.lines,

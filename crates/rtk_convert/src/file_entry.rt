@@ -96,18 +96,15 @@ pub(crate) trait FileEntry: Entry {
         ensures least { LeastNeverFalls window.old window.new }
         ensures err { OnErr result (window.new ≡ window.old) };
 
-    /// The values are those of the cell as one of any system.
-    ghost same_cell: { (e : Self) → entries.cell e ≡ (signal_of e).cell };
-
-    /// Cells that rise do so as cells of any system.
-    ghost rise: { (cells : List Self) → KeysRise entries cells → KeysRise signals (map signal_of cells) };
-
-    /// A cell in range is one as a cell of any system, of a satellite that can have a line.
-    ghost range: { (e : Self) → InRange e → IsSignalInRange (signal_of e) × ((signal_of e).satellite ≤ Lines.greatest) };
-
-    /// The cells that are left beside others are so as cells of any system.
-    ghost left: { (known cells more : List Self) → AreLeftBeside entries known cells more
-        → AreLeftBeside signals (map signal_of known) (map signal_of cells) (map signal_of more) };
+    /// Does nothing. Cells are as cells of any system: their values are the same, they rise in the same order,
+    /// each in range is in range, of a satellite that can have a line, and the same are left beside others.
+    fn cells_are_signals()
+        ensures values { (e : Self) → entries.cell e ≡ (signal_of e).cell }
+        ensures rise { (cells : List Self) → KeysRise entries cells → KeysRise signals (map signal_of cells) }
+        ensures range { (e : Self) → InRange e → IsSignalInRange (signal_of e) }
+        ensures lines { (e : Self) → InRange e → (signal_of e).satellite ≤ Lines.greatest }
+        ensures left { (known cells more : List Self) → AreLeftBeside entries known cells more
+            → AreLeftBeside signals (map signal_of known) (map signal_of cells) (map signal_of more) };
 }
 
 impl FileEntry for CellEntry {
@@ -160,9 +157,21 @@ impl FileEntry for CellEntry {
         dated: DatedRef<'_>,
         _channels: &Channels,
         conflicts: &mut Conflicts<SatelliteCode>,
-    ) -> Result<Outcome<CellEntry>, AllocError> {
+    ) -> Result<Outcome<CellEntry>, AllocError>
+        requires { IsGpsMessage (message_of dated.entry) }
+        ensures places { window.new.places ≡ window.old.places }
+        ensures bound { length window.new.sets ≤ window.new.places }
+        ensures answer { IfOk result (λ offer. AnswersMessage IsGpsMessage _channels.now (window_of signal_of window.old) dated.entry
+            (outcome_of signal_of offer) (map name_of_gps conflicts.new) (window_of signal_of window.new)) }
+        ensures closed { IfOk result (λ offer. ClosesBelow offer window.new.sets) }
+        ensures least_closes { IfOk result (λ offer. ClosesLeast window.old.places window.old.sets offer) }
+        ensures least { LeastNeverFalls window.old window.new }
+        ensures err { OnErr result (window.new ≡ window.old) }
+    {
         window.offer(dated, conflicts)
     }
+
+    fn cells_are_signals() {}
 }
 
 impl FileEntry for SignalEntry {
@@ -204,7 +213,19 @@ impl FileEntry for SignalEntry {
         dated: DatedRef<'_>,
         channels: &Channels,
         conflicts: &mut Conflicts<AnySatelliteCode>,
-    ) -> Result<Outcome<SignalEntry>, AllocError> {
+    ) -> Result<Outcome<SignalEntry>, AllocError>
+        requires { Unit {0} }
+        ensures places { window.new.places ≡ window.old.places }
+        ensures bound { length window.new.sets ≤ window.new.places }
+        ensures answer { IfOk result (λ offer. AnswersMessage (λ m. Unit {0}) channels.now (window_of (λ e. e) window.old) dated.entry
+            (outcome_of (λ e. e) offer) (map (λ signal. signal) conflicts.new) (window_of (λ e. e) window.new)) }
+        ensures closed { IfOk result (λ offer. ClosesBelow offer window.new.sets) }
+        ensures least_closes { IfOk result (λ offer. ClosesLeast window.old.places window.old.sets offer) }
+        ensures least { LeastNeverFalls window.old window.new }
+        ensures err { OnErr result (window.new ≡ window.old) }
+    {
         window.offer_signals(dated, channels, conflicts)
     }
+
+    fn cells_are_signals() {}
 }

@@ -42,7 +42,8 @@ impl Model for SignalPhases {
 // Adds a block without a phase. This function is alone in needing the stack for it.
 #[inline(never)]
 fn add_block(blocks: &mut Vec<Tracks>) -> Result<(), AllocError> {
-    blocks.push(Tracks::new())
+    blocks.push(Tracks::new())?;
+    Ok(())
 }
 
 impl SignalPhases {
