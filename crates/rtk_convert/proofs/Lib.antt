@@ -39,3 +39,4 @@ mod ReportLemmas
 mod SameWindowLemmas
 mod SameFoundLemmas
 mod SameHistoryLemmas
+mod SetupLemmas

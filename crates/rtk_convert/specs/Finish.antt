@@ -1,18 +1,16 @@
 -- The end of a conversion.
-use Rattle.std.specs.Prelude.{ℕ, ◌==◌, ◌&&◌, not, List, [], ◌∷◌, ◌++◌, if◌then◌else◌}
-use Rattle.std.specs.List.{list_any}
+use Rattle.std.specs.Prelude.{ℕ, ◌&&◌, not, List, [], ◌∷◌, ◌++◌, if◌then◌else◌}
 use Rattle.rtk_message.specs.declared.system.System.{System}
 use Rattle.rtk_message.specs.declared.system.System.TheVariants.{Gps, Glonass, Galileo, Beidou, Qzss, Sbas, Navic}
 use Rattle.rtk_obs.specs.SatelliteIndex.{letter_of}
 use Rattle.rtk_collect.specs.Accepted.{kept}
 use Rattle.rtk_collect.specs.Signals.{signals}
-use Rattle.rtk_rinex.specs.MixedHead.{letter}
 use Rattle.rtk_convert.specs.declared.counts.Counts.{Counts}
 use Rattle.rtk_convert.specs.File.{record_count}
 use Rattle.rtk_convert.specs.FrameClass.{Found, arrivals}
 use Rattle.rtk_convert.specs.Report.{lines, frame_counts, has_taken}
 use Rattle.rtk_convert.specs.ReportText.{missing_line, count_lines}
-use Rattle.rtk_convert.specs.Setup.{SetupView, lists_system, cells_by}
+use Rattle.rtk_convert.specs.Setup.{SetupView, is_of_gps, lists_system, cells_by}
 
 -- the counts of all found frames, and the count of the records of the file
 abbrev pub all_counts : SetupView → List Found → Counts
@@ -32,7 +30,7 @@ missing_letters s found =
 -- formula
 -- the line of these systems, if a code of another system than GPS is listed
 abbrev pub missing_lines : SetupView → List Found → List ℕ
-missing_lines s found = if list_any (λ c. not (letter c == 71)) s.head.listed then missing_line (missing_letters s found) else []
+missing_lines s found = if is_of_gps s then [] else missing_line (missing_letters s found)
 
 -- the lines before the counts: those of the found frames, and that of the systems without a message
 abbrev pub lines_before_counts : SetupView → List Found → List ℕ

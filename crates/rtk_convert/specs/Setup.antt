@@ -1,7 +1,7 @@
 -- What a conversion is set up with, and which messages it takes.
-use Rattle.std.specs.Prelude.{◌≡◌, ℕ, ◌+◌, ◌≤◌, ◌==◌, ℤ, Bool, List, map, replicate, Option, None, Some, if◌then◌else◌}
+use Rattle.std.specs.Prelude.{◌≡◌, ℕ, ◌+◌, ◌≤◌, ◌==◌, ℤ, Bool, List, [], map, Option, None, Some, if◌then◌else◌}
 use Rattle.std.specs.Int.{IsInRange}
-use Rattle.std.specs.List.{All, list_any}
+use Rattle.std.specs.List.{list_any, list_all}
 use Rattle.rtk_message.specs.declared.accepted.Accepted.{Accepted}
 use Rattle.rtk_message.specs.declared.any_message.AnyMessage.{AnyMessage as Message}
 use Rattle.rtk_message.specs.declared.accepted.MsmKinds.{MsmKinds}
@@ -13,6 +13,7 @@ use Rattle.rtk_message.specs.Accepted.{no_kind, only_kind, accepts}
 use Rattle.rtk_obs.specs.declared.any_code.AnyCode.{AnyCode}
 use Rattle.rtk_obs.specs.declared.signal_cells.SignalEntry.{SignalEntry}
 use Rattle.rtk_obs.specs.AnyCode.{code_of_gps}
+use Rattle.rtk_obs.specs.Carriers.{channel_at}
 use Rattle.rtk_obs.specs.Dating.{IsReference}
 use Rattle.rtk_obs.specs.SatelliteIndex.{letter_of, satellites_of_system, satellites_before}
 use Rattle.rtk_obs.specs.SignalCells.{entries_of}
@@ -124,15 +125,19 @@ abbrev pub takes : SetupView → ℕ → Bool
 takes s number = if number == 1004 then lists_system s.head.listed Gps else accepts (taken_by s) number
 
 -- all listed codes are of GPS
-abbrev pub IsOfGps : SetupView → Type 0
-IsOfGps s = All (λ c. letter c ≡ 71) s.head.listed
+abbrev pub is_of_gps : SetupView → Bool
+is_of_gps s = list_all (λ c. letter c == letter_of Gps) s.head.listed
 
 -- ---- what their cells are
 
 -- the channels of the slots of GLONASS: none, if the head tells of none
 abbrev pub channels_of : Option GlonassView → List (Option ℤ)
-channels_of None = replicate 27 None
+channels_of None = []
 channels_of (Some g) = g.channels
+
+-- these channels of the slots are the same
+abbrev pub AreSameChannels : List (Option ℤ) → List (Option ℤ) → Type 0
+AreSameChannels channels others = (slot : ℕ) → channel_at channels slot ≡ channel_at others slot
 
 -- formula
 -- the cells of a message, each with its satellite and code; those of GLONASS have phases by the channels of

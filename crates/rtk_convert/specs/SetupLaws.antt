@@ -13,7 +13,7 @@ use Rattle.rtk_obs.specs.SignalCells.{signal_of}
 use Rattle.rtk_collect.specs.Signals.{IsGpsMessage}
 use Rattle.rtk_convert.specs.declared.frame_class.FrameClass.{FrameClass}
 use Rattle.rtk_convert.specs.FrameClass.{IsEpochOf, IsClassOfReading, IsClassOfPayload}
-use Rattle.rtk_convert.specs.Setup.{SetupView, IsSetupView, IsOfGps, takes, cells_by}
+use Rattle.rtk_convert.specs.Setup.{SetupView, IsSetupView, is_of_gps, takes, cells_by}
 
 -- the class of a payload, if 1004, 1005, 1006 and 1074 are the messages that are read
 abbrev pub IsClassByFour : SetupView → List ℕ → FrameClass → Type 0
@@ -22,7 +22,7 @@ IsClassByFour s payload f = (reading : Result GpsMessage DecodeFault) × Decodes
 -- for a setup with codes of GPS alone whose MSM is 1074 this is the class of a payload
 abbrev pub DefaultTakesFour : Type 0
 DefaultTakesFour =
-    (s : SetupView) (payload : List ℕ) (f : FrameClass) → IsSetupView s → IsOfGps s → s.kinds.gps ≡ Msm4
+    (s : SetupView) (payload : List ℕ) (f : FrameClass) → IsSetupView s → IsTrue (is_of_gps s) → s.kinds.gps ≡ Msm4
     → IsClassOfPayload s payload f ↔ IsClassByFour s payload f
 
 -- formula
@@ -38,5 +38,5 @@ IsGpsEpoch near (Some tow) None = ⊥
 -- their epochs the moments of their times of week
 abbrev pub GpsMessagesStay : Type 0
 GpsMessagesStay =
-    (s : SetupView) (m : Message) → IsOfGps s → IsTrue (takes s (number_of m)) → IsValid m
+    (s : SetupView) (m : Message) → IsTrue (is_of_gps s) → IsTrue (takes s (number_of m)) → IsValid m
     → IsGpsMessage m × (cells_by s m ≡ map signal_of (cells_of m)) × ((epoch : Option ℕ) → IsEpochOf s m epoch ↔ IsGpsEpoch s.near (tow_of m) epoch)

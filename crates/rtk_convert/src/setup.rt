@@ -1,12 +1,13 @@
 //! What a conversion is set up with.
 
-ghost use Rattle.std.specs.Prelude.{◌≡◌, ◌≤◌, Some, IfOk, IfErr, Decides, AllPairs, ◌≢◌};
+ghost use Rattle.std.specs.Prelude.{◌≡◌, ◌≤◌, Some, IfOk, IfErr, length, map, if◌then◌else◌};
 ghost use Rattle.rtk_message.specs.declared.system.System.TheVariants.{Gps};
 ghost use Rattle.rtk_message.specs.Accepted.{only_kind, no_kind};
 ghost use Rattle.rtk_obs.specs.Dating.{IsReference};
-ghost use Rattle.rtk_rinex.specs.Header.{IsCodeList};
+ghost use Rattle.rtk_obs.specs.AnyCode.{code_of_gps};
+ghost use Rattle.rtk_obs.specs.SignalCells.{entries_of};
 ghost use Rattle.rtk_rinex.specs.MixedHead.{IsMixedHead};
-ghost use Rattle.rtk_convert.specs.Setup.{IsSetupView, IsOfGps, IsStation, IsWindow, all_of, with_kind, kind_of, kinds_taken, taken_by, channels_of, lists_system, mixed_head_of, mixed_setup_of, setup_of};
+ghost use Rattle.rtk_convert.specs.Setup.{SetupView, IsSetupView, AreSameChannels, cells_by, is_of_gps, IsStation, IsWindow, all_of, with_kind, taken_by, channels_of, lists_system, mixed_head_of, mixed_setup_of, setup_of};
 
 use crate::reference::Reference;
 use crate::setup_fault::SetupFault;
@@ -42,7 +43,7 @@ pub struct Setup {
 // Clauses see what the setup is told. The last parts of the invariant say what is kept beside it.
 impl Model for Setup {
     ghost use Rattle.std.specs.Prelude.{◌≡◌};
-    ghost use Rattle.rtk_convert.specs.Setup.{SetupView, IsSetupView, taken_by, channels_of};
+    ghost use Rattle.rtk_convert.specs.Setup.{SetupView, IsSetupView, AreSameChannels, taken_by, channels_of};
 
     ghost Value = { SetupView };
 
@@ -50,7 +51,7 @@ impl Model for Setup {
 
     ghost invariant = { λ s. IsSetupView (record { station = s.station; near = s.near; head = s.head; window = s.window; kinds = s.kinds; leap_seconds = s.leap_seconds })
         × (s.accepted ≡ taken_by (record { station = s.station; near = s.near; head = s.head; window = s.window; kinds = s.kinds; leap_seconds = s.leap_seconds }))
-        × (s.channels ≡ channels_of s.head.glonass) };
+        × AreSameChannels s.channels (channels_of s.head.glonass) };
 }
 
 // Returns whether some of the codes is of a system.
@@ -93,7 +94,7 @@ fn accepted_by(listed: &[AnyCode], kinds: SystemKinds) -> Accepted
 
 // Returns the channels that a head tells.
 fn channels_of(head: &MixedHead) -> Channels
-    ensures { result ≡ channels_of head.now.glonass }
+    ensures { AreSameChannels result (channels_of head.now.glonass) }
 {
     match head.glonass() {
         Some(told) => told.channels(),
@@ -264,7 +265,7 @@ impl Setup {
 
     /// Returns whether all listed codes are of GPS.
     pub fn is_of_gps(&self) -> bool
-        ensures { Decides result (IsOfGps self.now) }
+        ensures { result ≡ is_of_gps self.now }
     {
         for code in self.head.codes() {
             if code.system() != System::Gps {
@@ -291,7 +292,7 @@ impl Setup {
 
     /// Returns the channels by which phases of GLONASS are made.
     pub(crate) fn channels(&self) -> &Channels
-        ensures { result.now ≡ channels_of self.now.head.glonass }
+        ensures { entries_of result.now ≡ cells_by self.now }
     {
         &self.channels
     }

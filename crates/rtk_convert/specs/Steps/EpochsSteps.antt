@@ -1,11 +1,11 @@
 -- The steps of the epochs of a conversion, whatever cells they have.
-use Rattle.std.specs.Prelude.{◌≡◌, ◌≤◌, ℕ, [], length, Option, Result, OnOk, IfOk, IfErr, OnErr}
+use Rattle.std.specs.Prelude.{◌≡◌, ◌≤◌, ℕ, [], length, Option, Result, OnOk, IfOk, IfErr, OnErr, IsTrue}
 use Rattle.rtk_convert.specs.declared.epochs.AnyEpochs.{AnyEpochs}
 use Rattle.rtk_convert.specs.declared.epochs.AnyEpochs.TheVariants.{Gps, Any}
 use Rattle.rtk_convert.specs.declared.fault.ConvertFault.{ConvertFault}
 use Rattle.rtk_convert.specs.Conversion.{HoldsArrivals, IsAhead}
 use Rattle.rtk_convert.specs.Epochs.{EpochsView}
-use Rattle.rtk_convert.specs.Setup.{SetupView, IsOfGps}
+use Rattle.rtk_convert.specs.Setup.{SetupView, is_of_gps}
 use Rattle.rtk_convert.specs.Steps.AddedMessage.{RepresentsEpochs}
 
 -- what clauses see of epochs, whatever cells they have
@@ -15,7 +15,7 @@ epochs_in (Any e) = e
 
 -- epochs of cells of GPS are of a setup whose codes are of GPS
 abbrev pub AreEpochsOf : SetupView → AnyEpochs → Type 0
-AreEpochsOf s (Gps e) = IsOfGps s
+AreEpochsOf s (Gps e) = IsTrue (is_of_gps s)
 AreEpochsOf s (Any e) = Unit {0}
 
 -- epochs of a setup to which no message came

@@ -1,14 +1,12 @@
 -- The last lines of a report, by the systems of which a message was taken.
-use Rattle.std.specs.Prelude.{ℕ, ◌==◌, ◌&&◌, not, List, [], ◌∷◌, ◌++◌, if◌then◌else◌}
-use Rattle.std.specs.List.{list_any}
+use Rattle.std.specs.Prelude.{ℕ, ◌&&◌, not, List, [], ◌∷◌, ◌++◌, if◌then◌else◌}
 use Rattle.rtk_message.specs.declared.system.System.{System}
 use Rattle.rtk_message.specs.declared.system.System.TheVariants.{Gps, Glonass, Galileo, Beidou, Qzss, Sbas, Navic}
 use Rattle.rtk_obs.specs.SatelliteIndex.{letter_of}
-use Rattle.rtk_rinex.specs.MixedHead.{letter}
 use Rattle.rtk_convert.specs.declared.counts.Counts.{Counts}
 use Rattle.rtk_convert.specs.declared.systems.Systems.{Systems}
 use Rattle.rtk_convert.specs.ReportText.{missing_line, count_lines}
-use Rattle.rtk_convert.specs.Setup.{SetupView, lists_system}
+use Rattle.rtk_convert.specs.Setup.{SetupView, is_of_gps, lists_system}
 use Rattle.rtk_convert.specs.Systems.{has_system}
 
 -- the letter of a listed system that the set does not have, after a blank
@@ -25,7 +23,7 @@ missing_letters_by s systems =
 
 -- the line of these systems, if a code of another system than GPS is listed
 abbrev pub missing_lines_by : SetupView → Systems → List ℕ
-missing_lines_by s systems = if list_any (λ c. not (letter c == 71)) s.head.listed then missing_line (missing_letters_by s systems) else []
+missing_lines_by s systems = if is_of_gps s then [] else missing_line (missing_letters_by s systems)
 
 -- the last lines: that of the systems without a message, and the counts
 abbrev pub last_lines : SetupView → Systems → Counts → List ℕ
