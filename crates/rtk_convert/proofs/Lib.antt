@@ -40,3 +40,4 @@ mod SameWindowLemmas
 mod SameFoundLemmas
 mod SameHistoryLemmas
 mod SetupLemmas
+mod RowLinesLemmas

@@ -1,13 +1,11 @@
 //! What the payload of a frame means for a conversion: its class, and its epoch if it has one.
 
-ghost use Rattle.std.specs.Prelude.{◌≡◌, IfOk, IfSome};
+ghost use Rattle.std.specs.Prelude.{◌≡◌, IfOk, IfErr};
 ghost use Rattle.rtk_bits.specs.Bits.{bits};
-ghost use Rattle.rtk_message.specs.AnyDecoded.{DecodesBy, number_of};
-ghost use Rattle.rtk_message.specs.AnyFaultCode.{any_fault_number};
-ghost use Rattle.rtk_obs.specs.Clocks.{IsClock};
+ghost use Rattle.rtk_message.specs.AnyDecoded.{DecodesBy};
 ghost use Rattle.rtk_convert.specs.FrameClass.{IsDatedMessage, IsClassOfReading, system_of, class_of_fault};
 ghost use Rattle.rtk_convert.specs.Setup.{taken_by, takes};
-ghost use Rattle.rtk_convert.specs.Steps.ReadMessage.{IsReadMessage, IsFaultBy};
+ghost use Rattle.rtk_convert.specs.Steps.ReadMessage.{IsRead, IsReadMessage, IsFaultBy};
 
 use crate::setup::Setup;
 use rtk_collect::DatedRef;
@@ -73,7 +71,7 @@ fn dated_message<'a>(setup: &Setup, message: &'a AnyMessage) -> DatedRef<'a>
 // are, and taken with codes of GPS alone.
 #[inline(always)]
 fn is_taken(setup: &Setup, number: u16) -> bool
-    requires { IsTrue (accepts (taken_by setup.now) number) }
+    requires { IsRead setup.now number }
     ensures { result ≡ takes setup.now number }
 {
     number != LEGACY || setup.takes_gps()

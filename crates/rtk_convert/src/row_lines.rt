@@ -1,11 +1,11 @@
 //! The text of a record, whose lines are written code by code.
 
-ghost use Rattle.std.specs.Prelude.{◌≡◌, ℕ, ◌<◌, ◌≤◌, List, [], ◌∷◌, ◌++◌, length, replicate, slice_set, All, OnOk};
+ghost use Rattle.std.specs.Prelude.{◌≡◌, ℕ, ◌≤◌, List, [], ◌∷◌, ◌++◌, replicate, slice_set, OnOk};
 ghost use Rattle.rtk_obs.specs.SatelliteIndex.{IsSatelliteIndex};
 ghost use Rattle.rtk_rinex.specs.declared.epoch_table.Observed.{Observed};
 ghost use Rattle.rtk_rinex.specs.declared.epoch_table.SatelliteRow.{SatelliteRow};
 ghost use Rattle.rtk_rinex.specs.MixedRecord.{mixed_record_text};
-ghost use Rattle.rtk_rinex.specs.Record.{no_observation, IsEpochTableView};
+ghost use Rattle.rtk_rinex.specs.Record.{no_observation};
 ghost use Rattle.rtk_rinex.specs.RecordLines.{IsFreeIn};
 ghost use Rattle.rtk_convert.specs.Steps.RowLines.{Keeps, HasRoom, HasFree};
 
@@ -54,6 +54,7 @@ pub(crate) trait RowLines: Drop + Sized {
         requires satellite { IsSatelliteIndex satellite }
         requires within { satellite ≤ greatest }
         requires room { HasRoom HasRows greatest self.old }
+        requires open { (row : List Observed) × HasLine self.old row }
         ensures { OnOk result ((rows : List SatelliteRow) (observed : List Observed) → HasRows self.old rows → HasLine self.old observed
             → HasRows self.new (rows ++ record { satellite = satellite; observed = record { items = observed } } ∷ [])) };
 
