@@ -1,8 +1,9 @@
 -- The text of a record, whose lines are written code by code.
-use Rattle.std.proofs.Common.{◌≡◌, ◌∙◌, ℕ, ◌+◌, ◌-◌, ◌<◌, ◌≤◌, List, [], ◌∷◌, ◌++◌, length, take, set, arith, refl, ap, sym, true, nat_le}
+use Rattle.std.proofs.Common.{◌≡◌, ◌∙◌, ℕ, ◌+◌, ◌-◌, ◌<◌, ◌≤◌, List, [], ◌∷◌, ◌++◌, length, take, set, min, replicate, arith, refl, ap, sym, true, nat_le}
 use Rattle.std.specs.Prelude.{All}
 use Rattle.std.specs.List.{flat_map, filter}
 use Rattle.std.proofs.Math.Seq.{take-set-lt}
+use Rattle.std.proofs.lemmas.List.{length-take, take-replicate}
 use Rattle.std.proofs.lemmas.Bool.Decides.{nat_tests}
 use Rattle.std.proofs.lemmas.List.Elements.{All-head, All-tail, All-filter}
 use Rattle.std.proofs.lemmas.List.Sums.{length-filter, count_by-le-length}
@@ -14,7 +15,7 @@ use Rattle.rtk_obs.specs.SatelliteIndex.{satellites_before, system_at, letter_of
 use Rattle.rtk_rinex.specs.declared.epoch_table.Observed.{Observed}
 use Rattle.rtk_rinex.specs.declared.epoch_table.SatelliteRow.{SatelliteRow}
 use Rattle.rtk_rinex.specs.Reading.{reading_of}
-use Rattle.rtk_rinex.specs.Record.{EpochTableView, observations, trim_end, has_line, satellite_line, epoch_line, lines_of, record_text}
+use Rattle.rtk_rinex.specs.Record.{EpochTableView, no_observation, observations, trim_end, has_line, satellite_line, epoch_line, lines_of, record_text}
 use Rattle.rtk_rinex.specs.RecordLines.{RecordLinesView, IsFreeIn}
 use Rattle.rtk_rinex.specs.MixedRecord.{MixedLinesView, HoldsMixedLines, mixed_satellite_line, mixed_lines_of, mixed_record_text}
 use Rattle.rtk_convert.specs.Steps.RowLines.{HasRoom, HoldsGpsLines, IsOpenRow}
@@ -63,9 +64,15 @@ gps-record e h = gps-of (reading_of e.time) (filter has_line e.rows) (All-filter
 
 pub row-set : (all row : List Observed) (codes place : ℕ) (o : Observed) → IsOpenRow all codes row → IsFreeIn row place → IsOpenRow (set all place o) codes (set row place o)
 row-set all row codes place o h free =
-    let short : length row ≡ length (take codes all) = ap length h.codes_are in
-    let low : place < codes = ? in
+    let short : length row ≡ min codes (length all) = ap length h.codes_are ∙ length-take codes all in
+    let low : place < codes = let inside = free.inside in grind (arith) in
     record {
       few = h.few;
       codes_are = ap (λ (xs : List Observed). set xs place o) h.codes_are ∙ sym (take-set-lt codes all place o low);
     }
+
+pub row-open : (all : List Observed) (codes : ℕ) (o : Observed) → codes ≤ 16 → all ≡ replicate 16 o → o ≡ no_observation → IsOpenRow all codes (replicate codes no_observation)
+row-open all codes o few is none = record {
+  few = few;
+  codes_are = ap (replicate codes) (sym none) ∙ sym (take-replicate codes 16 o few) ∙ ap (take codes) (sym is);
+}

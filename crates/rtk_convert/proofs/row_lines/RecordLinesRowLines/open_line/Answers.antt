@@ -1,5 +1,4 @@
-use Rattle.std.proofs.Common.{rules}
-use Rattle.rtk_convert.proofs.RowLinesLemmas.{gps-room, mixed-room, gps-record, row-set}
+use Rattle.rtk_convert.proofs.RowLinesLemmas.{gps-room}
 use Rattle.rtk_convert.proofs.row_lines.RecordLinesRowLines.open_line.Goals as goal
 
 pub open_line-requires-clause-room : goal.open_line-requires-clause-room

@@ -1,5 +1,4 @@
-use Rattle.std.proofs.Common.{rules}
-use Rattle.rtk_convert.proofs.RowLinesLemmas.{gps-room, mixed-room, gps-record, row-set}
+use Rattle.rtk_convert.proofs.RowLinesLemmas.{row-set}
 use Rattle.rtk_convert.proofs.row_lines.SignalLinesRowLines.put_code.Goals as goal
 
 pub returns-clause-open : goal.returns-clause-open
