@@ -1,3 +1,4 @@
+mod SystemLemmas
 mod PlacesLemmas
 mod CellOrderLemmas
 mod LeftCellsLemmas
