@@ -5,10 +5,10 @@ use Rattle.std.proofs.lemmas.List.{length-set}
 use Rattle.std.proofs.lemmas.List.Elements.{All-take, All-set, All-replicate}
 use Rattle.rtk_frame.specs.Frames.{final_frames, frames, payloads, pending}
 use Rattle.rtk_frame.specs.ScannerView.{scanner_view}
-use Rattle.rtk_collect.specs.Gps.{gps}
-use Rattle.rtk_obs.specs.MessageCells.{cells_of}
-use Rattle.rtk_obs.specs.declared.cell.CellEntry.{CellEntry}
-use Rattle.rtk_collect.specs.declared.conflicts.SatelliteCode.{SatelliteCode}
+use Rattle.rtk_collect.specs.Signals.{signals}
+use Rattle.rtk_convert.specs.Setup.{cells_by}
+use Rattle.rtk_obs.specs.declared.signal_cells.SignalEntry.{SignalEntry}
+use Rattle.rtk_collect.specs.declared.conflicts.AnySatelliteCode.{AnySatelliteCode}
 use Rattle.rtk_collect.specs.declared.outcome.Outcome.{Outcome}
 use Rattle.rtk_collect.specs.Accepted.{kept}
 use Rattle.rtk_collect.specs.Arrival.{Arrival}
@@ -28,14 +28,14 @@ use Rattle.rtk_convert.proofs.ConverterLemmas.{converter, feeds, feeds-part, clo
 use Rattle.rtk_convert.proofs.WritingLemmas.{if_err-map}
 
 -- a window still holds what is kept of some arrivals once a message was offered
-pub held-offered : (w w' : CollectorView CellEntry) (a : Arrival) (offer : Outcome CellEntry SatelliteCode) (listed : List SatelliteCode) → AnswersArrival gps cells_of w a offer listed w' → HoldsArrivals w → HoldsArrivals w'
+pub held-offered : (w w' : CollectorView SignalEntry) (a : Arrival) (offer : Outcome SignalEntry AnySatelliteCode) (listed : List AnySatelliteCode) → AnswersArrival gps cells_of w a offer listed w' → HoldsArrivals w → HoldsArrivals w'
 held-offered w w' a offer listed answers p = (a ∷ p.0, (answers p.0 p.1).1)
 
 -- the epochs of a window are among the kept ones, and each of these has few cells
-cells-few : (w : CollectorView CellEntry) → HoldsArrivals w → All (λ (e : EpochSetView CellEntry). length e.cells ≤ 1024) w.sets
+cells-few : (w : CollectorView SignalEntry) → HoldsArrivals w → All (λ (e : EpochSetView SignalEntry). length e.cells ≤ 1024) w.sets
 cells-few w p =
-    subst (All (λ (e : EpochSetView CellEntry). length e.cells ≤ 1024)) (sym p.1.sets)
-    (All-take (λ (e : EpochSetView CellEntry). length e.cells ≤ 1024) w.places (kept gps cells_of w.places p.0) (kept-are-few w.places p.0))
+    subst (All (λ (e : EpochSetView SignalEntry). length e.cells ≤ 1024)) (sym p.1.sets)
+    (All-take (λ (e : EpochSetView SignalEntry). length e.cells ≤ 1024) w.places (kept gps cells_of w.places p.0) (kept-are-few w.places p.0))
 
 pub bounded : (c : ConverterView) → All (λ (l : LinkState). length l.scanner.pending ≤ 1029) c.links → length c.conversion.collector.sets ≤ c.conversion.setup.window
     → HoldsArrivals c.conversion.collector → HoldsAtMost c

@@ -1,8 +1,8 @@
 -- Each found frame is counted in one class.
 use Rattle.std.proofs.Common.{◌≡◌, ℕ, suc, ◌<◌, ◌^◌, List, [], ◌∷◌, length, refl, ap, ◌∙◌, arith}
 use Rattle.rtk_frame.specs.Stream.{count_after}
-use Rattle.rtk_collect.specs.Gps.{gps}
-use Rattle.rtk_obs.specs.MessageCells.{cells_of}
+use Rattle.rtk_collect.specs.Signals.{signals}
+use Rattle.rtk_convert.specs.Setup.{cells_by}
 use Rattle.rtk_collect.specs.Arrival.{Arrival}
 use Rattle.rtk_collect.specs.Answer.{Class, LateClass, TakenClass, RepeatClass, ConflictClass, class_of}
 use Rattle.rtk_convert.specs.declared.frame_class.FrameClass.{FrameClass}

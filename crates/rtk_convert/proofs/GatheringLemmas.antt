@@ -85,7 +85,7 @@ comes-once s payload f g (r, decodes, is) (r', decodes', is') =
 -- ---- what was written
 
 pub writes-nothing : (s : SetupView) (found : List FoundFrame) (o : Written) → WritesOn s found found o o
-writes-nothing s found o = record { out = writes-none o.file (file_so_far s (arrivals found)) (file_so_far s (arrivals found)) refl; log = writes-none o.report (lines s.window found) (lines s.window found) refl }
+writes-nothing s found o = record { out = writes-none o.file (file_so_far s (arrivals found)) (file_so_far s (arrivals found)) refl; log = writes-none o.report (lines s found) (lines s found) refl }
 
 -- what was written, and what was written after it
 pub goes-on : (s : SetupView) (first mid last : List FoundFrame) (o0 o1 o2 : Written) → WritesOn s first mid o0 o1 → WritesOn s mid last o1 o2 → WritesOn s first last o0 o2
@@ -138,7 +138,7 @@ breaks-off {old} {mid} {link} {all} {done} left payload {n0} {n1} {o0} {o1} {o2}
     let (found, g) = gathers before represents in
     let (f, comes, b) = breaks found g.represents in
     let out = subst (λ (s : SetupView). WritesPartOfRest o1.file o2.file (file_so_far s (arrivals found)) (file_so_far s (arrivals (found_on link f ∷ found)))) same_setup b.out in
-    let log = subst (λ (s : SetupView). WritesPartOfRest o1.report o2.report (lines s.window found) (lines s.window (found_on link f ∷ found))) same_setup b.log in
+    let log = subst (λ (s : SetupView). WritesPartOfRest o1.report o2.report (lines s found) (lines s (found_on link f ∷ found))) same_setup b.log in
     record {
       done = done;
       payload = payload;

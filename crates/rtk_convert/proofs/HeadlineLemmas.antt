@@ -2,9 +2,9 @@
 use Rattle.std.proofs.Common.{◌≡◌, ◌↔◌, ℕ, List, [], ◌∷◌, length, Option, None, Some, refl, sym, ap, subst, ◌∙◌}
 use Rattle.rtk_frame.specs.Stream.{with_more}
 use Rattle.rtk_message.specs.declared.any_message.AnyMessage.{AnyMessage as Message}
-use Rattle.rtk_obs.specs.MessageCells.{cells_of}
-use Rattle.rtk_collect.specs.Gps.{gps}
-use Rattle.rtk_obs.specs.declared.cell.CellEntry.{CellEntry}
+use Rattle.rtk_convert.specs.Setup.{cells_by}
+use Rattle.rtk_collect.specs.Signals.{signals}
+use Rattle.rtk_obs.specs.declared.signal_cells.SignalEntry.{SignalEntry}
 use Rattle.rtk_collect.specs.Arrival.{Arrival, At}
 use Rattle.rtk_collect.specs.Accepted.{kept, station}
 use Rattle.rtk_collect.specs.EpochSet.{EpochSetView}
@@ -30,14 +30,14 @@ use Rattle.rtk_convert.proofs.RunLemmas.{RunsAs}
 
 content : SetupView → List Arrival → Content
 content s arrivals = record {
-  epochs = kept gps cells_of s.window arrivals;
+  epochs = kept signals (cells_by s) s.window arrivals;
   arp1005 = station s.window 1005 arrivals;
   arp1006 = station s.window 1006 arrivals;
 }
 
 station-of : (s : SetupView) (arrivals : List Arrival) (number : ℕ) → EqualKeysCarryEqualBodies (CameInTime s arrivals) → IsStationOf (CameInTime s arrivals) number (station s.window number arrivals)
 station-of s arrivals number good =
-    let law = kept-are-taken gps cells_of s.window arrivals in
+    let law = kept-are-taken signals (cells_by s) s.window arrivals in
     λ m. (
       λ e. let p = law.2 m number e in (taken-came s (At None m) arrivals p.0, p.1),
       λ p. subst (λ (k : ℕ). station s.window k arrivals ≡ Some m) p.1 ((law.3 (consistent s arrivals good)).1 m (came-taken s (At None m) arrivals p.0)),
@@ -46,15 +46,15 @@ station-of s arrivals number good =
 content-of : (s : SetupView) (arrivals : List Arrival) → EqualKeysCarryEqualBodies (CameInTime s arrivals) → IsContentOf (CameInTime s arrivals) (content s arrivals)
 unfolding content
 content-of s arrivals good =
-    let law = kept-are-taken gps cells_of s.window arrivals in
+    let law = kept-are-taken signals (cells_by s) s.window arrivals in
     record {
       epochs = λ e. (
-        λ p. let q = (law.0 e).0 (contains-has e (kept gps cells_of s.window arrivals) p) in (q.0, taken-came s (At (Some e) q.0) arrivals q.1),
-        λ p. has-contains e (kept gps cells_of s.window arrivals) ((law.0 e).1 (p.0, came-taken s (At (Some e) p.0) arrivals p.1)),
+        λ p. let q = (law.0 e).0 (contains-has e (kept signals (cells_by s) s.window arrivals) p) in (q.0, taken-came s (At (Some e) q.0) arrivals q.1),
+        λ p. has-contains e (kept signals (cells_by s) s.window arrivals) ((law.0 e).1 (p.0, came-taken s (At (Some e) p.0) arrivals p.1)),
       );
       cells = λ e x. (
-        λ p. let q = law.1 e x (stands-kept e x (kept gps cells_of s.window arrivals) p) in (q.0, taken-came s (At (Some e) q.0) arrivals q.1, among-contains x (cells_of q.0) q.2),
-        λ p. kept-stands e x (kept gps cells_of s.window arrivals)
+        λ p. let q = law.1 e x (stands-kept e x (kept signals (cells_by s) s.window arrivals) p) in (q.0, taken-came s (At (Some e) q.0) arrivals q.1, among-contains x (cells_of q.0) q.2),
+        λ p. kept-stands e x (kept signals (cells_by s) s.window arrivals)
             ((law.3 (consistent s arrivals good)).0 e x (p.0, came-taken s (At (Some e) p.0) arrivals p.1, contains-among x (cells_of p.0) p.2)),
       );
       arp1005 = station-of s arrivals 1005 good;
@@ -64,8 +64,8 @@ content-of s arrivals good =
 each-once : (s : SetupView) (arrivals : List Arrival) → EachOnce (content s arrivals)
 unfolding content
 each-once s arrivals = record {
-  epochs = fall-pairs (kept gps cells_of s.window arrivals) (kept-falls gps cells_of s.window arrivals);
-  cells = cells-pairs (kept gps cells_of s.window arrivals) (kept-rise gps cells_of s.window arrivals);
+  epochs = fall-pairs (kept signals (cells_by s) s.window arrivals) (kept-falls signals (cells_by s) s.window arrivals);
+  cells = cells-pairs (kept signals (cells_by s) s.window arrivals) (kept-rise signals (cells_by s) s.window arrivals);
 }
 
 file-of-set : (s : SetupView) (arrivals : List Arrival) → EqualKeysCarryEqualBodies (CameInTime s arrivals) → IsFileOf s (CameInTime s arrivals) (kept_file s arrivals)
@@ -96,7 +96,7 @@ same-file-of s set other first second same p q =
     let b = same-station set other 1006 c.arp1006 d.arp1006 same p.1.arp1006 q.1.arp1006 in
     p.3 ∙ ap (λ (m : Option Message). file_of s (site_of_stations m c.arp1006) c.epochs) a
     ∙ ap (λ (m : Option Message). file_of s (site_of_stations d.arp1005 m) c.epochs) b
-    ∙ ap (λ (xs : List (EpochSetView CellEntry)). file_of s (site_of_stations d.arp1005 d.arp1006) xs) epochs
+    ∙ ap (λ (xs : List (EpochSetView SignalEntry)). file_of s (site_of_stations d.arp1005 d.arp1006) xs) epochs
     ∙ sym q.3
 
 pub set-has-one-file : SetHasOneFile
@@ -110,7 +110,7 @@ in-time-stay n (a ∷ before) p = rw p.0 (ap (λ (xs : List Arrival). a ∷ xs) 
 
 late-nothing : (s : SetupView) (arrivals : List Arrival) → LateChangeNothing s arrivals
 late-nothing s arrivals =
-    let law = late-change-nothing gps cells_of s.window arrivals in
+    let law = late-change-nothing signals (cells_by s) s.window arrivals in
     record {
       others = law.0;
       none_late = in-time-stay s.window (without_late s.window arrivals) law.1;

@@ -13,13 +13,13 @@ use Rattle.rtk_message.specs.declared.any_fault.AnyFault.{AnyFault}
 use Rattle.rtk_message.specs.declared.any_fault.AnyFault.TheVariants.{NoNumber, Other, Short, EpochRange, TooManyCells}
 use Rattle.rtk_message.specs.Accepted.{only}
 use Rattle.rtk_message.specs.AnyDecoded.{DecodesBy, IsValid, number_of, tow_of}
-use Rattle.rtk_obs.specs.declared.cell.CellEntry.{CellEntry}
-use Rattle.rtk_obs.specs.Cell.{IsInRange}
+use Rattle.rtk_obs.specs.declared.signal_cells.SignalEntry.{SignalEntry}
+use Rattle.rtk_obs.specs.SignalCells.{IsSignalInRange}
 use Rattle.rtk_obs.specs.Dating.{IsReference}
 use Rattle.rtk_obs.specs.Coordinates.{IsCoordinate}
 use Rattle.rtk_obs.proofs.PublicLaws.{cells_of-in_range}
-use Rattle.rtk_obs.specs.MessageCells.{cells_of}
-use Rattle.rtk_collect.specs.Gps.{gps}
+use Rattle.rtk_convert.specs.Setup.{cells_by}
+use Rattle.rtk_collect.specs.Signals.{signals}
 use Rattle.rtk_collect.specs.EpochSet.{EpochSetView, joined}
 use Rattle.rtk_collect.specs.Arrival.{Arrival, At}
 use Rattle.rtk_collect.specs.Late.{late}
@@ -74,13 +74,13 @@ arrivals-good s (f ∷ before) near h = and-good s f.class (arrivals before) nea
 
 -- ---- so are the kept epochs
 
-joined-good : (cs : List CellEntry) (x : EpochSetView CellEntry) → All IsInRange cs → IsGoodEpoch x → IsGoodEpoch (joined gps cs x)
-joined-good cs x h g = record { time = g.time; cells = with_cells-all gps IsInRange cs x.cells h g.cells }
+joined-good : (cs : List SignalEntry) (x : EpochSetView SignalEntry) → All IsSignalInRange cs → IsGoodEpoch x → IsGoodEpoch (joined gps cs x)
+joined-good cs x h g = record { time = g.time; cells = with_cells-all gps IsSignalInRange cs x.cells h g.cells }
 
-opened-good : (e : ℕ) (cs : List CellEntry) → IsMoment e → All IsInRange cs → IsGoodEpoch (joined gps cs (no_cells e))
-opened-good e cs m h = joined-good cs (no_cells e) h (record { time = m; cells = All-nil IsInRange })
+opened-good : (e : ℕ) (cs : List SignalEntry) → IsMoment e → All IsSignalInRange cs → IsGoodEpoch (joined gps cs (no_cells e))
+opened-good e cs m h = joined-good cs (no_cells e) h (record { time = m; cells = All-nil IsSignalInRange })
 
-with_arrival-good : (e : ℕ) (cs : List CellEntry) (xs : List (EpochSetView CellEntry)) → IsMoment e → All IsInRange cs → AllByRecursion IsGoodEpoch xs → AllByRecursion IsGoodEpoch (with_arrival gps e cs xs)
+with_arrival-good : (e : ℕ) (cs : List SignalEntry) (xs : List (EpochSetView SignalEntry)) → IsMoment e → All IsSignalInRange cs → AllByRecursion IsGoodEpoch xs → AllByRecursion IsGoodEpoch (with_arrival gps e cs xs)
 with_arrival-good e cs [] m h g = (opened-good e cs m h, tt)
 with_arrival-good e cs (x ∷ xs) m h g = elim (cases_order x.epoch e) [
   | inl same ↦ subst (AllByRecursion IsGoodEpoch) (sym (with_arrival-same gps e cs x xs (sym same))) (joined-good cs x h g.0, g.1)
@@ -144,7 +144,7 @@ site-good short (Some (any.Msm m)) s t = site_of_1005-good short s
 
 pub kept-file-has_records : FilesAreTables → (s : SetupView) (found : List Found) → IsSetupView s → All (HasPayload s) found
     → (t : WellFormedTable) × IsWellFormedTable t × (kept_file s (arrivals found) ≡ table_text t)
-    × (length (kept gps cells_of s.window (arrivals found)) < 2 ^ 64 → length t.epochs ≡ record_count s.head.listed (kept gps cells_of s.window (arrivals found)))
+    × (length (kept signals (cells_by s) s.window (arrivals found)) < 2 ^ 64 → length t.epochs ≡ record_count s.head.listed (kept signals (cells_by s) s.window (arrivals found)))
 kept-file-has_records law s found good_setup h =
     let n : ℕ = s.window in
     let good = arrivals-good s found good_setup.1 (recursion_from_All (HasPayload s) found h) in

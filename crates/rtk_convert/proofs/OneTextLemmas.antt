@@ -9,9 +9,9 @@ use Rattle.rtk_message.specs.declared.any_fault.AnyFault.{AnyFault}
 use Rattle.rtk_message.specs.declared.any_fault.AnyFault.TheVariants.{NoNumber, Other, Short, EpochRange, TooManyCells}
 use Rattle.rtk_message.specs.Accepted.{only}
 use Rattle.rtk_message.specs.AnyDecoded.{DecodesBy, IsValid, number_of}
-use Rattle.rtk_obs.specs.declared.cell.CellEntry.{CellEntry}
-use Rattle.rtk_obs.specs.MessageCells.{cells_of}
-use Rattle.rtk_collect.specs.Gps.{gps}
+use Rattle.rtk_obs.specs.declared.signal_cells.SignalEntry.{SignalEntry}
+use Rattle.rtk_convert.specs.Setup.{cells_by}
+use Rattle.rtk_collect.specs.Signals.{signals}
 use Rattle.rtk_collect.specs.EpochSet.{EpochSetView}
 use Rattle.rtk_collect.specs.Arrival.{Arrival, At, message_of}
 use Rattle.rtk_collect.specs.Late.{late}
@@ -42,7 +42,7 @@ comes-valid s payload (At e m) c = valid-by s payload c.0 e m c.1 c.2
 
 -- ---- no epoch closes if as many are kept as before
 
-same-length : (more xs all : List (EpochSetView CellEntry)) → all ≡ more ++ xs → length all ≡ length xs → all ≡ xs
+same-length : (more xs all : List (EpochSetView SignalEntry)) → all ≡ more ++ xs → length all ≡ length xs → all ≡ xs
 same-length [] xs all e l = e
 same-length (x ∷ more) xs all e l = let k = ap length e ∙ length-append (x ∷ more) xs in absurd (omega arith)
 
@@ -54,33 +54,33 @@ closed-same n a before h =
 -- ---- an arrival
 
 abbrev One : SetupView → ℕ → Arrival → List Arrival → Type 0
-One s link a before = (file_so_far s (a ∷ before) ≡ file_so_far s before) ⊎ (frame_lines s.window link (Dated a) before ≡ [])
+One s link a before = (file_so_far s (a ∷ before) ≡ file_so_far s before) ⊎ (frame_lines s link (Dated a) before ≡ [])
 
-stays : (s : SetupView) (link : ℕ) (a : Arrival) (before : List Arrival) → length (kept gps cells_of s.window (a ∷ before)) ≡ length (kept gps cells_of s.window before) → One s link a before
+stays : (s : SetupView) (link : ℕ) (a : Arrival) (before : List Arrival) → length (kept signals (cells_by s) s.window (a ∷ before)) ≡ length (kept signals (cells_by s) s.window before) → One s link a before
 stays s link a before h = inl (so_far-stays s a before (closed-same s.window a before h))
 
 -- observations that come in time: their epoch is open, or they open it and conflict with nothing
-one-in-time : (s : SetupView) (link e : ℕ) (m : Message) (before : List Arrival) (o : Option (List CellEntry)) → IsValid m → late s.window (At (Some e) m) before ≡ false → cells_at e (kept gps cells_of s.window before) ≡ o
+one-in-time : (s : SetupView) (link e : ℕ) (m : Message) (before : List Arrival) (o : Option (List SignalEntry)) → IsValid m → late s.window (At (Some e) m) before ≡ false → cells_at e (kept signals (cells_by s) s.window before) ≡ o
     → One s link (At (Some e) m) before
 one-in-time s link e m before None valid fresh none =
-    let class : class_of gps cells_of s.window (At (Some e) m) before ≡ TakenClass =
-    ap (λ (b : Bool). if b then LateClass else class_in_time gps cells_of s.window (At (Some e) m) before) fresh ∙ ap (class_of_cells gps (cells_of m)) none in
-    inr (ap (λ (c : Class). class_lines link (number_of m) (Some e) c (conflicts_of gps cells_of s.window (At (Some e) m) before)) class
+    let class : class_of signals (cells_by s) s.window (At (Some e) m) before ≡ TakenClass =
+    ap (λ (b : Bool). if b then LateClass else class_in_time signals (cells_by s) s.window (At (Some e) m) before) fresh ∙ ap (class_of_cells gps (cells_of m)) none in
+    inr (ap (λ (c : Class). class_lines link (number_of m) (Some e) c (conflicts_of signals (cells_by s) s.window (At (Some e) m) before)) class
     ∙ ap (cell_lines link (number_of m) (Some e)) (ap (conflicts_with gps (cells_of m)) none ∙ opening-conflicts-not m valid))
-one-in-time s link e m before (Some b) valid fresh held = stays s link (At (Some e) m) before (held-length gps cells_of s.window e m b before held)
+one-in-time s link e m before (Some b) valid fresh held = stays s link (At (Some e) m) before (held-length signals (cells_by s) s.window e m b before held)
 
 one-text : (s : SetupView) (link : ℕ) (a : Arrival) (before : List Arrival) → IsValid (message_of a) → One s link a before
 one-text s link (At None m) before valid = stays s link (At None m) before refl
 one-text s link (At (Some e) m) before valid = elim (cases_Bool (late s.window (At (Some e) m) before)) [
-  | inl over ↦ stays s link (At (Some e) m) before (ap length (kept-late gps cells_of s.window e m before over))
-  | inr fresh ↦ one-in-time s link e m before (cells_at e (kept gps cells_of s.window before)) valid fresh refl
+  | inl over ↦ stays s link (At (Some e) m) before (ap length (kept-late signals (cells_by s) s.window e m before over))
+  | inr fresh ↦ one-in-time s link e m before (cells_at e (kept signals (cells_by s) s.window before)) valid fresh refl
 ]
 
 -- a payload that is an arrival adds to one text at most
 pub one-arrived : (s : SetupView) (link : ℕ) (payload : List ℕ) (a : Arrival) (before : List Found) → IsClassOfPayload s payload (Dated a) → AddsToOne s (found_on link (Dated a)) before
 one-arrived s link payload a before comes = elim (one-text s link a (arrivals before) (comes-valid s payload a comes)) [
   | inl same ↦ inl same
-  | inr none ↦ inr (ap (λ (t : List ℕ). lines s.window before ++ t) none ∙ append-nil (lines s.window before))
+  | inr none ↦ inr (ap (λ (t : List ℕ). lines s before ++ t) none ∙ append-nil (lines s before))
 ]
 
 -- and so does each frame: a frame that is no arrival leaves the file as it is

@@ -1,7 +1,7 @@
 -- How a call ends, at a conversion that was opened.
 use Rattle.std.proofs.Common.{◌≡◌, ℕ, Bool, List, Option, Result, Ok, Err, ap, sym, subst, ◌∙◌}
 use Rattle.std.specs.Prelude.{OnOk, IfErr}
-use Rattle.rtk_obs.specs.declared.cell.CellEntry.{CellEntry}
+use Rattle.rtk_obs.specs.declared.signal_cells.SignalEntry.{SignalEntry}
 use Rattle.rtk_collect.specs.Arrival.{Arrival}
 use Rattle.rtk_collect.specs.Collector.{CollectorView}
 use Rattle.rtk_convert.specs.ClosedEpochs.{ClosedEpochsView}
@@ -62,7 +62,7 @@ payload-err {opened} {old} {new} {link} {payload} {o} {o'} fault f seen comes ma
     (record { epoch = tt; ok = tt; err = breaks; fault = is; cause = (f, comes, may) })
 
 -- whether the conversion has stopped changes nothing of this
-pub payload-still : {s s' : SetupView} {w w' : CollectorView CellEntry} {c c' : ClosedEpochsView} {k k' : Counts} {b b' d d' : Bool} {old mid : ConversionView} {link : ℕ} {payload : List ℕ} {epoch : Option ℕ} {o o' : Written}
+pub payload-still : {s s' : SetupView} {w w' : CollectorView SignalEntry} {c c' : ClosedEpochsView} {k k' : Counts} {b b' d d' : Bool} {old mid : ConversionView} {link : ℕ} {payload : List ℕ} {epoch : Option ℕ} {o o' : Written}
     → state s w c k d ≡ old → state s' w' c' k' b' ≡ mid → HandlesPayload (state s w c k b) link payload (Ok epoch) mid o o'
     → HandlesPayload old link payload (Ok epoch) (state s' w' c' k' d') o o'
 payload-still {s} {s'} {w} {w'} {c} {c'} {k} {k'} {b} {b'} {d} {d'} {old} {mid} {link} {payload} {epoch} {o} {o'} seen after h =
@@ -70,7 +70,7 @@ payload-still {s} {s'} {w} {w'} {c} {c'} {k} {k'} {b} {b'} {d} {d'} {old} {mid} 
     subst (λ (x : ConversionView). HandlesPayload x link payload (Ok epoch) (state s' w' c' k' d') o o') seen
     (record { epoch = h.epoch; ok = arrives-still payload accepts; err = tt; fault = tt; cause = tt })
 
-pub payload-off : {s : SetupView} {w : CollectorView CellEntry} {c : ClosedEpochsView} {k : Counts} {b d : Bool} {old mid new : ConversionView} {link : ℕ} {payload : List ℕ} {fault : ConvertFault} {o o' : Written}
+pub payload-off : {s : SetupView} {w : CollectorView SignalEntry} {c : ClosedEpochsView} {k : Counts} {b d : Bool} {old mid new : ConversionView} {link : ℕ} {payload : List ℕ} {fault : ConvertFault} {o o' : Written}
     → state s w c k d ≡ old → HandlesPayload (state s w c k b) link payload (Err fault) mid o o' → HandlesPayload old link payload (Err fault) new o o'
 payload-off {s} {w} {c} {k} {b} {d} {old} {mid} {new} {link} {payload} {fault} {o} {o'} seen h =
     subst (λ (x : ConversionView). HandlesPayload x link payload (Err fault) new o o') seen

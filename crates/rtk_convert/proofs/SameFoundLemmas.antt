@@ -13,22 +13,22 @@ use Rattle.rtk_message.specs.declared.any_fault.AnyFault.TheVariants.{NoNumber, 
 use Rattle.rtk_message.specs.AnyDecoded.{number_of, tow_of}
 use Rattle.rtk_obs.specs.declared.cell.Cell.{Cell}
 use Rattle.rtk_obs.specs.declared.code.Band.{Band}
-use Rattle.rtk_obs.specs.declared.code.Code.{Code}
+use Rattle.rtk_obs.specs.declared.any_code.AnyCode.{AnyCode}
 use Rattle.rtk_obs.specs.declared.track.Track.{Track}
 use Rattle.rtk_obs.specs.Cell.{IsSatellite}
 use Rattle.rtk_obs.specs.Code.{band_of}
 use Rattle.rtk_obs.specs.Rollover.{last_after, last_phase}
 use Rattle.rtk_obs.specs.Slip.{EpochCell, epoch_cell}
-use Rattle.rtk_collect.specs.Gps.{gps}
-use Rattle.rtk_obs.specs.MessageCells.{cells_of}
-use Rattle.rtk_obs.specs.declared.cell.CellEntry.{CellEntry}
+use Rattle.rtk_collect.specs.Signals.{signals}
+use Rattle.rtk_convert.specs.Setup.{cells_by}
+use Rattle.rtk_obs.specs.declared.signal_cells.SignalEntry.{SignalEntry}
 use Rattle.rtk_collect.specs.Accepted.{station, kept, closed, no_cells}
 use Rattle.rtk_collect.specs.Answer.{Class, class_of, conflicts_of}
 use Rattle.rtk_collect.specs.Arrival.{Arrival, At, epoch_of, message_of}
 use Rattle.rtk_collect.specs.EpochSet.{EpochSetView}
 use Rattle.rtk_collect.specs.Late.{late}
 use Rattle.rtk_collect.specs.Laws.{KeptAreGreatest, ExcusedIsKept}
-use Rattle.rtk_collect.specs.declared.conflicts.SatelliteCode.{SatelliteCode}
+use Rattle.rtk_collect.specs.declared.conflicts.AnySatelliteCode.{AnySatelliteCode}
 use Rattle.rtk_collect.proofs.PublicLaws.{closed-drop}
 use Rattle.rtk_rinex.specs.Header.{PositionView}
 use Rattle.rtk_rinex.specs.Record.{record_text}
@@ -78,15 +78,15 @@ rest-alike before after a b x y g w =
 -- ---- closed epochs
 
 -- the same phases are the last ones, both have a record or none, and as many records
-pub record SameClosed (listed : List Code) (first second : List (EpochSetView CellEntry)) : Type 0 where
-  pub phases : (satellite : ℕ) (code : Code) → IsSatellite satellite → last_phase_of first satellite code ≡ last_phase_of second satellite code
+pub record SameClosed (listed : List AnyCode) (first second : List (EpochSetView SignalEntry)) : Type 0 where
+  pub phases : (satellite : ℕ) (code : AnyCode) → IsSatellite satellite → last_phase_of first satellite code ≡ last_phase_of second satellite code
   pub header : is_some (first_time listed first) ≡ is_some (first_time listed second)
   pub count : record_count listed first ≡ record_count listed second
 
 text_of : ℕ → List SatelliteRow → List ℕ
 text_of epoch rows = record_text (record { time = epoch; rows = rows })
 
-record-same : (listed : List Code) (e : EpochSetView CellEntry) (first second : List (EpochSetView CellEntry)) → SameClosed listed first second → record_of listed e first ≡ record_of listed e second
+record-same : (listed : List AnyCode) (e : EpochSetView SignalEntry) (first second : List (EpochSetView SignalEntry)) → SameClosed listed first second → record_of listed e first ≡ record_of listed e second
 unfolding text_of
 record-same listed e first second c =
     ap (text_of e.epoch) (rows_to-same (observed_at e first) (observed_at e second) listed 32 (omega arith)
@@ -102,7 +102,7 @@ header-step None (Some t) epoch text h = absurd cc
 header-step (Some t) None epoch text h = absurd cc
 header-step (Some t) (Some u) epoch text h = refl
 
-one-closed : (listed : List Code) (e : EpochSetView CellEntry) (first second : List (EpochSetView CellEntry)) → SameClosed listed first second → SameClosed listed (e ∷ first) (e ∷ second)
+one-closed : (listed : List AnyCode) (e : EpochSetView SignalEntry) (first second : List (EpochSetView SignalEntry)) → SameClosed listed first second → SameClosed listed (e ∷ first) (e ∷ second)
 unfolding record_count
 one-closed listed e first second c =
     let same = record-same listed e first second c in
@@ -113,16 +113,16 @@ one-closed listed e first second c =
       count = ap (one_more_if_any (record_of listed e first)) c.count ∙ ap (λ t. one_more_if_any t (record_count listed second)) same;
     }
 
-more-closed : (listed : List Code) (more first second : List (EpochSetView CellEntry)) → SameClosed listed first second → SameClosed listed (more ++ first) (more ++ second)
+more-closed : (listed : List AnyCode) (more first second : List (EpochSetView SignalEntry)) → SameClosed listed first second → SameClosed listed (more ++ first) (more ++ second)
 more-closed listed [] first second c = c
 more-closed listed (e ∷ more) first second c = one-closed listed e (more ++ first) (more ++ second) (more-closed listed more first second c)
 
-closing-same : (s : SetupView) (site : PositionView) (e : EpochSetView CellEntry) (first second : List (EpochSetView CellEntry)) → SameClosed s.head.listed first second → closing s site e first ≡ closing s site e second
+closing-same : (s : SetupView) (site : PositionView) (e : EpochSetView SignalEntry) (first second : List (EpochSetView SignalEntry)) → SameClosed s.head.listed first second → closing s site e first ≡ closing s site e second
 closing-same s site e first second c =
     ap (λ b. closing_text s site e.epoch b (record_of s.head.listed e first)) c.header
     ∙ ap (closing_text s site e.epoch (is_some (first_time s.head.listed second))) (record-same s.head.listed e first second c)
 
-closed-alike : (s : SetupView) (site : PositionView) (more first second : List (EpochSetView CellEntry)) → SameClosed s.head.listed first second
+closed-alike : (s : SetupView) (site : PositionView) (more first second : List (EpochSetView SignalEntry)) → SameClosed s.head.listed first second
     → GoOnAlike (closed_text s site first) (closed_text s site (more ++ first)) (closed_text s site second) (closed_text s site (more ++ second))
 closed-alike s site [] first second c = alike-none (closed_text s site first) (closed_text s site second)
 closed-alike s site (e ∷ more) first second c =
@@ -142,29 +142,29 @@ site-same : (n : ℕ) (first second : List Arrival) → SameWindow n first secon
 site-same n first second w =
     ap (λ (m : Option Message). site_of_stations m (station n 1006 first)) w.arp1005 ∙ ap (site_of_stations (station n 1005 second)) w.arp1006
 
-arrival-alike : (s : SetupView) (a : Arrival) (first second : List Arrival) → AnsweredAlike s.window a first second → SameClosed s.head.listed (closed gps cells_of s.window first) (closed gps cells_of s.window second)
+arrival-alike : (s : SetupView) (a : Arrival) (first second : List Arrival) → AnsweredAlike s.window a first second → SameClosed s.head.listed (closed signals (cells_by s) s.window first) (closed signals (cells_by s) s.window second)
     → GoOnAlike (file_so_far s first) (file_so_far s (a ∷ first)) (file_so_far s second) (file_so_far s (a ∷ second))
 arrival-alike s a first second alike c =
     let site = site_of_kept s.window (a ∷ first) in
     let same : site_of_kept s.window (a ∷ second) ≡ site = sym (site-same s.window (a ∷ first) (a ∷ second) alike.holds) in
-    let g = closed-alike s site alike.closes (closed gps cells_of s.window first) (closed gps cells_of s.window second) c in
+    let g = closed-alike s site alike.closes (closed signals (cells_by s) s.window first) (closed signals (cells_by s) s.window second) c in
     record {
       more = g.more;
       first_is = so_far-is s (a ∷ first) ∙ ap (closed_text s site) alike.first_closes ∙ g.first_is
           ∙ ap (λ t. t ++ g.more) (text-final s a first ∙ sym (so_far-is s first));
-      second_is = so_far-is s (a ∷ second) ∙ ap (λ (p : PositionView). closed_text s p (closed gps cells_of s.window (a ∷ second))) same ∙ ap (closed_text s site) alike.second_closes ∙ g.second_is
-          ∙ ap (λ t. t ++ g.more) (ap (λ (p : PositionView). closed_text s p (closed gps cells_of s.window second)) (sym same) ∙ text-final s a second ∙ sym (so_far-is s second));
+      second_is = so_far-is s (a ∷ second) ∙ ap (λ (p : PositionView). closed_text s p (closed signals (cells_by s) s.window (a ∷ second))) same ∙ ap (closed_text s site) alike.second_closes ∙ g.second_is
+          ∙ ap (λ t. t ++ g.more) (ap (λ (p : PositionView). closed_text s p (closed signals (cells_by s) s.window second)) (sym same) ∙ text-final s a second ∙ sym (so_far-is s second));
     }
 
-closed-after-same : (s : SetupView) (a : Arrival) (first second : List Arrival) → AnsweredAlike s.window a first second → SameClosed s.head.listed (closed gps cells_of s.window first) (closed gps cells_of s.window second)
-    → SameClosed s.head.listed (closed gps cells_of s.window (a ∷ first)) (closed gps cells_of s.window (a ∷ second))
+closed-after-same : (s : SetupView) (a : Arrival) (first second : List Arrival) → AnsweredAlike s.window a first second → SameClosed s.head.listed (closed signals (cells_by s) s.window first) (closed signals (cells_by s) s.window second)
+    → SameClosed s.head.listed (closed signals (cells_by s) s.window (a ∷ first)) (closed signals (cells_by s) s.window (a ∷ second))
 closed-after-same s a first second alike c =
-    let more = more-closed s.head.listed alike.closes (closed gps cells_of s.window first) (closed gps cells_of s.window second) c in
+    let more = more-closed s.head.listed alike.closes (closed signals (cells_by s) s.window first) (closed signals (cells_by s) s.window second) c in
     rw (alike.first_closes, alike.second_closes) more
 
 lines-same : (n link : ℕ) (a : Arrival) (first second : List Arrival) → AnsweredAlike n a first second → frame_lines n link (Dated a) first ≡ frame_lines n link (Dated a) second
 lines-same n link a first second alike =
-    let with_class = λ (c : Class) (cells : List SatelliteCode). class_lines link (number_of (message_of a)) (epoch_of a) c cells in
+    let with_class = λ (c : Class) (cells : List AnySatelliteCode). class_lines link (number_of (message_of a)) (epoch_of a) c cells in
     elim (cases_Bool (late n a first)) [
       | inl over ↦
           ap (λ (c : Class). with_class c (conflicts_of gps cells_of n a first)) (class-late n a first over)
@@ -178,13 +178,13 @@ lines-same n link a first second alike =
 -- a conversion with this setup represents both
 pub record SameFound (s : SetupView) (first second : List Found) : Type 0 where
   pub window : SameWindow s.window (arrivals first) (arrivals second)
-  pub closed : SameClosed s.head.listed (closed gps cells_of s.window (arrivals first)) (closed gps cells_of s.window (arrivals second))
-  pub counts : frame_counts s.window first ≡ frame_counts s.window second
+  pub closed : SameClosed s.head.listed (closed signals (cells_by s) s.window (arrivals first)) (closed signals (cells_by s) s.window (arrivals second))
+  pub counts : frame_counts s first ≡ frame_counts s second
 
 -- a frame adds the same to the files and the reports of both, and then they are the same for a conversion again
 pub record AddsAlike (s : SetupView) (first first_after second second_after : List Found) : Type 0 where
   pub file : GoOnAlike (file_so_far s (arrivals first)) (file_so_far s (arrivals first_after)) (file_so_far s (arrivals second)) (file_so_far s (arrivals second_after))
-  pub report : GoOnAlike (lines s.window first) (lines s.window first_after) (lines s.window second) (lines s.window second_after)
+  pub report : GoOnAlike (lines s first) (lines s first_after) (lines s second) (lines s second_after)
   pub same : SameFound s first_after second_after
 
 station-number : (near : ℕ) (m : Message) (e : Option ℕ) → IsEpochOf near (tow_of m) e → HasStationNumber (At e m)
@@ -215,7 +215,7 @@ frame-alike greatest excused s link payload OtherMessage first second comes same
 }
 frame-alike greatest excused s link payload (Refused fault) first second comes same = record {
   file = alike-none (file_so_far s (arrivals first)) (file_so_far s (arrivals second));
-  report = record { more = frame_lines s.window link (Refused fault) []; first_is = refl; second_is = refl };
+  report = record { more = frame_lines s link (Refused fault) []; first_is = refl; second_is = refl };
   same = record { window = same.window; closed = same.closed; counts = ap (λ (c : Counts). record (one_frame_more c) { refused = count_after c.refused }) same.counts };
 }
 frame-alike greatest excused s link payload Foreign first second comes same = record {
@@ -228,15 +228,15 @@ frame-alike greatest excused s link payload (Dated a) first second comes same =
     record {
       file = arrival-alike s a (arrivals first) (arrivals second) alike same.closed;
       report = record {
-        more = frame_lines s.window link (Dated a) (arrivals first);
+        more = frame_lines s link (Dated a) (arrivals first);
         first_is = refl;
-        second_is = ap (λ t. lines s.window second ++ t) (sym (lines-same s.window link a (arrivals first) (arrivals second) alike));
+        second_is = ap (λ t. lines s second ++ t) (sym (lines-same s.window link a (arrivals first) (arrivals second) alike));
       };
       same = record {
         window = alike.holds;
         closed = closed-after-same s a (arrivals first) (arrivals second) alike same.closed;
-        counts = ap (λ (c : Counts). counted_as (class_of gps cells_of s.window a (arrivals first)) (one_frame_more c)) same.counts
-            ∙ ap (λ (c : Class). counted_as c (one_frame_more (frame_counts s.window second))) alike.same_class;
+        counts = ap (λ (c : Counts). counted_as (class_of signals (cells_by s) s.window a (arrivals first)) (one_frame_more c)) same.counts
+            ∙ ap (λ (c : Class). counted_as c (one_frame_more (frame_counts s second))) alike.same_class;
       };
     }
 
@@ -252,14 +252,14 @@ pub record FindsAlike (s : SetupView) (link : ℕ) (ps : List (List ℕ)) (first
 adds-on : (s : SetupView) (a b c x y z : List Found) → AddsAlike s a b x y → AddsAlike s b c y z → AddsAlike s a c x z
 adds-on s a b c x y z p q = record {
   file = alike-on (file_so_far s (arrivals a)) (file_so_far s (arrivals b)) (file_so_far s (arrivals c)) (file_so_far s (arrivals x)) (file_so_far s (arrivals y)) (file_so_far s (arrivals z)) p.file q.file;
-  report = alike-on (lines s.window a) (lines s.window b) (lines s.window c) (lines s.window x) (lines s.window y) (lines s.window z) p.report q.report;
+  report = alike-on (lines s a) (lines s b) (lines s c) (lines s x) (lines s y) (lines s z) p.report q.report;
   same = q.same;
 }
 
 pub adds-none : (s : SetupView) (first second : List Found) → SameFound s first second → AddsAlike s first first second second
 adds-none s first second same = record {
   file = alike-none (file_so_far s (arrivals first)) (file_so_far s (arrivals second));
-  report = alike-none (lines s.window first) (lines s.window second);
+  report = alike-none (lines s first) (lines s second);
   same = same;
 }
 
@@ -287,29 +287,29 @@ finds-alike greatest excused s link (p ∷ ps) first first_after second (f, come
 
 -- ---- the end
 
-none : EpochSetView CellEntry
+none : EpochSetView SignalEntry
 none = no_cells 0
 
 window-and-closed : (n : ℕ) (before : List Arrival) → kept gps cells_of n before ≡ take n (kept gps cells_of n before) ++ closed gps cells_of n before
 window-and-closed n before = sym (take-append-drop n (kept gps cells_of n before)) ∙ ap (λ t. take n (kept gps cells_of n before) ++ t) (sym (closed-drop gps cells_of n none before))
 
-kept-same : (s : SetupView) (first second : List Arrival) → SameWindow s.window first second → SameClosed s.head.listed (closed gps cells_of s.window first) (closed gps cells_of s.window second)
-    → SameClosed s.head.listed (kept gps cells_of s.window first) (kept gps cells_of s.window second)
+kept-same : (s : SetupView) (first second : List Arrival) → SameWindow s.window first second → SameClosed s.head.listed (closed signals (cells_by s) s.window first) (closed signals (cells_by s) s.window second)
+    → SameClosed s.head.listed (kept signals (cells_by s) s.window first) (kept signals (cells_by s) s.window second)
 kept-same s first second w c =
-    let more = more-closed s.head.listed (take s.window (kept gps cells_of s.window first)) (closed gps cells_of s.window first) (closed gps cells_of s.window second) c in
+    let more = more-closed s.head.listed (take s.window (kept signals (cells_by s) s.window first)) (closed signals (cells_by s) s.window first) (closed signals (cells_by s) s.window second) c in
     let one = window-and-closed s.window first in
-    let other : kept gps cells_of s.window second ≡ take s.window (kept gps cells_of s.window first) ++ closed gps cells_of s.window second = window-and-closed s.window second ∙ ap (λ t. t ++ closed gps cells_of s.window second) (sym w.sets) in
+    let other : kept signals (cells_by s) s.window second ≡ take s.window (kept signals (cells_by s) s.window first) ++ closed signals (cells_by s) s.window second = window-and-closed s.window second ∙ ap (λ t. t ++ closed signals (cells_by s) s.window second) (sym w.sets) in
     record {
-      phases = λ satellite code is. ap (λ (xs : List (EpochSetView CellEntry)). last_phase_of xs satellite code) one ∙ more.phases satellite code is ∙ ap (λ (xs : List (EpochSetView CellEntry)). last_phase_of xs satellite code) (sym other);
-      header = ap (λ (xs : List (EpochSetView CellEntry)). is_some (first_time s.head.listed xs)) one ∙ more.header ∙ ap (λ (xs : List (EpochSetView CellEntry)). is_some (first_time s.head.listed xs)) (sym other);
+      phases = λ satellite code is. ap (λ (xs : List (EpochSetView SignalEntry)). last_phase_of xs satellite code) one ∙ more.phases satellite code is ∙ ap (λ (xs : List (EpochSetView SignalEntry)). last_phase_of xs satellite code) (sym other);
+      header = ap (λ (xs : List (EpochSetView SignalEntry)). is_some (first_time s.head.listed xs)) one ∙ more.header ∙ ap (λ (xs : List (EpochSetView SignalEntry)). is_some (first_time s.head.listed xs)) (sym other);
       count = ap (record_count s.head.listed) one ∙ more.count ∙ ap (record_count s.head.listed) (sym other);
     }
 
 pub counts-same : (s : SetupView) (first second : List Found) → SameFound s first second → all_counts s first ≡ all_counts s second
 counts-same s first second same =
     let k = kept-same s (arrivals first) (arrivals second) same.window same.closed in
-    ap (λ (c : Counts). record c { epochs = record_count s.head.listed (kept gps cells_of s.window (arrivals first)) }) same.counts
-    ∙ ap (λ (n : ℕ). record (frame_counts s.window second) { epochs = n }) k.count
+    ap (λ (c : Counts). record c { epochs = record_count s.head.listed (kept signals (cells_by s) s.window (arrivals first)) }) same.counts
+    ∙ ap (λ (n : ℕ). record (frame_counts s second) { epochs = n }) k.count
 
 pub file-ends-alike : (s : SetupView) (first second : List Found) → SameFound s first second
     → GoOnAlike (file_so_far s (arrivals first)) (kept_file s (arrivals first)) (file_so_far s (arrivals second)) (kept_file s (arrivals second))
@@ -318,28 +318,28 @@ file-ends-alike s first second same =
     let B = arrivals second in
     let site = site_of_kept s.window A in
     let sites : site_of_kept s.window B ≡ site = sym (site-same s.window A B same.window) in
-    let sets = take s.window (kept gps cells_of s.window A) in
+    let sets = take s.window (kept signals (cells_by s) s.window A) in
     let k = kept-same s A B same.window same.closed in
-    let g = closed-alike s site sets (closed gps cells_of s.window A) (closed gps cells_of s.window B) same.closed in
-    let last = header_before s site s.near (is_some (first_time s.head.listed (kept gps cells_of s.window A))) in
-    let other : kept gps cells_of s.window B ≡ sets ++ closed gps cells_of s.window B = window-and-closed s.window B ∙ ap (λ t. t ++ closed gps cells_of s.window B) (sym same.window.sets) in
+    let g = closed-alike s site sets (closed signals (cells_by s) s.window A) (closed signals (cells_by s) s.window B) same.closed in
+    let last = header_before s site s.near (is_some (first_time s.head.listed (kept signals (cells_by s) s.window A))) in
+    let other : kept signals (cells_by s) s.window B ≡ sets ++ closed signals (cells_by s) s.window B = window-and-closed s.window B ∙ ap (λ t. t ++ closed signals (cells_by s) s.window B) (sym same.window.sets) in
     record {
       more = g.more ++ last;
-      first_is = file-closed s site (kept gps cells_of s.window A)
+      first_is = file-closed s site (kept signals (cells_by s) s.window A)
           ∙ ap (λ t. t ++ last) (ap (closed_text s site) (window-and-closed s.window A) ∙ g.first_is ∙ ap (λ t. t ++ g.more) (sym (so_far-is s A)))
           ∙ append_assoc (file_so_far s A) g.more last;
-      second_is = file-closed s (site_of_kept s.window B) (kept gps cells_of s.window B)
-          ∙ ap (λ (p : PositionView). closed_text s p (kept gps cells_of s.window B) ++ header_before s p s.near (is_some (first_time s.head.listed (kept gps cells_of s.window B)))) sites
-          ∙ ap (λ b. closed_text s site (kept gps cells_of s.window B) ++ header_before s site s.near b) (sym k.header)
+      second_is = file-closed s (site_of_kept s.window B) (kept signals (cells_by s) s.window B)
+          ∙ ap (λ (p : PositionView). closed_text s p (kept signals (cells_by s) s.window B) ++ header_before s p s.near (is_some (first_time s.head.listed (kept signals (cells_by s) s.window B)))) sites
+          ∙ ap (λ b. closed_text s site (kept signals (cells_by s) s.window B) ++ header_before s site s.near b) (sym k.header)
           ∙ ap (λ t. t ++ last) (ap (closed_text s site) other ∙ g.second_is
-          ∙ ap (λ t. t ++ g.more) (ap (λ (p : PositionView). closed_text s p (closed gps cells_of s.window B)) (sym sites) ∙ sym (so_far-is s B)))
+          ∙ ap (λ t. t ++ g.more) (ap (λ (p : PositionView). closed_text s p (closed signals (cells_by s) s.window B)) (sym sites) ∙ sym (so_far-is s B)))
           ∙ append_assoc (file_so_far s B) g.more last;
     }
 
 pub report-ends-alike : (s : SetupView) (first second : List Found) → SameFound s first second
-    → GoOnAlike (lines s.window first) (report_of s first) (lines s.window second) (report_of s second)
+    → GoOnAlike (lines s first) (report_of s first) (lines s second) (report_of s second)
 report-ends-alike s first second same = record {
   more = count_lines (all_counts s first);
   first_is = refl;
-  second_is = ap (λ (c : Counts). lines s.window second ++ count_lines c) (sym (counts-same s first second same));
+  second_is = ap (λ (c : Counts). lines s second ++ count_lines c) (sym (counts-same s first second same));
 }

@@ -3,10 +3,10 @@ use Rattle.std.proofs.Common.{◌≡◌, ℕ, zero, suc, ◌+◌, ◌<◌, ◌�
 use Rattle.std.specs.Prelude.{slice_get, option_map}
 use Rattle.rtk_frame.specs.Frames.{final_frames, frames, payloads, pending}
 use Rattle.rtk_frame.proofs.PublicLaws.{pending_cut}
-use Rattle.rtk_obs.specs.declared.code.Code.{Code}
-use Rattle.rtk_collect.specs.Gps.{gps}
-use Rattle.rtk_obs.specs.MessageCells.{cells_of}
-use Rattle.rtk_obs.specs.declared.cell.CellEntry.{CellEntry}
+use Rattle.rtk_obs.specs.declared.any_code.AnyCode.{AnyCode}
+use Rattle.rtk_collect.specs.Signals.{signals}
+use Rattle.rtk_convert.specs.Setup.{cells_by}
+use Rattle.rtk_obs.specs.declared.signal_cells.SignalEntry.{SignalEntry}
 use Rattle.rtk_collect.specs.Accepted.{station, kept, closed}
 use Rattle.rtk_collect.specs.Arrival.{Arrival, message_of_1005, message_of_1006}
 use Rattle.rtk_collect.specs.Collector.{CollectorView, RepresentsArrivals}
@@ -170,25 +170,25 @@ record SameHistory (s : SetupView) (h other : History) : Type 0 where
   pub newest : (k : ℕ) → k < length h.links → newest_on k h.found ≡ newest_on k other.found
   pub found : SameFound s h.found other.found
 
-window-same : (n : ℕ) (w : CollectorView CellEntry) (first second : List Arrival) → w.places ≡ n → RepresentsArrivals gps cells_of w first → RepresentsArrivals gps cells_of w second → SameWindow n first second
+window-same : (n : ℕ) (w : CollectorView SignalEntry) (first second : List Arrival) → w.places ≡ n → RepresentsArrivals gps cells_of w first → RepresentsArrivals gps cells_of w second → SameWindow n first second
 window-same n w first second places a b =
     let A = subst (λ (k : ℕ). (w.sets ≡ take k (kept gps cells_of k first)) × (option_map message_of_1005 w.arp1005 ≡ station k 1005 first) × (option_map message_of_1006 w.arp1006 ≡ station k 1006 first)) places (a.sets, a.arp1005, a.arp1006) in
     let B = subst (λ (k : ℕ). (w.sets ≡ take k (kept gps cells_of k second)) × (option_map message_of_1005 w.arp1005 ≡ station k 1005 second) × (option_map message_of_1006 w.arp1006 ≡ station k 1006 second)) places (b.sets, b.arp1005, b.arp1006) in
     record { sets = sym A.0 ∙ B.0; arp1005 = sym A.1 ∙ B.1; arp1006 = sym A.2 ∙ B.2 }
 
-window-too : (n : ℕ) (w : CollectorView CellEntry) (first second : List Arrival) → w.places ≡ n → SameWindow n first second → RepresentsArrivals gps cells_of w first → RepresentsArrivals gps cells_of w second
+window-too : (n : ℕ) (w : CollectorView SignalEntry) (first second : List Arrival) → w.places ≡ n → SameWindow n first second → RepresentsArrivals gps cells_of w first → RepresentsArrivals gps cells_of w second
 window-too n w first second places same a =
     let here = subst (λ (k : ℕ). SameWindow k first second) (sym places) same in
     record { sets = a.sets ∙ here.sets; arp1005 = a.arp1005 ∙ here.arp1005; arp1006 = a.arp1006 ∙ here.arp1006 }
 
-closed-same : (listed : List Code) (c : ClosedEpochsView) (first second : List (EpochSetView CellEntry)) → HasClosed c listed first → HasClosed c listed second → SameClosed listed first second
+closed-same : (listed : List AnyCode) (c : ClosedEpochsView) (first second : List (EpochSetView SignalEntry)) → HasClosed c listed first → HasClosed c listed second → SameClosed listed first second
 closed-same listed c first second a b = record {
   phases = λ satellite code is. sym (a.phases satellite code is) ∙ b.phases satellite code is;
   header = sym a.is_header_out ∙ b.is_header_out;
   count = sym a.count ∙ b.count;
 }
 
-closed-too : (listed : List Code) (c : ClosedEpochsView) (first second : List (EpochSetView CellEntry)) → SameClosed listed first second → HasClosed c listed first → HasClosed c listed second
+closed-too : (listed : List AnyCode) (c : ClosedEpochsView) (first second : List (EpochSetView SignalEntry)) → SameClosed listed first second → HasClosed c listed first → HasClosed c listed second
 closed-too listed c first second same a = record {
   phases = λ satellite code is. a.phases satellite code is ∙ same.phases satellite code is;
   is_header_out = a.is_header_out ∙ same.header;
@@ -198,7 +198,7 @@ closed-too listed c first second same a = record {
 found-same : (s : SetupView) (c : ConversionView) (first second : List Found) → c.setup ≡ s → c.collector.places ≡ s.window → RepresentsFound c first → RepresentsFound c second → SameFound s first second
 found-same s c first second setup places a b =
     let of_setup = λ (found : List Found) (r : RepresentsFound c found).
-    subst (λ (t : SetupView). HasClosed c.closed_epochs t.head.listed (closed gps cells_of t.window (arrivals found)) × (c.counts ≡ frame_counts t.window found)) setup (r.closed, r.counts) in
+    subst (λ (t : SetupView). HasClosed c.closed_epochs t.head.listed (closed signals (cells_by t) t.window (arrivals found)) × (c.counts ≡ frame_counts t found)) setup (r.closed, r.counts) in
     let A = of_setup first a in
     let B = of_setup second b in
     record {
@@ -353,7 +353,7 @@ held-decides-end greatest excused s c h last other counts o o' a b f =
             (alike-on (file_so_far s (arrivals h.found)) (file_so_far s (arrivals last.found)) (kept_file s (arrivals last.found))
             (file_so_far s (arrivals other.found)) (file_so_far s (arrivals end.found)) (kept_file s (arrivals end.found)) step.adds.file (file-ends-alike s last.found end.found step.same.found)) f.out;
         log = rest-alike o.report o'.report _ _ _ _
-            (alike-on (lines s.window h.found) (lines s.window last.found) (report_of s last.found)
-            (lines s.window other.found) (lines s.window end.found) (report_of s end.found) step.adds.report (report-ends-alike s last.found end.found step.same.found)) f.log;
+            (alike-on (lines s h.found) (lines s last.found) (report_of s last.found)
+            (lines s other.found) (lines s end.found) (report_of s end.found) step.adds.report (report-ends-alike s last.found end.found step.same.found)) f.log;
       },
     )

@@ -8,9 +8,9 @@ use Rattle.std.proofs.lemmas.List.Sums.{sum_by-cons}
 use Rattle.std.proofs.Math.ListN.{drop_of_length-le}
 use Rattle.rtk_message.specs.declared.any_message.AnyMessage.{AnyMessage as Message}
 use Rattle.rtk_message.specs.AnyDecoded.{number_of}
-use Rattle.rtk_obs.specs.declared.cell.CellEntry.{CellEntry}
-use Rattle.rtk_obs.specs.MessageCells.{cells_of}
-use Rattle.rtk_collect.specs.Gps.{gps}
+use Rattle.rtk_obs.specs.declared.signal_cells.SignalEntry.{SignalEntry}
+use Rattle.rtk_convert.specs.Setup.{cells_by}
+use Rattle.rtk_collect.specs.Signals.{signals}
 use Rattle.rtk_collect.specs.Answer.{LateClass, class_of_cells, class_of_station, class_in_time, class_of, conflicts_with, conflicts_of}
 use Rattle.rtk_collect.specs.Arrival.{Arrival, At}
 use Rattle.rtk_collect.specs.Accepted.{first, no_cells, with_arrival, kept, cells_at, closed, station}
@@ -78,10 +78,10 @@ greatest-tell (suc n) e (x ∷ xs) f = elim (cases_lt e x) [
       ap (nat_le (suc n)) (greater-none e x xs f under) ∙ ap (nat_le (suc n)) (sym (greater-none e x (take n xs) (fall-take (suc n) (x ∷ xs) f) under))
 ]
 
-times : List (EpochSetView CellEntry) → List ℕ
+times : List (EpochSetView SignalEntry) → List ℕ
 times xs = map (λ x. x.epoch) xs
 
-times-fall : (xs : List (EpochSetView CellEntry)) → EpochsFall xs → Fall (times xs)
+times-fall : (xs : List (EpochSetView SignalEntry)) → EpochsFall xs → Fall (times xs)
 unfolding times
 times-fall [] f = tt
 times-fall (x ∷ []) f = (tt, tt)
@@ -114,14 +114,14 @@ late-by-kept : KeptAreGreatest gps cells_of → (n e : ℕ) (m : Message) (befor
 unfolding times
 late-by-kept law n e m before =
     and-true (nat_le n (greater (Some e) (epochs before))) ∙ greatest-tell n e (epochs before) (epochs-fall before)
-    ∙ ap (λ (xs : List ℕ). nat_le n (greater (Some e) xs)) (sym (law n before) ∙ sym (take-map (λ (x : EpochSetView CellEntry). x.epoch) n (kept gps cells_of n before)))
+    ∙ ap (λ (xs : List ℕ). nat_le n (greater (Some e) xs)) (sym (law n before) ∙ sym (take-map (λ (x : EpochSetView SignalEntry). x.epoch) n (kept gps cells_of n before)))
 
 late-same : KeptAreGreatest gps cells_of → (n e : ℕ) (m : Message) (first second : List Arrival) → SameWindow n first second → late n (At (Some e) m) first ≡ late n (At (Some e) m) second
 unfolding times
 late-same law n e m first second w =
-    let taken = λ (before : List Arrival). take-map (λ (x : EpochSetView CellEntry). x.epoch) n (kept gps cells_of n before) in
+    let taken = λ (before : List Arrival). take-map (λ (x : EpochSetView SignalEntry). x.epoch) n (kept gps cells_of n before) in
     late-by-kept law n e m first
-    ∙ ap (λ (xs : List ℕ). nat_le n (greater (Some e) xs)) (taken first ∙ ap (map (λ (x : EpochSetView CellEntry). x.epoch)) w.sets ∙ sym (taken second))
+    ∙ ap (λ (xs : List ℕ). nat_le n (greater (Some e) xs)) (taken first ∙ ap (map (λ (x : EpochSetView SignalEntry). x.epoch)) w.sets ∙ sym (taken second))
     ∙ sym (late-by-kept law n e m second)
 
 -- an observation that is not late has fewer than n greater epochs among those that are kept
@@ -134,7 +134,7 @@ same-le n a b h = grind (arith, le-leb, lt-leb)
 
 same-count : KeptAreGreatest gps cells_of → (n : ℕ) (first second : List Arrival) → SameWindow n first second → min n (length (epochs first)) ≡ min n (length (epochs second))
 same-count law n first second w =
-    sym (length-take n (epochs first)) ∙ ap length (sym (law n first) ∙ ap (map (λ (x : EpochSetView CellEntry). x.epoch)) w.sets ∙ law n second) ∙ length-take n (epochs second)
+    sym (length-take n (epochs first)) ∙ ap length (sym (law n first) ∙ ap (map (λ (x : EpochSetView SignalEntry). x.epoch)) w.sets ∙ law n second) ∙ length-take n (epochs second)
 
 late-station : ExcusedIsKept → (n : ℕ) (m : Message) (before : List Arrival) → late n (At None m) before ≡ (nat_le n (length (epochs before)) && not (is_first equal_stations (station n (number_of m) before) m))
 late-station law n m before = ap (λ (b : Bool). nat_le n (length (epochs before)) && not b) (law n m before)
@@ -149,19 +149,19 @@ late-station-same greatest excused n m first second w same =
 
 -- ---- cells that join
 
-falls-take : (n : ℕ) (xs : List (EpochSetView CellEntry)) → EpochsFall xs → EpochsFall (take n xs)
+falls-take : (n : ℕ) (xs : List (EpochSetView SignalEntry)) → EpochsFall xs → EpochsFall (take n xs)
 falls-take zero xs f = tt
 falls-take (suc n) [] f = tt
 falls-take (suc zero) (x ∷ xs) f = (tt, tt)
 falls-take (suc (suc n)) (x ∷ []) f = (tt, tt)
 falls-take (suc (suc n)) (x ∷ y ∷ ys) f = (f.0, falls-take (suc n) (y ∷ ys) f.1)
 
-none-below : (e : ℕ) (x : EpochSetView CellEntry) (xs : List (EpochSetView CellEntry)) → EpochsFall (x ∷ xs) → x.epoch < e → cells_at e (x ∷ xs) ≡ None
+none-below : (e : ℕ) (x : EpochSetView SignalEntry) (xs : List (EpochSetView SignalEntry)) → EpochsFall (x ∷ xs) → x.epoch < e → cells_at e (x ∷ xs) ≡ None
 none-below e x [] f h = rw (ne_eqb e x.epoch (λ q. omega arith)) refl
 none-below e x (y ∷ ys) f h = rw (ne_eqb e x.epoch (λ q. omega arith)) (none-below e y ys f.1 (omega (arith, f.0)))
 
 -- the cells of an epoch that is not late are in the window
-cells-held : (n e : ℕ) (xs : List (EpochSetView CellEntry)) → EpochsFall xs → greater (Some e) (times xs) < n → cells_at e xs ≡ cells_at e (take n xs)
+cells-held : (n e : ℕ) (xs : List (EpochSetView SignalEntry)) → EpochsFall xs → greater (Some e) (times xs) < n → cells_at e xs ≡ cells_at e (take n xs)
 unfolding times
 cells-held zero e xs f h = absurd (omega arith)
 cells-held (suc n) e [] f h = refl
@@ -177,7 +177,7 @@ cells-held (suc n) e (x ∷ xs) f h = elim (cases_order x.epoch e) [
 ]
 
 -- they join the window, and the others stay
-join-window : (n e : ℕ) (cells : List CellEntry) (xs : List (EpochSetView CellEntry)) → greater (Some e) (times xs) < n → with_arrival gps e cells xs ≡ with_arrival gps e cells (take n xs) ++ drop n xs
+join-window : (n e : ℕ) (cells : List SignalEntry) (xs : List (EpochSetView SignalEntry)) → greater (Some e) (times xs) < n → with_arrival gps e cells xs ≡ with_arrival gps e cells (take n xs) ++ drop n xs
 unfolding times
 join-window zero e cells xs h = absurd (omega arith)
 join-window (suc n) e cells [] h = sym (append-nil _)
@@ -191,7 +191,7 @@ join-window (suc n) e cells (x ∷ xs) h = elim (cases_order x.epoch e) [
   ]
 ]
 
-length-joins : (e : ℕ) (cells : List CellEntry) (xs : List (EpochSetView CellEntry)) → length xs ≤ length (with_arrival gps e cells xs)
+length-joins : (e : ℕ) (cells : List SignalEntry) (xs : List (EpochSetView SignalEntry)) → length xs ≤ length (with_arrival gps e cells xs)
 length-joins e cells [] = omega arith
 length-joins e cells (x ∷ xs) = elim (cases_order x.epoch e) [
   | inl same ↦ rw (with_arrival-same gps e cells x xs (sym same)) (omega arith)
@@ -201,17 +201,17 @@ length-joins e cells (x ∷ xs) = elim (cases_order x.epoch e) [
   ]
 ]
 
-record Seam (n : ℕ) (window others all : List (EpochSetView CellEntry)) : Type 0 where
+record Seam (n : ℕ) (window others all : List (EpochSetView SignalEntry)) : Type 0 where
   pub front : take n all ≡ take n window
   pub back : drop n all ≡ drop n window ++ others
 
-seam : (n : ℕ) (window others all : List (EpochSetView CellEntry)) → all ≡ window ++ others → (n ≤ length window) ⊎ (others ≡ []) → Seam n window others all
+seam : (n : ℕ) (window others all : List (EpochSetView SignalEntry)) → all ≡ window ++ others → (n ≤ length window) ⊎ (others ≡ []) → Seam n window others all
 seam n window others all is (inl full) = record { front = ap (take n) is ∙ take-append-le n window others full; back = ap (drop n) is ∙ drop-append-le n window others full }
 seam n window others all is (inr none) =
     let same : all ≡ window = is ∙ ap (λ t. window ++ t) none ∙ append-nil window in
     record { front = ap (take n) same; back = ap (drop n) same ∙ sym (append-nil (drop n window)) ∙ ap (λ t. drop n window ++ t) (sym none) }
 
-full-or-none : (n e : ℕ) (cells : List CellEntry) (xs : List (EpochSetView CellEntry)) → (n ≤ length (with_arrival gps e cells (take n xs))) ⊎ (drop n xs ≡ [])
+full-or-none : (n e : ℕ) (cells : List SignalEntry) (xs : List (EpochSetView SignalEntry)) → (n ≤ length (with_arrival gps e cells (take n xs))) ⊎ (drop n xs ≡ [])
 full-or-none n e cells xs = elim (cases_lt (length xs) n) [
   | inl few ↦ inr (drop_of_length-le xs (omega arith))
   | inr many ↦ inl (let held = length-joins e cells (take n xs) in let size = length-take n xs in omega arith)
@@ -230,7 +230,7 @@ pub record AnsweredAlike (n : ℕ) (a : Arrival) (first second : List Arrival) :
   pub same_late : late n a first ≡ late n a second
   pub same_class : class_of gps cells_of n a first ≡ class_of gps cells_of n a second
   pub same_conflicts : late n a first ≡ false → conflicts_of gps cells_of n a first ≡ conflicts_of gps cells_of n a second
-  pub closes : List (EpochSetView CellEntry)
+  pub closes : List (EpochSetView SignalEntry)
   pub first_closes : closed gps cells_of n (a ∷ first) ≡ closes ++ closed gps cells_of n first
   pub second_closes : closed gps cells_of n (a ∷ second) ≡ closes ++ closed gps cells_of n second
   pub holds : SameWindow n (a ∷ first) (a ∷ second)
@@ -241,7 +241,7 @@ class-late n a before h = ap (λ (b : Bool). if b then LateClass else class_in_t
 class-fresh : (n : ℕ) (a : Arrival) (before : List Arrival) → late n a before ≡ false → class_of gps cells_of n a before ≡ class_in_time gps cells_of n a before
 class-fresh n a before h = ap (λ (b : Bool). if b then LateClass else class_in_time gps cells_of n a before) h
 
-none : EpochSetView CellEntry
+none : EpochSetView SignalEntry
 none = no_cells 0
 
 late-closes : (n e : ℕ) (m : Message) (before : List Arrival) → late n (At (Some e) m) before ≡ true → closed gps cells_of n (At (Some e) m ∷ before) ≡ closed gps cells_of n before
@@ -268,7 +268,7 @@ fresh-alike : KeptAreGreatest gps cells_of → (n e : ℕ) (m : Message) (first 
 fresh-alike law n e m first second w fresh also =
     let one = after-joins law n e m first fresh in
     let other = after-joins law n e m second also in
-    let joins : List (EpochSetView CellEntry) = with_arrival gps e (cells_of m) (take n (kept gps cells_of n first)) in
+    let joins : List (EpochSetView SignalEntry) = with_arrival gps e (cells_of m) (take n (kept gps cells_of n first)) in
     let same : joins ≡ with_arrival gps e (cells_of m) (take n (kept gps cells_of n second)) = ap (with_arrival gps e (cells_of m)) w.sets in
     let cells : cells_at e (kept gps cells_of n first) ≡ cells_at e (kept gps cells_of n second) =
     cells-held n e (kept gps cells_of n first) (kept-falls gps cells_of n first) (few-greater law n e m first fresh) ∙ ap (cells_at e) w.sets

@@ -8,11 +8,11 @@ use Rattle.std.proofs.lemmas.List.{append-nil, length-map}
 use Rattle.std.proofs.lemmas.List.Elements.{All-nil, All-cons, All-append, All-map, All-head, All-tail, All-weaker, filter-append}
 use Rattle.std.proofs.lemmas.List.Quantifiers.{all_pairs_push}
 use Rattle.std.proofs.lemmas.Grind.{flat_map-append}
-use Rattle.rtk_obs.specs.declared.code.Code.{Code}
-use Rattle.rtk_obs.specs.declared.cell.CellEntry.{CellEntry}
+use Rattle.rtk_obs.specs.declared.any_code.AnyCode.{AnyCode}
+use Rattle.rtk_obs.specs.declared.signal_cells.SignalEntry.{SignalEntry}
 use Rattle.rtk_obs.specs.declared.cell.CellSource.TheVariants.{Legacy, Msm}
-use Rattle.rtk_obs.specs.Cell.{IsInRange as IsEntry}
-use Rattle.rtk_collect.specs.Gps.{gps}
+use Rattle.rtk_obs.specs.SignalCells.{IsSignalInRange}
+use Rattle.rtk_collect.specs.Signals.{signals}
 use Rattle.rtk_collect.specs.EpochSet.{EpochSetView, is_from, FirstIsBelow, EpochsFall}
 use Rattle.rtk_rinex.specs.declared.epoch_table.Observed.{Observed}
 use Rattle.rtk_rinex.specs.Reading.{IsMoment}
@@ -26,11 +26,11 @@ use Rattle.rtk_convert.specs.FileLaws.{IsGoodEpoch, FileIsTable}
 use Rattle.rtk_convert.proofs.RowsLemmas.{all-rows, rows-width, rows_to-rise, HasStrength, first-strength, observed-strength}
 
 -- the tables of the epochs, rising
-tables : List Code → List (EpochSetView CellEntry) → List EpochTableView
+tables : List AnyCode → List (EpochSetView SignalEntry) → List EpochTableView
 tables listed [] = []
 tables listed (e ∷ below) = tables listed below ++ table_of listed e below ∷ []
 
-tables-text : (listed : List Code) (epochs : List (EpochSetView CellEntry)) → flat_map record_text (tables listed epochs) ≡ records listed epochs
+tables-text : (listed : List AnyCode) (epochs : List (EpochSetView SignalEntry)) → flat_map record_text (tables listed epochs) ≡ records listed epochs
 unfolding tables records
 tables-text listed [] = refl
 tables-text listed (e ∷ below) =
@@ -54,7 +54,7 @@ first-step o [] e [] h k = rw (h, k) refl
 first-step o [] e (x ∷ text) h k = let some : nat_lt 0 (suc (length text)) ≡ true = grind (arith, nat_tests) in rw (h, k, some) refl
 first-step o (y ∷ xs) e text h k = rw h refl
 
-first-same : (listed : List Code) (epochs : List (EpochSetView CellEntry)) → first_time listed epochs ≡ first_of (with_record (tables listed epochs))
+first-same : (listed : List AnyCode) (epochs : List (EpochSetView SignalEntry)) → first_time listed epochs ≡ first_of (with_record (tables listed epochs))
 unfolding first_time tables first_of has_record
 first-same listed [] = refl
 first-same listed (e ∷ below) =
@@ -71,12 +71,12 @@ all-kept : {X : Type 0} (P : X → Type 0) (p : X → Bool) (xs : List X) → Al
 all-kept P p [] h = All-nil P
 all-kept P p (x ∷ xs) h = kept-if P (p x) x (filter p xs) (All-head P x xs h) (all-kept P p xs (All-tail P x xs h))
 
-cell-strength : (cells : List CellEntry) (s : ℕ) (c : Code) → All IsEntry cells → HasStrength (cell_at cells s c)
+cell-strength : (cells : List SignalEntry) (s : ℕ) (c : AnyCode) → All IsSignalInRange cells → HasStrength (cell_at cells s c)
 cell-strength cells s c h =
     first-strength (in_turn cells) s c
-    (All-append IsEntry (filter (is_from gps Msm) cells) (filter (is_from gps Legacy) cells) (all-kept IsEntry (is_from gps Msm) cells h) (all-kept IsEntry (is_from gps Legacy) cells h))
+    (All-append IsSignalInRange (filter (is_from gps Msm) cells) (filter (is_from gps Legacy) cells) (all-kept IsSignalInRange (is_from gps Msm) cells h) (all-kept IsSignalInRange (is_from gps Legacy) cells h))
 
-table-rows : (listed : List Code) (e : EpochSetView CellEntry) (below : List (EpochSetView CellEntry)) → All IsEntry e.cells → All IsSatelliteRow (table_of listed e below).rows
+table-rows : (listed : List AnyCode) (e : EpochSetView SignalEntry) (below : List (EpochSetView SignalEntry)) → All IsSignalInRange e.cells → All IsSatelliteRow (table_of listed e below).rows
 table-rows listed e below h = all-rows IsSatelliteRow (observed_at e below) listed 32 (omega arith)
     (λ s hs m. record {
       satellite = (hs.0, hs.1);
@@ -84,7 +84,7 @@ table-rows listed e below h = all-rows IsSatelliteRow (observed_at e below) list
           (λ k d l. observed-strength (last_phase_of below s (get_or listed k d)) (get_or listed k d) e.epoch (cell_at e.cells s (get_or listed k d)) (cell-strength e.cells s (get_or listed k d) h));
     })
 
-table-good : (listed : List Code) (e : EpochSetView CellEntry) (below : List (EpochSetView CellEntry)) → IsGoodEpoch e → IsEpochTableView (table_of listed e below)
+table-good : (listed : List AnyCode) (e : EpochSetView SignalEntry) (below : List (EpochSetView SignalEntry)) → IsGoodEpoch e → IsEpochTableView (table_of listed e below)
 table-good listed e below good = record {
   time = good.time;
   rows = table-rows listed e below good.cells;
@@ -92,15 +92,15 @@ table-good listed e below good = record {
 }
 
 -- what each table has, all have
-all-tables : (P : EpochTableView → Type 0) (listed : List Code) → ((e : EpochSetView CellEntry) (below : List (EpochSetView CellEntry)) → IsGoodEpoch e → P (table_of listed e below))
-    → (epochs : List (EpochSetView CellEntry)) → All IsGoodEpoch epochs → All P (tables listed epochs)
+all-tables : (P : EpochTableView → Type 0) (listed : List AnyCode) → ((e : EpochSetView SignalEntry) (below : List (EpochSetView SignalEntry)) → IsGoodEpoch e → P (table_of listed e below))
+    → (epochs : List (EpochSetView SignalEntry)) → All IsGoodEpoch epochs → All P (tables listed epochs)
 unfolding tables
 all-tables P listed f [] h = All-nil P
 all-tables P listed f (e ∷ below) h =
     All-append P (tables listed below) (table_of listed e below ∷ []) (all-tables P listed f below (All-tail IsGoodEpoch e below h))
     (All-cons P (table_of listed e below) [] (f e below (All-head IsGoodEpoch e below h)) (All-nil P))
 
-tables-below : (listed : List Code) (bound : ℕ) (epochs : List (EpochSetView CellEntry)) → FirstIsBelow bound epochs → EpochsFall epochs → All (λ (x : EpochTableView). x.time < bound) (tables listed epochs)
+tables-below : (listed : List AnyCode) (bound : ℕ) (epochs : List (EpochSetView SignalEntry)) → FirstIsBelow bound epochs → EpochsFall epochs → All (λ (x : EpochTableView). x.time < bound) (tables listed epochs)
 unfolding tables
 tables-below listed bound [] a f = All-nil (λ (x : EpochTableView). x.time < bound)
 tables-below listed bound (e ∷ below) a f =
@@ -108,7 +108,7 @@ tables-below listed bound (e ∷ below) a f =
     (All-weaker (λ (x : EpochTableView). x.time < e.epoch) (λ (x : EpochTableView). x.time < bound) (λ x h. omega arith) (tables listed below) (tables-below listed e.epoch below f.0 f.1))
     (All-cons (λ (x : EpochTableView). x.time < bound) (table_of listed e below) [] a (All-nil (λ (x : EpochTableView). x.time < bound)))
 
-tables-rise : (listed : List Code) (epochs : List (EpochSetView CellEntry)) → EpochsFall epochs → AllPairs (λ a b. a.time < b.time) (tables listed epochs)
+tables-rise : (listed : List AnyCode) (epochs : List (EpochSetView SignalEntry)) → EpochsFall epochs → AllPairs (λ a b. a.time < b.time) (tables listed epochs)
 unfolding tables
 tables-rise listed [] f = λ i j d h k. absurd (omega arith)
 tables-rise listed (e ∷ below) f =
@@ -144,7 +144,7 @@ one-at-most test e = elim (cases_Bool (test e)) [
   | inr fails ↦ rw fails (omega arith)
 ]
 
-few-records : (listed : List Code) (epochs : List (EpochSetView CellEntry)) → length (with_record (tables listed epochs)) ≤ length epochs
+few-records : (listed : List AnyCode) (epochs : List (EpochSetView SignalEntry)) → length (with_record (tables listed epochs)) ≤ length epochs
 unfolding tables has_record
 few-records listed [] = omega arith
 few-records listed (e ∷ below) =
@@ -155,7 +155,7 @@ few-records listed (e ∷ below) =
     let one = one-at-most has_record (table_of listed e below) in
     omega (arith, few, size, sum, one)
 
-records-are : (listed : List Code) (epochs : List (EpochSetView CellEntry)) → length epochs < 2 ^ 64 → record_count listed epochs ≡ length (with_record (tables listed epochs))
+records-are : (listed : List AnyCode) (epochs : List (EpochSetView SignalEntry)) → length epochs < 2 ^ 64 → record_count listed epochs ≡ length (with_record (tables listed epochs))
 unfolding record_count tables has_record
 records-are listed [] few = refl
 records-are listed (e ∷ below) few =
@@ -166,7 +166,7 @@ records-are listed (e ∷ below) few =
 -- ---- the table
 
 -- the file is the text of a table with as many records as are counted
-pub file-has_records : FilesAreTables → (s : SetupView) (site : PositionView) (epochs : List (EpochSetView CellEntry)) → IsSetupView s → IsPositionView site → EpochsFall epochs → All IsGoodEpoch epochs
+pub file-has_records : FilesAreTables → (s : SetupView) (site : PositionView) (epochs : List (EpochSetView SignalEntry)) → IsSetupView s → IsPositionView site → EpochsFall epochs → All IsGoodEpoch epochs
     → (t : WellFormedTable) × IsWellFormedTable t × (file_of s site epochs ≡ table_text t) × (length epochs < 2 ^ 64 → length t.epochs ≡ record_count s.head.listed epochs)
 unfolding has_record
 file-has_records law s site epochs good_setup good_site fall good =

@@ -8,6 +8,7 @@ pub mod OfferLines
 pub mod OfferedMessage
 pub mod LastLines
 pub mod AddedMessage
+pub mod WrittenAnswer
 pub mod EpochsSteps
 pub mod ReadMessage
 pub mod AcceptedFrame

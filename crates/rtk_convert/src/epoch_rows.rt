@@ -341,6 +341,8 @@ pub(crate) fn push_rows<E: FileEntry>(
         → HasLastPhases (E.places phases.new) (set_of E.signal_of set.now ∷ below)) }
     ensures later { OnOk result ((later : ℕ) → set.now.epoch < later → AllBelow (E.places phases.new) later) }
 {
+    E::cells_are_signals();
+    E::Lines::blank_rows_are_left_out();
     lines.restart();
     let epoch = set.epoch();
     let msm = set.msm_cells();

@@ -1,12 +1,14 @@
 //! The epochs of a conversion: the open ones and the closed ones, with cells of GPS or of any system.
 
-ghost use Rattle.std.specs.Prelude.{◌≡◌, option_map, IfOk};
+ghost use Rattle.std.specs.Prelude.{◌≡◌, option_map, IfOk, IsTrue};
 ghost use Rattle.rtk_collect.specs.Arrival.{message_of};
 ghost use Rattle.rtk_convert.specs.Conversion.{IsAhead};
 ghost use Rattle.rtk_convert.specs.Epochs.{outcome_of, set_of};
 ghost use Rattle.rtk_convert.specs.Outcome.{NamesFailedStreams};
+ghost use Rattle.rtk_convert.specs.Setup.{is_of_gps};
 ghost use Rattle.rtk_convert.specs.Steps.AddedMessage.{AddsArrival, IsTakenBy, closed_by};
 ghost use Rattle.rtk_convert.specs.Steps.Closing.{EndsEpochs};
+ghost use Rattle.rtk_convert.specs.Steps.WrittenAnswer.{ClosesAbove, WritesAnswer};
 ghost use Rattle.rtk_convert.specs.Steps.EpochsSteps.{AreEpochsOf, AreNewEpochs, HandsOn, epochs_in};
 ghost use Rattle.rtk_convert.specs.Steps.Faults.{NamesFailedFile};
 ghost use Rattle.rtk_convert.specs.Steps.OfferLines.{class_named, class_of_offer};
@@ -20,7 +22,7 @@ use crate::message_class::MessageClass;
 use crate::report;
 use crate::setup::Setup;
 use crate::writing::{write_header_if_none, write_lines};
-use rtk_collect::{Conflicts, DatedRef, GatheredSet, Gatherer, Outcome};
+use rtk_collect::{Conflicts, DatedRef, GatheredSet, Gatherer, Outcome, signal_window_laws};
 use rtk_frame::Sink;
 use rtk_obs::{CellEntry, SignalEntry};
 use std::alloc::{AllocError, Global};
@@ -82,44 +84,29 @@ impl<E: FileEntry> Epochs<E> {
         })
     }
 
-    /// Offers a message to the window, and writes what comes of it.
-    pub(crate) fn add<O: Sink, L: Sink>(
+    // Writes what comes of a message: the record of the epoch that its answer closes, and then its lines.
+    fn write_answer<O: Sink, L: Sink>(
         &mut self,
         alloc: Global,
         setup: &Setup,
-        link: LinkNumber,
-        dated: DatedRef<'_>,
+        offer: Outcome<E>,
+        lines: &[u8],
         out: &mut O,
         log: &mut L,
-    ) -> Result<MessageClass, ConvertFault>
-        requires taken { IsTakenBy setup.now (message_of dated.entry) }
-        requires cells { E.HasCells (message_of dated.entry) }
-        requires ahead { IsAhead self.old.collector self.old.closed }
-        ensures stays { HandsOn setup.now self.old result self.new }
-        ensures adds { AddsArrival E.HasCells setup.now self.old link dated.entry result self.new
+    ) -> Result<(), ConvertFault>
+        requires { ClosesAbove self.old.closed (closed_by (outcome_of E.signal_of offer)) }
+        ensures window { self.new.collector ≡ self.old.collector }
+        ensures writes { WritesAnswer setup.now self.old (closed_by (outcome_of E.signal_of offer)) lines.now result self.new
             (written (O.taken out.old) (L.taken log.old)) (written (O.taken out.new) (L.taken log.new)) }
         ensures failed { NamesFailedStreams result (O.failures out.old) (O.failures out.new) (L.failures log.old) (L.failures log.new) }
     {
-        let number = dated.number();
-        let epoch = dated.epoch();
-        let offer = E::offer(
-            &mut self.collector,
-            dated,
-            setup.channels(),
-            &mut self.conflicts,
-        )?;
-        let class = class_of(&offer);
-        let conflicts = self.conflicts.as_slice();
-        let lines = report::message_lines::<E>(alloc, link, number, epoch, class, conflicts)?;
         let Some(set) = closed_by(offer) else {
-            write_lines(log, &lines)?;
-            return Ok(class);
+            return write_lines(log, lines);
         };
         let position = self.collector.station();
         self.closed.close(alloc, setup, &position, &set, out)?;
         self.collector.hand_back(set);
-        write_lines(log, &lines)?;
-        Ok(class)
+        write_lines(log, lines)
     }
 
     /// Writes the records of the epochs that are open, rising, and the header if it is not out. Returns how
@@ -140,6 +127,69 @@ impl<E: FileEntry> Epochs<E> {
         close_remaining(alloc, setup, &position, &mut closed, &mut left, out)?;
         write_header_if_none(alloc, setup, &position, closed.is_header_out(), out)?;
         Ok(closed.count())
+    }
+}
+
+impl Epochs<CellEntry> {
+    /// Offers a message to the window, and writes what comes of it. All listed codes are of GPS.
+    pub(crate) fn add<O: Sink, L: Sink>(
+        &mut self,
+        alloc: Global,
+        setup: &Setup,
+        link: LinkNumber,
+        dated: DatedRef<'_>,
+        out: &mut O,
+        log: &mut L,
+    ) -> Result<MessageClass, ConvertFault>
+        requires taken { IsTakenBy setup.now (message_of dated.entry) }
+        requires gps { IsTrue (is_of_gps setup.now) }
+        requires ahead { IsAhead self.old.collector self.old.closed }
+        ensures stays { HandsOn setup.now self.old result self.new }
+        ensures adds { AddsArrival setup.now self.old link dated.entry result self.new
+            (written (O.taken out.old) (L.taken log.old)) (written (O.taken out.new) (L.taken log.new)) }
+        ensures failed { NamesFailedStreams result (O.failures out.old) (O.failures out.new) (L.failures log.old) (L.failures log.new) }
+    {
+        signal_window_laws();
+        let (number, epoch) = (dated.number(), dated.epoch());
+        let offer = self.collector.offer(dated, &mut self.conflicts)?;
+        let class = class_of(&offer);
+        let conflicts = self.conflicts.as_slice();
+        let lines =
+            report::message_lines::<CellEntry>(alloc, link, number, epoch, class, conflicts)?;
+        self.write_answer(alloc, setup, offer, &lines, out, log)?;
+        Ok(class)
+    }
+}
+
+impl Epochs<SignalEntry> {
+    /// Offers a message to the window, and writes what comes of it.
+    pub(crate) fn add_signals<O: Sink, L: Sink>(
+        &mut self,
+        alloc: Global,
+        setup: &Setup,
+        link: LinkNumber,
+        dated: DatedRef<'_>,
+        out: &mut O,
+        log: &mut L,
+    ) -> Result<MessageClass, ConvertFault>
+        requires taken { IsTakenBy setup.now (message_of dated.entry) }
+        requires ahead { IsAhead self.old.collector self.old.closed }
+        ensures stays { HandsOn setup.now self.old result self.new }
+        ensures adds { AddsArrival setup.now self.old link dated.entry result self.new
+            (written (O.taken out.old) (L.taken log.old)) (written (O.taken out.new) (L.taken log.new)) }
+        ensures failed { NamesFailedStreams result (O.failures out.old) (O.failures out.new) (L.failures log.old) (L.failures log.new) }
+    {
+        let (number, epoch) = (dated.number(), dated.epoch());
+        let channels = setup.channels();
+        let offer = self
+            .collector
+            .offer_signals(dated, channels, &mut self.conflicts)?;
+        let class = class_of(&offer);
+        let conflicts = self.conflicts.as_slice();
+        let lines =
+            report::message_lines::<SignalEntry>(alloc, link, number, epoch, class, conflicts)?;
+        self.write_answer(alloc, setup, offer, &lines, out, log)?;
+        Ok(class)
     }
 }
 
@@ -178,13 +228,13 @@ impl AnyEpochs {
         requires ahead { IsAhead (epochs_in self.old).collector (epochs_in self.old).closed }
         ensures stays { HandsOn setup.now (epochs_in self.old) result (epochs_in self.new) }
         ensures form { AreEpochsOf setup.now self.new }
-        ensures adds { AddsArrival (IsTakenBy setup.now) setup.now (epochs_in self.old) link dated.entry result (epochs_in self.new)
+        ensures adds { AddsArrival setup.now (epochs_in self.old) link dated.entry result (epochs_in self.new)
             (written (O.taken out.old) (L.taken log.old)) (written (O.taken out.new) (L.taken log.new)) }
         ensures failed { NamesFailedStreams result (O.failures out.old) (O.failures out.new) (L.failures log.old) (L.failures log.new) }
     {
         match self {
             AnyEpochs::Gps(epochs) => epochs.add(alloc, setup, link, dated, out, log),
-            AnyEpochs::Any(epochs) => epochs.add(alloc, setup, link, dated, out, log),
+            AnyEpochs::Any(epochs) => epochs.add_signals(alloc, setup, link, dated, out, log),
         }
     }
 

@@ -1,30 +1,25 @@
 //! What a conversion asks of the cells of its window.
 
-ghost use Rattle.std.specs.Prelude.{◌≡◌, ℕ, ◌<◌, ◌≤◌, List, map, length, All, Option, None, IfOk, OnErr, unsigned_abs, ◌≢◌};
-ghost use Rattle.rtk_message.specs.declared.any_message.AnyMessage.{AnyMessage as Message};
+ghost use Rattle.std.specs.Prelude.{◌≡◌, ℕ, ◌<◌, ◌≤◌, List, map, Option, None, IfOk, unsigned_abs, ◌≢◌};
 ghost use Rattle.rtk_obs.specs.declared.any_code.AnyCode.{AnyCode};
 ghost use Rattle.rtk_obs.specs.declared.signal_cells.SignalEntry.{SignalEntry};
 ghost use Rattle.rtk_obs.specs.declared.track.Track.{Track};
 ghost use Rattle.rtk_obs.specs.AnyCode.{place_of, signal_place};
 ghost use Rattle.rtk_obs.specs.Rollover.{digits_since, last_after};
-ghost use Rattle.rtk_obs.specs.SignalCells.{IsSignalInRange, entries_of};
+ghost use Rattle.rtk_obs.specs.SignalCells.{IsSignalInRange};
 ghost use Rattle.rtk_obs.specs.Slip.{epoch_cell};
 ghost use Rattle.rtk_obs.specs.Tracks.{IsLater};
 ghost use Rattle.rtk_collect.specs.declared.conflicts.AnySatelliteCode.{AnySatelliteCode};
-ghost use Rattle.rtk_collect.specs.Arrival.{message_of};
 ghost use Rattle.rtk_collect.specs.EpochSet.{AreLeftBeside};
 ghost use Rattle.rtk_collect.specs.Key.{KeysRise};
-ghost use Rattle.rtk_collect.specs.Offered.{ClosesBelow, ClosesLeast, LeastNeverFalls};
-ghost use Rattle.rtk_collect.specs.Signals.{signals, IsGpsMessage};
-ghost use Rattle.rtk_convert.specs.Epochs.{outcome_of, window_of};
+ghost use Rattle.rtk_collect.specs.Signals.{signals};
 ghost use Rattle.rtk_convert.specs.LastPhases.{track_at};
 ghost use Rattle.rtk_convert.specs.Rows.{band_of};
-ghost use Rattle.rtk_convert.specs.Steps.OfferedMessage.{AnswersMessage};
 
 use crate::row_lines::{RowLines, SignalLines};
 use crate::signal_phases::SignalPhases;
-use rtk_collect::{AnySatelliteCode, Conflicts, DatedRef, Entry, Gatherer, Outcome, SatelliteCode};
-use rtk_obs::{AnyCode, CellEntry, Channels, Digits, GpsMs, SatelliteIndex, SignalEntry, Tracks};
+use rtk_collect::{AnySatelliteCode, Entry, SatelliteCode};
+use rtk_obs::{AnyCode, CellEntry, Digits, GpsMs, SatelliteIndex, SignalEntry, Tracks};
 use rtk_rinex::RecordLines;
 use std::alloc::{AllocError, Global};
 
@@ -45,9 +40,6 @@ pub(crate) trait FileEntry: Entry {
 
     /// The last phases, at the places of their satellites and codes.
     ghost places: { Self.Phases → List (Option Track) };
-
-    /// The messages of which there are such cells.
-    ghost HasCells: { Message → Type 0 };
 
     /// Makes the state in which no phase came, on the heap.
     fn new_phases(alloc: Global) -> Result<Box<Self::Phases>, AllocError>
@@ -79,23 +71,6 @@ pub(crate) trait FileEntry: Entry {
     fn name(signal: Self::Signal) -> AnySatelliteCode
         ensures { result ≡ name_of signal };
 
-    /// Takes what is new in a message, as `Gatherer::offer` does.
-    fn offer(
-        window: &mut Gatherer<Self>,
-        dated: DatedRef<'_>,
-        channels: &Channels,
-        conflicts: &mut Conflicts<Self::Signal>,
-    ) -> Result<Outcome<Self>, AllocError>
-        requires { HasCells (message_of dated.entry) }
-        ensures places { window.new.places ≡ window.old.places }
-        ensures bound { length window.new.sets ≤ window.new.places }
-        ensures answer { IfOk result (λ offer. AnswersMessage HasCells channels.now (window_of signal_of window.old) dated.entry
-            (outcome_of signal_of offer) (map name_of conflicts.new) (window_of signal_of window.new)) }
-        ensures closed { IfOk result (λ offer. ClosesBelow offer window.new.sets) }
-        ensures least_closes { IfOk result (λ offer. ClosesLeast window.old.places window.old.sets offer) }
-        ensures least { LeastNeverFalls window.old window.new }
-        ensures err { OnErr result (window.new ≡ window.old) };
-
     /// Does nothing. Cells are as cells of any system: their values are the same, they rise in the same order,
     /// each in range is in range, of a satellite that can have a line, and the same are left beside others.
     fn cells_are_signals()
@@ -120,8 +95,6 @@ impl FileEntry for CellEntry {
     ghost name_of = { name_of_gps };
 
     ghost places = { λ phases. phases };
-
-    ghost HasCells = { IsGpsMessage };
 
     // This function is alone in needing the stack for the phases, which is gone when it returns.
     #[inline(never)]
@@ -151,26 +124,6 @@ impl FileEntry for CellEntry {
         }
     }
 
-    #[inline(always)]
-    fn offer(
-        window: &mut Gatherer<CellEntry>,
-        dated: DatedRef<'_>,
-        _channels: &Channels,
-        conflicts: &mut Conflicts<SatelliteCode>,
-    ) -> Result<Outcome<CellEntry>, AllocError>
-        requires { IsGpsMessage (message_of dated.entry) }
-        ensures places { window.new.places ≡ window.old.places }
-        ensures bound { length window.new.sets ≤ window.new.places }
-        ensures answer { IfOk result (λ offer. AnswersMessage IsGpsMessage _channels.now (window_of signal_of window.old) dated.entry
-            (outcome_of signal_of offer) (map name_of_gps conflicts.new) (window_of signal_of window.new)) }
-        ensures closed { IfOk result (λ offer. ClosesBelow offer window.new.sets) }
-        ensures least_closes { IfOk result (λ offer. ClosesLeast window.old.places window.old.sets offer) }
-        ensures least { LeastNeverFalls window.old window.new }
-        ensures err { OnErr result (window.new ≡ window.old) }
-    {
-        window.offer(dated, conflicts)
-    }
-
     fn cells_are_signals() {}
 }
 
@@ -184,8 +137,6 @@ impl FileEntry for SignalEntry {
     ghost name_of = { λ signal. signal };
 
     ghost places = { λ phases. phases };
-
-    ghost HasCells = { λ m. Unit {0} };
 
     fn new_phases(alloc: Global) -> Result<Box<SignalPhases>, AllocError> {
         let phases = SignalPhases::new(alloc)?;
@@ -206,25 +157,6 @@ impl FileEntry for SignalEntry {
 
     fn name(signal: AnySatelliteCode) -> AnySatelliteCode {
         signal
-    }
-
-    fn offer(
-        window: &mut Gatherer<SignalEntry>,
-        dated: DatedRef<'_>,
-        channels: &Channels,
-        conflicts: &mut Conflicts<AnySatelliteCode>,
-    ) -> Result<Outcome<SignalEntry>, AllocError>
-        requires { Unit {0} }
-        ensures places { window.new.places ≡ window.old.places }
-        ensures bound { length window.new.sets ≤ window.new.places }
-        ensures answer { IfOk result (λ offer. AnswersMessage (λ m. Unit {0}) channels.now (window_of (λ e. e) window.old) dated.entry
-            (outcome_of (λ e. e) offer) (map (λ signal. signal) conflicts.new) (window_of (λ e. e) window.new)) }
-        ensures closed { IfOk result (λ offer. ClosesBelow offer window.new.sets) }
-        ensures least_closes { IfOk result (λ offer. ClosesLeast window.old.places window.old.sets offer) }
-        ensures least { LeastNeverFalls window.old window.new }
-        ensures err { OnErr result (window.new ≡ window.old) }
-    {
-        window.offer_signals(dated, channels, conflicts)
     }
 
     fn cells_are_signals() {}

@@ -1,11 +1,11 @@
 //! The text of a record, whose lines are written code by code.
 
-ghost use Rattle.std.specs.Prelude.{◌≡◌, ℕ, ◌≤◌, List, [], ◌∷◌, ◌++◌, replicate, slice_set, OnOk};
+ghost use Rattle.std.specs.Prelude.{◌≡◌, ℕ, ◌≤◌, false, List, [], ◌∷◌, ◌++◌, replicate, slice_set, OnOk};
 ghost use Rattle.rtk_obs.specs.SatelliteIndex.{IsSatelliteIndex};
 ghost use Rattle.rtk_rinex.specs.declared.epoch_table.Observed.{Observed};
 ghost use Rattle.rtk_rinex.specs.declared.epoch_table.SatelliteRow.{SatelliteRow};
 ghost use Rattle.rtk_rinex.specs.MixedRecord.{mixed_record_text};
-ghost use Rattle.rtk_rinex.specs.Record.{no_observation};
+ghost use Rattle.rtk_rinex.specs.Record.{has_line, no_observation};
 ghost use Rattle.rtk_rinex.specs.RecordLines.{IsFreeIn};
 ghost use Rattle.rtk_convert.specs.Steps.RowLines.{Keeps, HasRoom, HasFree};
 
@@ -65,6 +65,11 @@ pub(crate) trait RowLines: Drop + Sized {
     /// Returns the text: after `finish` that of the record, or no bytes if no observation is written.
     fn text(&self) -> &[u8]
         ensures { result.now ≡ text_of self.now };
+
+    /// Does nothing. A row without a written observation has no line.
+    fn blank_rows_are_left_out()
+        ensures { (lines : Self) (rows : List SatelliteRow) (row : SatelliteRow) → has_line row ≡ false
+            → HasRows lines (rows ++ row ∷ []) → HasRows lines rows };
 }
 
 impl RowLines for RecordLines {
@@ -108,6 +113,8 @@ impl RowLines for RecordLines {
     fn text(&self) -> &[u8] {
         RecordLines::text(self)
     }
+
+    fn blank_rows_are_left_out() {}
 }
 
 /// The text of a record of any systems, and what the codes show in the line that is open.
@@ -167,4 +174,6 @@ impl RowLines for SignalLines {
     fn text(&self) -> &[u8] {
         self.lines.text()
     }
+
+    fn blank_rows_are_left_out() {}
 }

@@ -1,5 +1,5 @@
 -- What an arrival changes in a conversion, apart from the count of all frames.
-use Rattle.std.specs.Prelude.{◌≡◌, ℕ, ◌||◌, List, ◌∷◌, Option, None, Result, OnOk, OnErr, IfOk, IfErr, IsTrue, All}
+use Rattle.std.specs.Prelude.{◌≡◌, ℕ, ◌||◌, List, ◌∷◌, Option, None, Result, OnOk, OnErr, IfOk, IfErr, IsTrue}
 use Rattle.rtk_frame.specs.Stream.{with_more, TakesPart}
 use Rattle.rtk_message.specs.declared.any_message.AnyMessage.{AnyMessage as Message}
 use Rattle.rtk_message.specs.declared.system.System.{System}
@@ -56,13 +56,11 @@ pub record AddsArrivalPartAs (s : SetupView) (link : ℕ) (a : Arrival) (before 
   pub out : WritesPartOfRest written_old.file written_new.file (file_so_far s before) (file_so_far s (a ∷ before))
   pub log : TakesPart written_old.report written_new.report (frame_lines s link (Dated a) before)
 
--- a message is added, or the call breaks off at it, whatever messages of this form arrived before
-pub record AddsArrival (HasForm : Message → Type 0) (s : SetupView) (old : EpochsView) (link : ℕ) (a : Arrival)
-    (result : Result MessageClass ConvertFault) (new : EpochsView) (written_old written_new : Written) : Type 0 where
-  pub ok : IfOk result (λ class. (before : List Arrival) → All (λ b. HasForm (message_of b)) before → RepresentsEpochs s old before
-      → AddsArrivalAs s old link a class before new written_old written_new)
-  pub err : OnErr result ((before : List Arrival) → All (λ b. HasForm (message_of b)) before → RepresentsEpochs s old before
-      → AddsArrivalPartAs s link a before written_old written_new)
+-- a message is added, or the call breaks off at it, whatever arrived before
+pub record AddsArrival (s : SetupView) (old : EpochsView) (link : ℕ) (a : Arrival) (result : Result MessageClass ConvertFault) (new : EpochsView)
+    (written_old written_new : Written) : Type 0 where
+  pub ok : IfOk result (λ class. (before : List Arrival) → RepresentsEpochs s old before → AddsArrivalAs s old link a class before new written_old written_new)
+  pub err : OnErr result ((before : List Arrival) → RepresentsEpochs s old before → AddsArrivalPartAs s link a before written_old written_new)
   pub fault : IfErr result IsFrameFault
 
 -- the setup takes a message

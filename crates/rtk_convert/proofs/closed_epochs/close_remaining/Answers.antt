@@ -1,6 +1,6 @@
 use Rattle.std.proofs.Common.{get_or, ◌∙◌}
 use Rattle.std.proofs.lemmas.Result.{err_from_is_err_and}
-use Rattle.rtk_obs.specs.declared.cell.CellEntry.{CellEntry}
+use Rattle.rtk_obs.specs.declared.signal_cells.SignalEntry.{SignalEntry}
 use Rattle.rtk_collect.specs.EpochSet.{EpochSetView}
 use Rattle.rtk_convert.proofs.FinishLemmas.{some-more, some-all, some-part}
 use Rattle.rtk_convert.proofs.closed_epochs.close_remaining.Goals as goal
@@ -8,7 +8,7 @@ use Rattle.rtk_convert.proofs.closed_epochs.close_remaining.Goals as goal
 pub returns-in_err-close-clause-closes : goal.returns-in_err-close-clause-closes
 returns-in_err-close-clause-closes g c =
     let p = err_from_is_err_and c.from_residual.result c.from_residual.ensures.1 in
-    let e : EpochSetView CellEntry = c.in-Some.set in
+    let e : EpochSetView SignalEntry = c.in-Some.set in
     rw (p.1, p.2) (record { ok = tt; err = some-part c.next_left.new.self.sets e c.left.invariant.some c.in-Some.ensures.next (λ below h. (c.close.ensures.closes.puts below h).part) })
 
 pub returns-clause-closes : goal.returns-clause-closes

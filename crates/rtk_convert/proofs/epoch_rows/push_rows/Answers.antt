@@ -1,12 +1,13 @@
 use Rattle.std.proofs.Common.{◌+◌, ◌-◌, ℕ, List, Option, ◌++◌, filter, refl, sym, ap, subst, ◌∙◌, arith}
 use Rattle.rtk_obs.specs.Cell.{IsSatellite}
 use Rattle.rtk_obs.specs.declared.cell.Cell.{Cell}
-use Rattle.rtk_obs.specs.declared.cell.CellEntry.{CellEntry}
-use Rattle.rtk_obs.specs.declared.code.Code.{Code}
+use Rattle.rtk_obs.specs.declared.signal_cells.SignalEntry.{SignalEntry}
+use Rattle.rtk_obs.specs.declared.any_code.AnyCode.{AnyCode}
 use Rattle.rtk_obs.specs.declared.cell.CellSource.TheVariants.{Legacy, Msm}
 use Rattle.rtk_obs.specs.declared.track.Track.{Track}
-use Rattle.rtk_obs.specs.Tracks.{IsLater, track_at}
-use Rattle.rtk_collect.specs.Gps.{gps}
+use Rattle.rtk_obs.specs.Tracks.{IsLater}
+use Rattle.rtk_convert.specs.LastPhases.{track_at}
+use Rattle.rtk_collect.specs.Signals.{signals}
 use Rattle.rtk_collect.specs.EpochSet.{is_from}
 use Rattle.rtk_rinex.specs.declared.epoch_table.Observed.{Observed}
 use Rattle.rtk_rinex.specs.declared.epoch_table.SatelliteRow.{SatelliteRow}
@@ -135,7 +136,7 @@ returns-clause-lines c =
     let set = c.args.set.now in
     let ms = c.msm_cells-msm.result.now in
     let ls = c.legacy_left-legacy.result.now in
-    let turn = λ (s : ℕ) (k : Code). ap (λ (xs : List CellEntry). first_cell (xs ++ ls) s k) c.msm_cells-msm.ensures.value
+    let turn = λ (s : ℕ) (k : AnyCode). ap (λ (xs : List SignalEntry). first_cell (xs ++ ls) s k) c.msm_cells-msm.ensures.value
     ∙ first-left (filter (is_from gps Msm) set.cells) (filter (is_from gps Legacy) set.cells) ls s k c.legacy_left-legacy.ensures.left in
     let none = c.in_default.ensures.none in
     let end = fills-end c.args.tracks.now c.epoch-epoch.result c.msm_cells-msm.result.now c.satellites.at.msm c.legacy_left-legacy.result.now c.satellites.at.legacy c.satellites.invariant.from c.satellites.tracks c.satellites.invariant.fills
@@ -156,7 +157,7 @@ returns-clause-phases c =
     let set = c.args.set.now in
     let ms = c.msm_cells-msm.result.now in
     let ls = c.legacy_left-legacy.result.now in
-    let turn = λ (s : ℕ) (k : Code). ap (λ (xs : List CellEntry). first_cell (xs ++ ls) s k) c.msm_cells-msm.ensures.value
+    let turn = λ (s : ℕ) (k : AnyCode). ap (λ (xs : List SignalEntry). first_cell (xs ++ ls) s k) c.msm_cells-msm.ensures.value
     ∙ first-left (filter (is_from gps Msm) set.cells) (filter (is_from gps Legacy) set.cells) ls s k c.legacy_left-legacy.ensures.left in
     let none = c.in_default.ensures.none in
     let end = fills-end c.args.tracks.now c.epoch-epoch.result c.msm_cells-msm.result.now c.satellites.at.msm c.legacy_left-legacy.result.now c.satellites.at.legacy c.satellites.invariant.from c.satellites.tracks c.satellites.invariant.fills

@@ -1,12 +1,12 @@
 use Rattle.std.proofs.Common.{rules, ◌≡◌, ℕ, suc, List, [], ◌∷◌, length, true, Option, None, Some, refl, sym, arith}
 use Rattle.std.specs.Prelude.{◌==◌}
 use Rattle.std.proofs.lemmas.Bool.{eqb-true}
-use Rattle.rtk_collect.specs.declared.conflicts.SatelliteCode.{SatelliteCode}
+use Rattle.rtk_collect.specs.declared.conflicts.AnySatelliteCode.{AnySatelliteCode}
 use Rattle.rtk_convert.specs.Report.{cell_lines}
 use Rattle.rtk_convert.proofs.report.offer_lines.Goals as goal
 
 -- without conflicts there are no lines of them
-none-listed : (link number : ℕ) (epoch : Option ℕ) (cells : List SatelliteCode) → true ≡ (length cells == 0) → cell_lines link number epoch cells ≡ []
+none-listed : (link number : ℕ) (epoch : Option ℕ) (cells : List AnySatelliteCode) → true ≡ (length cells == 0) → cell_lines link number epoch cells ≡ []
 none-listed link number None cells h = refl
 none-listed link number (Some e) [] h = refl
 none-listed link number (Some e) (c ∷ cells) h = let q : suc (length cells) ≡ 0 = eqb-true (suc (length cells)) 0 (sym h) in absurd (omega arith)

@@ -1,11 +1,11 @@
 use Rattle.std.proofs.Common.{◌≡◌, ℕ, suc, arith, List, Option, None, Some, refl, sym, ap, subst, ◌∙◌}
 use Rattle.std.proofs.lemmas.Result.{err_from_is_err_and}
 use Rattle.rtk_message.specs.AnyDecoded.{number_of}
-use Rattle.rtk_obs.specs.declared.cell.CellEntry.{CellEntry}
+use Rattle.rtk_obs.specs.declared.signal_cells.SignalEntry.{SignalEntry}
 use Rattle.rtk_collect.specs.EpochSet.{EpochSetView}
 use Rattle.rtk_collect.specs.Arrival.{epoch_of, message_of}
 use Rattle.rtk_frame.specs.Stream.{with_more, TakesPart}
-use Rattle.rtk_obs.specs.MessageCells.{cells_of}
+use Rattle.rtk_convert.specs.Setup.{cells_by}
 use Rattle.rtk_convert.specs.declared.fault.ConvertFault.TheVariants.{OutOfMemory}
 use Rattle.rtk_convert.specs.Steps.AddedMessage.{closed_by}
 use Rattle.rtk_convert.specs.Steps.OfferLines.{offer_lines}
@@ -50,7 +50,7 @@ returns-in_default-clause-failed g c = record {
 
 pub close-requires : goal.close-requires
 close-requires g c =
-    let e : EpochSetView CellEntry = c.in-Some.set in
+    let e : EpochSetView SignalEntry = c.in-Some.set in
     let some : closed_by c.in_ok-offer.offer ≡ Some e = sym c.closed_by.ensures ∙ c.in-Some.is in
     ahead-closes c.self.inside.collector c.self.inside.closed_epochs c.in_ok-offer.offer e some c.in_ok-offer.ensures.least_closes (ahead-seen c.self.view_is c.requires.under_way)
 
@@ -111,7 +111,7 @@ returns-in_err-close-clause-stays g c =
 
 pub returns-clause-stays : goal.returns-clause-stays
 returns-clause-stays g c =
-    let e : EpochSetView CellEntry = c.in-Some.set in
+    let e : EpochSetView SignalEntry = c.in-Some.set in
     let some : closed_by c.in_ok-offer.offer ≡ Some e = sym c.closed_by.ensures ∙ c.in-Some.is in
     let ahead = ahead-after c.self.inside.collector c.offer.new.self c.close.new.self c.in_ok-offer.offer e some c.in_ok-offer.ensures.least_closes c.in_ok-offer.ensures.closed c.offer.ensures.least (c.in_ok-close.ensures.closes.later (suc e.epoch) (omega arith)) in
     rw c.hand_back.ensures (stays-seen c.self.view_is c.requires.under_way (record { same_setup = refl; few = omega (arith, c.self.invariant.1.few, c.self.invariant.1.places); held = λ h. held-offered c.self.inside.collector c.offer.new.self c.args.dated c.in_ok-offer.offer c.offer.new.conflicts c.in_ok-offer.ensures.answer h }) refl
