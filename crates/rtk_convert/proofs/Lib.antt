@@ -1,4 +1,5 @@
 mod SystemLemmas
+mod EntriesLemmas
 mod PlacesLemmas
 mod CellOrderLemmas
 mod LeftCellsLemmas

@@ -140,81 +140,84 @@ codes-begin codes earlier xs begin s g =
     subst (λ (ys : List SignalEntry). IsSetOfCodes codes ys s) (sym (ap (λ (ys : List SignalEntry). earlier ++ ys) (range-empty xs begin) ∙ append-nil earlier)) g
 
 module _ {L : Type 0} (HasRows : L → List SatelliteRow → Type 0) (HasLine : L → List Observed → Type 0) (epoch : ℕ) (earlier xs : List SignalEntry) (begin end s : ℕ) (codes : List AnyCode)
-    (first : List (Option Track)) (before : L) (tracks : List (Option Track)) (lines : L)
+    (first : List (Option Track)) (before : L) (tracks : List (Option Track)) (lines : L) (e : SignalEntry)
     (g : TakesCells HasRows HasLine epoch earlier xs begin end s codes first before tracks lines) (own : AreRowCodes codes s) (ranges : All IsSignalInRange xs) (l : end < length xs)
-    (at : (d : SignalEntry) → (get_or xs end d).satellite ≡ s) where
-  next-is : (earlier ++ slice_range xs begin end) ++ get_or xs end any_cell ∷ [] ≡ earlier ++ slice_range xs begin (end + 1)
+    (here : (d : SignalEntry) → get_or xs end d ≡ e) (at : e.satellite ≡ s) where
+  next-is : (earlier ++ slice_range xs begin end) ++ e ∷ [] ≡ earlier ++ slice_range xs begin (end + 1)
   next-is =
-      append_assoc earlier (slice_range xs begin end) (get_or xs end any_cell ∷ [])
-      ∙ ap (λ (ys : List SignalEntry). earlier ++ ys) (sym (range-more xs begin end any_cell g.from l))
+      append_assoc earlier (slice_range xs begin end) (e ∷ [])
+      ∙ ap (λ (ys : List SignalEntry). earlier ++ ys)
+      (ap (λ (x : SignalEntry). slice_range xs begin end ++ x ∷ []) (sym (here any_cell)) ∙ sym (range-more xs begin end any_cell g.from l))
 
   -- the next cell has a code of the system of its satellite
-  pub next-signal : IsSignal (get_or xs end any_cell).satellite (get_or xs end any_cell).code
-  next-signal = let r : IsSignalInRange (get_or xs end any_cell) = ranges end any_cell l in r.signal
+  pub next-signal : IsSignal e.satellite e.code
+  next-signal = subst (λ (x : SignalEntry). IsSignal x.satellite x.code) (here any_cell) (let r : IsSignalInRange (get_or xs end any_cell) = ranges end any_cell l in r.signal)
 
-  pub takes-repeat : is_some (first_cell earlier s (get_or xs end any_cell).code) ≡ true → TakesCells HasRows HasLine epoch earlier xs begin (end + 1) s codes first before tracks lines
+  next-at : (d : SignalEntry) → (get_or xs end d).satellite ≡ s
+  next-at d = ap (λ (x : SignalEntry). x.satellite) (here d) ∙ at
+
+  pub takes-repeat : is_some (first_cell earlier s e.code) ≡ true → TakesCells HasRows HasLine epoch earlier xs begin (end + 1) s codes first before tracks lines
   takes-repeat there =
-      let e : SignalEntry = get_or xs end any_cell in
       let taken : List SignalEntry = earlier ++ slice_range xs begin end in
-      let here : is_some (first_cell taken e.satellite e.code) ≡ true =
-      subst (λ (n : ℕ). is_some (first_cell taken n e.code) ≡ true) (sym (at any_cell)) (some-before earlier (slice_range xs begin end) s e.code there) in
+      let seen : is_some (first_cell taken e.satellite e.code) ≡ true =
+      subst (λ (n : ℕ). is_some (first_cell taken n e.code) ≡ true) (sym at) (some-before earlier (slice_range xs begin end) s e.code there) in
       record {
         from = omega (arith, g.from);
         within = omega arith;
-        same = same-more xs begin end s g.same at;
-        later = subst (λ (ys : List SignalEntry). MayStep tracks ys s epoch) next-is (may-same tracks taken (taken ++ e ∷ []) s epoch (λ c hc. cells-same taken e next-signal here s c hc) g.later);
+        same = same-more xs begin end s g.same next-at;
+        later = subst (λ (ys : List SignalEntry). MayStep tracks ys s epoch) next-is (may-same tracks taken (taken ++ e ∷ []) s epoch (λ c hc. cells-same taken e next-signal seen s c hc) g.later);
         kept = g.kept;
-        shows = λ old h. subst (λ (ys : List SignalEntry). ShowsRow HasLine old epoch ys s codes tracks lines) next-is (shows-repeat HasRows HasLine e own next-signal here (g.shows old h));
+        shows = λ old h. subst (λ (ys : List SignalEntry). ShowsRow HasLine old epoch ys s codes tracks lines) next-is (shows-repeat HasRows HasLine e own next-signal seen (g.shows old h));
       }
 
   -- no earlier cell and none of this run has the satellite and code of the next one
-  pub takes-free : KeysRise signals xs → EntriesAreOfOneKind xs → first_cell earlier s (get_or xs end any_cell).code ≡ None
-      → first_cell (earlier ++ slice_range xs begin end) (get_or xs end any_cell).satellite (get_or xs end any_cell).code ≡ None
+  pub takes-free : KeysRise signals xs → EntriesAreOfOneKind xs → first_cell earlier s e.code ≡ None → first_cell (earlier ++ slice_range xs begin end) e.satellite e.code ≡ None
   takes-free rises one free =
-      let e : SignalEntry = get_or xs end any_cell in
       let none : first_cell earlier e.satellite e.code ≡ None =
-      subst (λ (n : ℕ). first_cell earlier n e.code ≡ None) (sym (at any_cell)) free in
-      none-both earlier (slice_range xs begin end) e.satellite e.code none (range-new xs begin end any_cell rises one l)
+      subst (λ (n : ℕ). first_cell earlier n e.code ≡ None) (sym at) free in
+      let new : first_cell (slice_range xs begin end) e.satellite e.code ≡ None =
+      subst (λ (x : SignalEntry). first_cell (slice_range xs begin end) x.satellite x.code ≡ None) (here any_cell) (range-new xs begin end any_cell rises one l) in
+      none-both earlier (slice_range xs begin end) e.satellite e.code none new
 
-  pub codes-repeat : (set : ℕ) → is_some (first_cell earlier s (get_or xs end any_cell).code) ≡ true → IsSetOfCodes set (earlier ++ slice_range xs begin end) s
+  pub codes-repeat : (set : ℕ) → is_some (first_cell earlier s e.code) ≡ true → IsSetOfCodes set (earlier ++ slice_range xs begin end) s
       → IsSetOfCodes set (earlier ++ slice_range xs begin (end + 1)) s
   codes-repeat set there h =
-      let e : SignalEntry = get_or xs end any_cell in
       subst (λ (ys : List SignalEntry). IsSetOfCodes set ys s) next-is
-      (codes-same set (earlier ++ slice_range xs begin end) e s next-signal (at any_cell) (some-before earlier (slice_range xs begin end) s e.code there) h)
+      (codes-same set (earlier ++ slice_range xs begin end) e s next-signal at (some-before earlier (slice_range xs begin end) s e.code there) h)
 
-  pub codes-next : (set : ℕ) → first_cell (earlier ++ slice_range xs begin end) (get_or xs end any_cell).satellite (get_or xs end any_cell).code ≡ None → IsSetOfCodes set (earlier ++ slice_range xs begin end) s
-      → IsSetOfCodes (bit_or set (2 ^ place_of (get_or xs end any_cell).code)) (earlier ++ slice_range xs begin (end + 1)) s
+  pub codes-next : (set : ℕ) → first_cell (earlier ++ slice_range xs begin end) e.satellite e.code ≡ None → IsSetOfCodes set (earlier ++ slice_range xs begin end) s
+      → IsSetOfCodes (bit_or set (2 ^ place_of e.code)) (earlier ++ slice_range xs begin (end + 1)) s
   codes-next set none h =
-      let e : SignalEntry = get_or xs end any_cell in
       subst (λ (ys : List SignalEntry). IsSetOfCodes (bit_or set (2 ^ place_of e.code)) ys s) next-is
-      (codes-more set (earlier ++ slice_range xs begin end) e s next-signal (at any_cell) (subst (λ (n : ℕ). first_cell (earlier ++ slice_range xs begin end) n e.code ≡ None) (at any_cell) none) h)
+      (codes-more set (earlier ++ slice_range xs begin end) e s next-signal at (subst (λ (n : ℕ). first_cell (earlier ++ slice_range xs begin end) n e.code ≡ None) at none) h)
 
-  -- so a line is open in which its code shows nothing
-  pub takes-open : first_cell (earlier ++ slice_range xs begin end) (get_or xs end any_cell).satellite (get_or xs end any_cell).code ≡ None
-      → ShowsSome HasLine epoch earlier s codes first before → HasFreeOf HasLine lines (place_of (get_or xs end any_cell).code) codes
+  -- so its code may take a step
+  pub takes-later : first_cell (earlier ++ slice_range xs begin end) e.satellite e.code ≡ None → IsLater (track_at tracks e.satellite e.code) epoch
+  takes-later none =
+      subst (λ (n : ℕ). IsLater (track_at tracks n e.code) epoch) (sym at)
+      (g.later e.code (signal-at e at next-signal) (subst (λ (n : ℕ). first_cell (earlier ++ slice_range xs begin end) n e.code ≡ None) at none))
+
+  -- and a line is open in which it shows nothing
+  pub takes-open : first_cell (earlier ++ slice_range xs begin end) e.satellite e.code ≡ None → ShowsSome HasLine epoch earlier s codes first before → HasFreeOf HasLine lines (place_of e.code) codes
   takes-open none some =
-      let e : SignalEntry = get_or xs end any_cell in
       let taken : List SignalEntry = earlier ++ slice_range xs begin end in
       record {
         row = map (λ code. or_nothing (shown_by some.first epoch taken s code)) codes;
         open_line = (g.shows some.first some.shows).row;
-        free = row-free some.first epoch taken s codes e own (at any_cell) next-signal none;
+        free = row-free some.first epoch taken s codes e own at next-signal none;
       }
 
-  pub takes-more : (after : List (Option Track)) (now : L)
-      → first_cell (earlier ++ slice_range xs begin end) (get_or xs end any_cell).satellite (get_or xs end any_cell).code ≡ None
-      → StepsOver HasRows HasLine epoch (get_or xs end any_cell) codes tracks after lines now → TakesCells HasRows HasLine epoch earlier xs begin (end + 1) s codes first before after now
+  pub takes-more : (after : List (Option Track)) (now : L) → first_cell (earlier ++ slice_range xs begin end) e.satellite e.code ≡ None
+      → StepsOver HasRows HasLine epoch e codes tracks after lines now → TakesCells HasRows HasLine epoch earlier xs begin (end + 1) s codes first before after now
   takes-more after now none step =
-      let e : SignalEntry = get_or xs end any_cell in
       let taken : List SignalEntry = earlier ++ slice_range xs begin end in
       record {
         from = omega (arith, g.from);
         within = omega arith;
-        same = same-more xs begin end s g.same at;
+        same = same-more xs begin end s g.same next-at;
         later = subst (λ (ys : List SignalEntry). MayStep after ys s epoch) next-is (may-more tracks after taken s epoch e step.others next-signal g.later);
         kept = λ rows h. step.kept rows (g.kept rows h);
-        shows = λ old h. subst (λ (ys : List SignalEntry). ShowsRow HasLine old epoch ys s codes after now) next-is (shows-more HasRows HasLine after now e own (at any_cell) next-signal none step (g.shows old h));
+        shows = λ old h. subst (λ (ys : List SignalEntry). ShowsRow HasLine old epoch ys s codes after now) next-is (shows-more HasRows HasLine after now e own at next-signal none step (g.shows old h));
       }
 
 -- nothing is taken yet of a satellite

@@ -150,6 +150,26 @@ fn form_from(epoch: GpsMs, listed: &[AnyCode], satellite: u8) -> RowForm<'_>
     }
 }
 
+// Returns what the row of a satellite has in common with others: what the rows before it have, up to the last
+// satellite of their system, or else what the rows from it on have.
+#[inline(always)]
+fn form_at<'a>(form: RowForm<'a>, listed: &'a [AnyCode], satellite: u8) -> RowForm<'a>
+    requires listed { IsMixedList listed.now }
+    requires satellite { IsSatelliteIndex satellite }
+    requires codes { satellite ≤ form.last → AreCodesTo listed.now satellite form.last form.codes.now }
+    requires columns { ArePlaces form.codes.now form.columns }
+    requires last { form.last ≤ 221 }
+    ensures epoch { result.epoch ≡ form.epoch }
+    ensures codes { AreCodesTo listed.now satellite result.last result.codes.now }
+    ensures columns { ArePlaces result.codes.now result.columns }
+    ensures last { (satellite ≤ result.last) × (result.last ≤ 221) }
+{
+    if satellite <= form.last {
+        return form;
+    }
+    form_from(form.epoch, listed, satellite)
+}
+
 // A place in each list of the cells of an epoch.
 #[derive(Clone, Copy)]
 struct CellPlaces {
@@ -262,12 +282,13 @@ fn show_cells<E: FileEntry>(
     let mut codes = known;
     let mut end = begin;
     'cells: while has_satellite(entries, end, satellite) {
-        let bit = bit_of(&entries[end]);
+        let entry = &entries[end];
+        let bit = bit_of(entry);
         if known & bit != 0 {
             end += 1;
             continue;
         }
-        show_entry(phases, form, &entries[end], lines);
+        show_entry(phases, form, entry, lines);
         codes |= bit;
         end += 1;
     }
@@ -350,9 +371,7 @@ pub(crate) fn push_rows<E: FileEntry>(
     let mut form = form_from(epoch, listed, 1);
     let mut at = CellPlaces { msm: 0, legacy: 0 };
     'satellites: while let Some(satellite) = next_satellite(msm, legacy, at) {
-        if satellite > form.last {
-            form = form_from(epoch, listed, satellite);
-        }
+        form = form_at(form, listed, satellite);
         lines.open_line(form.codes.len())?;
         at = fill_line(phases, &form, satellite, msm, legacy, at, lines);
         lines.close_line(satellite)?;
