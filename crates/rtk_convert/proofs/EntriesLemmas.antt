@@ -16,6 +16,15 @@ use Rattle.rtk_collect.specs.Signals.{signals}
 use Rattle.rtk_convert.specs.Rows.{first_cell, in_turn}
 use Rattle.rtk_convert.proofs.LeftCellsLemmas.{first-left}
 
+map-if : {A B : Type 0} (f : A → B) (b : Bool) (x : A) (ys : List A) (zs : List B) → zs ≡ map f ys → cond b (f x ∷ zs) zs ≡ map f (cond b (x ∷ ys) ys)
+map-if f true x ys zs e = ap (λ (ts : List _). f x ∷ ts) e
+map-if f false x ys zs e = e
+
+pub filter-map : {A B : Type 0} (f : A → B) (p : A → Bool) (q : B → Bool) → ((e : A) → q (f e) ≡ p e) → (xs : List A) → filter q (map f xs) ≡ map f (filter p xs)
+filter-map f p q same [] = refl
+filter-map f p q same (x ∷ xs) =
+    ap (λ (b : Bool). cond b (f x ∷ filter q (map f xs)) (filter q (map f xs))) (same x) ∙ map-if f (p x) x (filter p xs) (filter q (map f xs)) (filter-map f p q same xs)
+
 module _ {E : Type 0} (f : E → SignalEntry) where
   -- a cell that stands at a place stands there as one of any system
   pub entry-at : (xs : List E) (k : ℕ) (x : E) (d : SignalEntry) → k < length xs → x ≡ get_or xs k x → get_or (map f xs) k d ≡ f x
@@ -23,15 +32,6 @@ module _ {E : Type 0} (f : E → SignalEntry) where
 
   pub within-map : (xs : List E) (k : ℕ) → k < length (map f xs) → k < length xs
   within-map xs k h = omega (arith, h, length-map xs f)
-
-  map-if : (b : Bool) (x : E) (ys : List E) (zs : List SignalEntry) → zs ≡ map f ys → cond b (f x ∷ zs) zs ≡ map f (cond b (x ∷ ys) ys)
-  map-if true x ys zs e = ap (λ (ts : List SignalEntry). f x ∷ ts) e
-  map-if false x ys zs e = e
-
-  pub filter-map : (p : E → Bool) (q : SignalEntry → Bool) → ((e : E) → q (f e) ≡ p e) → (xs : List E) → filter q (map f xs) ≡ map f (filter p xs)
-  filter-map p q same [] = refl
-  filter-map p q same (x ∷ xs) =
-      ap (λ (b : Bool). cond b (f x ∷ filter q (map f xs)) (filter q (map f xs))) (same x) ∙ map-if (p x) x (filter p xs) (filter q (map f xs)) (filter-map p q same xs)
 
   pub all-map : (P : E → Type 0) (Q : SignalEntry → Type 0) → ((e : E) → P e → Q (f e)) → (xs : List E) → All P xs → All Q (map f xs)
   all-map P Q h xs all = All-map Q f xs (λ k d l. h (get_or xs k d) (all k d l))
@@ -48,5 +48,5 @@ module _ {E : Type 0} (f : E → SignalEntry) where
         → first_cell (map f (filter (is_from es Msm) cells) ++ map f left) s c ≡ first_cell (in_turn (map f cells)) s c
     turn-is cells left h s c =
         first-left (map f (filter (is_from es Msm) cells)) (map f (filter (is_from es Legacy) cells)) (map f left) s c h
-        ∙ ap (λ (xs : List SignalEntry). first_cell (xs ++ map f (filter (is_from es Legacy) cells)) s c) (sym (filter-map (is_from es Msm) (is_from signals Msm) (from-same Msm) cells))
-        ∙ ap (λ (xs : List SignalEntry). first_cell (filter (is_from signals Msm) (map f cells) ++ xs) s c) (sym (filter-map (is_from es Legacy) (is_from signals Legacy) (from-same Legacy) cells))
+        ∙ ap (λ (xs : List SignalEntry). first_cell (xs ++ map f (filter (is_from es Legacy) cells)) s c) (sym (filter-map f (is_from es Msm) (is_from signals Msm) (from-same Msm) cells))
+        ∙ ap (λ (xs : List SignalEntry). first_cell (filter (is_from signals Msm) (map f cells) ++ xs) s c) (sym (filter-map f (is_from es Legacy) (is_from signals Legacy) (from-same Legacy) cells))

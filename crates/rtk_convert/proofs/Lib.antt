@@ -15,6 +15,8 @@ mod WritingLemmas
 mod HandedLemmas
 mod SoFarLemmas
 mod AnswersLemmas
+mod AddLemmas
+mod GpsOfferLemmas
 mod AheadLemmas
 mod OneTextLemmas
 mod ArriveLemmas
