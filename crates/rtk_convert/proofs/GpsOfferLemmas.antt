@@ -43,6 +43,7 @@ use Rattle.rtk_collect.specs.Key.{key}
 use Rattle.rtk_collect.specs.Late.{epochs, greater, late}
 use Rattle.rtk_collect.specs.Offered.{AnswersArrival}
 use Rattle.rtk_collect.specs.Signals.{signals, GpsIsKept, GpsKeepsItsOrder, IsGpsMessage, epoch_of_signals}
+use Rattle.rtk_collect.proofs.PublicLaws.{gps-keeps-its-order, gps-is-kept}
 use Rattle.rtk_rinex.specs.MixedHead.{letter}
 use Rattle.rtk_convert.specs.Conversion.{AllTaken}
 use Rattle.rtk_convert.specs.Epochs.{set_of, window_of, outcome_of}
@@ -329,10 +330,12 @@ module _ (order : GpsKeepsItsOrder) where
     }
 
 -- the window of GPS answers rightly, with its cells as signals
-pub gps-answers : GpsKeepsItsOrder → GpsIsKept → (s : SetupView) (old new : CollectorView CellEntry) (a : Arrival) (offer : Outcome CellEntry SatelliteCode) (listed : List SatelliteCode)
+pub gps-answers : (s : SetupView) (old new : CollectorView CellEntry) (a : Arrival) (offer : Outcome CellEntry SatelliteCode) (listed : List SatelliteCode)
     → IsTrue (is_of_gps s) → IsTakenBy s (message_of a) → All IsInRange (cells_of (message_of a)) → new.places ≡ old.places → AnswersArrival gps cells_of old a offer listed new
     → AnswersMessage s (window_of signal_of old) a (outcome_of signal_of offer) (map name_of_gps listed) (window_of signal_of new)
-gps-answers order law s old new a offer listed is taken range size meets before kept =
+gps-answers s old new a offer listed is taken range size meets before kept =
+    let order : GpsKeepsItsOrder = gps-keeps-its-order in
+    let law : GpsIsKept = gps-is-kept in
     let channels = channels_of s.head.glonass in
     let one = gps-message s (message_of a) is taken in
     let all = gps-messages s before is kept.taken in

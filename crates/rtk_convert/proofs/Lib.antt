@@ -18,6 +18,7 @@ mod AnswersLemmas
 mod AddLemmas
 mod GpsOfferLemmas
 mod AheadLemmas
+mod ClassLemmas
 mod OneTextLemmas
 mod ArriveLemmas
 mod OutcomeLemmas

@@ -22,7 +22,7 @@ use crate::message_class::MessageClass;
 use crate::report;
 use crate::setup::Setup;
 use crate::writing::{write_header_if_none, write_lines};
-use rtk_collect::{Conflicts, DatedRef, GatheredSet, Gatherer, Outcome, signal_window_laws};
+use rtk_collect::{Conflicts, DatedRef, GatheredSet, Gatherer, Outcome};
 use rtk_frame::Sink;
 use rtk_obs::{CellEntry, SignalEntry};
 use std::alloc::{AllocError, Global};
@@ -149,7 +149,6 @@ impl Epochs<CellEntry> {
             (written (O.taken out.old) (L.taken log.old)) (written (O.taken out.new) (L.taken log.new)) }
         ensures failed { NamesFailedStreams result (O.failures out.old) (O.failures out.new) (L.failures log.old) (L.failures log.new) }
     {
-        signal_window_laws();
         let (number, epoch) = (dated.number(), dated.epoch());
         let offer = self.collector.offer(dated, &mut self.conflicts)?;
         let class = class_of(&offer);
