@@ -16,7 +16,7 @@ use Rattle.rtk_convert.specs.Steps.ClosedText.{closed_text, closing}
 use Rattle.rtk_convert.specs.FileOfArrivals.{site_of_stations, site_of_kept, file_so_far}
 use Rattle.rtk_convert.proofs.FileLemmas.{so_far-closed, closed-more, closed-grows, closed-none}
 
-any_epoch : EpochSetView SignalEntry
+pub any_epoch : EpochSetView SignalEntry
 any_epoch = record { epoch = 0; cells = [] }
 
 -- the file so far, from the closed epochs alone

@@ -117,6 +117,7 @@ impl<E: FileEntry> Epochs<E> {
         setup: &Setup,
         out: &mut O,
     ) -> Result<u64, ConvertFault>
+        requires places { self.collector.places ≡ setup.now.window }
         requires ahead { IsAhead self.collector self.closed }
         ensures ends { EndsEpochs setup.now self result (O.taken out.old) (O.taken out.new) }
         ensures failed { NamesFailedFile result (O.failures out.old) (O.failures out.new) }
@@ -143,6 +144,7 @@ impl Epochs<CellEntry> {
     ) -> Result<MessageClass, ConvertFault>
         requires taken { IsTakenBy setup.now (message_of dated.entry) }
         requires gps { IsTrue (is_of_gps setup.now) }
+        requires places { self.old.collector.places ≡ setup.now.window }
         requires ahead { IsAhead self.old.collector self.old.closed }
         ensures stays { HandsOn setup.now self.old result self.new }
         ensures adds { AddsArrival setup.now self.old link dated.entry result self.new
@@ -172,6 +174,7 @@ impl Epochs<SignalEntry> {
         log: &mut L,
     ) -> Result<MessageClass, ConvertFault>
         requires taken { IsTakenBy setup.now (message_of dated.entry) }
+        requires places { self.old.collector.places ≡ setup.now.window }
         requires ahead { IsAhead self.old.collector self.old.closed }
         ensures stays { HandsOn setup.now self.old result self.new }
         ensures adds { AddsArrival setup.now self.old link dated.entry result self.new
@@ -224,6 +227,7 @@ impl AnyEpochs {
     ) -> Result<MessageClass, ConvertFault>
         requires taken { IsTakenBy setup.now (message_of dated.entry) }
         requires form { AreEpochsOf setup.now self.old }
+        requires places { (epochs_in self.old).collector.places ≡ setup.now.window }
         requires ahead { IsAhead (epochs_in self.old).collector (epochs_in self.old).closed }
         ensures stays { HandsOn setup.now (epochs_in self.old) result (epochs_in self.new) }
         ensures form { AreEpochsOf setup.now self.new }
@@ -245,6 +249,7 @@ impl AnyEpochs {
         setup: &Setup,
         out: &mut O,
     ) -> Result<u64, ConvertFault>
+        requires places { (epochs_in self).collector.places ≡ setup.now.window }
         requires ahead { IsAhead (epochs_in self).collector (epochs_in self).closed }
         ensures ends { EndsEpochs setup.now (epochs_in self) result (O.taken out.old) (O.taken out.new) }
         ensures failed { NamesFailedFile result (O.failures out.old) (O.failures out.new) }
