@@ -76,11 +76,8 @@ taken-of-gps s is =
     rw (kinds-none s Glonass is (λ e. omega arith), kinds-none s Galileo is (λ e. omega arith), kinds-none s Beidou is (λ e. omega arith),
     kinds-none s Qzss is (λ e. omega arith), kinds-none s Sbas is (λ e. omega arith), kinds-none s Navic is (λ e. omega arith)) refl
 
-accepts-if : (b : Bool) (x y : Bool) → cond b x y ≡ true → cond b true y ≡ true
-accepts-if true x y h = refl
-accepts-if false x y h = h
-
-accepts-taken : (s : SetupView) (n : ℕ) → IsTrue (takes s n) → accepted.accepts (taken_by s) n ≡ true
+-- a message that the setup takes is read
+pub accepts-taken : (s : SetupView) (n : ℕ) → IsTrue (takes s n) → accepted.accepts (taken_by s) n ≡ true
 accepts-taken s n h = elim (cases_Bool (n == 1004)) [
   | inl is ↦ rw is refl
   | inr no ↦ rw no at h

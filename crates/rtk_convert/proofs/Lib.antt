@@ -23,6 +23,7 @@ mod OneTextLemmas
 mod ArriveLemmas
 mod OutcomeLemmas
 mod FinishLemmas
+mod EndLemmas
 mod ArrivalLawsLemmas
 mod GatheringLemmas
 mod ConverterLemmas
