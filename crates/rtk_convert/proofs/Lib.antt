@@ -21,6 +21,7 @@ mod AheadLemmas
 mod ClassLemmas
 mod OneTextLemmas
 mod ArriveLemmas
+mod BringsLemmas
 mod OutcomeLemmas
 mod FinishLemmas
 mod EndLemmas

@@ -8,8 +8,6 @@ use Rattle.rtk_convert.specs.ClosedEpochs.{ClosedEpochsView}
 use Rattle.rtk_convert.specs.declared.counts.Counts.{Counts}
 use Rattle.rtk_convert.specs.declared.systems.Systems.{Systems}
 use Rattle.rtk_convert.specs.declared.fault.ConvertFault.{ConvertFault}
-use Rattle.rtk_convert.specs.declared.fault.ConvertFault.TheVariants.{Write}
-use Rattle.rtk_convert.specs.declared.fault.Stream.TheVariants.{Log}
 use Rattle.rtk_convert.specs.declared.frame_class.FrameClass.{FrameClass}
 use Rattle.rtk_convert.specs.Conversion.{ConversionView, IsAhead}
 use Rattle.rtk_convert.specs.Failure.{IsFrameFault}
@@ -22,8 +20,6 @@ use Rattle.rtk_convert.specs.Steps.Closing.{FinishesConversion, FinishesConversi
 use Rattle.rtk_convert.specs.Setup.{SetupView}
 use Rattle.rtk_convert.specs.Writing.{Written}
 use Rattle.rtk_convert.proofs.ArriveLemmas.{state, arrives-still, breaks-still}
-use Rattle.rtk_convert.proofs.HandedLemmas.{log-frame}
-use Rattle.rtk_convert.proofs.WritingLemmas.{on_err-from}
 
 -- what is kept of the opened conversion is kept of the conversion
 pub keeps-seen : {opened old new : ConversionView} → opened ≡ old → KeepsWindow opened new → KeepsWindow old new
@@ -77,13 +73,10 @@ payload-off {s} {w} {c} {k} {y} {b} {d} {old} {mid} {new} {link} {payload} {faul
     subst (λ (x : ConversionView). HandlesPayload x link payload (Err fault) new o o') seen
     (record { epoch = tt; ok = tt; err = breaks-still payload h.err; fault = h.fault; cause = h.cause })
 
--- the lines of a message were written, or the call breaks off in them
-pub message-lines : {T : Type 0} {opened old new : ConversionView} {link : ℕ} {a : Arrival} {o o' : Written} (r : Result T ConvertFault)
-    → opened ≡ old → IfErr r (λ f. f ≡ Write Log) → OnOk r (AddsMessage opened link a new o o') → AddsMessageInPart opened link a o o'
-    → HandlesMessage old link a r new o o'
-message-lines {T} {opened} {old} {new} {link} {a} {o} {o'} r seen is adds part =
-    subst (λ (x : ConversionView). HandlesMessage x link a r new o o') seen
-    (record { ok = adds; err = on_err-from r part; fault = log-frame r is })
+pub message-ok : {T : Type 0} {answer : T} {opened old new : ConversionView} {link : ℕ} {a : Arrival} {o o' : Written}
+    → opened ≡ old → AddsMessage opened link a new o o' → HandlesMessage old link a (Ok answer) new o o'
+message-ok {T} {answer} {opened} {old} {new} {link} {a} {o} {o'} seen adds =
+    subst (λ (x : ConversionView). HandlesMessage x link a (Ok answer) new o o') seen (record { ok = adds; err = tt; fault = tt })
 
 pub message-err : {T : Type 0} {opened old new : ConversionView} {link : ℕ} {a : Arrival} {o o' : Written} (fault : ConvertFault)
     → opened ≡ old → IsFrameFault fault → AddsMessageInPart opened link a o o' → HandlesMessage {T = T} old link a (Err fault) new o o'

@@ -5,7 +5,8 @@
 //! is an invariant (`IsAhead`): there is a last phase only once the window is full, and its epoch
 //! is below all epochs of the window.
 
-ghost use Rattle.std.specs.Prelude.{◌≡◌, true, false, Err, IfOk, is_err};
+ghost use Rattle.std.specs.Prelude.{◌≡◌, ◌||◌, true, false, Err, IfOk, is_err};
+ghost use Rattle.rtk_message.specs.declared.system.System.{System};
 ghost use Rattle.rtk_collect.specs.Arrival.{message_of};
 ghost use Rattle.rtk_convert.specs.Steps.AddedMessage.{HandlesMessage, IsTakenBy};
 ghost use Rattle.rtk_convert.specs.Steps.Closing.{EndsConversion};
@@ -14,7 +15,8 @@ ghost use Rattle.rtk_convert.specs.Report.{counted_as};
 ghost use Rattle.rtk_convert.specs.Steps.OfferLines.{class_named};
 ghost use Rattle.rtk_convert.specs.Conversion.{IsNewConversion};
 ghost use Rattle.rtk_convert.specs.Outcome.{KeepsWindow, NamesFailedStreams, RefusesStopped};
-ghost use Rattle.rtk_convert.specs.Steps.ReadMessage.{system_of_number};
+ghost use Rattle.rtk_convert.specs.Systems.{has_system};
+ghost use Rattle.rtk_convert.specs.Steps.ReadMessage.{brings_by, system_of_number};
 ghost use Rattle.rtk_convert.specs.Writing.{written};
 
 use crate::counts::Counts;
@@ -207,9 +209,7 @@ impl Conversion {
             .epochs
             .add(self.alloc, &self.setup, link, dated, out, log)?;
         count_message(&mut self.counts, class);
-        if epoch.is_some() && class == MessageClass::Taken {
-            self.systems.put(system_of(number));
-        }
+        put_system(&mut self.systems, number, epoch, class);
         Ok(())
     }
 }
@@ -249,6 +249,16 @@ fn system_of(number: u16) -> System
             Some(msm_type) => msm_type.system,
             None => System::Gps,
         },
+    }
+}
+
+// Puts the system of a message of this number, epoch and class into a set, if it is an observation that was
+// taken.
+fn put_system(systems: &mut Systems, number: u16, epoch: Option<GpsMs>, class: MessageClass)
+    ensures { (system : System) → has_system systems.new system ≡ (brings_by number epoch (class_named class) system || has_system systems.old system) }
+{
+    if epoch.is_some() && class == MessageClass::Taken {
+        systems.put(system_of(number));
     }
 }
 

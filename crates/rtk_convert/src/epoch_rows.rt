@@ -153,21 +153,22 @@ fn form_from(epoch: GpsMs, listed: &[AnyCode], satellite: u8) -> RowForm<'_>
 // Returns what the row of a satellite has in common with others: what the rows before it have, up to the last
 // satellite of their system, or else what the rows from it on have.
 #[inline(always)]
-fn form_at<'a>(form: RowForm<'a>, listed: &'a [AnyCode], satellite: u8) -> RowForm<'a>
+fn form_at<'a>(form: &RowForm<'a>, listed: &'a [AnyCode], satellite: u8) -> RowForm<'a>
     requires listed { IsMixedList listed.now }
     requires satellite { IsSatelliteIndex satellite }
-    requires codes { satellite ≤ form.last → AreCodesTo listed.now satellite form.last form.codes.now }
-    requires columns { ArePlaces form.codes.now form.columns }
-    requires last { form.last ≤ 221 }
-    ensures epoch { result.epoch ≡ form.epoch }
+    requires codes { satellite ≤ form.now.last → AreCodesTo listed.now satellite form.now.last form.now.codes.now }
+    requires columns { ArePlaces form.now.codes.now form.now.columns }
+    requires last { form.now.last ≤ 221 }
+    ensures epoch { result.epoch ≡ form.now.epoch }
     ensures codes { AreCodesTo listed.now satellite result.last result.codes.now }
     ensures columns { ArePlaces result.codes.now result.columns }
     ensures last { (satellite ≤ result.last) × (result.last ≤ 221) }
 {
     if satellite <= form.last {
-        return form;
+        *form
+    } else {
+        form_from(form.epoch, listed, satellite)
     }
-    form_from(form.epoch, listed, satellite)
 }
 
 // A place in each list of the cells of an epoch.
@@ -371,7 +372,7 @@ pub(crate) fn push_rows<E: FileEntry>(
     let mut form = form_from(epoch, listed, 1);
     let mut at = CellPlaces { msm: 0, legacy: 0 };
     'satellites: while let Some(satellite) = next_satellite(msm, legacy, at) {
-        form = form_at(form, listed, satellite);
+        form = form_at(&form, listed, satellite);
         lines.open_line(form.codes.len())?;
         at = fill_line(phases, &form, satellite, msm, legacy, at, lines);
         lines.close_line(satellite)?;

@@ -1,5 +1,5 @@
 -- What a payload is read as by the messages of a setup.
-use Rattle.std.specs.Prelude.{ℕ, Option, None, Some, IsTrue}
+use Rattle.std.specs.Prelude.{ℕ, Bool, ◌==◌, ◌&&◌, Option, None, Some, is_some, IsTrue}
 use Rattle.rtk_message.specs.declared.any_fault.AnyFault.{AnyFault}
 use Rattle.rtk_message.specs.declared.any_fault.AnyFault.TheVariants.{NoNumber, Other, Short, EpochRange, TooManyCells}
 use Rattle.rtk_message.specs.declared.any_message.AnyMessage.{AnyMessage}
@@ -9,6 +9,9 @@ use Rattle.rtk_message.specs.declared.system.System.TheVariants.{Gps}
 use Rattle.rtk_message.specs.Accepted.{accepts}
 use Rattle.rtk_message.specs.AnyDecoded.{IsValid, number_of}
 use Rattle.rtk_message.specs.Systems.{type_of_number}
+use Rattle.rtk_obs.specs.SatelliteIndex.{letter_of}
+use Rattle.rtk_collect.specs.Answer.{Class}
+use Rattle.rtk_convert.specs.Report.{is_taken}
 use Rattle.rtk_convert.specs.Setup.{SetupView, taken_by}
 
 -- messages of this number are read
@@ -28,6 +31,10 @@ system_of_type (Some t) = t.system
 -- the system of an observation of this number
 abbrev pub system_of_number : ℕ → System
 system_of_number number = system_of_type (type_of_number number)
+
+-- a message of this number, epoch and class is an observation of this system that was taken
+abbrev pub brings_by : ℕ → Option ℕ → Class → System → Bool
+brings_by number epoch class system = (is_some epoch && (letter_of (system_of_number number) == letter_of system)) && is_taken class
 
 -- a fault of a message that is read, or of a payload without a number or with another one
 abbrev pub IsFaultBy : SetupView → AnyFault → Type 0
