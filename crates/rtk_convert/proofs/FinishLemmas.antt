@@ -1,5 +1,6 @@
 -- The end: the epochs that are left close one after another.
-use Rattle.std.proofs.Common.{◌≡◌, ℕ, Bool, List, [], ◌∷◌, ◌++◌, take, Option, inl, inr, refl, ap, append_assoc, sym, subst, ◌∙◌}
+use Rattle.std.proofs.Common.{◌≡◌, ℕ, Bool, List, [], ◌∷◌, ◌++◌, take, length, length-append, Option, refl, ap, append_assoc, sym, subst, ◌∙◌, arith}
+use Rattle.std.proofs.Math.Seq.{get_or-append_seam}
 use Rattle.std.specs.Prelude.{is_some}
 use Rattle.std.proofs.lemmas.List.{append-nil, take-append-drop}
 use Rattle.rtk_collect.specs.Signals.{signals}
@@ -12,19 +13,14 @@ use Rattle.rtk_collect.specs.Collector.{CollectorView, RepresentsArrivals}
 use Rattle.rtk_collect.proofs.PublicLaws.{closed-drop}
 use Rattle.rtk_frame.specs.Stream.{with_more, TakesPart}
 use Rattle.rtk_rinex.specs.Header.{PositionView}
-use Rattle.rtk_convert.specs.declared.counts.Counts.{Counts}
 use Rattle.rtk_convert.specs.File.{first_time, file_of, record_count}
 use Rattle.rtk_convert.specs.Steps.ClosedText.{closed_text, closing, header_before}
 use Rattle.rtk_convert.specs.FileOfArrivals.{kept_file, file_so_far}
-use Rattle.rtk_convert.specs.FrameClass.{Found, arrivals}
-use Rattle.rtk_convert.specs.Finish.{all_counts, report_of}
-use Rattle.rtk_convert.specs.Steps.Closing.{ClosesEpochs, ClosesEpochsInPart, FinishesConversion, FinishesConversionInPart}
+use Rattle.rtk_convert.specs.Steps.Closing.{AllAbove, ClosesEpochs, ClosesEpochsInPart}
+use Rattle.rtk_convert.specs.Steps.ShownCells.{AllBelow}
 use Rattle.rtk_convert.specs.ClosedEpochs.{ClosedEpochsView, HasClosed}
-use Rattle.rtk_convert.specs.Report.{lines, frame_counts}
-use Rattle.rtk_convert.specs.ReportText.{count_lines}
 use Rattle.rtk_convert.specs.Setup.{SetupView}
-use Rattle.rtk_convert.specs.Conversion.{ConversionView}
-use Rattle.rtk_convert.specs.Writing.{Written, written, WritesRest}
+use Rattle.rtk_convert.specs.Writing.{WritesRest}
 use Rattle.rtk_convert.specs.Steps.WritingInPart.{WritesPartOfRest}
 use Rattle.rtk_convert.proofs.FileLemmas.{closed-more, closed-grows, file-closed}
 use Rattle.rtk_convert.proofs.SoFarLemmas.{so_far-is}
@@ -32,7 +28,7 @@ use Rattle.rtk_convert.specs.Steps.AddedMessage.{RepresentsEpochs}
 use Rattle.rtk_convert.specs.Steps.WrittenAnswer.{site_of_window}
 use Rattle.rtk_convert.proofs.AddLemmas.{epochs, site-kept}
 use Rattle.rtk_convert.proofs.SoFarLemmas.{any_epoch}
-use Rattle.rtk_convert.proofs.WritingLemmas.{writes-none, writes-text, writes-on, part-text, part-none, part-all, part-longer, part-on}
+use Rattle.rtk_convert.proofs.WritingLemmas.{writes-none, writes-on, part-text, part-longer, part-on}
 
 -- some of the epochs that were left have closed
 pub record SomeClosed (s : SetupView) (site : PositionView) (held now : List (EpochSetView SignalEntry)) (first last : ClosedEpochsView) (o o' : Option (List ℕ)) : Type 0 where
@@ -81,6 +77,12 @@ some-part {s} {site} {held} {now} next e {first} {last} {o} {o'} {o''} l cut par
     ap (λ t. t ++ below) (l.split ∙ ap (λ t. t ++ l.gone) cut) ∙ append_assoc (next ++ e ∷ []) l.gone below ∙ append_assoc next (e ∷ []) rest in
     part-longer o o'' (closed_text s site below) (closed_text s site (e ∷ rest)) (closed_text s site (held ++ below)) g.0 (ap (closed_text s site) all ∙ g.1)
     (part-on o o' o'' _ _ _ w.1 (part-text o' o'' (closed_text s site rest) (closed_text s site (e ∷ rest)) (closing s site e rest) (closed-more s site e rest) (part rest w.0)))
+
+-- the last of the epochs is above all last phases
+pub last-above : (c : ClosedEpochsView) (next : List (EpochSetView SignalEntry)) (e : EpochSetView SignalEntry) (now : List (EpochSetView SignalEntry)) → now ≡ next ++ e ∷ [] → AllAbove c now → AllBelow c.tracks e.epoch
+last-above c next e now cut above =
+    let all : AllAbove c (next ++ e ∷ []) = subst (AllAbove c) cut above in
+    subst (λ (x : EpochSetView SignalEntry). AllBelow c.tracks x.epoch) (get_or-append_seam next e [] e) (all (length next) e (omega (arith, length-append next (e ∷ []))))
 
 -- ---- the whole file
 
