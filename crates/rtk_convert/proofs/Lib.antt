@@ -38,6 +38,7 @@ mod CameLemmas
 mod ContentLemmas
 mod ListedLinesLemmas
 mod HeadlineLemmas
+mod GreatestLemmas
 mod BoundsLemmas
 mod CallsLemmas
 mod HistoryLemmas

@@ -164,10 +164,14 @@ fn form_at<'a>(form: &RowForm<'a>, listed: &'a [AnyCode], satellite: u8) -> RowF
     ensures columns { ArePlaces result.codes.now result.columns }
     ensures last { (satellite ≤ result.last) × (result.last ≤ 221) }
 {
-    if satellite <= form.last {
-        *form
-    } else {
-        form_from(form.epoch, listed, satellite)
+    if satellite > form.last {
+        return form_from(form.epoch, listed, satellite);
+    }
+    RowForm {
+        epoch: form.epoch,
+        codes: form.codes,
+        columns: form.columns,
+        last: form.last,
     }
 }
 
