@@ -66,6 +66,7 @@ entry-up-to limit m k row channel (Some i) None h = All-nil (IsUpTo limit)
 entry-up-to limit m k row channel (Some i) (Some c) h = All-cons (IsUpTo limit) _ [] h (All-nil (IsUpTo limit))
 
 slots-up-to : (channels : List (Option ℤ)) (m : Msm) (k : ℕ) (slots : List Slot) → All (IsUpTo (last_of m.system)) (join_from (signal_entry channels m) k slots)
+unfolding join_from
 slots-up-to channels m k [] = All-nil (IsUpTo (last_of m.system))
 slots-up-to channels m k (s ∷ slots) =
     All-append (IsUpTo (last_of m.system)) (signal_entry channels m k s) _

@@ -198,7 +198,7 @@ impl Conversion {
         log: &mut L,
     ) -> Result<(), ConvertFault>
         requires under_way { IsUnderWay self.old }
-        requires taken { IsTakenBy self.old.setup (message_of dated.entry) }
+        requires taken { IsTakenBy self.old.setup (message_of dated) }
         ensures stays { StaysUnderWay self.old result self.new }
         ensures handles { HandlesMessage self.old link dated.entry result self.new
             (written (O.taken out.old) (L.taken log.old)) (written (O.taken out.new) (L.taken log.new)) }

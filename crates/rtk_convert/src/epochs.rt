@@ -142,7 +142,7 @@ impl Epochs<CellEntry> {
         out: &mut O,
         log: &mut L,
     ) -> Result<MessageClass, ConvertFault>
-        requires taken { IsTakenBy setup.now (message_of dated.entry) }
+        requires taken { IsTakenBy setup.now (message_of dated) }
         requires gps { IsTrue (is_of_gps setup.now) }
         requires places { self.old.collector.places ≡ setup.now.window }
         requires ahead { IsAhead self.old.collector self.old.closed }
@@ -173,7 +173,7 @@ impl Epochs<SignalEntry> {
         out: &mut O,
         log: &mut L,
     ) -> Result<MessageClass, ConvertFault>
-        requires taken { IsTakenBy setup.now (message_of dated.entry) }
+        requires taken { IsTakenBy setup.now (message_of dated) }
         requires places { self.old.collector.places ≡ setup.now.window }
         requires ahead { IsAhead self.old.collector self.old.closed }
         ensures stays { HandsOn setup.now self.old result self.new }
@@ -225,7 +225,7 @@ impl AnyEpochs {
         out: &mut O,
         log: &mut L,
     ) -> Result<MessageClass, ConvertFault>
-        requires taken { IsTakenBy setup.now (message_of dated.entry) }
+        requires taken { IsTakenBy setup.now (message_of dated) }
         requires form { AreEpochsOf setup.now self.old }
         requires places { (epochs_in self.old).collector.places ≡ setup.now.window }
         requires ahead { IsAhead (epochs_in self.old).collector (epochs_in self.old).closed }

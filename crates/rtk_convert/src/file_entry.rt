@@ -56,7 +56,7 @@ pub(crate) trait FileEntry: Entry {
 
     /// Returns the digits of the cell. Its phase is the last one of its satellite and code from then on.
     fn step(&self, phases: &mut Self::Phases, epoch: GpsMs) -> Digits
-        requires range { InRange self.now }
+        requires range { Self.InRange self.now }
         requires later { IsLater (track_at (places phases.old) (signal_of self.now).satellite (signal_of self.now).code) epoch }
         ensures digits { result ≡ digits_since (band_of (signal_of self.now).code)
             (track_at (places phases.old) (signal_of self.now).satellite (signal_of self.now).code) (epoch_cell epoch (signal_of self.now).cell) }
@@ -74,11 +74,11 @@ pub(crate) trait FileEntry: Entry {
     /// Does nothing. Cells are as cells of any system: their values are the same, they rise in the same order,
     /// each in range is in range, of a satellite that can have a line, and the same are left beside others.
     fn cells_are_signals()
-        ensures values { (e : Self) → entries.cell e ≡ (signal_of e).cell }
-        ensures rise { (cells : List Self) → KeysRise entries cells → KeysRise signals (map signal_of cells) }
-        ensures range { (e : Self) → InRange e → IsSignalInRange (signal_of e) }
-        ensures lines { (e : Self) → InRange e → (signal_of e).satellite ≤ Lines.greatest }
-        ensures left { (known cells more : List Self) → AreLeftBeside entries known cells more
+        ensures values { (e : Self) → Self.entries.cell e ≡ (signal_of e).cell }
+        ensures rise { (cells : List Self) → KeysRise Self.entries cells → KeysRise signals (map signal_of cells) }
+        ensures range { (e : Self) → Self.InRange e → IsSignalInRange (signal_of e) }
+        ensures lines { (e : Self) → Self.InRange e → (signal_of e).satellite ≤ Lines.greatest }
+        ensures left { (known cells more : List Self) → AreLeftBeside Self.entries known cells more
             → AreLeftBeside signals (map signal_of known) (map signal_of cells) (map signal_of more) };
 }
 
