@@ -1,6 +1,6 @@
 -- A window stays ahead of the last phases: an epoch that closes is above them, and below all epochs
 -- that stay.
-use Rattle.std.proofs.Common.{◌≡◌, ℕ, suc, ◌<◌, ◌≤◌, List, [], length, get_or, Option, None, Some, ap, subst, arith}
+use Rattle.std.proofs.Common.{◌≡◌, ℕ, suc, ◌<◌, ◌≤◌, List, [], length, get_or, Option, None, Some, refl, ap, sym, subst, arith}
 use Rattle.std.specs.Prelude.{All}
 use Rattle.std.proofs.lemmas.List.Elements.{All-weaker}
 use Rattle.rtk_obs.specs.declared.track.Track.{Track}
@@ -15,6 +15,7 @@ use Rattle.rtk_collect.specs.Offered.{ClosesBelow, ClosesLeast, LeastNeverFalls,
 use Rattle.rtk_convert.specs.Steps.Closing.{AllAbove}
 use Rattle.rtk_convert.specs.Steps.ShownCells.{AllBelow}
 use Rattle.rtk_convert.specs.Steps.AddedMessage.{closed_by}
+use Rattle.rtk_convert.specs.Steps.WrittenAnswer.{ClosesAbove, KeepsBelow}
 use Rattle.rtk_convert.specs.ClosedEpochs.{ClosedEpochsView}
 use Rattle.rtk_convert.specs.Conversion.{IsUnder, IsAhead}
 use Rattle.rtk_collect.specs.declared.conflicts.AnySatelliteCode.{AnySatelliteCode}
@@ -77,6 +78,22 @@ pub ahead-after : (old new : CollectorView SignalEntry) (c : ClosedEpochsView) (
     → LeastNeverFalls old new → AllBelow c.tracks (suc e.epoch) → IsAhead new c
 ahead-after old new c offer e some least below never h sat code hs =
     under-after (track_at c.tracks sat code) e new (never (closes-least old.places old.sets offer e some least).0).0 (closes-below new.sets offer e some below) (h sat code hs)
+
+-- whatever closes
+pub closes-above : (old : CollectorView SignalEntry) (c : ClosedEpochsView) (offer : Outcome SignalEntry AnySatelliteCode) → ClosesLeast old.places old.sets offer → IsAhead old c → ClosesAbove c (closed_by offer)
+closes-above old c (Taken (Some set)) least h = ahead-closes old c (Taken (Some set)) set refl least h
+closes-above old c (Taken None) least h = tt
+closes-above old c Conflict least h = tt
+closes-above old c Repeat least h = tt
+closes-above old c Late least h = tt
+
+pub ahead-next : (old new : CollectorView SignalEntry) (c c' : ClosedEpochsView) (offer : Outcome SignalEntry AnySatelliteCode) → ClosesLeast old.places old.sets offer → ClosesBelow offer new.sets
+    → LeastNeverFalls old new → IsAhead old c → KeepsBelow c (closed_by offer) c' → IsAhead new c'
+ahead-next old new c c' (Taken (Some set)) least below never h keeps = ahead-after old new c' (Taken (Some set)) set refl least below never (keeps (suc set.epoch) (omega arith))
+ahead-next old new c c' (Taken None) least below never h keeps = subst (IsAhead new) (sym keeps) (ahead-stays old new c never h)
+ahead-next old new c c' Conflict least below never h keeps = subst (IsAhead new) (sym keeps) (ahead-stays old new c never h)
+ahead-next old new c c' Repeat least below never h keeps = subst (IsAhead new) (sym keeps) (ahead-stays old new c never h)
+ahead-next old new c c' Late least below never h keeps = subst (IsAhead new) (sym keeps) (ahead-stays old new c never h)
 
 -- ---- the end
 

@@ -17,6 +17,7 @@ mod SoFarLemmas
 mod AnswersLemmas
 mod AddLemmas
 mod GpsOfferLemmas
+mod WindowLemmas
 mod AheadLemmas
 mod ClassLemmas
 mod OneTextLemmas
