@@ -33,11 +33,11 @@ same-file s first second sets stations =
     ∙ ap (λ (m : Option Message). file_of s (site_of_stations m (station s.window 1006 first)) (kept signals (cells_by s) s.window second)) (stations 1005)
     ∙ ap (λ (m : Option Message). file_of s (site_of_stations (station s.window 1005 second) m) (kept signals (cells_by s) s.window second)) (stations 1006)
 
-pub one-file : SetDecides gps cells_of → OneSetHasOneFile
-one-file law s first second good also same = let h = law s.window first second good also same in same-file s first second h.0 h.1
+pub one-file : ((s : SetupView) → SetDecides signals (cells_by s)) → OneSetHasOneFile
+one-file law s first second good also same = let h = law s s.window first second good also same in same-file s first second h.0 h.1
 
-pub late-leave : LateArrivalsChangeNothing gps cells_of → LateLeaveFile
-late-leave law s before = let h = law s.window before in same-file s (without_late s.window before) before h.3 h.4
+pub late-leave : ((s : SetupView) → LateArrivalsChangeNothing signals (cells_by s)) → LateLeaveFile
+late-leave law s before = let h = law s s.window before in same-file s (without_late s.window before) before h.3 h.4
 
 -- ---- the file so far
 

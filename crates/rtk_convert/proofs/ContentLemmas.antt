@@ -98,32 +98,32 @@ pub pairs-fall : (xs : List (EpochSetView SignalEntry)) → AllPairs (λ (x y : 
 pairs-fall [] p = tt
 pairs-fall (x ∷ xs) p = (first-below x xs p, pairs-fall xs (pairs-tail (λ (a b : EpochSetView SignalEntry). b.epoch < a.epoch) x xs p))
 
-above-all : (k : ℕ) (xs : List SignalEntry) → Above gps k xs → KeysRise gps xs → All (λ (x : SignalEntry). k < key gps x) xs
-above-all k [] p rise = All-nil (λ (x : SignalEntry). k < key gps x)
+above-all : (k : ℕ) (xs : List SignalEntry) → Above signals k xs → KeysRise signals xs → All (λ (x : SignalEntry). k < key signals x) xs
+above-all k [] p rise = All-nil (λ (x : SignalEntry). k < key signals x)
 above-all k (x ∷ xs) p rise =
-    let rest = above-all (key gps x) xs rise.0 rise.1 in
-    All-cons (λ (y : SignalEntry). k < key gps y) x xs p (All-weaker (λ (y : SignalEntry). key gps x < key gps y) (λ (y : SignalEntry). k < key gps y) (λ y lt. omega (arith, lt, p)) xs rest)
+    let rest = above-all (key signals x) xs rise.0 rise.1 in
+    All-cons (λ (y : SignalEntry). k < key signals y) x xs p (All-weaker (λ (y : SignalEntry). key signals x < key signals y) (λ (y : SignalEntry). k < key signals y) (λ y lt. omega (arith, lt, p)) xs rest)
 
-rise-pairs : (xs : List SignalEntry) → KeysRise gps xs → AllPairs (λ (a b : SignalEntry). key gps a < key gps b) xs
+rise-pairs : (xs : List SignalEntry) → KeysRise signals xs → AllPairs (λ (a b : SignalEntry). key signals a < key signals b) xs
 rise-pairs [] rise = λ i j d below within. absurd (omega arith)
-rise-pairs (x ∷ xs) rise = AllPairs-cons (λ (a b : SignalEntry). key gps a < key gps b) x xs (above-all (key gps x) xs rise.0 rise.1) (rise-pairs xs rise.1)
+rise-pairs (x ∷ xs) rise = AllPairs-cons (λ (a b : SignalEntry). key signals a < key signals b) x xs (above-all (key signals x) xs rise.0 rise.1) (rise-pairs xs rise.1)
 
-first-above : (x : SignalEntry) (xs : List SignalEntry) → AllPairs (λ (a b : SignalEntry). key gps a < key gps b) (x ∷ xs) → Above gps (key gps x) xs
+first-above : (x : SignalEntry) (xs : List SignalEntry) → AllPairs (λ (a b : SignalEntry). key signals a < key signals b) (x ∷ xs) → Above signals (key signals x) xs
 first-above x [] p = tt
-first-above x (y ∷ ys) p = pairs-first (λ (a b : SignalEntry). key gps a < key gps b) x y ys p
+first-above x (y ∷ ys) p = pairs-first (λ (a b : SignalEntry). key signals a < key signals b) x y ys p
 
-pairs-rise : (xs : List SignalEntry) → AllPairs (λ (a b : SignalEntry). key gps a < key gps b) xs → KeysRise gps xs
+pairs-rise : (xs : List SignalEntry) → AllPairs (λ (a b : SignalEntry). key signals a < key signals b) xs → KeysRise signals xs
 pairs-rise [] p = tt
-pairs-rise (x ∷ xs) p = (first-above x xs p, pairs-rise xs (pairs-tail (λ (a b : SignalEntry). key gps a < key gps b) x xs p))
+pairs-rise (x ∷ xs) p = (first-above x xs p, pairs-rise xs (pairs-tail (λ (a b : SignalEntry). key signals a < key signals b) x xs p))
 
 abbrev RiseIn : EpochSetView SignalEntry → Type 0
-RiseIn x = AllPairs (λ (a b : SignalEntry). key gps a < key gps b) x.cells
+RiseIn x = AllPairs (λ (a b : SignalEntry). key signals a < key signals b) x.cells
 
-pub cells-pairs : (xs : List (EpochSetView SignalEntry)) → CellsRise gps xs → All (λ (x : EpochSetView SignalEntry). AllPairs (λ (a b : SignalEntry). key gps a < key gps b) x.cells) xs
+pub cells-pairs : (xs : List (EpochSetView SignalEntry)) → CellsRise signals xs → All (λ (x : EpochSetView SignalEntry). AllPairs (λ (a b : SignalEntry). key signals a < key signals b) x.cells) xs
 cells-pairs [] rise = All-nil RiseIn
 cells-pairs (x ∷ xs) rise = All-cons RiseIn x xs (rise-pairs x.cells rise.0) (cells-pairs xs rise.1)
 
-pub pairs-cells : (xs : List (EpochSetView SignalEntry)) → All (λ (x : EpochSetView SignalEntry). AllPairs (λ (a b : SignalEntry). key gps a < key gps b) x.cells) xs → CellsRise gps xs
+pub pairs-cells : (xs : List (EpochSetView SignalEntry)) → All (λ (x : EpochSetView SignalEntry). AllPairs (λ (a b : SignalEntry). key signals a < key signals b) x.cells) xs → CellsRise signals xs
 pairs-cells [] p = tt
 pairs-cells (x ∷ xs) p = (pairs-rise x.cells (All-head RiseIn x xs p), pairs-cells xs (All-tail RiseIn x xs p))
 
@@ -141,9 +141,9 @@ taken-at s a (x ∷ later) before p = inr (taken-at s a later before p)
 pub came-taken : (s : SetupView) (a : Arrival) (arrivals : List Arrival) → CameInTime s arrivals a → IsTaken s.window a arrivals
 came-taken s a arrivals p = subst (λ (xs : List Arrival). IsTaken s.window a xs) (sym p.2) (taken-at s a p.0 p.1 p.3)
 
-pub consistent : (s : SetupView) (arrivals : List Arrival) → EqualKeysCarryEqualBodies (CameInTime s arrivals) → IsConsistent signals (cells_by s) s.window arrivals
+pub consistent : (s : SetupView) (arrivals : List Arrival) → EqualKeysCarryEqualBodies s (CameInTime s arrivals) → IsConsistent signals (cells_by s) s.window arrivals
 consistent s arrivals good = record {
   cells = λ e c d p q same. good.cells e p.0 q.0 c d (taken-came s (At (Some e) p.0) arrivals p.1) (taken-came s (At (Some e) q.0) arrivals q.1)
-      (among-contains c (cells_of p.0) p.2) (among-contains d (cells_of q.0) q.2) same;
+      (among-contains c (cells_by s p.0) p.2) (among-contains d (cells_by s q.0) q.2) same;
   stations = λ m o p q same. good.stations m o (taken-came s (At None m) arrivals p) (taken-came s (At None o) arrivals q) same;
 }

@@ -35,7 +35,7 @@ content s arrivals = record {
   arp1006 = station s.window 1006 arrivals;
 }
 
-station-of : (s : SetupView) (arrivals : List Arrival) (number : ℕ) → EqualKeysCarryEqualBodies (CameInTime s arrivals) → IsStationOf (CameInTime s arrivals) number (station s.window number arrivals)
+station-of : (s : SetupView) (arrivals : List Arrival) (number : ℕ) → EqualKeysCarryEqualBodies s (CameInTime s arrivals) → IsStationOf (CameInTime s arrivals) number (station s.window number arrivals)
 station-of s arrivals number good =
     let law = kept-are-taken signals (cells_by s) s.window arrivals in
     λ m. (
@@ -43,7 +43,7 @@ station-of s arrivals number good =
       λ p. subst (λ (k : ℕ). station s.window k arrivals ≡ Some m) p.1 ((law.3 (consistent s arrivals good)).1 m (came-taken s (At None m) arrivals p.0)),
     )
 
-content-of : (s : SetupView) (arrivals : List Arrival) → EqualKeysCarryEqualBodies (CameInTime s arrivals) → IsContentOf (CameInTime s arrivals) (content s arrivals)
+content-of : (s : SetupView) (arrivals : List Arrival) → EqualKeysCarryEqualBodies s (CameInTime s arrivals) → IsContentOf s (CameInTime s arrivals) (content s arrivals)
 unfolding content
 content-of s arrivals good =
     let law = kept-are-taken signals (cells_by s) s.window arrivals in
@@ -53,9 +53,9 @@ content-of s arrivals good =
         λ p. has-contains e (kept signals (cells_by s) s.window arrivals) ((law.0 e).1 (p.0, came-taken s (At (Some e) p.0) arrivals p.1)),
       );
       cells = λ e x. (
-        λ p. let q = law.1 e x (stands-kept e x (kept signals (cells_by s) s.window arrivals) p) in (q.0, taken-came s (At (Some e) q.0) arrivals q.1, among-contains x (cells_of q.0) q.2),
+        λ p. let q = law.1 e x (stands-kept e x (kept signals (cells_by s) s.window arrivals) p) in (q.0, taken-came s (At (Some e) q.0) arrivals q.1, among-contains x (cells_by s q.0) q.2),
         λ p. kept-stands e x (kept signals (cells_by s) s.window arrivals)
-            ((law.3 (consistent s arrivals good)).0 e x (p.0, came-taken s (At (Some e) p.0) arrivals p.1, contains-among x (cells_of p.0) p.2)),
+            ((law.3 (consistent s arrivals good)).0 e x (p.0, came-taken s (At (Some e) p.0) arrivals p.1, contains-among x (cells_by s p.0) p.2)),
       );
       arp1005 = station-of s arrivals 1005 good;
       arp1006 = station-of s arrivals 1006 good;
@@ -68,7 +68,7 @@ each-once s arrivals = record {
   cells = cells-pairs (kept signals (cells_by s) s.window arrivals) (kept-rise signals (cells_by s) s.window arrivals);
 }
 
-file-of-set : (s : SetupView) (arrivals : List Arrival) → EqualKeysCarryEqualBodies (CameInTime s arrivals) → IsFileOf s (CameInTime s arrivals) (kept_file s arrivals)
+file-of-set : (s : SetupView) (arrivals : List Arrival) → EqualKeysCarryEqualBodies s (CameInTime s arrivals) → IsFileOf s (CameInTime s arrivals) (kept_file s arrivals)
 unfolding content
 file-of-set s arrivals good = (content s arrivals, content-of s arrivals good, each-once s arrivals, refl)
 
@@ -87,7 +87,7 @@ same-file-of : (s : SetupView) (set other : Arrival → Type 0) (first second : 
 same-file-of s set other first second same p q =
     let c : Content = p.0 in
     let d : Content = q.0 in
-    let epochs = kept-same gps c.epochs d.epochs (pairs-fall c.epochs p.2.epochs) (pairs-fall d.epochs q.2.epochs) (pairs-cells c.epochs p.2.cells) (pairs-cells d.epochs q.2.cells)
+    let epochs = kept-same signals c.epochs d.epochs (pairs-fall c.epochs p.2.epochs) (pairs-fall d.epochs q.2.epochs) (pairs-cells c.epochs p.2.cells) (pairs-cells d.epochs q.2.cells)
     (λ e h. let m = (p.1.epochs e).0 (has-contains e c.epochs h) in contains-has e d.epochs ((q.1.epochs e).1 (m.0, (same (At (Some e) m.0)).0 m.1)))
     (λ e h. let m = (q.1.epochs e).0 (has-contains e d.epochs h) in contains-has e c.epochs ((p.1.epochs e).1 (m.0, (same (At (Some e) m.0)).1 m.1)))
     (λ e x h. let m = (p.1.cells e x).0 (kept-stands e x c.epochs h) in stands-kept e x d.epochs ((q.1.cells e x).1 (m.0, (same (At (Some e) m.0)).0 m.1, m.2)))
@@ -127,7 +127,7 @@ pub headline-of : (s : SetupView) (found : List Found) (o o' : Written) → o'.f
 headline-of s found o o' out log =
     let same : arrivals found ≡ messages_of (came_of found) = sym (messages-came found) in
     record {
-      file_of_the_set = subst (λ (xs : List Arrival). EqualKeysCarryEqualBodies (CameInTime s xs) → IsWritten o.file o'.file (IsFileOf s (CameInTime s xs))) same
+      file_of_the_set = subst (λ (xs : List Arrival). EqualKeysCarryEqualBodies s (CameInTime s xs) → IsWritten o.file o'.file (IsFileOf s (CameInTime s xs))) same
           (λ good. (kept_file s (arrivals found), out, file-of-set s (arrivals found) good));
       late_are_listed = late-listed s found o.report o'.report log;
       late_change_nothing = subst (λ (xs : List Arrival). LateChangeNothing s xs) same (late-nothing s (arrivals found));
@@ -137,7 +137,7 @@ pub kept-of : (s : SetupView) (found : List Found) (counts : Counts) (o o' : Wri
     → counts ≡ all_counts s found → WritesKept s found counts o o'
 kept-of s found counts o o' out log counts_are = record {
   out = out;
-  late_leave_file = late-leave (late-change-nothing gps cells_of) s (arrivals found);
+  late_leave_file = late-leave (λ x. late-change-nothing signals (cells_by x)) s (arrivals found);
   log = log;
   counts_are = counts_are;
 }

@@ -19,12 +19,12 @@ use Rattle.rtk_convert.specs.declared.counts.Counts.{Counts}
 use Rattle.rtk_convert.specs.declared.frame_class.FrameClass.{FrameClass}
 use Rattle.rtk_convert.specs.declared.frame_class.FrameClass.TheVariants.{OtherMessage, Refused, Foreign, Dated}
 use Rattle.rtk_convert.specs.FrameClass.{Found, arrivals}
-use Rattle.rtk_convert.specs.Finish.{all_counts, report_of}
+use Rattle.rtk_convert.specs.Finish.{all_counts, missing_letters, missing_lines, report_of}
 use Rattle.rtk_convert.specs.Headline.{messages_of, late_lines, LateAreListed}
 use Rattle.rtk_convert.specs.Kept.{came_of}
-use Rattle.rtk_convert.specs.Report.{refused_line, cell_lines, class_lines, frame_lines, lines}
-use Rattle.rtk_convert.specs.ReportText.{link_text, arrival_text, late_line, cell_conflict_line, signal_text, count_line, count_lines}
-use Rattle.rtk_convert.specs.Setup.{SetupView}
+use Rattle.rtk_convert.specs.Report.{arrival_class, refused_line, cell_lines, class_lines, frame_lines, lines}
+use Rattle.rtk_convert.specs.ReportText.{link_text, arrival_text, late_line, cell_conflict_line, signal_text, missing_line, count_line, count_lines}
+use Rattle.rtk_convert.specs.Setup.{SetupView, is_of_gps}
 use Rattle.rtk_convert.proofs.CameLemmas.{messages-came}
 
 -- ---- texts that are empty or end in LF
@@ -117,11 +117,11 @@ has-late lates text line p = record {
 
 -- ---- the lines of found frames
 
-late-lines : (n link : ℕ) (a : Arrival) (before : List Found) → late n a (arrivals before) ≡ true
-    → frame_lines n link (Dated a) (arrivals before) ≡ late_line link (number_of (message_of a)) (epoch_of a)
-late-lines n link a before over =
-    let e : class_of gps cells_of n a (arrivals before) ≡ LateClass = rw over refl in
-    ap (λ k. class_lines link (number_of (message_of a)) (epoch_of a) k (conflicts_of gps cells_of n a (arrivals before))) e
+late-lines : (s : SetupView) (link : ℕ) (a : Arrival) (before : List Found) → late s.window a (arrivals before) ≡ true
+    → frame_lines s link (Dated a) (arrivals before) ≡ late_line link (number_of (message_of a)) (epoch_of a)
+late-lines s link a before over =
+    let e : arrival_class s a (arrivals before) ≡ LateClass = rw over refl in
+    ap (λ k. class_lines link (number_of (message_of a)) (epoch_of a) k (conflicts_of signals (cells_by s) s.window a (arrivals before))) e
 
 late-more : (s : SetupView) (link : ℕ) (a : Arrival) (before : List (ℕ × Arrival)) (b : Bool) → late s.window a (messages_of before) ≡ b
     → late_lines s ((link, a) ∷ before) ≡ late_lines s before ++ (if b then arrival_text link (codes " late ") (number_of (message_of a)) (epoch_of a) ∷ [] else [])
@@ -156,7 +156,20 @@ lines-listed : (s : SetupView) (found : List Found) → HasLines (late_lines s (
 lines-listed s [] = record { all = []; is_text = refl; are_marked = refl }
 lines-listed s (f ∷ before) = frame-listed s f.link f.class before (lines-listed s before)
 
+line-ended : (letters : List ℕ) → IsEnded (missing_line letters)
+line-ended [] = inl refl
+line-ended (x ∷ letters) = inr (codes "no-message" ++ x ∷ letters, sym (append_assoc (codes "no-message") (x ∷ letters) (10 ∷ [])))
+
+missing-if : (b : Bool) (letters : List ℕ) → IsEnded (if b then [] else missing_line letters)
+missing-if true letters = inl refl
+missing-if false letters = line-ended letters
+
+missing-ended : (s : SetupView) (found : List Found) → IsEnded (missing_lines s found)
+missing-ended s found = missing-if (is_of_gps s) (missing_letters s found)
+
 pub late-listed : (s : SetupView) (found : List Found) (report_old report_new : Option (List ℕ)) → report_new ≡ with_more report_old (report_of s found) → LateAreListed s (came_of found) report_old report_new
 late-listed s found report_old report_new w =
-    let p = has-more (late_lines s (came_of found)) (lines s found) (count_lines (all_counts s found)) (lines-listed s found) (inr (counts-end (all_counts s found))) in
+    let missing = has-more (late_lines s (came_of found)) (lines s found) (missing_lines s found) (lines-listed s found) (missing-ended s found) in
+    let last = has-more (late_lines s (came_of found)) (lines s found ++ missing_lines s found) (count_lines (all_counts s found)) missing (inr (counts-end (all_counts s found))) in
+    let p = subst (λ (t : List ℕ). HasLines (late_lines s (came_of found)) t) (append_assoc (lines s found) (missing_lines s found) (count_lines (all_counts s found))) last in
     (report_of s found, w, (p.all, p.is_text, p.are_marked))
