@@ -14,7 +14,7 @@ use Rattle.rtk_collect.specs.EpochSet.{EpochSetView}
 use Rattle.rtk_rinex.specs.Table.{WellFormedTable, FilesAreTables}
 use Rattle.rtk_convert.specs.declared.counts.Counts.{Counts}
 use Rattle.rtk_convert.specs.File.{record_of, records, one_more_if_any, record_count}
-use Rattle.rtk_convert.specs.Finish.{all_counts}
+use Rattle.rtk_convert.specs.Finish.{all_counts, missing_lines}
 use Rattle.rtk_convert.specs.FrameClass.{arrivals}
 use Rattle.rtk_convert.specs.NumberLaws.{CountLinesTellCounts, ReportTellsCounts, record_texts, has_bytes, EpochsAreRecords, EpochsAreOfTable}
 use Rattle.rtk_convert.specs.Report.{lines}
@@ -67,8 +67,10 @@ lines-tell c d held fits same =
 pub report-tells : ReportTellsCounts
 report-tells s found other held fits before same =
     lines-tell (all_counts s found) (all_counts s other) held fits
-    (append_cancel_left (lines s found) (count_lines (all_counts s found)) (count_lines (all_counts s other))
-    (same ∙ ap (λ (text : List ℕ). text ++ count_lines (all_counts s other)) (sym before)))
+    (append_cancel_left (lines s found ++ missing_lines s found) (count_lines (all_counts s found)) (count_lines (all_counts s other))
+    (append_assoc (lines s found) (missing_lines s found) (count_lines (all_counts s found)) ∙ same
+    ∙ sym (append_assoc (lines s other) (missing_lines s other) (count_lines (all_counts s other)))
+    ∙ ap (λ (text : List ℕ). text ++ count_lines (all_counts s other)) (sym before)))
 
 -- ---- the count of records
 
