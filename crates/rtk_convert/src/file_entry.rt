@@ -77,7 +77,7 @@ pub(crate) trait FileEntry: Entry {
         ensures values { (e : Self) → Self.entries.cell e ≡ (signal_of e).cell }
         ensures rise { (cells : List Self) → KeysRise Self.entries cells → KeysRise signals (map signal_of cells) }
         ensures range { (e : Self) → Self.InRange e → IsSignalInRange (signal_of e) }
-        ensures lines { (e : Self) → Self.InRange e → (signal_of e).satellite ≤ Lines.greatest }
+        ensures lines { (e : Self) → Self.InRange e → (signal_of e).satellite ≤ Self.Lines.greatest }
         ensures left { (known cells more : List Self) → AreLeftBeside Self.entries known cells more
             → AreLeftBeside signals (map signal_of known) (map signal_of cells) (map signal_of more) };
 }
