@@ -22,7 +22,8 @@ use Rattle.rtk_obs.specs.declared.code.Code.{Code}
 use Rattle.rtk_obs.specs.declared.signal_cells.SignalEntry.{SignalEntry}
 use Rattle.rtk_obs.specs.AnyCode.{code_of_gps}
 use Rattle.rtk_obs.specs.AnyCode as any_code
-use Rattle.rtk_obs.specs.Cell.{IsInRange}
+use Rattle.rtk_obs.specs.Cell.{IsSatellite}
+use Rattle.rtk_obs.proofs.PublicLaws.{cells_of-satellites}
 use Rattle.rtk_obs.specs.Code.{place_of}
 use Rattle.rtk_obs.specs.MessageCells.{cells_of}
 use Rattle.rtk_obs.specs.SatelliteIndex.{letter_of}
@@ -162,10 +163,14 @@ equal-same a b c d h k = elim (cases_order a b) [
   | inr (inr l) ↦ let m = k.0 l in grind (arith, nat_tests)
 ]
 
-name-same : (e : CellEntry) → IsInRange e → name_of_gps (gps.signal e) ≡ signals.signal (signal_of e)
+-- its satellite is one of GPS
+abbrev HasSatellite : CellEntry → Type 0
+HasSatellite e = IsSatellite e.satellite
+
+name-same : (e : CellEntry) → HasSatellite e → name_of_gps (gps.signal e) ≡ signals.signal (signal_of e)
 name-same e h =
-    let low = h.satellite.0 in
-    let high = h.satellite.1 in
+    let low = h.0 in
+    let high = h.1 in
     let one : nat_le 1 e.satellite ≡ true = grind (arith, nat_tests) in
     let two : nat_le e.satellite 221 ≡ true = grind (arith, nat_tests) in
     rw (one, two) refl
@@ -216,29 +221,29 @@ module _ (order : GpsKeepsItsOrder) where
   conflict-if true x y z e = refl
   conflict-if false x y z e = ap (λ (n : AnySatelliteCode). n ∷ []) (sym e)
 
-  conflict-same : (c : CellEntry) (o : Option CellEntry) → IsInRange c → conflict signals (signal_of c) (option_map signal_of o) ≡ map name_of_gps (conflict gps c o)
+  conflict-same : (c : CellEntry) (o : Option CellEntry) → HasSatellite c → conflict signals (signal_of c) (option_map signal_of o) ≡ map name_of_gps (conflict gps c o)
   conflict-same c None h = refl
   conflict-same c (Some x) h = conflict-if (equal_cells x.cell c.cell) (signals.signal (signal_of c)) (signals.signal (signal_of c)) (gps.signal c) (name-same c h)
 
-  conflicts-same : (cs xs : List CellEntry) → All IsInRange cs → conflicts signals (map signal_of cs) (map signal_of xs) ≡ map name_of_gps (conflicts gps cs xs)
+  conflicts-same : (cs xs : List CellEntry) → All HasSatellite cs → conflicts signals (map signal_of cs) (map signal_of xs) ≡ map name_of_gps (conflicts gps cs xs)
   conflicts-same [] xs h = refl
   conflicts-same (c ∷ cs) xs h =
       ap (λ (o : Option SignalEntry). conflict signals (signal_of c) o ++ conflicts signals (map signal_of cs) (with_cell signals (signal_of c) (map signal_of xs))) (under-same c xs)
       ∙ ap (λ (ys : List SignalEntry). conflict signals (signal_of c) (option_map signal_of (cell_under gps (key gps c) xs)) ++ conflicts signals (map signal_of cs) ys) (with-same c xs)
-      ∙ ap (λ (ns : List AnySatelliteCode). ns ++ conflicts signals (map signal_of cs) (map signal_of (with_cell gps c xs))) (conflict-same c (cell_under gps (key gps c) xs) (All-head IsInRange c cs h))
-      ∙ ap (λ (ns : List AnySatelliteCode). map name_of_gps (conflict gps c (cell_under gps (key gps c) xs)) ++ ns) (conflicts-same cs (with_cell gps c xs) (All-tail IsInRange c cs h))
+      ∙ ap (λ (ns : List AnySatelliteCode). ns ++ conflicts signals (map signal_of cs) (map signal_of (with_cell gps c xs))) (conflict-same c (cell_under gps (key gps c) xs) (All-head HasSatellite c cs h))
+      ∙ ap (λ (ns : List AnySatelliteCode). map name_of_gps (conflict gps c (cell_under gps (key gps c) xs)) ++ ns) (conflicts-same cs (with_cell gps c xs) (All-tail HasSatellite c cs h))
       ∙ sym (map-append name_of_gps (conflict gps c (cell_under gps (key gps c) xs)) (conflicts gps cs (with_cell gps c xs)))
 
   by-same : (xs : List SatelliteCode) → class_by (map name_of_gps xs) ≡ class_by xs
   by-same [] = refl
   by-same (x ∷ xs) = refl
 
-  class-same : (cs : List CellEntry) (o : Option (List CellEntry)) → All IsInRange cs → class_of_cells signals (map signal_of cs) (option_map (map signal_of) o) ≡ class_of_cells gps cs o
+  class-same : (cs : List CellEntry) (o : Option (List CellEntry)) → All HasSatellite cs → class_of_cells signals (map signal_of cs) (option_map (map signal_of) o) ≡ class_of_cells gps cs o
   class-same cs None h = refl
   class-same cs (Some held) h =
       rw (fresh-same cs held, conflicts-same cs held h, by-same (conflicts gps cs held)) refl
 
-  with-conflicts : (cs : List CellEntry) (o : Option (List CellEntry)) → All IsInRange cs → conflicts_with signals (map signal_of cs) (option_map (map signal_of) o) ≡ map name_of_gps (conflicts_with gps cs o)
+  with-conflicts : (cs : List CellEntry) (o : Option (List CellEntry)) → All HasSatellite cs → conflicts_with signals (map signal_of cs) (option_map (map signal_of) o) ≡ map name_of_gps (conflicts_with gps cs o)
   with-conflicts cs None h = conflicts-same cs [] h
   with-conflicts cs (Some held) h = conflicts-same cs held h
 
@@ -259,7 +264,7 @@ module _ (order : GpsKeepsItsOrder) where
         ap (filter (λ (x : EpochSetView SignalEntry). nat_le n (greater (Some x.epoch) (epochs arrivals)))) (law channels n arrivals h)
         ∙ filter-map epoch_of_signals (λ x. nat_le n (greater (Some x.epoch) (epochs arrivals))) (λ x. nat_le n (greater (Some x.epoch) (epochs arrivals))) (λ e. refl) (kept gps cells_of n arrivals)
 
-    class-is : (a : Arrival) (before : List Arrival) → IsGpsMessage (message_of a) → All (λ (b : Arrival). IsGpsMessage (message_of b)) before → All IsInRange (cells_of (message_of a))
+    class-is : (a : Arrival) (before : List Arrival) → IsGpsMessage (message_of a) → All (λ (b : Arrival). IsGpsMessage (message_of b)) before → All HasSatellite (cells_of (message_of a))
         → class_in_time signals (entries_of channels) n a before ≡ class_in_time gps cells_of n a before
     class-is (At None m) before is h range = refl
     class-is (At (Some e) m) before is h range =
@@ -268,7 +273,7 @@ module _ (order : GpsKeepsItsOrder) where
         ∙ ap (class_of_cells signals (map signal_of (cells_of m))) (at-same e (kept gps cells_of n before))
         ∙ class-same (cells_of m) (cells_at e (kept gps cells_of n before)) range
 
-    conflicts-are : (a : Arrival) (before : List Arrival) → IsGpsMessage (message_of a) → All (λ (b : Arrival). IsGpsMessage (message_of b)) before → All IsInRange (cells_of (message_of a))
+    conflicts-are : (a : Arrival) (before : List Arrival) → IsGpsMessage (message_of a) → All (λ (b : Arrival). IsGpsMessage (message_of b)) before → All HasSatellite (cells_of (message_of a))
         → conflicts_of signals (entries_of channels) n a before ≡ map name_of_gps (conflicts_of gps cells_of n a before)
     conflicts-are (At None m) before is h range = refl
     conflicts-are (At (Some e) m) before is h range =
@@ -277,7 +282,7 @@ module _ (order : GpsKeepsItsOrder) where
         ∙ ap (conflicts_with signals (map signal_of (cells_of m))) (at-same e (kept gps cells_of n before))
         ∙ with-conflicts (cells_of m) (cells_at e (kept gps cells_of n before)) range
 
-    class-of : (a : Arrival) (before : List Arrival) → IsGpsMessage (message_of a) → All (λ (b : Arrival). IsGpsMessage (message_of b)) before → All IsInRange (cells_of (message_of a))
+    class-of : (a : Arrival) (before : List Arrival) → IsGpsMessage (message_of a) → All (λ (b : Arrival). IsGpsMessage (message_of b)) before → All HasSatellite (cells_of (message_of a))
         → class_of signals (entries_of channels) n a before ≡ class_of gps cells_of n a before
     class-of a before is h range = ap (λ (c : Class). cond (late n a before) LateClass c) (class-is a before is h range)
 
@@ -286,7 +291,7 @@ module _ (order : GpsKeepsItsOrder) where
     done-same None xs = refl
     done-same (Some x) xs = refl
 
-    module _ (a : Arrival) (before : List Arrival) (is : IsGpsMessage (message_of a)) (h : All (λ (b : Arrival). IsGpsMessage (message_of b)) before) (range : All IsInRange (cells_of (message_of a))) where
+    module _ (a : Arrival) (before : List Arrival) (is : IsGpsMessage (message_of a)) (h : All (λ (b : Arrival). IsGpsMessage (message_of b)) before) (range : All HasSatellite (cells_of (message_of a))) where
       all : All (λ (b : Arrival). IsGpsMessage (message_of b)) (a ∷ before)
       all = All-cons (λ (b : Arrival). IsGpsMessage (message_of b)) a before is h
 
@@ -328,15 +333,15 @@ module _ (order : GpsKeepsItsOrder) where
 
 -- the window of GPS answers rightly, with its cells as signals
 pub gps-answers : (s : SetupView) (old new : CollectorView CellEntry) (a : Arrival) (offer : Outcome CellEntry SatelliteCode) (listed : List SatelliteCode)
-    → IsTrue (is_of_gps s) → IsTakenBy s (message_of a) → All IsInRange (cells_of (message_of a)) → new.places ≡ old.places → AnswersArrival gps cells_of old a offer listed new
+    → IsTrue (is_of_gps s) → IsTakenBy s (message_of a) → new.places ≡ old.places → AnswersArrival gps cells_of old a offer listed new
     → AnswersMessage s (window_of signal_of old) a (outcome_of signal_of offer) (map name_of_gps listed) (window_of signal_of new)
-gps-answers s old new a offer listed is taken range size meets before kept =
+gps-answers s old new a offer listed is taken size meets before kept =
     let order : GpsKeepsItsOrder = gps-keeps-its-order in
     let law : GpsIsKept = gps-is-kept in
     let channels = channels_of s.head.glonass in
     let one = gps-message s (message_of a) is taken in
     let all = gps-messages s before is kept.taken in
     let m = meets before (represents-gps order law channels old.places old before refl all kept.window) in (
-      right-same order law channels old.places a before one all range offer listed m.0,
+      right-same order law channels old.places a before one all (cells_of-satellites (message_of a)) offer listed m.0,
       represents-signals order law channels old.places new (a ∷ before) size (All-cons (λ (b : Arrival). IsGpsMessage (message_of b)) a before one all) m.1,
     )

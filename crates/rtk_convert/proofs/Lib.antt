@@ -19,6 +19,7 @@ mod AddLemmas
 mod GpsOfferLemmas
 mod WindowLemmas
 mod AheadLemmas
+mod EpochsLemmas
 mod ClassLemmas
 mod OneTextLemmas
 mod ArriveLemmas
