@@ -1,4 +1,5 @@
 mod SystemLemmas
+mod CodesLemmas
 mod EntriesLemmas
 mod PlacesLemmas
 mod CellOrderLemmas

@@ -108,11 +108,12 @@ fn codes_before(listed: &[AnyCode], system: System) -> usize
     requires { IsMixedList listed.now }
     ensures { AreCodesBefore listed.now system result }
 {
-    let mut at = 0;
-    while at < listed.len() && listed[at].system() != system {
-        at += 1;
+    for at in 0..listed.len() {
+        if listed[at].system() == system {
+            return at;
+        }
     }
-    at
+    listed.len()
 }
 
 // Returns the codes of a system, which stand one after another.
@@ -121,11 +122,12 @@ fn codes_of(listed: &[AnyCode], system: System) -> &[AnyCode]
     ensures { result.now ≡ codes_of (letter_of system) listed.now }
 {
     let begin = codes_before(listed, system);
-    let mut end = begin;
-    while end < listed.len() && listed[end].system() == system {
-        end += 1;
+    for end in begin..listed.len() {
+        if listed[end].system() != system {
+            return &listed[begin..end];
+        }
     }
-    &listed[begin..end]
+    &listed[begin..]
 }
 
 // Returns what the rows from this satellite on have in common, up to the last one of its system.

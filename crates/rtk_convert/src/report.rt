@@ -1,9 +1,11 @@
 //! The lines of a report, as text.
 
-ghost use Rattle.std.specs.Prelude.{◌≡◌, ◌<◌, ◌++◌, [], Some, None, Option, ℕ, map, flat_map, IfOk, OnOk};
+ghost use Rattle.std.specs.Prelude.{◌≡◌, ◌+◌, ◌<◌, ◌≤◌, ◌++◌, [], Some, None, Option, ℕ, map, flat_map, IfOk, OnOk};
+ghost use Rattle.arrayvec.specs.ArrayVec.{array_vec_len};
+ghost use Rattle.rtk_obs.specs.SatelliteIndex.{letter_of};
 ghost use Rattle.rtk_collect.specs.declared.conflicts.AnySatelliteCode.{AnySatelliteCode};
 ghost use Rattle.rtk_convert.specs.Report.{refused_line, cell_lines, conflict_lines, class_lines};
-ghost use Rattle.rtk_convert.specs.Steps.LastLines.{last_lines, missing_letters_by};
+ghost use Rattle.rtk_convert.specs.Steps.LastLines.{last_lines, missing_letter_by, missing_letters_by};
 ghost use Rattle.rtk_convert.specs.Steps.OfferLines.{class_named};
 ghost use Rattle.rtk_convert.specs.ReportText.{epoch_text, link_text, arrival_text, signal_text, late_line, conflict_line, cell_conflict_line, missing_line, count_line, count_lines};
 
@@ -180,19 +182,32 @@ fn put_counts(lines: &mut Vec<u8>, counts: &Counts) -> Result<(), AllocError>
     put_count(lines, b"repeat ", counts.repeat)?;
     put_count(lines, b"conflict ", counts.conflict)?;
     put_count(lines, b"late ", counts.late)?;
-    put_count(lines, b"epochs ", counts.epochs)
+    put_count(lines, b"epochs ", counts.epochs)?;
+    Ok(())
 }
 
-// The systems in the order of a file, with their letters.
-const SYSTEMS: [(System, u8); 7] = [
-    (System::Gps, b'G'),
-    (System::Glonass, b'R'),
-    (System::Galileo, b'E'),
-    (System::Beidou, b'C'),
-    (System::Qzss, b'J'),
-    (System::Sbas, b'S'),
-    (System::Navic, b'I'),
-];
+// Appends the letter of a system after a blank, if a code of it is listed and no message of it was taken.
+fn put_letter(
+    letters: &mut ArrayVec<u8, 14>,
+    setup: &Setup,
+    systems: Systems,
+    system: System,
+    letter: u8,
+)
+    requires letter { letter ≡ letter_of system }
+    requires room { array_vec_len letters.old ≤ 12 }
+    ensures letters { letters.new.items ≡ letters.old.items ++ missing_letter_by setup.now systems system }
+    ensures few { array_vec_len letters.new ≤ array_vec_len letters.old + 2 }
+{
+    if !setup.lists(system) {
+        return;
+    }
+    if systems.has(system) {
+        return;
+    }
+    letters.push(b' ');
+    letters.push(letter);
+}
 
 // Appends the line of the listed systems of which no message was taken, if there are any.
 fn put_missing(
@@ -203,12 +218,13 @@ fn put_missing(
     ensures { OnOk result (lines.new.items ≡ lines.old.items ++ missing_line (missing_letters_by setup.now systems)) }
 {
     let mut letters: ArrayVec<u8, 14> = ArrayVec::new();
-    for (system, letter) in SYSTEMS {
-        if setup.lists(system) && !systems.has(system) {
-            letters.push(b' ');
-            letters.push(letter);
-        }
-    }
+    put_letter(&mut letters, setup, systems, System::Gps, b'G');
+    put_letter(&mut letters, setup, systems, System::Glonass, b'R');
+    put_letter(&mut letters, setup, systems, System::Galileo, b'E');
+    put_letter(&mut letters, setup, systems, System::Beidou, b'C');
+    put_letter(&mut letters, setup, systems, System::Qzss, b'J');
+    put_letter(&mut letters, setup, systems, System::Sbas, b'S');
+    put_letter(&mut letters, setup, systems, System::Navic, b'I');
     if letters.is_empty() {
         return Ok(());
     }

@@ -1,6 +1,6 @@
-use Rattle.std.proofs.Common.{refl}
+use Rattle.std.proofs.Common.{append_assoc}
 use Rattle.rtk_convert.specs.ReportText.{count_lines}
-use Rattle.rtk_convert.proofs.report.count_lines.Goals as goal
+use Rattle.rtk_convert.proofs.report.put_counts.Goals as goal
 
 pub returns : goal.returns
 unfolding count_lines
@@ -14,5 +14,4 @@ returns c = rw (
   c.in_ok-put_count-3.ensures,
   c.in_ok-put_count-2.ensures,
   c.in_ok-put_count.ensures,
-  c.new-lines.ensures.items,
-) refl
+) (simp append_assoc)
