@@ -162,10 +162,13 @@ module _ (s : System) where
 -- ---- the codes of a row
 
 module _ (listed : List AnyCode) (satellite : ℕ) (s : System) (codes : List AnyCode) (list : IsMixedList listed) (is : codes ≡ codes_of (letter_of s) listed) where
+  pub few-are : length codes ≤ 16
+  few-are = subst (λ (cs : List AnyCode). length cs ≤ 16) (sym is) (codes-few s listed list)
+
   -- the rows up to the last satellite of the system have them
   pub codes-to : (last : ℕ) → ((n : ℕ) → satellite ≤ n → n ≤ last → system_at n ≡ s) → AreCodesTo listed satellite last codes
   codes-to last systems = record {
-    few = subst (λ (cs : List AnyCode). length cs ≤ 16) (sym is) (codes-few s listed list);
+    few = few-are;
     codes_are = λ n from to. ap (λ (t : System). codes_of (letter_of t) listed) (systems n from to) ∙ sym is;
   }
 

@@ -1,11 +1,12 @@
 -- The text of a record, whose lines are written code by code.
-use Rattle.std.proofs.Common.{◌≡◌, ◌∙◌, ℕ, ◌+◌, ◌-◌, ◌<◌, ◌≤◌, List, [], ◌∷◌, ◌++◌, length, take, set, min, replicate, arith, refl, ap, sym, true, nat_le}
+use Rattle.std.proofs.Common.{◌≡◌, ◌∙◌, ℕ, ◌+◌, ◌-◌, ◌<◌, ◌≤◌, List, [], ◌∷◌, ◌++◌, length, take, set, min, replicate, arith, refl, ap, sym, true, false, nat_le, Some}
 use Rattle.std.specs.Prelude.{All}
 use Rattle.std.specs.List.{flat_map, filter}
 use Rattle.std.proofs.Math.Seq.{take-set-lt}
-use Rattle.std.proofs.lemmas.List.{length-take, take-replicate}
+use Rattle.std.proofs.lemmas.Bool.{cond-false}
+use Rattle.std.proofs.lemmas.List.{append-nil, length-take, take-replicate}
 use Rattle.std.proofs.lemmas.Bool.Decides.{nat_tests}
-use Rattle.std.proofs.lemmas.List.Elements.{All-head, All-tail, All-filter}
+use Rattle.std.proofs.lemmas.List.Elements.{All-head, All-pop, All-tail, All-filter, filter-append}
 use Rattle.std.proofs.lemmas.List.Sums.{length-filter, count_by-le-length}
 use Rattle.rtk_message.specs.declared.system.System.{System}
 use Rattle.rtk_message.specs.declared.system.System.TheVariants.{Gps}
@@ -76,3 +77,24 @@ row-open all codes o few is none = record {
   few = few;
   codes_are = ap (replicate codes) (sym none) ∙ sym (take-replicate codes 16 o few) ∙ ap (take codes) (sym is);
 }
+
+-- ---- a row without an observation
+
+lines-blank : (rows : List SatelliteRow) (r : SatelliteRow) → has_line r ≡ false → filter has_line (rows ++ r ∷ []) ≡ filter has_line rows
+lines-blank rows r none =
+    filter-append has_line rows (r ∷ [])
+    ∙ ap (λ (xs : List SatelliteRow). filter has_line rows ++ xs) (cond-false (has_line r) (r ∷ []) [] none)
+    ∙ append-nil (filter has_line rows)
+
+pub gps-blank : (l : RecordLinesView) (rows : List SatelliteRow) (r : SatelliteRow) → has_line r ≡ false → HoldsGpsLines l (rows ++ r ∷ []) → HoldsGpsLines l rows
+gps-blank l rows r none h =
+    let same = lines-blank rows r none in
+    record {
+      holds = record { lines = h.holds.lines ∙ ap (flat_map satellite_line) same; count = h.holds.count ∙ ap length same };
+      satellites = (All-pop (λ (x : SatelliteRow). x.satellite ≤ 32) (rows ++ r ∷ []) rows (Some r) refl h.satellites).0;
+    }
+
+pub mixed-blank : (l : MixedLinesView) (rows : List SatelliteRow) (r : SatelliteRow) → has_line r ≡ false → HoldsMixedLines l (rows ++ r ∷ []) → HoldsMixedLines l rows
+mixed-blank l rows r none h =
+    let same = lines-blank rows r none in
+    record { lines = h.lines ∙ ap (flat_map mixed_satellite_line) same; count = h.count ∙ ap length same }

@@ -1,13 +1,14 @@
 -- The systems of codes and satellites.
-use Rattle.std.proofs.Common.{◌≡◌, ◌∙◌, ◌==◌, ℕ, Bool, true, false, List, [], ◌∷◌, cond, refl, sym, ap}
-use Rattle.std.specs.Prelude.{All, if◌then◌else◌}
-use Rattle.std.proofs.lemmas.Bool.{eqb-true}
+use Rattle.std.proofs.Common.{◌≡◌, ◌∙◌, ◌==◌, ◌+◌, ◌<◌, ◌≤◌, ℕ, Bool, true, false, List, [], ◌∷◌, cond, inl, inr, refl, sym, ap, subst, arith}
+use Rattle.std.specs.Prelude.{All, nat_le, if◌then◌else◌}
+use Rattle.std.proofs.lemmas.Bool.{cases_lt, eqb-true}
+use Rattle.std.proofs.lemmas.Bool.Decides.{nat_tests}
 use Rattle.std.proofs.lemmas.List.Elements.{All-nil, All-cons}
 use Rattle.rtk_message.specs.declared.system.System.{System}
 use Rattle.rtk_message.specs.declared.system.System.TheVariants.{Gps, Glonass, Galileo, Beidou, Qzss, Sbas, Navic}
 use Rattle.rtk_obs.specs.declared.any_code.AnyCode.{AnyCode}
 use Rattle.rtk_obs.specs.AnyCode.{IsSignal, system_of}
-use Rattle.rtk_obs.specs.SatelliteIndex.{IsSatelliteIndex, letter_of, system_at}
+use Rattle.rtk_obs.specs.SatelliteIndex.{IsSatelliteIndex, letter_of, satellites_before, satellites_of_system, system_at}
 use Rattle.rtk_rinex.specs.MixedHead.{letter}
 use Rattle.rtk_convert.specs.Rows.{codes_for}
 
@@ -43,3 +44,75 @@ pub codes-are-signals : (listed : List AnyCode) (s : ℕ) → IsSatelliteIndex s
 codes-are-signals [] s hs = All-nil (IsSignal s)
 codes-are-signals (c ∷ listed) s hs =
     signals-if (letter c == letter_of (system_at s)) s c (codes_for listed s) (λ is. (hs, system-by c (system_at s) is)) (codes-are-signals listed s hs)
+
+-- ---- the satellites of a system
+
+within : (a b : ℕ) → a ≤ b → nat_le a b ≡ true
+within a b h = grind (arith, nat_tests)
+
+above : (a b : ℕ) → b < a → nat_le a b ≡ false
+above a b h = grind (arith, nat_tests)
+
+at-gps : (n : ℕ) → n ≤ 32 → system_at n ≡ Gps
+at-gps n h = rw (within n 32 h) refl
+
+at-glonass : (n : ℕ) → 32 < n → n ≤ 59 → system_at n ≡ Glonass
+at-glonass n a h = rw (above n 32 a, within n 59 h) refl
+
+at-galileo : (n : ℕ) → 59 < n → n ≤ 95 → system_at n ≡ Galileo
+at-galileo n a h = rw (above n 32 (omega arith), above n 59 a, within n 95 h) refl
+
+at-beidou : (n : ℕ) → 95 < n → n ≤ 158 → system_at n ≡ Beidou
+at-beidou n a h = rw (above n 32 (omega arith), above n 59 (omega arith), above n 95 a, within n 158 h) refl
+
+at-qzss : (n : ℕ) → 158 < n → n ≤ 168 → system_at n ≡ Qzss
+at-qzss n a h = rw (above n 32 (omega arith), above n 59 (omega arith), above n 95 (omega arith), above n 158 a, within n 168 h) refl
+
+at-sbas : (n : ℕ) → 168 < n → n ≤ 207 → system_at n ≡ Sbas
+at-sbas n a h = rw (above n 32 (omega arith), above n 59 (omega arith), above n 95 (omega arith), above n 158 (omega arith), above n 168 a, within n 207 h) refl
+
+at-navic : (n : ℕ) → 207 < n → system_at n ≡ Navic
+at-navic n a = rw (above n 32 (omega arith), above n 59 (omega arith), above n 95 (omega arith), above n 158 (omega arith), above n 168 (omega arith), above n 207 a) refl
+
+-- the last satellite of a system
+abbrev pub last_of : System → ℕ
+last_of s = satellites_before s + satellites_of_system s
+
+-- what holds of each system with its satellites
+by-satellite : (P : System → Type 0) (n : ℕ) → IsSatelliteIndex n → (n ≤ 32 → P Gps) → (32 < n → n ≤ 59 → P Glonass) → (59 < n → n ≤ 95 → P Galileo) → (95 < n → n ≤ 158 → P Beidou)
+    → (158 < n → n ≤ 168 → P Qzss) → (168 < n → n ≤ 207 → P Sbas) → (207 < n → n ≤ 221 → P Navic) → P (system_at n)
+by-satellite P n h g r e c j s i =
+    elim (cases_lt 32 n) [
+      | inr a ↦ subst P (sym (at-gps n a)) (g a)
+      | inl b ↦ elim (cases_lt 59 n) [
+        | inr a ↦ subst P (sym (at-glonass n b a)) (r b a)
+        | inl b ↦ elim (cases_lt 95 n) [
+          | inr a ↦ subst P (sym (at-galileo n b a)) (e b a)
+          | inl b ↦ elim (cases_lt 158 n) [
+            | inr a ↦ subst P (sym (at-beidou n b a)) (c b a)
+            | inl b ↦ elim (cases_lt 168 n) [
+              | inr a ↦ subst P (sym (at-qzss n b a)) (j b a)
+              | inl b ↦ elim (cases_lt 207 n) [
+                | inr a ↦ subst P (sym (at-sbas n b a)) (s b a)
+                | inl b ↦ subst P (sym (at-navic n b)) (i b h.1)
+              ]
+            ]
+          ]
+        ]
+      ]
+    ]
+
+-- a satellite is not after the last one of its system, which is one of the 221
+pub not-after-last : (n : ℕ) → IsSatelliteIndex n → (n ≤ last_of (system_at n)) × (last_of (system_at n) ≤ 221)
+not-after-last n h =
+    by-satellite (λ (s : System). (n ≤ last_of s) × (last_of s ≤ 221)) n h
+    (λ a. (omega arith, omega arith)) (λ b a. (omega arith, omega arith)) (λ b a. (omega arith, omega arith)) (λ b a. (omega arith, omega arith))
+    (λ b a. (omega arith, omega arith)) (λ b a. (omega arith, omega arith)) (λ b a. (omega arith, omega arith))
+
+-- those from a satellite to the last one of its system are of this system
+pub same-to-last : (n m : ℕ) → IsSatelliteIndex n → n ≤ m → m ≤ last_of (system_at n) → system_at m ≡ system_at n
+same-to-last n m h =
+    by-satellite (λ (s : System). n ≤ m → m ≤ last_of s → system_at m ≡ s) n h
+    (λ a from to. at-gps m (omega arith)) (λ b a from to. at-glonass m (omega arith) (omega arith)) (λ b a from to. at-galileo m (omega arith) (omega arith))
+    (λ b a from to. at-beidou m (omega arith) (omega arith)) (λ b a from to. at-qzss m (omega arith) (omega arith)) (λ b a from to. at-sbas m (omega arith) (omega arith))
+    (λ b a from to. at-navic m (omega arith))
