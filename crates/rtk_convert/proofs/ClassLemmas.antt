@@ -4,11 +4,12 @@ use Rattle.rtk_message.specs.declared.any_message.AnyMessage.{AnyMessage as Mess
 use Rattle.rtk_message.specs.declared.any_fault.AnyFault.{AnyFault}
 use Rattle.rtk_message.specs.declared.any_fault.AnyFault.TheVariants.{NoNumber, Other, Short, EpochRange, TooManyCells}
 use Rattle.rtk_message.specs.AnyDecoded.{number_of, station_of}
-use Rattle.rtk_collect.specs.Arrival.{Arrival}
+use Rattle.rtk_collect.specs.Arrival.{Arrival, At, message_of}
 use Rattle.rtk_convert.specs.declared.frame_class.FrameClass.{FrameClass}
 use Rattle.rtk_convert.specs.declared.frame_class.FrameClass.TheVariants.{OtherMessage, Refused, Foreign, Dated}
 use Rattle.rtk_convert.specs.FrameClass.{IsClassIf, IsClassOfReading, IsDatedMessage, class_of_fault, refused_if}
 use Rattle.rtk_convert.specs.Setup.{SetupView, takes}
+use Rattle.rtk_convert.specs.Steps.AddedMessage.{IsTakenBy}
 
 -- a message of the chosen station that the setup takes
 pub record IsDatedReading (s : SetupView) (m : Message) (a : Arrival) : Type 0 where
@@ -35,3 +36,10 @@ not-dated s (TooManyCells number) a h = not-refused (takes s number) (TooManyCel
 pub dated-reading : (s : SetupView) (r : Result Message AnyFault) (a : Arrival) → IsClassOfReading s r (Dated a) → (m : Message) × (r ≡ Ok m) × IsDatedReading s m a
 dated-reading s (Ok m) a h = (m, refl, dated-if (takes s (number_of m)) s m a refl h)
 dated-reading s (Err fault) a h = absurd (not-dated s fault a h)
+
+message-taken : (s : SetupView) (m : Message) (a : Arrival) → IsDatedMessage s m a → takes s (number_of m) ≡ true → IsTakenBy s (message_of a)
+message-taken s m (At e n) is t = ap (λ (x : Message). takes s (number_of x)) is.0 ∙ t
+
+-- and the setup takes the message
+pub dated-taken : (s : SetupView) (r : Result Message AnyFault) (a : Arrival) → IsClassOfReading s r (Dated a) → IsTakenBy s (message_of a)
+dated-taken s r a is = let p = dated-reading s r a is in message-taken s p.0 a p.2.dated p.2.taken

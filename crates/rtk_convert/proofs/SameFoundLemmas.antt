@@ -49,7 +49,7 @@ use Rattle.rtk_convert.specs.Rows.{band_of, cell_at, and_below, last_phase_of, o
 use Rattle.rtk_convert.specs.Setup.{SetupView, cells_by, is_of_gps, lists_system, takes}
 use Rattle.rtk_convert.specs.Steps.ClosedText.{header_before, closed_text, closing_text, closing}
 use Rattle.rtk_convert.specs.Writing.{WritesRest}
-use Rattle.rtk_convert.proofs.ClassLemmas.{dated-reading}
+use Rattle.rtk_convert.proofs.ClassLemmas.{dated-reading, dated-taken}
 use Rattle.rtk_convert.proofs.FileLemmas.{first_time-more, closed-more, file-closed}
 use Rattle.rtk_convert.proofs.RowsLemmas.{rows_to-same}
 use Rattle.rtk_convert.proofs.SameWindowLemmas.{SameWindow, HasStationNumber, AnsweredAlike, answered-alike, class-late}
@@ -209,14 +209,7 @@ dated-number : (s : SetupView) (m : Message) (a : Arrival) → IsDatedMessage s 
 dated-number s m (At e n) is = subst (λ (x : Message). HasStationNumber (At e x)) (sym is.0) (station-number s m e is.1)
 
 numbered : (s : SetupView) (r : Result Message AnyFault) (a : Arrival) → IsClassOfReading s r (Dated a) → HasStationNumber a
-numbered s r a is = let (m, _, dated) = dated-reading s r a is in dated-number s m a dated.dated
-
--- the setup takes it
-dated-taken : (s : SetupView) (m : Message) (a : Arrival) → IsDatedMessage s m a → takes s (number_of m) ≡ true → takes s (number_of (message_of a)) ≡ true
-dated-taken s m (At e n) is t = ap (λ (x : Message). takes s (number_of x)) is.0 ∙ t
-
-is-taken : (s : SetupView) (r : Result Message AnyFault) (a : Arrival) → IsClassOfReading s r (Dated a) → IsTrue (takes s (number_of (message_of a)))
-is-taken s r a is = let (m, _, dated) = dated-reading s r a is in dated-taken s m a dated.dated dated.taken
+numbered s r a is = let p = dated-reading s r a is in dated-number s p.0 a p.2.dated
 
 frame-alike : ((s : SetupView) → KeptAreGreatest signals (cells_by s)) → ExcusedIsKept → (s : SetupView) (link : ℕ) (payload : List ℕ) (f : FrameClass) (first second : List Found) → IsClassOfPayload s payload f → SameFound s first second
     → AddsAlike s first (found_on link f ∷ first) second (found_on link f ∷ second)
@@ -245,7 +238,7 @@ frame-alike greatest excused s link payload (Dated a) first second comes same =
         second_is = ap (λ t. lines s second ++ t) (sym (lines-same s link a (arrivals first) (arrivals second) alike));
       };
       same = record {
-        taken = All-cons (λ (b : Arrival). IsTrue (takes s (number_of (message_of b)))) a (arrivals second) (is-taken s comes.0 a comes.2) same.taken;
+        taken = All-cons (λ (b : Arrival). IsTrue (takes s (number_of (message_of b)))) a (arrivals second) (dated-taken s comes.0 a comes.2) same.taken;
         window = alike.holds;
         closed = closed-after-same s a (arrivals first) (arrivals second) alike same.closed;
         counts = ap (λ (c : Counts). counted_as (class_of signals (cells_by s) s.window a (arrivals first)) (one_frame_more c)) same.counts

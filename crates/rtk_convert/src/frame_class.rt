@@ -1,11 +1,11 @@
 //! What the payload of a frame means for a conversion: its class, and its epoch if it has one.
 
-ghost use Rattle.std.specs.Prelude.{◌≡◌, IfOk, IfErr};
+ghost use Rattle.std.specs.Prelude.{◌≡◌, IfOk};
 ghost use Rattle.rtk_bits.specs.Bits.{bits};
 ghost use Rattle.rtk_message.specs.AnyDecoded.{DecodesBy};
 ghost use Rattle.rtk_convert.specs.FrameClass.{IsDatedMessage, IsClassOfReading, system_of, class_of_fault};
 ghost use Rattle.rtk_convert.specs.Setup.{taken_by, takes};
-ghost use Rattle.rtk_convert.specs.Steps.ReadMessage.{IsRead, IsReadMessage, IsFaultBy};
+ghost use Rattle.rtk_convert.specs.Steps.ReadMessage.{IsRead, IsReadMessage};
 
 use crate::setup::Setup;
 use rtk_collect::DatedRef;
@@ -77,9 +77,18 @@ fn is_taken(setup: &Setup, number: u16) -> bool
     number != LEGACY || setup.takes_gps()
 }
 
+// Returns whether the setup takes messages of a number.
+fn takes(setup: &Setup, number: u16) -> bool
+    ensures { result ≡ takes setup.now number }
+{
+    if number == LEGACY {
+        return setup.takes_gps();
+    }
+    setup.accepted().accepts(number)
+}
+
 // Returns the class of a payload that is no message.
 fn class_of_fault<'a>(setup: &Setup, fault: AnyFault) -> FrameClass<'a>
-    requires { IsFaultBy setup.now fault }
     ensures { result ≡ class_of_fault setup.now fault }
 {
     match fault {
@@ -88,7 +97,7 @@ fn class_of_fault<'a>(setup: &Setup, fault: AnyFault) -> FrameClass<'a>
         AnyFault::Short { number }
         | AnyFault::EpochRange { number }
         | AnyFault::TooManyCells { number } => {
-            if is_taken(setup, number) {
+            if takes(setup, number) {
                 FrameClass::Refused(fault)
             } else {
                 FrameClass::OtherMessage
@@ -103,8 +112,7 @@ pub(crate) fn classify<'a>(
     setup: &Setup,
     reading: &'a Result<AnyMessage, AnyFault>,
 ) -> FrameClass<'a>
-    requires message { IfOk reading.now (λ m. IsReadMessage setup.now m) }
-    requires fault { IfErr reading.now (λ fault. IsFaultBy setup.now fault) }
+    requires { IfOk reading.now (λ m. IsReadMessage setup.now m) }
     ensures { IsClassOfReading setup.now reading.now result }
 {
     match reading {

@@ -1,7 +1,5 @@
 -- What a payload is read as by the messages of a setup.
 use Rattle.std.specs.Prelude.{ℕ, Bool, ◌==◌, ◌&&◌, Option, None, Some, is_some, IsTrue}
-use Rattle.rtk_message.specs.declared.any_fault.AnyFault.{AnyFault}
-use Rattle.rtk_message.specs.declared.any_fault.AnyFault.TheVariants.{NoNumber, Other, Short, EpochRange, TooManyCells}
 use Rattle.rtk_message.specs.declared.any_message.AnyMessage.{AnyMessage}
 use Rattle.rtk_message.specs.declared.msm_type.MsmType.{MsmType}
 use Rattle.rtk_message.specs.declared.system.System.{System}
@@ -35,11 +33,3 @@ system_of_number number = system_of_type (type_of_number number)
 -- a message of this number, epoch and class is an observation of this system that was taken
 abbrev pub brings_by : ℕ → Option ℕ → Class → System → Bool
 brings_by number epoch class system = (is_some epoch && (letter_of (system_of_number number) == letter_of system)) && is_taken class
-
--- a fault of a message that is read, or of a payload without a number or with another one
-abbrev pub IsFaultBy : SetupView → AnyFault → Type 0
-IsFaultBy s NoNumber = Unit {0}
-IsFaultBy s (Other number) = Unit {0}
-IsFaultBy s (Short number) = IsRead s number
-IsFaultBy s (EpochRange number) = IsRead s number
-IsFaultBy s (TooManyCells number) = IsRead s number
