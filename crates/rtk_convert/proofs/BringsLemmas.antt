@@ -1,5 +1,5 @@
 -- The systems of which a message was taken.
-use Rattle.std.proofs.Common.{◌≡◌, ◌∙◌, ◌==◌, ℕ, Bool, List, Option, None, Some, refl, sym, ap}
+use Rattle.std.proofs.Common.{◌≡◌, ◌∙◌, ◌==◌, ℕ, Bool, true, false, List, Option, None, Some, refl, sym, ap}
 use Rattle.std.specs.Prelude.{◌&&◌, ◌||◌, is_some}
 use Rattle.rtk_message.specs.declared.any_message.AnyMessage.{AnyMessage as Message}
 use Rattle.rtk_message.specs.declared.any_message.AnyMessage.TheVariants as any
@@ -14,7 +14,7 @@ use Rattle.rtk_message.specs.MsmForm.{type_of}
 use Rattle.rtk_message.specs.Systems.{number_of_type, type_of_number}
 use Rattle.rtk_obs.specs.SatelliteIndex.{letter_of}
 use Rattle.rtk_obs.specs.declared.signal_cells.SignalEntry.{SignalEntry}
-use Rattle.rtk_collect.specs.Answer.{Class}
+use Rattle.rtk_collect.specs.Answer.{Class, TakenClass}
 use Rattle.rtk_collect.specs.Arrival.{Arrival, epoch_of, message_of}
 use Rattle.rtk_collect.specs.Collector.{CollectorView}
 use Rattle.rtk_convert.specs.declared.counts.Counts.{Counts}
@@ -25,7 +25,7 @@ use Rattle.rtk_convert.specs.ClosedEpochs.{ClosedEpochsView}
 use Rattle.rtk_convert.specs.FrameClass.{system_of}
 use Rattle.rtk_convert.specs.Report.{arrival_class, brings, counted_as, is_of, is_taken}
 use Rattle.rtk_convert.specs.Setup.{SetupView}
-use Rattle.rtk_convert.specs.Systems.{has_system}
+use Rattle.rtk_convert.specs.Systems.{has_system, with_system}
 use Rattle.rtk_convert.specs.Writing.{Written}
 use Rattle.rtk_convert.specs.Steps.AddedMessage.{AddsArrivalAs, AddsMessage, RepresentsEpochs}
 use Rattle.rtk_convert.specs.Steps.OfferLines.{class_named}
@@ -82,6 +82,86 @@ brings-by : (s : SetupView) (a : Arrival) (before : List Arrival) (class : Class
     → brings_by (number_of (message_of a)) (epoch_of a) class system ≡ brings s system (Dated a) before
 brings-by s a before class system h is =
     ap (λ (b : Bool). b && is_taken class) (observed-by (message_of a) (epoch_of a) system h) ∙ ap (λ (c : Class). is_of system (message_of a) && is_taken c) is
+
+-- ---- the systems of which a message was taken
+
+-- a set with one system more
+has-with : (y : Systems) (x system : System) → has_system (with_system y x) system ≡ ((letter_of x == letter_of system) || has_system y system)
+has-with y Gps Gps = refl
+has-with y Gps Glonass = refl
+has-with y Gps Galileo = refl
+has-with y Gps Beidou = refl
+has-with y Gps Qzss = refl
+has-with y Gps Sbas = refl
+has-with y Gps Navic = refl
+has-with y Glonass Gps = refl
+has-with y Glonass Glonass = refl
+has-with y Glonass Galileo = refl
+has-with y Glonass Beidou = refl
+has-with y Glonass Qzss = refl
+has-with y Glonass Sbas = refl
+has-with y Glonass Navic = refl
+has-with y Galileo Gps = refl
+has-with y Galileo Glonass = refl
+has-with y Galileo Galileo = refl
+has-with y Galileo Beidou = refl
+has-with y Galileo Qzss = refl
+has-with y Galileo Sbas = refl
+has-with y Galileo Navic = refl
+has-with y Beidou Gps = refl
+has-with y Beidou Glonass = refl
+has-with y Beidou Galileo = refl
+has-with y Beidou Beidou = refl
+has-with y Beidou Qzss = refl
+has-with y Beidou Sbas = refl
+has-with y Beidou Navic = refl
+has-with y Qzss Gps = refl
+has-with y Qzss Glonass = refl
+has-with y Qzss Galileo = refl
+has-with y Qzss Beidou = refl
+has-with y Qzss Qzss = refl
+has-with y Qzss Sbas = refl
+has-with y Qzss Navic = refl
+has-with y Sbas Gps = refl
+has-with y Sbas Glonass = refl
+has-with y Sbas Galileo = refl
+has-with y Sbas Beidou = refl
+has-with y Sbas Qzss = refl
+has-with y Sbas Sbas = refl
+has-with y Sbas Navic = refl
+has-with y Navic Gps = refl
+has-with y Navic Glonass = refl
+has-with y Navic Galileo = refl
+has-with y Navic Beidou = refl
+has-with y Navic Qzss = refl
+has-with y Navic Sbas = refl
+has-with y Navic Navic = refl
+
+and-true : (b : Bool) → (b && true) ≡ b
+and-true true = refl
+and-true false = refl
+
+and-false : (b : Bool) → (b && false) ≡ false
+and-false true = refl
+and-false false = refl
+
+-- an observation that is taken puts its system into the set
+pub systems-put : (y : Systems) (number : ℕ) (epoch : Option ℕ) (e : ℕ) (class : Class) (system : System) → epoch ≡ Some e → class ≡ TakenClass
+    → has_system (with_system y (system_of_number number)) system ≡ (brings_by number epoch class system || has_system y system)
+systems-put y number epoch e class system timed is =
+    has-with y (system_of_number number) system
+    ∙ ap (λ (b : Bool). b || has_system y system) (sym (and-true (letter_of (system_of_number number) == letter_of system)))
+    ∙ ap (λ (o : Option ℕ). brings_by number o TakenClass system || has_system y system) (sym timed)
+    ∙ ap (λ (c : Class). brings_by number epoch c system || has_system y system) (sym is)
+
+-- another message puts none into it
+pub systems-untimed : (y : Systems) (number : ℕ) (epoch : Option ℕ) (class : Class) (system : System) → epoch ≡ None → has_system y system ≡ (brings_by number epoch class system || has_system y system)
+systems-untimed y number epoch class system untimed = ap (λ (o : Option ℕ). brings_by number o class system || has_system y system) (sym untimed)
+
+pub systems-stay : (y : Systems) (number : ℕ) (epoch : Option ℕ) (class : Class) (system : System) → is_taken class ≡ false → has_system y system ≡ (brings_by number epoch class system || has_system y system)
+systems-stay y number epoch class system no =
+    ap (λ (b : Bool). b || has_system y system) (sym (and-false (is_some epoch && (letter_of (system_of_number number) == letter_of system))))
+    ∙ ap (λ (b : Bool). ((is_some epoch && (letter_of (system_of_number number) == letter_of system)) && b) || has_system y system) (sym no)
 
 -- what an arrival changes in the epochs of a conversion, its counts and its systems it changes in the conversion
 pub message-adds : {s : SetupView} {w w' : CollectorView SignalEntry} {c c' : ClosedEpochsView} {k k' : Counts} {y y' : Systems} {b : Bool} {link : ℕ} {a : Arrival} (class : MessageClass) {o o' : Written}

@@ -257,8 +257,12 @@ fn system_of(number: u16) -> System
 fn put_system(systems: &mut Systems, number: u16, epoch: Option<GpsMs>, class: MessageClass)
     ensures { (system : System) → has_system systems.new system ≡ (brings_by number epoch (class_named class) system || has_system systems.old system) }
 {
-    if epoch.is_some() && class == MessageClass::Taken {
-        systems.put(system_of(number));
+    if epoch.is_none() {
+        return;
+    }
+    match class {
+        MessageClass::Taken => systems.put(system_of(number)),
+        MessageClass::Late | MessageClass::Repeat | MessageClass::Conflict => {}
     }
 }
 

@@ -1,4 +1,5 @@
-use Rattle.std.proofs.Common.{◌≡◌, ◌∙◌, ℕ, Bool, Option, refl, sym, ap, subst, arith}
+use Rattle.std.proofs.Common.{◌∙◌, ℕ, Option, refl, sym, ap, arith}
+use Rattle.std.specs.Prelude.{is_some, ◌||◌}
 use Rattle.std.proofs.lemmas.Result.{err_from_is_err_and}
 use Rattle.rtk_message.specs.AnyDecoded.{number_of}
 use Rattle.rtk_message.specs.declared.system.System.{System}
@@ -20,7 +21,12 @@ add-class-requires g c = record {
 
 pub returns-clause-handles : goal.returns-clause-handles
 returns-clause-handles g c =
-    message-ok c.self.view_is (message-adds c.in_ok-class.class (ap (λ (e : Option ℕ). _) c.epoch-epoch.ensures.value ∙ c.epoch-epoch.ensures.has_epoch) c.in_ok-class.ensures.adds.ok c.count_message.ensures c.put_system.ensures)
+    let a = c.args.dated in
+    let class = class_named c.in_ok-class.class in
+    let systems = λ (system : System). c.put_system.ensures system
+    ∙ ap (λ (n : ℕ). brings_by n c.epoch-epoch.result class system || has_system c.self.inside.systems system) c.number-number.ensures
+    ∙ ap (λ (e : Option ℕ). brings_by (number_of (message_of a)) e class system || has_system c.self.inside.systems system) c.epoch-epoch.ensures.value in
+    message-ok c.self.view_is (message-adds c.in_ok-class.class (sym (ap is_some c.epoch-epoch.ensures.value) ∙ c.epoch-epoch.ensures.has_epoch) c.in_ok-class.ensures.adds.ok c.count_message.ensures systems)
 
 pub returns-in_err-class-clause-handles : goal.returns-in_err-class-clause-handles
 returns-in_err-class-clause-handles g c =

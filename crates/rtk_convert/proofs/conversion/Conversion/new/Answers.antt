@@ -1,4 +1,5 @@
-use Rattle.std.proofs.Common.{refl, ap, subst, arith}
+use Rattle.std.proofs.Common.{refl, arith}
+use Rattle.rtk_message.specs.declared.system.System.TheVariants.{Gps, Glonass, Galileo, Beidou, Qzss, Sbas, Navic}
 use Rattle.rtk_convert.proofs.conversion.Conversion.new.Goals as goal
 
 pub invariant_of-result : goal.invariant_of-result
