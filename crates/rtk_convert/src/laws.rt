@@ -10,10 +10,9 @@ ghost use Rattle.rtk_convert.specs.HistoryLaws.{ComesToOne, FeedsToOne, ClosesTo
 ghost use Rattle.rtk_convert.specs.NumberLaws.{CountLinesTellCounts, ReportTellsCounts, EpochsAreRecords, EpochsAreOfTable};
 ghost use Rattle.rtk_convert.specs.SetupLaws.{DefaultTakesFour, GpsMessagesStay};
 
-use rtk_collect::{
-    epochs_are_bounded, late_arrivals_change_nothing, set_decides, stations_are_final,
-};
+use rtk_collect::{signal_window_laws, stations_are_final};
 use rtk_message::decodes_by_four;
+use rtk_obs::clock_laws;
 use rtk_rinex::files_are_tables;
 
 /// The file of every set of messages is the text of a well-formed table, and so is the file of all
@@ -32,8 +31,7 @@ pub fn set_decides_file()
     ensures late { LateLeaveFile }
     ensures others { OthersLeaveFile }
 {
-    set_decides();
-    late_arrivals_change_nothing();
+    signal_window_laws();
 }
 
 /// Each later file begins with what is written, whatever arrives after it; its header stays.
@@ -67,7 +65,9 @@ pub fn one_history_of_calls()
     ensures all { CallsFindOne }
     ensures next { NextIsOne }
     ensures reads { ReadsComeToOne }
-{}
+{
+    clock_laws();
+}
 
 /// What a converter holds decides what each call makes of its history and what the call answers.
 /// `feed` and `close` are refused by what the history says of their link. `newest` answers what the
@@ -81,7 +81,7 @@ pub fn converter_laws()
     ensures call { HeldDecidesCall }
     ensures end { HeldDecidesEnd }
 {
-    epochs_are_bounded();
+    signal_window_laws();
     stations_are_final();
 }
 
