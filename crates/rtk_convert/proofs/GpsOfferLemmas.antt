@@ -94,7 +94,7 @@ pub gps-messages : (s : SetupView) (arrivals : List Arrival) → IsTrue (is_of_g
 gps-messages s arrivals is h =
     All-weaker (λ (a : Arrival). IsTrue (takes s (number_of (message_of a)))) (λ (a : Arrival). IsGpsMessage (message_of a)) (λ a taken. gps-message s (message_of a) is taken) arrivals h
 
-entries-same : (channels : List (Option ℤ)) (m : Message) → IsGpsMessage m → entries_of channels m ≡ map signal_of (cells_of m)
+pub entries-same : (channels : List (Option ℤ)) (m : Message) → IsGpsMessage m → entries_of channels m ≡ map signal_of (cells_of m)
 entries-same channels (any.Message m) is = refl
 entries-same channels (any.Msm m) is = entries-of-gps channels m is
 

@@ -18,6 +18,7 @@ mod SoFarLemmas
 mod AnswersLemmas
 mod AddLemmas
 mod GpsOfferLemmas
+mod GpsLawsLemmas
 mod WindowLemmas
 mod AheadLemmas
 mod EpochsLemmas
