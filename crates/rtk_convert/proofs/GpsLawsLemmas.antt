@@ -8,7 +8,7 @@ use Rattle.rtk_message.specs.declared.accepted.Accepted.{Accepted}
 use Rattle.rtk_message.specs.declared.any_fault.AnyFault.{AnyFault}
 use Rattle.rtk_message.specs.declared.any_message.AnyMessage.{AnyMessage as Message}
 use Rattle.rtk_message.specs.declared.any_message.AnyMessage.TheVariants as any
-use Rattle.rtk_message.specs.declared.decode_fault.DecodeFault.{DecodeFault}
+use Rattle.rtk_message.specs.declared.fault.DecodeFault.{DecodeFault}
 use Rattle.rtk_message.specs.declared.message.Message.{Message as GpsMessage}
 use Rattle.rtk_message.specs.declared.msm_kind.MsmKind.TheVariants.{Msm4}
 use Rattle.rtk_message.specs.declared.system.System.{System}

@@ -1,4 +1,6 @@
 mod SystemLemmas
+mod PhasesLemmas
+mod MixedFileLemmas
 mod CodesLemmas
 mod EntriesLemmas
 mod PlacesLemmas

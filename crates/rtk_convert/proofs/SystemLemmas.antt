@@ -53,7 +53,7 @@ within a b h = grind (arith, nat_tests)
 above : (a b : ℕ) → b < a → nat_le a b ≡ false
 above a b h = grind (arith, nat_tests)
 
-at-gps : (n : ℕ) → n ≤ 32 → system_at n ≡ Gps
+pub at-gps : (n : ℕ) → n ≤ 32 → system_at n ≡ Gps
 at-gps n h = rw (within n 32 h) refl
 
 at-glonass : (n : ℕ) → 32 < n → n ≤ 59 → system_at n ≡ Glonass
@@ -116,3 +116,13 @@ same-to-last n m h =
     (λ a from to. at-gps m (omega arith)) (λ b a from to. at-glonass m (omega arith) (omega arith)) (λ b a from to. at-galileo m (omega arith) (omega arith))
     (λ b a from to. at-beidou m (omega arith) (omega arith)) (λ b a from to. at-qzss m (omega arith) (omega arith)) (λ b a from to. at-sbas m (omega arith) (omega arith))
     (λ b a from to. at-navic m (omega arith))
+
+-- the satellite of a mask bit is of the system
+pub in-system : (s : System) (bit : ℕ) → 1 ≤ bit → bit ≤ satellites_of_system s → system_at (satellites_before s + bit) ≡ s
+in-system Gps bit low high = at-gps (0 + bit) (omega arith)
+in-system Glonass bit low high = at-glonass (32 + bit) (omega arith) (omega arith)
+in-system Galileo bit low high = at-galileo (59 + bit) (omega arith) (omega arith)
+in-system Beidou bit low high = at-beidou (95 + bit) (omega arith) (omega arith)
+in-system Qzss bit low high = at-qzss (158 + bit) (omega arith) (omega arith)
+in-system Sbas bit low high = at-sbas (168 + bit) (omega arith) (omega arith)
+in-system Navic bit low high = at-navic (207 + bit) (omega arith)
