@@ -25,6 +25,7 @@ mod WindowLemmas
 mod AheadLemmas
 mod EpochsLemmas
 mod ClassLemmas
+mod MomentLemmas
 mod OneTextLemmas
 mod ArriveLemmas
 mod BringsLemmas

@@ -11,7 +11,7 @@ use Rattle.rtk_convert.specs.Setup.{cells_by}
 use Rattle.rtk_obs.specs.declared.signal_cells.SignalEntry.{SignalEntry}
 use Rattle.rtk_collect.specs.Accepted.{kept}
 use Rattle.rtk_collect.specs.EpochSet.{EpochSetView}
-use Rattle.rtk_rinex.specs.Table.{WellFormedTable, FilesAreTables}
+use Rattle.rtk_rinex.specs.MixedTable.{MixedTable}
 use Rattle.rtk_convert.specs.declared.counts.Counts.{Counts}
 use Rattle.rtk_convert.specs.File.{record_of, records, one_more_if_any, record_count}
 use Rattle.rtk_convert.specs.Finish.{all_counts, missing_lines}
@@ -112,8 +112,8 @@ pub epochs-are : EpochsAreRecords
 epochs-are s found few =
     record { file = records-joined s.head.listed (kept signals (cells_by s) s.window (arrivals found)); counted = records-counted s.head.listed (kept signals (cells_by s) s.window (arrivals found)) few }
 
-pub epochs-of-table : FilesAreTables → EpochsAreOfTable
-epochs-of-table law s found epochs satellites good_setup h few holds =
-    let file = kept-file-has_records law s found good_setup h in
+pub epochs-of-table : EpochsAreOfTable
+epochs-of-table s found epochs satellites good_setup h few holds =
+    let file = kept-file-has_records s found good_setup h in
     let one : file.0 ≡ holds.table = holds.only file.0 file.1 file.2 in
-    sym (file.3 few) ∙ ap (λ (t : WellFormedTable). length t.epochs) one ∙ holds.epochs
+    sym (file.3 few) ∙ ap (λ (t : MixedTable). length t.epochs) one ∙ holds.epochs

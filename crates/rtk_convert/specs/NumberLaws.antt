@@ -7,7 +7,7 @@ use Rattle.rtk_obs.specs.declared.signal_cells.SignalEntry.{SignalEntry}
 use Rattle.rtk_collect.specs.Accepted.{kept}
 use Rattle.rtk_collect.specs.EpochSet.{EpochSetView}
 use Rattle.rtk_collect.specs.Signals.{signals}
-use Rattle.rtk_rinex.specs.CheckTable.{HoldsTable}
+use Rattle.rtk_rinex.specs.MixedCheckTable.{HoldsMixedTable}
 use Rattle.rtk_convert.specs.declared.counts.Counts.{Counts}
 use Rattle.rtk_convert.specs.File.{record_of, records}
 use Rattle.rtk_convert.specs.ArrivalLaws.{HasPayload}
@@ -68,4 +68,4 @@ EpochsAreRecords =
 abbrev pub EpochsAreOfTable : Type 0
 EpochsAreOfTable =
     (s : SetupView) (found : List Found) (epochs satellites : ℕ) → IsSetupView s → All (HasPayload s) found → length (kept signals (cells_by s) s.window (arrivals found)) < 2 ^ 64
-    → HoldsTable (kept_file s (arrivals found)) epochs satellites → (all_counts s found).epochs ≡ epochs
+    → HoldsMixedTable (kept_file s (arrivals found)) epochs satellites → (all_counts s found).epochs ≡ epochs

@@ -13,16 +13,13 @@ ghost use Rattle.rtk_convert.specs.SetupLaws.{DefaultTakesFour, GpsMessagesStay}
 use rtk_collect::{signal_window_laws, stations_are_final};
 use rtk_message::decodes_by_four;
 use rtk_obs::clock_laws;
-use rtk_rinex::files_are_tables;
 
 /// The file of every set of messages is the text of a well-formed table, and so is the file of all
 /// found frames: the checker accepts both.
 pub fn file_laws()
     ensures table { FileIsTable }
     ensures kept { KeptFileIsTable }
-{
-    files_are_tables();
-}
+{}
 
 /// If equal keys carry equal bodies, the file depends only on the set of messages that came in
 /// time. Late messages change nothing, nor do frames that are other, refused or foreign.
@@ -108,9 +105,7 @@ pub fn report_tells_counts()
 pub fn epochs_are_records()
     ensures kept { EpochsAreRecords }
     ensures table { EpochsAreOfTable }
-{
-    files_are_tables();
-}
+{}
 
 /// A set of messages has one file, whatever the order in which they came.
 pub fn set_has_one_file()
