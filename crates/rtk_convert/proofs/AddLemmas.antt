@@ -1,5 +1,5 @@
 -- One arrival: what the epochs represent after it, and what was written.
-use Rattle.std.proofs.Common.{◌≡◌, ℕ, List, [], ◌∷◌, ◌++◌, Option, None, Some, refl, ap, sym, subst, ◌∙◌, ℤ, pos}
+use Rattle.std.proofs.Common.{◌≡◌, ℕ, List, ◌∷◌, ◌++◌, Option, None, Some, ap, sym, subst, ◌∙◌, ℤ, pos}
 use Rattle.std.specs.Prelude.{option_to_list, option_map, IsTrue}
 use Rattle.std.proofs.lemmas.List.{append-nil}
 use Rattle.std.proofs.lemmas.List.Elements.{All-cons}

@@ -1,5 +1,5 @@
 -- What the answer of a window says of the lines, the counts and the closed epochs.
-use Rattle.std.proofs.Common.{◌≡◌, ℕ, List, [], ◌∷◌, ◌++◌, Option, refl, ap, sym, ◌∙◌}
+use Rattle.std.proofs.Common.{◌≡◌, ℕ, List, ◌∷◌, ◌++◌, Option, refl, ap, sym, ◌∙◌}
 use Rattle.std.specs.Prelude.{option_to_list}
 use Rattle.rtk_message.specs.AnyDecoded.{number_of}
 use Rattle.rtk_collect.specs.Signals.{signals}

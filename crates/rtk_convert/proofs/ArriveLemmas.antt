@@ -1,10 +1,9 @@
 -- One frame: what the conversion represents after it, and what was written.
-use Rattle.std.proofs.Common.{◌≡◌, ℕ, Bool, true, false, List, [], ◌∷◌, ◌++◌, Option, None, Some, refl, ap, sym, subst, ◌∙◌, inl}
+use Rattle.std.proofs.Common.{◌≡◌, ℕ, Bool, List, [], ◌∷◌, ◌++◌, Option, refl, ap, sym, ◌∙◌, inl}
 use Rattle.std.specs.Prelude.{◌||◌}
 use Rattle.rtk_message.specs.declared.any_fault.AnyFault.{AnyFault}
-use Rattle.rtk_message.specs.declared.system.System.{System}
 use Rattle.rtk_obs.specs.declared.signal_cells.SignalEntry.{SignalEntry}
-use Rattle.rtk_collect.specs.Arrival.{Arrival, message_of}
+use Rattle.rtk_collect.specs.Arrival.{Arrival}
 use Rattle.rtk_collect.specs.Collector.{CollectorView}
 use Rattle.rtk_frame.specs.Stream.{with_more, TakesPart, count_after}
 use Rattle.rtk_frame.proofs.PublicLaws.{with_more-nil}
@@ -17,7 +16,6 @@ use Rattle.rtk_convert.specs.FileOfArrivals.{file_so_far}
 use Rattle.rtk_convert.specs.FrameClass.{IsClassOfPayload, Found, arrivals}
 use Rattle.rtk_convert.specs.Report.{arrival_class, brings, frame_lines, refused_line, lines, counted_as, one_frame_more, frame_counts, has_taken}
 use Rattle.rtk_convert.specs.Setup.{SetupView}
-use Rattle.rtk_convert.specs.Systems.{has_system}
 use Rattle.rtk_convert.specs.Writing.{Written, written}
 use Rattle.rtk_convert.specs.Steps.AcceptedFrame.{AcceptsFrame, BreaksOffAtFrame}
 use Rattle.rtk_convert.specs.Steps.AddedMessage.{AddsMessage, AddsMessageInPart}

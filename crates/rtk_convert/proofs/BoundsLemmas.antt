@@ -1,5 +1,5 @@
 -- What a call on a link leaves of a converter: what it holds is bounded.
-use Rattle.std.proofs.Common.{◌≡◌, ◌≤◌, ℕ, Bool, [], ◌∷◌, ◌++◌, List, length, true, false, Option, None, Some, Result, Ok, Err, if◌then◌else◌, replicate, set, refl, sym, subst, arith}
+use Rattle.std.proofs.Common.{◌≡◌, ◌≤◌, ℕ, Bool, [], ◌++◌, List, length, true, false, Option, None, Some, Result, Ok, Err, if◌then◌else◌, replicate, set, refl, sym, subst, arith}
 use Rattle.std.specs.Prelude.{All, OnOk, slice_get}
 use Rattle.std.proofs.lemmas.List.{length-set}
 use Rattle.std.proofs.lemmas.List.Elements.{All-set, All-replicate}

@@ -10,7 +10,6 @@ use Rattle.rtk_message.specs.declared.msm_type.MsmType.{MsmType}
 use Rattle.rtk_message.specs.declared.system.System.{System}
 use Rattle.rtk_message.specs.declared.system.System.TheVariants.{Gps, Glonass, Galileo, Beidou, Qzss, Sbas, Navic}
 use Rattle.rtk_message.specs.AnyDecoded.{number_of, tow_of}
-use Rattle.rtk_message.specs.MsmForm.{type_of}
 use Rattle.rtk_message.specs.Systems.{number_of_type, type_of_number}
 use Rattle.rtk_obs.specs.SatelliteIndex.{letter_of}
 use Rattle.rtk_obs.specs.declared.signal_cells.SignalEntry.{SignalEntry}
@@ -22,7 +21,6 @@ use Rattle.rtk_convert.specs.declared.frame_class.FrameClass.TheVariants.{Dated}
 use Rattle.rtk_convert.specs.declared.message_class.MessageClass.{MessageClass}
 use Rattle.rtk_convert.specs.declared.systems.Systems.{Systems}
 use Rattle.rtk_convert.specs.ClosedEpochs.{ClosedEpochsView}
-use Rattle.rtk_convert.specs.FrameClass.{system_of}
 use Rattle.rtk_convert.specs.Report.{arrival_class, brings, counted_as, is_of, is_taken}
 use Rattle.rtk_convert.specs.Setup.{SetupView}
 use Rattle.rtk_convert.specs.Systems.{has_system, with_system}

@@ -1,12 +1,11 @@
 -- What a class says of what a payload is read as.
-use Rattle.std.proofs.Common.{◌≡◌, ℕ, Bool, true, false, Result, Ok, Err, refl, ap, subst, ◌∙◌}
+use Rattle.std.proofs.Common.{◌≡◌, Bool, true, false, Result, Ok, Err, refl, ap, ◌∙◌}
 use Rattle.rtk_message.specs.declared.any_message.AnyMessage.{AnyMessage as Message}
 use Rattle.rtk_message.specs.declared.any_fault.AnyFault.{AnyFault}
 use Rattle.rtk_message.specs.declared.any_fault.AnyFault.TheVariants.{NoNumber, Other, Short, EpochRange, TooManyCells}
 use Rattle.rtk_message.specs.AnyDecoded.{number_of, station_of}
 use Rattle.rtk_collect.specs.Arrival.{Arrival, At, message_of}
-use Rattle.rtk_convert.specs.declared.frame_class.FrameClass.{FrameClass}
-use Rattle.rtk_convert.specs.declared.frame_class.FrameClass.TheVariants.{OtherMessage, Refused, Foreign, Dated}
+use Rattle.rtk_convert.specs.declared.frame_class.FrameClass.TheVariants.{Dated}
 use Rattle.rtk_convert.specs.FrameClass.{IsClassIf, IsClassOfReading, IsDatedMessage, class_of_fault, refused_if}
 use Rattle.rtk_convert.specs.Setup.{SetupView, takes}
 use Rattle.rtk_convert.specs.Steps.AddedMessage.{IsTakenBy}

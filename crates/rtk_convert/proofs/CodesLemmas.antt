@@ -4,7 +4,7 @@ use Rattle.std.specs.Prelude.{All, AllPairs, if◌then◌else◌}
 use Rattle.std.specs.List.{list_any}
 use Rattle.std.proofs.lemmas.Bool.{cases_lt, cond-true, cond-false, eq-eqb, eqb-true, ne_eqb}
 use Rattle.std.proofs.lemmas.Bool.Decides.{Decides-eqb}
-use Rattle.std.proofs.lemmas.List.{append-nil, get_or-map, get_or_default, length-map}
+use Rattle.std.proofs.lemmas.List.{append-nil, get_or-map, length-map}
 use Rattle.std.proofs.lemmas.List.Elements.{filter_passes}
 use Rattle.std.proofs.lemmas.List.Kept.{AllPairs-filter}
 use Rattle.std.proofs.lemmas.Map.Made.{IsDistinct-from_AllPairs}
@@ -15,11 +15,10 @@ use Rattle.rtk_message.specs.declared.system.System.TheVariants.{Gps, Glonass, G
 use Rattle.rtk_obs.specs.declared.any_code.AnyCode.{AnyCode}
 use Rattle.rtk_obs.specs.declared.any_code.AnyCode.TheVariants.{G1C}
 use Rattle.rtk_obs.specs.AnyCode.{codes_before, place_of, system_of}
-use Rattle.rtk_obs.specs.SatelliteIndex.{letter_of, satellites_before, satellites_of_system, system_at}
+use Rattle.rtk_obs.specs.SatelliteIndex.{letter_of, system_at}
 use Rattle.rtk_obs.proofs.PublicLaws.{place_below}
-use Rattle.rtk_rinex.specs.MixedHead.{AreInOrder, IsMixedList, letter}
+use Rattle.rtk_rinex.specs.MixedHead.{IsMixedList, letter}
 use Rattle.rtk_rinex.specs.MixedHeader.{codes_of}
-use Rattle.rtk_convert.specs.Rows.{codes_for}
 use Rattle.rtk_convert.specs.Steps.ShownCells.{AreCodesBefore, AreCodesTo}
 use Rattle.rtk_convert.proofs.PlacesLemmas.{same_place}
 use Rattle.rtk_convert.proofs.SystemLemmas.{letter-once, system-by}

@@ -1,5 +1,5 @@
 -- Cells of one form as cells of any system.
-use Rattle.std.proofs.Common.{◌≡◌, ◌∙◌, ℕ, ◌<◌, ◌≤◌, Bool, true, false, cond, List, [], ◌∷◌, ◌++◌, map, filter, length, get_or, refl, ap, sym, arith}
+use Rattle.std.proofs.Common.{◌≡◌, ◌∙◌, ℕ, ◌<◌, Bool, true, false, cond, List, [], ◌∷◌, ◌++◌, map, filter, length, get_or, refl, ap, sym, arith}
 use Rattle.std.specs.Prelude.{All}
 use Rattle.std.proofs.lemmas.List.{get_or-map, length-map}
 use Rattle.std.proofs.lemmas.List.Elements.{All-map}
@@ -8,7 +8,7 @@ use Rattle.rtk_obs.specs.declared.cell.Cell.{Cell}
 use Rattle.rtk_obs.specs.declared.cell.CellSource.{CellSource}
 use Rattle.rtk_obs.specs.declared.cell.CellSource.TheVariants.{Legacy, Msm}
 use Rattle.rtk_obs.specs.declared.signal_cells.SignalEntry.{SignalEntry}
-use Rattle.rtk_obs.specs.SignalCells.{EntriesAreOfOneKind, IsSignalInRange}
+use Rattle.rtk_obs.specs.SignalCells.{EntriesAreOfOneKind}
 use Rattle.rtk_obs.specs.Slip.{is_same_source}
 use Rattle.rtk_collect.specs.Entries.{Entries}
 use Rattle.rtk_collect.specs.EpochSet.{AreLeftBeside, AreOfOneSource, is_from}

@@ -1,5 +1,5 @@
 -- The epochs of a conversion: none at the start, what comes of an answer, and the end.
-use Rattle.std.proofs.Common.{◌≡◌, ◌∙◌, ℕ, zero, suc, ◌<◌, ◌≤◌, List, [], ◌∷◌, ◌++◌, length, take, Option, None, Some, Result, Ok, Err, refl, sym, ap, subst, arith}
+use Rattle.std.proofs.Common.{◌≡◌, ◌∙◌, ℕ, zero, suc, ◌<◌, ◌≤◌, List, [], ◌∷◌, length, take, Option, None, Some, Result, Ok, Err, refl, sym, ap, subst, arith}
 use Rattle.std.specs.Prelude.{OnOk, IfErr, ℤ}
 use Rattle.rtk_obs.specs.declared.any_code.AnyCode.{AnyCode}
 use Rattle.rtk_obs.specs.declared.signal_cells.SignalEntry.{SignalEntry}
@@ -9,7 +9,7 @@ use Rattle.rtk_message.specs.AnyDecoded.{number_of}
 use Rattle.rtk_collect.specs.declared.conflicts.AnySatelliteCode.{AnySatelliteCode}
 use Rattle.rtk_collect.specs.declared.outcome.Outcome.{Outcome}
 use Rattle.rtk_collect.specs.Arrival.{Arrival, epoch_of, message_of}
-use Rattle.rtk_collect.specs.Collector.{CollectorView, RepresentsArrivals}
+use Rattle.rtk_collect.specs.Collector.{CollectorView}
 use Rattle.rtk_collect.specs.EpochSet.{EpochSetView}
 use Rattle.rtk_collect.specs.Offered.{AnswersArrival, ClosesBelow, ClosesLeast, LeastNeverFalls}
 use Rattle.rtk_collect.specs.Signals.{signals}
@@ -184,7 +184,7 @@ module _ {s : SetupView} {w w' : CollectorView SignalEntry} {c : ClosedEpochsVie
       subst (λ (x : EpochsView). AddsArrival s x link a (Err fault) new' o o') seen
       (record {
         ok = tt;
-        err = λ before rep. adds-part offer listed taken size-seen same meets text (λ below h. (wrote.file below h).part) wrote.report.part before rep;
+        err = λ before rep. adds-part {c' = c} offer listed taken size-seen same meets text (λ below h. (wrote.file below h).part) wrote.report.part before rep;
         fault = wrote.fault;
       })
 

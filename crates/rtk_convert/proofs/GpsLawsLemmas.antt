@@ -1,6 +1,6 @@
 -- A setup with codes of GPS alone: its messages, their cells and their epochs.
-use Rattle.std.proofs.Common.{◌≡◌, ◌∙◌, ◌↔◌, ◌<◌, ℕ, Bool, true, List, [], ◌∷◌, map, length, Option, None, Some, Result, refl, sym, ap, subst, arith}
-use Rattle.std.specs.Prelude.{IsTrue, ◌==◌, ◌||◌}
+use Rattle.std.proofs.Common.{◌≡◌, ◌∙◌, ◌↔◌, ◌<◌, ℕ, Bool, true, List, [], ◌∷◌, length, Option, None, Some, Result, refl, sym, subst, arith}
+use Rattle.std.specs.Prelude.{IsTrue, ◌==◌}
 use Rattle.std.specs.List.{list_all, list_any}
 use Rattle.std.proofs.lemmas.Bool.{and_parts}
 use Rattle.rtk_bits.specs.Bits.{bits}
@@ -19,7 +19,6 @@ use Rattle.rtk_message.specs.Decoded.{Decodes}
 use Rattle.rtk_obs.specs.declared.any_code.AnyCode.{AnyCode}
 use Rattle.rtk_collect.specs.Signals.{IsGpsMessage}
 use Rattle.rtk_rinex.specs.MixedHead.{letter}
-use Rattle.rtk_convert.specs.declared.frame_class.FrameClass.{FrameClass}
 use Rattle.rtk_convert.specs.FrameClass.{IsClassOfReading, IsEpochOf, IsMomentOf, system_of}
 use Rattle.rtk_convert.specs.Setup.{SetupView, IsSetupView, channels_of, is_of_gps, taken_by}
 use Rattle.rtk_convert.specs.SetupLaws.{DefaultTakesFour, GpsMessagesStay, IsGpsEpoch}

@@ -1,6 +1,6 @@
 -- What a window of GPS answers, with its cells as signals of any system.
-use Rattle.std.proofs.Common.{◌≡◌, ◌≢◌, ◌∙◌, ◌↔◌, filter, ℕ, suc, ◌+◌, ◌-◌, ◌*◌, ◌<◌, ◌≤◌, ℤ, Bool, true, false, cond, nat_eq, List, [], ◌∷◌, ◌++◌, map, take, length, Option, None, Some, inl, inr, refl, ap, sym, subst, arith}
-use Rattle.std.specs.Prelude.{All, IsTrue, option_map, option_to_list, nat_lt, nat_le, ◌==◌, ◌&&◌, ◌||◌, if◌then◌else◌}
+use Rattle.std.proofs.Common.{◌≡◌, ◌≢◌, ◌∙◌, ◌↔◌, filter, ℕ, ◌+◌, ◌-◌, ◌*◌, ◌<◌, ℤ, Bool, true, false, cond, List, [], ◌∷◌, ◌++◌, map, take, Option, None, Some, inl, inr, refl, ap, sym, arith}
+use Rattle.std.specs.Prelude.{All, IsTrue, option_map, option_to_list, nat_lt, nat_le, ◌==◌, ◌||◌}
 use Rattle.std.specs.List.{list_all, list_any}
 use Rattle.std.proofs.lemmas.Bool.{cases_order, cases_lt, cases_Bool, and_parts, eqb-true}
 use Rattle.std.proofs.lemmas.Bool.Decides.{nat_tests}
@@ -34,7 +34,7 @@ use Rattle.rtk_collect.specs.declared.conflicts.SatelliteCode.{SatelliteCode}
 use Rattle.rtk_collect.specs.declared.outcome.Outcome.{Outcome}
 use Rattle.rtk_collect.specs.declared.outcome.Outcome.TheVariants.{Taken, Conflict, Repeat, Late}
 use Rattle.rtk_collect.specs.Accepted.{kept, cells_at, closed}
-use Rattle.rtk_collect.specs.Answer.{Class, LateClass, IsRightAnswer, class_by, class_of, class_of_cells, class_of_station, class_in_time, conflicts_of, conflicts_with}
+use Rattle.rtk_collect.specs.Answer.{Class, LateClass, IsRightAnswer, class_by, class_of, class_of_cells, class_in_time, conflicts_of, conflicts_with}
 use Rattle.rtk_collect.specs.Arrival.{Arrival, At, message_of}
 use Rattle.rtk_collect.specs.Collector.{CollectorView, RepresentsArrivals}
 use Rattle.rtk_collect.specs.EpochSet.{EpochSetView, with_cell, cell_under, one_more, fresh, conflict, conflicts}
@@ -48,9 +48,9 @@ use Rattle.rtk_collect.proofs.PublicLaws.{gps-keeps-its-order, gps-is-kept}
 use Rattle.rtk_rinex.specs.MixedHead.{letter}
 use Rattle.rtk_convert.specs.Conversion.{AllTaken}
 use Rattle.rtk_convert.specs.Epochs.{set_of, window_of, outcome_of}
-use Rattle.rtk_convert.specs.Setup.{SetupView, is_of_gps, kinds_taken, lists_system, taken_by, takes, cells_by, channels_of}
+use Rattle.rtk_convert.specs.Setup.{SetupView, is_of_gps, kinds_taken, taken_by, takes, channels_of}
 use Rattle.rtk_convert.specs.Steps.AddedMessage.{IsTakenBy}
-use Rattle.rtk_convert.specs.Steps.OfferedMessage.{AnswersMessage, index_or_first, name_of_gps}
+use Rattle.rtk_convert.specs.Steps.OfferedMessage.{AnswersMessage, name_of_gps}
 use Rattle.rtk_convert.proofs.EntriesLemmas.{filter-map}
 
 -- ---- a setup with codes of GPS alone takes messages of GPS alone, and stations

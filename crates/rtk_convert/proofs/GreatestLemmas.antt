@@ -1,6 +1,6 @@
 -- The satellites of the messages that a setup takes are of its listed systems.
-use Rattle.std.proofs.Common.{◌≡◌, ◌∙◌, ◌+◌, ◌*◌, ◌≤◌, ℕ, suc, Bool, true, false, cond, nat_le, List, [], ◌∷◌, ◌++◌, length, map, Option, None, Some, ℤ, refl, sym, ap, subst, arith, inl, inr}
-use Rattle.std.specs.Prelude.{All, IfSome, IsTrue, ◌==◌, if◌then◌else◌}
+use Rattle.std.proofs.Common.{◌≡◌, ◌∙◌, ◌+◌, ◌*◌, ◌≤◌, ℕ, suc, Bool, true, false, cond, nat_le, List, [], ◌∷◌, length, map, Option, None, Some, ℤ, refl, sym, subst, arith, inl, inr}
+use Rattle.std.specs.Prelude.{All, IfSome, if◌then◌else◌}
 use Rattle.std.proofs.lemmas.Bool.{and_parts, cases_Bool}
 use Rattle.std.proofs.lemmas.Bool.Decides.{nat_tests}
 use Rattle.std.proofs.lemmas.List.Elements.{All-nil, All-cons, All-append, All-map, All-take, All-weaker}
@@ -10,7 +10,6 @@ use Rattle.rtk_message.specs.declared.message.Message.TheVariants.{Obs1004, Arp1
 use Rattle.rtk_message.specs.declared.msm.Msm.{Msm}
 use Rattle.rtk_message.specs.declared.msm_kind.MsmKind.{MsmKind}
 use Rattle.rtk_message.specs.declared.msm_kind.MsmKind.TheVariants.{Msm4, Msm5, Msm6, Msm7}
-use Rattle.rtk_message.specs.declared.msm_type.MsmType.{MsmType}
 use Rattle.rtk_message.specs.declared.system.System.{System}
 use Rattle.rtk_message.specs.declared.system.System.TheVariants.{Gps, Glonass, Galileo, Beidou, Qzss, Sbas, Navic}
 use Rattle.rtk_message.specs.Accepted as accepted
@@ -25,7 +24,7 @@ use Rattle.rtk_obs.specs.Mask.{join_from}
 use Rattle.rtk_obs.specs.MessageCells.{cells_of}
 use Rattle.rtk_obs.specs.MsmCells.{Slot, slots_of}
 use Rattle.rtk_obs.specs.SatelliteIndex.{index_in, is_taken, satellites_before, satellites_of_system}
-use Rattle.rtk_obs.specs.SignalCells.{bit_of_row, channel_in, field_of_row, entry_if, signal_entry, signal_entries, signal_of, entries_of}
+use Rattle.rtk_obs.specs.SignalCells.{bit_of_row, channel_in, field_of_row, entry_if, signal_entry, signal_entries, signal_of}
 use Rattle.rtk_obs.specs.Signals.{code_in}
 use Rattle.rtk_obs.proofs.PublicLaws.{cells_of-satellites}
 use Rattle.rtk_collect.specs.Accepted.{kept}
@@ -35,7 +34,7 @@ use Rattle.rtk_collect.specs.EpochSet.{EpochSetView}
 use Rattle.rtk_collect.specs.Signals.{signals, AreUpTo}
 use Rattle.rtk_collect.proofs.PublicLaws.{epochs-are-of-satellites}
 use Rattle.rtk_convert.specs.Conversion.{AllTaken, HoldsArrivals}
-use Rattle.rtk_convert.specs.Setup.{SetupView, takes, taken_by, kind_of, kinds_taken, lists_system, last_or, greatest_satellite, cells_by, channels_of}
+use Rattle.rtk_convert.specs.Setup.{SetupView, takes, taken_by, kind_of, lists_system, last_or, greatest_satellite, cells_by, channels_of}
 use Rattle.rtk_convert.specs.Steps.AddedMessage.{IsTakenBy}
 use Rattle.rtk_convert.proofs.GpsOfferLemmas.{accepts-taken}
 

@@ -1,5 +1,5 @@
 -- A header of any systems and the records of rising epochs after it are the text of a well-formed table.
-use Rattle.std.proofs.Common.{◌≡◌, ◌≢◌, ℕ, ◌<◌, List, [], ◌∷◌, ◌++◌, length, map, filter, get_or, Bool, true, false, ◌&&◌, cond, ℤ, Option, Some, None, arith, refl, sym, subst, ◌∙◌, ap}
+use Rattle.std.proofs.Common.{◌≡◌, ◌≢◌, ℕ, ◌<◌, List, [], ◌∷◌, ◌++◌, length, map, filter, get_or, Bool, true, false, ◌&&◌, cond, ℤ, Option, Some, None, arith, refl, sym, ◌∙◌, ap}
 use Rattle.std.specs.Prelude.{All, AllPairs, IsTrue, nat_lt, if◌then◌else◌}
 use Rattle.std.specs.List.{flat_map, list_any}
 use Rattle.std.proofs.lemmas.List.{length-map, get_or-map, nil_from_length}
@@ -8,19 +8,18 @@ use Rattle.std.proofs.lemmas.List.Kept.{AllPairs-filter}
 use Rattle.std.proofs.lemmas.Bool.Decides.{nat_tests}
 use Rattle.rtk_message.specs.declared.system.System.{System}
 use Rattle.rtk_message.specs.declared.system.System.TheVariants.{Gps, Glonass, Galileo, Beidou, Qzss, Sbas, Navic}
-use Rattle.rtk_obs.specs.declared.any_code.AnyCode.{AnyCode}
 use Rattle.rtk_obs.specs.declared.time.Civil.{Civil}
 use Rattle.rtk_obs.specs.SatelliteIndex.{IsSatelliteIndex, index_name, letter_of, system_at}
 use Rattle.rtk_rinex.specs.declared.epoch_table.Observed.{Observed}
 use Rattle.rtk_rinex.specs.declared.epoch_table.SatelliteRow.{SatelliteRow}
 use Rattle.rtk_rinex.specs.Header.{PositionView, IsPositionView}
-use Rattle.rtk_rinex.specs.MixedForm.{FormView, codes_in, form_of_head, has_phases, width_at}
+use Rattle.rtk_rinex.specs.MixedForm.{codes_in, form_of_head, has_phases}
 use Rattle.rtk_rinex.specs.MixedHead.{IsMixedHead, MixedHeadView}
 use Rattle.rtk_rinex.specs.MixedHeader.{codes_of, mixed_header_text}
 use Rattle.rtk_rinex.specs.MixedRecord.{mixed_lines_of, mixed_record_text, mixed_satellite_line}
 use Rattle.rtk_rinex.specs.MixedTable.{HasNoPhase, IsMixedEpoch, IsMixedRow, IsMixedTable, MixedTable, mixed_table_text}
 use Rattle.rtk_rinex.specs.Reading.{IsMoment, reading_of}
-use Rattle.rtk_rinex.specs.Record.{EpochTableView, IsStrengthOrNone, epoch_line, has_line, has_observation, is_present, is_written, lli_digit, observation, observations, trim_end}
+use Rattle.rtk_rinex.specs.Record.{EpochTableView, IsStrengthOrNone, has_line, has_observation, is_present, is_written, lli_digit, observation, observations, trim_end}
 use Rattle.rtk_rinex.specs.Table.{IsAbsentOrWritten, IsLock, IsObserved, StartsAt, shown, shown_epoch, shown_row, shown_value}
 
 -- ---- what is shown has the same text

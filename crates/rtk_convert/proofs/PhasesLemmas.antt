@@ -1,6 +1,6 @@
 -- A cell of a satellite of GLONASS has no phase unless the head tells the channel of its slot.
-use Rattle.std.proofs.Common.{◌≡◌, ◌≢◌, ◌∙◌, ◌+◌, ◌-◌, ◌≤◌, ◌<◌, ℕ, suc, Bool, true, false, List, [], ◌∷◌, ◌++◌, map, Option, None, Some, ℤ, inl, inr, refl, sym, ap, subst, arith}
-use Rattle.std.specs.Prelude.{All, nat_le, is_some, ◌==◌, ◌&&◌, if◌then◌else◌}
+use Rattle.std.proofs.Common.{◌≡◌, ◌≢◌, ◌∙◌, ◌+◌, ◌-◌, ◌≤◌, ℕ, suc, Bool, true, false, List, [], ◌∷◌, Option, None, Some, ℤ, inl, inr, refl, ap, subst, arith}
+use Rattle.std.specs.Prelude.{All, nat_le, is_some, ◌==◌}
 use Rattle.std.proofs.lemmas.Bool.{cases_Bool, and_parts}
 use Rattle.std.proofs.lemmas.Bool.Decides.{nat_tests}
 use Rattle.std.proofs.lemmas.List.Elements.{All-nil, All-cons, All-append, All-map, All-weaker}

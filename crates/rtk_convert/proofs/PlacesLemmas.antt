@@ -1,5 +1,5 @@
 -- The places of satellites and codes in a flat table.
-use Rattle.std.proofs.Common.{◌≡◌, ◌≢◌, ◌∙◌, ℕ, ◌+◌, ◌-◌, ◌*◌, ◌<◌, arith, true, false, nat_eq, ◌&&◌, inl, inr, sym, ap, refl}
+use Rattle.std.proofs.Common.{◌≡◌, ◌≢◌, ◌∙◌, ℕ, ◌+◌, ◌-◌, ◌*◌, arith, true, false, nat_eq, ◌&&◌, inl, inr, sym, ap}
 use Rattle.std.proofs.lemmas.Bool.{cases_order, and_parts, eqb-true, false_from_ne_true}
 use Rattle.std.proofs.lemmas.Bool.Decides.{nat_tests}
 use Rattle.rtk_message.specs.declared.system.System.{System}

@@ -11,7 +11,7 @@ use Rattle.rtk_obs.specs.declared.signal_cells.SignalEntry.{SignalEntry}
 use Rattle.rtk_obs.specs.declared.track.Track.{Track}
 use Rattle.rtk_obs.specs.AnyCode.{IsSignal, place_of}
 use Rattle.rtk_obs.specs.Rollover.{digits_since}
-use Rattle.rtk_obs.specs.SatelliteIndex.{IsSatelliteIndex, system_at}
+use Rattle.rtk_obs.specs.SatelliteIndex.{IsSatelliteIndex}
 use Rattle.rtk_obs.specs.SignalCells.{IsSignalInRange, EntriesAreOfOneKind}
 use Rattle.rtk_obs.specs.Slip.{epoch_cell}
 use Rattle.rtk_obs.specs.Tracks.{IsLater}
@@ -21,13 +21,11 @@ use Rattle.rtk_rinex.specs.declared.epoch_table.Observed.{Observed}
 use Rattle.rtk_rinex.specs.declared.epoch_table.SatelliteRow.{SatelliteRow}
 use Rattle.rtk_convert.specs.LastPhases.{track_at}
 use Rattle.rtk_convert.specs.Rows.{band_of, codes_for, first_cell, observed_with, observed_after, or_nothing, row_if_any, rows_to}
-use Rattle.rtk_convert.specs.Steps.RowLines.{Keeps}
 use Rattle.rtk_convert.specs.Steps.ShownCells.{AreRowCodes, IsSetOfCodes, MayStep, IsPlaceOf, IsLeastAt, HasFreeOf, IsFreeOf, ShowsRow, ShowsSome, StepsOver, TakesCells, track_after, shown_by, is_at}
 use Rattle.rtk_convert.proofs.CellOrderLemmas.{any_cell, some-signal, or_later, first-append, some-before, none-both, range-empty, range-more, range-new, range-satellite, range-other, first-range, first-absent, place-first, place-later, place-between, other-code}
 use Rattle.rtk_convert.proofs.PlacesLemmas.{by_eq, same_code_of}
 use Rattle.rtk_convert.proofs.ThroughLemmas.{cell-other, cells-same, taken-same, taken-more, may-same, may-more, shown-more}
-use Rattle.rtk_convert.proofs.RowsLemmas.{LeavesOut, observed-same, row-with, free-of, rows-skip, rows-step}
-use Rattle.rtk_convert.proofs.SystemLemmas.{codes-are-signals}
+use Rattle.rtk_convert.proofs.RowsLemmas.{observed-same, row-with, free-of, rows-skip, rows-step}
 
 -- ---- the cells of a satellite, one by one
 

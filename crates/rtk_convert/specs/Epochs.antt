@@ -1,5 +1,5 @@
 -- The epochs of a conversion: the open ones, and what is known of the closed ones.
-use Rattle.std.specs.Prelude.{List, map, Option, option_map}
+use Rattle.std.specs.Prelude.{map, option_map}
 use Rattle.rtk_obs.specs.declared.signal_cells.SignalEntry.{SignalEntry}
 use Rattle.rtk_collect.specs.declared.conflicts.AnySatelliteCode.{AnySatelliteCode}
 use Rattle.rtk_collect.specs.declared.outcome.Outcome.{Outcome}

@@ -1,5 +1,5 @@
 -- The steps of the epochs of a conversion, whatever cells they have.
-use Rattle.std.specs.Prelude.{◌≡◌, ◌≤◌, ℕ, [], length, Option, Result, OnOk, IfOk, IfErr, OnErr, IsTrue}
+use Rattle.std.specs.Prelude.{◌≡◌, ◌≤◌, [], length, Result, OnOk, IsTrue}
 use Rattle.rtk_convert.specs.declared.epochs.AnyEpochs.{AnyEpochs}
 use Rattle.rtk_convert.specs.declared.epochs.AnyEpochs.TheVariants.{Gps, Any}
 use Rattle.rtk_convert.specs.declared.fault.ConvertFault.{ConvertFault}

@@ -1,6 +1,4 @@
-use Rattle.std.proofs.Common.{◌≡◌, ◌≢◌, ◌<◌, ℕ, length, get_or, refl, sym, subst, arith}
-use Rattle.rtk_obs.specs.declared.any_code.AnyCode.{AnyCode}
-use Rattle.rtk_obs.specs.AnyCode.{system_of}
+use Rattle.std.proofs.Common.{length, arith}
 use Rattle.rtk_convert.proofs.CodesLemmas.{codes-between}
 use Rattle.rtk_convert.proofs.epoch_rows.codes_of.Goals as goal
 

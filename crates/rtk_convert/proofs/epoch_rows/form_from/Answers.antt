@@ -1,7 +1,6 @@
-use Rattle.std.proofs.Common.{◌≡◌, ◌∙◌, ap, sym, subst}
+use Rattle.std.proofs.Common.{◌≡◌, ◌∙◌, ◌≤◌, ℕ, ap, sym, subst}
 use Rattle.rtk_message.specs.declared.system.System.{System}
-use Rattle.rtk_obs.specs.SatelliteIndex.{IsSatelliteIndex, letter_of, system_at}
-use Rattle.rtk_rinex.specs.MixedHeader.{codes_of}
+use Rattle.rtk_obs.specs.SatelliteIndex.{system_at}
 use Rattle.rtk_convert.proofs.CodesLemmas.{codes-apart, codes-to, few-are}
 use Rattle.rtk_convert.proofs.SystemLemmas.{last_of, not-after-last, same-to-last}
 use Rattle.rtk_convert.proofs.epoch_rows.form_from.Goals as goal

@@ -1,4 +1,4 @@
-use Rattle.std.proofs.Common.{◌≡◌, ℕ, List, get_or, sym, subst, arith}
+use Rattle.std.proofs.Common.{ℕ, List, sym, subst, arith}
 use Rattle.rtk_rinex.specs.declared.epoch_table.Observed.{Observed}
 use Rattle.rtk_convert.specs.Steps.ShownCells.{IsPlaceAmong}
 use Rattle.rtk_convert.proofs.ListedLemmas.{with_place-none, with_place-one}

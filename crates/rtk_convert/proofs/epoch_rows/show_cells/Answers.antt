@@ -1,4 +1,4 @@
-use Rattle.std.proofs.Common.{◌≡◌, ◌+◌, ◌^◌, ◌++◌, ℕ, bit_and, bit_or, get_or, map, slice_range, refl, sym, subst}
+use Rattle.std.proofs.Common.{◌≡◌, ◌+◌, ◌^◌, ◌++◌, ℕ, bit_and, bit_or, map, slice_range, refl, sym, subst}
 use Rattle.rtk_obs.specs.AnyCode.{place_of}
 use Rattle.rtk_obs.specs.declared.signal_cells.SignalEntry.{SignalEntry}
 use Rattle.rtk_convert.specs.Steps.ShownCells.{IsSetOfCodes}

@@ -1,6 +1,5 @@
-use Rattle.std.proofs.Common.{rules, ℕ, true, List, Option, refl, sym, ap, subst, ◌∙◌}
+use Rattle.std.proofs.Common.{rules, ℕ, true, List, refl, sym, ap, subst, ◌∙◌}
 use Rattle.rtk_obs.specs.declared.any_code.AnyCode.{AnyCode}
-use Rattle.rtk_obs.specs.declared.track.Track.{Track}
 use Rattle.rtk_obs.specs.declared.signal_cells.SignalEntry.{SignalEntry}
 use Rattle.rtk_collect.specs.EpochSet.{EpochSetView}
 use Rattle.rtk_rinex.specs.MixedHead.{MixedHeadView}

@@ -3,7 +3,7 @@ use Rattle.std.specs.Prelude.{is_some, ◌||◌}
 use Rattle.std.proofs.lemmas.Result.{err_from_is_err_and}
 use Rattle.rtk_message.specs.AnyDecoded.{number_of}
 use Rattle.rtk_message.specs.declared.system.System.{System}
-use Rattle.rtk_collect.specs.Arrival.{epoch_of, message_of}
+use Rattle.rtk_collect.specs.Arrival.{message_of}
 use Rattle.rtk_convert.specs.Systems.{has_system}
 use Rattle.rtk_convert.specs.Steps.OfferLines.{class_named}
 use Rattle.rtk_convert.specs.Steps.ReadMessage.{brings_by}

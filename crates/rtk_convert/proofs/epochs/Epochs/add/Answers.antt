@@ -1,4 +1,4 @@
-use Rattle.std.proofs.Common.{◌≡◌, ◌∙◌, ◌≤◌, ℕ, List, Option, map, length, refl, sym, ap, subst, arith}
+use Rattle.std.proofs.Common.{◌≡◌, ◌∙◌, ℕ, List, Option, map, refl, sym, ap, subst, arith}
 use Rattle.std.proofs.lemmas.List.{length-map}
 use Rattle.std.proofs.lemmas.Result.{err_from_is_err_and}
 use Rattle.rtk_obs.specs.SignalCells.{signal_of}
@@ -9,7 +9,7 @@ use Rattle.rtk_collect.specs.Arrival.{epoch_of, message_of}
 use Rattle.rtk_convert.specs.Conversion.{IsAhead}
 use Rattle.rtk_convert.specs.Epochs.{outcome_of, set_of, window_of}
 use Rattle.rtk_convert.specs.Report.{class_lines}
-use Rattle.rtk_convert.specs.Steps.OfferLines.{class_named, class_of_offer, offer_lines}
+use Rattle.rtk_convert.specs.Steps.OfferLines.{class_named, offer_lines}
 use Rattle.rtk_convert.specs.Steps.OfferedMessage.{AnswersMessage, name_of_gps}
 use Rattle.rtk_convert.proofs.AheadLemmas.{closes-above}
 use Rattle.rtk_convert.proofs.EpochsLemmas.{adds-message, adds-in-part, adds-none, ahead-written, hands-on, hands-back}

@@ -1,4 +1,4 @@
-use Rattle.std.proofs.Common.{◌≡◌, ◌∙◌, Bool, List, refl, sym, ap, subst}
+use Rattle.std.proofs.Common.{◌∙◌, Bool, List, sym, ap, subst}
 use Rattle.std.proofs.lemmas.Result.{err_from_is_err_and}
 use Rattle.std.specs.Prelude.{map}
 use Rattle.rtk_obs.specs.declared.signal_cells.SignalEntry.{SignalEntry}
