@@ -7,6 +7,7 @@ mod PlacesLemmas
 mod CellOrderLemmas
 mod LeftCellsLemmas
 mod ThroughLemmas
+mod PhaseBlockLemmas
 mod RowsLemmas
 mod SatelliteLemmas
 mod ListedLemmas

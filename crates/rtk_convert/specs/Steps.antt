@@ -7,6 +7,7 @@ pub mod ClosedText
 pub mod OfferLines
 pub mod OfferedMessage
 pub mod LastLines
+pub mod PhaseBlocks
 pub mod AddedMessage
 pub mod WrittenAnswer
 pub mod EpochsSteps

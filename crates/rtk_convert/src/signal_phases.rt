@@ -1,16 +1,19 @@
 //! The last phase of each satellite and code of all systems.
 
-ghost use Rattle.std.specs.Prelude.{◌≡◌, ◌≢◌, ℕ, ◌≤◌, None, IfOk, unsigned_abs};
+ghost use Rattle.std.specs.Prelude.{◌≡◌, ◌≢◌, ℕ, ◌<◌, ◌≤◌, List, [], ◌∷◌, ◌++◌, Option, None, IfOk, OnOk, unsigned_abs};
 ghost use Rattle.rtk_obs.specs.declared.any_code.AnyCode.{AnyCode};
+ghost use Rattle.rtk_obs.specs.declared.track.Track.{Track};
 ghost use Rattle.rtk_obs.specs.AnyCode.{signal_place};
+ghost use Rattle.rtk_obs.specs.Code.{place_of};
 ghost use Rattle.rtk_obs.specs.SignalCells.{IsSignalInRange};
 ghost use Rattle.rtk_obs.specs.Rollover.{digits_since, last_after};
 ghost use Rattle.rtk_obs.specs.Slip.{epoch_cell};
 ghost use Rattle.rtk_obs.specs.Tracks.{IsLater};
 ghost use Rattle.rtk_convert.specs.LastPhases.{track_at};
 ghost use Rattle.rtk_convert.specs.Rows.{band_of};
+ghost use Rattle.rtk_convert.specs.Steps.PhaseBlocks.{HasNoPhases};
 
-use rtk_obs::{ALL_CODES, Digits, GpsMs, SignalEntry, Tracks};
+use rtk_obs::{ALL_CODES, Code, Digits, GpsMs, SignalEntry, Tracks};
 use std::alloc::{AllocError, Global};
 use std::marker::Model;
 
@@ -29,21 +32,32 @@ pub(crate) struct SignalPhases {
 }
 
 impl Model for SignalPhases {
-    ghost use Rattle.std.specs.Prelude.{◌≡◌, List, Option, flat_map, length};
+    ghost use Rattle.std.specs.Prelude.{◌≡◌, List, Option, length};
     ghost use Rattle.rtk_obs.specs.declared.track.Track.{Track};
+    ghost use Rattle.rtk_convert.specs.Steps.PhaseBlocks.{phases_of};
 
     ghost Value = { List (Option Track) };
 
-    ghost view = { λ p. flat_map (λ block. block) p.blocks.items };
+    ghost view = { λ p. phases_of p.blocks.items };
 
     ghost invariant = { λ p. length p.blocks.items ≡ 7 };
 }
 
 // Adds a block without a phase. This function is alone in needing the stack for it.
 #[inline(never)]
-fn add_block(blocks: &mut Vec<Tracks>) -> Result<(), AllocError> {
+fn add_block(blocks: &mut Vec<Tracks>) -> Result<(), AllocError>
+    ensures { OnOk result ((block : List (Option Track)) × HasNoPhases block × (blocks.new.items ≡ blocks.old.items ++ block ∷ [])) }
+{
     blocks.push(Tracks::new())?;
     Ok(())
+}
+
+// Returns the code of GPS with this place.
+fn code_at(place: usize) -> Code
+    requires { place < 16 }
+    ensures { place_of result ≡ place }
+{
+    ALL_CODES[place]
 }
 
 impl SignalPhases {
@@ -52,7 +66,7 @@ impl SignalPhases {
         ensures { IfOk result (λ p. (satellite : ℕ) (code : AnyCode) → track_at p satellite code ≡ None) }
     {
         let mut blocks = Vec::with_capacity(alloc, BLOCKS)?;
-        for _ in 0..BLOCKS {
+        'blocks: while blocks.len() < BLOCKS {
             add_block(&mut blocks)?;
         }
         Ok(SignalPhases { blocks })
@@ -71,7 +85,7 @@ impl SignalPhases {
     {
         let place = entry.satellite.index() - 1;
         let satellite = place % BLOCK + 1;
-        let code = ALL_CODES[entry.code.place()];
+        let code = code_at(entry.code.place());
         self.blocks[usize::from(place / BLOCK)].step(satellite, code, epoch, &entry.cell)
     }
 }
