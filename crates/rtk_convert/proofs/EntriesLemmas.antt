@@ -1,5 +1,5 @@
 -- Cells of one form as cells of any system.
-use Rattle.std.proofs.Common.{◌≡◌, ◌∙◌, ℕ, ◌<◌, Bool, true, false, cond, List, [], ◌∷◌, ◌++◌, map, filter, length, get_or, refl, ap, sym, arith}
+use Rattle.std.proofs.Common.{◌≡◌, ◌∙◌, ℕ, zero, suc, ◌-◌, ◌<◌, Bool, true, false, cond, List, [], ◌∷◌, ◌++◌, map, filter, length, take, drop, get_or, slice_range, refl, ap, sym, arith}
 use Rattle.std.specs.Prelude.{All}
 use Rattle.std.proofs.lemmas.List.{get_or-map, length-map}
 use Rattle.std.proofs.lemmas.List.Elements.{All-map}
@@ -24,6 +24,20 @@ pub filter-map : {A B : Type 0} (f : A → B) (p : A → Bool) (q : B → Bool) 
 filter-map f p q same [] = refl
 filter-map f p q same (x ∷ xs) =
     ap (λ (b : Bool). cond b (f x ∷ filter q (map f xs)) (filter q (map f xs))) (same x) ∙ map-if f (p x) x (filter p xs) (filter q (map f xs)) (filter-map f p q same xs)
+
+map-take : {A B : Type 0} (f : A → B) (n : ℕ) (xs : List A) → map f (take n xs) ≡ take n (map f xs)
+map-take f zero xs = refl
+map-take f (suc n) [] = refl
+map-take f (suc n) (x ∷ xs) = ap (λ (ts : List _). f x ∷ ts) (map-take f n xs)
+
+map-drop : {A B : Type 0} (f : A → B) (n : ℕ) (xs : List A) → map f (drop n xs) ≡ drop n (map f xs)
+map-drop f zero xs = refl
+map-drop f (suc n) [] = refl
+map-drop f (suc n) (x ∷ xs) = map-drop f n xs
+
+-- a part of a list
+pub map-slice : {A B : Type 0} (f : A → B) (xs : List A) (a b : ℕ) → map f (slice_range xs a b) ≡ slice_range (map f xs) a b
+map-slice f xs a b = map-take f (b - a) (drop a xs) ∙ ap (take (b - a)) (map-drop f a xs)
 
 module _ {E : Type 0} (f : E → SignalEntry) where
   -- a cell that stands at a place stands there as one of any system

@@ -51,6 +51,7 @@ mod BoundsLemmas
 mod CallsLemmas
 mod HistoryLemmas
 mod CountLemmas
+mod JoinLemmas
 mod ReportLemmas
 mod SameWindowLemmas
 mod SameFoundLemmas

@@ -24,7 +24,7 @@ ghost use Rattle.rtk_convert.specs.Epochs.{set_of};
 ghost use Rattle.rtk_convert.specs.LastPhases.{HasLastPhases, track_at};
 ghost use Rattle.rtk_convert.specs.Rows.{rolled_or_none, observed_with, or_nothing, table_of};
 ghost use Rattle.rtk_convert.specs.Steps.RowLines.{Keeps};
-ghost use Rattle.rtk_convert.specs.Steps.ShownCells.{AllBelow, MayStep, IsPlaceOf, IsLeastAt, HasCellsFrom, TellsSatellite, IsSetOfCodes, AreCellsTo, AreCodesBefore, AreCodesTo, AreRowCodes, ShowsRow, ShowsSome, StepsOver, TakesCells, ArePlaces, HasFreeOf, IsFreeOf, with_place};
+ghost use Rattle.rtk_convert.specs.Steps.ShownCells.{AllBelow, MayStep, IsPlaceOf, IsLeastAt, HasCellsFrom, TellsSatellite, IsSetOfCodes, AreCellsTo, AreCodesBefore, AreCodesFrom, AreCodesTo, AreRowCodes, ShowsRow, ShowsSome, StepsOver, TakesCells, ArePlaces, HasFreeOf, IsFreeOf, with_place};
 
 use crate::file_entry::FileEntry;
 use crate::row_lines::RowLines;
@@ -116,18 +116,28 @@ fn codes_before(listed: &[AnyCode], system: System) -> usize
     listed.len()
 }
 
+// Returns where the codes of a system end that begin at a place.
+fn codes_end(listed: &[AnyCode], system: System, begin: usize) -> usize
+    requires { begin ≤ length listed.now }
+    ensures { AreCodesFrom listed.now system begin result }
+{
+    for end in begin..listed.len() {
+        if listed[end].system() == system {
+            continue;
+        }
+        return end;
+    }
+    listed.len()
+}
+
 // Returns the codes of a system, which stand one after another.
 fn codes_of(listed: &[AnyCode], system: System) -> &[AnyCode]
     requires { IsMixedList listed.now }
     ensures { result.now ≡ codes_of (letter_of system) listed.now }
 {
     let begin = codes_before(listed, system);
-    for end in begin..listed.len() {
-        if listed[end].system() != system {
-            return &listed[begin..end];
-        }
-    }
-    &listed[begin..]
+    let end = codes_end(listed, system, begin);
+    &listed[begin..end]
 }
 
 // Returns what the rows from this satellite on have in common, up to the last one of its system.

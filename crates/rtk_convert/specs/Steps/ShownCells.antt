@@ -117,6 +117,13 @@ pub record AreCodesBefore (listed : List AnyCode) (system : System) (place : ℕ
   pub others : (k : ℕ) (d : AnyCode) → k < place → system_of (slice_index_or listed k d) ≢ system
   pub next : (d : AnyCode) → place < length listed → system_of (slice_index_or listed place d) ≡ system
 
+-- the codes between these places are of a system, and the one after them is not
+pub record AreCodesFrom (listed : List AnyCode) (system : System) (begin end : ℕ) : Type 0 where
+  pub from : begin ≤ end
+  pub within : end ≤ length listed
+  pub own : (k : ℕ) (d : AnyCode) → begin ≤ k → k < end → system_of (slice_index_or listed k d) ≡ system
+  pub last : (d : AnyCode) → end < length listed → system_of (slice_index_or listed end d) ≢ system
+
 -- a row in which the code with this place shows this
 abbrev pub with_place : ℕ → Observed → List AnyCode → List Observed → List Observed
 with_place place shown [] row = row

@@ -13,12 +13,12 @@ columns_of-requires-clause-distinct c = codes-apart c.args.listed.now c.args.sat
 
 pub returns-clause-codes : goal.returns-clause-codes
 returns-clause-codes c =
-    let is : c.system-system.result ≡ system_at c.args.satellite = c.system-system.ensures ∙ ap system_at c.new-index.ensures.some in
+    let is : c.system-system.result ≡ system_at c.args.satellite = c.system-system.ensures ∙ ap system_at c.in-Some.ensures.1 in
     codes-to c.args.listed.now c.args.satellite c.system-system.result c.codes_of-codes.result.now c.requires.listed c.codes_of-codes.ensures c.last_satellite.result
     (λ n from to. same-to-last c.args.satellite n c.requires.satellite from (subst (λ (s : System). n ≤ last_of s) is (subst (λ (k : ℕ). n ≤ k) c.last_satellite.ensures to)) ∙ sym is)
 
 pub returns-clause-last : goal.returns-clause-last
 returns-clause-last c =
-    let is : c.system-system.result ≡ system_at c.args.satellite = c.system-system.ensures ∙ ap system_at c.new-index.ensures.some in
+    let is : c.system-system.result ≡ system_at c.args.satellite = c.system-system.ensures ∙ ap system_at c.in-Some.ensures.1 in
     let l = not-after-last c.args.satellite c.requires.satellite in
     rw (c.last_satellite.ensures, is) l

@@ -33,7 +33,7 @@ satellites-init g c =
         one = omega arith;
         last = omega arith;
         fills = fills-begin old c.epoch-epoch.result ms ls (all-map f _ IsSignalInRange laws.range _ c.msm_cells-msm.ensures.range) (all-map f _ IsSignalInRange laws.range _ c.legacy_left-legacy.ensures.range);
-        holds = subst (λ (rows : List SatelliteRow). g.E.FileEntry.Lines.RowLines.HasRows c.restart.new.self rows) (sym (rows_to-zero (shown_by old c.epoch-epoch.result (ms ++ ls)) c.args.listed.now)) c.restart.ensures;
+        holds = subst (λ (rows : List SatelliteRow). g.E.Lines.RowLines.HasRows c.restart.new.self rows) (sym (rows_to-zero (shown_by old c.epoch-epoch.result (ms ++ ls)) c.args.listed.now)) c.restart.ensures;
         few = c.form_from-form.ensures.codes.few;
         codes_are = c.form_from-form.ensures.codes.codes_are;
       };
@@ -97,8 +97,8 @@ open_line-requires-clause-room g c =
     let hn : IsSatelliteIndex n = next-satellite ranges-m ranges-l least in
     let from = next-from i.fills.msm i.fills.legacy least in
     let at = fills-next old epoch ms c.satellites.at.msm ls c.satellites.at.legacy i.from n (g.E.FileEntry.places c.satellites.phases) i.fills rise-m rise-l least in
-    let few = next-has (λ (s : ℕ). s ≤ g.E.FileEntry.Lines.RowLines.greatest) (all-map f _ (λ (e : SignalEntry). e.satellite ≤ g.E.FileEntry.Lines.RowLines.greatest) laws.lines _ c.msm_cells-msm.ensures.range)
-    (all-map f _ (λ (e : SignalEntry). e.satellite ≤ g.E.FileEntry.Lines.RowLines.greatest) laws.lines _ c.legacy_left-legacy.ensures.range) least in
+    let few = next-has (λ (s : ℕ). s ≤ g.E.Lines.RowLines.greatest) (all-map f _ (λ (e : SignalEntry). e.satellite ≤ g.E.Lines.RowLines.greatest) laws.lines _ c.msm_cells-msm.ensures.range)
+    (all-map f _ (λ (e : SignalEntry). e.satellite ≤ g.E.Lines.RowLines.greatest) laws.lines _ c.legacy_left-legacy.ensures.range) least in
     room-held _ _ c.satellites.lines (shown_by old epoch (ms ++ ls)) c.args.listed.now (i.from - 1) i.holds (omega (arith, few, from, i.one))
 
 pub fill_line-at-requires-clause-satellite : goal.fill_line-at-requires-clause-satellite
@@ -201,7 +201,7 @@ fill_line-at-requires-clause-later g c =
 
 pub fill_line-at-requires-clause-open : goal.fill_line-at-requires-clause-open
 fill_line-at-requires-clause-open g c =
-    subst (λ (row : List Observed). g.E.FileEntry.Lines.RowLines.HasLine c.open_line.new.self row) (sym (row-blank c.form_at-form.result.codes.now)) c.in_ok-open_line.ensures.open
+    subst (λ (row : List Observed). g.E.Lines.RowLines.HasLine c.open_line.new.self row) (sym (row-blank c.form_at-form.result.codes.now)) c.in_ok-open_line.ensures.open
 
 pub close_line-requires-clause-satellite : goal.close_line-requires-clause-satellite
 close_line-requires-clause-satellite g c =
@@ -227,8 +227,8 @@ close_line-requires-clause-within g c =
     let old = g.E.FileEntry.places c.args.phases.now in
     let epoch = c.epoch-epoch.result in
     let i = c.satellites.invariant.shows in
-    next-has (λ (s : ℕ). s ≤ g.E.FileEntry.Lines.RowLines.greatest) (all-map f _ (λ (e : SignalEntry). e.satellite ≤ g.E.FileEntry.Lines.RowLines.greatest) laws.lines _ c.msm_cells-msm.ensures.range)
-    (all-map f _ (λ (e : SignalEntry). e.satellite ≤ g.E.FileEntry.Lines.RowLines.greatest) laws.lines _ c.legacy_left-legacy.ensures.range) c.in-Some.ensures.some
+    next-has (λ (s : ℕ). s ≤ g.E.Lines.RowLines.greatest) (all-map f _ (λ (e : SignalEntry). e.satellite ≤ g.E.Lines.RowLines.greatest) laws.lines _ c.msm_cells-msm.ensures.range)
+    (all-map f _ (λ (e : SignalEntry). e.satellite ≤ g.E.Lines.RowLines.greatest) laws.lines _ c.legacy_left-legacy.ensures.range) c.in-Some.ensures.some
 
 pub close_line-requires-clause-room : goal.close_line-requires-clause-room
 close_line-requires-clause-room g c =
@@ -248,8 +248,8 @@ close_line-requires-clause-room g c =
     let hn : IsSatelliteIndex n = next-satellite ranges-m ranges-l least in
     let from = next-from i.fills.msm i.fills.legacy least in
     let at = fills-next old epoch ms c.satellites.at.msm ls c.satellites.at.legacy i.from n (g.E.FileEntry.places c.satellites.phases) i.fills rise-m rise-l least in
-    let few = next-has (λ (s : ℕ). s ≤ g.E.FileEntry.Lines.RowLines.greatest) (all-map f _ (λ (e : SignalEntry). e.satellite ≤ g.E.FileEntry.Lines.RowLines.greatest) laws.lines _ c.msm_cells-msm.ensures.range)
-    (all-map f _ (λ (e : SignalEntry). e.satellite ≤ g.E.FileEntry.Lines.RowLines.greatest) laws.lines _ c.legacy_left-legacy.ensures.range) least in
+    let few = next-has (λ (s : ℕ). s ≤ g.E.Lines.RowLines.greatest) (all-map f _ (λ (e : SignalEntry). e.satellite ≤ g.E.Lines.RowLines.greatest) laws.lines _ c.msm_cells-msm.ensures.range)
+    (all-map f _ (λ (e : SignalEntry). e.satellite ≤ g.E.Lines.RowLines.greatest) laws.lines _ c.legacy_left-legacy.ensures.range) least in
     room-held _ _ c.fill_line-at.new.lines (shown_by old epoch (ms ++ ls)) c.args.listed.now (i.from - 1) (c.fill_line-at.ensures.lines _ (c.in_ok-open_line.ensures.rows _ i.holds)) (omega (arith, few, from, i.one))
 
 pub close_line-requires-clause-open : goal.close_line-requires-clause-open
@@ -285,12 +285,12 @@ satellites-preserved g c =
     let same : codes_for c.args.listed.now n ≡ codes = c.form_at-form.ensures.codes.codes_are n (omega arith) c.form_at-form.ensures.last.0 in
     let filled = c.fill_line-at in
     let formed : c.form_at-form.result.epoch ≡ epoch = c.form_at-form.ensures.epoch ∙ c.satellites.invariant.epoch in
-    let shows = subst (λ (e : ℕ). ShowsRow g.E.FileEntry.Lines.RowLines.HasLine (g.E.FileEntry.places c.satellites.phases) e
+    let shows = subst (λ (e : ℕ). ShowsRow g.E.Lines.RowLines.HasLine (g.E.FileEntry.places c.satellites.phases) e
     (slice_range ms c.satellites.at.msm filled.result.msm ++ slice_range ls c.satellites.at.legacy filled.result.legacy) n codes (g.E.FileEntry.places filled.new.phases) filled.new.lines) formed filled.ensures.shows in
     let h = shown_by old epoch (ms ++ ls) in
     let rows = rows_to h c.args.listed.now (n - 1) in
-    let before : g.E.FileEntry.Lines.RowLines.HasRows c.satellites.lines rows =
-    subst (λ (rs : List SatelliteRow). g.E.FileEntry.Lines.RowLines.HasRows c.satellites.lines rs)
+    let before : g.E.Lines.RowLines.HasRows c.satellites.lines rows =
+    subst (λ (rs : List SatelliteRow). g.E.Lines.RowLines.HasRows c.satellites.lines rs)
     (rows-between old epoch ms c.satellites.at.msm ls c.satellites.at.legacy i.from n (g.E.FileEntry.places c.satellites.phases) i.fills from at.msm at.legacy c.args.listed.now i.one (omega (arith, hn.1)))
     i.holds in
     let held = filled.ensures.lines rows (c.in_ok-open_line.ensures.rows rows before) in
@@ -304,7 +304,7 @@ satellites-preserved g c =
         last = omega (arith, hn.1);
         fills = fills-more old epoch ms c.satellites.at.msm ls c.satellites.at.legacy n (g.E.FileEntry.places c.satellites.phases) at _ filled.result.msm filled.result.legacy codes own
             (g.E.FileEntry.places filled.new.phases) filled.new.lines filled.ensures.msm.from filled.ensures.msm.next filled.ensures.legacy.from filled.ensures.legacy.next shows;
-        holds = subst (λ (all : List SatelliteRow). g.E.FileEntry.Lines.RowLines.HasRows c.close_line.new.self all)
+        holds = subst (λ (all : List SatelliteRow). g.E.Lines.RowLines.HasRows c.close_line.new.self all)
             (rows-next h c.args.listed.now n rows (row_if_any h codes n) hn.0 refl (ap (λ (cs : List AnyCode). row_if_any h cs n) (sym same)))
             (row-held _ c.close_line.new.self (c.blank_rows_are_left_out.ensures c.close_line.new.self) h codes n rows closed);
         few = c.form_at-form.ensures.codes.few;
@@ -335,7 +335,7 @@ returns-clause-lines g c =
     let turn : (s : ℕ) (k : AnyCode) → first_cell (ms ++ ls) s k ≡ cell_at e.cells s k =
     λ s k. ap (λ (xs : List _). first_cell (map f xs ++ ls) s k) c.msm_cells-msm.ensures.value
     ∙ turn-is f _ laws.values c.args.set.now.cells c.legacy_left-legacy.result.now (laws.left _ _ _ c.legacy_left-legacy.ensures.left) s k in
-    λ below has. subst (λ (rows : List SatelliteRow). g.E.FileEntry.Lines.RowLines.HasRows c.satellites.lines rows)
+    λ below has. subst (λ (rows : List SatelliteRow). g.E.Lines.RowLines.HasRows c.satellites.lines rows)
     (last
     ∙ rows_to-same (shown_by old epoch (ms ++ ls)) (observed_at e below) c.args.listed.now 221 (omega arith)
     (λ s k hs. ap (λ (o : Option Cell). observed_after (track_at old s k) k epoch o) (turn s k)
