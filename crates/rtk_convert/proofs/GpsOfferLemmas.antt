@@ -1,6 +1,6 @@
 -- What a window of GPS answers, with its cells as signals of any system.
-use Rattle.std.proofs.Common.{◌≡◌, ◌≢◌, ◌∙◌, ◌↔◌, filter, ℕ, ◌+◌, ◌-◌, ◌*◌, ◌<◌, ℤ, Bool, true, false, cond, List, [], ◌∷◌, ◌++◌, map, take, Option, None, Some, inl, inr, refl, ap, sym, arith}
-use Rattle.std.specs.Prelude.{All, IsTrue, option_map, option_to_list, nat_lt, nat_le, ◌==◌, ◌||◌}
+use Rattle.std.proofs.Common.{◌≡◌, ◌≢◌, ◌∙◌, ◌↔◌, filter, ℕ, ◌+◌, ◌-◌, ◌*◌, ◌<◌, ℤ, Bool, true, false, cond, List, [], ◌∷◌, ◌++◌, map, take, Option, None, Some, inl, inr, refl, ap, sym, arith, nat_eq}
+use Rattle.std.specs.Prelude.{All, IsTrue, option_map, option_to_list, nat_lt, nat_le, ◌==◌, ◌||◌, ◌&&◌, not}
 use Rattle.std.specs.List.{list_all, list_any}
 use Rattle.std.proofs.lemmas.Bool.{cases_order, cases_lt, cases_Bool, and_parts, eqb-true}
 use Rattle.std.proofs.lemmas.Bool.Decides.{nat_tests}
@@ -28,7 +28,7 @@ use Rattle.rtk_obs.specs.Code.{place_of}
 use Rattle.rtk_obs.specs.MessageCells.{cells_of}
 use Rattle.rtk_obs.specs.SatelliteIndex.{letter_of}
 use Rattle.rtk_obs.specs.SignalCells.{signal_of, entries_of}
-use Rattle.rtk_obs.proofs.PublicLaws.{entries-of-gps, number-of-gps, same_signal}
+use Rattle.rtk_obs.proofs.PublicLaws.{entries-of-gps, number-of-gps, place_bound, same_signal}
 use Rattle.rtk_collect.specs.declared.conflicts.AnySatelliteCode.{AnySatelliteCode}
 use Rattle.rtk_collect.specs.declared.conflicts.SatelliteCode.{SatelliteCode}
 use Rattle.rtk_collect.specs.declared.outcome.Outcome.{Outcome}
@@ -37,10 +37,10 @@ use Rattle.rtk_collect.specs.Accepted.{kept, cells_at, closed}
 use Rattle.rtk_collect.specs.Answer.{Class, LateClass, IsRightAnswer, class_by, class_of, class_of_cells, class_in_time, conflicts_of, conflicts_with}
 use Rattle.rtk_collect.specs.Arrival.{Arrival, At, message_of}
 use Rattle.rtk_collect.specs.Collector.{CollectorView, RepresentsArrivals}
-use Rattle.rtk_collect.specs.EpochSet.{EpochSetView, with_cell, cell_under, one_more, fresh, conflict, conflicts}
+use Rattle.rtk_collect.specs.EpochSet.{AreLeftBeside, EpochSetView, left_beside, with_cell, cell_under, one_more, fresh, conflict, conflicts}
 use Rattle.rtk_collect.specs.Equal.{equal_cells}
 use Rattle.rtk_collect.specs.Gps.{gps}
-use Rattle.rtk_collect.specs.Key.{key}
+use Rattle.rtk_collect.specs.Key.{Above, KeysRise, key}
 use Rattle.rtk_collect.specs.Late.{epochs, greater, late}
 use Rattle.rtk_collect.specs.Offered.{AnswersArrival}
 use Rattle.rtk_collect.specs.Signals.{signals, GpsIsKept, GpsKeepsItsOrder, IsGpsMessage, epoch_of_signals}
@@ -48,6 +48,7 @@ use Rattle.rtk_collect.proofs.PublicLaws.{gps-keeps-its-order, gps-is-kept}
 use Rattle.rtk_rinex.specs.MixedHead.{letter}
 use Rattle.rtk_convert.specs.Conversion.{AllTaken}
 use Rattle.rtk_convert.specs.Epochs.{set_of, window_of, outcome_of}
+use Rattle.rtk_convert.proofs.EntriesLemmas.{filter-map}
 use Rattle.rtk_convert.specs.Setup.{SetupView, is_of_gps, kinds_taken, taken_by, takes, channels_of}
 use Rattle.rtk_convert.specs.Steps.AddedMessage.{IsTakenBy}
 use Rattle.rtk_convert.specs.Steps.OfferedMessage.{AnswersMessage, name_of_gps}
@@ -345,3 +346,47 @@ gps-answers s old new a offer listed is taken size meets before kept =
       right-same order law channels old.places a before one all (cells_of-satellites (message_of a)) offer listed m.0,
       represents-signals order law channels old.places new (a ∷ before) size (All-cons (λ (b : Arrival). IsGpsMessage (message_of b)) a before one all) m.1,
     )
+
+-- ---- the order of cells, and those that are left
+
+above-same : GpsKeepsItsOrder → (c : CellEntry) (xs : List CellEntry) → Above gps (key gps c) xs → Above signals (key signals (signal_of c)) (map signal_of xs)
+above-same order c [] h = tt
+above-same order c (x ∷ xs) h = (order c x).0 h
+
+-- cells that rise, rise as signals
+pub rise-same : GpsKeepsItsOrder → (xs : List CellEntry) → KeysRise gps xs → KeysRise signals (map signal_of xs)
+rise-same order [] h = tt
+rise-same order (x ∷ xs) h = (above-same order x xs h.0, rise-same order xs h.1)
+
+test-signals : (a b m n : ℕ) → m < 16 → n < 16 → (a * 128 + m == b * 128 + n) ≡ (nat_eq a b && nat_eq m n)
+test-signals a b m n h k = grind (arith, nat_tests)
+
+test-gps : (a b m n : ℕ) → m < 16 → n < 16 → (a * 16 + m == b * 16 + n) ≡ (nat_eq a b && nat_eq m n)
+test-gps a b m n h k = grind (arith, nat_tests)
+
+-- two cells have one satellite and code exactly if they have as signals
+place-test : (k c : CellEntry) → (signals.place (signal_of k) == signals.place (signal_of c)) ≡ (gps.place k == gps.place c)
+place-test k c =
+    ap (λ (m : ℕ). k.satellite * 128 + m == c.satellite * 128 + any_code.number_of (code_of_gps c.code)) (number-of-gps k.code)
+    ∙ ap (λ (n : ℕ). k.satellite * 128 + place_of k.code == c.satellite * 128 + n) (number-of-gps c.code)
+    ∙ test-signals k.satellite c.satellite (place_of k.code) (place_of c.code) (place_bound k.code) (place_bound c.code)
+    ∙ sym (test-gps k.satellite c.satellite (place_of k.code) (place_of c.code) (place_bound k.code) (place_bound c.code))
+
+any-same : (known : List CellEntry) (c : CellEntry)
+    → list_any (λ k. signals.place k == signals.place (signal_of c)) (map signal_of known) ≡ list_any (λ k. gps.place k == gps.place c) known
+any-same [] c = refl
+any-same (k ∷ known) c =
+    ap (λ (b : Bool). b || list_any (λ k. signals.place k == signals.place (signal_of c)) (map signal_of known)) (place-test k c)
+    ∙ ap (λ (b : Bool). (gps.place k == gps.place c) || b) (any-same known c)
+
+left-same : (known cells : List CellEntry) → left_beside signals (map signal_of known) (map signal_of cells) ≡ map signal_of (left_beside gps known cells)
+left-same known cells =
+    filter-map signal_of (λ (c : CellEntry). not (list_any (λ k. gps.place k == gps.place c) known))
+    (λ (c : SignalEntry). not (list_any (λ k. signals.place k == signals.place c) (map signal_of known))) (λ e. ap not (any-same known e)) cells
+
+-- the same cells are left beside others
+pub left-too : (known cells more : List CellEntry) → AreLeftBeside gps known cells more → AreLeftBeside signals (map signal_of known) (map signal_of cells) (map signal_of more)
+left-too known cells more h = elim h [
+  | inl same ↦ inl (ap (map signal_of) same)
+  | inr less ↦ inr (ap (map signal_of) less ∙ sym (left-same known cells))
+]

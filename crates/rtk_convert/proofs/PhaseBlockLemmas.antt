@@ -1,5 +1,5 @@
 -- The last phases of all systems in blocks of the codes of GPS.
-use Rattle.std.proofs.Common.{◌≡◌, ◌≢◌, ◌∙◌, ◌+◌, ◌-◌, ◌/◌, ◌%◌, ◌<◌, ℕ, List, [], length, set, get_or, get_or-set_other, get_or-set_same, Option, None, inl, inr, refl, sym, ap, subst, arith}
+use Rattle.std.proofs.Common.{◌≡◌, ◌≢◌, ◌∙◌, ◌+◌, ◌-◌, ◌*◌, ◌/◌, ◌%◌, ◌<◌, ℕ, List, [], length, set, get_or, get_or-set_other, get_or-set_same, Option, None, inl, inr, refl, sym, ap, subst, arith}
 use Rattle.std.specs.Prelude.{All}
 use Rattle.std.specs.List.{range_with_len}
 use Rattle.std.proofs.lemmas.Bool.{cases_eq, cases_lt}
@@ -167,3 +167,35 @@ module _ (blocks : List (List (Option Track))) (block : List (Option Track)) (sa
             ∙ subst (λ (n : ℕ). get_or block n None ≡ get_or (get_or blocks i []) n None) place stays
             ∙ ap (λ (n : ℕ). get_or (get_or blocks n []) (k % 512) None) (sym here)
       ])
+
+-- ---- one block
+
+-- the place of a code of GPS among those of its system is the same
+place-of-gps : (c : Code) → any.place_of (any.code_of_gps c) ≡ place_of c
+place-of-gps G1C = refl
+place-of-gps G1P = refl
+place-of-gps G1W = refl
+place-of-gps G1S = refl
+place-of-gps G1L = refl
+place-of-gps G1X = refl
+place-of-gps G2C = refl
+place-of-gps G2D = refl
+place-of-gps G2P = refl
+place-of-gps G2W = refl
+place-of-gps G2S = refl
+place-of-gps G2L = refl
+place-of-gps G2X = refl
+place-of-gps G5I = refl
+place-of-gps G5Q = refl
+place-of-gps G5X = refl
+
+-- a step at a satellite and code of GPS leaves the phases at other places
+pub gps-others : (old new : List (Option Track)) (satellite : ℕ) (code : Code)
+    → ((s : ℕ) (d : Code) → place_of_signal s d ≢ place_of_signal satellite code → tracks.track_at new s d ≡ tracks.track_at old s d)
+    → (s : ℕ) (d : AnyCode) → signal_place s d ≢ signal_place satellite (any.code_of_gps code) → track_at new s d ≡ track_at old s d
+gps-others old new satellite code others s d ne =
+    let k = signal_place s d in
+    let own : signal_place satellite (any.code_of_gps code) ≡ place_of_signal satellite code = ap (λ (p : ℕ). (satellite - 1) * 16 + p) (place-of-gps code) in
+    let at = place-of k in
+    subst (λ (n : ℕ). get_or new n None ≡ get_or old n None) at
+    (others (k / 16 + 1) (get_or all_codes (k % 16) G1C) (λ q. ne (sym at ∙ q ∙ sym own)))

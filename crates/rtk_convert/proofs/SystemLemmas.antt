@@ -11,6 +11,7 @@ use Rattle.rtk_obs.specs.AnyCode.{IsSignal, system_of}
 use Rattle.rtk_obs.specs.SatelliteIndex.{IsSatelliteIndex, letter_of, satellites_before, satellites_of_system, system_at}
 use Rattle.rtk_rinex.specs.MixedHead.{letter}
 use Rattle.rtk_convert.specs.Rows.{codes_for}
+use Rattle.rtk_convert.specs.Steps.OfferedMessage.{index_or_first}
 
 -- the system of a letter
 by_letter : ℕ → System
@@ -126,3 +127,19 @@ in-system Beidou bit low high = at-beidou (95 + bit) (omega arith) (omega arith)
 in-system Qzss bit low high = at-qzss (158 + bit) (omega arith) (omega arith)
 in-system Sbas bit low high = at-sbas (168 + bit) (omega arith) (omega arith)
 in-system Navic bit low high = at-navic (207 + bit) (omega arith)
+
+-- ---- the index of a number
+
+-- of a number that is an index
+pub index-first : (n x : ℕ) → IsSatelliteIndex n → x ≡ n → x ≡ index_or_first n
+index-first n x h is = is ∙ sym (rw (within 1 n h.0, within n 221 h.1) refl)
+
+-- of another one
+pub index-none : (n x : ℕ) → (IsSatelliteIndex n → ⊥) → x ≡ 1 → x ≡ index_or_first n
+index-none n x h is = is ∙ sym (elim (cases_lt 221 n) [
+  | inl high ↦ rw (within 1 n (omega arith), above n 221 high) refl
+  | inr low ↦ elim (cases_lt 0 n) [
+    | inl some ↦ absurd (h (omega arith, low))
+    | inr zero ↦ rw (above 1 n (omega arith)) refl
+  ]
+])

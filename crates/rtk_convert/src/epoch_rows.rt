@@ -225,6 +225,7 @@ fn show_entry<E: FileEntry>(
     ensures { StepsOver E.Lines.HasRows E.Lines.HasLine form.now.epoch (E.signal_of entry.now) form.now.codes.now
         (E.places phases.old) (E.places phases.new) lines.old lines.new }
 {
+    E::cells_are_signals();
     let digits = entry.step(phases, form.epoch);
     let shown = observed(entry.cell(), digits);
     put_listed(form, entry.code_place(), &shown, lines);

@@ -15,6 +15,7 @@ ghost use Rattle.rtk_collect.specs.Key.{KeysRise};
 ghost use Rattle.rtk_collect.specs.Signals.{signals};
 ghost use Rattle.rtk_convert.specs.LastPhases.{track_at};
 ghost use Rattle.rtk_convert.specs.Rows.{band_of};
+ghost use Rattle.rtk_convert.specs.Steps.OfferedMessage.{index_or_first};
 
 use crate::row_lines::{RowLines, SignalLines};
 use crate::signal_phases::SignalPhases;
@@ -82,6 +83,17 @@ pub(crate) trait FileEntry: Entry {
             → AreLeftBeside signals (map signal_of known) (map signal_of cells) (map signal_of more) };
 }
 
+// Returns the index of a satellite. A conflict has the satellite of a cell, so it is never that of the first one
+// for a number that no satellite has.
+fn index_or_first(satellite: u8) -> SatelliteIndex
+    ensures { result ≡ index_or_first satellite }
+{
+    match SatelliteIndex::new(satellite) {
+        Some(satellite) => satellite,
+        None => SatelliteIndex::default(),
+    }
+}
+
 impl FileEntry for CellEntry {
     type Phases = Tracks;
 
@@ -99,7 +111,9 @@ impl FileEntry for CellEntry {
     // This function is alone in needing the stack for the phases, which is gone when it returns.
     #[inline(never)]
     fn new_phases(alloc: Global) -> Result<Box<Tracks>, AllocError> {
-        Ok(Box::new(alloc, Tracks::new())?)
+        let empty = Tracks::new();
+        let phases = Box::new(alloc, empty)?;
+        Ok(phases)
     }
 
     fn satellite(&self) -> u8 {
@@ -116,10 +130,8 @@ impl FileEntry for CellEntry {
     }
 
     fn name(signal: SatelliteCode) -> AnySatelliteCode {
-        // Each conflict has the satellite of a cell, so this is never the default.
-        let satellite = SatelliteIndex::new(signal.satellite).unwrap_or_default();
         AnySatelliteCode {
-            satellite,
+            satellite: index_or_first(signal.satellite),
             code: AnyCode::of_gps(signal.code),
         }
     }

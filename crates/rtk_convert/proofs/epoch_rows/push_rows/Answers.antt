@@ -38,6 +38,7 @@ satellites-init g c =
         codes_are = c.form_from-form.ensures.codes.codes_are;
       };
       epoch = c.form_from-form.ensures.epoch;
+      within = c.form_from-form.ensures.last.1;
       columns = c.form_from-form.ensures.columns;
     }
 
@@ -75,6 +76,12 @@ form_at-form-requires-clause-codes g c =
     let from = next-from i.fills.msm i.fills.legacy least in
     let at = fills-next old epoch ms c.satellites.at.msm ls c.satellites.at.legacy i.from n (g.E.FileEntry.places c.satellites.phases) i.fills rise-m rise-l least in
     λ within. record { few = i.few; codes_are = λ s more less. i.codes_are s (omega arith) less }
+
+pub form_at-form-requires-clause-columns : goal.form_at-form-requires-clause-columns
+form_at-form-requires-clause-columns g c = c.satellites.invariant.columns
+
+pub form_at-form-requires-clause-last : goal.form_at-form-requires-clause-last
+form_at-form-requires-clause-last g c = c.satellites.invariant.within
 
 pub open_line-requires-clause-few : goal.open_line-requires-clause-few
 open_line-requires-clause-few g c = c.form_at-form.ensures.codes.few

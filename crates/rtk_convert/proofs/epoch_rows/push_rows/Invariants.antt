@@ -1,4 +1,4 @@
-use Rattle.std.proofs.Common.{◌≡◌, ◌+◌, ◌-◌, length, map}
+use Rattle.std.proofs.Common.{◌≡◌, ◌≤◌, ◌+◌, ◌-◌, length, map}
 use Rattle.rtk_convert.specs.Steps.ShownCells.{ArePlaces}
 use Rattle.rtk_convert.proofs.SatelliteLemmas.{ShowsBelow}
 use Rattle.rtk_convert.proofs.epoch_rows.push_rows.Given as goal
@@ -9,6 +9,7 @@ invariant-satellites g l = record {
   shows : ShowsBelow g.E.Lines.RowLines.HasRows (g.E.FileEntry.places l.fn.phases) l.epoch (map g.E.FileEntry.signal_of l.msm) l.at.msm (map g.E.FileEntry.signal_of l.legacy) l.at.legacy l.listed
       l.form.last l.form.codes (g.E.FileEntry.places l.phases) l.lines;
   epoch : l.form.epoch ≡ l.epoch;
+  within : l.form.last ≤ 221;
   columns : ArePlaces l.form.codes l.form.columns;
 }
 
