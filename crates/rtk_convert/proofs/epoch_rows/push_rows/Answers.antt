@@ -318,6 +318,7 @@ satellites-preserved g c =
         codes_are = λ s more less. c.form_at-form.ensures.codes.codes_are s (omega arith) less;
       };
       epoch = formed;
+      within = c.form_at-form.ensures.last.1;
       columns = c.form_at-form.ensures.columns;
     }
 
