@@ -16,7 +16,7 @@ use Rattle.rtk_convert.proofs.EpochsLemmas.{adds-message, adds-in-part, adds-non
 use Rattle.rtk_convert.proofs.GpsOfferLemmas.{gps-answers}
 use Rattle.rtk_convert.proofs.OutcomeLemmas.{failed-err}
 use Rattle.rtk_convert.proofs.WindowLemmas.{below-map, least-map, never-map}
-use Rattle.rtk_convert.proofs.epochs.Epochs.add.Goals as goal
+use Rattle.rtk_convert.proofs.epochs.Epochs+CellEntry.add.Goals as goal
 
 pub write_answer-requires : goal.write_answer-requires
 write_answer-requires g c =

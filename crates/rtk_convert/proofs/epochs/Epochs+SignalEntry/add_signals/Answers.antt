@@ -19,7 +19,7 @@ use Rattle.rtk_convert.proofs.AheadLemmas.{closes-above}
 use Rattle.rtk_convert.proofs.EpochsLemmas.{adds-message, adds-in-part, adds-none, ahead-written, hands-on, hands-back, signal-answers}
 use Rattle.rtk_convert.proofs.OutcomeLemmas.{failed-err}
 use Rattle.rtk_convert.proofs.WindowLemmas.{below-map, least-map, never-map, map-id, outcome-id, window-id}
-use Rattle.rtk_convert.proofs.epochs.Epochs.add_signals.Goals as goal
+use Rattle.rtk_convert.proofs.epochs.Epochs+SignalEntry.add_signals.Goals as goal
 
 abbrev same : SignalEntry → SignalEntry
 same e = e
