@@ -27,6 +27,7 @@ mod AheadLemmas
 mod EpochsLemmas
 mod ClassLemmas
 mod MomentLemmas
+mod ClockLemmas
 mod OneTextLemmas
 mod ArriveLemmas
 mod BringsLemmas
