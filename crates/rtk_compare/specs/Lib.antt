@@ -1,0 +1,9 @@
+pub mod Pairs
+pub mod Phases
+pub mod Cells
+pub mod Codes
+pub mod Records
+pub mod Headers
+pub mod Differences
+pub mod Answer
+pub mod Steps

@@ -1,0 +1,5 @@
+-- Definitions that only private clauses use.
+pub mod Tracks
+pub mod SharedCodes
+pub mod Sides
+pub mod Readers

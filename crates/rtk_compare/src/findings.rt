@@ -1,0 +1,91 @@
+//! The differences that were found: how many of each class, and the first ones.
+
+ghost use Rattle.std.specs.Prelude.{◌≡◌, ◌<◌, ◌⊎◌, ◌++◌, ◌∷◌, [], List, Decides, if◌then◌else◌, true};
+ghost use Rattle.rtk_compare.specs.declared.difference.Class.{Class};
+ghost use Rattle.rtk_compare.specs.declared.difference.Class.TheVariants.{Lost, Changed, Explained};
+ghost use Rattle.rtk_compare.specs.declared.difference.Difference.{Difference};
+ghost use Rattle.rtk_compare.specs.Cells.{told_if};
+ghost use Rattle.rtk_compare.specs.Differences.{HasFound, HasFindings, Adds};
+
+use crate::difference::{Class, Difference, Place, What};
+use arrayvec::ArrayVec;
+
+// constant
+/// How many differences of a class are kept at most.
+pub(crate) const MOST_KEPT: usize = 100;
+
+/// The differences of a class.
+#[derive(Drop)]
+pub struct Found {
+    /// How many there are.
+    pub count: u64,
+    /// The first hundred of them.
+    pub first: ArrayVec<Difference, MOST_KEPT>,
+}
+
+/// The differences of each class.
+#[derive(Drop)]
+pub struct Findings {
+    pub lost: Found,
+    pub changed: Found,
+    pub explained: Found,
+}
+
+impl Found {
+    fn none() -> Found
+        ensures { (c : Class) → HasFound c result [] }
+    {
+        Found {
+            count: 0,
+            first: ArrayVec::new(),
+        }
+    }
+
+    fn push(&mut self, difference: Difference)
+        ensures { (ds : List Difference) → HasFound difference.class self.old ds → HasFound difference.class self.new (ds ++ difference ∷ []) }
+    {
+        self.count = self.count.saturating_add(1);
+        let _kept = self.first.try_push(difference);
+    }
+}
+
+impl Findings {
+    /// Nothing was found.
+    pub fn none() -> Findings
+        ensures { HasFindings result [] }
+    {
+        Findings {
+            lost: Found::none(),
+            changed: Found::none(),
+            explained: Found::none(),
+        }
+    }
+
+    /// Adds a difference.
+    pub(crate) fn push(&mut self, class: Class, what: What, place: Place)
+        ensures { Adds self.old self.new (told_if true class what place) }
+    {
+        let difference = Difference { class, what, place };
+        match class {
+            Class::Lost => self.lost.push(difference),
+            Class::Changed => self.changed.push(difference),
+            Class::Explained => self.explained.push(difference),
+        }
+    }
+
+    /// Adds a difference, if there is one.
+    pub(crate) fn push_if(&mut self, differs: bool, class: Class, what: What, place: Place)
+        ensures { Adds self.old self.new (told_if differs class what place) }
+    {
+        if differs {
+            self.push(class, what, place);
+        }
+    }
+
+    /// Is something lost or changed?
+    pub fn is_worse(&self) -> bool
+        ensures { Decides result ((0 < self.now.lost.count) ⊎ (0 < self.now.changed.count)) }
+    {
+        0 < self.lost.count || 0 < self.changed.count
+    }
+}
