@@ -3,3 +3,4 @@ pub mod Tracks
 pub mod SharedCodes
 pub mod Sides
 pub mod Readers
+pub mod Rows

@@ -6,7 +6,7 @@ ghost use Rattle.rtk_compare.specs.Pairs.{Pair};
 ghost use Rattle.rtk_compare.specs.Phases.{rolls_of, rolls_due};
 ghost use Rattle.rtk_compare.specs.Cells.{is_gone, apart, are_due, are_some, strength_value, have_phases, is_near, differs, phase_has_changed, gone_lines, value_lines, slip_lines, half_lines, cell_lines};
 ghost use Rattle.rtk_compare.specs.Differences.{Adds};
-ghost use Rattle.rtk_compare.specs.Steps.Tracks.{IsTrackOf, pair, lines_if_told, IsApart};
+ghost use Rattle.rtk_compare.specs.Steps.Tracks.{IsTrackOf, pair, lines_if_told, AreDistances};
 
 use crate::difference::{Class, Place, What};
 use crate::findings::Findings;
@@ -71,7 +71,7 @@ fn is_gone<T: Copy>(old: Option<T>, new: Option<T>) -> bool
 
 /// How far the values of a cell are apart.
 #[derive(Clone, Copy)]
-struct Apart {
+struct Distances {
     range: u64,
     /// Beside whole rolls.
     phase: u64,
@@ -81,13 +81,13 @@ struct Apart {
     are_due: bool,
 }
 
-impl Apart {
+impl Distances {
     // Compares the values of a cell.
-    fn of(old: &Observed, new: &Observed, rolls: Option<i64>, due: Option<i64>) -> Apart
+    fn of(old: &Observed, new: &Observed, rolls: Option<i64>, due: Option<i64>) -> Distances
         requires { rolls ≡ rolls_of (pair old.now new.now) }
-        ensures { (earlier : List (Pair Observed)) → due ≡ rolls_due earlier (pair old.now new.now) → IsApart result earlier (pair old.now new.now) }
+        ensures { (earlier : List (Pair Observed)) → due ≡ rolls_due earlier (pair old.now new.now) → AreDistances result earlier (pair old.now new.now) }
     {
-        Apart {
+        Distances {
             range: apart(old.range_mm, new.range_mm),
             phase: beside_rolls(apart(old.phase_millicycles, new.phase_millicycles)),
             strength: apart(
@@ -101,7 +101,7 @@ impl Apart {
 
     // Are all values as near as those of a 1004 and of an MSM?
     fn is_near(&self) -> bool
-        ensures { (earlier : List (Pair Observed)) (p : Pair Observed) → IsApart self.now earlier p → result ≡ is_near earlier p }
+        ensures { (earlier : List (Pair Observed)) (p : Pair Observed) → AreDistances self.now earlier p → result ≡ is_near earlier p }
     {
         self.range <= NEAR_MM
             && self.strength <= NEAR_MILLIDBHZ
@@ -111,22 +111,22 @@ impl Apart {
 
     // Does a value differ, but for rolls?
     fn differs(&self) -> bool
-        ensures { (earlier : List (Pair Observed)) (p : Pair Observed) → IsApart self.now earlier p → result ≡ differs p }
+        ensures { (earlier : List (Pair Observed)) (p : Pair Observed) → AreDistances self.now earlier p → result ≡ differs p }
     {
         0 < self.range || 0 < self.strength || 0 < self.phase
     }
 
     // Has the phase changed?
     fn phase_has_changed(&self) -> bool
-        ensures { (earlier : List (Pair Observed)) (p : Pair Observed) → IsApart self.now earlier p → result ≡ phase_has_changed earlier p }
+        ensures { (earlier : List (Pair Observed)) (p : Pair Observed) → AreDistances self.now earlier p → result ≡ phase_has_changed earlier p }
     {
         !self.is_near() && (!self.are_due || 0 < self.phase)
     }
 
     // Adds the values that have changed, or are finer.
-    fn put_values(&self, place: Place, findings: &mut Findings)
-        ensures { (earlier : List (Pair Observed)) (p : Pair Observed) → IsApart self.now earlier p
-            → Adds findings.old findings.new (value_lines earlier p place) }
+    fn put_values(&self, place: &Place, findings: &mut Findings)
+        ensures { (earlier : List (Pair Observed)) (p : Pair Observed) → AreDistances self.now earlier p
+            → Adds findings.old findings.new (value_lines earlier p place.now) }
     {
         let is_near = self.is_near();
         let has_changed = self.phase_has_changed();
@@ -139,8 +139,8 @@ impl Apart {
 }
 
 // Adds the values that are gone.
-fn put_gone(old: &Observed, new: &Observed, place: Place, findings: &mut Findings)
-    ensures { Adds findings.old findings.new (gone_lines (pair old.now new.now) place) }
+fn put_gone(old: &Observed, new: &Observed, place: &Place, findings: &mut Findings)
+    ensures { Adds findings.old findings.new (gone_lines (pair old.now new.now) place.now) }
 {
     let range = is_gone(old.range_mm, new.range_mm);
     findings.push_if(range, Class::Lost, What::Range, place);
@@ -158,9 +158,9 @@ fn have_phases(old: &Observed, new: &Observed) -> bool
 }
 
 // Adds a slip that is gone, or has come.
-fn put_slips(track: &Track, old: &Observed, new: &Observed, place: Place, findings: &mut Findings)
+fn put_slips(track: &Track, old: &Observed, new: &Observed, place: &Place, findings: &mut Findings)
     ensures { (earlier : List (Pair Observed)) → IsTrackOf track.now earlier
-        → Adds findings.old findings.new (slip_lines earlier (pair old.now new.now) place) }
+        → Adds findings.old findings.new (slip_lines earlier (pair old.now new.now) place.now) }
 {
     let have_phases = have_phases(old, new);
     let is_gone = have_phases && old.slip && !new.slip;
@@ -175,15 +175,15 @@ fn put_slips(track: &Track, old: &Observed, new: &Observed, place: Place, findin
 }
 
 // Adds a half cycle that is gone, or has come without a finer message.
-fn put_halves(apart: &Apart, old: &Observed, new: &Observed, place: Place, findings: &mut Findings)
-    ensures { (earlier : List (Pair Observed)) → IsApart apart.now earlier (pair old.now new.now)
-        → Adds findings.old findings.new (half_lines earlier (pair old.now new.now) place) }
+fn put_halves(distances: &Distances, old: &Observed, new: &Observed, place: &Place, findings: &mut Findings)
+    ensures { (earlier : List (Pair Observed)) → AreDistances distances.now earlier (pair old.now new.now)
+        → Adds findings.old findings.new (half_lines earlier (pair old.now new.now) place.now) }
 {
     let have_phases = have_phases(old, new);
     let is_gone = have_phases && old.half && !new.half;
     findings.push_if(is_gone, Class::Lost, What::HalfCycle, place);
     let has_come = have_phases && new.half && !old.half;
-    let is_finer = apart.is_near() && apart.differs();
+    let is_finer = distances.is_near() && distances.differs();
     findings.push_if(has_come && !is_finer, Class::Changed, What::HalfCycle, place);
 }
 
@@ -192,21 +192,21 @@ pub(crate) fn compare_cell(
     track: &mut Track,
     old: &Observed,
     new: &Observed,
-    place: Option<Place>,
+    place: &Option<Place>,
     findings: &mut Findings,
 )
     ensures lines { (earlier : List (Pair Observed)) → IsTrackOf track.old earlier
-        → Adds findings.old findings.new (lines_if_told place earlier (pair old.now new.now)) }
+        → Adds findings.old findings.new (lines_if_told place.now earlier (pair old.now new.now)) }
     ensures track { (earlier : List (Pair Observed)) → IsTrackOf track.old earlier → IsTrackOf track.new (pair old.now new.now ∷ earlier) }
 {
     let rolls = rolls_of(old.phase_millicycles, new.phase_millicycles);
     let due = track.rolls_due(old, new, rolls);
     if let Some(place) = place {
-        let apart = Apart::of(old, new, rolls, due);
+        let distances = Distances::of(old, new, rolls, due);
         put_gone(old, new, place, findings);
-        apart.put_values(place, findings);
+        distances.put_values(place, findings);
         put_slips(track, old, new, place, findings);
-        put_halves(&apart, old, new, place, findings);
+        put_halves(&distances, old, new, place, findings);
     }
     track.note(old, new, due);
 }

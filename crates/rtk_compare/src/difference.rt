@@ -3,9 +3,10 @@
 use rtk_obs::{AnyCode, GpsMs, SatelliteIndex};
 
 /// What a difference means for the old file.
-#[derive(Clone, Copy, Debug, PartialEq, Eq)]
+#[derive(Clone, Copy, Debug, Default, PartialEq, Eq)]
 pub enum Class {
     /// The old file has it, and the new one does not.
+    #[default]
     Lost,
     /// Both have it, and it differs.
     Changed,
@@ -14,9 +15,10 @@ pub enum Class {
 }
 
 /// What differs.
-#[derive(Clone, Copy, Debug, PartialEq, Eq)]
+#[derive(Clone, Copy, Debug, Default, PartialEq, Eq)]
 pub enum What {
     /// The name of the marker.
+    #[default]
     Marker,
     /// The antenna reference point.
     Position,
@@ -79,9 +81,10 @@ pub enum What {
 }
 
 /// Where a difference is.
-#[derive(Clone, Copy, Debug, PartialEq, Eq)]
+#[derive(Clone, Copy, Debug, Default, PartialEq, Eq)]
 pub enum Place {
     /// In the header.
+    #[default]
     Header,
     /// In the header, at this code.
     Code { code: AnyCode },
@@ -103,7 +106,7 @@ pub enum Place {
 }
 
 /// A difference of two files.
-#[derive(Clone, Copy, Debug, PartialEq, Eq)]
+#[derive(Clone, Copy, Debug, Default, PartialEq, Eq)]
 pub struct Difference {
     pub class: Class,
     pub what: What,

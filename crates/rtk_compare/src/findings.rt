@@ -62,10 +62,14 @@ impl Findings {
     }
 
     /// Adds a difference.
-    pub(crate) fn push(&mut self, class: Class, what: What, place: Place)
-        ensures { Adds self.old self.new (told_if true class what place) }
+    pub(crate) fn push(&mut self, class: Class, what: What, place: &Place)
+        ensures { Adds self.old self.new (told_if true class what place.now) }
     {
-        let difference = Difference { class, what, place };
+        let difference = Difference {
+            class,
+            what,
+            place: *place,
+        };
         match class {
             Class::Lost => self.lost.push(difference),
             Class::Changed => self.changed.push(difference),
@@ -74,8 +78,8 @@ impl Findings {
     }
 
     /// Adds a difference, if there is one.
-    pub(crate) fn push_if(&mut self, differs: bool, class: Class, what: What, place: Place)
-        ensures { Adds self.old self.new (told_if differs class what place) }
+    pub(crate) fn push_if(&mut self, differs: bool, class: Class, what: What, place: &Place)
+        ensures { Adds self.old self.new (told_if differs class what place.now) }
     {
         if differs {
             self.push(class, what, place);

@@ -19,7 +19,7 @@ pub(crate) struct RecordReader<'a> {
 impl<'a> RecordReader<'a> {
     /// Begins with the first of these records.
     pub(crate) fn of(records: MixedRecords<'a>) -> RecordReader<'a>
-        ensures { (epochs : List EpochTableView) → AreMixedLeft records epochs → IsAtEpochs result epochs }
+        ensures { (epochs : List EpochTableView) → AreMixedLeft records.entry epochs → IsAtEpochs result epochs }
     {
         let mut records = records;
         let next = records.next();

@@ -2,7 +2,7 @@
 
 ghost use Rattle.std.specs.Prelude.{◌≡◌, ◌<◌, List, ◌∷◌, IsSome};
 ghost use Rattle.rtk_rinex.specs.declared.epoch_table.SatelliteRow.{SatelliteRow};
-ghost use Rattle.rtk_compare.specs.Steps.Readers.{AreRowsOf, IsAtRows, rows_left, numbered};
+ghost use Rattle.rtk_compare.specs.Steps.Readers.{AreRowsOf, IsAtRows, rows_left};
 
 use arrayvec::ArrayVec;
 use rtk_obs::SatelliteIndex;
@@ -21,7 +21,7 @@ pub(crate) struct RowReader<'a> {
 impl<'a> RowReader<'a> {
     /// Begins with the first row.
     pub(crate) fn of(rows: Option<MixedRows<'a>>) -> RowReader<'a>
-        ensures { (all : List SatelliteRow) → AreRowsOf rows all → IsAtRows result all }
+        ensures { (all : List SatelliteRow) → AreRowsOf rows.entry all → IsAtRows result all }
     {
         let mut reader = RowReader {
             rows,

@@ -1,16 +1,16 @@
 //! The rows of two records side by side.
 
-ghost use Rattle.std.specs.Prelude.{◌≡◌, ◌<◌, ◌≤◌, ℕ, List, ◌∷◌, length};
-ghost use Rattle.rtk_obs.specs.SatelliteIndex.{IsSatelliteIndex};
+ghost use Rattle.std.specs.Prelude.{◌≡◌, ◌≤◌, ℕ, List, ◌∷◌, Option, None, length, flat_map, AllPairs};
 ghost use Rattle.rtk_rinex.specs.declared.epoch_table.SatelliteRow.{SatelliteRow};
 ghost use Rattle.rtk_tracking.specs.Epochs.{shown_at};
 ghost use Rattle.rtk_compare.specs.declared.shared_codes.SharedCode.{SharedCode};
 ghost use Rattle.rtk_compare.specs.Pairs.{Pair, by_satellite, side_by_side};
 ghost use Rattle.rtk_compare.specs.Differences.{Adds};
 ghost use Rattle.rtk_compare.specs.Steps.Tracks.{AreTracks, AreTracksOf};
-ghost use Rattle.rtk_compare.specs.Steps.SharedCodes.{codes_at, HasShared};
-ghost use Rattle.rtk_compare.specs.Steps.Readers.{AreRowsOf};
-ghost use Rattle.rtk_compare.specs.Steps.Rows.{row_view, AddsRow, TracksRow, lines_if_told_rows};
+ghost use Rattle.rtk_compare.specs.Steps.SharedCodes.{HasShared};
+ghost use Rattle.rtk_compare.specs.Steps.Readers.{AreRowsOf, IsAtRows};
+ghost use Rattle.rtk_compare.specs.Steps.Sides.{IsNextSide};
+ghost use Rattle.rtk_compare.specs.Steps.Rows.{row_view, place_at, gone_line, lines_told, NotesRow, next_view, observed_of};
 
 use crate::cells::compare_cell;
 use crate::difference::{Class, Place, What};
@@ -23,14 +23,14 @@ use rtk_obs::{GpsMs, SatelliteIndex};
 use rtk_rinex::{MixedRows, Observed};
 
 // What two files show of a satellite at one epoch; no values if a file has no row of it.
-#[derive(Clone, Copy)]
+#[derive(Drop)]
 struct RowPair<'r> {
     satellite: SatelliteIndex,
     old: &'r [Observed],
     new: &'r [Observed],
 }
 
-// What a satellite shows of the code at this place.
+// Returns what a satellite shows of the code at this place.
 fn shown_at(observed: &[Observed], place: usize) -> Observed
     ensures { result ≡ shown_at place observed.now }
 {
@@ -38,41 +38,53 @@ fn shown_at(observed: &[Observed], place: usize) -> Observed
 }
 
 impl<'r> RowPair<'r> {
-    // The place of the differences of a code, unless a greater difference is told in their place.
-    fn place_of(&self, code: &SharedCode, time: Option<GpsMs>) -> Option<Place> {
+    // Returns the place of the differences of a code, unless a greater difference is told in their place.
+    fn place_of(&self, code: &SharedCode, time: &Option<GpsMs>) -> Option<Place>
+        ensures { result ≡ place_at time.now (row_view self.now) code.now }
+    {
+        let Some(time) = time else {
+            return None;
+        };
         if self.old.len() == 0 || self.new.len() == 0 {
             return None;
         }
-        match time {
-            Some(time) => Some(Place::Signal {
-                time,
-                satellite: self.satellite,
-                code: code.code,
-            }),
-            None => None,
-        }
+        Some(Place::Signal {
+            time: *time,
+            satellite: self.satellite,
+            code: code.code,
+        })
     }
 
     // Adds the satellite, if it is gone.
-    fn put_gone(&self, time: Option<GpsMs>, findings: &mut Findings) {
+    fn put_gone(&self, time: &Option<GpsMs>, findings: &mut Findings)
+        ensures { Adds findings.old findings.new (gone_line time.now (row_view self.now)) }
+    {
         if let Some(time) = time {
             let satellite = self.satellite;
             let is_gone = self.old.len() != 0 && self.new.len() == 0;
-            findings.push_if(is_gone, Class::Lost, What::Satellite, Place::Satellite { time, satellite });
+            let place = Place::Satellite {
+                time: *time,
+                satellite,
+            };
+            findings.push_if(is_gone, Class::Lost, What::Satellite, &place);
         }
     }
 }
 
-// Compares a satellite. Its differences are added if there is a time: else that of its epoch is told.
+// Compares a satellite. Its differences are added if there is a time, that of its epoch.
 fn compare_row(
     codes: &[SharedCode],
     tracks: &mut [Track],
-    row: RowPair<'_>,
-    time: Option<GpsMs>,
+    row: &RowPair<'_>,
+    time: &Option<GpsMs>,
     findings: &mut Findings,
 )
     requires codes { length codes.now ≤ 16 }
     requires tracks { AreTracks tracks.old }
+    ensures size { AreTracks tracks.new }
+    ensures lines { (shared : ℕ → List SharedCode) (earlier : List (List (Pair SatelliteRow))) → codes.now ≡ shared row.now.satellite → AreTracksOf tracks.old shared earlier
+        → Adds findings.old findings.new (lines_told time.now shared earlier (row_view row.now)) }
+    ensures tracks { NotesRow tracks.old tracks.new codes.now (row_view row.now) }
 {
     row.put_gone(time, findings);
     let first = 16 * usize::from(row.satellite.index());
@@ -81,23 +93,49 @@ fn compare_row(
         let old = shown_at(row.old, code.old);
         let new = shown_at(row.new, code.new);
         let place = row.place_of(&code, time);
-        compare_cell(&mut tracks[first + k], &old, &new, place, findings);
+        compare_cell(&mut tracks[first + k], &old, &new, &place, findings);
     }
 }
 
-// Returns the rows of the satellite that comes next, and which files have one.
-fn next_row<'r>(old: &'r RowReader<'_>, new: &'r RowReader<'_>) -> Option<(Side, RowPair<'r>)> {
+// Returns the satellite that comes next.
+fn next_satellite(side: Side, old: &RowReader<'_>, new: &RowReader<'_>) -> Option<SatelliteIndex>
+    ensures { result ≡ next_view side old.now.satellite new.now.satellite }
+{
+    match side {
+        Side::New => new.satellite(),
+        _ => old.satellite(),
+    }
+}
+
+// Returns what a reader shows of this satellite, if it has a row of it.
+fn observed_if<'r>(has_row: bool, reader: &'r RowReader<'_>) -> &'r [Observed]
+    ensures { result.now ≡ observed_of has_row reader.now }
+{
+    if has_row { reader.observed() } else { &[] }
+}
+
+// Compares the rows that come next.
+fn compare_next(
+    shared: &SharedCodes,
+    tracks: &mut [Track],
+    rows: (&RowReader<'_>, &RowReader<'_>),
+    time: &Option<GpsMs>,
+    findings: &mut Findings,
+) -> Option<Side>
+    requires tracks { AreTracks tracks.old }
+    ensures size { AreTracks tracks.new }
+{
+    let (old, new) = rows;
     let side = next_side(old.number(), new.number())?;
-    let satellite = match side {
-        Side::New => new.satellite()?,
-        _ => old.satellite()?,
-    };
+    let satellite = next_satellite(side, old, new)?;
     let row = RowPair {
         satellite,
-        old: if side.has_old() { old.observed() } else { &[] },
-        new: if side.has_new() { new.observed() } else { &[] },
+        old: observed_if(side.has_old(), old),
+        new: observed_if(side.has_new(), new),
     };
-    Some((side, row))
+    let codes = shared.of_satellite(satellite);
+    compare_row(codes, tracks, &row, time, findings);
+    Some(side)
 }
 
 /// Compares the rows of two records. Their differences are added if there is a time.
@@ -105,16 +143,16 @@ pub(crate) fn compare_rows(
     shared: &SharedCodes,
     tracks: &mut [Track],
     rows: (Option<MixedRows<'_>>, Option<MixedRows<'_>>),
-    time: Option<GpsMs>,
+    time: &Option<GpsMs>,
     findings: &mut Findings,
 )
     requires tracks { AreTracks tracks.old }
+    ensures size { AreTracks tracks.new }
 {
-    let mut old = RowReader::of(rows.0);
-    let mut new = RowReader::of(rows.1);
-    while let Some((side, row)) = next_row(&old, &new) {
-        let codes = shared.of_satellite(row.satellite);
-        compare_row(codes, tracks, row, time, findings);
+    let (old_rows, new_rows) = rows;
+    let mut old = RowReader::of(old_rows);
+    let mut new = RowReader::of(new_rows);
+    while let Some(side) = compare_next(shared, tracks, (&old, &new), time, findings) {
         if side.has_old() {
             old.advance();
         }

@@ -12,15 +12,12 @@ use rtk_obs::{AnyCode, SatelliteIndex, any_code_laws};
 use rtk_rinex::MixedHead;
 
 /// A code that both files list, and its place among the codes of its system in each.
-#[derive(Clone, Copy, Debug, PartialEq, Eq)]
+#[derive(Clone, Copy, Debug, Default, PartialEq, Eq)]
 pub(crate) struct SharedCode {
     pub(crate) code: AnyCode,
     pub(crate) old: usize,
     pub(crate) new: usize,
 }
-
-// The codes of a system.
-type Group = ArrayVec<AnyCode, 16>;
 
 /// The codes of a system that both files list.
 type Shared = ArrayVec<SharedCode, 16>;
@@ -38,7 +35,7 @@ pub(crate) struct SharedCodes {
 }
 
 // Returns the codes of a system that a head lists.
-fn group(system: System, head: &MixedHead) -> Group
+fn group(system: System, head: &MixedHead) -> ArrayVec<AnyCode, 16>
     ensures { result.items ≡ codes_of (letter_of system) head.now.listed }
 {
     // A law: a place belongs to one code of a system, and is below 16.

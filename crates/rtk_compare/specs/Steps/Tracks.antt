@@ -6,7 +6,7 @@ use Rattle.rtk_rinex.specs.declared.epoch_table.Observed.{Observed}
 use Rattle.rtk_rinex.specs.declared.epoch_table.SatelliteRow.{SatelliteRow}
 use Rattle.rtk_compare.specs.declared.shared_codes.SharedCode.{SharedCode}
 use Rattle.rtk_compare.specs.declared.track.Track.{Track}
-use Rattle.rtk_compare.specs.declared.cells.Apart.{Apart}
+use Rattle.rtk_compare.specs.declared.cells.Distances.{Distances}
 use Rattle.rtk_compare.specs.declared.difference.Difference.{Difference}
 use Rattle.rtk_compare.specs.declared.difference.Place.{Place}
 use Rattle.rtk_compare.specs.Pairs.{Pair}
@@ -41,7 +41,7 @@ AreTracksOf tracks shared earlier =
     → IsTrackOf (track_at tracks s k) (cells_before s (get_or (shared s) k code) earlier)
 
 -- how far the values of a cell are apart, after these earlier ones
-pub record IsApart (a : Apart) (earlier : List (Pair Observed)) (p : Pair Observed) : Type 0 where
+pub record AreDistances (a : Distances) (earlier : List (Pair Observed)) (p : Pair Observed) : Type 0 where
   pub range : a.range ≡ ranges_apart p
   pub phase : a.phase ≡ phases_apart p
   pub strength : a.strength ≡ strengths_apart p

@@ -1,0 +1,63 @@
+-- The rows of two records side by side, and what is remembered of them.
+use Rattle.std.specs.Prelude.{◌≡◌, ℕ, ◌+◌, ◌*◌, ◌<◌, ◌≤◌, ◌==◌, ◌||◌, ◌&&◌, not, Bool, true, false, if◌then◌else◌, ◌⊎◌, List, [], ◌∷◌, ◌++◌, length, flat_map, get_or, Option, None, Some}
+use Rattle.rtk_rinex.specs.declared.epoch_table.Observed.{Observed}
+use Rattle.rtk_rinex.specs.declared.epoch_table.SatelliteRow.{SatelliteRow}
+use Rattle.rtk_compare.specs.declared.difference.Class.TheVariants.{Lost}
+use Rattle.rtk_compare.specs.declared.difference.What.TheVariants as what
+use Rattle.rtk_compare.specs.declared.difference.Place.{Place}
+use Rattle.rtk_compare.specs.declared.difference.Place.TheVariants as at
+use Rattle.rtk_compare.specs.declared.difference.Difference.{Difference}
+use Rattle.rtk_compare.specs.declared.rows.RowPair.{RowPair}
+use Rattle.rtk_compare.specs.declared.row_reader.RowReader.{RowReader}
+use Rattle.rtk_compare.specs.declared.shared_codes.SharedCode.{SharedCode}
+use Rattle.rtk_compare.specs.declared.side.Side.{Side}
+use Rattle.rtk_compare.specs.declared.side.Side.TheVariants.{Old, New, Both}
+use Rattle.rtk_compare.specs.declared.track.Track.{Track}
+use Rattle.rtk_compare.specs.Pairs.{Pair}
+use Rattle.rtk_compare.specs.Cells.{told_if}
+use Rattle.rtk_compare.specs.Records.{cells_of, cells_before, row_lines}
+use Rattle.rtk_compare.specs.Steps.Tracks.{no_track, track_at, IsTrackOf}
+
+-- the rows of a satellite
+abbrev pub row_view : RowPair → Pair SatelliteRow
+row_view r =
+    record {
+      old = record { satellite = r.satellite; observed = record { items = r.old.now } };
+      new = record { satellite = r.satellite; observed = record { items = r.new.now } };
+    }
+
+-- one of the rows shows nothing
+abbrev pub is_alone : Pair SatelliteRow → Bool
+is_alone p = (length p.old.observed.items == 0) || (length p.new.observed.items == 0)
+
+-- where the differences of a code are told, if they are
+abbrev pub place_at : Option ℕ → Pair SatelliteRow → SharedCode → Option Place
+place_at None p k = None
+place_at (Some time) p k = if is_alone p then None else Some (at.Signal time p.old.satellite k.code)
+
+abbrev pub gone_line : Option ℕ → Pair SatelliteRow → List Difference
+gone_line None p = []
+gone_line (Some time) p =
+    told_if (not (length p.old.observed.items == 0) && (length p.new.observed.items == 0)) Lost what.Satellite (at.Satellite time p.old.satellite)
+
+-- the differences of a satellite, if there is a time
+abbrev pub lines_told : Option ℕ → (ℕ → List SharedCode) → List (List (Pair SatelliteRow)) → Pair SatelliteRow → List Difference
+lines_told None shared earlier p = []
+lines_told (Some time) shared earlier p = row_lines shared earlier time p
+
+-- what the rows show of these codes is remembered, and nothing else changes
+pub record NotesRow (old new : List Track) (codes : List SharedCode) (p : Pair SatelliteRow) : Type 0 where
+  pub own : (k : ℕ) (code : SharedCode) (earlier : List (Pair Observed)) → k < length codes → IsTrackOf (track_at old p.old.satellite k) earlier
+      → IsTrackOf (track_at new p.old.satellite k) (cells_of (get_or codes k code) p ∷ earlier)
+  pub others : (n : ℕ) → (n < 16 * p.old.satellite) ⊎ (16 * p.old.satellite + length codes ≤ n) → get_or new n no_track ≡ get_or old n no_track
+
+-- the satellite that comes next
+abbrev pub next_view : Side → Option ℕ → Option ℕ → Option ℕ
+next_view Old a b = a
+next_view New a b = b
+next_view Both a b = a
+
+-- what a reader shows, if it has a row
+abbrev pub observed_of : Bool → RowReader → List Observed
+observed_of true r = r.observed.items
+observed_of false r = []
