@@ -1,5 +1,5 @@
 -- The text of the differences of two files, as lines or as one JSON object (this project's rule).
-use Rattle.std.specs.Prelude.{ℕ, ◌-◌, ◌==◌, if◌then◌else◌, List, [], ◌∷◌, ◌++◌, take, flat_map, codes, decimal}
+use Rattle.std.specs.Prelude.{ℕ, ◌-◌, nat_lt, ◌==◌, Bool, true, false, ◌||◌, if◌then◌else◌, List, [], ◌∷◌, ◌++◌, length, flat_map, codes, decimal, Option, None, Some}
 use Rattle.rtk_obs.specs.declared.any_code.AnyCode.{AnyCode}
 use Rattle.rtk_obs.specs.AnyCode.{name_of, text_of}
 use Rattle.rtk_obs.specs.CivilText.{civil_text}
@@ -10,7 +10,6 @@ use Rattle.rtk_compare.specs.declared.difference.Class.TheVariants.{Lost, Change
 use Rattle.rtk_compare.specs.declared.difference.What.{What}
 use Rattle.rtk_compare.specs.declared.difference.What.TheVariants as what
 use Rattle.rtk_compare.specs.declared.difference.Place.{Place}
-use Rattle.rtk_compare.specs.declared.difference.Place.TheVariants as at
 use Rattle.rtk_compare.specs.declared.difference.Difference.{Difference}
 use Rattle.rtk_compare.specs.declared.findings.Found.{Found}
 use Rattle.rtk_compare.specs.declared.findings.Findings.{Findings}
@@ -72,16 +71,29 @@ time_text form time = word_text form (codes ",\"time\":") (civil_text (reading_o
 abbrev pub satellite_text : Form → ℕ → List ℕ
 satellite_text form satellite = word_text form (codes ",\"satellite\":") (index_name satellite)
 
+abbrev pub time_of_place : Form → Option ℕ → List ℕ
+time_of_place form None = []
+time_of_place form (Some time) = time_text form time
+
+-- behind a satellite a code has no letter of a system
+abbrev pub code_of_place : Form → Option AnyCode → Option ℕ → List ℕ
+code_of_place form None satellite = []
+code_of_place form (Some code) None = word_text form (codes ",\"code\":") (text_of code)
+code_of_place form (Some code) (Some satellite) = word_text form (codes ",\"code\":") (name_of code)
+
+abbrev pub satellite_of_place : Form → Option ℕ → List ℕ
+satellite_of_place form None = []
+satellite_of_place form (Some satellite) = satellite_text form satellite
+
+abbrev pub slot_of_place : Form → Option ℕ → List ℕ
+slot_of_place form None = []
+slot_of_place form (Some slot) = in_form form (codes " ") (codes ",\"slot\":") ++ decimal slot
+
 -- formula
--- where a difference is: behind a satellite a code has no letter of a system
+-- where a difference is
 abbrev pub place_text : Form → Place → List ℕ
-place_text form at.Header = []
-place_text form (at.Code code) = word_text form (codes ",\"code\":") (text_of code)
-place_text form (at.Slot slot) = in_form form (codes " ") (codes ",\"slot\":") ++ decimal slot
-place_text form (at.Epoch time) = time_text form time
-place_text form (at.Satellite time satellite) = time_text form time ++ satellite_text form satellite
-place_text form (at.Signal time satellite code) =
-    time_text form time ++ satellite_text form satellite ++ word_text form (codes ",\"code\":") (name_of code)
+place_text form p =
+    time_of_place form p.time ++ satellite_of_place form p.satellite ++ code_of_place form p.code p.satellite ++ slot_of_place form p.slot
 
 -- formula
 -- the class at the begin of a line, or of an object
@@ -127,16 +139,25 @@ lines_text f =
 
 -- ---- JSON
 
--- objects, each on a line, with commas between them
-abbrev pub objects_text : List Difference → List ℕ
-objects_text [] = []
-objects_text (d ∷ ds) = difference_text Json d ++ flat_map (λ e. codes ",\n" ++ difference_text Json e) ds
+-- an object, with a comma before it if others stand there
+abbrev pub object_text : Bool → Difference → List ℕ
+object_text are_others d = (if are_others then codes ",\n" else []) ++ difference_text Json d
+
+-- objects, each on a line
+abbrev pub objects_text : Bool → List Difference → List ℕ
+objects_text are_others [] = []
+objects_text are_others (d ∷ ds) = object_text are_others d ++ objects_text true ds
+
+abbrev pub are_some : Found → Bool
+are_some found = nat_lt 0 (length found.first.items)
 
 -- formula
 -- the object of what was found: the counts, and the first differences of each class
 unfoldable pub json_of : Findings → List ℕ
 json_of f =
-    counts_text Json f ++ codes ",\"differences\":[\n" ++ objects_text (f.lost.first.items ++ f.changed.first.items ++ f.explained.first.items)
+    counts_text Json f ++ codes ",\"differences\":[\n" ++ objects_text false f.lost.first.items
+    ++ objects_text (are_some f.lost) f.changed.first.items
+    ++ objects_text (are_some f.lost || are_some f.changed) f.explained.first.items
     ++ codes "]}\n"
 
 -- what is written of what was found

@@ -44,8 +44,8 @@ pub record HasFindings (f : Findings) (ds : List Difference) : Type 0 where
   pub explained : HasFound Explained f.explained ds
 
 -- more differences were found: before, after
-abbrev pub Adds : Findings → Findings → List Difference → Type 0
-Adds before after more = (ds : List Difference) → HasFindings before ds → HasFindings after (ds ++ more)
+pub record Adds (before after : Findings) (more : List Difference) : Type 0 where
+  pub adds : (ds : List Difference) → HasFindings before ds → HasFindings after (ds ++ more)
 
 -- the differences of the files of these texts were found
 abbrev pub AddsDifferences : Findings → Findings → List ℕ → List ℕ → Type 0

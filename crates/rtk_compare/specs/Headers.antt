@@ -11,14 +11,14 @@ use Rattle.rtk_rinex.specs.MixedTable.{MixedTable}
 use Rattle.rtk_compare.specs.declared.difference.Class.TheVariants.{Lost, Changed}
 use Rattle.rtk_compare.specs.declared.difference.What.{What}
 use Rattle.rtk_compare.specs.declared.difference.What.TheVariants.{Marker, Position, Height, Code, Channel, LeapSeconds}
-use Rattle.rtk_compare.specs.declared.difference.Place.TheVariants as at
 use Rattle.rtk_compare.specs.declared.difference.Difference.{Difference}
+use Rattle.rtk_compare.specs.Places.{in_header, at_code, at_slot}
 use Rattle.rtk_compare.specs.Cells.{told_if}
 
 -- something that both can have or not is lost, or has changed
 abbrev pub lines_of : Bool → Bool → Bool → What → List Difference
 lines_of was is same what =
-    told_if (was && not is) Lost what at.Header ++ told_if (was && is && not same) Changed what at.Header
+    told_if (was && not is) Lost what in_header ++ told_if (was && is && not same) Changed what in_header
 
 -- zeros stand for a position that is not known
 abbrev pub is_known : PositionView → Bool
@@ -37,7 +37,7 @@ is_listed c listed = list_any (λ d. number_of c == number_of d) listed
 
 -- codes that are not listed any more; their values are not told
 abbrev pub code_lines : List AnyCode → List AnyCode → List Difference
-code_lines olds news = flat_map (λ c. told_if (not (is_listed c news)) Lost Code (at.Code c)) olds
+code_lines olds news = flat_map (λ c. told_if (not (is_listed c news)) Lost Code (at_code c)) olds
 
 abbrev pub is_same_channel : Option ℤ → Option ℤ → Bool
 is_same_channel None b = true
@@ -47,20 +47,20 @@ is_same_channel (Some a) (Some b) = int_eq a b
 -- the channel of a slot of GLONASS
 abbrev pub slot_lines : GlonassView → GlonassView → ℕ → List Difference
 slot_lines g h slot =
-    told_if (is_some (channel_at g.channels slot) && not (is_some (channel_at h.channels slot))) Lost Channel (at.Slot slot)
-    ++ told_if (is_some (channel_at h.channels slot) && not (is_same_channel (channel_at g.channels slot) (channel_at h.channels slot))) Changed Channel (at.Slot slot)
+    told_if (is_some (channel_at g.channels slot) && not (is_some (channel_at h.channels slot))) Lost Channel (at_slot slot)
+    ++ told_if (is_some (channel_at h.channels slot) && not (is_same_channel (channel_at g.channels slot) (channel_at h.channels slot))) Changed Channel (at_slot slot)
 
 -- what is told of GLONASS, if both files have its codes
 abbrev pub glonass_lines : Option GlonassView → Option GlonassView → List Difference
 glonass_lines None h = []
 glonass_lines (Some g) None = []
 glonass_lines (Some g) (Some h) =
-    flat_map (slot_lines g h) (range_with_len 1 27) ++ told_if (not (g.leap_seconds == h.leap_seconds)) Changed LeapSeconds at.Header
+    flat_map (slot_lines g h) (range_with_len 1 27) ++ told_if (not (g.leap_seconds == h.leap_seconds)) Changed LeapSeconds in_header
 
 -- the differences of two headers
 abbrev pub header_lines : MixedTable → MixedTable → List Difference
 header_lines t u =
-    told_if (not (bytes_eq t.head.marker u.head.marker)) Changed Marker at.Header
+    told_if (not (bytes_eq t.head.marker u.head.marker)) Changed Marker in_header
     ++ position_lines t.site u.site
     ++ code_lines t.head.listed u.head.listed
     ++ glonass_lines t.head.glonass u.head.glonass

@@ -1,3 +1,4 @@
+pub mod Places
 pub mod Pairs
 pub mod Phases
 pub mod Cells

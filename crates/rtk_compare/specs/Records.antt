@@ -8,9 +8,9 @@ use Rattle.rtk_rinex.specs.Record.{EpochTableView}
 use Rattle.rtk_tracking.specs.Epochs.{shown_at}
 use Rattle.rtk_compare.specs.declared.difference.Class.TheVariants.{Lost}
 use Rattle.rtk_compare.specs.declared.difference.What.TheVariants as what
-use Rattle.rtk_compare.specs.declared.difference.Place.TheVariants as at
 use Rattle.rtk_compare.specs.declared.difference.Difference.{Difference}
 use Rattle.rtk_compare.specs.declared.shared_codes.SharedCode.{SharedCode}
+use Rattle.rtk_compare.specs.Places.{at_epoch, at_satellite, at_signal}
 use Rattle.rtk_compare.specs.Pairs.{Pair, new_alone, by_time, by_satellite, side_by_side, rows_beside}
 use Rattle.rtk_compare.specs.Cells.{cell_lines}
 
@@ -31,14 +31,14 @@ cells_before s k earlier = map (λ rows. cells_of k (rows_of s rows)) earlier
 abbrev pub row_lines : (ℕ → List SharedCode) → List (List (Pair SatelliteRow)) → ℕ → Pair SatelliteRow → List Difference
 row_lines shared earlier time p =
     if length p.old.observed.items == 0 then []
-    else if length p.new.observed.items == 0 then record { class = Lost; what = what.Satellite; place = at.Satellite time p.old.satellite } ∷ []
-    else flat_map (λ k. cell_lines (cells_before p.old.satellite k earlier) (cells_of k p) (at.Signal time p.old.satellite k.code)) (shared p.old.satellite)
+    else if length p.new.observed.items == 0 then record { class = Lost; what = what.Satellite; place = at_satellite time p.old.satellite } ∷ []
+    else flat_map (λ k. cell_lines (cells_before p.old.satellite k earlier) (cells_of k p) (at_signal time p.old.satellite k.code)) (shared p.old.satellite)
 
 -- the differences of the epochs of a moment
 abbrev pub epoch_lines : (ℕ → List SharedCode) → List (List (Pair SatelliteRow)) → Pair EpochTableView → List Difference
 epoch_lines shared earlier p =
     if length p.old.rows == 0 then []
-    else if length p.new.rows == 0 then record { class = Lost; what = what.Epoch; place = at.Epoch p.old.time } ∷ []
+    else if length p.new.rows == 0 then record { class = Lost; what = what.Epoch; place = at_epoch p.old.time } ∷ []
     else flat_map (row_lines shared earlier p.old.time) (rows_beside p)
 
 -- the differences of epochs side by side, after rows of earlier moments, newest first

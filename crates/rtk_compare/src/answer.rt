@@ -1,7 +1,7 @@
 //! The text of what was found, as lines or as JSON.
 
 ghost use Rattle.std.specs.Prelude.{◌≡◌, ◌++◌, OnOk, IfOk, flat_map};
-ghost use Rattle.rtk_compare.specs.Answer.{in_form, class_word, what_word, word_text, time_text, satellite_text, place_text, class_text, difference_text, count_text, counts_text, more_line, class_lines, lines_text, objects_text, json_of, answer_text};
+ghost use Rattle.rtk_compare.specs.Answer.{in_form, class_word, what_word, word_text, time_text, satellite_text, time_of_place, satellite_of_place, code_of_place, slot_of_place, place_text, class_text, difference_text, count_text, counts_text, more_line, class_lines, lines_text, object_text, objects_text, json_of, answer_text};
 ghost use Rattle.rtk_compare.specs.declared.form.Form.TheVariants.{Lines, Json};
 
 use crate::difference::{Class, Difference, Place, What};
@@ -118,32 +118,59 @@ fn put_satellite(text: &mut Vec<u8>, form: Form, satellite: SatelliteIndex) -> R
     put_word(text, form, b",\"satellite\":", &satellite_name(satellite))
 }
 
-// Appends where a difference is.
-fn put_place(text: &mut Vec<u8>, form: Form, place: Place) -> Result<(), AllocError>
-    ensures { OnOk result (text.new.items ≡ text.old.items ++ place_text form place) }
+// Appends the epoch of a place.
+fn put_time_of(text: &mut Vec<u8>, form: Form, time: Option<GpsMs>) -> Result<(), AllocError>
+    ensures { OnOk result (text.new.items ≡ text.old.items ++ time_of_place form time) }
 {
-    match place {
-        Place::Header => Ok(()),
-        Place::Code { code } => put_word(text, form, b",\"code\":", &code.text()),
-        Place::Slot { slot } => {
-            put_either(text, form, b" ", b",\"slot\":")?;
-            put_number(text, u64::from(slot))
-        }
-        Place::Epoch { time } => put_time(text, form, time),
-        Place::Satellite { time, satellite } => {
-            put_time(text, form, time)?;
-            put_satellite(text, form, satellite)
-        }
-        Place::Signal {
-            time,
-            satellite,
-            code,
-        } => {
-            put_time(text, form, time)?;
-            put_satellite(text, form, satellite)?;
-            put_word(text, form, b",\"code\":", &code.name())
-        }
+    match time {
+        Some(time) => put_time(text, form, time),
+        None => Ok(()),
     }
+}
+
+// Appends the satellite of a place.
+fn put_satellite_of(
+    text: &mut Vec<u8>,
+    form: Form,
+    satellite: Option<SatelliteIndex>,
+) -> Result<(), AllocError>
+    ensures { OnOk result (text.new.items ≡ text.old.items ++ satellite_of_place form satellite) }
+{
+    match satellite {
+        Some(satellite) => put_satellite(text, form, satellite),
+        None => Ok(()),
+    }
+}
+
+// Appends the code of a place: behind a satellite without the letter of a system.
+fn put_code_of(text: &mut Vec<u8>, form: Form, place: &Place) -> Result<(), AllocError>
+    ensures { OnOk result (text.new.items ≡ text.old.items ++ code_of_place form place.now.code place.now.satellite) }
+{
+    match (place.code, place.satellite) {
+        (Some(code), Some(_)) => put_word(text, form, b",\"code\":", &code.name()),
+        (Some(code), None) => put_word(text, form, b",\"code\":", &code.text()),
+        (None, _) => Ok(()),
+    }
+}
+
+// Appends the slot of a place.
+fn put_slot_of(text: &mut Vec<u8>, form: Form, slot: Option<u8>) -> Result<(), AllocError>
+    ensures { OnOk result (text.new.items ≡ text.old.items ++ slot_of_place form slot) }
+{
+    match slot {
+        Some(slot) => put_count(text, form, b" ", b",\"slot\":", u64::from(slot)),
+        None => Ok(()),
+    }
+}
+
+// Appends where a difference is.
+fn put_place(text: &mut Vec<u8>, form: Form, place: &Place) -> Result<(), AllocError>
+    ensures { OnOk result (text.new.items ≡ text.old.items ++ place_text form place.now) }
+{
+    put_time_of(text, form, place.time)?;
+    put_satellite_of(text, form, place.satellite)?;
+    put_code_of(text, form, place)?;
+    put_slot_of(text, form, place.slot)
 }
 
 // Appends the class of a difference.
@@ -168,7 +195,7 @@ fn put_difference(text: &mut Vec<u8>, form: Form, difference: &Difference) -> Re
 {
     put_class(text, form, difference.class)?;
     put_word(text, form, b",\"what\":", difference.what.word())?;
-    put_place(text, form, difference.place)?;
+    put_place(text, form, &difference.place)?;
     put_either(text, form, b"\n", b"}")
 }
 
@@ -232,31 +259,44 @@ fn lines_text(alloc: Global, findings: &Findings) -> Result<Vec<u8>, AllocError>
 
 // ---- JSON
 
-// Appends objects after others, or none of them yet.
-fn put_objects(text: &mut Vec<u8>, are_others: bool, found: &Found) -> Result<(), AllocError> {
-    let mut are_others = are_others;
-    for difference in &found.first {
-        if are_others {
-            text.extend_from_slice(b",\n")?;
-        }
-        put_difference(text, Form::Json, difference)?;
-        are_others = true;
+// Appends an object, with a comma before it if others stand there.
+fn put_object(
+    text: &mut Vec<u8>,
+    are_others: bool,
+    difference: &Difference,
+) -> Result<(), AllocError>
+    ensures { OnOk result (text.new.items ≡ text.old.items ++ object_text are_others difference.now) }
+{
+    if are_others {
+        text.extend_from_slice(b",\n")?;
+    }
+    put_difference(text, Form::Json, difference)
+}
+
+// Appends the objects of a class.
+fn put_objects(text: &mut Vec<u8>, are_others: bool, found: &Found) -> Result<(), AllocError>
+    ensures { OnOk result (text.new.items ≡ text.old.items ++ objects_text are_others found.now.first.items) }
+{
+    let differences = found.first.as_slice();
+    for k in 0..differences.len() {
+        put_object(text, are_others || 0 < k, &differences[k])?;
     }
     Ok(())
 }
 
 // Makes the object of what was found.
-fn json_text(alloc: Global, findings: &Findings) -> Result<Vec<u8>, AllocError>
+#[tactic(auto, unfolding(crate::specs::Answer::json_of))]
+fn json_of(alloc: Global, findings: &Findings) -> Result<Vec<u8>, AllocError>
     ensures { IfOk result (λ text. text.items ≡ json_of findings.now) }
 {
     let mut text = Vec::new(alloc);
     put_counts(&mut text, Form::Json, findings)?;
     text.extend_from_slice(b",\"differences\":[\n")?;
     put_objects(&mut text, false, &findings.lost)?;
-    let are_lost = findings.lost.first.len() != 0;
+    let are_lost = 0 < findings.lost.first.len();
     put_objects(&mut text, are_lost, &findings.changed)?;
-    let are_told = are_lost || findings.changed.first.len() != 0;
-    put_objects(&mut text, are_told, &findings.explained)?;
+    let are_worse = are_lost || 0 < findings.changed.first.len();
+    put_objects(&mut text, are_worse, &findings.explained)?;
     text.extend_from_slice(b"]}\n")?;
     Ok(text)
 }
@@ -267,6 +307,6 @@ pub fn answer_text(alloc: Global, form: Form, findings: &Findings) -> Result<Vec
 {
     match form {
         Form::Lines => lines_text(alloc, findings),
-        Form::Json => json_text(alloc, findings),
+        Form::Json => json_of(alloc, findings),
     }
 }

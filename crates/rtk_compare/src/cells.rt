@@ -187,7 +187,28 @@ fn put_halves(distances: &Distances, old: &Observed, new: &Observed, place: &Pla
     findings.push_if(has_come && !is_finer, Class::Changed, What::HalfCycle, place);
 }
 
-/// Adds the differences of a cell, unless a greater difference is told in their place, and notes the cell.
+// Adds the differences of a cell, if there is a place to tell them at.
+fn tell_cell(
+    track: &Track,
+    distances: &Distances,
+    old: &Observed,
+    new: &Observed,
+    place: &Option<Place>,
+    findings: &mut Findings,
+)
+    ensures { (earlier : List (Pair Observed)) → IsTrackOf track.now earlier → AreDistances distances.now earlier (pair old.now new.now)
+        → Adds findings.old findings.new (lines_if_told place.now earlier (pair old.now new.now)) }
+{
+    let Some(place) = place else {
+        return;
+    };
+    put_gone(old, new, place, findings);
+    distances.put_values(place, findings);
+    put_slips(track, old, new, place, findings);
+    put_halves(distances, old, new, place, findings);
+}
+
+/// Adds the differences of a cell, if there is a place to tell them at, and notes the cell.
 pub(crate) fn compare_cell(
     track: &mut Track,
     old: &Observed,
@@ -201,12 +222,7 @@ pub(crate) fn compare_cell(
 {
     let rolls = rolls_of(old.phase_millicycles, new.phase_millicycles);
     let due = track.rolls_due(old, new, rolls);
-    if let Some(place) = place {
-        let distances = Distances::of(old, new, rolls, due);
-        put_gone(old, new, place, findings);
-        distances.put_values(place, findings);
-        put_slips(track, old, new, place, findings);
-        put_halves(&distances, old, new, place, findings);
-    }
+    let distances = Distances::of(old, new, rolls, due);
+    tell_cell(track, &distances, old, new, place, findings);
     track.note(old, new, due);
 }

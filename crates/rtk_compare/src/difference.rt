@@ -1,5 +1,8 @@
 //! A difference of two files: what it is, where it is, and whether something is lost by it.
 
+ghost use Rattle.std.specs.Prelude.{◌≡◌};
+ghost use Rattle.rtk_compare.specs.Places.{in_header, at_code, at_slot, at_epoch, at_satellite, at_signal};
+
 use rtk_obs::{AnyCode, GpsMs, SatelliteIndex};
 
 /// What a difference means for the old file.
@@ -80,29 +83,89 @@ pub enum What {
     HalfCycle,
 }
 
-/// Where a difference is.
+/// Where a difference is: what is not there is not told.
 #[derive(Clone, Copy, Debug, Default, PartialEq, Eq)]
-pub enum Place {
+pub struct Place {
+    /// The epoch; without one the place is in the header.
+    pub time: Option<GpsMs>,
+    pub satellite: Option<SatelliteIndex>,
+    pub code: Option<AnyCode>,
+    /// The slot of GLONASS.
+    pub slot: Option<u8>,
+}
+
+impl Place {
     /// In the header.
-    #[default]
-    Header,
-    /// In the header, at this code.
-    Code { code: AnyCode },
-    /// In the header, at this slot of GLONASS.
-    Slot { slot: u8 },
-    /// At this epoch.
-    Epoch { time: GpsMs },
-    /// At this epoch and satellite.
-    Satellite {
-        time: GpsMs,
-        satellite: SatelliteIndex,
-    },
-    /// At this epoch, satellite and code.
-    Signal {
-        time: GpsMs,
-        satellite: SatelliteIndex,
-        code: AnyCode,
-    },
+    pub(crate) fn header() -> Place
+        ensures { result ≡ in_header }
+    {
+        Place {
+            time: None,
+            satellite: None,
+            code: None,
+            slot: None,
+        }
+    }
+
+    /// In the header, at a code.
+    pub(crate) fn of_code(code: AnyCode) -> Place
+        ensures { result ≡ at_code code }
+    {
+        Place {
+            time: None,
+            satellite: None,
+            code: Some(code),
+            slot: None,
+        }
+    }
+
+    /// In the header, at a slot of GLONASS.
+    pub(crate) fn of_slot(slot: u8) -> Place
+        ensures { result ≡ at_slot slot }
+    {
+        Place {
+            time: None,
+            satellite: None,
+            code: None,
+            slot: Some(slot),
+        }
+    }
+
+    /// At an epoch.
+    pub(crate) fn of_epoch(time: GpsMs) -> Place
+        ensures { result ≡ at_epoch time }
+    {
+        Place {
+            time: Some(time),
+            satellite: None,
+            code: None,
+            slot: None,
+        }
+    }
+
+    /// At an epoch and a satellite.
+    pub(crate) fn of_satellite(time: GpsMs, satellite: SatelliteIndex) -> Place
+        ensures { result ≡ at_satellite time satellite }
+    {
+        Place {
+            time: Some(time),
+            satellite: Some(satellite),
+            code: None,
+            slot: None,
+        }
+    }
+
+    /// At an epoch, a satellite and a code.
+    pub(crate) fn of_signal(time: GpsMs, satellite: SatelliteIndex, code: AnyCode) -> Place
+        ensures { result ≡ at_signal time satellite code }
+    {
+        Place {
+            time: Some(time),
+            satellite: Some(satellite),
+            code: Some(code),
+            slot: None,
+        }
+    }
 }
 
 /// A difference of two files.

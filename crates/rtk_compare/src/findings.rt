@@ -1,8 +1,7 @@
 //! The differences that were found: how many of each class, and the first ones.
 
-ghost use Rattle.std.specs.Prelude.{◌≡◌, ◌<◌, ◌⊎◌, ◌++◌, ◌∷◌, [], List, Decides, if◌then◌else◌, true};
+ghost use Rattle.std.specs.Prelude.{◌≡◌, ◌<◌, ◌⊎◌, ◌++◌, ◌∷◌, [], List, take, Decides, true};
 ghost use Rattle.rtk_compare.specs.declared.difference.Class.{Class};
-ghost use Rattle.rtk_compare.specs.declared.difference.Class.TheVariants.{Lost, Changed, Explained};
 ghost use Rattle.rtk_compare.specs.declared.difference.Difference.{Difference};
 ghost use Rattle.rtk_compare.specs.Cells.{told_if};
 ghost use Rattle.rtk_compare.specs.Differences.{HasFound, HasFindings, Adds};
@@ -31,6 +30,15 @@ pub struct Findings {
     pub explained: Found,
 }
 
+// Keeps a difference, if there is room for it.
+fn keep(first: &mut ArrayVec<Difference, MOST_KEPT>, difference: &Difference)
+    ensures { first.new.items ≡ take 100 (first.old.items ++ difference.now ∷ []) }
+{
+    if first.len() < MOST_KEPT {
+        first.push(*difference);
+    }
+}
+
 impl Found {
     fn none() -> Found
         ensures { (c : Class) → HasFound c result [] }
@@ -41,11 +49,11 @@ impl Found {
         }
     }
 
-    fn push(&mut self, difference: Difference)
-        ensures { (ds : List Difference) → HasFound difference.class self.old ds → HasFound difference.class self.new (ds ++ difference ∷ []) }
+    fn push(&mut self, difference: &Difference)
+        ensures { (c : Class) (ds : List Difference) → c ≡ difference.now.class → HasFound c self.old ds → HasFound c self.new (ds ++ difference.now ∷ []) }
     {
         self.count = self.count.saturating_add(1);
-        let _kept = self.first.try_push(difference);
+        keep(&mut self.first, difference);
     }
 }
 
@@ -54,10 +62,13 @@ impl Findings {
     pub fn none() -> Findings
         ensures { HasFindings result [] }
     {
+        let lost = Found::none();
+        let changed = Found::none();
+        let explained = Found::none();
         Findings {
-            lost: Found::none(),
-            changed: Found::none(),
-            explained: Found::none(),
+            lost,
+            changed,
+            explained,
         }
     }
 
@@ -71,9 +82,9 @@ impl Findings {
             place: *place,
         };
         match class {
-            Class::Lost => self.lost.push(difference),
-            Class::Changed => self.changed.push(difference),
-            Class::Explained => self.explained.push(difference),
+            Class::Lost => self.lost.push(&difference),
+            Class::Changed => self.changed.push(&difference),
+            Class::Explained => self.explained.push(&difference),
         }
     }
 

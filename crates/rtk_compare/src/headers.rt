@@ -19,9 +19,9 @@ impl Having {
     /// Adds that it is lost, or has changed.
     pub(crate) fn put(self, what: What, findings: &mut Findings) {
         let is_lost = self.was && !self.is;
-        findings.push_if(is_lost, Class::Lost, what, &Place::Header);
+        findings.push_if(is_lost, Class::Lost, what, &Place::header());
         let has_changed = self.was && self.is && !self.is_same;
-        findings.push_if(has_changed, Class::Changed, what, &Place::Header);
+        findings.push_if(has_changed, Class::Changed, what, &Place::header());
     }
 }
 
@@ -59,14 +59,14 @@ fn is_listed(code: AnyCode, listed: &[AnyCode]) -> bool {
 // Adds the codes that are not listed any more.
 fn compare_codes(olds: &[AnyCode], news: &[AnyCode], findings: &mut Findings) {
     for code in olds {
-        let place = Place::Code { code: *code };
+        let place = Place::of_code(*code);
         findings.push_if(!is_listed(*code, news), Class::Lost, What::Code, &place);
     }
 }
 
 // Compares the channels of a slot.
 fn compare_slots(old: &Glonass, new: &Glonass, slot: u8, findings: &mut Findings) {
-    let place = Place::Slot { slot };
+    let place = Place::of_slot(slot);
     match (old.channels().channel(slot), new.channels().channel(slot)) {
         (Some(old), Some(new)) => {
             let has_changed = old.number() != new.number();
@@ -83,7 +83,7 @@ fn compare_glonass(old: &Glonass, new: &Glonass, findings: &mut Findings) {
         compare_slots(old, new, slot, findings);
     }
     let has_changed = old.leap_seconds() != new.leap_seconds();
-    findings.push_if(has_changed, Class::Changed, What::LeapSeconds, &Place::Header);
+    findings.push_if(has_changed, Class::Changed, What::LeapSeconds, &Place::header());
 }
 
 /// Compares the headers of two files.
@@ -93,7 +93,7 @@ pub(crate) fn compare_headers(
     findings: &mut Findings,
 ) {
     let has_changed = old.head.marker() != new.head.marker();
-    findings.push_if(has_changed, Class::Changed, What::Marker, &Place::Header);
+    findings.push_if(has_changed, Class::Changed, What::Marker, &Place::header());
     compare_positions(&old.position, &new.position, findings);
     compare_codes(old.head.codes(), new.head.codes(), findings);
     if let (Some(old), Some(new)) = (old.head.glonass(), new.head.glonass()) {

@@ -22,12 +22,12 @@ fn compare_epoch(
         (Some(rows), Some(_)) => Some(rows.time()),
         (Some(rows), None) => {
             let time = rows.time();
-            findings.push(Class::Lost, What::Epoch, &Place::Epoch { time });
+            findings.push(Class::Lost, What::Epoch, &Place::of_epoch(time));
             None
         }
         (None, _) => None,
     };
-    compare_rows(shared, tracks, (old, new), &time, findings);
+    compare_rows(shared, tracks, old, new, &time, findings);
 }
 
 /// Compares the records of two files.

@@ -48,11 +48,7 @@ impl<'r> RowPair<'r> {
         if self.old.len() == 0 || self.new.len() == 0 {
             return None;
         }
-        Some(Place::Signal {
-            time: *time,
-            satellite: self.satellite,
-            code: code.code,
-        })
+        Some(Place::of_signal(*time, self.satellite, code.code))
     }
 
     // Adds the satellite, if it is gone.
@@ -60,12 +56,8 @@ impl<'r> RowPair<'r> {
         ensures { Adds findings.old findings.new (gone_line time.now (row_view self.now)) }
     {
         if let Some(time) = time {
-            let satellite = self.satellite;
             let is_gone = self.old.len() != 0 && self.new.len() == 0;
-            let place = Place::Satellite {
-                time: *time,
-                satellite,
-            };
+            let place = Place::of_satellite(*time, self.satellite);
             findings.push_if(is_gone, Class::Lost, What::Satellite, &place);
         }
     }
@@ -118,14 +110,14 @@ fn observed_if<'r>(has_row: bool, reader: &'r RowReader<'_>) -> &'r [Observed]
 fn compare_next(
     shared: &SharedCodes,
     tracks: &mut [Track],
-    rows: (&RowReader<'_>, &RowReader<'_>),
+    old: &RowReader<'_>,
+    new: &RowReader<'_>,
     time: &Option<GpsMs>,
     findings: &mut Findings,
 ) -> Option<Side>
     requires tracks { AreTracks tracks.old }
     ensures size { AreTracks tracks.new }
 {
-    let (old, new) = rows;
     let side = next_side(old.number(), new.number())?;
     let satellite = next_satellite(side, old, new)?;
     let row = RowPair {
@@ -142,17 +134,17 @@ fn compare_next(
 pub(crate) fn compare_rows(
     shared: &SharedCodes,
     tracks: &mut [Track],
-    rows: (Option<MixedRows<'_>>, Option<MixedRows<'_>>),
+    old: Option<MixedRows<'_>>,
+    new: Option<MixedRows<'_>>,
     time: &Option<GpsMs>,
     findings: &mut Findings,
 )
     requires tracks { AreTracks tracks.old }
     ensures size { AreTracks tracks.new }
 {
-    let (old_rows, new_rows) = rows;
-    let mut old = RowReader::of(old_rows);
-    let mut new = RowReader::of(new_rows);
-    while let Some(side) = compare_next(shared, tracks, (&old, &new), time, findings) {
+    let mut old = RowReader::of(old);
+    let mut new = RowReader::of(new);
+    while let Some(side) = compare_next(shared, tracks, &old, &new, time, findings) {
         if side.has_old() {
             old.advance();
         }

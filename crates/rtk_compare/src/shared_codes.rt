@@ -1,9 +1,9 @@
 //! The codes that two files have both.
 
-ghost use Rattle.std.specs.Prelude.{◌≡◌, ◌≤◌, ◌<◌, length, zero};
+ghost use Rattle.std.specs.Prelude.{◌≡◌, ◌≤◌, ◌<◌, ◌+◌, ◌++◌, length};
 ghost use Rattle.rtk_obs.specs.SatelliteIndex.{letter_of};
 ghost use Rattle.rtk_rinex.specs.MixedHeader.{codes_of};
-ghost use Rattle.rtk_compare.specs.Codes.{place_from, shared_from, shared_codes};
+ghost use Rattle.rtk_compare.specs.Codes.{place_in, with_places, shared_of, shared_codes};
 ghost use Rattle.rtk_compare.specs.Steps.SharedCodes.{HasShared, codes_at};
 
 use arrayvec::ArrayVec;
@@ -49,38 +49,42 @@ fn group(system: System, head: &MixedHead) -> ArrayVec<AnyCode, 16>
     codes
 }
 
-// Returns the place of a code in a list.
+// Returns the first place of a code in a list.
 fn place_in(code: AnyCode, listed: &[AnyCode]) -> Option<usize>
-    ensures { result ≡ place_from zero code listed.now }
+    ensures { result ≡ place_in code listed.now }
 {
-    for k in 0..listed.len() {
-        if listed[k].number() == code.number() {
-            return Some(k);
-        }
+    listed
+        .iter()
+        .position(|other| other.number() == code.number())
+}
+
+// Adds a code, if it has a place in the new list.
+fn put_shared(shared: &mut Shared, code: AnyCode, old: usize, new: Option<usize>)
+    requires { length shared.old.items < 16 }
+    ensures items { shared.new.items ≡ shared.old.items ++ with_places code old new }
+    ensures len { length shared.new.items ≤ length shared.old.items + 1 }
+{
+    if let Some(new) = new {
+        shared.push(SharedCode { code, old, new });
     }
-    None
 }
 
 // Returns the codes that both lists have.
 fn shared_of(olds: &[AnyCode], news: &[AnyCode]) -> Shared
     requires { length olds.now ≤ 16 }
-    ensures { result.items ≡ shared_from zero olds.now news.now }
+    ensures { result.items ≡ shared_of olds.now news.now }
 {
     let mut shared = ArrayVec::new();
     for old in 0..olds.len() {
         let code = olds[old];
-        if let Some(new) = place_in(code, news) {
-            if shared.try_push(SharedCode { code, old, new }).is_err() {
-                unreachable!();
-            }
-        }
+        put_shared(&mut shared, code, old, place_in(code, news));
     }
     shared
 }
 
 // Returns the codes of a system that both heads list.
 fn shared_in(system: System, old: &MixedHead, new: &MixedHead) -> Shared
-    ensures { result.items ≡ shared_from zero (codes_of (letter_of system) old.now.listed) (codes_of (letter_of system) new.now.listed) }
+    ensures { result.items ≡ shared_of (codes_of (letter_of system) old.now.listed) (codes_of (letter_of system) new.now.listed) }
 {
     let olds = group(system, old);
     let news = group(system, new);

@@ -5,7 +5,6 @@ use Rattle.rtk_rinex.specs.declared.epoch_table.SatelliteRow.{SatelliteRow}
 use Rattle.rtk_compare.specs.declared.difference.Class.TheVariants.{Lost}
 use Rattle.rtk_compare.specs.declared.difference.What.TheVariants as what
 use Rattle.rtk_compare.specs.declared.difference.Place.{Place}
-use Rattle.rtk_compare.specs.declared.difference.Place.TheVariants as at
 use Rattle.rtk_compare.specs.declared.difference.Difference.{Difference}
 use Rattle.rtk_compare.specs.declared.rows.RowPair.{RowPair}
 use Rattle.rtk_compare.specs.declared.row_reader.RowReader.{RowReader}
@@ -13,6 +12,7 @@ use Rattle.rtk_compare.specs.declared.shared_codes.SharedCode.{SharedCode}
 use Rattle.rtk_compare.specs.declared.side.Side.{Side}
 use Rattle.rtk_compare.specs.declared.side.Side.TheVariants.{Old, New, Both}
 use Rattle.rtk_compare.specs.declared.track.Track.{Track}
+use Rattle.rtk_compare.specs.Places.{at_satellite, at_signal}
 use Rattle.rtk_compare.specs.Pairs.{Pair}
 use Rattle.rtk_compare.specs.Cells.{told_if}
 use Rattle.rtk_compare.specs.Records.{cells_of, cells_before, row_lines}
@@ -33,12 +33,12 @@ is_alone p = (length p.old.observed.items == 0) || (length p.new.observed.items 
 -- where the differences of a code are told, if they are
 abbrev pub place_at : Option ℕ → Pair SatelliteRow → SharedCode → Option Place
 place_at None p k = None
-place_at (Some time) p k = if is_alone p then None else Some (at.Signal time p.old.satellite k.code)
+place_at (Some time) p k = if is_alone p then None else Some (at_signal time p.old.satellite k.code)
 
 abbrev pub gone_line : Option ℕ → Pair SatelliteRow → List Difference
 gone_line None p = []
 gone_line (Some time) p =
-    told_if (not (length p.old.observed.items == 0) && (length p.new.observed.items == 0)) Lost what.Satellite (at.Satellite time p.old.satellite)
+    told_if (not (length p.old.observed.items == 0) && (length p.new.observed.items == 0)) Lost what.Satellite (at_satellite time p.old.satellite)
 
 -- the differences of a satellite, if there is a time
 abbrev pub lines_told : Option ℕ → (ℕ → List SharedCode) → List (List (Pair SatelliteRow)) → Pair SatelliteRow → List Difference
