@@ -66,10 +66,24 @@ differs p = nat_lt 0 (ranges_apart p) || nat_lt 0 (strengths_apart p) || nat_lt 
 abbrev pub phase_has_changed : List (Pair Observed) → Pair Observed → Bool
 phase_has_changed earlier p = not (is_near earlier p) && (not (rolls_are_due earlier p) || nat_lt 0 (phases_apart p))
 
+abbrev pub range_has_changed : List (Pair Observed) → Pair Observed → Bool
+range_has_changed earlier p = not (is_near earlier p) && nat_lt 0 (ranges_apart p)
+
+abbrev pub strength_has_changed : List (Pair Observed) → Pair Observed → Bool
+strength_has_changed earlier p = not (is_near earlier p) && nat_lt 0 (strengths_apart p)
+
+-- a finer message gives the cell
+abbrev pub is_finer : List (Pair Observed) → Pair Observed → Bool
+is_finer earlier p = is_near earlier p && differs p
+
 -- some rolls
 abbrev pub are_some : Option ℤ → Bool
 are_some None = false
 are_some (Some rolls) = not (int_eq rolls (pos 0))
+
+-- the phase has rolled, and not changed
+abbrev pub has_rolled : List (Pair Observed) → Pair Observed → Bool
+has_rolled earlier p = are_some (rolls_of p) && not (phase_has_changed earlier p)
 
 -- ---- marks
 
@@ -80,19 +94,23 @@ have_phases p = has_phase p.old && has_phase p.new
 abbrev pub mark_is_gone : Pair Observed → Bool → Bool → Bool
 mark_is_gone p old new = have_phases p && old && not new
 
--- why a slip is gone: it is the first phase of the old file, or the new file fills a gap, or it is lost
+-- why a slip is gone: it is lost, or the new file fills a gap, or it is the first phase of the old file
+abbrev pub gone_slip_lines : List (Pair Observed) → Bool → Place → List Difference
+gone_slip_lines earlier is_gone place =
+    told_if (is_gone && had_phase earlier && not (fills_gap earlier)) Lost Slip place
+    ++ told_if (is_gone && had_phase earlier && fills_gap earlier) Explained FilledSlip place
+    ++ told_if (is_gone && not (had_phase earlier)) Explained FirstSlip place
+
 abbrev pub slip_lines : List (Pair Observed) → Pair Observed → Place → List Difference
 slip_lines earlier p place =
-    told_if (mark_is_gone p p.old.slip p.new.slip && had_phase earlier && not (fills_gap earlier)) Lost Slip place
-    ++ told_if (mark_is_gone p p.old.slip p.new.slip && had_phase earlier && fills_gap earlier) Explained FilledSlip place
-    ++ told_if (mark_is_gone p p.old.slip p.new.slip && not (had_phase earlier)) Explained FirstSlip place
+    gone_slip_lines earlier (mark_is_gone p p.old.slip p.new.slip) place
     ++ told_if (mark_is_gone p p.new.slip p.old.slip) Explained NewSlip place
 
 -- a half cycle that has come is explained by the finer message, since a 1004 tells none
 abbrev pub half_lines : List (Pair Observed) → Pair Observed → Place → List Difference
 half_lines earlier p place =
     told_if (mark_is_gone p p.old.half p.new.half) Lost HalfCycle place
-    ++ told_if (mark_is_gone p p.new.half p.old.half && not (is_near earlier p && differs p)) Changed HalfCycle place
+    ++ told_if (mark_is_gone p p.new.half p.old.half && not (is_finer earlier p)) Changed HalfCycle place
 
 -- ---- the cell
 
@@ -105,11 +123,11 @@ gone_lines p place =
 -- values that have changed, or are finer
 abbrev pub value_lines : List (Pair Observed) → Pair Observed → Place → List Difference
 value_lines earlier p place =
-    told_if (not (is_near earlier p) && nat_lt 0 (ranges_apart p)) Changed Range place
+    told_if (range_has_changed earlier p) Changed Range place
     ++ told_if (phase_has_changed earlier p) Changed Phase place
-    ++ told_if (not (is_near earlier p) && nat_lt 0 (strengths_apart p)) Changed Strength place
-    ++ told_if (is_near earlier p && differs p) Explained Finer place
-    ++ told_if (are_some (rolls_of p) && not (phase_has_changed earlier p)) Explained Roll place
+    ++ told_if (strength_has_changed earlier p) Changed Strength place
+    ++ told_if (is_finer earlier p) Explained Finer place
+    ++ told_if (has_rolled earlier p) Explained Roll place
 
 -- the differences of a cell, after these earlier ones of the satellite and code, newest first
 unfoldable pub cell_lines : List (Pair Observed) → Pair Observed → Place → List Difference

@@ -14,7 +14,7 @@ use Rattle.rtk_compare.specs.Records.{record_lines}
 
 -- the differences of two files: those of their headers, then those of their epochs
 abbrev pub differences : MixedTable → MixedTable → List Difference
-differences t u = header_lines t u ++ record_lines (shared_codes t.head.listed u.head.listed) t.epochs u.epochs
+differences t u = header_lines t.head t.site u.head u.site ++ record_lines (shared_codes t.head.listed u.head.listed) t.epochs u.epochs
 
 -- ---- counts
 

@@ -6,8 +6,7 @@ use Rattle.rtk_obs.specs.declared.any_code.AnyCode.{AnyCode}
 use Rattle.rtk_obs.specs.AnyCode.{number_of}
 use Rattle.rtk_obs.specs.Carriers.{channel_at}
 use Rattle.rtk_rinex.specs.Header.{PositionView}
-use Rattle.rtk_rinex.specs.MixedHead.{GlonassView}
-use Rattle.rtk_rinex.specs.MixedTable.{MixedTable}
+use Rattle.rtk_rinex.specs.MixedHead.{GlonassView, MixedHeadView}
 use Rattle.rtk_compare.specs.declared.difference.Class.TheVariants.{Lost, Changed}
 use Rattle.rtk_compare.specs.declared.difference.What.{What}
 use Rattle.rtk_compare.specs.declared.difference.What.TheVariants.{Marker, Position, Height, Code, Channel, LeapSeconds}
@@ -36,8 +35,11 @@ abbrev pub is_listed : AnyCode → List AnyCode → Bool
 is_listed c listed = list_any (λ d. number_of c == number_of d) listed
 
 -- codes that are not listed any more; their values are not told
+abbrev pub code_line : AnyCode → List AnyCode → List Difference
+code_line c news = told_if (not (is_listed c news)) Lost Code (at_code c)
+
 abbrev pub code_lines : List AnyCode → List AnyCode → List Difference
-code_lines olds news = flat_map (λ c. told_if (not (is_listed c news)) Lost Code (at_code c)) olds
+code_lines olds news = flat_map (λ c. code_line c news) olds
 
 abbrev pub is_same_channel : Option ℤ → Option ℤ → Bool
 is_same_channel None b = true
@@ -50,17 +52,23 @@ slot_lines g h slot =
     told_if (is_some (channel_at g.channels slot) && not (is_some (channel_at h.channels slot))) Lost Channel (at_slot slot)
     ++ told_if (is_some (channel_at h.channels slot) && not (is_same_channel (channel_at g.channels slot) (channel_at h.channels slot))) Changed Channel (at_slot slot)
 
+abbrev pub channel_lines : GlonassView → GlonassView → List Difference
+channel_lines g h = flat_map (slot_lines g h) (range_with_len 1 27)
+
 -- what is told of GLONASS, if both files have its codes
 abbrev pub glonass_lines : Option GlonassView → Option GlonassView → List Difference
 glonass_lines None h = []
 glonass_lines (Some g) None = []
 glonass_lines (Some g) (Some h) =
-    flat_map (slot_lines g h) (range_with_len 1 27) ++ told_if (not (g.leap_seconds == h.leap_seconds)) Changed LeapSeconds in_header
+    channel_lines g h ++ told_if (not (g.leap_seconds == h.leap_seconds)) Changed LeapSeconds in_header
 
--- the differences of two headers
-abbrev pub header_lines : MixedTable → MixedTable → List Difference
-header_lines t u =
-    told_if (not (bytes_eq t.head.marker u.head.marker)) Changed Marker in_header
-    ++ position_lines t.site u.site
-    ++ code_lines t.head.listed u.head.listed
-    ++ glonass_lines t.head.glonass u.head.glonass
+abbrev pub marker_lines : List ℕ → List ℕ → List Difference
+marker_lines a b = told_if (not (bytes_eq a b)) Changed Marker in_header
+
+-- the differences of two headers, of which these are the heads and the positions
+abbrev pub header_lines : MixedHeadView → PositionView → MixedHeadView → PositionView → List Difference
+header_lines h s g r =
+    marker_lines h.marker g.marker
+    ++ position_lines s r
+    ++ code_lines h.listed g.listed
+    ++ glonass_lines h.glonass g.glonass

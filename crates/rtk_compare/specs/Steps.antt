@@ -4,3 +4,4 @@ pub mod SharedCodes
 pub mod Sides
 pub mod Readers
 pub mod Rows
+pub mod Records

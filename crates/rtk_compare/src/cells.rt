@@ -1,10 +1,10 @@
 //! What two files show of a satellite and code at one epoch.
 
-ghost use Rattle.std.specs.Prelude.{◌≡◌, ◌∷◌, List, Option, ℤ};
+ghost use Rattle.std.specs.Prelude.{◌≡◌, ◌&&◌, ◌∷◌, not, List};
 ghost use Rattle.rtk_rinex.specs.declared.epoch_table.Observed.{Observed};
 ghost use Rattle.rtk_compare.specs.Pairs.{Pair};
 ghost use Rattle.rtk_compare.specs.Phases.{rolls_of, rolls_due};
-ghost use Rattle.rtk_compare.specs.Cells.{is_gone, apart, are_due, are_some, strength_value, have_phases, is_near, differs, phase_has_changed, gone_lines, value_lines, slip_lines, half_lines, cell_lines};
+ghost use Rattle.rtk_compare.specs.Cells.{is_gone, apart, are_due, are_some, strength_value, have_phases, is_near, differs, range_has_changed, phase_has_changed, strength_has_changed, is_finer, has_rolled, gone_lines, value_lines, gone_slip_lines, slip_lines, half_lines, cell_lines};
 ghost use Rattle.rtk_compare.specs.Differences.{Adds};
 ghost use Rattle.rtk_compare.specs.Steps.Tracks.{IsTrackOf, pair, lines_if_told, AreDistances};
 
@@ -116,6 +116,34 @@ impl Distances {
         0 < self.range || 0 < self.strength || 0 < self.phase
     }
 
+    // Has the range changed?
+    fn range_has_changed(&self) -> bool
+        ensures { (earlier : List (Pair Observed)) (p : Pair Observed) → AreDistances self.now earlier p → result ≡ range_has_changed earlier p }
+    {
+        !self.is_near() && 0 < self.range
+    }
+
+    // Has the strength changed?
+    fn strength_has_changed(&self) -> bool
+        ensures { (earlier : List (Pair Observed)) (p : Pair Observed) → AreDistances self.now earlier p → result ≡ strength_has_changed earlier p }
+    {
+        !self.is_near() && 0 < self.strength
+    }
+
+    // Does a finer message give the cell?
+    fn is_finer(&self) -> bool
+        ensures { (earlier : List (Pair Observed)) (p : Pair Observed) → AreDistances self.now earlier p → result ≡ is_finer earlier p }
+    {
+        self.is_near() && self.differs()
+    }
+
+    // Has the phase rolled, and not changed?
+    fn has_rolled(&self) -> bool
+        ensures { (earlier : List (Pair Observed)) (p : Pair Observed) → AreDistances self.now earlier p → result ≡ has_rolled earlier p }
+    {
+        are_some(self.rolls) && !self.phase_has_changed()
+    }
+
     // Has the phase changed?
     fn phase_has_changed(&self) -> bool
         ensures { (earlier : List (Pair Observed)) (p : Pair Observed) → AreDistances self.now earlier p → result ≡ phase_has_changed earlier p }
@@ -128,13 +156,16 @@ impl Distances {
         ensures { (earlier : List (Pair Observed)) (p : Pair Observed) → AreDistances self.now earlier p
             → Adds findings.old findings.new (value_lines earlier p place.now) }
     {
-        let is_near = self.is_near();
-        let has_changed = self.phase_has_changed();
-        findings.push_if(!is_near && 0 < self.range, Class::Changed, What::Range, place);
-        findings.push_if(has_changed, Class::Changed, What::Phase, place);
-        findings.push_if(!is_near && 0 < self.strength, Class::Changed, What::Strength, place);
-        findings.push_if(is_near && self.differs(), Class::Explained, What::Finer, place);
-        findings.push_if(are_some(self.rolls) && !has_changed, Class::Explained, What::Roll, place);
+        let range = self.range_has_changed();
+        findings.push_if(range, Class::Changed, What::Range, place);
+        let phase = self.phase_has_changed();
+        findings.push_if(phase, Class::Changed, What::Phase, place);
+        let strength = self.strength_has_changed();
+        findings.push_if(strength, Class::Changed, What::Strength, place);
+        let is_finer = self.is_finer();
+        findings.push_if(is_finer, Class::Explained, What::Finer, place);
+        let has_rolled = self.has_rolled();
+        findings.push_if(has_rolled, Class::Explained, What::Roll, place);
     }
 }
 
@@ -157,33 +188,53 @@ fn have_phases(old: &Observed, new: &Observed) -> bool
     old.phase_millicycles.is_some() && new.phase_millicycles.is_some()
 }
 
-// Adds a slip that is gone, or has come.
-fn put_slips(track: &Track, old: &Observed, new: &Observed, place: &Place, findings: &mut Findings)
-    ensures { (earlier : List (Pair Observed)) → IsTrackOf track.now earlier
-        → Adds findings.old findings.new (slip_lines earlier (pair old.now new.now) place.now) }
+// Is a mark gone of a phase that both files have?
+fn mark_is_gone(have_phases: bool, old: bool, new: bool) -> bool
+    ensures { result ≡ (have_phases && old && not new) }
 {
-    let have_phases = have_phases(old, new);
-    let is_gone = have_phases && old.slip && !new.slip;
+    have_phases && old && !new
+}
+
+// Adds a slip that is gone.
+fn put_gone_slip(track: &Track, is_gone: bool, place: &Place, findings: &mut Findings)
+    ensures { (earlier : List (Pair Observed)) → IsTrackOf track.now earlier → Adds findings.old findings.new (gone_slip_lines earlier is_gone place.now) }
+{
     let is_lost = is_gone && track.had_phase && !track.fills_gap;
     findings.push_if(is_lost, Class::Lost, What::Slip, place);
     let is_filled = is_gone && track.had_phase && track.fills_gap;
     findings.push_if(is_filled, Class::Explained, What::FilledSlip, place);
     let is_first = is_gone && !track.had_phase;
     findings.push_if(is_first, Class::Explained, What::FirstSlip, place);
-    let is_new = have_phases && new.slip && !old.slip;
+}
+
+// Adds a slip that is gone, or has come.
+fn put_slips(track: &Track, old: &Observed, new: &Observed, place: &Place, findings: &mut Findings)
+    ensures { (earlier : List (Pair Observed)) → IsTrackOf track.now earlier
+        → Adds findings.old findings.new (slip_lines earlier (pair old.now new.now) place.now) }
+{
+    let have_phases = have_phases(old, new);
+    let is_gone = mark_is_gone(have_phases, old.slip, new.slip);
+    put_gone_slip(track, is_gone, place, findings);
+    let is_new = mark_is_gone(have_phases, new.slip, old.slip);
     findings.push_if(is_new, Class::Explained, What::NewSlip, place);
 }
 
 // Adds a half cycle that is gone, or has come without a finer message.
-fn put_halves(distances: &Distances, old: &Observed, new: &Observed, place: &Place, findings: &mut Findings)
+fn put_halves(
+    distances: &Distances,
+    old: &Observed,
+    new: &Observed,
+    place: &Place,
+    findings: &mut Findings,
+)
     ensures { (earlier : List (Pair Observed)) → AreDistances distances.now earlier (pair old.now new.now)
         → Adds findings.old findings.new (half_lines earlier (pair old.now new.now) place.now) }
 {
     let have_phases = have_phases(old, new);
-    let is_gone = have_phases && old.half && !new.half;
+    let is_gone = mark_is_gone(have_phases, old.half, new.half);
     findings.push_if(is_gone, Class::Lost, What::HalfCycle, place);
-    let has_come = have_phases && new.half && !old.half;
-    let is_finer = distances.is_near() && distances.differs();
+    let has_come = mark_is_gone(have_phases, new.half, old.half);
+    let is_finer = distances.is_finer();
     findings.push_if(has_come && !is_finer, Class::Changed, What::HalfCycle, place);
 }
 

@@ -1,16 +1,16 @@
 //! The rows of two records side by side.
 
-ghost use Rattle.std.specs.Prelude.{◌≡◌, ◌≤◌, ℕ, List, ◌∷◌, Option, None, length, flat_map, AllPairs};
+ghost use Rattle.std.specs.Prelude.{◌≡◌, ◌≤◌, ℕ, List, length, IfSome, IfNone};
 ghost use Rattle.rtk_rinex.specs.declared.epoch_table.SatelliteRow.{SatelliteRow};
 ghost use Rattle.rtk_tracking.specs.Epochs.{shown_at};
 ghost use Rattle.rtk_compare.specs.declared.shared_codes.SharedCode.{SharedCode};
 ghost use Rattle.rtk_compare.specs.Pairs.{Pair, by_satellite, side_by_side};
 ghost use Rattle.rtk_compare.specs.Differences.{Adds};
-ghost use Rattle.rtk_compare.specs.Steps.Tracks.{AreTracks, AreTracksOf};
+ghost use Rattle.rtk_compare.specs.Steps.Tracks.{AreTracks, AreTracksAt, AreTracksOf};
 ghost use Rattle.rtk_compare.specs.Steps.SharedCodes.{HasShared};
-ghost use Rattle.rtk_compare.specs.Steps.Readers.{AreRowsOf, IsAtRows};
+ghost use Rattle.rtk_compare.specs.Steps.Readers.{AreRowsOf};
 ghost use Rattle.rtk_compare.specs.Steps.Sides.{IsNextSide};
-ghost use Rattle.rtk_compare.specs.Steps.Rows.{row_view, place_at, gone_line, lines_told, NotesRow, next_view, observed_of};
+ghost use Rattle.rtk_compare.specs.Steps.Rows.{row_view, place_at, gone_line, lines_told, NotesRow, next_view, observed_of, next_rows, Rise, ComparesRows};
 
 use crate::cells::compare_cell;
 use crate::difference::{Class, Place, What};
@@ -74,8 +74,8 @@ fn compare_row(
     requires codes { length codes.now ≤ 16 }
     requires tracks { AreTracks tracks.old }
     ensures size { AreTracks tracks.new }
-    ensures lines { (shared : ℕ → List SharedCode) (earlier : List (List (Pair SatelliteRow))) → codes.now ≡ shared row.now.satellite → AreTracksOf tracks.old shared earlier
-        → Adds findings.old findings.new (lines_told time.now shared earlier (row_view row.now)) }
+    ensures lines { (shared : ℕ → List SharedCode) (earlier : List (List (Pair SatelliteRow))) → codes.now ≡ shared row.now.satellite
+        → AreTracksAt tracks.old shared earlier row.now.satellite → Adds findings.old findings.new (lines_told time.now shared earlier (row_view row.now)) }
     ensures tracks { NotesRow tracks.old tracks.new codes.now (row_view row.now) }
 {
     row.put_gone(time, findings);
@@ -106,7 +106,7 @@ fn observed_if<'r>(has_row: bool, reader: &'r RowReader<'_>) -> &'r [Observed]
     if has_row { reader.observed() } else { &[] }
 }
 
-// Compares the rows that come next.
+// Compares the rows that come next, and answers which files have one.
 fn compare_next(
     shared: &SharedCodes,
     tracks: &mut [Track],
@@ -117,6 +117,13 @@ fn compare_next(
 ) -> Option<Side>
     requires tracks { AreTracks tracks.old }
     ensures size { AreTracks tracks.new }
+    ensures side { IsNextSide old.now.satellite new.now.satellite result }
+    ensures lines { (codes : ℕ → List SharedCode) (earlier : List (List (Pair SatelliteRow))) → HasShared shared.now codes
+        → IfSome result (λ side. AreTracksAt tracks.old codes earlier (next_rows side old.now new.now).old.satellite
+        → Adds findings.old findings.new (lines_told time.now codes earlier (next_rows side old.now new.now))) }
+    ensures tracks { (codes : ℕ → List SharedCode) → HasShared shared.now codes
+        → IfSome result (λ side. NotesRow tracks.old tracks.new (codes (next_rows side old.now new.now).old.satellite) (next_rows side old.now new.now)) }
+    ensures end { IfNone result ((findings.new ≡ findings.old) × (tracks.new ≡ tracks.old)) }
 {
     let side = next_side(old.number(), new.number())?;
     let satellite = next_satellite(side, old, new)?;
@@ -141,6 +148,9 @@ pub(crate) fn compare_rows(
 )
     requires tracks { AreTracks tracks.old }
     ensures size { AreTracks tracks.new }
+    ensures compared { (codes : ℕ → List SharedCode) (earlier : List (List (Pair SatelliteRow))) (olds news : List SatelliteRow)
+        → HasShared shared.now codes → AreTracksOf tracks.old codes earlier → AreRowsOf old.entry olds → AreRowsOf new.entry news → Rise olds → Rise news
+        → ComparesRows time.now codes earlier (side_by_side by_satellite olds news) findings.old findings.new tracks.new }
 {
     let mut old = RowReader::of(old);
     let mut new = RowReader::of(new);

@@ -1,5 +1,5 @@
 -- The rows of two records side by side, and what is remembered of them.
-use Rattle.std.specs.Prelude.{◌≡◌, ℕ, ◌+◌, ◌*◌, ◌<◌, ◌≤◌, ◌==◌, ◌||◌, ◌&&◌, not, Bool, true, false, if◌then◌else◌, ◌⊎◌, List, [], ◌∷◌, ◌++◌, length, flat_map, get_or, Option, None, Some}
+use Rattle.std.specs.Prelude.{◌≡◌, ℕ, ◌+◌, ◌*◌, ◌<◌, ◌≤◌, ◌==◌, ◌||◌, ◌&&◌, not, Bool, true, false, if◌then◌else◌, ◌⊎◌, List, [], ◌∷◌, ◌++◌, length, flat_map, get_or, AllPairs, Option, None, Some}
 use Rattle.rtk_rinex.specs.declared.epoch_table.Observed.{Observed}
 use Rattle.rtk_rinex.specs.declared.epoch_table.SatelliteRow.{SatelliteRow}
 use Rattle.rtk_compare.specs.declared.difference.Class.TheVariants.{Lost}
@@ -7,6 +7,7 @@ use Rattle.rtk_compare.specs.declared.difference.What.TheVariants as what
 use Rattle.rtk_compare.specs.declared.difference.Place.{Place}
 use Rattle.rtk_compare.specs.declared.difference.Difference.{Difference}
 use Rattle.rtk_compare.specs.declared.rows.RowPair.{RowPair}
+use Rattle.rtk_compare.specs.declared.findings.Findings.{Findings}
 use Rattle.rtk_compare.specs.declared.row_reader.RowReader.{RowReader}
 use Rattle.rtk_compare.specs.declared.shared_codes.SharedCode.{SharedCode}
 use Rattle.rtk_compare.specs.declared.side.Side.{Side}
@@ -15,8 +16,10 @@ use Rattle.rtk_compare.specs.declared.track.Track.{Track}
 use Rattle.rtk_compare.specs.Places.{at_satellite, at_signal}
 use Rattle.rtk_compare.specs.Pairs.{Pair}
 use Rattle.rtk_compare.specs.Cells.{told_if}
-use Rattle.rtk_compare.specs.Records.{cells_of, cells_before, row_lines}
-use Rattle.rtk_compare.specs.Steps.Tracks.{no_track, track_at, IsTrackOf}
+use Rattle.rtk_compare.specs.Differences.{Adds}
+use Rattle.rtk_compare.specs.Records.{cells_of, row_lines}
+use Rattle.rtk_compare.specs.Steps.Sides.{has_old, has_new}
+use Rattle.rtk_compare.specs.Steps.Tracks.{no_track, track_at, IsTrackOf, AreTracksOf}
 
 -- the rows of a satellite
 abbrev pub row_view : RowPair → Pair SatelliteRow
@@ -61,3 +64,27 @@ next_view Both a b = a
 abbrev pub observed_of : Bool → RowReader → List Observed
 observed_of true r = r.observed.items
 observed_of false r = []
+
+-- the rows that come next
+abbrev pub satellite_or_none : Option ℕ → ℕ
+satellite_or_none None = 0
+satellite_or_none (Some s) = s
+
+abbrev pub row_with : ℕ → List Observed → SatelliteRow
+row_with satellite observed = record { satellite = satellite; observed = record { items = observed } }
+
+abbrev pub next_rows : Side → RowReader → RowReader → Pair SatelliteRow
+next_rows side old new =
+    record {
+      old = row_with (satellite_or_none (next_view side old.satellite new.satellite)) (observed_of (has_old side) old);
+      new = row_with (satellite_or_none (next_view side old.satellite new.satellite)) (observed_of (has_new side) new);
+    }
+
+-- the satellites rise
+abbrev pub Rise : List SatelliteRow → Type 0
+Rise rows = AllPairs (λ a b. a.satellite < b.satellite) rows
+
+-- rows side by side were compared: their differences were added, and they are remembered
+pub record ComparesRows (time : Option ℕ) (codes : ℕ → List SharedCode) (earlier : List (List (Pair SatelliteRow))) (rows : List (Pair SatelliteRow)) (before after : Findings) (tracks : List Track) : Type 0 where
+  pub lines : Adds before after (flat_map (lines_told time codes earlier) rows)
+  pub tracks : AreTracksOf tracks codes (rows ∷ earlier)

@@ -34,11 +34,14 @@ track_at tracks s k = get_or tracks (16 * s + k) no_track
 abbrev pub AreTracks : List Track → Type 0
 AreTracks tracks = length tracks ≡ 3552
 
--- the tracks after rows of earlier moments, newest first
+-- the tracks of a satellite after rows of earlier moments, newest first
+abbrev pub AreTracksAt : List Track → (ℕ → List SharedCode) → List (List (Pair SatelliteRow)) → ℕ → Type 0
+AreTracksAt tracks shared earlier s =
+    (k : ℕ) (code : SharedCode) → k < length (shared s) → IsTrackOf (track_at tracks s k) (cells_before s (get_or (shared s) k code) earlier)
+
+-- and of all satellites
 abbrev pub AreTracksOf : List Track → (ℕ → List SharedCode) → List (List (Pair SatelliteRow)) → Type 0
-AreTracksOf tracks shared earlier =
-    (s k : ℕ) (code : SharedCode) → IsSatelliteIndex s → k < length (shared s)
-    → IsTrackOf (track_at tracks s k) (cells_before s (get_or (shared s) k code) earlier)
+AreTracksOf tracks shared earlier = (s : ℕ) → IsSatelliteIndex s → AreTracksAt tracks shared earlier s
 
 -- how far the values of a cell are apart, after these earlier ones
 pub record AreDistances (a : Distances) (earlier : List (Pair Observed)) (p : Pair Observed) : Type 0 where
