@@ -92,9 +92,10 @@ impl Findings {
     pub(crate) fn push_if(&mut self, differs: bool, class: Class, what: What, place: &Place)
         ensures { Adds self.old self.new (told_if differs class what place.now) }
     {
-        if differs {
-            self.push(class, what, place);
+        if !differs {
+            return;
         }
+        self.push(class, what, place);
     }
 
     /// Is something lost or changed?

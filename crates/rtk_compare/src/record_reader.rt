@@ -1,6 +1,6 @@
 //! The records of a file, of which the next one is known.
 
-ghost use Rattle.std.specs.Prelude.{◌≡◌, ◌<◌, List, ◌∷◌, IfSome, IsSome};
+ghost use Rattle.std.specs.Prelude.{◌≡◌, ◌<◌, ◌≤◌, true, false, List, None, IsSome};
 ghost use Rattle.rtk_rinex.specs.Record.{EpochTableView};
 ghost use Rattle.rtk_rinex.specs.MixedRecords.{AreMixedLeft};
 ghost use Rattle.rtk_compare.specs.Steps.Readers.{IsAtEpochs, time_of, records_left};
@@ -41,8 +41,24 @@ impl<'a> RecordReader<'a> {
         ensures value { result ≡ self.old.next }
         ensures next { (epochs : List EpochTableView) → AreMixedLeft self.old.records epochs → IsAtEpochs self.new epochs }
         ensures less { IsSome self.old.next → records_left self.new < records_left self.old }
+        ensures at_most { records_left self.new ≤ records_left self.old }
     {
         let next = self.records.next();
         mem::replace(&mut self.next, next)
+    }
+
+    /// Returns the next record, if it is asked for, and goes on to the one after it.
+    pub(crate) fn take_if(&mut self, is_asked_for: bool) -> Option<MixedRows<'a>>
+        ensures value { is_asked_for ≡ true → result ≡ self.old.next }
+        ensures none { is_asked_for ≡ false → result ≡ None }
+        ensures next { (epochs : List EpochTableView) → is_asked_for ≡ true → AreMixedLeft self.old.records epochs → IsAtEpochs self.new epochs }
+        ensures same { is_asked_for ≡ false → self.new ≡ self.old }
+        ensures less { is_asked_for ≡ true → IsSome self.old.next → records_left self.new < records_left self.old }
+        ensures at_most { records_left self.new ≤ records_left self.old }
+    {
+        if !is_asked_for {
+            return None;
+        }
+        self.take()
     }
 }

@@ -72,8 +72,8 @@ pub(crate) fn compare_records(
     let mut old = RecordReader::of(old);
     let mut new = RecordReader::of(new);
     while let Some(side) = next_side(old.time(), new.time()) {
-        let old_rows = if side.has_old() { old.take() } else { None };
-        let new_rows = if side.has_new() { new.take() } else { None };
+        let old_rows = old.take_if(side.has_old());
+        let new_rows = new.take_if(side.has_new());
         compare_epoch(shared, tracks, old_rows, new_rows, findings);
     }
 }

@@ -1,6 +1,6 @@
 //! The rows of a record, of which the next one is known.
 
-ghost use Rattle.std.specs.Prelude.{◌≡◌, ◌<◌, List, ◌∷◌, IsSome};
+ghost use Rattle.std.specs.Prelude.{◌≡◌, ◌<◌, ◌≤◌, true, false, List, IsSome};
 ghost use Rattle.rtk_rinex.specs.declared.epoch_table.SatelliteRow.{SatelliteRow};
 ghost use Rattle.rtk_compare.specs.Steps.Readers.{AreRowsOf, IsAtRows, rows_left};
 
@@ -36,11 +36,24 @@ impl<'a> RowReader<'a> {
     pub(crate) fn advance(&mut self)
         ensures next { (all : List SatelliteRow) → AreRowsOf self.old.rows all → IsAtRows self.new all }
         ensures less { IsSome self.old.satellite → rows_left self.new < rows_left self.old }
+        ensures at_most { rows_left self.new ≤ rows_left self.old }
     {
         self.satellite = match &mut self.rows {
             Some(rows) => rows.next_row(&mut self.observed),
             None => None,
         };
+    }
+
+    /// Goes on to the next row, if this one was read.
+    pub(crate) fn advance_if(&mut self, is_read: bool)
+        ensures next { (all : List SatelliteRow) → is_read ≡ true → AreRowsOf self.old.rows all → IsAtRows self.new all }
+        ensures same { is_read ≡ false → self.new ≡ self.old }
+        ensures less { is_read ≡ true → IsSome self.old.satellite → rows_left self.new < rows_left self.old }
+        ensures at_most { rows_left self.new ≤ rows_left self.old }
+    {
+        if is_read {
+            self.advance();
+        }
     }
 
     /// Returns the satellite of the next row.

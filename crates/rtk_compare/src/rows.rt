@@ -155,11 +155,7 @@ pub(crate) fn compare_rows(
     let mut old = RowReader::of(old);
     let mut new = RowReader::of(new);
     while let Some(side) = compare_next(shared, tracks, &old, &new, time, findings) {
-        if side.has_old() {
-            old.advance();
-        }
-        if side.has_new() {
-            new.advance();
-        }
+        old.advance_if(side.has_old());
+        new.advance_if(side.has_new());
     }
 }

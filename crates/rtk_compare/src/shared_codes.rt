@@ -84,7 +84,8 @@ fn shared_of(olds: &[AnyCode], news: &[AnyCode]) -> Shared
 
 // Returns the codes of a system that both heads list.
 fn shared_in(system: System, old: &MixedHead, new: &MixedHead) -> Shared
-    ensures { result.items ≡ shared_of (codes_of (letter_of system) old.now.listed) (codes_of (letter_of system) new.now.listed) }
+    ensures few { length result.items ≤ 16 }
+    ensures items { result.items ≡ shared_of (codes_of (letter_of system) old.now.listed) (codes_of (letter_of system) new.now.listed) }
 {
     let olds = group(system, old);
     let news = group(system, new);

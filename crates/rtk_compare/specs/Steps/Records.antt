@@ -18,6 +18,6 @@ IsSideOf None e = e.rows ≡ []
 IsSideOf (Some rows) e = IsRecordIn (Some rows) e
 
 -- epochs side by side were compared: their differences were added, and their rows are remembered
-pub record ComparesEpoch (codes : ℕ → List SharedCode) (earlier : List (List (Pair SatelliteRow))) (p : Pair EpochTableView) (before after : Findings) (tracks : List Track) : Type 0 where
+pub record ComparesEpoch (codes : ℕ → List SharedCode) (earlier : List (List (Pair SatelliteRow))) (p : Pair EpochTableView) (before after : Findings) (noted : List Track) : Type 0 where
   pub lines : Adds before after (epoch_lines codes earlier p)
-  pub tracks : AreTracksOf tracks codes (rows_beside p ∷ earlier)
+  pub tracks : AreTracksOf noted codes (rows_beside p ∷ earlier)

@@ -85,6 +85,6 @@ abbrev pub Rise : List SatelliteRow → Type 0
 Rise rows = AllPairs (λ a b. a.satellite < b.satellite) rows
 
 -- rows side by side were compared: their differences were added, and they are remembered
-pub record ComparesRows (time : Option ℕ) (codes : ℕ → List SharedCode) (earlier : List (List (Pair SatelliteRow))) (rows : List (Pair SatelliteRow)) (before after : Findings) (tracks : List Track) : Type 0 where
+pub record ComparesRows (time : Option ℕ) (codes : ℕ → List SharedCode) (earlier : List (List (Pair SatelliteRow))) (rows : List (Pair SatelliteRow)) (before after : Findings) (noted : List Track) : Type 0 where
   pub lines : Adds before after (flat_map (lines_told time codes earlier) rows)
-  pub tracks : AreTracksOf tracks codes (rows ∷ earlier)
+  pub tracks : AreTracksOf noted codes (rows ∷ earlier)

@@ -1,5 +1,5 @@
 -- The codes that two files have both, by system.
-use Rattle.std.specs.Prelude.{◌≡◌, ℕ, List}
+use Rattle.std.specs.Prelude.{◌≡◌, ◌≤◌, ℕ, List, length}
 use Rattle.rtk_message.specs.declared.system.System.{System}
 use Rattle.rtk_message.specs.declared.system.System.TheVariants.{Gps, Glonass, Galileo, Beidou, Qzss, Sbas, Navic}
 use Rattle.rtk_obs.specs.SatelliteIndex.{system_at}
@@ -20,5 +20,6 @@ abbrev pub codes_at : SharedCodes → ℕ → List SharedCode
 codes_at s satellite = codes_in s (system_at satellite)
 
 -- they are these, satellite by satellite
-abbrev pub HasShared : SharedCodes → (ℕ → List SharedCode) → Type 0
-HasShared s shared = (satellite : ℕ) → codes_at s satellite ≡ shared satellite
+pub record HasShared (s : SharedCodes) (shared : ℕ → List SharedCode) : Type 0 where
+  pub same : (satellite : ℕ) → codes_at s satellite ≡ shared satellite
+  pub few : (satellite : ℕ) → length (shared satellite) ≤ 16
