@@ -176,10 +176,9 @@ class Comparison:
     def compare_marks(self, place: str, history: List[Tuple[Cell, Cell]], is_finer: bool) -> None:
         old, new = history[-1]
         if old.slip and not new.slip:
-            before = [at for at, (it, _) in enumerate(history[:-1]) if "phase" in it.values]
-            if not before:
+            if not any("phase" in it.values for it, _ in history[:-1]):
                 self.tell("explained", f"first-slip {place}")
-            elif any("phase" in it.values for _, it in history[before[-1] + 1 : -1]):
+            elif fills_gap(history, len(history) - 1):
                 self.tell("explained", f"filled-slip {place}")
             else:
                 self.tell("lost", f"slip {place}")
@@ -202,10 +201,18 @@ class Comparison:
         return 3 if self.lines["lost"] or self.lines["changed"] else 0
 
 
+def fills_gap(history: List[Tuple[Cell, Cell]], at: int) -> bool:
+    """Whether the new file has a phase between this phase of the old file and the one before it, or the begin of the file."""
+    before = max((it for it in range(at) if "phase" in history[it][0].values), default=-1)
+    return any("phase" in new.values for _, new in history[before + 1 : at])
+
+
 def due(history: List[Tuple[Cell, Cell]]) -> Optional[int]:
-    """The rolls of the first phases of both from the last slip on."""
-    begin = max((at for at, (old, new) in enumerate(history) if old.slip or new.slip), default=0)
-    return next((it for it in (rolls(old, new) for old, new in history[begin:]) if it is not None), None)
+    """The rolls of the first phases that differ by some, from the last place on where they can begin anew: at a slip, or behind a gap that is filled."""
+    begins = (at for at, (old, new) in enumerate(history) if old.slip or new.slip or ("phase" in old.values and fills_gap(history, at)))
+    begin = max(begins, default=0)
+    found = [it for it in (rolls(old, new) for old, new in history[begin:]) if it is not None]
+    return next((it for it in found if it), 0)
 
 
 def told(key: str) -> str:

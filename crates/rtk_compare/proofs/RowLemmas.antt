@@ -1,5 +1,5 @@
 -- Rows side by side, and what is remembered of satellites and codes.
-use Rattle.std.proofs.Common.{◌≡◌, ◌≢◌, ◌<◌, ◌≤◌, ◌+◌, ◌*◌, ℕ, zero, suc, Bool, true, false, cond, eqb, ltb, Option, Some, None, List, [], ◌∷◌, ◌++◌, map, length, get_or, ℤ, inl, inr, refl, sym, ap, subst, ◌∙◌, arith, append_assoc, append-nil}
+use Rattle.std.proofs.Common.{◌≡◌, ◌≢◌, ◌<◌, ◌≤◌, ◌+◌, ◌*◌, ℕ, zero, suc, Bool, true, false, cond, eqb, ltb, Option, Some, None, List, [], ◌∷◌, ◌++◌, map, length, get_or, ℤ, pos, negsuc, inl, inr, refl, sym, ap, subst, ◌∙◌, arith, append_assoc, append-nil}
 use Rattle.std.specs.Prelude.{AllPairs, All, IfSome, ◌⊎◌}
 use Rattle.std.proofs.lemmas.Bool.{cases_Bool, lt-ltb, le-ltb, ltb-true, ltb-false, eqb-true, eqb-false, eq-eqb, ne_eqb}
 use Rattle.std.proofs.lemmas.List.{get_or_past}
@@ -10,7 +10,7 @@ use Rattle.rtk_rinex.specs.declared.epoch_table.SatelliteRow.{SatelliteRow}
 use Rattle.rtk_compare.specs.declared.shared_codes.SharedCode.{SharedCode}
 use Rattle.rtk_compare.specs.declared.track.Track.{Track}
 use Rattle.rtk_compare.specs.Pairs.{Pair, Order, old_alone, new_alone, beside, side_by_side, by_satellite}
-use Rattle.rtk_compare.specs.Phases.{or_else, rolls_since_slip}
+use Rattle.rtk_compare.specs.Phases.{rolls_kept, rolls_held}
 use Rattle.rtk_compare.specs.Records.{cells_of, rows_of, cells_before}
 use Rattle.rtk_compare.specs.Steps.Tracks.{pair, IsTrackOf, no_track, track_at, AreTracksAt, AreTracksOf}
 use Rattle.rtk_compare.specs.Steps.Rows.{NotesRow}
@@ -94,16 +94,17 @@ rows_of-other s (q ∷ ps) p unlike = ap (λ (x : Pair SatelliteRow). cond (eqb 
 
 -- ---- what is remembered
 
-or_else-none : (x : Option ℤ) → or_else x None ≡ x
-or_else-none None = refl
-or_else-none (Some v) = refl
+kept-none : (held : ℤ) → rolls_kept held (pos 0) ≡ held
+kept-none (pos zero) = refl
+kept-none (pos (suc n)) = refl
+kept-none (negsuc n) = refl
 
 -- a moment without the satellite changes nothing
 pub track-kept : (t : Track) (s : ℕ) (code : SharedCode) (es : List (Pair Observed)) → IsTrackOf t (cells_of code (none_of s) ∷ es) → IsTrackOf t es
-track-kept t s code es is = record { had_phase = is.had_phase; fills_gap = is.fills_gap; rolls = is.rolls ∙ or_else-none (rolls_since_slip es) }
+track-kept t s code es is = record { had_phase = is.had_phase; fills_gap = is.fills_gap; rolls = is.rolls ∙ kept-none (rolls_held es) }
 
 pub track-none : (t : Track) (s : ℕ) (code : SharedCode) (es : List (Pair Observed)) → IsTrackOf t es → IsTrackOf t (cells_of code (none_of s) ∷ es)
-track-none t s code es is = record { had_phase = is.had_phase; fills_gap = is.fills_gap; rolls = is.rolls ∙ sym (or_else-none (rolls_since_slip es)) }
+track-none t s code es is = record { had_phase = is.had_phase; fills_gap = is.fills_gap; rolls = is.rolls ∙ sym (kept-none (rolls_held es)) }
 
 -- the tracks before any row of a moment
 pub tracks-begin : (tracks : List Track) (codes : ℕ → List SharedCode) (earlier : List (List (Pair SatelliteRow))) → AreTracksOf tracks codes earlier → AreTracksOf tracks codes ([] ∷ earlier)

@@ -10,7 +10,7 @@ use Rattle.rtk_compare.specs.declared.difference.What.TheVariants.{Range, Phase,
 use Rattle.rtk_compare.specs.declared.difference.Place.{Place}
 use Rattle.rtk_compare.specs.declared.difference.Difference.{Difference}
 use Rattle.rtk_compare.specs.Pairs.{Pair}
-use Rattle.rtk_compare.specs.Phases.{has_phase, had_phase, fills_gap, beside_rolls, rolls_of, rolls_due}
+use Rattle.rtk_compare.specs.Phases.{has_phase, had_phase, fills_gap, beside_rolls, rolls_of, rolls_held}
 
 -- a difference, if there is one
 abbrev pub told_if : Bool → Class → What → Place → List Difference
@@ -42,14 +42,13 @@ strengths_apart p = apart (strength_value p.old.strength_millidbhz) (strength_va
 abbrev pub phases_apart : Pair Observed → ℕ
 phases_apart p = beside_rolls (apart p.old.phase_millicycles p.new.phase_millicycles)
 
--- the rolls are those that are due, or a phase is missing
-abbrev pub are_due : Option ℤ → Option ℤ → Bool
-are_due None rolls = true
-are_due (Some here) None = false
-are_due (Some here) (Some rolls) = int_eq here rolls
+-- the rolls are those that are held, or a phase is missing
+abbrev pub are_due : Option ℤ → ℤ → Bool
+are_due None held = true
+are_due (Some rolls) held = int_eq rolls held
 
 abbrev pub rolls_are_due : List (Pair Observed) → Pair Observed → Bool
-rolls_are_due earlier p = are_due (rolls_of p) (rolls_due earlier p)
+rolls_are_due earlier p = are_due (rolls_of p) (rolls_held (p ∷ earlier))
 
 -- constant
 -- all values that both have are as near as those of a 1004 and of an MSM, which is finer: 0.02 m, 0.010 cycles

@@ -1,6 +1,7 @@
 -- The earlier phases of a satellite and code in two files, newest first: what they say of a slip, and of the
 -- rolls by which the phases differ.
 use Rattle.std.specs.Prelude.{ℕ, ◌+◌, ◌-◌, ◌/◌, ◌%◌, nat_lt, min, Bool, false, not, ◌&&◌, ◌||◌, if◌then◌else◌, List, [], ◌∷◌, ℤ, pos, neg_ℤ, ◌-ℤ◌, int_lt, unsigned_abs, Option, None, Some, is_some}
+use Rattle.std.specs.Ordering.{int_eq}
 use Rattle.std.specs.List.{list_any}
 use Rattle.rtk_rinex.specs.declared.epoch_table.Observed.{Observed}
 use Rattle.rtk_compare.specs.Pairs.{Pair}
@@ -56,15 +57,19 @@ rolls_of_phases None b = None
 abbrev pub rolls_of : Pair Observed → Option ℤ
 rolls_of p = rolls_of_phases p.old.phase_millicycles p.new.phase_millicycles
 
-abbrev pub or_else : {A : Type 0} → Option A → Option A → Option A
-or_else (Some a) b = Some a
-or_else None b = b
+abbrev pub rolls_or_none : Option ℤ → ℤ
+rolls_or_none None = pos 0
+rolls_or_none (Some rolls) = rolls
 
--- the rolls of the first phases of both after the last slip
-abbrev pub rolls_since_slip : List (Pair Observed) → Option ℤ
-rolls_since_slip [] = None
-rolls_since_slip (p ∷ earlier) = or_else (if has_slip p then None else rolls_since_slip earlier) (rolls_of p)
+-- rolls that are there stay, and else these begin
+abbrev pub rolls_kept : ℤ → ℤ → ℤ
+rolls_kept held rolls = if int_eq held (pos 0) then rolls else held
 
--- the rolls by which the phases of both differ here, after these earlier ones: up to the next slip they stay
-abbrev pub rolls_due : List (Pair Observed) → Pair Observed → Option ℤ
-rolls_due earlier p = rolls_since_slip (p ∷ earlier)
+-- the rolls can begin anew here: at a slip, or behind a gap of the old file that the new one fills
+abbrev pub begins_anew : List (Pair Observed) → Pair Observed → Bool
+begins_anew earlier p = has_slip p || (has_phase p.old && fills_gap earlier)
+
+-- the rolls by which the phases differ, once they do: from there on they stay until they can begin anew
+abbrev pub rolls_held : List (Pair Observed) → ℤ
+rolls_held [] = pos 0
+rolls_held (p ∷ earlier) = rolls_kept (if begins_anew earlier p then pos 0 else rolls_held earlier) (rolls_or_none (rolls_of p))

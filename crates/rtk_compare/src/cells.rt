@@ -3,7 +3,7 @@
 ghost use Rattle.std.specs.Prelude.{◌≡◌, ◌&&◌, ◌∷◌, not, List};
 ghost use Rattle.rtk_rinex.specs.declared.epoch_table.Observed.{Observed};
 ghost use Rattle.rtk_compare.specs.Pairs.{Pair};
-ghost use Rattle.rtk_compare.specs.Phases.{rolls_of, rolls_due};
+ghost use Rattle.rtk_compare.specs.Phases.{rolls_of, rolls_held};
 ghost use Rattle.rtk_compare.specs.Cells.{is_gone, apart, are_due, are_some, strength_value, have_phases, is_near, differs, range_has_changed, phase_has_changed, strength_has_changed, is_finer, has_rolled, gone_lines, value_lines, gone_slip_lines, slip_lines, half_lines, cell_lines};
 ghost use Rattle.rtk_compare.specs.Differences.{Adds};
 ghost use Rattle.rtk_compare.specs.Steps.Tracks.{IsTrackOf, pair, lines_if_told, AreDistances};
@@ -41,14 +41,13 @@ fn widened(value: Option<u32>) -> Option<i64>
     }
 }
 
-// Are the rolls those that are due, or is a phase missing?
-fn are_due(rolls: Option<i64>, due: Option<i64>) -> bool
-    ensures { result ≡ are_due rolls due }
+// Are the rolls those that are held, or is a phase missing?
+fn are_due(rolls: Option<i64>, held: i64) -> bool
+    ensures { result ≡ are_due rolls held }
 {
-    match (rolls, due) {
-        (Some(rolls), Some(due)) => rolls == due,
-        (Some(_), None) => false,
-        (None, _) => true,
+    match rolls {
+        Some(rolls) => rolls == held,
+        None => true,
     }
 }
 
@@ -83,9 +82,9 @@ struct Distances {
 
 impl Distances {
     // Compares the values of a cell.
-    fn of(old: &Observed, new: &Observed, rolls: Option<i64>, due: Option<i64>) -> Distances
+    fn of(old: &Observed, new: &Observed, rolls: Option<i64>, held: i64) -> Distances
         requires { rolls ≡ rolls_of (pair old.now new.now) }
-        ensures { (earlier : List (Pair Observed)) → due ≡ rolls_due earlier (pair old.now new.now) → AreDistances result earlier (pair old.now new.now) }
+        ensures { (earlier : List (Pair Observed)) → held ≡ rolls_held (pair old.now new.now ∷ earlier) → AreDistances result earlier (pair old.now new.now) }
     {
         Distances {
             range: apart(old.range_mm, new.range_mm),
@@ -95,7 +94,7 @@ impl Distances {
                 widened(new.strength_millidbhz),
             ),
             rolls,
-            are_due: are_due(rolls, due),
+            are_due: are_due(rolls, held),
         }
     }
 
@@ -272,8 +271,8 @@ pub(crate) fn compare_cell(
     ensures track { (earlier : List (Pair Observed)) → IsTrackOf track.old earlier → IsTrackOf track.new (pair old.now new.now ∷ earlier) }
 {
     let rolls = rolls_of(old.phase_millicycles, new.phase_millicycles);
-    let due = track.rolls_due(old, new, rolls);
-    let distances = Distances::of(old, new, rolls, due);
+    let held = track.rolls_held(old, new, rolls);
+    let distances = Distances::of(old, new, rolls, held);
     tell_cell(track, &distances, old, new, place, findings);
-    track.note(old, new, due);
+    track.note(old, new, held);
 }

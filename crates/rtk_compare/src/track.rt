@@ -2,7 +2,7 @@
 
 ghost use Rattle.std.specs.Prelude.{◌≡◌, ◌<◌, ◌≤◌, ◌^◌, ◌/◌, ◌-ℤ◌, false, List, [], ◌∷◌, ℤ, Option, IfSome, unsigned_abs, None};
 ghost use Rattle.rtk_compare.specs.Pairs.{Pair};
-ghost use Rattle.rtk_compare.specs.Phases.{has_phase, had_phase, fills_gap, roll, nearest_rolls, beside_rolls, rolls_from, rolls_of_phases, rolls_since_slip, rolls_due};
+ghost use Rattle.rtk_compare.specs.Phases.{has_phase, had_phase, fills_gap, roll, nearest_rolls, beside_rolls, rolls_from, rolls_of_phases, rolls_held};
 ghost use Rattle.rtk_compare.specs.Steps.Tracks.{IsTrackOf, pair};
 ghost use Rattle.rtk_rinex.specs.declared.epoch_table.Observed.{Observed};
 
@@ -19,8 +19,8 @@ pub(crate) struct Track {
     pub(crate) had_phase: bool,
     /// The new file has a phase after the last one of the old file.
     pub(crate) fills_gap: bool,
-    /// The rolls of the first phases of both after the last slip.
-    pub(crate) rolls: Option<i64>,
+    /// The rolls by which the phases differ; 0 until they do.
+    pub(crate) rolls: i64,
 }
 
 // Returns the number of rolls that is nearest to a distance.
@@ -70,29 +70,31 @@ impl Track {
         Track {
             had_phase: false,
             fills_gap: false,
-            rolls: None,
+            rolls: 0,
         }
     }
 
-    /// Returns the rolls by which phases are to differ here, of which these are the rolls.
-    pub(crate) fn rolls_due(&self, old: &Observed, new: &Observed, rolls: Option<i64>) -> Option<i64>
+    /// Returns the rolls that are held with a phase, of which these are the rolls.
+    pub(crate) fn rolls_held(&self, old: &Observed, new: &Observed, rolls: Option<i64>) -> i64
         requires { rolls ≡ rolls_of_phases old.now.phase_millicycles new.now.phase_millicycles }
-        ensures { (earlier : List (Pair Observed)) → IsTrackOf self.now earlier → result ≡ rolls_due earlier (pair old.now new.now) }
+        ensures { (earlier : List (Pair Observed)) → IsTrackOf self.now earlier → result ≡ rolls_held (pair old.now new.now ∷ earlier) }
     {
-        if old.slip || new.slip {
-            return rolls;
+        let fills_gap = old.phase_millicycles.is_some() && self.fills_gap;
+        let begins_anew = old.slip || new.slip || fills_gap;
+        if begins_anew || self.rolls == 0 {
+            return rolls.unwrap_or(0);
         }
-        self.rolls.or(rolls)
+        self.rolls
     }
 
-    /// Notes what both files show, after which these rolls stay due.
-    pub(crate) fn note(&mut self, old: &Observed, new: &Observed, due: Option<i64>)
-        ensures { (earlier : List (Pair Observed)) → IsTrackOf self.old earlier → due ≡ rolls_due earlier (pair old.now new.now)
+    /// Notes what both files show, with which these rolls are held.
+    pub(crate) fn note(&mut self, old: &Observed, new: &Observed, held: i64)
+        ensures { (earlier : List (Pair Observed)) → IsTrackOf self.old earlier → held ≡ rolls_held (pair old.now new.now ∷ earlier)
             → IsTrackOf self.new (pair old.now new.now ∷ earlier) }
     {
         let has_old = old.phase_millicycles.is_some();
         self.fills_gap = !has_old && (new.phase_millicycles.is_some() || self.fills_gap);
         self.had_phase = has_old || self.had_phase;
-        self.rolls = due;
+        self.rolls = held;
     }
 }

@@ -1,5 +1,5 @@
 -- What is remembered of satellites and codes.
-use Rattle.std.specs.Prelude.{◌≡◌, ℕ, ◌+◌, ◌*◌, ◌<◌, ◌≤◌, false, List, [], ◌∷◌, length, get_or, Option, None, Some}
+use Rattle.std.specs.Prelude.{◌≡◌, ℕ, pos, ◌+◌, ◌*◌, ◌<◌, ◌≤◌, false, List, [], ◌∷◌, length, get_or, Option, None, Some}
 use Rattle.rtk_obs.specs.SatelliteIndex.{IsSatelliteIndex}
 use Rattle.rtk_rinex.specs.Record.{no_observation}
 use Rattle.rtk_rinex.specs.declared.epoch_table.Observed.{Observed}
@@ -10,7 +10,7 @@ use Rattle.rtk_compare.specs.declared.cells.Distances.{Distances}
 use Rattle.rtk_compare.specs.declared.difference.Difference.{Difference}
 use Rattle.rtk_compare.specs.declared.difference.Place.{Place}
 use Rattle.rtk_compare.specs.Pairs.{Pair}
-use Rattle.rtk_compare.specs.Phases.{had_phase, fills_gap, rolls_of, rolls_since_slip}
+use Rattle.rtk_compare.specs.Phases.{had_phase, fills_gap, rolls_of, rolls_held}
 use Rattle.rtk_compare.specs.Cells.{ranges_apart, phases_apart, strengths_apart, rolls_are_due, cell_lines}
 use Rattle.rtk_compare.specs.Records.{cells_before}
 
@@ -21,10 +21,10 @@ pair old new = record { old = old; new = new }
 pub record IsTrackOf (t : Track) (earlier : List (Pair Observed)) : Type 0 where
   pub had_phase : t.had_phase ≡ had_phase earlier
   pub fills_gap : t.fills_gap ≡ fills_gap earlier
-  pub rolls : t.rolls ≡ rolls_since_slip earlier
+  pub rolls : t.rolls ≡ rolls_held earlier
 
 abbrev pub no_track : Track
-no_track = record { had_phase = false; fills_gap = false; rolls = None }
+no_track = record { had_phase = false; fills_gap = false; rolls = pos 0 }
 
 -- the track of a satellite and of the shared code at this place, 0 to 15
 abbrev pub track_at : List Track → ℕ → ℕ → Track
