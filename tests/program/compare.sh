@@ -18,7 +18,7 @@ cells() {
 }
 # at SECOND LINE..: a record
 at() {
-    printf '> 2024 05 17 12 00 %02d.0000000  0%3d\n' "$1" $(($# - 1))
+    printf '> 2024 05 17 12 00 %2d.0000000  0%3d\n' "$1" $(($# - 1))
     shift
     printf '%s\n' "$@"
 }
