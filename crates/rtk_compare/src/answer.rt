@@ -1,6 +1,7 @@
 //! The text of what was found, as lines or as JSON.
 
 ghost use Rattle.std.specs.Prelude.{◌≡◌, ◌++◌, OnOk, IfOk, flat_map};
+ghost use Rattle.rtk_rinex.specs.Reading.{reading_of};
 ghost use Rattle.rtk_compare.specs.Answer.{in_form, class_word, what_word, word_text, time_text, satellite_text, time_of_place, satellite_of_place, code_of_place, slot_of_place, place_text, class_text, difference_text, count_text, counts_text, more_line, class_lines, lines_text, object_text, objects_text, json_of, answer_text};
 ghost use Rattle.rtk_compare.specs.declared.form.Form.TheVariants.{Lines, Json};
 
@@ -8,7 +9,7 @@ use crate::difference::{Class, Difference, Place, What};
 use crate::findings::{Findings, Found, MOST_KEPT};
 use crate::form::Form;
 use rtk_message::put_number;
-use rtk_obs::{GpsMs, SatelliteIndex, civil, put_civil, satellite_name};
+use rtk_obs::{Civil, GpsMs, SatelliteIndex, civil, put_civil, satellite_name};
 use std::alloc::{AllocError, Global};
 
 impl Class {
@@ -93,6 +94,13 @@ fn put_word(text: &mut Vec<u8>, form: Form, key: &[u8], word: &[u8]) -> Result<(
     }
 }
 
+// The reading of a moment.
+fn reading(moment: GpsMs) -> Civil
+    ensures { result ≡ reading_of moment }
+{
+    civil(moment)
+}
+
 // Appends a time.
 fn put_time(text: &mut Vec<u8>, form: Form, time: GpsMs) -> Result<(), AllocError>
     ensures { OnOk result (text.new.items ≡ text.old.items ++ time_text form time) }
@@ -100,11 +108,11 @@ fn put_time(text: &mut Vec<u8>, form: Form, time: GpsMs) -> Result<(), AllocErro
     match form {
         Form::Lines => {
             text.push(b' ')?;
-            put_civil(text, civil(time))
+            put_civil(text, reading(time))
         }
         Form::Json => {
             text.extend_from_slice(b",\"time\":\"")?;
-            put_civil(text, civil(time))?;
+            put_civil(text, reading(time))?;
             text.push(b'"')?;
             Ok(())
         }
