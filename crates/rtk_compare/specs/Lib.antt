@@ -5,6 +5,7 @@ pub mod Cells
 pub mod Codes
 pub mod Records
 pub mod Headers
+pub mod Labels
 pub mod Differences
 pub mod Answer
 pub mod Steps

@@ -1,7 +1,7 @@
 //! What a new file of a station lacks of an old one, or has otherwise, and what of this more messages alone
 //! explain.
 //!
-//! Its tests: tests/values/src/compare.rt.in, tests/model/comparing.py.
+//! Its tests: tests/model/comparing.py, and tests/program/compare.sh.
 #![tactic(auto)]
 
 mod answer;
@@ -11,6 +11,7 @@ mod difference;
 mod findings;
 mod form;
 mod headers;
+mod labels;
 mod record_reader;
 mod records;
 mod row_reader;
@@ -24,3 +25,4 @@ pub use comparing::compare;
 pub use difference::{Class, Difference, Place, What};
 pub use findings::{Findings, Found};
 pub use form::Form;
+pub use labels::compare_labels;
