@@ -2,7 +2,8 @@
 
     comparing.py COUNT COMMAND..    compares so many pairs of files that chance makes by the model and by COMMAND OLD NEW
 """
-# pins: roll, nearest_rolls, beside_rolls, is_near, most_kept, class_word, what_word
+# pins: roll, nearest_rolls, beside_rolls, rolls_from, is_near, most_kept, ROLL, NEAR_MM, MOST_OF_CLASS, class_word, what_word
+# pins: keyed_word, place_text, class_text, difference_text, count_text, class_counts, more_line, lines_text
 
 from __future__ import annotations
 

@@ -104,6 +104,7 @@ made new.rnx "$one"
 run compare old.rnx new.rnx
 expect satellite 3 'lost 1 changed 0 explained 0
 lost satellite 2024-05-17 12:00:00.000 G07' ''
+# pins: json_of
 run compare --json old.rnx new.rnx
 expect json 3 '{"lost":1,"changed":0,"explained":0,"differences":[
 {"class":"lost","what":"satellite","time":"2024-05-17 12:00:00.000","satellite":"G07"}]}' ''
@@ -137,6 +138,7 @@ if [ $? -eq 0 ]; then right hundred; else wrong hundred "$(head -c 300 out)"; fi
 "$program" label --agency 'Survey' old.rnx >labelled.rnx
 run compare labelled.rnx old.rnx
 expect labels_are_not_compared 0 'lost 0 changed 0 explained 0' ''
+# pins: label_lines
 run compare --labels labelled.rnx old.rnx
 expect label 3 'lost 1 changed 0 explained 0
 lost agency' ''

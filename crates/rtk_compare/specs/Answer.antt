@@ -62,24 +62,24 @@ what_word what.HalfCycle = codes "half-cycle"
 
 -- formula
 -- a word after a blank, or in quotes after its key
-abbrev pub word_text : Form → List ℕ → List ℕ → List ℕ
-word_text form key word = in_form form (32 ∷ word) (key ++ 34 ∷ word ++ 34 ∷ [])
+abbrev pub keyed_word : Form → List ℕ → List ℕ → List ℕ
+keyed_word form key word = in_form form (32 ∷ word) (key ++ 34 ∷ word ++ 34 ∷ [])
 
-abbrev pub time_text : Form → ℕ → List ℕ
-time_text form time = word_text form (codes ",\"time\":") (civil_text (reading_of time))
+abbrev pub epoch_word : Form → ℕ → List ℕ
+epoch_word form time = keyed_word form (codes ",\"time\":") (civil_text (reading_of time))
 
 abbrev pub satellite_text : Form → ℕ → List ℕ
-satellite_text form satellite = word_text form (codes ",\"satellite\":") (index_name satellite)
+satellite_text form satellite = keyed_word form (codes ",\"satellite\":") (index_name satellite)
 
 abbrev pub time_of_place : Form → Option ℕ → List ℕ
 time_of_place form None = []
-time_of_place form (Some time) = time_text form time
+time_of_place form (Some time) = epoch_word form time
 
 -- behind a satellite a code has no letter of a system
 abbrev pub code_of_place : Form → Option AnyCode → Option ℕ → List ℕ
 code_of_place form None satellite = []
-code_of_place form (Some code) None = word_text form (codes ",\"code\":") (text_of code)
-code_of_place form (Some code) (Some satellite) = word_text form (codes ",\"code\":") (name_of code)
+code_of_place form (Some code) None = keyed_word form (codes ",\"code\":") (text_of code)
+code_of_place form (Some code) (Some satellite) = keyed_word form (codes ",\"code\":") (name_of code)
 
 abbrev pub satellite_of_place : Form → Option ℕ → List ℕ
 satellite_of_place form None = []
@@ -105,7 +105,7 @@ class_text Json c = codes "{\"class\":\"" ++ class_word c ++ 34 ∷ []
 -- a line, or an object
 unfoldable pub difference_text : Form → Difference → List ℕ
 difference_text form d =
-    class_text form d.class ++ word_text form (codes ",\"what\":") (what_word d.what) ++ place_text form d.place ++ in_form form (codes "\n") (codes "}")
+    class_text form d.class ++ keyed_word form (codes ",\"what\":") (what_word d.what) ++ place_text form d.place ++ in_form form (codes "\n") (codes "}")
 
 -- ---- lines
 
@@ -116,8 +116,8 @@ count_text form word key count = in_form form word key ++ decimal count
 
 -- formula
 -- the counts of all three classes
-abbrev pub counts_text : Form → Findings → List ℕ
-counts_text form f =
+abbrev pub class_counts : Form → Findings → List ℕ
+class_counts form f =
     count_text form (codes "lost ") (codes "{\"lost\":") f.lost.count
     ++ count_text form (codes " changed ") (codes ",\"changed\":") f.changed.count
     ++ count_text form (codes " explained ") (codes ",\"explained\":") f.explained.count
@@ -135,7 +135,7 @@ class_lines c found = flat_map (difference_text Lines) found.first.items ++ more
 -- the lines of what was found
 unfoldable pub lines_text : Findings → List ℕ
 lines_text f =
-    counts_text Lines f ++ 10 ∷ class_lines Lost f.lost ++ class_lines Changed f.changed ++ class_lines Explained f.explained
+    class_counts Lines f ++ 10 ∷ class_lines Lost f.lost ++ class_lines Changed f.changed ++ class_lines Explained f.explained
 
 -- ---- JSON
 
@@ -155,7 +155,7 @@ are_some found = nat_lt 0 (length found.first.items)
 -- the object of what was found: the counts, and the first differences of each class
 unfoldable pub json_of : Findings → List ℕ
 json_of f =
-    counts_text Json f ++ codes ",\"differences\":[\n" ++ objects_text false f.lost.first.items
+    class_counts Json f ++ codes ",\"differences\":[\n" ++ objects_text false f.lost.first.items
     ++ objects_text (are_some f.lost) f.changed.first.items
     ++ objects_text (are_some f.lost || are_some f.changed) f.explained.first.items
     ++ codes "]}\n"

@@ -26,8 +26,8 @@ is_known s = not (int_eq s.x (pos 0) && int_eq s.y (pos 0) && int_eq s.z (pos 0)
 abbrev pub is_same_place : PositionView → PositionView → Bool
 is_same_place s r = int_eq s.x r.x && int_eq s.y r.y && int_eq s.z r.z
 
-abbrev pub position_lines : PositionView → PositionView → List Difference
-position_lines s r =
+abbrev pub position_differences : PositionView → PositionView → List Difference
+position_differences s r =
     lines_of (is_known s) (is_known r) (is_same_place s r) Position
     ++ lines_of (nat_lt 0 s.height) (nat_lt 0 r.height) (s.height == r.height) Height
 
@@ -56,10 +56,10 @@ abbrev pub channel_lines : GlonassView → GlonassView → List Difference
 channel_lines g h = flat_map (slot_lines g h) (range_with_len 1 27)
 
 -- what is told of GLONASS, if both files have its codes
-abbrev pub glonass_lines : Option GlonassView → Option GlonassView → List Difference
-glonass_lines None h = []
-glonass_lines (Some g) None = []
-glonass_lines (Some g) (Some h) =
+abbrev pub glonass_differences : Option GlonassView → Option GlonassView → List Difference
+glonass_differences None h = []
+glonass_differences (Some g) None = []
+glonass_differences (Some g) (Some h) =
     channel_lines g h ++ told_if (not (g.leap_seconds == h.leap_seconds)) Changed LeapSeconds in_header
 
 abbrev pub marker_lines : List ℕ → List ℕ → List Difference
@@ -69,6 +69,6 @@ marker_lines a b = told_if (not (bytes_eq a b)) Changed Marker in_header
 abbrev pub header_lines : MixedHeadView → PositionView → MixedHeadView → PositionView → List Difference
 header_lines h s g r =
     marker_lines h.marker g.marker
-    ++ position_lines s r
+    ++ position_differences s r
     ++ code_lines h.listed g.listed
-    ++ glonass_lines h.glonass g.glonass
+    ++ glonass_differences h.glonass g.glonass

@@ -2,11 +2,11 @@
 
 ghost use Rattle.std.specs.Prelude.{◌≡◌, ◌++◌, OnOk, IfOk, flat_map};
 ghost use Rattle.rtk_rinex.specs.Reading.{reading_of};
-ghost use Rattle.rtk_compare.specs.Answer.{in_form, class_word, what_word, word_text, time_text, satellite_text, time_of_place, satellite_of_place, code_of_place, slot_of_place, place_text, class_text, difference_text, count_text, counts_text, more_line, class_lines, lines_text, object_text, objects_text, json_of, answer_text};
+ghost use Rattle.rtk_compare.specs.Answer.{in_form, class_word, what_word, keyed_word, epoch_word, satellite_text, time_of_place, satellite_of_place, code_of_place, slot_of_place, place_text, class_text, difference_text, count_text, class_counts, more_line, class_lines, lines_text, object_text, objects_text, json_of, answer_text};
 ghost use Rattle.rtk_compare.specs.declared.form.Form.TheVariants.{Lines, Json};
 
 use crate::difference::{Class, Difference, Place, What};
-use crate::findings::{Findings, Found, MOST_KEPT};
+use crate::findings::{Findings, Found, MOST_OF_CLASS};
 use crate::form::Form;
 use rtk_message::put_number;
 use rtk_obs::{Civil, GpsMs, SatelliteIndex, civil, put_civil, satellite_name};
@@ -77,7 +77,7 @@ fn put_either(text: &mut Vec<u8>, form: Form, line: &[u8], json: &[u8]) -> Resul
 
 // Appends a word after a blank, or in quotes after its key.
 fn put_word(text: &mut Vec<u8>, form: Form, key: &[u8], word: &[u8]) -> Result<(), AllocError>
-    ensures { OnOk result (text.new.items ≡ text.old.items ++ word_text form key.now word.now) }
+    ensures { OnOk result (text.new.items ≡ text.old.items ++ keyed_word form key.now word.now) }
 {
     match form {
         Form::Lines => {
@@ -103,7 +103,7 @@ fn reading(moment: GpsMs) -> Civil
 
 // Appends a time.
 fn put_time(text: &mut Vec<u8>, form: Form, time: GpsMs) -> Result<(), AllocError>
-    ensures { OnOk result (text.new.items ≡ text.old.items ++ time_text form time) }
+    ensures { OnOk result (text.new.items ≡ text.old.items ++ epoch_word form time) }
 {
     match form {
         Form::Lines => {
@@ -217,7 +217,7 @@ fn put_count(text: &mut Vec<u8>, form: Form, line: &[u8], json: &[u8], count: u6
 
 // Appends the counts of all classes.
 fn put_counts(text: &mut Vec<u8>, form: Form, findings: &Findings) -> Result<(), AllocError>
-    ensures { OnOk result (text.new.items ≡ text.old.items ++ counts_text form findings.now) }
+    ensures { OnOk result (text.new.items ≡ text.old.items ++ class_counts form findings.now) }
 {
     put_count(text, form, b"lost ", b"{\"lost\":", findings.lost.count)?;
     put_count(text, form, b" changed ", b",\"changed\":", findings.changed.count)?;
@@ -248,7 +248,7 @@ fn put_class_lines(text: &mut Vec<u8>, class: Class, found: &Found) -> Result<()
     for difference in &found.first {
         put_difference(text, Form::Lines, difference)?;
     }
-    put_more(text, class, found.count.saturating_sub(MOST_KEPT as u64))
+    put_more(text, class, found.count.saturating_sub(MOST_OF_CLASS as u64))
 }
 
 // Makes the lines of what was found.

@@ -11,7 +11,7 @@ use arrayvec::ArrayVec;
 
 // constant
 /// How many differences of a class are kept at most.
-pub(crate) const MOST_KEPT: usize = 100;
+pub(crate) const MOST_OF_CLASS: usize = 100;
 
 /// The differences of a class.
 #[derive(Drop)]
@@ -19,7 +19,7 @@ pub struct Found {
     /// How many there are.
     pub count: u64,
     /// The first hundred of them.
-    pub first: ArrayVec<Difference, MOST_KEPT>,
+    pub first: ArrayVec<Difference, MOST_OF_CLASS>,
 }
 
 /// The differences of each class.
@@ -31,10 +31,10 @@ pub struct Findings {
 }
 
 // Keeps a difference, if there is room for it.
-fn keep(first: &mut ArrayVec<Difference, MOST_KEPT>, difference: &Difference)
+fn keep(first: &mut ArrayVec<Difference, MOST_OF_CLASS>, difference: &Difference)
     ensures { first.new.items ≡ take 100 (first.old.items ++ difference.now ∷ []) }
 {
-    if first.len() < MOST_KEPT {
+    if first.len() < MOST_OF_CLASS {
         first.push(*difference);
     }
 }

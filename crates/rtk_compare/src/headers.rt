@@ -4,7 +4,7 @@ ghost use Rattle.std.specs.Prelude.{◌≡◌};
 ghost use Rattle.rtk_obs.specs.Carriers.{IsSlot};
 ghost use Rattle.rtk_rinex.specs.Header.{position_view};
 ghost use Rattle.rtk_compare.specs.Differences.{Adds};
-ghost use Rattle.rtk_compare.specs.Headers.{lines_of, is_known, is_same_place, position_lines, is_listed, code_line, code_lines, slot_lines, channel_lines, glonass_lines, marker_lines, header_lines};
+ghost use Rattle.rtk_compare.specs.Headers.{lines_of, is_known, is_same_place, position_differences, is_listed, code_line, code_lines, slot_lines, channel_lines, glonass_differences, marker_lines, header_lines};
 
 use crate::difference::{Class, Place, What};
 use crate::findings::Findings;
@@ -50,7 +50,7 @@ fn is_same_place(old: &Position, new: &Position) -> bool
 
 // Compares positions and heights.
 fn compare_positions(old: &Position, new: &Position, findings: &mut Findings)
-    ensures { Adds findings.old findings.new (position_lines (position_view old.now) (position_view new.now)) }
+    ensures { Adds findings.old findings.new (position_differences (position_view old.now) (position_view new.now)) }
 {
     let position = Having {
         was: is_known(old),
@@ -122,7 +122,7 @@ fn compare_channels(old: &Glonass, new: &Glonass, findings: &mut Findings)
 
 // Compares what is told of GLONASS, if both files tell it.
 fn compare_glonass(old: Option<Glonass>, new: Option<Glonass>, findings: &mut Findings)
-    ensures { Adds findings.old findings.new (glonass_lines old new) }
+    ensures { Adds findings.old findings.new (glonass_differences old new) }
 {
     let (Some(old), Some(new)) = (old, new) else {
         return;
