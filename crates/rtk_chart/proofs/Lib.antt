@@ -10,6 +10,7 @@ pub mod MarkLemmas
 pub mod PieceLemmas
 pub mod ScaleLemmas
 pub mod SeenLemmas
+pub mod SizeLemmas
 pub mod StrengthLemmas
 pub mod SvgLemmas
 pub mod WidthLemmas

@@ -10,6 +10,8 @@ pub mod MarkLaws
 pub mod Means
 pub mod Scale
 pub mod Signs
+pub mod Size
+pub mod SizeLaws
 pub mod Steps
 pub mod SvgPath
 pub mod SvgPicture

@@ -1,9 +1,10 @@
 //! Laws of the definitions of a picture: how long and how wide a bin is, what it shows of its
-//! epochs, where epochs are missing, and what a heading tells.
+//! epochs, where epochs are missing, what a heading tells, and how high a picture is.
 
 ghost use Rattle.rtk_chart.specs.Laws.{BinsAreFew, ShorterBinsAreTooMany, ScalesFillRoom, RowsHaveAllBins, ColumnsFillWidth, MissingMarksAreEpochs, MeansAreOfStrengths};
 ghost use Rattle.rtk_chart.specs.MarkLaws.{CodesShowEpochs, SatellitesShowEpochs, CodesAreOfEpochs, GapsAreMissing, OutagesAreOfEpochs, MissingAreOfSteps, SlipsAndRisesAreDigits};
 ghost use Rattle.rtk_chart.specs.HeadingLaws.{TablesHaveNumbers, TextHasHeading, EqualTextHeadings, SvgHasHeading, EqualSvgHeadings};
+ghost use Rattle.rtk_chart.specs.SizeLaws.{SvgHasItsHeight, DaysFitScreen, NoneIsHigher};
 
 use rtk_rinex::one_reading;
 use rtk_tracking::bits_are_of_three_kinds;
@@ -81,3 +82,12 @@ pub fn svg_headings_tell_numbers()
 {
     one_reading();
 }
+
+/// A picture in SVG begins with its height, which is that of what it has. A picture of at most 40 satellites is less than
+/// 2,000 units high, if each satellite has two bars or more, all have at most 130, and at most one code has a line
+/// `never`. No picture is higher than 6,140 units.
+pub fn svg_heights_are_of_what_is_drawn()
+    ensures height { SvgHasItsHeight }
+    ensures screen { DaysFitScreen }
+    ensures most { NoneIsHigher }
+{}
