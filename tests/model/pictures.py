@@ -318,8 +318,8 @@ def code_line(it: Drawn, name: str, code: int, row: int, close: bool) -> list[st
     for level in range(10):
         lines += bars(it, f"l{level}", {c for c in phases if least[c] == level}, 10)
     lines += boxes(it, "p", missing & phases, 10, 6) + boxes(it, "m", missing - phases, 16, 12)
-    lines += forms(it, "r", rises, "5l9 5l-9 5z") + forms(it, "a", returns, "10l-9-5v10z")
     lines += forms(it, "s", slips, "20l-7-21h14z") + forms(it, "h", halves, "8l6 6l-6 6l-6-6z")
+    lines += forms(it, "a", returns, "10l-9-5v10z") + forms(it, "r", rises, "5l9 5l-9 5z")
     start = f"<g transform='translate(0 {2 + 10 * row})scale(1 .5)'>" if close else f"<g transform='translate(0 {7 + 22 * row})'>"
     return [start, *lines, label, "</g>"]
 

@@ -91,14 +91,15 @@ missing_paths bins place code =
     ++ runs_layer (codes "m") (codes " 16v-12") (codes "v12z") (layer_flags bins place code Absent)
 
 -- formula
--- a triangle to the right for a rise, a hollow one for a return, which ends there and so lies over its outage, one downwards
--- for a slip, and a rhomb for a half cycle
+-- the marks, of which a later one lies over those before it, so the largest come first: a triangle downwards for a slip, a
+-- rhomb for a half cycle, a hollow triangle for a return, which ends there and so lies over its outage, and a triangle to the
+-- right for a rise
 unfoldable pub lock_paths : List TimeBin → ℕ → ℕ → List ℕ
 lock_paths bins place code =
-    marks_layer (codes "r") (codes " 5l9 5l-9 5z") (layer_flags bins place code Rise)
-    ++ marks_layer (codes "a") (codes " 10l-9-5v10z") (layer_flags bins place code Return)
-    ++ marks_layer (codes "s") (codes " 20l-7-21h14z") (layer_flags bins place code Slip)
+    marks_layer (codes "s") (codes " 20l-7-21h14z") (layer_flags bins place code Slip)
     ++ marks_layer (codes "h") (codes " 8l6 6l-6 6l-6-6z") (layer_flags bins place code Half)
+    ++ marks_layer (codes "a") (codes " 10l-9-5v10z") (layer_flags bins place code Return)
+    ++ marks_layer (codes "r") (codes " 5l9 5l-9 5z") (layer_flags bins place code Rise)
 
 -- formula
 -- how many columns have what of a code

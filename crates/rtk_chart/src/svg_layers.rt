@@ -152,7 +152,7 @@ pub(crate) fn put_missing(
     Ok(())
 }
 
-/// Appends the rises, returns, slips and half cycles of a bar.
+/// Appends the slips, half cycles, returns and rises of a bar, the largest marks first, because later ones lie over them.
 pub(crate) fn put_locks(
     alloc: Global,
     text: &mut Vec<u8>,
@@ -164,13 +164,13 @@ pub(crate) fn put_locks(
     requires few { length bins.now ≤ 1440 }
     ensures { OnOk result (text.new.items ≡ text.old.items ++ lock_paths bins.now place code) }
 {
-    let rises = flags(alloc, bins, place, code, Layer::Rise)?;
-    let returns = flags(alloc, bins, place, code, Layer::Return)?;
     let slips = flags(alloc, bins, place, code, Layer::Slip)?;
     let halves = flags(alloc, bins, place, code, Layer::Half)?;
-    put_marks_layer(text, b"r", b" 5l9 5l-9 5z", rises.as_slice())?;
-    put_marks_layer(text, b"a", b" 10l-9-5v10z", returns.as_slice())?;
+    let returns = flags(alloc, bins, place, code, Layer::Return)?;
+    let rises = flags(alloc, bins, place, code, Layer::Rise)?;
     put_marks_layer(text, b"s", b" 20l-7-21h14z", slips.as_slice())?;
     put_marks_layer(text, b"h", b" 8l6 6l-6 6l-6-6z", halves.as_slice())?;
+    put_marks_layer(text, b"a", b" 10l-9-5v10z", returns.as_slice())?;
+    put_marks_layer(text, b"r", b" 5l9 5l-9 5z", rises.as_slice())?;
     Ok(())
 }

@@ -22,8 +22,8 @@ use std::alloc::{AllocError, Global};
 
 // constant
 /// Strengths go from yellow to blue, and in grey too a stronger one differs more from the page. Slips differ still
-/// more from it, and have another hue, which the colour-blind tell from blue. Each mark has a form of its own. A
-/// picture up to 700 pixels wide has larger letters, and a time at each second tick.
+/// more from it, and have another hue, which the colour-blind tell from blue. A phase without a strength is a thin line.
+/// Each mark has a form of its own. A picture up to 700 pixels wide has larger letters, and a time at each second tick.
 ///
 /// All outlines of a path are painted before its first form is filled, or slips side by side hide one another.
 /// LibreOffice cannot do that. It takes all rules of an `@media` but its first, whatever the condition; so those on
@@ -31,7 +31,7 @@ use std::alloc::{AllocError, Global};
 pub(crate) const STYLE: &[u8] = b"<style>\
 @media (prefers-color-scheme:dark){\
 .page{fill:#111!important}.b1{fill:#242424!important}text{fill:#ddd!important}\
-.l0{stroke:#444!important}.l1{stroke:#4f4822!important}.l2{stroke:#55582a!important}.l3{stroke:#4f6438!important}\
+.l0{stroke:#999!important}.l1{stroke:#4f4822!important}.l2{stroke:#55582a!important}.l3{stroke:#4f6438!important}\
 .l4{stroke:#4a754e!important}.l5{stroke:#438568!important}.l6{stroke:#3f9585!important}.l7{stroke:#45a4a6!important}\
 .l8{stroke:#55b3c8!important}.l9{stroke:#7cc8f0!important}\
 .n,.k{fill:#8ab!important}.k{stroke:#8ab!important}.p,.m,.h,.a{fill:#111!important}.p,.m{stroke:#ccc!important}\
@@ -49,7 +49,7 @@ text{font-family:sans-serif;font-size:24px;fill:#222}\
 .system{font-weight:bold}.name,.code{text-anchor:end}.code,.never,.side{font-size:19px}.low{font-size:19px}.tiny{font-size:10px;display:inline}.tick{font-size:24px;text-anchor:middle}\
 path{fill:none}\
 .l0,.l1,.l2,.l3,.l4,.l5,.l6,.l7,.l8,.l9{stroke-width:14}\
-.l0{stroke:#ccc}.l1{stroke:#e9d57e}.l2{stroke:#cfcf7a}.l3{stroke:#a9c07c}.l4{stroke:#83b083}\
+.l0{stroke:#888;stroke-width:5}.l1{stroke:#e9d57e}.l2{stroke:#cfcf7a}.l3{stroke:#a9c07c}.l4{stroke:#83b083}\
 .l5{stroke:#5fa08f}.l6{stroke:#468c9a}.l7{stroke:#3577a0}.l8{stroke:#2a619f}.l9{stroke:#274a94}\
 .p,.m{fill:#fff;stroke:#555;stroke-width:2}\
 .s,.r{stroke:#fff;stroke-width:3;paint-order:stroke}.s{fill:#8a1c00}.r{fill:#222}\

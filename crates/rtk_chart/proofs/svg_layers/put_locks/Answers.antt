@@ -14,8 +14,8 @@ returns c =
       c.as_slice-3.ensures.value,
       c.as_slice-2.ensures.value,
       c.as_slice.ensures.value,
+      c.in_ok-rises.ensures,
+      c.in_ok-returns.ensures,
       c.in_ok-halves.ensures,
       c.in_ok-slips.ensures,
-      c.in_ok-returns.ensures,
-      c.in_ok-rises.ensures,
     ) (simp append_assoc)
