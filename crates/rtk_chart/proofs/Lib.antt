@@ -1,4 +1,5 @@
 pub mod BitLemmas
+pub mod BytesLemmas
 pub mod ChartLemmas
 pub mod ChoiceLemmas
 pub mod FileLemmas

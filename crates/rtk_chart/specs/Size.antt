@@ -1,14 +1,15 @@
 -- How high a picture in SVG is (this project's rule), by what it has: rows of bars, satellites, lines `never` and lanes of
--- strengths.
-use Rattle.std.specs.Prelude.{ℕ, ◌+◌, ◌*◌, List, [], ◌∷◌, max, count_by, is_some, if◌then◌else◌}
+-- strengths. And how many boxes and marks the bar of a code has.
+use Rattle.std.specs.Prelude.{ℕ, ◌+◌, ◌*◌, Bool, false, not, ◌&&◌, List, [], ◌∷◌, max, count_by, is_some, if◌then◌else◌}
 use Rattle.std.specs.List.{range_with_len, sum_by}
 use Rattle.rtk_obs.specs.declared.code.Band.TheVariants.{L1, L2, L5}
 use Rattle.rtk_chart.specs.Signs.{is_drawn}
 use Rattle.rtk_chart.specs.Means.{least_mean}
 use Rattle.rtk_chart.specs.TextPicture.{satellites_in}
-use Rattle.rtk_chart.specs.SvgPicture.{codes_before, lacked_before, spacing_of}
+use Rattle.rtk_chart.specs.SvgPicture.{layer_flags, columns_of, codes_before, lacked_before, spacing_of}
 use Rattle.rtk_chart.specs.declared.time_bin.TimeBin.{TimeBin}
 use Rattle.rtk_chart.specs.declared.strengths.Strengths.{Strengths}
+use Rattle.rtk_chart.specs.declared.layer.Layer.TheVariants.{Level, Part, Absent, Slip, Return, Rise, Half}
 use Rattle.rtk_chart.specs.declared.spacing.Spacing.{Spacing}
 use Rattle.rtk_chart.specs.declared.spacing.Spacing.TheVariants.{Wide, Close}
 
@@ -41,3 +42,21 @@ height_for Close rows satellites nevers lanes = 370 + 24 * nevers + 46 * lanes +
 unfoldable pub picture_height : List TimeBin → ℕ → List Strengths → ℕ
 picture_height bins listed columns =
     height_for (spacing_of bins listed) (rows_in (spacing_of bins listed) bins listed) (satellites_in bins) (lacked_before bins listed) (lanes_in columns)
+
+-- ---- boxes and marks
+
+-- how many boxes lie over bins with the mark, from a place on: one over bins side by side
+abbrev pub boxes_from : Bool → List Bool → ℕ
+boxes_from was [] = 0
+boxes_from was (now ∷ rest) = if now && not was then 1 + boxes_from now rest else boxes_from now rest
+
+unfoldable pub boxes_over : List Bool → ℕ
+boxes_over flags = boxes_from false flags
+
+-- how many boxes and marks the bar of a code has: a box over bins side by side with the same strength, or in which the code is
+-- missing, and a mark in each bin with a slip, a half cycle, a return or a rise
+unfoldable pub forms_in_bar : List TimeBin → ℕ → ℕ → ℕ
+forms_in_bar bins place code =
+    sum_by (λ level. boxes_over (layer_flags bins place code (Level level))) (range_with_len 0 10)
+    + boxes_over (layer_flags bins place code Part) + boxes_over (layer_flags bins place code Absent)
+    + columns_of bins place code Slip + columns_of bins place code Half + columns_of bins place code Return + columns_of bins place code Rise

@@ -1,17 +1,18 @@
 -- Laws of the size of a picture in SVG.
-use Rattle.std.specs.Prelude.{◌≡◌, ◌≤◌, ◌<◌, ℕ, true, List, ◌++◌, length}
+use Rattle.std.specs.Prelude.{◌≡◌, ◌≤◌, ◌<◌, ℕ, ◌+◌, ◌*◌, true, List, ◌++◌, length}
 use Rattle.rtk_obs.specs.declared.code.Code.{Code}
 use Rattle.rtk_rinex.specs.Record.{EpochTableView}
 use Rattle.rtk_chart.specs.Signs.{is_drawn}
 use Rattle.rtk_chart.specs.Grid.{bins_of}
 use Rattle.rtk_chart.specs.Means.{columns_of}
 use Rattle.rtk_chart.specs.TextPicture.{satellites_in}
-use Rattle.rtk_chart.specs.SvgPicture.{codes_before, lines_before, lacked_before, svg_start}
+use Rattle.rtk_chart.specs.SvgPicture.{codes_before, lines_before, lacked_before, code_line, svg_start}
 use Rattle.rtk_chart.specs.Chart.{svg_at}
-use Rattle.rtk_chart.specs.Size.{picture_height}
+use Rattle.rtk_chart.specs.Size.{picture_height, forms_in_bar}
 use Rattle.rtk_chart.specs.declared.time_bin.TimeBin.{TimeBin}
 use Rattle.rtk_chart.specs.declared.scale.Scale.{Scale}
 use Rattle.rtk_chart.specs.declared.strengths.Strengths.{Strengths}
+use Rattle.rtk_chart.specs.declared.spacing.Spacing.{Spacing}
 
 -- a picture in SVG begins with its height, which is that of what it has
 abbrev pub SvgHasItsHeight : Type 0
@@ -34,3 +35,9 @@ DaysFitScreen =
 -- no picture of a file, which has at most 16 codes, is higher than 6,140 units
 abbrev pub NoneIsHigher : Type 0
 NoneIsHigher = (bins : List TimeBin) (listed : ℕ) (columns : List Strengths) → listed ≤ 16 → picture_height bins listed columns ≤ 6140
+
+-- the line of a code of a satellite, in a picture of at most 1,440 bins, has at most 620 bytes, and 22 more for each box and mark
+abbrev pub BarsAreSmall : Type 0
+BarsAreSmall =
+    (spacing : Spacing) (bins : List TimeBin) (place at : ℕ) (code : Code) → length bins ≤ 1440 → at < 16
+    → length (code_line spacing bins place at code) ≤ 620 + 22 * forms_in_bar bins place at

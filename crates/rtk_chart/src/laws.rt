@@ -1,10 +1,11 @@
 //! Laws of the definitions of a picture: how long and how wide a bin is, what it shows of its
-//! epochs, where epochs are missing, what a heading tells, and how high a picture is.
+//! epochs, where epochs are missing, what a heading tells, and how high and how long
+//! a picture is.
 
 ghost use Rattle.rtk_chart.specs.Laws.{BinsAreFew, ShorterBinsAreTooMany, ScalesFillRoom, RowsHaveAllBins, ColumnsFillWidth, MissingMarksAreEpochs, MeansAreOfStrengths};
 ghost use Rattle.rtk_chart.specs.MarkLaws.{CodesShowEpochs, SatellitesShowEpochs, CodesAreOfEpochs, GapsAreMissing, OutagesAreOfEpochs, MissingAreOfSteps, SlipsAndRisesAreDigits};
 ghost use Rattle.rtk_chart.specs.HeadingLaws.{TablesHaveNumbers, TextHasHeading, EqualTextHeadings, SvgHasHeading, EqualSvgHeadings};
-ghost use Rattle.rtk_chart.specs.SizeLaws.{SvgHasItsHeight, DaysFitScreen, NoneIsHigher};
+ghost use Rattle.rtk_chart.specs.SizeLaws.{SvgHasItsHeight, DaysFitScreen, NoneIsHigher, BarsAreSmall};
 
 use rtk_rinex::one_reading;
 use rtk_tracking::bits_are_of_three_kinds;
@@ -90,4 +91,9 @@ pub fn svg_heights_are_of_what_is_drawn()
     ensures height { SvgHasItsHeight }
     ensures screen { DaysFitScreen }
     ensures most { NoneIsHigher }
+{}
+
+/// The line of a code in a picture in SVG has at most 620 bytes, and 22 more for each box and mark of its bar.
+pub fn svg_bars_are_small()
+    ensures { BarsAreSmall }
 {}

@@ -85,7 +85,7 @@ pub use chart::{chart_svg, chart_text, chosen_svg, chosen_text};
 pub use choice::{Choice, Chosen};
 pub use laws::{
     bins_are_least, bins_fill_room, counts_are_of_epochs, files_have_numbers, marks_are_of_epochs,
-    means_are_of_strengths, missing_marks_are_epochs, svg_headings_tell_numbers,
-    svg_heights_are_of_what_is_drawn, text_headings_tell_numbers,
+    means_are_of_strengths, missing_marks_are_epochs, svg_bars_are_small,
+    svg_headings_tell_numbers, svg_heights_are_of_what_is_drawn, text_headings_tell_numbers,
 };
 pub use passes::is_there;
