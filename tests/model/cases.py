@@ -600,6 +600,40 @@ def long_file():
     save("long_2s.rnx", part)
 
 
+# All satellites have four of these codes, and two the fifth one, so they have 130 bars, and one code has a line `never`.
+DAY_CODES = "1C", "2W", "2X", "1X", "5X"
+
+
+def day_rows(random, minute):
+    """The satellites in sight: each rises twice a day, some minutes after the one before it, and strengths follow its height, with noise."""
+    for number in range(1, 33):
+        since = (minute - 45 * number) % 720
+        if since >= 330:
+            continue
+        height = since * (330 - since) / 165**2
+        cells = []
+        for place in range(5 if number in (8, 24) else 4):
+            strength = 250 * round(4 * (30 + 20 * height - 2 * place + random.gauss(0, 0.7)))
+            is_slip = since == 0 or height < 0.2 and random.random() < 0.02
+            bits = is_slip + 2 * (since < 2)
+            cells.append(model.columns_of(20_000_000_000, 110_000_000_000, strength, str(bits) if bits else " "))
+        yield f"G{number:02}{''.join(cells)}".rstrip()
+
+
+def ordinary_day():
+    """A day of all satellites, and its picture, which has the height that the manual says. It fits a screen of 2,000 pixels, and has less than 1 MB."""
+    random = Random(307)
+    text = "".join(f"{it}\n" for it in model.header(Setup(2003, NEAR, MADE, "BASE", DAY_CODES, 64), {}, NEAR))
+    for minute in range(1440):
+        rows = list(day_rows(random, minute))
+        text += "\n".join([model.epoch_line(NEAR + 60_000 * minute, len(rows)), *rows, ""])
+    picture = svg_picture(text)
+    assert "<svg xmlns='http://www.w3.org/2000/svg' viewBox='0 0 1620 1960'>" in picture
+    assert len(picture) < 1_000_000
+    save("day.rnx", text)
+    save("day.svg", picture)
+
+
 def main():
     hold_to_examples()
     with open("cases", "w") as cases:
@@ -612,6 +646,7 @@ def main():
     greatest_summary()
     summary_cases()
     long_file()
+    ordinary_day()
 
 
 main()

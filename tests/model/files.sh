@@ -91,5 +91,8 @@ for columns in 121 600; do
     "$program" chart columns_$columns.rnx >out 2>err </dev/null; status=$?
     leaves chart_of_${columns}_columns 0 columns_$columns.svg /dev/null
 done
+# pins: rows_for, height_for
+"$program" chart day.rnx >out 2>err </dev/null; status=$?
+leaves chart_of_a_day_of_all_satellites 0 day.svg /dev/null
 
 ends

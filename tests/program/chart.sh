@@ -22,6 +22,34 @@ END
 printf '%s\n' 's slip' 'a return' 'r rise' 'h half cycle' 'o outage' 'g epochs missing' 'l8 phase' 'l8 p code missing in some epochs' 'm in all' 'l0 none' 'l1 &lt;12' >want
 for digit in 2 3 4 5 6 7 8 9; do echo "l$digit $((6 * digit))"; done >>want
 same legend_of_each_class got want
+# Whether strengths can be told in both styles, by the contrast of WCAG 2.1, which is the same in grey: a stronger one differs more
+# from the page, and a slip most of all; a phase without a strength differs from the weakest one, and from the page.
+python3 - "$root/examples/marks.svg" <<'END' >got
+import re, sys
+style = re.search("<style>.*", open(sys.argv[1]).read())[0]
+dark, light = re.search(r"dark\)\{(.*?)\}@media", style)[1].replace("!important", ""), style[style.index(".page{fill:#fff}"):]
+def colour(rules, name, what):
+    bodies = [body for names, body in re.findall(r"([^{}]+)\{([^{}]+)\}", rules + "}") if name in names.split(",")]
+    return [it for body in bodies for it in re.findall(rf"\b{what}:#(\w+)", body)][0]
+def luminance(digits):
+    shares = [int(digits[at] * 2, 16) / 255 for at in range(3)] if len(digits) == 3 else [it / 255 for it in bytes.fromhex(digits)]
+    shares = [it / 12.92 if it <= 0.04045 else ((it + 0.055) / 1.055) ** 2.4 for it in shares]
+    return sum(weight * it for weight, it in zip((0.2126, 0.7152, 0.0722), shares))
+def contrast(one, other):
+    low, high = sorted((luminance(one), luminance(other)))
+    return (high + 0.05) / (low + 0.05)
+for rules in light, dark:
+    grounds = [colour(rules, ".page", "fill"), colour(rules, ".b1", "fill")]
+    none, *levels = [colour(rules, f".l{level}", "stroke") for level in range(10)]
+    for ground in grounds:
+        steps = [contrast(it, ground) for it in (*levels, colour(rules, ".s", "fill"))]
+        print("stronger ones differ more" if 1.25 < steps[0] and steps == sorted(set(steps)) else steps)
+    print("none differs" if min(contrast(none, it) for it in (*grounds, levels[0])) > 2 else none)
+print(*re.findall(r"\.l0\{[^}]*(stroke-width:\d+)", style))
+END
+for style in light dark; do printf '%s\n' 'stronger ones differ more' 'stronger ones differ more' 'none differs'; done >want
+echo stroke-width:5 >>want # a thin line: other strengths have 14
+same strengths_can_be_told got want
 COLUMNS=120 "$program" chart --text "$marks" >out 2>err; status=$?
 expect columns_of_the_environment_are_none 0 "$picture" ''
 sed '16s/45.000/45.100/' "$marks" >bad
