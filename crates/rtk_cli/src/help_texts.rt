@@ -103,8 +103,7 @@ Exit status:
   0  the picture is written
   1  it is not, or in part; standard error says why
   2  the words are refused
-  3  the file is not as convert or label writes it, or has none of the chosen
-     satellites; standard error says where
+  3  the file is not as convert or label writes it, or has no chosen satellite
 
 Manual: man rtcm2rinex, or docs/MANUAL.md";
 
