@@ -1,12 +1,13 @@
 -- How many bytes the line of a code has in a picture in SVG.
-use Rattle.std.proofs.Common.{◌≡◌, ◌≤◌, ◌<◌, ℕ, ◌+◌, ◌*◌, ◌/◌, Bool, true, false, cond, List, [], ◌∷◌, ◌++◌, length, map, codes, refl, sym, ap, ◌∙◌, arith, length-append}
-use Rattle.std.specs.Prelude.{flat_map, decimal, count_by}
+use Rattle.std.proofs.Common.{◌≡◌, ◌≤◌, ◌<◌, ◌==◌, ℕ, zero, suc, ◌+◌, ◌*◌, ◌/◌, ◌&&◌, Bool, true, false, cond, inl, inr, List, [], ◌∷◌, ◌++◌, length, map, codes, refl, sym, ap, ◌∙◌, arith, length-append}
+use Rattle.std.specs.Prelude.{flat_map, decimal, count_by, unwrap_or}
 use Rattle.std.specs.List.{range_with_len, sum_by, list_any}
 use Rattle.std.proofs.Math.Nat.{mul-add, mul-div_cancel_left}
+use Rattle.std.proofs.lemmas.Bool.{cases_eq, eq-eqb, ne_eqb}
 use Rattle.std.proofs.lemmas.Fmt.{length-decimal-le}
 use Rattle.std.proofs.lemmas.List.{length-map}
 use Rattle.std.proofs.lemmas.List.Concat.{length-flat_map}
-use Rattle.std.proofs.lemmas.List.Sums.{sum_by-cons, count_by-le-length}
+use Rattle.std.proofs.lemmas.List.Sums.{sum_by-cons, sum_by-le-sum_by, count_by-le-length}
 use Rattle.std.proofs.lemmas.List.FromFn.{length-range_with_len}
 use Rattle.rtk_obs.specs.Code.{name_of}
 use Rattle.rtk_obs.specs.declared.code.Code.{Code}
@@ -294,3 +295,84 @@ bars-small spacing bins place at code few listed =
       eight-long before (satellite_label (place + 1)) (codes " ") (name_of code) (drawn_bar bins place at)
           (code_start spacing) (name_of code) (codes "</text>\n</g>\n"),
     )
+
+-- ---- no bar is larger
+
+boxes-within : (was : Bool) (bs : List Bool) → boxes_from was bs ≤ count_by (λ b. b) bs
+boxes-within was [] = omega arith
+boxes-within was (false ∷ bs) = let rest = boxes-within false bs in rw (sum_by-cons (λ (b : Bool). cond b 1 0) false bs) (omega (arith, rest))
+boxes-within false (true ∷ bs) = let rest = boxes-within true bs in rw (sum_by-cons (λ (b : Bool). cond b 1 0) true bs) (omega (arith, rest))
+boxes-within true (true ∷ bs) = let rest = boxes-within true bs in rw (sum_by-cons (λ (b : Bool). cond b 1 0) true bs) (omega (arith, rest))
+
+over-within : (bs : List Bool) → boxes_over bs ≤ count_by (λ b. b) bs
+unfolding boxes_over
+over-within bs = boxes-within false bs
+
+none-after : (x from n : ℕ) → x < from → sum_by (λ level. cond (x == level) 1 0) (range_with_len from n) ≡ 0
+none-after x from zero below = refl
+none-after x from (suc n) below =
+    let rest = none-after x (from + 1) n (omega (arith, below)) in
+    let other : (x == from) ≡ false = ne_eqb x from (λ same. absurd (omega (arith, same, below))) in
+    rw (sum_by-cons (λ (level : ℕ). cond (x == level) 1 0) from (range_with_len (from + 1) n), other) (omega (arith, rest))
+
+-- a number is one of several at most once
+once : (x from n : ℕ) → sum_by (λ level. cond (x == level) 1 0) (range_with_len from n) ≤ 1
+once x from zero = omega arith
+once x from (suc n) =
+    rw (sum_by-cons (λ (level : ℕ). cond (x == level) 1 0) from (range_with_len (from + 1) n)) (
+      elim (cases_eq x from) [
+        | inl same ↦
+            let rest = none-after x (from + 1) n (omega (arith, same)) in
+            rw (eq-eqb x from same) (omega (arith, rest))
+        | inr other ↦
+            let rest = once x (from + 1) n in
+            rw (ne_eqb x from other) (omega (arith, rest))
+      ]
+    )
+
+no-level : (n from : ℕ) → sum_by (λ level. 0) (range_with_len from n) ≡ 0
+no-level zero from = refl
+no-level (suc n) from = rw (sum_by-cons (λ (level : ℕ). 0) from (range_with_len (from + 1) n)) (no-level n (from + 1))
+
+one-level : (phase : Bool) (x : ℕ) → sum_by (λ level. cond (phase && (x == level)) 1 0) (range_with_len 0 10) ≤ 1
+one-level false x = let none = no-level 10 0 in omega (arith, none)
+one-level true x = once x 0 10
+
+sum-two : (f g : ℕ → ℕ) (xs : List ℕ) → sum_by (λ x. f x + g x) xs ≡ sum_by f xs + sum_by g xs
+sum-two f g [] = refl
+sum-two f g (x ∷ xs) =
+    let rest = sum-two f g xs in
+    rw (sum_by-cons (λ (y : ℕ). f y + g y) x xs, sum_by-cons f x xs, sum_by-cons g x xs) (omega (arith, rest))
+
+abbrev level_columns : List TimeBin → ℕ → ℕ → ℕ → ℕ
+level_columns bins place code level = columns_of bins place code (Level level)
+
+-- a bin has its strength in one level
+levels-within : (bins : List TimeBin) (place code : ℕ) → sum_by (level_columns bins place code) (range_with_len 0 10) ≤ length bins
+levels-within [] place code = let none = no-level 10 0 in omega (arith, none)
+levels-within (bin ∷ bins) place code =
+    let rest = levels-within bins place code in
+    let marks = marks_at code (tracking_at place bin) in
+    let here = one-level marks.phase (unwrap_or marks.least 0) in
+    let one : ℕ → ℕ = λ level. cond (shows (Level level) marks) 1 0 in
+    let sums = sum_by-le-sum_by (level_columns (bin ∷ bins) place code) (λ level. one level + level_columns bins place code level) (range_with_len 0 10)
+        (λ level. rw (sum_by-cons (λ (b : Bool). cond b 1 0) (shows (Level level) marks) (layer_flags bins place code (Level level))) (omega arith)) in
+    let both = sum-two one (level_columns bins place code) (range_with_len 0 10) in
+    omega (arith, rest, here, sums, both)
+
+forms-few : (bins : List TimeBin) (place code : ℕ) → length bins ≤ 1440 → forms_in_bar bins place code ≤ 10_080
+unfolding forms_in_bar
+forms-few bins place code few =
+    let levels = levels-within bins place code in
+    let boxes = sum_by-le-sum_by (level_boxes bins place code) (level_columns bins place code) (range_with_len 0 10)
+        (λ level. over-within (layer_flags bins place code (Level level))) in
+    let part = over-within (layer_flags bins place code Part) in
+    let absent = over-within (layer_flags bins place code Absent) in
+    let within = columns-few bins place code in
+    omega (arith, levels, boxes, part, absent, few, within Part, within Absent, within Slip, within Half, within Return, within Rise)
+
+pub no-bar-larger : NoBarIsLarger
+no-bar-larger spacing bins place at code few listed =
+    let line = bars-small spacing bins place at code few listed in
+    let forms = forms-few bins place at few in
+    omega (arith, line, forms)

@@ -41,3 +41,9 @@ abbrev pub BarsAreSmall : Type 0
 BarsAreSmall =
     (spacing : Spacing) (bins : List TimeBin) (place at : ℕ) (code : Code) → length bins ≤ 1440 → at < 16
     → length (code_line spacing bins place at code) ≤ 620 + 22 * forms_in_bar bins place at
+
+-- so it has at most 222,380 bytes, whatever the file
+abbrev pub NoBarIsLarger : Type 0
+NoBarIsLarger =
+    (spacing : Spacing) (bins : List TimeBin) (place at : ℕ) (code : Code) → length bins ≤ 1440 → at < 16
+    → length (code_line spacing bins place at code) ≤ 222_380

@@ -5,7 +5,7 @@
 ghost use Rattle.rtk_chart.specs.Laws.{BinsAreFew, ShorterBinsAreTooMany, ScalesFillRoom, RowsHaveAllBins, ColumnsFillWidth, MissingMarksAreEpochs, MeansAreOfStrengths};
 ghost use Rattle.rtk_chart.specs.MarkLaws.{CodesShowEpochs, SatellitesShowEpochs, CodesAreOfEpochs, GapsAreMissing, OutagesAreOfEpochs, MissingAreOfSteps, SlipsAndRisesAreDigits};
 ghost use Rattle.rtk_chart.specs.HeadingLaws.{TablesHaveNumbers, TextHasHeading, EqualTextHeadings, SvgHasHeading, EqualSvgHeadings};
-ghost use Rattle.rtk_chart.specs.SizeLaws.{SvgHasItsHeight, DaysFitScreen, NoneIsHigher, BarsAreSmall};
+ghost use Rattle.rtk_chart.specs.SizeLaws.{SvgHasItsHeight, DaysFitScreen, NoneIsHigher, BarsAreSmall, NoBarIsLarger};
 
 use rtk_rinex::one_reading;
 use rtk_tracking::bits_are_of_three_kinds;
@@ -93,7 +93,9 @@ pub fn svg_heights_are_of_what_is_drawn()
     ensures most { NoneIsHigher }
 {}
 
-/// The line of a code in a picture in SVG has at most 620 bytes, and 22 more for each box and mark of its bar.
+/// The line of a code in a picture in SVG has at most 620 bytes, and 22 more for each box and mark of its bar. Whatever
+/// the file, it has at most 222,380 bytes.
 pub fn svg_bars_are_small()
-    ensures { BarsAreSmall }
+    ensures forms { BarsAreSmall }
+    ensures most { NoBarIsLarger }
 {}
