@@ -19,7 +19,7 @@ use Rattle.rtk_chart.specs.TextPicture.{satellite_label}
 use Rattle.rtk_chart.specs.SvgPath.{edge_of, middle_of, runs_from, runs_text, marks_from, marks_text}
 use Rattle.rtk_chart.specs.SvgPicture.{number_between, layer_flags, columns_of, path_start, runs_path, runs_layer, marks_path, marks_layer, level_path, level_paths, missing_paths, lock_paths, column_numbers, code_numbers, drawn_bar, codes_before, line_top, line_start, code_start, code_line}
 use Rattle.rtk_chart.specs.Size.{boxes_from, boxes_over, forms_in_bar}
-use Rattle.rtk_chart.specs.SizeLaws.{BarsAreSmall}
+use Rattle.rtk_chart.specs.SizeLaws.{BarsAreSmall, NoBarIsLarger}
 use Rattle.rtk_chart.specs.declared.time_bin.TimeBin.{TimeBin}
 use Rattle.rtk_chart.specs.declared.layer.Layer.{Layer}
 use Rattle.rtk_chart.specs.declared.layer.Layer.TheVariants.{Phase, Level, Missing, Part, Absent, Slip, Return, Rise, Half}
@@ -70,7 +70,9 @@ marks-few : (most : ℕ) (form : List ℕ) → 5 + length form ≤ most
     → (n c : ℕ) (bs : List Bool) → 0 < n → c + length bs ≤ n → length (marks_from form n c bs) ≤ most * count_by (λ b. b) bs
 marks-few most form room n c [] some within = omega arith
 marks-few most form room n c (false ∷ bs) some within =
-    rw (sum_by-cons (λ (b : Bool). cond b 1 0) false bs) (marks-few most form room n (c + 1) bs some (omega (arith, within)))
+    let rest = marks-few most form room n (c + 1) bs some (omega (arith, within)) in
+    let none = mul-add most 0 (count_by (λ b. b) bs) in
+    rw (sum_by-cons (λ (b : Bool). cond b 1 0) false bs) (omega (arith, rest, none))
 marks-few most form room n c (true ∷ bs) some within =
     let rest = marks-few most form room n (c + 1) bs some (omega (arith, within)) in
     let begin = edge-few n c some (omega (arith, within)) in
@@ -332,7 +334,7 @@ once x from (suc n) =
 
 no-level : (n from : ℕ) → sum_by (λ level. 0) (range_with_len from n) ≡ 0
 no-level zero from = refl
-no-level (suc n) from = rw (sum_by-cons (λ (level : ℕ). 0) from (range_with_len (from + 1) n)) (no-level n (from + 1))
+no-level (suc n) from = let rest = no-level n (from + 1) in rw (sum_by-cons (λ (level : ℕ). 0) from (range_with_len (from + 1) n)) (omega (arith, rest))
 
 one-level : (phase : Bool) (x : ℕ) → sum_by (λ level. cond (phase && (x == level)) 1 0) (range_with_len 0 10) ≤ 1
 one-level false x = let none = no-level 10 0 in omega (arith, none)
