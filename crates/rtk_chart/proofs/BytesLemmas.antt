@@ -1,6 +1,6 @@
 -- How many bytes the line of a code has in a picture in SVG.
-use Rattle.std.proofs.Common.{◌≡◌, ◌≤◌, ◌<◌, ◌==◌, ℕ, zero, suc, ◌+◌, ◌*◌, ◌/◌, ◌&&◌, Bool, true, false, cond, inl, inr, List, [], ◌∷◌, ◌++◌, length, map, codes, refl, sym, ap, ◌∙◌, arith, length-append}
-use Rattle.std.specs.Prelude.{flat_map, decimal, count_by, unwrap_or}
+use Rattle.std.proofs.Common.{◌≡◌, ◌≤◌, ◌<◌, ◌==◌, ℕ, zero, suc, ◌+◌, ◌*◌, ◌&&◌, Bool, true, false, cond, inl, inr, List, [], ◌∷◌, ◌++◌, length, codes, refl, arith, length-append}
+use Rattle.std.specs.Prelude.{decimal, count_by, unwrap_or}
 use Rattle.std.specs.List.{range_with_len, sum_by, list_any}
 use Rattle.std.proofs.Math.Nat.{mul-add, mul-div_cancel_left}
 use Rattle.std.proofs.lemmas.Bool.{cases_eq, eq-eqb, ne_eqb}

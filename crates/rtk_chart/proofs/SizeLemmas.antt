@@ -1,5 +1,5 @@
 -- How high a picture in SVG is.
-use Rattle.std.proofs.Common.{◌≡◌, ◌≤◌, ◌<◌, ℕ, zero, suc, ◌+◌, ◌*◌, Bool, true, false, cond, ltb, List, [], ◌∷◌, ◌++◌, length, refl, sym, ap, ◌∙◌, append_assoc, arith}
+use Rattle.std.proofs.Common.{◌≡◌, ◌≤◌, ◌<◌, ℕ, zero, suc, ◌+◌, ◌*◌, Bool, true, false, cond, List, [], ◌∷◌, ◌++◌, length, refl, ap, ◌∙◌, append_assoc, arith}
 use Rattle.std.specs.Prelude.{max, nat_lt, is_some, count_by}
 use Rattle.std.specs.List.{range_with_len, sum_by}
 use Rattle.std.proofs.Math.Nat.{mul-add}
@@ -15,7 +15,7 @@ use Rattle.rtk_tracking.specs.Interval.{missing_in}
 use Rattle.rtk_chart.specs.Chart.{slips_at, returns_at, rises_at}
 use Rattle.rtk_chart.specs.Grid.{bins_of, outages_of, gaps_of}
 use Rattle.rtk_chart.specs.SvgStrip.{strip_height}
-use Rattle.rtk_chart.specs.SvgPicture.{codes_before, lines_before, is_lacked, lacked_before, band_height, height_if_drawn, band_top, never_end, spacing_of, svg_start, svg_span, svg_numbers, svg_body, svg_picture}
+use Rattle.rtk_chart.specs.SvgPicture.{codes_before, lines_before, is_lacked, lacked_before, height_if_drawn, band_top, never_end, spacing_of, svg_start, svg_span, svg_numbers, svg_body, svg_picture}
 use Rattle.rtk_chart.specs.Size.{rows_for, rows_if_drawn, rows_in, lanes_in, height_for, picture_height}
 use Rattle.rtk_chart.specs.SizeLaws.{SvgHasItsHeight, HaveTwoBars, DaysFitScreen, NoneIsHigher}
 use Rattle.rtk_chart.specs.declared.time_bin.TimeBin.{TimeBin}
