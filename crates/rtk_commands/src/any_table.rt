@@ -33,8 +33,6 @@ fn letter(text: &[u8]) -> u8
     text.get(40).copied().unwrap_or_default()
 }
 
-// The two checks are not inlined, so that what they hold of a header leaves the stack before a file is drawn.
-#[inline(never)]
 fn check_gps(text: &[u8]) -> Result<AnyTable<'_>, CheckFault>
     requires { letter_in text.now ≡ 71 }
     ensures text { IfOk result (λ table. text_of table ≡ text.now) }
@@ -50,7 +48,6 @@ fn check_gps(text: &[u8]) -> Result<AnyTable<'_>, CheckFault>
     }
 }
 
-#[inline(never)]
 fn check_mixed(text: &[u8]) -> Result<AnyTable<'_>, CheckFault>
     requires { letter_in text.now ≢ 71 }
     ensures text { IfOk result (λ table. text_of table ≡ text.now) }
