@@ -160,6 +160,8 @@ fn job_of_words<'a>(
 }
 
 /// What the words of a command line ask for. They begin after the name of the program.
+// It is not inlined, so that what reads the words leaves the stack before the work begins.
+#[inline(never)]
 pub fn job<'a>(alloc: Global, words: &'a [&'a str]) -> Result<Job<'a>, WordsFault>
     // `OutOfMemory` comes only if memory is refused: tests/system/calls, rows `job ..`.
     ensures limits { IfOk result IsWithinLimits }
