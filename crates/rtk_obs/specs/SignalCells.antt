@@ -51,7 +51,7 @@ bit_of_row m row = slice_index (satellites_of m.header) row
 -- formula
 -- the field of the channel (DF419) of the satellite of a row, or 15, which tells none, in a kind without it
 abbrev pub field_of_row : Msm → ℕ → ℕ
-field_of_row m row = slice_index_or m.extended row 15
+field_of_row m at = slice_index_or m.extended at 15
 
 -- the entry of a cell, if its satellite and its signal give one
 abbrev pub entry_if : Msm → ℕ → ℕ → Option ℤ → Option ℕ → Option AnyCode → List SignalEntry
