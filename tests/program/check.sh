@@ -5,9 +5,9 @@ base=$root/examples/base.rnx
 
 check() { run check "$@"; }
 
-# bad_edit NAME WANTED SCRIPT: of the file after a script of sed
+# bad_edit NAME WANTED SCRIPT [FILE]: of the file after a script of sed
 bad_edit() {
-    sed "$3" "$base" >edited
+    sed "$3" "${4:-$base}" >edited
     check edited
     expect "$1" 3 "$2" ''
 }
@@ -39,6 +39,82 @@ bad_edit cr_in_a_satellite_line 'line 16: C3 Value' '16s/$/\r/'
 bad_edit cr_as_a_line 'line 17: C2 Columns' '$s/$/\n\r/'
 bad_edit nul_as_a_line 'line 17: C2 Columns' '$s/$/\n\x00/'
 bad_edit nul_before_the_last_line_feed 'line 16: C3 Value' '$s/$/\x00/'
+
+# Files of other systems.
+of_galileo >galileo
+bad_mixed() { bad_edit "$@" "$mixed"; }
+bad_galileo() { bad_edit "$@" galileo; }
+check "$mixed";        expect yes_mixed 0 'valid: 4 epochs, 21 satellite lines' ''
+check stdin <"$mixed"; expect yes_mixed_of_standard_input 0 'valid: 4 epochs, 21 satellite lines' ''
+check galileo;         expect yes_galileo 0 'valid: 4 epochs, 4 satellite lines' ''
+sed 31q "$mixed" >heading
+check heading; expect yes_mixed_without_records 0 'valid: 0 epochs, 0 satellite lines' ''
+# The letter in the first line. Behind the codes of G a file of GPS alone has no codes of R, and a file of several systems has some.
+bad_mixed unknown_letter 'line 1: C1 HeaderLine' '1s/M /X /'
+bad_mixed no_letter 'line 1: C1 HeaderLine' '1s/M /  /'
+bad_mixed small_letter 'line 1: C1 HeaderLine' '1s/M /m /'
+bad_mixed letter_of_gps 'line 11: C1 HeaderLine' '1s/M /G /'
+bad_mixed letter_of_galileo 'line 10: C1 HeaderLine' '1s/M /E /'
+bad_galileo letter_of_beidou 'line 10: C1 HeaderLine' '1s/E /C /'
+bad_galileo letter_of_several_systems_and_galileo 'line 11: C1 HeaderLine' '1s/E /M /'
+bad_edit letter_of_several_systems_and_gps 'line 11: C1 HeaderLine' '1s/G /M /'
+# Each other line of a header of several systems.
+bad_mixed systems_out_of_order 'line 12: C1 HeaderLine' '11 { h; d }; 12G'
+bad_mixed system_twice 'line 12: C1 HeaderLine' 11p
+bad_mixed types_of_another_system 'line 11: C1 HeaderLine' '11s/C2P L2P S2P/C2W L2W S2W/'
+bad_mixed types_out_of_order 'line 12: C1 HeaderLine' '12s/C8X L8X/L8X C8X/'
+bad_mixed more_types_than_the_number 'line 12: C1 HeaderLine' '12s/  6/  3/'
+bad_mixed no_second_line_of_types 'line 14: C1 HeaderLine' 14d
+bad_mixed no_phase_shift_of_a_system 'line 24: C1 HeaderLine' 24d
+bad_mixed slots_out_of_order 'line 27: C1 HeaderLine' '27s/R02 -4 R03  5/R03  5 R02 -4/'
+bad_mixed channel_7 'line 27: C1 HeaderLine' '27s/R01  1/R01  7/'
+bad_mixed slot_28 'line 28: C1 HeaderLine' '28s/R22/R28/'
+bad_mixed fewer_slots_than_the_number 'line 28: C1 HeaderLine' '27s/ 10/ 11/'
+bad_mixed slots_without_glonass 'line 25: C1 HeaderLine' '11d; 21d'
+bad_mixed biases 'line 29: C1 HeaderLine' '29s/^ /C/'
+bad_mixed no_leap_seconds 'line 30: C1 HeaderLine' 30d
+bad_mixed leap_seconds_of_three_digits 'line 30: C1 HeaderLine' '30s/  18/ 100/'
+sed -n 30p "$mixed" >leap
+bad_galileo leap_seconds_without_glonass 'line 14: C1 HeaderLine' '13r leap'
+bad_mixed half_mixed_header 'line 30: C5 Truncated' '30,$d'
+# The satellites of the first record stand in the lines 33 to 40. All 36 of Galileo may stand in a record.
+bad_mixed satellite_of_a_system_without_types 'line 36: C2 Columns' '15d; 24d'
+while read -r line name beyond <&3; do
+    bad_mixed "satellite_$beyond" "line $line: C2 Columns" "${line}s/^$name/$beyond/"
+done 3<<'END'
+33 G11 G33
+34 R10 R28
+36 E11 E37
+37 C41 C64
+38 J01 J11
+39 S58 S19
+39 S58 S59
+40 I14 I15
+40 I14 X14
+END
+bad_galileo thirty_seven_of_galileo 'line 15: C2 Columns' '15s/  1$/ 37/'
+bad_galileo one_of_thirty_six_of_galileo 'line 17: C2 Columns' '15s/  1$/ 36/'
+# S has one code, and E has two.
+bad_mixed a_second_code_of_sbas 'line 39: C2 Columns' '39s/$/    39272226.466/'
+bad_mixed a_third_code_of_galileo 'line 36: C2 Columns' '36s/$/    25110278.381/'
+bad_mixed blank_behind_galileo 'line 36: C2 Columns' '36s/$/ /'
+# The order is that of the systems, and not of their letters.
+bad_mixed satellites_in_the_order_of_letters 'line 37: C4 Order' '36 { h; d }; 37G'
+bad_mixed satellite_twice 'line 37: C4 Order' '32s/8$/9/; 36p'
+bad_mixed another_first_time 'line 32: C4 Order' '32s/ 0.0000000/ 0.5000000/'
+bad_mixed time_twice 'line 41: C4 Order' '41s/ 1.0000000/ 0.0000000/'
+# R26 has no channel in the header.
+bad_mixed phase_without_a_channel 'line 35: C3 Value' '35s/5                /5  93254129.000 5/'
+bad_mixed channel_of_another_slot 'line 34: C3 Value' '27s/R10/R11/'
+bad_mixed zero_of_galileo 'line 36: C3 Value' '36s/25110278.381/       0.000/'
+bad_mixed strength_between_steps 'line 40: C3 Value' '40s/40.000/40.100/'
+bad_mixed no_observation 'line 40: C3 Value' '40s/^\(I14\).*/\1/'
+bad_mixed order_before_value 'line 37: C4 Order' '36 { h; d }; 37 { G; s/25110278.381/       0.000/ }'
+bad_mixed columns_before_order 'line 37: C2 Columns' '36 { h; d }; 37 { G; s/$/ / }'
+bad_mixed half_record 'line 50: C5 Truncated' '50,$d'
+head -c -1 "$mixed" >cut
+check cut; expect no_last_line_feed_of_mixed 3 'line 56: C5 Truncated' ''
+
 check --hlep
 expect like_help 2 '' "$(error "unexpected argument '--hlep' found" "check --help <FILE>" "a similar argument exists: '--help'")"
 
