@@ -112,6 +112,21 @@ for list in G G5 G005 G33 G00 g05 G05, ,G05 'G05 G12' G05,,G12 S19 R28 ''; do
 done
 chart --systems X --satellites X "$marks"; expect the_systems_first 2 '' 'rtcm2rinex: bad --systems'
 
+# Files of other systems, also without a record; a file that `check` refuses is none of them.
+cp "$mixed" mixed
+of_galileo >galileo
+sed 31q "$mixed" >heading
+for name in mixed galileo heading; do
+    for words in '' --text '--systems G' '--systems E' '--satellites G11,E11'; do
+        chart $words $name
+        expect "chart_of_$name$(echo "$words" | tr -d ' ')" 3 '' 'rtcm2rinex: other systems than GPS'
+    done
+done
+chart stdin <mixed; expect chart_of_mixed_of_standard_input 3 '' 'rtcm2rinex: other systems than GPS'
+sed '36s/25110278.381/       0.000/' mixed >bad
+chart bad;               expect chart_of_a_bad_mixed_file 3 '' 'line 36: C3 Value'
+chart --systems X mixed; expect the_words_before_a_mixed_file 2 '' 'rtcm2rinex: bad --systems'
+
 # twice OPTION WORD..: an option that stands twice is refused
 twice() {
     option=$1

@@ -77,7 +77,7 @@ bad_mixed leap_seconds_of_three_digits 'line 30: C1 HeaderLine' '30s/  18/ 100/'
 sed -n 30p "$mixed" >leap
 bad_galileo leap_seconds_without_glonass 'line 14: C1 HeaderLine' '13r leap'
 bad_mixed half_mixed_header 'line 30: C5 Truncated' '30,$d'
-# The satellites of the first record stand in the lines 33 to 40. All 36 of Galileo may stand in a record.
+# The eight satellites of the first record stand in the lines 33 to 40. The seven systems have 221 satellites, and Galileo has 36.
 bad_mixed satellite_of_a_system_without_types 'line 36: C2 Columns' '15d; 24d'
 while read -r line name beyond <&3; do
     bad_mixed "satellite_$beyond" "line $line: C2 Columns" "${line}s/^$name/$beyond/"
@@ -92,9 +92,13 @@ done 3<<'END'
 40 I14 I15
 40 I14 X14
 END
+# pins: most_satellites
+bad_mixed two_hundred_and_twenty_two_of_all 'line 32: C2 Columns' '32s/  8$/222/'
+bad_mixed eight_of_two_hundred_and_twenty_one 'line 41: C2 Columns' '32s/  8$/221/'
 bad_galileo thirty_seven_of_galileo 'line 15: C2 Columns' '15s/  1$/ 37/'
 bad_galileo one_of_thirty_six_of_galileo 'line 17: C2 Columns' '15s/  1$/ 36/'
 # S has one code, and E has two.
+# pins: IsMixedForm
 bad_mixed a_second_code_of_sbas 'line 39: C2 Columns' '39s/$/    39272226.466/'
 bad_mixed a_third_code_of_galileo 'line 36: C2 Columns' '36s/$/    25110278.381/'
 bad_mixed blank_behind_galileo 'line 36: C2 Columns' '36s/$/ /'
@@ -104,6 +108,7 @@ bad_mixed satellite_twice 'line 37: C4 Order' '32s/8$/9/; 36p'
 bad_mixed another_first_time 'line 32: C4 Order' '32s/ 0.0000000/ 0.5000000/'
 bad_mixed time_twice 'line 41: C4 Order' '41s/ 1.0000000/ 0.0000000/'
 # R26 has no channel in the header.
+# pins: MixedForm.phases_in
 bad_mixed phase_without_a_channel 'line 35: C3 Value' '35s/5                /5  93254129.000 5/'
 bad_mixed channel_of_another_slot 'line 34: C3 Value' '27s/R10/R11/'
 bad_mixed zero_of_galileo 'line 36: C3 Value' '36s/25110278.381/       0.000/'

@@ -129,6 +129,28 @@ moved '2100 12 31' '23 58' '2100 12 31 23 59' '  2100    12    31    23    58 ' 
 cut --from 2100-12-31T23:59:00 --until 2100-12-31T23:59:59 century
 well the_end_of_2100 want
 
+# Files of other systems. At the second 1 E11 slips on 8X, where it has a half cycle at 2, and C41 on 1P, but neither on its other
+# code. J01 slips too, and is missing at 2. G11, whose number and places of codes are those of E11, does not slip.
+of_galileo >galileo
+sed '41,46d; 50s/91727 /91737 /; 51s/526 7/52617/; 55s/464 7/46417/' "$mixed" >thinned
+# pins: has_slipped_since
+cut --every 2 "$mixed"; well mixed_at_2_seconds thinned
+run check thinned; expect a_part_of_mixed_is_checked 0 'valid: 3 epochs, 16 satellite lines' ''
+echo 'records 4 written 3' >counts
+cut --every 2 stdin <"$mixed"; leaves mixed_at_2_seconds_of_standard_input 0 thinned counts
+sed '17,18d; 20s/91727 /91737 /' galileo >want
+cut --every 2 galileo; well galileo_at_2_seconds want
+cut --every 1 "$mixed"; well mixed_at_its_own_step "$mixed"
+cut --from "$noon" --until 2024-05-17T12:00:05 "$mixed"; well mixed_from_its_begin_until_after_its_end "$mixed"
+sed '19s/ 0.0000000/ 1.0000000/; 32,40d; 47,$d' "$mixed" >want
+cut --from 2024-05-17T12:00:01 --until 2024-05-17T12:00:02 "$mixed"; well mixed_of_a_second want
+sed '19s/ 0.0000000/ 2.0000000/; 32,40d' thinned >want
+cut --every 2 --from 2024-05-17T12:00:02 "$mixed"; well mixed_after_the_slips want
+sed '41,$d' thinned >want
+cut --every 2 --until 2024-05-17T12:00:02 "$mixed"; well mixed_before_the_slips want
+sed '19s/12     0 /13     0 /; 31q' "$mixed" >want
+cut --from 2024-05-17T13:00:00 "$mixed"; well mixed_without_records want
+
 bad other_form_of_from 'bad --from' --from 2024-05-17
 bad no_such_day 'bad --until' --until 2024-02-30T00:00:00
 bad both_times 'bad --from' --from noon --until noon

@@ -13,20 +13,20 @@ line() {
     printf "$format%-20s\n" "$@"
 }
 
-# The lines of the columns of RINEX 3.05, Table A2, and what follows them in the file.
-{
-    sed -n 1p "$file"
-    printf 'rtcm2rinex          %-20s%s\n' 'Bureau of Heights' "$(sed -n 2p "$file" | cut -c 41-)"
-    sed -n 3p "$file"
+# laid FILE: the lines of the columns of RINEX 3.05, Table A2, and what follows them in the file
+laid() {
+    sed -n 1p "$1"
+    printf 'rtcm2rinex          %-20s%s\n' 'Bureau of Heights' "$(sed -n 2p "$1" | cut -c 41-)"
+    sed -n 3p "$1"
     line '%-60s' 12345M001 'MARKER NUMBER'
-    sed -n 4p "$file"
+    sed -n 4p "$1"
     line '%-20s%-40s' 'J. Doe' 'Survey of Somewhere, its geodesists, etc' 'OBSERVER / AGENCY'
     line '%-20s%-20s%-20s' 496710 'LEICA GRX1200+GNSS' 9.20 'REC # / TYPE / VERS'
     line '%-20s%-40s' 309 'AOAD/M_T        NONE' 'ANT # / TYPE'
-    sed -n 8p "$file"
+    sed -n 8p "$1"
     line '%14s%14s%14s                  ' +1.5000 -0.0125 +0.0030 'ANTENNA: DELTA H/E/N'
-    sed 1,9d "$file"
-} >want
+    sed 1,9d "$1"
+}
 # all FILE [WORD..]: with a field in each place
 all() {
     label "$@" --run-by 'Bureau of Heights' --marker-number 12345M001 --observer 'J. Doe' --agency 'Survey of Somewhere, its geodesists, etc' \
@@ -34,7 +34,7 @@ all() {
         --antenna-type 'AOAD/M_T        NONE' --delta-height +1.5000 --delta-east -0.0125 --delta-north +0.0030
 }
 # pins: labelled_header, top_lines, middle_lines, marker_number_line, offset_columns, height_columns
-all "$file"; leaves every_field 0 want /dev/null
+laid "$file" >want; all "$file"; leaves every_field 0 want /dev/null
 cp out labelled
 all labelled; leaves again 0 labelled /dev/null
 all stdin <"$file"; leaves of_standard_input 0 labelled /dev/null
@@ -101,6 +101,40 @@ run check wrong; expect a_field_in_a_cut_file_of_check 3 'line 5: C1 HeaderLine'
 sed '5s/^G/H/' labelled | head -c 790 >wrong;  refused '5: C1 HeaderLine' wrong
 sed '7s/^4/ 4/; 7s/ 9.20 /9.20 /' labelled | head -c 809 >wrong; refused '7: C1 HeaderLine' wrong
 run check labelled; expect no_file_of_check 3 'line 2: C1 HeaderLine' ''
+
+# Files of other systems take the same fields. With them the file has a line more.
+laid "$mixed" >labelled_mixed
+# pins: labelled_header, top_lines, middle_lines, marker_number_line, offset_columns, height_columns
+all "$mixed"; leaves every_field_of_mixed 0 labelled_mixed /dev/null
+all labelled_mixed; leaves mixed_again 0 labelled_mixed /dev/null
+all stdin <"$mixed"; leaves mixed_of_standard_input 0 labelled_mixed /dev/null
+label --blank labelled_mixed; leaves mixed_blank_again 0 "$mixed" /dev/null
+label --blank "$mixed"; leaves mixed_blank_before 0 "$mixed" /dev/null
+sed -e '5r agency' -e 5d "$mixed" >want
+label --agency Survey labelled_mixed; leaves other_fields_of_mixed_are_blank 0 want /dev/null
+of_galileo >galileo
+laid galileo >want; all galileo; leaves every_field_of_galileo 0 want /dev/null
+label --blank want; leaves galileo_blank_again 0 galileo /dev/null
+{ sed 10q labelled_mixed; sed '1,9d; 41,$d' "$mixed"; } >want
+echo 'records 4 written 1' >counts
+run cut --until 2024-05-17T12:00:01 labelled_mixed; leaves a_part_of_mixed 0 want counts
+for command in chart quality; do
+    run $command labelled_mixed; expect "${command}_of_mixed" 3 '' 'rtcm2rinex: other systems than GPS'
+done
+run check labelled_mixed; expect no_mixed_file_of_check 3 'line 2: C1 HeaderLine' ''
+sed '9s/^        0.0000/        1.5000/' "$mixed" >told
+all told; expect a_told_height_of_mixed 2 '' 'rtcm2rinex: bad --delta-height: the file tells a height'
+sed '36s/^/x/' "$mixed" >wrong;                  refused '36: C2 Columns' wrong
+sed '36s/^/x/' labelled_mixed >wrong;            refused '36: C2 Columns' wrong
+sed '1s/M /X /' labelled_mixed >wrong;           refused '1: C1 HeaderLine' wrong
+sed '5s/^G/H/' labelled_mixed >wrong;            refused '5: C1 HeaderLine' wrong
+sed '12s/^R/G/' labelled_mixed >wrong;           refused '12: C1 HeaderLine' wrong
+sed '36s/5                /5  93254129.000 5/' labelled_mixed >wrong; refused '36: C3 Value' wrong
+for row in '1 50' '3 200' '11 850' '28 2200' '32 2511' '33 2600'; do
+    head -c "${row#* }" labelled_mixed >wrong;   refused "${row% *}: C5 Truncated" wrong
+done
+head -c -1 labelled_mixed >wrong;                refused '57: C5 Truncated' wrong
+label --agency A "$mixed"; head -c 770 out >wrong; refused '10: C5 Truncated' wrong
 
 # bad NAME VALUE: it does not fit
 bad() {

@@ -420,6 +420,19 @@ for words in '' --lines --json; do
     quality $words - ; expect "quality_of_no_file$words" 1 '' 'rtcm2rinex: cannot open -'
 done
 
+# Files of other systems, also without a record; a file that `check` refuses is none of them.
+cp "$mixed" mixed
+of_galileo >galileo
+sed 31q "$mixed" >heading
+sed '36s/25110278.381/       0.000/' mixed >bad
+for words in '' --lines --json; do
+    for name in mixed galileo heading; do
+        quality $words $name; expect "quality_of_$name$words" 3 '' 'rtcm2rinex: other systems than GPS'
+    done
+    quality $words stdin <mixed; expect "quality_of_mixed_of_standard_input$words" 3 '' 'rtcm2rinex: other systems than GPS'
+    quality $words bad; expect "quality_of_a_bad_mixed_file$words" 3 '' 'line 36: C3 Value'
+done
+
 quality --json --json "$file"
 expect quality_json_twice 2 '' "$(error "the argument '--json' cannot be used multiple times" 'quality [OPTIONS] <FILE>')"
 quality --lines --json "$file"
