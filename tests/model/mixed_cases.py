@@ -9,7 +9,7 @@ from typing import Optional
 
 from worked_rows import FILE
 
-Case = tuple[dict[int, Optional[str]], Optional[tuple[int, str]]]
+Case = tuple[dict[int, Optional[str]], Optional[tuple[int, str]]]  # what stands in place of a line may be several lines
 
 C1, C2, C3, C4, C5 = "C1 HeaderLine", "C2 Columns", "C3 Value", "C4 Order", "C5 Truncated"
 
@@ -32,6 +32,28 @@ def version(letter: str) -> str:
 
 DBHZ = label("DBHZ", "SIGNAL STRENGTH UNIT")
 SHIFT = "SYS / PHASE SHIFT"
+
+# Fifteen and thirty-nine types of Galileo: one line and two more types, and three lines that are full.
+FIFTEEN = types("E   15 C8X L8X S8X C1C L1C S1C C1B L1B S1B C1X L1X S1X C6C")
+THIRTY_NINE = [
+    types("E   39 C8X L8X S8X C1C L1C S1C C1B L1B S1B C1X L1X S1X C6C"),
+    types("       L6C S6C C6B L6B S6B C6X L6X S6X C7I L7I S7I C7Q L7Q"),
+    types("       S7Q C7X L7X S7X C8I L8I S8I C8Q L8Q S8Q C5I L5I S5I"),
+]
+
+# Nine slots: a line that is full, and one more; and all slots on four lines.
+NINE = slots("  9 R01  1 R02 -4 R03  5 R04  6 R05  1 R06 -4 R07  5 R08  6")
+ALL_SLOTS = [
+    slots(" 27 R01  1 R02 -4 R03  5 R04  6 R05  1 R06 -4 R07  5 R08  6"),
+    slots("    R09 -6 R10 -5 R11  0 R12 -1 R13 -2 R14 -7 R15  0 R16 -1"),
+    slots("    R17  4 R18 -3 R19  3 R20  2 R21  4 R22 -3 R23  3 R24  2"),
+    slots("    R25 -5 R26 -6 R27  0"),
+]
+
+
+def joined(*texts: str) -> str:
+    return "\n".join(texts)
+
 
 # In the file of the rows: line 10 to 16 types, 17 unit, 18 first time, 19 to 25 shifts, 26 slots, 27 biases, 28 leap seconds,
 # 29 the end, 30 the epoch, 31 to 37 G05 R10 E11 C41 J01 S58 I14.
@@ -63,6 +85,16 @@ HEADER_CASES: list[Case] = [
     ({11: types("R   15 C2P L2P S2P C2C L2C S2C C1P L1P S1P C1C L1C S1C")}, (11, C1)),
     ({11: types("E    3 C8X L8X S8X")}, (12, C1)),  # a system twice
     ({12: types("G    3 C1C L1C S1C")}, (12, C1)),
+    ({12: joined(FIFTEEN, types("       L6C S6C"))}, None),
+    ({12: FIFTEEN}, (13, C1)),
+    ({12: joined(FIFTEEN, types("       S6C L6C"))}, (13, C1)),
+    ({12: joined(FIFTEEN, types("       L6B S6B"))}, (13, C1)),
+    ({12: joined(FIFTEEN, types("      L6C S6C"))}, (13, C1)),
+    ({12: joined(FIFTEEN, types("E      L6C S6C"))}, (13, C1)),
+    ({12: joined(FIFTEEN, types("       L6C S6C C6B"))}, (13, C1)),
+    ({12: joined(*THIRTY_NINE)}, None),
+    ({12: joined(*THIRTY_NINE, types(""))}, (15, C1)),
+    ({12: types("E   13" + FIFTEEN[6:60])}, (12, C1)),  # each code has three types
     ({13: DBHZ}, (14, C1)),
     ({11: DBHZ}, (11, C1)),  # one system is not several
     ({17: label("DBHZ.", "SIGNAL STRENGTH UNIT")}, (17, C1)),
@@ -93,6 +125,15 @@ HEADER_CASES: list[Case] = [
     ({26: slots("  9 R01  0 R02  0 R03  0 R04  0 R05  0 R06  0 R07  0 R10 -5")}, (27, C1)),
     ({26: slots("  9 R01  0 R02  0 R03  0 R04  0 R05  0 R06  0 R10 -5 R27  0")}, (26, C1)),  # none is left for the ninth
     ({26: slots("  9 R01  0 R02  0 R03  0 R04  0 R05  0 R06  0 R10 -5 R26  0")}, (27, C1)),
+    ({26: joined(NINE, slots("    R10 -5"))}, None),
+    ({26: joined(NINE, slots("    R08 -5"))}, (27, C1)),  # the slots rise over the lines
+    ({26: joined(NINE, slots("   R10 -5"))}, (27, C1)),
+    ({26: joined(NINE, slots("  9 R10 -5"))}, (27, C1)),
+    ({26: joined(NINE, slots("    R10 -5 R11  0"))}, (27, C1)),
+    ({26: joined(*ALL_SLOTS)}, None),
+    ({26: joined(*ALL_SLOTS[:3])}, (29, C1)),
+    ({26: joined(*ALL_SLOTS[:3], slots("    R25 -5 R26 -6"))}, (29, C1)),
+    ({26: joined(*ALL_SLOTS, slots(""))}, (30, C1)),
     ({27: label("C1C    0.000", "GLONASS COD/PHS/BIS")}, (27, C1)),
     ({28: label("     0", "LEAP SECONDS")}, None),
     ({28: label("    99", "LEAP SECONDS")}, None),
@@ -117,6 +158,14 @@ RECORD_CASES: list[Case] = [
     ({30: "> 2024 05 17 12 00  0.0000000  0  0"}, (30, C2)),
     ({30: "> 2024 05 17 12 00  1.0000000  0  7"}, (30, C4)),
     ({31: R10, 32: G05}, (32, C4)),
+    ({37: "S57  22572264.730"}, (37, C4)),
+    ({37: "S58  22572264.730"}, (37, C4)),
+    # of several faults in a line the columns come first, then the order, then the values
+    ({37: "S57         0.000"}, (37, C4)),
+    ({37: "S57  22572264.730 "}, (37, C2)),
+    ({38: "> 2024 05 17 12 00  0.0000000  0  1"}, (38, C4)),
+    ({38: "> 2024 05 17 12 00  0.0000000  0222"}, (38, C2)),
+    ({38: joined("> 2024 05 17 12 00  0.0010000  0  1", "S20  22572264.730")}, None),
     ({31: "G33" + G05[3:]}, (31, C2)),
     ({31: "G00" + G05[3:]}, (31, C2)),
     ({31: "X05" + G05[3:]}, (31, C2)),
@@ -124,6 +173,8 @@ RECORD_CASES: list[Case] = [
     ({32: "R27" + R10[3:]}, (32, C3)),
     ({32: "R27  20079294.057 6                        37.500"}, None),
     ({32: "R27"}, (32, C3)),
+    ({32: "R27 "}, (32, C2)),
+    ({32: "R25                   83309237.891"}, (32, C3)),
     ({33: "E37  25110278.381 7"}, (33, C2)),
     ({33: "E36  25110278.381"}, None),
     ({34: "C64  25110278.381"}, (34, C2)),
@@ -152,7 +203,7 @@ ONE_SYSTEM = {
 
 
 def changed(case: dict[int, Optional[str]]) -> bytes:
-    lines: list[str | None] = [None, *FILE.splitlines()]
+    lines: list[str | None] = [None, *FILE.splitlines(), None]
     for at, text in case.items():
         lines[at] = text
     return "".join(f"{line}\n" for line in lines if line is not None).encode()

@@ -1,7 +1,8 @@
 """Mixed files that are changed in one to three places, as one may write them wrong, or anywhere.
 
     mixed_damages.py FOLDER COUNT    writes FOLDER/stdin with so many texts as hex text, a line each, and FOLDER/stdout with what
-                                     tests/values/headers.rt.in is due to print of them; two of three texts are headers alone
+                                     tests/values/headers.rt.in is due to print of them; two of three texts are headers alone, and
+                                     the files of mixed_cases.py follow
 """
 
 from __future__ import annotations
@@ -11,6 +12,7 @@ from pathlib import Path
 from random import Random
 from typing import Callable
 
+import mixed_cases
 from damages import any_byte, changed, cut_short, deleted, ended, inserted, revalued, timed
 from mixed_checker import Heading, header_fault, mixed_fault
 from mixed_tables import some_table
@@ -163,6 +165,8 @@ def main() -> None:
     tables = [some_table(rng) for _ in range(count)]
     wholes = [table.text if turn % 3 == 2 else table._replace(records=[]).text for turn, table in enumerate(tables)]
     texts = [damaged_mixed(rng, it) for it in wholes]
+    texts += [mixed_cases.changed(case) for case, _ in mixed_cases.HEADER_CASES + mixed_cases.RECORD_CASES]
+    texts += [mixed_cases.file_of_one(letter) for letter in LETTERS]
     (folder / "stdin").write_text("".join(f"{text.hex()}\n" for text in texts))
     (folder / "stdout").write_text("".join(f"{due_line(text)}\n" for text in texts))
 
