@@ -1,7 +1,7 @@
-"""Mixed files that chance makes, and parts of them.
+"""Mixed files that chance makes, two large ones, and parts of them.
 
-    mixed_parts.py FOLDER COUNT    writes FOLDER/stdin with so many files as hex text, a line each, with a span and a step, and
-                                   FOLDER/stdout with what tests/values/parts.rt.in is due to print of them
+    mixed_parts.py FOLDER COUNT    writes FOLDER/stdin with so many files and the large ones as hex text, a line each, with a span
+                                   and a step, and FOLDER/stdout with what tests/values/parts.rt.in is due to print of them
 """
 
 from __future__ import annotations
@@ -11,14 +11,15 @@ from datetime import datetime
 from pathlib import Path
 from random import Random
 
-from mixed_files import MixedSetup, record
+from mixed_files import MixedSetup, Shown, record
 from mixed_tables import MixedTable, some_header, some_setup, some_shown
 from model import civil, moment
 from parts import END, MS, START, Part, part_of
-from systems import GLONASS, LETTERS, SATELLITES
+from systems import BY_LETTER, GLONASS, LETTERS, SATELLITES
 
 SEED = 5252
 NOON = moment("2024-05-17T12:00:00")
+DAY = 86_400  # in s
 STEPS = (1, 1, 5, 10, 15)  # in s
 
 
@@ -60,6 +61,31 @@ def some_file(rng: Random) -> tuple[str, Part]:
     return table.text.decode(), some_part(rng, step, times or [NOON])
 
 
+def all_satellites(rng: Random) -> tuple[str, Part]:
+    """Records of all satellites with all codes, of which the part leaves out each second one."""
+    codes = {letter: BY_LETTER[letter].codes for letter in LETTERS}
+    setup = MixedSetup(NOON, NOON, "BASE", codes, {slot: slot % 14 - 7 for slot in range(1, 28)})
+    lines = []
+    for time in range(NOON, NOON + 60_001, 15_000):
+        epoch = {name: {code: some_shown(rng, True) for code in codes[name[0]]} for name in SATELLITES}
+        lines += record(setup, time, epoch)
+    return MixedTable(some_header(rng, setup, NOON), lines).text.decode(), Part(None, None, 30)
+
+
+def a_day(rng: Random) -> tuple[str, Part]:
+    """A record each 30 s of a day, of which the part has the first and the last. E36 and I14 slip in the second one, and then I14
+    is missing up to the last."""
+    setup = MixedSetup(NOON, NOON, "BASE", {"E": ("1X",), "I": ("5A",)})
+    midnight = NOON - 1000 * DAY // 2
+    phase = Shown(None, 110_804_903_547, None)
+    lines = []
+    for at in range(0, DAY + 1, 30):
+        shown = phase._replace(digit="1") if at == 30 else phase
+        epoch = {"E36": {"1X": shown}, **({"I14": {"5A": shown}} if at in (0, 30, DAY) else {})}
+        lines += record(setup, midnight + 1000 * at, epoch)
+    return MixedTable(some_header(rng, setup, midnight), lines).text.decode(), Part(None, None, DAY)
+
+
 def word(time: datetime | None) -> str:
     return "-" if time is None else str((time - START) // MS)
 
@@ -71,7 +97,7 @@ def counts(text: str) -> int:
 def main() -> None:
     folder, count = Path(sys.argv[1]), int(sys.argv[2])
     rng = Random(SEED)
-    files = [some_file(rng) for _ in range(count)]
+    files = [*(some_file(rng) for _ in range(count)), a_day(rng), all_satellites(rng)]
     assert civil(NOON)
     asked = [f"{text.encode().hex()} {word(part.since)} {word(part.until)} {part.every or '-'}\n" for text, part in files]
     parts = [part_of(text, part) for text, part in files]
