@@ -15,12 +15,13 @@ from mixed_files import MixedSetup, Shown, record
 from mixed_tables import MixedTable, some_header, some_setup, some_shown
 from model import civil, moment
 from parts import END, MS, START, Part, part_of
-from systems import BY_LETTER, GLONASS, LETTERS, SATELLITES
+from systems import GLONASS, LETTERS, SATELLITES, SYSTEMS
 
 SEED = 5252
 NOON = moment("2024-05-17T12:00:00")
 DAY = 86_400  # in s
 STEPS = (1, 1, 5, 10, 15)  # in s
+MOST = 1_048_576  # how many bytes `rt try` lets a program print
 
 
 def some_part(rng: Random, step: int, times: list[int]) -> Part:
@@ -62,12 +63,17 @@ def some_file(rng: Random) -> tuple[str, Part]:
 
 
 def all_satellites(rng: Random) -> tuple[str, Part]:
-    """Records of all satellites with all codes, of which the part leaves out each second one."""
-    codes = {letter: BY_LETTER[letter].codes for letter in LETTERS}
+    """Three records of all satellites, of which the part leaves out the second one. The first and the last satellite of each system
+    have all codes."""
+    codes = {system.letter: system.codes for system in SYSTEMS}
+    whole = {system.name(bit) for system in SYSTEMS for bit in (1, system.satellites)}
     setup = MixedSetup(NOON, NOON, "BASE", codes, {slot: slot % 14 - 7 for slot in range(1, 28)})
     lines = []
-    for time in range(NOON, NOON + 60_001, 15_000):
-        epoch = {name: {code: some_shown(rng, True) for code in codes[name[0]]} for name in SATELLITES}
+    for time in (NOON, NOON + 15_000, NOON + 30_000):
+        epoch = {}
+        for name in SATELLITES:
+            its = codes[name[0]] if name in whole else codes[name[0]][:1]
+            epoch[name] = {code: some_shown(rng, True)._replace(phase=rng.randint(1, 10**12)) for code in its}
         lines += record(setup, time, epoch)
     return MixedTable(some_header(rng, setup, NOON), lines).text.decode(), Part(None, None, 30)
 
@@ -101,9 +107,10 @@ def main() -> None:
     assert civil(NOON)
     asked = [f"{text.encode().hex()} {word(part.since)} {word(part.until)} {part.every or '-'}\n" for text, part in files]
     parts = [part_of(text, part) for text, part in files]
-    due = [f"{counts(text)} {counts(part)}\n{part}" for (text, _), part in zip(files, parts)]
+    due = "".join(f"{counts(text)} {counts(part)}\n{part}" for (text, _), part in zip(files, parts))
+    assert len(due) <= MOST
     (folder / "stdin").write_text("".join(asked))
-    (folder / "stdout").write_text("".join(due))
+    (folder / "stdout").write_text(due)
 
 
 if __name__ == "__main__":
