@@ -27,6 +27,8 @@ from datetime import datetime, timedelta
 from wire import crc24q
 
 WORK, PROGRAM, *WORDS = sys.argv[1:]
+IS_THINNED = "--few" in WORDS
+WORDS = [word for word in WORDS if word != "--few"]
 ROOT = os.path.realpath(os.path.join(os.path.dirname(__file__), "..", "..", ".."))
 EXAMPLES = os.path.join(ROOT, "examples")
 PROGRAM = os.path.realpath(PROGRAM)
@@ -41,6 +43,7 @@ READ_AT_ONCE = 32_768  # so many bytes of a link, or of an input of `summary`, a
 READ_IN_PIECES = 4096  # so many bytes of an input of `show` or of a command that takes a file are read at once
 FRAME = 46  # the bytes of a frame of late.rtcm, and of each one that is made of it
 COUNTS = 9  # the lines at the end of a report
+FEW = 200  # so many runs of a scene at least are left by --few, if it has as many
 
 SET_PIPE_SIZE = 1031  # the request of Linux, which has a name from Python 3.10 on
 MOST_INTERRUPTIONS = 1000  # so often in a row an interrupted call is made again
@@ -1383,6 +1386,12 @@ class Count:
                 print(f"    {fault}")
 
 
+def runs_of(function):
+    """The runs of a scene. Where an emulator makes each run slow, some are left, as far apart as they can be."""
+    runs = list(function())
+    return runs[:: max(1, len(runs) // FEW)] if IS_THINNED else runs
+
+
 def is_chosen(name):
     """Words choose the scenes whose names have one of them, and behind --but those whose names have none."""
     if WORDS[:1] == ["--but"]:
@@ -1413,7 +1422,7 @@ def main():
         chosen = [(name, function) for name, function in SCENES if is_chosen(name)]
         try:
             with ProcessPoolExecutor(os.cpu_count(), multiprocessing.get_context("fork")) as pool:
-                for name, answers in [(name, pool.map(attempt, list(function()), chunksize=16)) for name, function in chosen]:
+                for name, answers in [(name, pool.map(attempt, runs_of(function), chunksize=16)) for name, function in chosen]:
                     count.scene(name, answers)
         except BrokenProcessPool:  # a pool of `multiprocessing` would wait for ever
             print("FAILED: a worker was killed, as where memory ends")
