@@ -952,12 +952,16 @@ malloc realloc free memcpy memmove memset open close read write __write lseek
 environ getenv clock_gettime statx fchmod fsync link rename unlink
 flock ftruncate fdatasync
 """.split())
+# What glibc's start code asks for beside, by the machine that the ELF file names: on aarch64 it ends a program whose end returns to it.
+OF_START = {183: {"abort"}}
 
 
 # refuses: an answer that depends on what else the C library can tell, as the time or the kind of a file
 @scene("all that is asked of the C library")
 def _names_of_c():
-    yield "names", other_names, names_of_c(content(os.environ.get("PROGRAM_FILE", PROGRAM)))
+    program = content(os.environ.get("PROGRAM_FILE", PROGRAM))
+    machine = int.from_bytes(program[18:20], "little")
+    yield "names", other_names, names_of_c(program) - OF_START.get(machine, set())
 
 
 def names_of_c(program):
