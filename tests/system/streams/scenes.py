@@ -952,7 +952,8 @@ malloc realloc free memcpy memmove memset open close read write __write lseek
 environ getenv clock_gettime statx fchmod fsync link rename unlink
 flock ftruncate fdatasync
 """.split())
-# What glibc's start code asks for beside, by the machine that the ELF file names: on aarch64 it ends a program whose end returns to it.
+# What the start code of glibc asks for too, by the number of the machine in the ELF file. On aarch64 it calls abort if the end of the
+# program returns, which no run does.
 OF_START = {183: {"abort"}}
 
 
