@@ -13,8 +13,8 @@ use Rattle.rtk_rinex.specs.MixedTable.{mixed_table_text}
 use Rattle.rtk_label.specs.Fields.{marker_number_line}
 use Rattle.rtk_label.specs.Labelled.{LabelView, IsLabel, IsFor, blank_label, top_lines, middle_lines, front_lines, mixed_front_lines}
 use Rattle.rtk_label.specs.LabelLaws.{BlankIsFile, FrontIsChanged, LabelsAreTold, RecordsStay, MixedLabelsAreTold, MixedFrontIsChanged, MixedRecordsStay, MixedLabelLaws}
-use Rattle.rtk_label.specs.Steps.FileParts.{FileParts, AreFileParts, text_of_parts, parts_of, mixed_parts_of}
-use Rattle.rtk_label.specs.Steps.Shown.{IsNumberIn}
+use Rattle.rtk_label.proofs.FileParts.{FileParts, AreFileParts, text_of_parts, parts_of, mixed_parts_of}
+use Rattle.rtk_label.specs.Steps.Shown.{IsNumberIn, IsRead}
 use Rattle.rtk_label.proofs.PieceLemmas.{same_parts}
 use Rattle.rtk_label.proofs.ChoiceLemmas.{if_blank, blank_or_filled}
 use Rattle.rtk_label.proofs.FieldLemmas.{length-left, field_in}
@@ -23,7 +23,7 @@ use Rattle.rtk_label.proofs.FrontLemmas.{type_line}
 use Rattle.rtk_label.proofs.NumberLemmas.{no_number, length-number, number_cut}
 use Rattle.rtk_label.proofs.PlainLemmas.{blank_is_label, top_in, label_in}
 use Rattle.rtk_label.proofs.TableLemmas.{length-top, length-middle, blank_text, blank_mixed_text, label_parts, plain_parts, parts-good, long-after, mixed_label_parts, mixed_plain_parts, mixed_parts-good, mixed_long-after, length-labelled}
-use Rattle.rtk_label.proofs.PartedLemmas.{IsRead, is_plain, length-type, first_of_middle}
+use Rattle.rtk_label.proofs.PartedLemmas.{is_plain, length-type, first_of_middle}
 
 pub blank-is_file : BlankIsFile
 blank-is_file t = blank_text t
@@ -92,7 +92,7 @@ number_in_blank line n is none e = record {
   all = λ g good filled other. absurd (no_number g good filled (sym e ∙ other));
 }
 
-read_blank : (text : List ℕ) (l : LabelView) (p : FileParts) → IsLabel l → AreFileParts p → text ≡ text_of_parts l p → length l.marker_number ≡ 0
+pub read_blank : (text : List ℕ) (l : LabelView) (p : FileParts) → IsLabel l → AreFileParts p → text ≡ text_of_parts l p → length l.marker_number ≡ 0
     → IsRead text l.marker_number 0 l
 read_blank text l p is good e none =
     let top : List ℕ = top_lines p.letter l.run_by p.marker p.made in
@@ -114,7 +114,7 @@ read_blank text l p is good e none =
       good = is;
     }
 
-read_filled : (text : List ℕ) (l : LabelView) (p : FileParts) → IsLabel l → AreFileParts p → text ≡ text_of_parts l p → 0 < length l.marker_number
+pub read_filled : (text : List ℕ) (l : LabelView) (p : FileParts) → IsLabel l → AreFileParts p → text ≡ text_of_parts l p → 0 < length l.marker_number
     → IsRead text l.marker_number 81 l
 read_filled text l p is good e some =
     let top : List ℕ = top_lines p.letter l.run_by p.marker p.made in

@@ -1,4 +1,5 @@
 mod PieceLemmas
+mod AgreeLemmas
 mod ChoiceLemmas
 mod TrimLemmas
 mod FieldLemmas
@@ -8,7 +9,10 @@ mod FrontLemmas
 mod GlueLemmas
 mod NumberLemmas
 mod PlainLemmas
+mod FileParts
 mod TableLemmas
 mod PartedLemmas
 mod WriteLemmas
 mod LawLemmas
+mod CutLemmas
+mod WholeLemmas

@@ -1,18 +1,14 @@
 -- A text that is parted into a label and a plain text.
-use Rattle.std.proofs.Common.{◌≡◌, ◌<◌, ◌≤◌, ℕ, ◌+◌, ◌-◌, ◌*◌, List, [], ◌++◌, length, take, drop, codes, ap, sym, arith, refl, ◌∙◌, append_assoc, length-append, inl, inr}
-use Rattle.std.proofs.Math.Seq.{take-append-add}
-use Rattle.std.specs.Fmt.{digits}
-use Rattle.std.proofs.lemmas.Bool.{cases_order}
-use Rattle.std.proofs.lemmas.List.{take_at, drop_at, drop-drop, take-append-drop, take-append-le, drop-append-le, length-take-le, length-drop, append-nil, append_cancel_left}
+use Rattle.std.proofs.Common.{◌≡◌, ◌<◌, ◌≤◌, ℕ, ◌+◌, List, [], ◌++◌, length, take, drop, codes, ap, sym, arith, refl, ◌∙◌, append_assoc, length-append, inl, inr}
+use Rattle.std.proofs.lemmas.List.{take_at, take-append-drop, length-take-le, append_cancel_left}
 use Rattle.rtk_rinex.specs.Columns.{left, IsField}
-use Rattle.rtk_rinex.specs.Header.{header_line, header_text}
-use Rattle.rtk_rinex.specs.Reading.{date_after}
+use Rattle.rtk_rinex.specs.Header.{header_line}
 use Rattle.rtk_label.specs.Fields.{marker_number_line}
 use Rattle.rtk_label.specs.Labelled.{LabelView, IsLabel, IsFor, blank_label, top_lines, middle_lines}
-use Rattle.rtk_label.specs.LabelWriting.{WasLabelled, IsOfEveryTable, WasLabelledMixed, IsOfEveryMixedTable, whole_len, plain_file, completed, IsCutText, IsParted}
-use Rattle.rtk_label.specs.Steps.FileParts.{FileParts, AreFileParts, text_of_parts, parts_of, mixed_parts_of, WasOfParts, IsOfEveryParts}
-use Rattle.rtk_label.specs.Steps.Shown.{IsNumberIn, IsLabelIn}
-use Rattle.rtk_label.specs.Steps.Fronts.{plain_columns, plain_top, plain_middle}
+use Rattle.rtk_label.specs.LabelWriting.{WasLabelled, IsOfEveryTable, WasLabelledMixed, IsOfEveryMixedTable, whole_len, whole_lines, BeginsEveryTable, BeginsEveryMixedTable, IsCutText, IsParted}
+use Rattle.rtk_label.proofs.FileParts.{FileParts, AreFileParts, text_of_parts, parts_of, mixed_parts_of, WasOfParts, IsOfEveryParts, BeginsEveryParts}
+use Rattle.rtk_label.specs.Steps.Shown.{IsLabelIn, IsRead}
+use Rattle.rtk_label.specs.Steps.Fronts.{plain_columns, plain_top, plain_middle, plain_front}
 use Rattle.rtk_label.proofs.PieceLemmas.{same_parts, next_piece, joined}
 use Rattle.rtk_label.proofs.ChoiceLemmas.{if_blank, none_is, blank_or_filled}
 use Rattle.rtk_label.proofs.FieldLemmas.{blank_field, length-plain_columns}
@@ -40,18 +36,6 @@ label_good top number middle l good is = record {
   north = is.north.good;
 }
 
--- what is read of a text: a marker's number, and so where its six lines begin; and its label
-pub record IsRead (text number : List ℕ) (from : ℕ) (l : LabelView) : Type 0 where
-  pub long : 810 ≤ length text
-  pub line : IsNumberIn (take 81 (drop 243 text)) number
-  pub blank : length number ≡ 0 → from ≡ 0
-  pub filled : 0 < length number → from ≡ 81
-  pub label : IsLabelIn (take 243 text) number (take 486 (drop (from + 243) text)) l
-  pub good : IsLabel l
-
-abbrev pub front_of : List ℕ → ℕ → LabelView → List ℕ
-front_of text from l = plain_top l (take 243 text) ++ plain_middle l (take 486 (drop (from + 243) text))
-
 pub within : (text number : List ℕ) (from : ℕ) (l : LabelView) → IsRead text number from l → from ≤ 81
 within text number from l r =
     elim (blank_or_filled number) [ inl none ↦ omega (arith, r.blank none) | inr some ↦ omega (arith, r.filled some) ]
@@ -64,13 +48,13 @@ from_is text number from l r =
     ]
     ∙ ap (λ (n : List ℕ). length (marker_number_line n)) (sym r.label.marker_number)
 
-length-first : (text : List ℕ) → 810 ≤ length text → length (take 243 text) ≡ 243
+pub length-first : (text : List ℕ) → 810 ≤ length text → length (take 243 text) ≡ 243
 length-first text h = length-take-le 243 text (omega (arith, h))
 
-length-next : (text : List ℕ) (from : ℕ) → 810 ≤ length text → from ≤ 81 → length (take 486 (drop (from + 243) text)) ≡ 486
+pub length-next : (text : List ℕ) (from : ℕ) → 810 ≤ length text → from ≤ 81 → length (take 486 (drop (from + 243) text)) ≡ 486
 length-next text from h lt = length-piece (from + 243) 486 text (omega (arith, h, lt))
 
-six_cut : (text : List ℕ) (from : ℕ) → drop (from + 243) text ≡ take 486 (drop (from + 243) text) ++ drop (from + 729) text
+pub six_cut : (text : List ℕ) (from : ℕ) → drop (from + 243) text ≡ take 486 (drop (from + 243) text) ++ drop (from + 729) text
 six_cut text from =
     let n : from + 243 + 486 ≡ from + 729 = omega arith in
     next_piece (from + 243) 486 text (drop (from + 729) text) (ap (λ (k : ℕ). drop k text) n)
@@ -89,20 +73,20 @@ below_cut text number from l r =
           ∙ ap (λ (t : List ℕ). t ++ (take 486 (drop (from + 243) text) ++ drop (from + 729) text)) (r.line.some some)
     ]
 
-text_cut : (text number : List ℕ) (from : ℕ) (l : LabelView) → IsRead text number from l
+pub text_cut : (text number : List ℕ) (from : ℕ) (l : LabelView) → IsRead text number from l
     → text ≡ take 243 text ++ (marker_number_line number ++ (take 486 (drop (from + 243) text) ++ drop (from + 729) text))
 text_cut text number from l r = sym (take-append-drop 243 text) ∙ ap (λ (t : List ℕ). take 243 text ++ t) (below_cut text number from l r)
 
-length-plain_top : (l : LabelView) (top : List ℕ) → length top ≡ 243 → length (plain_top l top) ≡ 243
+pub length-plain_top : (l : LabelView) (top : List ℕ) → length top ≡ 243 → length (plain_top l top) ≡ 243
 length-plain_top l top long =
     let plain : List ℕ = plain_columns 20 l.run_by (take 20 (drop 101 top)) in
     ap length (glue_three (take 101 top) plain (take 122 (drop 121 top)))
     ∙ length-three (top_columns top plain) (top_sizes top plain long (length-plain_columns 20 l.run_by (take 20 (drop 101 top)) (length-piece 101 20 top (omega (arith, long)))))
 
-length-plain_middle : (l : LabelView) (m : List ℕ) → length m ≡ 486 → length (plain_middle l m) ≡ 486
+pub length-plain_middle : (l : LabelView) (m : List ℕ) → length m ≡ 486 → length (plain_middle l m) ≡ 486
 length-plain_middle l m long = ap length (plain_middle_is l m) ∙ length-six (middle_columns m (plain_cells l m)) (middle_sizes m (plain_cells l m) long (plain_cells_are l m long))
 
-pub length-front : (text number : List ℕ) (from : ℕ) (l : LabelView) → IsRead text number from l → length (front_of text from l) ≡ 729
+pub length-front : (text number : List ℕ) (from : ℕ) (l : LabelView) → IsRead text number from l → length (plain_front text from l) ≡ 729
 length-front text number from l r =
     length-append (plain_top l (take 243 text)) (plain_middle l (take 486 (drop (from + 243) text)))
     ∙ omega (arith, length-plain_top l (take 243 text) (length-first text r.long), length-plain_middle l _ (length-next text from r.long (within text number from l r)))
@@ -110,7 +94,7 @@ length-front text number from l r =
 -- ---- what the plain text says of the text
 
 pub was_labelled : (text number : List ℕ) (from : ℕ) (l : LabelView) (p : FileParts) → IsRead text number from l → AreFileParts p
-    → front_of text from l ++ drop (from + 729) text ≡ text_of_parts blank_label p → (text ≡ text_of_parts l p) × IsFor l p.site
+    → plain_front text from l ++ drop (from + 729) text ≡ text_of_parts blank_label p → (text ≡ text_of_parts l p) × IsFor l p.site
 was_labelled text number from l p r good e =
     let top : List ℕ = take 243 text in
     let m : List ℕ = take 486 (drop (from + 243) text) in
@@ -164,7 +148,7 @@ number_told text number from l g p r is good e =
     ]
 
 pub record IsPlainOf (text : List ℕ) (from : ℕ) (l g : LabelView) (p : FileParts) : Type 0 where
-  pub plain : front_of text from l ++ drop (from + 729) text ≡ text_of_parts blank_label p
+  pub plain : plain_front text from l ++ drop (from + 729) text ≡ text_of_parts blank_label p
   pub label : l ≡ g
 
 abbrev label_with : List ℕ → List ℕ → List ℕ → List ℕ → List ℕ → List ℕ → List ℕ → List ℕ → List ℕ → List ℕ → List ℕ → List ℕ → LabelView
@@ -222,64 +206,6 @@ is_plain text number from l g p r good is for e =
           six.antenna_number six.antenna_type six.height six.east six.north;
     }
 
--- ---- a text of ten lines, whatever follows it
-
-pub piece_more : (k w : ℕ) (text rest : List ℕ) → k + w ≤ length text → take w (drop k (text ++ rest)) ≡ take w (drop k text)
-piece_more k w text rest h =
-    ap (take w) (drop-append-le k text rest (omega (arith, h))) ∙ take-append-le w (drop k text) rest (omega (arith, h, length-drop k text))
-
-read_more : (text rest number : List ℕ) (from : ℕ) (l : LabelView) → IsRead text number from l → IsRead (text ++ rest) number from l
-read_more text rest number from l r =
-    let lt = within text number from l r in
-    let long = r.long in
-    let top : take 243 (text ++ rest) ≡ take 243 text = take-append-le 243 text rest (omega (arith, long)) in
-    let middle : take 486 (drop (from + 243) (text ++ rest)) ≡ take 486 (drop (from + 243) text) = piece_more (from + 243) 486 text rest (omega (arith, long, lt)) in
-    record {
-      long = omega (arith, long, length-append text rest);
-      line = rw (piece_more 243 81 text rest (omega (arith, long))) r.line;
-      blank = r.blank;
-      filled = r.filled;
-      label = rw (top, middle) r.label;
-      good = r.good;
-    }
-
-plain_more : (text rest number front : List ℕ) (from : ℕ) (l : LabelView) → IsRead text number from l → front ≡ front_of text from l
-    → front_of (text ++ rest) from l ++ drop (from + 729) (text ++ rest) ≡ front ++ (drop (from + 729) text ++ rest)
-plain_more text rest number front from l r is =
-    let lt = within text number from l r in
-    let long = r.long in
-    let top : take 243 (text ++ rest) ≡ take 243 text = take-append-le 243 text rest (omega (arith, long)) in
-    let middle : take 486 (drop (from + 243) (text ++ rest)) ≡ take 486 (drop (from + 243) text) = piece_more (from + 243) 486 text rest (omega (arith, long, lt)) in
-    let same : front_of (text ++ rest) from l ≡ front_of text from l =
-    ap (λ (t : List ℕ). plain_top l t ++ plain_middle l (take 486 (drop (from + 243) (text ++ rest)))) top
-    ∙ ap (λ (t : List ℕ). plain_top l (take 243 text) ++ plain_middle l t) middle in
-    ap (λ (t : List ℕ). t ++ drop (from + 729) (text ++ rest)) (same ∙ sym is)
-    ∙ ap (λ (t : List ℕ). front ++ t) (drop-append-le (from + 729) text rest (omega (arith, long, lt)))
-
-pub labelled_more : (text rest number front : List ℕ) (from : ℕ) (l : LabelView) → IsRead text number from l → front ≡ front_of text from l
-    → WasOfParts (text ++ rest) (front ++ (drop (from + 729) text ++ rest)) l
-labelled_more text rest number front from l r is p good e =
-    was_labelled (text ++ rest) number from l p (read_more text rest number from l r) good (plain_more text rest number front from l r is ∙ e)
-
-pub every_more : (text rest number front : List ℕ) (from : ℕ) (l : LabelView) → IsRead text number from l → front ≡ front_of text from l
-    → IsOfEveryParts (text ++ rest) (front ++ (drop (from + 729) text ++ rest)) l
-every_more text rest number front from l r is p g good fits for e =
-    let q = is_plain (text ++ rest) number from l g p (read_more text rest number from l r) good fits for e in
-    (sym (plain_more text rest number front from l r is) ∙ q.plain, q.label)
-
-abbrev pub WasOfPartsMore : List ℕ → List ℕ → ℕ → LabelView → Type 0
-WasOfPartsMore text front from l = (rest : List ℕ) → WasOfParts (text ++ rest) (front ++ (drop (from + 729) text ++ rest)) l
-
-abbrev pub IsOfEveryPartsMore : List ℕ → List ℕ → ℕ → LabelView → Type 0
-IsOfEveryPartsMore text front from l = (rest : List ℕ) → IsOfEveryParts (text ++ rest) (front ++ (drop (from + 729) text ++ rest)) l
-
--- the same texts by other names
-was_as : (text other plain left : List ℕ) (l : LabelView) → other ≡ text → left ≡ plain → WasOfParts text plain l → WasOfParts other left l
-was_as text other plain left l e f was = rw (e, f) was
-
-every_as : (text other plain left : List ℕ) (l : LabelView) → other ≡ text → left ≡ plain → IsOfEveryParts text plain l → IsOfEveryParts other left l
-every_as text other plain left l e f every = rw (e, f) every
-
 -- ---- the parts are those of a table
 
 was_gps : (text plain : List ℕ) (l : LabelView) → WasOfParts text plain l → WasLabelled text plain l
@@ -298,6 +224,14 @@ every_mixed : (text plain : List ℕ) (l : LabelView) → IsOfEveryParts text pl
 every_mixed text plain l every t m good is for e =
     let p = every (mixed_parts_of t) m (mixed_parts-good t good) is for (e ∙ mixed_label_parts m t) in (p.0 ∙ sym (mixed_plain_parts t), p.1)
 
+begins_gps : (text plain : List ℕ) → BeginsEveryParts text plain → BeginsEveryTable text plain
+begins_gps text plain every t m rest good is for e =
+    let p = every (parts_of t) m rest (parts-good t good) is for (e ∙ label_parts m t) in (p.0, p.1 ∙ sym (plain_parts t))
+
+begins_mixed : (text plain : List ℕ) → BeginsEveryParts text plain → BeginsEveryMixedTable text plain
+begins_mixed text plain every t m rest good is for e =
+    let p = every (mixed_parts_of t) m rest (mixed_parts-good t good) is for (e ∙ mixed_label_parts m t) in (p.0, p.1 ∙ sym (mixed_plain_parts t))
+
 parted_by : (text plain : List ℕ) (l : LabelView) → IsLabel l → WasOfParts text plain l → IsOfEveryParts text plain l → (length text < 810 → IsCutText text plain l) → IsParted text plain l
 parted_by text plain l good was every cut = record {
   good = good;
@@ -308,16 +242,16 @@ parted_by text plain l good was every cut = record {
   cut = cut;
 }
 
-pub parted : (text front plain : List ℕ) (from : ℕ) (l : LabelView) → 810 ≤ length text → IsLabel l → WasOfPartsMore text front from l → IsOfEveryPartsMore text front from l
+pub parted : (text number front plain : List ℕ) (from : ℕ) (l : LabelView) → IsRead text number from l → front ≡ plain_front text from l
     → plain ≡ front ++ drop (from + 729) text → IsParted text plain l
-parted text front plain from l long good was every is =
-    let end : plain ≡ front ++ (drop (from + 729) text ++ []) = is ∙ ap (λ (t : List ℕ). front ++ t) (sym (append-nil (drop (from + 729) text))) in
-    parted_by text plain l good (was_as (text ++ []) text _ plain l (sym (append-nil text)) end (was [])) (every_as (text ++ []) text _ plain l (sym (append-nil text)) end (every []))
-    (λ short. absurd (omega (arith, short, long)))
+parted text number front plain from l r front_is plain_is =
+    let is : plain ≡ plain_front text from l ++ drop (from + 729) text = plain_is ∙ ap (λ (t : List ℕ). t ++ drop (from + 729) text) front_is in
+    parted_by text plain l r.good
+    (λ p good e. was_labelled text number from l p r good (sym is ∙ e))
+    (λ p g good fits for e. let q = is_plain text number from l g p r good fits for e in (is ∙ q.plain, q.label))
+    (λ short. absurd (omega (arith, short, r.long)))
 
--- ---- a text that ends within its first ten lines
-
--- it is that of no table
+-- a text that ends within its first ten lines is that of no table
 pub parted_cut : (text plain : List ℕ) (l : LabelView) → length text < 810 → length plain ≤ length text → IsLabel l → IsCutText text plain l → IsParted text plain l
 parted_cut text plain l short small good is =
     parted_by text plain l good
@@ -325,103 +259,13 @@ parted_cut text plain l short small good is =
     (λ p g parts fits for e. let size = ap length e in absurd (omega (arith, short, size, length-labelled g p fits parts)))
     (λ h. is)
 
-pub cut_is : (text lines ten front plain : List ℕ) (from : ℕ) (l : LabelView) → lines ≡ take (whole_len text) text
-    → ten ≡ take 810 (lines ++ drop (length lines - from) plain_file) → from ≡ length (marker_number_line l.marker_number)
-    → WasOfPartsMore ten front from l → IsOfEveryPartsMore ten front from l
-    → plain ≡ take (whole_len text - from) front ++ drop (whole_len text) text → IsCutText text plain l
-cut_is text lines ten front plain from l lines_are ten_are number was every parts =
-    let whole : ℕ = whole_len text in
-    let all : List ℕ = lines ++ drop (length lines - from) plain_file in
-    let rest : List ℕ = drop 810 all in
-    let size : length lines ≡ whole = ap length lines_are ∙ length-take-le whole text (omega arith) in
-    let all_is : all ≡ completed from text =
-    ap (λ (n : ℕ). lines ++ drop (n - from) plain_file) size ∙ ap (λ (t : List ℕ). t ++ drop (whole - from) plain_file) lines_are in
-    let text_is : ten ++ rest ≡ completed (length (marker_number_line l.marker_number)) text =
-    ap (λ (t : List ℕ). t ++ rest) ten_are ∙ take-append-drop 810 all ∙ all_is ∙ ap (λ (n : ℕ). completed n text) number in
-    let end : List ℕ = drop (whole - from) front ++ (drop (from + 729) ten ++ rest) in
-    let plain_is : front ++ (drop (from + 729) ten ++ rest) ≡ take (whole - from) front ++ end =
-    ap (λ (t : List ℕ). t ++ (drop (from + 729) ten ++ rest)) (sym (take-append-drop (whole - from) front))
-    ∙ append_assoc (take (whole - from) front) (drop (whole - from) front) (drop (from + 729) ten ++ rest) in record {
-      lines = take (whole - from) front;
-      end = end;
-      parts = parts;
-      labelled = was_gps _ _ l (was_as (ten ++ rest) _ _ _ l (sym text_is) (sym plain_is) (was rest));
-      every = every_gps _ _ l (every_as (ten ++ rest) _ _ _ l (sym text_is) (sym plain_is) (every rest));
-    }
-
--- the fourth of its lines, if it has four
-
-type_no_number : IsNumberIn type_line []
-type_no_number = record {
-  good = blank_field 20;
-  some = λ h. absurd (omega (arith, h));
-  all = λ g good some e. absurd (no_number g good some e);
+pub cut_text : (text lines plain : List ℕ) (l : LabelView) → plain ≡ lines ++ drop (whole_len text) text
+    → ((rest : List ℕ) → WasOfParts (whole_lines text ++ rest) (lines ++ rest) l) → BeginsEveryParts (whole_lines text) lines → IsCutText text plain l
+cut_text text lines plain l parts was every = record {
+  lines = lines;
+  parts = parts;
+  labelled = λ rest. was_gps (whole_lines text ++ rest) (lines ++ rest) l (was rest);
+  every = begins_gps (whole_lines text) lines every;
+  labelled_mixed = λ rest. was_mixed (whole_lines text ++ rest) (lines ++ rest) l (was rest);
+  every_mixed = begins_mixed (whole_lines text) lines every;
 }
-
-plain_fourth : take 81 (drop 243 plain_file) ≡ type_line
-unfolding type_line header_text header_line left
-plain_fourth = refl
-
-behind : (lines more : List ℕ) (n d : ℕ) → length lines + d ≡ n → drop n (lines ++ drop (length lines) more) ≡ drop n more
-behind lines more n d sum =
-    ap (λ (k : ℕ). drop k (lines ++ drop (length lines) more)) (sym sum) ∙ sym (drop-drop d (length lines) (lines ++ drop (length lines) more))
-    ∙ ap (drop d) (drop_at lines (drop (length lines) more) (length lines) refl) ∙ drop-drop d (length lines) more ∙ ap (λ (k : ℕ). drop k more) sum
-
-fourth_is : (lines more ten : List ℕ) (from : ℕ) → ten ≡ take 810 (lines ++ more) → length ten ≡ 810 → take 81 (drop 243 ten) ≡ take 81 (drop 243 (lines ++ more))
-fourth_is lines more ten from e size =
-    sym (piece_more 243 81 ten (drop 810 (lines ++ more)) (omega (arith, size)))
-    ∙ ap (λ (t : List ℕ). take 81 (drop 243 (t ++ drop 810 (lines ++ more)))) e
-    ∙ ap (λ (t : List ℕ). take 81 (drop 243 t)) (take-append-drop 810 (lines ++ more))
-
-four_lines : (lines more number ten : List ℕ) (from : ℕ) → ten ≡ take 810 (lines ++ more) → length ten ≡ 810 → 324 ≤ length lines
-    → IsNumberIn (take 81 (drop 243 lines)) number → IsNumberIn (take 81 (drop 243 ten)) number
-four_lines lines more number ten from e size four is =
-    let line : take 81 (drop 243 ten) ≡ take 81 (drop 243 lines) = fourth_is lines more ten from e size ∙ piece_more 243 81 lines more (omega (arith, four)) in
-    rw line is
-
-few_lines : (lines number ten : List ℕ) (from k : ℕ) → ten ≡ take 810 (lines ++ drop (length lines - from) plain_file) → length ten ≡ 810 → length lines ≡ 81 * k
-    → length lines < 324 → number ≡ [] → from ≡ 0 → IsNumberIn (take 81 (drop 243 ten)) number
-few_lines lines number ten from k e size multiple few none zero =
-    let same : length lines - from ≡ length lines = omega (arith, zero) in
-    let at : ten ≡ take 810 (lines ++ drop (length lines) plain_file) = e ∙ ap (λ (n : ℕ). take 810 (lines ++ drop n plain_file)) same in
-    let sum : length lines + (243 - length lines) ≡ 243 = omega (arith, multiple, few) in
-    let line : take 81 (drop 243 ten) ≡ type_line =
-    fourth_is lines (drop (length lines) plain_file) ten from at size ∙ ap (take 81) (behind lines plain_file 243 (243 - length lines) sum) ∙ plain_fourth in
-    rw (line, none) type_no_number
-
-pub cut_number : (lines number ten : List ℕ) (from k : ℕ) → ten ≡ take 810 (lines ++ drop (length lines - from) plain_file) → length ten ≡ 810 → length lines ≡ 81 * k
-    → (length lines < 324 → number ≡ []) → (324 ≤ length lines → IsNumberIn (take 81 (drop 243 lines)) number) → (length number ≡ 0 → from ≡ 0)
-    → IsNumberIn (take 81 (drop 243 ten)) number
-cut_number lines number ten from k e size multiple few four blank =
-    elim (cases_order (length lines) 324) [
-      | inl same ↦ four_lines lines (drop (length lines - from) plain_file) number ten from e size (omega (arith, same)) (four (omega (arith, same)))
-      | inr (inl below) ↦ few_lines lines number ten from k e size multiple below (few below) (blank (ap length (few below)))
-      | inr (inr above) ↦ four_lines lines (drop (length lines - from) plain_file) number ten from e size (omega (arith, above)) (four (omega (arith, above)))
-    ]
-
--- the line of the number is among them
-pub number_within : (lines number : List ℕ) (from : ℕ) → (length lines < 324 → number ≡ []) → (length number ≡ 0 → from ≡ 0) → (0 < length number → from ≡ 81)
-    → (from ≤ length lines) × (from ≤ 81)
-number_within lines number from few blank filled =
-    elim (cases_order (length lines) 324) [
-      | inl same ↦ elim (blank_or_filled number) [ inl none ↦ (omega (arith, blank none), omega (arith, blank none)) | inr some ↦ (omega (arith, filled some, same), omega (arith, filled some)) ]
-      | inr (inl below) ↦ let zero : from ≡ 0 = blank (ap length (few below)) in (omega (arith, zero), omega (arith, zero))
-      | inr (inr above) ↦ elim (blank_or_filled number) [ inl none ↦ (omega (arith, blank none), omega (arith, blank none)) | inr some ↦ (omega (arith, filled some, above), omega (arith, filled some)) ]
-    ]
-
-plain_long : length (take 810 plain_file) ≡ 810
-unfolding header_text header_line left date_after digits
-plain_long = refl
-
--- the first lines of the plain file
-pub filled_up : (lines : List ℕ) (from : ℕ) → length lines ≤ 729 → from ≤ length lines
-    → lines ++ take (810 - length lines) (drop (length lines - from) (take 810 plain_file)) ≡ take 810 (lines ++ drop (length lines - from) plain_file)
-filled_up lines from few fits =
-    let d : ℕ = length lines - from in
-    let n : ℕ = 810 - length lines in
-    let front : List ℕ = take 810 plain_file in
-    let long : length front ≡ 810 = plain_long in
-    let piece : take n (drop d front) ≡ take n (drop d plain_file) =
-    sym (piece_more d n front (drop 810 plain_file) (omega (arith, long, few, fits))) ∙ ap (λ (t : List ℕ). take n (drop d t)) (take-append-drop 810 plain_file) in
-    let sum : length lines + n ≡ 810 = omega (arith, few) in
-    ap (λ (t : List ℕ). lines ++ t) piece ∙ sym (take-append-add lines (drop d plain_file) n) ∙ ap (λ (k : ℕ). take k (lines ++ drop d plain_file)) sum

@@ -13,7 +13,7 @@ use Rattle.rtk_rinex.specs.Table.{WellFormedTable, IsWellFormedTable, table_text
 use Rattle.rtk_rinex.specs.MixedTable.{MixedTable, IsMixedTable, mixed_table_text}
 use Rattle.rtk_label.specs.Fields.{marker_number_line}
 use Rattle.rtk_label.specs.Labelled.{LabelView, IsLabel, blank_label, top_lines, middle_lines, labelled_header, labelled_text, labelled_mixed_header, labelled_mixed_text}
-use Rattle.rtk_label.specs.Steps.FileParts.{FileParts, AreFileParts, text_of_parts, parts_of, mixed_parts_of}
+use Rattle.rtk_label.proofs.FileParts.{FileParts, AreFileParts, text_of_parts, parts_of, mixed_parts_of}
 use Rattle.rtk_label.proofs.PieceLemmas.{joined, HasWidths}
 use Rattle.rtk_label.proofs.OffsetLemmas.{zero_offset}
 use Rattle.rtk_label.proofs.LineLemmas.{length-line}

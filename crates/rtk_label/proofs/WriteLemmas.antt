@@ -13,7 +13,7 @@ use Rattle.rtk_rinex.specs.MixedTable.{MixedTable, IsMixedTable, mixed_table_tex
 use Rattle.rtk_label.specs.Fields.{marker_number_line}
 use Rattle.rtk_label.specs.Labelled.{LabelView, IsLabel, IsFor, blank_label, top_lines, middle_lines}
 use Rattle.rtk_label.specs.LabelWriting.{WritesLabelled, WritesFirstLabelled, WritesFront, WritesFirstOfFront, WritesLabelledMixed, WritesFirstLabelledMixed, WritesMixedFront, WritesFirstOfMixedFront}
-use Rattle.rtk_label.specs.Steps.FileParts.{FileParts, AreFileParts, text_of_parts, parts_of, mixed_parts_of}
+use Rattle.rtk_label.proofs.FileParts.{FileParts, AreFileParts, text_of_parts, parts_of, mixed_parts_of}
 use Rattle.rtk_label.specs.Steps.Fronts.{filled_top, filled_middle, filled_front}
 use Rattle.rtk_label.proofs.PlainLemmas.{blank_is_label, top_filled, middle_filled}
 use Rattle.rtk_label.proofs.TableLemmas.{length-top, length-middle, label_parts, plain_parts, parts-good, mixed_label_parts, mixed_plain_parts, mixed_parts-good}

@@ -1,12 +1,9 @@
 -- What is written of a label and a file, and what a label that was taken out of a text leaves. A text
 -- is the text of one well-formed table at most, so the table is the one whose text it is.
-use Rattle.std.specs.Prelude.{◌≡◌, ◌<◌, ℕ, ◌+◌, ◌-◌, ◌*◌, ◌/◌, nat_le, ◌==◌, ◌||◌, List, [], ◌∷◌, ◌++◌, length, take, drop, codes, pos, Option, if◌then◌else◌}
+use Rattle.std.specs.Prelude.{◌≡◌, ◌<◌, ℕ, ◌+◌, ◌*◌, ◌/◌, nat_le, ◌==◌, ◌||◌, List, ◌++◌, length, take, drop, Option, if◌then◌else◌}
 use Rattle.rtk_frame.specs.Stream.{with_more, TakesPart}
-use Rattle.rtk_obs.specs.declared.code.Code.TheVariants.{G1C}
-use Rattle.rtk_rinex.specs.Header.{header_text}
 use Rattle.rtk_rinex.specs.Table.{WellFormedTable, IsWellFormedTable, table_text}
 use Rattle.rtk_rinex.specs.MixedTable.{MixedTable, IsMixedTable, mixed_table_text}
-use Rattle.rtk_label.specs.Fields.{marker_number_line}
 use Rattle.rtk_label.specs.Labelled.{LabelView, IsLabel, IsFor, front_lines, labelled_text, mixed_front_lines, labelled_mixed_text}
 
 -- the label is for the table whose text this is
@@ -77,26 +74,30 @@ IsOfEveryMixedTable text plain l =
 abbrev pub whole_len : List ℕ → ℕ
 whole_len text = 81 * (length text / 81)
 
--- table
--- a file without a label and without a record
-abbrev pub plain_file : List ℕ
-plain_file =
-    header_text (record { marker = codes "-"; listed = G1C ∷ []; made = 0 }) (record { x = pos 0; y = pos 0; z = pos 0; height = 0 }) 0
+abbrev pub whole_lines : List ℕ → List ℕ
+whole_lines text = take (whole_len text) text
 
--- formula
--- its whole lines, and in the place of those that it lacks the lines of a file without a label; `from`
--- bytes of its whole lines are the line of the marker's number, which that file has not
-abbrev pub completed : ℕ → List ℕ → List ℕ
-completed from text = take (whole_len text) text ++ drop (whole_len text - from) plain_file
+-- if the text of a table with a label begins with this text, the text of the table begins with the plain text
+abbrev pub BeginsEveryTable : List ℕ → List ℕ → Type 0
+BeginsEveryTable text plain =
+    (t : WellFormedTable) (m : LabelView) (rest : List ℕ) → IsWellFormedTable t → IsLabel m → IsFor m t.site → text ++ rest ≡ labelled_text m t
+    → (end : List ℕ) × (plain ++ end ≡ table_text t)
 
--- what is left of it: so many first lines of what is left of the completed text, and the line that is
--- cut. So no field of a label in a line before hides that this line is cut.
+abbrev pub BeginsEveryMixedTable : List ℕ → List ℕ → Type 0
+BeginsEveryMixedTable text plain =
+    (t : MixedTable) (m : LabelView) (rest : List ℕ) → IsMixedTable t → IsLabel m → IsFor m t.site → text ++ rest ≡ labelled_mixed_text m t
+    → (end : List ℕ) × (plain ++ end ≡ mixed_table_text t)
+
+-- what is left of it: its whole lines without the label, and then the line that is cut, as it is. The whole lines begin a
+-- labelled table, of GPS or of any systems, if and only if they begin the table without the label. So no field of a label in
+-- a line before hides that this line is cut, and no wrong line before it is hidden.
 pub record IsCutText (text plain : List ℕ) (l : LabelView) : Type 0 where
   pub lines : List ℕ
-  pub end : List ℕ
   pub parts : plain ≡ lines ++ drop (whole_len text) text
-  pub labelled : WasLabelled (completed (length (marker_number_line l.marker_number)) text) (lines ++ end) l
-  pub every : IsOfEveryTable (completed (length (marker_number_line l.marker_number)) text) (lines ++ end) l
+  pub labelled : (rest : List ℕ) → WasLabelled (whole_lines text ++ rest) (lines ++ rest) l
+  pub every : BeginsEveryTable (whole_lines text) lines
+  pub labelled_mixed : (rest : List ℕ) → WasLabelledMixed (whole_lines text ++ rest) (lines ++ rest) l
+  pub every_mixed : BeginsEveryMixedTable (whole_lines text) lines
 
 -- a text was parted into a label and a plain text. If the plain text is that of a table, of GPS or of any
 -- systems, the text is that of this table with the label, and of no other table and label. Else it is that of

@@ -3,13 +3,13 @@
 //! The parts are read from their columns, and these become blank where they show a field. What no
 //! label fills stays as it is, so that `check` finds the first wrong line.
 
-ghost use Rattle.std.specs.Prelude.{◌≡◌, ◌+◌, ◌-◌, ◌^◌, ◌<◌, ◌≤◌, List, [], ℕ, ◌++◌, length, take, drop};
+ghost use Rattle.std.specs.Prelude.{◌≡◌, ◌+◌, ◌-◌, ◌^◌, ◌<◌, ◌≤◌, [], ◌++◌, length, take, drop};
 ghost use Rattle.rtk_rinex.specs.Columns.{IsField};
 ghost use Rattle.rtk_label.specs.Fields.{marker_number_line};
 ghost use Rattle.rtk_label.specs.Labelled.{IsLabel};
-ghost use Rattle.rtk_label.specs.LabelWriting.{plain_file, IsCutText, IsParted, line_in_text};
-ghost use Rattle.rtk_label.specs.Steps.FileParts.{WasOfParts, IsOfEveryParts};
-ghost use Rattle.rtk_label.specs.Steps.Shown.{IsNumberIn, IsLabelIn};
+ghost use Rattle.rtk_label.specs.LabelWriting.{IsCutText, IsParted, line_in_text};
+ghost use Rattle.rtk_label.specs.Steps.Fronts.{plain_file, plain_front};
+ghost use Rattle.rtk_label.specs.Steps.Shown.{IsNumberIn, IsLabelIn, IsRead};
 
 use crate::columns::{FRONT, add, put_number_line};
 use crate::fields::{Field, columns_at, is_same, read_field, read_offset};
@@ -109,17 +109,15 @@ struct Reading {
     front: ArrayVec<u8, FRONT>,
 }
 
-// Reads a text of ten lines at least, whatever follows it. Of its lines the fourth is that of this
-// marker's number, with so many bytes, or is absent.
+// Reads a text of ten lines at least. Of its lines the fourth is that of this marker's number, with so
+// many bytes, or is absent.
 fn reading_of(text: &[u8], number: Field, from: usize) -> Reading
     requires ten { 810 ≤ length text.now }
     requires number { IsNumberIn (take 81 (drop 243 text.now)) number.items }
     requires blank { length number.items ≡ 0 → from ≡ 0 }
     requires filled { 0 < length number.items → from ≡ 81 }
-    ensures labelled { (rest : List ℕ)
-        → WasOfParts (text.now ++ rest) (result.front.items ++ (drop (from + 729) text.now ++ rest)) result.unlabelled.label }
-    ensures every { (rest : List ℕ)
-        → IsOfEveryParts (text.now ++ rest) (result.front.items ++ (drop (from + 729) text.now ++ rest)) result.unlabelled.label }
+    ensures read { IsRead text.now number.items from result.unlabelled.label }
+    ensures front { result.front.items ≡ plain_front text.now from result.unlabelled.label }
     ensures good { IsLabel result.unlabelled.label }
     ensures from { from ≡ length (marker_number_line result.unlabelled.label.marker_number) }
     ensures same { result.unlabelled.from ≡ from }

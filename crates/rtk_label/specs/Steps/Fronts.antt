@@ -1,6 +1,8 @@
 -- The lines of a header that a label changes, with other columns: three lines of 81 bytes, then six.
-use Rattle.std.specs.Prelude.{ℕ, ◌==◌, List, ◌++◌, length, take, drop, codes, replicate, if◌then◌else◌}
+use Rattle.std.specs.Prelude.{ℕ, ◌+◌, ◌==◌, List, [], ◌∷◌, ◌++◌, length, take, drop, codes, pos, replicate, if◌then◌else◌}
+use Rattle.rtk_obs.specs.declared.code.Code.TheVariants.{G1C}
 use Rattle.rtk_rinex.specs.Columns.{left, right}
+use Rattle.rtk_rinex.specs.Header.{header_text}
 use Rattle.rtk_label.specs.Fields.{offset_columns, marker_number_line}
 use Rattle.rtk_label.specs.Labelled.{LabelView}
 
@@ -45,3 +47,13 @@ plain_middle l m =
     ++ plain_columns 20 l.antenna_number (take 20 (drop 243 m)) ++ plain_columns 20 l.antenna_type (take 20 (drop 263 m)) ++ take 122 (drop 283 m)
     ++ plain_offset l.height (take 14 (drop 405 m)) ++ plain_offset l.east (take 14 (drop 419 m)) ++ plain_offset l.north (take 14 (drop 433 m))
     ++ take 39 (drop 447 m)
+
+-- nine lines of a text without the fields of a label: its first three, and six after so many bytes
+abbrev pub plain_front : List ℕ → ℕ → LabelView → List ℕ
+plain_front text from l = plain_top l (take 243 text) ++ plain_middle l (take 486 (drop (from + 243) text))
+
+-- table
+-- a file without a label and without a record
+abbrev pub plain_file : List ℕ
+plain_file =
+    header_text (record { marker = codes "-"; listed = G1C ∷ []; made = 0 }) (record { x = pos 0; y = pos 0; z = pos 0; height = 0 }) 0

@@ -1,8 +1,8 @@
 -- What columns of a text show of a label.
-use Rattle.std.specs.Prelude.{◌≡◌, ◌<◌, ℕ, List, length, take, drop}
+use Rattle.std.specs.Prelude.{◌≡◌, ◌<◌, ◌≤◌, ℕ, ◌+◌, List, length, take, drop}
 use Rattle.rtk_rinex.specs.Columns.{left, right, IsField}
 use Rattle.rtk_label.specs.Fields.{IsSigned, IsOffset, marker_number_line}
-use Rattle.rtk_label.specs.Labelled.{LabelView}
+use Rattle.rtk_label.specs.Labelled.{LabelView, IsLabel}
 
 -- the field whose columns these are; a blank one if they are the columns of none
 pub record IsFieldIn (width : ℕ) (columns field : List ℕ) : Type 0 where
@@ -36,3 +36,12 @@ pub record IsLabelIn (top number middle : List ℕ) (l : LabelView) : Type 0 whe
   pub height : IsOffsetIn (take 14 (drop 405 middle)) l.height
   pub east : IsOffsetIn (take 14 (drop 419 middle)) l.east
   pub north : IsOffsetIn (take 14 (drop 433 middle)) l.north
+
+-- what is read of a text of ten lines at least: a marker's number, and so where its six lines begin; and its label
+pub record IsRead (text number : List ℕ) (from : ℕ) (l : LabelView) : Type 0 where
+  pub long : 810 ≤ length text
+  pub line : IsNumberIn (take 81 (drop 243 text)) number
+  pub blank : length number ≡ 0 → from ≡ 0
+  pub filled : 0 < length number → from ≡ 81
+  pub label : IsLabelIn (take 243 text) number (take 486 (drop (from + 243) text)) l
+  pub good : IsLabel l

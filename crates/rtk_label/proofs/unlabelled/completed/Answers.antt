@@ -3,9 +3,9 @@ use Rattle.std.specs.Fmt.{digits}
 use Rattle.rtk_rinex.specs.Columns.{left}
 use Rattle.rtk_rinex.specs.Header.{header_line, header_text}
 use Rattle.rtk_rinex.specs.Reading.{date_after}
-use Rattle.rtk_label.specs.LabelWriting.{plain_file}
+use Rattle.rtk_label.specs.Steps.Fronts.{plain_file}
 use Rattle.rtk_label.specs.declared.unlabelled.TheConstants.{PLAIN_LINES}
-use Rattle.rtk_label.proofs.PartedLemmas.{filled_up}
+use Rattle.rtk_label.proofs.CutLemmas.{filled_up}
 use Rattle.rtk_label.proofs.unlabelled.completed.Goals as goal
 
 lines_are : PLAIN_LINES.now ≡ take 810 plain_file

@@ -1,4 +1,4 @@
-use Rattle.rtk_label.proofs.PartedLemmas.{number_within}
+use Rattle.rtk_label.proofs.CutLemmas.{number_within}
 use Rattle.rtk_label.proofs.unlabelled.len_in.Goals as goal
 
 pub returns-clause-within : goal.returns-clause-within

@@ -16,8 +16,8 @@ returns-then-text-lt810-clause-rest c =
 pub returns-clause-parted : goal.returns-clause-parted
 returns-clause-parted c =
     let from = c.line_len-from.result in
-    parted c.args.text.now c.reading_of-reading.result.front.items _ from c.reading_of-reading.result.unlabelled.label (omega (arith, c.if-text-lt810.false))
-    c.reading_of-reading.ensures.good c.reading_of-reading.ensures.labelled c.reading_of-reading.ensures.every
+    parted c.args.text.now _ c.reading_of-reading.result.front.items _ from c.reading_of-reading.result.unlabelled.label
+    c.reading_of-reading.ensures.read c.reading_of-reading.ensures.front
     (rw (c.reading_of-reading.ensures.same, c.copy_from_slice.ensures.after, c.as_slice-2.ensures.value)
     (drop-over from (from + 729 - from) 729 c.args.text.now c.reading_of-reading.result.front.items (omega arith) (omega arith)))
 

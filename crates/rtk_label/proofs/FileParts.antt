@@ -60,3 +60,9 @@ WasOfParts text plain l = (p : FileParts) → AreFileParts p → plain ≡ text_
 abbrev pub IsOfEveryParts : List ℕ → List ℕ → LabelView → Type 0
 IsOfEveryParts text plain l =
     (p : FileParts) (m : LabelView) → AreFileParts p → IsLabel m → IsFor m p.site → text ≡ text_of_parts m p → (plain ≡ text_of_parts blank_label p) × (l ≡ m)
+
+-- if a text of parts with a label begins with this text, the text of these parts begins with the plain text
+abbrev pub BeginsEveryParts : List ℕ → List ℕ → Type 0
+BeginsEveryParts text plain =
+    (p : FileParts) (m : LabelView) (rest : List ℕ) → AreFileParts p → IsLabel m → IsFor m p.site → text ++ rest ≡ text_of_parts m p
+    → (end : List ℕ) × (plain ++ end ≡ text_of_parts blank_label p)
