@@ -1,5 +1,5 @@
 -- A text that is parted into a label and a plain text.
-use Rattle.std.proofs.Common.{◌≡◌, ◌<◌, ◌≤◌, ℕ, ◌+◌, List, [], ◌++◌, length, take, drop, codes, ap, sym, arith, refl, ◌∙◌, append_assoc, length-append, inl, inr}
+use Rattle.std.proofs.Common.{◌≡◌, ◌<◌, ◌≤◌, ℕ, ◌+◌, List, [], ◌++◌, length, take, drop, codes, ap, sym, arith, ◌∙◌, append_assoc, length-append, inl, inr}
 use Rattle.std.proofs.lemmas.List.{take_at, take-append-drop, length-take-le, append_cancel_left}
 use Rattle.rtk_rinex.specs.Columns.{left, IsField}
 use Rattle.rtk_rinex.specs.Header.{header_line}
@@ -11,7 +11,7 @@ use Rattle.rtk_label.specs.Steps.Shown.{IsLabelIn, IsRead}
 use Rattle.rtk_label.specs.Steps.Fronts.{plain_columns, plain_top, plain_middle, plain_front}
 use Rattle.rtk_label.proofs.PieceLemmas.{same_parts, next_piece, joined}
 use Rattle.rtk_label.proofs.ChoiceLemmas.{if_blank, none_is, blank_or_filled}
-use Rattle.rtk_label.proofs.FieldLemmas.{blank_field, length-plain_columns}
+use Rattle.rtk_label.proofs.FieldLemmas.{length-plain_columns}
 use Rattle.rtk_label.proofs.LineLemmas.{length-line}
 use Rattle.rtk_label.proofs.FrontLemmas.{length-piece, top_columns, middle_columns, top_sizes, type_line, middle_sizes, line_cells, middle_is}
 use Rattle.rtk_label.proofs.NumberLemmas.{no_number, length-number}

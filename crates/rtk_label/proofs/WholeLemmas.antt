@@ -9,20 +9,19 @@ use Rattle.rtk_obs.specs.declared.code.Code.TheVariants.{G1C}
 use Rattle.rtk_rinex.specs.Header.{IsMarker}
 use Rattle.rtk_rinex.specs.Table.{WellFormedTable}
 use Rattle.rtk_label.specs.Fields.{marker_number_line}
-use Rattle.rtk_label.specs.Labelled.{LabelView, IsLabel, IsFor, blank_label}
+use Rattle.rtk_label.specs.Labelled.{LabelView, IsLabel, blank_label}
 use Rattle.rtk_label.specs.LabelWriting.{whole_len, whole_lines, IsCutText}
 use Rattle.rtk_label.specs.Steps.Fronts.{plain_columns, plain_offset, plain_top, plain_middle, plain_front, plain_file}
 use Rattle.rtk_label.specs.Steps.Shown.{IsFieldIn, IsOffsetIn, IsNumberIn, IsLabelIn, IsRead}
 use Rattle.rtk_label.proofs.AgreeLemmas.{agree_piece, same_columns, take_append, drop_append, alike_up_to, alike_from, before_or_after, IsOne, blank_past, shown_in}
 use Rattle.rtk_label.proofs.ChoiceLemmas.{none_is, blank_or_filled}
 use Rattle.rtk_label.proofs.FieldLemmas.{length-plain_columns}
-use Rattle.rtk_label.proofs.OffsetLemmas.{length-plain_offset}
 use Rattle.rtk_label.proofs.LineLemmas.{height_coordinate}
 use Rattle.rtk_label.proofs.FrontLemmas.{length-piece, top_widths, top_columns, top_cut, top_sizes, middle_widths, cells_of, middle_columns, middle_cut, middle_sizes, cells_are}
 use Rattle.rtk_label.proofs.PlainLemmas.{blank_is_label, glue_three, plain_cells, plain_cells_are, plain_middle_is}
 use Rattle.rtk_label.proofs.FileParts.{FileParts, AreFileParts, text_of_parts, parts_of, BeginsEveryParts, WasOfParts}
 use Rattle.rtk_label.proofs.TableLemmas.{plain_parts, long-after}
-use Rattle.rtk_label.proofs.PartedLemmas.{within, length-plain_top, length-plain_middle, length-first, length-next, length-front, six_cut, text_cut, was_labelled, is_plain, cut_text}
+use Rattle.rtk_label.proofs.PartedLemmas.{within, length-plain_top, length-first, length-next, length-front, six_cut, text_cut, was_labelled, is_plain, cut_text}
 use Rattle.rtk_label.proofs.LawLemmas.{read_blank, read_filled}
 
 -- ---- columns show one thing

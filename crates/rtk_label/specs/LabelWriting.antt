@@ -88,9 +88,10 @@ BeginsEveryMixedTable text plain =
     (t : MixedTable) (m : LabelView) (rest : List ℕ) → IsMixedTable t → IsLabel m → IsFor m t.site → text ++ rest ≡ labelled_mixed_text m t
     → (end : List ℕ) × (plain ++ end ≡ mixed_table_text t)
 
--- what is left of it: its whole lines without the label, and then the line that is cut, as it is. The whole lines begin a
--- labelled table, of GPS or of any systems, if and only if they begin the table without the label. So no field of a label in
--- a line before hides that this line is cut, and no wrong line before it is hidden.
+-- what is left of it: its whole lines without the label, and then the line that is cut, as it is. If the lines without
+-- the label begin a file, of GPS or of any systems, the whole lines begin this file with the label; and if the whole lines
+-- begin a file with some label, those begin the file. So `check` finds that this line is cut, and no field of a label in a
+-- line before; and a wrong line before it stays wrong.
 pub record IsCutText (text plain : List ℕ) (l : LabelView) : Type 0 where
   pub lines : List ℕ
   pub parts : plain ≡ lines ++ drop (whole_len text) text
