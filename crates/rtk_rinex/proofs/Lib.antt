@@ -68,3 +68,4 @@ mod MixedOneRecordsLemmas
 mod MixedOneHeaderLemmas
 mod MixedOneFaultLemmas
 mod MixedOneTableLemmas
+mod MixedFileLemmas

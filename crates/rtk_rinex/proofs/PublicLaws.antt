@@ -5,3 +5,5 @@
 pub use Rattle.rtk_rinex.proofs.ReadingLemmas.{reading_is}
 -- the clause of `files_are_tables`
 pub use Rattle.rtk_rinex.proofs.TableLemmas.{file-is_shown}
+-- the clause of `mixed_files_are_tables`
+pub use Rattle.rtk_rinex.proofs.MixedFileLemmas.{mixed_file-is_shown}

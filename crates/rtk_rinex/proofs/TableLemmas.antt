@@ -51,7 +51,7 @@ observations-shown o = rw (observation-shown_value o.range_mm, phase-shown_value
 has_observation-shown : (o : Observed) → has_observation (shown o) ≡ has_observation o
 has_observation-shown o = rw (is_value-shown_value o.range_mm, is_value-shown_value o.phase_millicycles) refl
 
-observations-map : (os : List Observed) → flat_map observations (map shown os) ≡ flat_map observations os
+pub observations-map : (os : List Observed) → flat_map observations (map shown os) ≡ flat_map observations os
 observations-map [] = refl
 observations-map (o ∷ os) = rw (observations-shown o, observations-map os) refl
 
@@ -59,13 +59,13 @@ has_observation-map : (os : List Observed) → list_any has_observation (map sho
 has_observation-map [] = refl
 has_observation-map (o ∷ os) = rw (has_observation-shown o, has_observation-map os) refl
 
-has_line-shown_row : (r : SatelliteRow) → has_line (shown_row r) ≡ has_line r
+pub has_line-shown_row : (r : SatelliteRow) → has_line (shown_row r) ≡ has_line r
 has_line-shown_row r = has_observation-map r.observed.items
 
 satellite_line-shown_row : (r : SatelliteRow) → satellite_line (shown_row r) ≡ satellite_line r
 satellite_line-shown_row r = rw (observations-map r.observed.items) refl
 
-abbrev HasLine : SatelliteRow → Type 0
+abbrev pub HasLine : SatelliteRow → Type 0
 HasLine r = IsTrue (has_line r)
 
 abbrev HasGoodStrength : Observed → Type 0
@@ -80,11 +80,11 @@ all_lines_if : (r : SatelliteRow) (rows : List SatelliteRow) → All HasLine row
 all_lines_if r rows h true e = All-cons HasLine r rows e h
 all_lines_if r rows h false e = h
 
-all_lines : (rows : List SatelliteRow) → All HasLine (filter has_line rows)
+pub all_lines : (rows : List SatelliteRow) → All HasLine (filter has_line rows)
 all_lines [] = All-nil HasLine
 all_lines (r ∷ rows) = all_lines_if r (filter has_line rows) (all_lines rows) (has_line r) refl
 
-filter-shown_row : (rows : List SatelliteRow) → All HasLine rows → filter has_line (map shown_row rows) ≡ map shown_row rows
+pub filter-shown_row : (rows : List SatelliteRow) → All HasLine rows → filter has_line (map shown_row rows) ≡ map shown_row rows
 filter-shown_row [] h = refl
 filter-shown_row (r ∷ rows) h =
     let line : has_line (shown_row r) ≡ true = has_line-shown_row r ∙ All-head HasLine r rows h in
@@ -120,7 +120,7 @@ IsLock-shown_value : (v : Option ℤ) (slip half : Bool) → IsLock (shown_value
 IsLock-shown_value None slip half = (and-false slip, and-false half)
 IsLock-shown_value (Some v) slip half = lock_if v slip half (is_written v)
 
-IsObserved-shown : (o : Observed) → IsStrengthOrNone o.strength_millidbhz → IsObserved (shown o)
+pub IsObserved-shown : (o : Observed) → IsStrengthOrNone o.strength_millidbhz → IsObserved (shown o)
 IsObserved-shown o h =
     record {
       range = IsValue-shown_value o.range_mm;
@@ -153,7 +153,7 @@ table_rows n [] h w = All-nil (IsTableRow n)
 table_rows n (r ∷ rows) h w =
     table_rows_if n r (filter has_line rows) (All-head IsSatelliteRow r rows h) (All-head (HasCodes n) r rows w) (table_rows n rows (All-tail IsSatelliteRow r rows h) (All-tail (HasCodes n) r rows w)) (has_line r) refl
 
-rise-map : (rows : List SatelliteRow) → AllPairs (λ a b. a.satellite < b.satellite) rows → AllPairs (λ a b. a.satellite < b.satellite) (map shown_row rows)
+pub rise-map : (rows : List SatelliteRow) → AllPairs (λ a b. a.satellite < b.satellite) rows → AllPairs (λ a b. a.satellite < b.satellite) (map shown_row rows)
 rise-map rows h i j d low high =
     let long : length (map shown_row rows) ≡ length rows = length-map rows shown_row in
     let below : j < length rows = omega arith in
@@ -217,7 +217,7 @@ table_epochs n (e ∷ epochs) h w =
     table_epochs_if n e (with_record epochs) (All-head IsEpochTableView e epochs h, All-head (λ (e : EpochTableView). HasWidth n e.rows) e epochs w)
     (table_epochs n epochs (All-tail IsEpochTableView e epochs h) (All-tail (λ (e : EpochTableView). HasWidth n e.rows) e epochs w)) (has_record e) refl
 
-times-map : (epochs : List EpochTableView) → AllPairs (λ a b. a.time < b.time) epochs → AllPairs (λ a b. a.time < b.time) (map shown_epoch epochs)
+pub times-map : (epochs : List EpochTableView) → AllPairs (λ a b. a.time < b.time) epochs → AllPairs (λ a b. a.time < b.time) (map shown_epoch epochs)
 times-map epochs h i j d low high =
     let long : length (map shown_epoch epochs) ≡ length epochs = length-map epochs shown_epoch in
     let below : j < length epochs = omega arith in
@@ -225,7 +225,7 @@ times-map epochs h i j d low high =
     let second = get_or-map shown_epoch epochs j d d below in
     rw (first, second) (h i j d low below)
 
-starts-map : (first : ℕ) (epochs : List EpochTableView) → StartsAt first epochs → StartsAt first (map shown_epoch epochs)
+pub starts-map : (first : ℕ) (epochs : List EpochTableView) → StartsAt first epochs → StartsAt first (map shown_epoch epochs)
 starts-map first [] h = tt
 starts-map first (e ∷ epochs) h = h
 

@@ -11,6 +11,7 @@ ghost use Rattle.rtk_rinex.specs.KeptTable.{TextIsKept};
 ghost use Rattle.rtk_rinex.specs.MixedCheckTable.{MixedOneFault, MixedFaultMeansNoTable, MixedOneTable, MixedTextIsAccepted};
 ghost use Rattle.rtk_rinex.specs.MixedHeader.{GpsFilesStay};
 ghost use Rattle.rtk_rinex.specs.MixedRecord.{GpsRecordsStay};
+ghost use Rattle.rtk_rinex.specs.MixedTable.{MixedFilesAreTables};
 ghost use Rattle.rtk_rinex.specs.Reading.{IsMoment, reading_of};
 ghost use Rattle.rtk_rinex.specs.Table.{RecordsAreOfTables, FilesAreTables};
 ghost use Rattle.rtk_rinex.specs.declared.check_fault.Cause.{Cause};
@@ -38,6 +39,13 @@ pub fn records_are_of_tables()
 /// record is at the header's first time. The table's epochs are the epochs that have a record.
 pub fn files_are_tables()
     ensures { FilesAreTables }
+{}
+
+/// A header of any systems and the records after it, which `mixed_header` and `MixedRecordLines` write, are
+/// the text of a well-formed table of any systems, if the first epoch with a record is at the header's first
+/// time. The table has the head and the position of the header, and the epochs that have a record.
+pub fn mixed_files_are_tables()
+    ensures { MixedFilesAreTables }
 {}
 
 /// Two faults of one text are the same line and the same cause, and a text with a fault is the text
