@@ -1,5 +1,5 @@
 -- Arrivals: the dated messages of one station, in a list whose first is the newest. A message here
--- is one of the wider set: one of the four types, or a 1075, 1076 or 1077.
+-- is one of the wider set: one of the four types, or an MSM of another kind or system than a 1074.
 use Rattle.std.specs.Prelude.{ℕ, Option}
 use Rattle.rtk_message.specs.declared.any_message.AnyMessage.{AnyMessage as Message}
 use Rattle.rtk_message.specs.declared.any_message.AnyMessage.TheVariants as any
@@ -18,7 +18,7 @@ epoch_of (At e m) = e
 abbrev pub message_of : Arrival → Message
 message_of (At e m) = m
 
--- a 1075, 1076 or 1077
+-- an MSM that is no 1074
 abbrev pub IsWideMsm : Message → Type 0
 IsWideMsm (any.Message m) = ⊥
 IsWideMsm (any.Msm m) = Unit {0}

@@ -32,6 +32,7 @@ signals = record {
   cell = λ c. c.cell;
 }
 
+-- formula
 -- the entries of the satellites of a 1004
 abbrev pub legacy_entries : List Satellite → List SignalEntry
 legacy_entries ss = map signal_of (cells_of_1004 ss)

@@ -18,18 +18,18 @@ use rtk_obs::{
 };
 use std::marker::Model;
 
-/// A message whose fields fit, which it borrows, with its epoch: the moment of its time of week
-/// (DF004).
+/// A message whose fields fit, which it borrows, with its epoch: the moment of its clock, which is a time
+/// of week (DF004) in a message of GPS.
 ///
-/// A 1005 or 1006 has no time, and so no epoch.
+/// A 1005 or 1006 has no clock, and so no epoch.
 #[derive(Drop)]
 pub struct DatedRef<'a> {
     pub(crate) message: Borrowed<'a>,
     pub(crate) epoch: Option<GpsMs>,
 }
 
-/// A borrowed message: one of the four types, or a 1075, 1076 or 1077. An `AnyMessage` owns its
-/// message, so a `&Message` can't be lent as one.
+/// A borrowed message: one of the four types, or an MSM that is no 1074. An `AnyMessage` owns its message,
+/// so a `&Message` can't be lent as one.
 #[derive(Clone, Copy, Drop)]
 pub(crate) enum Borrowed<'a> {
     Message(&'a Message),
@@ -111,7 +111,7 @@ impl<'a> DatedRef<'a> {
         }
     }
 
-    /// Returns the message, or `None` exactly for a 1075, 1076 or 1077.
+    /// Returns the message, or `None` exactly for an MSM that is no 1074.
     pub fn message(&self) -> Option<&'a Message>
         ensures value { IfSome result (λ m. AnyMessage.Message m.now ≡ message_of self.now) }
         ensures fits { IfSome result (λ m. IsValid m.now) }

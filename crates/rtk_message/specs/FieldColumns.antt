@@ -1,5 +1,5 @@
 -- A column: one field of each satellite or of each cell, as fields of one width.
--- Source: RTCM 10403.3, messages 1074 to 1077
+-- Source: RTCM 10403.3, messages 1071 to 1137
 use Rattle.std.specs.Prelude.{ℕ, ℤ, Bool, List, map}
 use Rattle.rtk_message.specs.Fields.{Field, u, i, flag}
 

@@ -224,7 +224,7 @@ fn keep_new(kept: &mut Result<AnyMessage, AnyFault>, number: u16, reader: BitRea
     *kept = read_any_by_number(number, reader);
 }
 
-// Keeps a new reading of a 1075, 1076 or 1077.
+// Keeps a new reading of an MSM that is no 1074.
 #[inline(never)]
 fn keep_new_msm(kept: &mut Result<AnyMessage, AnyFault>, msm_type: MsmType, reader: BitReader<'_>)
     requires { IsWide msm_type }
@@ -263,7 +263,7 @@ fn widened(reading: Result<Message, DecodeFault>) -> Result<AnyMessage, AnyFault
     }
 }
 
-// Reads a 1075, 1076 or 1077 after its number.
+// Reads an MSM that is no 1074 after its number.
 #[inline(never)]
 fn read_msm(msm_type: MsmType, mut reader: BitReader<'_>) -> Result<AnyMessage, AnyFault>
     requires { IsWide msm_type }

@@ -15,10 +15,10 @@ pub enum CellSource {
     /// A legacy message, 1004.
     #[default]
     Legacy,
-    /// A multiple signal message, 1074 to 1077.
+    /// A multiple signal message (MSM), such as 1074.
     ///
-    /// Lock times of one source are compared, but only those of DF402 (1074, 1075), or those of
-    /// DF407 (1076, 1077), are of one table. So the cells of one `Tracks` come from one message
+    /// Lock times of one source are compared, but only those of DF402 (MSM4, MSM5), or those of
+    /// DF407 (MSM6, MSM7), are of one table. So the cells of one `Tracks` come from one message
     /// number. Cells of several can show a slip too many, and never one too few.
     Msm,
 }

@@ -33,7 +33,7 @@ pub fn least_lock_legacy(indicator: u8) -> u32
     LEAST_LOCKS[usize::from(indicator)]
 }
 
-/// Returns the least time of continuous lock, in ms, at an indicator of a 1074 or a 1075 (DF402).
+/// Returns the least time of continuous lock, in ms, at an indicator of an MSM4 or an MSM5 (DF402).
 pub fn least_lock_msm(indicator: u8) -> u32
     requires { indicator ≤ 15 }
     ensures { result ≡ least_lock_of_msm indicator }
@@ -42,7 +42,7 @@ pub fn least_lock_msm(indicator: u8) -> u32
 }
 
 /// Returns the least time of continuous lock, in ms, at an indicator with extended range and
-/// resolution, which a 1076 and a 1077 have (DF407). From 705 on the indicator is reserved, and the
+/// resolution, which an MSM6 and an MSM7 have (DF407). From 705 on the indicator is reserved, and the
 /// answer is 0.
 pub fn least_lock_extended(indicator: u16) -> u32
     ensures { result ≡ least_lock_of_extended indicator }

@@ -148,7 +148,7 @@ fn put_cells_of_gps(message: &Msm, found: &mut ArrayVec<CellEntry, 64>) -> bool
     has_rising_codes(message.header.signal_mask)
 }
 
-/// Returns the cells of a 1075, 1076 or 1077 in the order of the message, for the satellites from 1
+/// Returns the cells of an MSM that is no 1074 in the order of the message, for the satellites from 1
 /// to 32 and the fifteen signals that have a code. A message of another system than GPS has none.
 pub fn cells_msm(message: &Msm) -> ArrayVec<CellEntry, 64>
     requires { IsValid message.now }

@@ -1,7 +1,7 @@
 -- The header of an observation file of any systems (RINEX 3.05, Table A2); the order of the lines and
 -- their fixed entries are this project's.
 -- Source: RINEX 3.05, Table A2
-use Rattle.std.specs.Prelude.{◌≡◌, ◌≤◌, ℕ, zero, suc, ◌+◌, ◌*◌, List, [], ◌∷◌, ◌==◌, if◌then◌else◌, ◌++◌, take, drop, length, map, flat_map, codes, decimal, ℤ, pos, negsuc, Option, Some, None, is_some}
+use Rattle.std.specs.Prelude.{◌≡◌, ℕ, zero, suc, ◌+◌, ◌*◌, List, [], ◌∷◌, ◌==◌, if◌then◌else◌, ◌++◌, take, drop, length, map, flat_map, codes, decimal, ℤ, pos, negsuc, Option, Some, None, is_some}
 use Rattle.std.specs.List.{filter, list_all, count_by}
 use Rattle.rtk_obs.specs.declared.any_code.AnyCode.{AnyCode}
 use Rattle.rtk_obs.specs.Code as gps
@@ -9,9 +9,9 @@ use Rattle.rtk_obs.specs.AnyCode.{name_of, text_of}
 use Rattle.rtk_obs.specs.Carriers.{channel_at}
 use Rattle.rtk_obs.specs.CivilText.{last_digits}
 use Rattle.rtk_rinex.specs.Columns.{right}
-use Rattle.rtk_rinex.specs.Reading.{IsMoment, reading_of}
-use Rattle.rtk_rinex.specs.Header.{HeadView, PositionView, IsHeadView, IsPositionView, header_line, made_line, marker_line, position_lines, types_label, continuation_line, unit_line, first_line, header_text}
-use Rattle.rtk_rinex.specs.MixedHead.{GlonassView, MixedHeadView, letter, IsMixedHead}
+use Rattle.rtk_rinex.specs.Reading.{reading_of}
+use Rattle.rtk_rinex.specs.Header.{HeadView, PositionView, IsHeadView, header_line, made_line, marker_line, position_lines, types_label, continuation_line, unit_line, first_line, header_text}
+use Rattle.rtk_rinex.specs.MixedHead.{GlonassView, MixedHeadView, letter}
 
 -- ---- the systems
 
@@ -162,9 +162,3 @@ abbrev pub GpsFilesStay : Type 0
 GpsFilesStay =
     (h : HeadView) (m : MixedHeadView) (s : PositionView) (first : ℕ) → IsOfGps h m → IsHeadView h
     → mixed_header_text m s first ≡ header_text h s first
-
--- a header has at most 43 lines of 81 bytes
-abbrev pub HeadersAreShort : Type 0
-HeadersAreShort =
-    (h : MixedHeadView) (s : PositionView) (first : ℕ) → IsMixedHead h → IsPositionView s → IsMoment first
-    → length (mixed_header_text h s first) ≤ 3483

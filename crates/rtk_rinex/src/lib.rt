@@ -1,4 +1,5 @@
-//! RINEX 3.05 observation files of GPS: the header and the records, as text, and read from it.
+//! RINEX 3.05 observation files, of GPS and of any systems: the header and the records, as text, and read
+//! from it.
 //!
 //! ```rust
 //! use rtk_obs::{Code, GpsMs, Position};

@@ -16,6 +16,8 @@ use crate::satellite_line_check::shown_cell;
 use arrayvec::ArrayVec;
 
 /// Reads what `code_count` codes show in their columns, one after another. Blanks at the end may be missing.
+// It is inlined, since each row of a file calls it.
+#[inline(always)]
 pub(crate) fn read_cells(columns: &[u8], code_count: usize, observed: &mut ArrayVec<Observed, 16>)
     requires code_count { code_count ≤ 16 }
     requires few { length columns.now ≤ 48 * code_count }

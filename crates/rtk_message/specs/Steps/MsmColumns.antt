@@ -1,4 +1,4 @@
--- The columns of a 1075, 1076 or 1077: their lengths, which of them were read, and that they fit.
+-- The columns of an MSM that is no 1074: their lengths, which of them were read, and that they fit.
 use Rattle.std.specs.Prelude.{◌≡◌, ℕ, ◌+◌, ◌*◌, ◌≤◌, length}
 use Rattle.rtk_message.specs.Fields.{FieldsFit}
 use Rattle.rtk_message.specs.FieldColumns.{numbers, integers}
