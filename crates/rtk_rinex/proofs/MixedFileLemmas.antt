@@ -20,7 +20,7 @@ use Rattle.rtk_rinex.specs.MixedHeader.{codes_of, mixed_header_text}
 use Rattle.rtk_rinex.specs.MixedRecord.{mixed_satellite_line, mixed_lines_of, mixed_record_text}
 use Rattle.rtk_rinex.specs.MixedForm.{FormView, codes_in, has_channel, phases_in, has_phases, form_of_head}
 use Rattle.rtk_rinex.specs.MixedTable.{HasNoPhase, IsMixedRow, IsMixedEpoch, WritesNoPhase, IsRowOfHead, IsEpochOfHead, with_mixed_record, MixedFilesAreTables}
-use Rattle.rtk_rinex.proofs.TableLemmas.{HasLine, observations-map, has_line-shown_row, all_lines, filter-shown_row, IsObserved-shown, rise-map, times-map, starts-map}
+use Rattle.rtk_rinex.proofs.TableLemmas.{observations-map, has_line-shown_row, all_lines, filter-shown_row, IsObserved-shown, rise-map, times-map, starts-map}
 
 -- ---- what is shown has the same text
 
