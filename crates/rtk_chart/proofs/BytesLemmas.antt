@@ -27,12 +27,12 @@ use Rattle.rtk_chart.specs.declared.spacing.Spacing.{Spacing}
 use Rattle.rtk_chart.specs.declared.spacing.Spacing.TheVariants.{Wide, Close}
 use Rattle.rtk_chart.proofs.LawLemmas.{div-mono}
 
-three-long : (a b c : List ℕ) → length (a ++ b ++ c) ≡ length a + length b + length c
+pub three-long : (a b c : List ℕ) → length (a ++ b ++ c) ≡ length a + length b + length c
 three-long a b c = omega (arith, length-append (a ++ b) c, length-append a b)
 
 -- ---- numbers
 
-edge-few : (n c : ℕ) → 0 < n → c ≤ n → edge_of n c ≤ 1440
+pub edge-few : (n c : ℕ) → 0 < n → c ≤ n → edge_of n c ≤ 1440
 edge-few n c some within =
     let scaled : c * 1440 ≤ n * 1440 = omega (arith, within) in
     let most = div-mono (c * 1440) (n * 1440) n some scaled in
@@ -42,7 +42,7 @@ edge-few n c some within =
 four : (n : ℕ) → n ≤ 1440 → length (decimal n) ≤ 4
 four n few = length-decimal-le 4 n (omega arith) (omega arith) (omega arith)
 
-between-few : (before after : List ℕ) (n : ℕ) → n ≤ 1440 → length (number_between before n after) ≤ length before + length after + 4
+pub between-few : (before after : List ℕ) (n : ℕ) → n ≤ 1440 → length (number_between before n after) ≤ length before + length after + 4
 between-few before after n few = let digits = four n few in omega (arith, digits, three-long before (decimal n) after)
 
 -- ---- paths
@@ -99,7 +99,7 @@ runs-path-few most class begin end bs room short some =
     let runs = runs-few most begin end room (length bs) 0 false bs some (omega arith) in
     path-few class (runs_from begin end (length bs) 0 false bs) (most * boxes_from false bs) short (omega (arith, runs))
 
-runs-layer-few : (most : ℕ) (class begin end : List ℕ) (bs : List Bool) → 10 + length begin + length end ≤ most → length class ≤ 2
+pub runs-layer-few : (most : ℕ) (class begin end : List ℕ) (bs : List Bool) → 10 + length begin + length end ≤ most → length class ≤ 2
     → length (runs_layer class begin end bs) ≤ 24 + most * boxes_over bs
 runs-layer-few most class begin end [] room short = omega arith
 runs-layer-few most class begin end (b ∷ bs) room short =
@@ -155,7 +155,7 @@ missing-few bins place code =
           (runs_layer (codes "m") (codes " 16v-12") (codes "v12z") (layer_flags bins place code Absent)),
     )
 
-four-long : (a b c d : List ℕ) → length (a ++ b ++ c ++ d) ≡ length a + length b + length c + length d
+pub four-long : (a b c d : List ℕ) → length (a ++ b ++ c ++ d) ≡ length a + length b + length c + length d
 four-long a b c d = omega (arith, length-append (a ++ b ++ c) d, three-long a b c)
 
 locks-few : (bins : List TimeBin) (place code : ℕ)
@@ -184,7 +184,7 @@ columns-few : (bins : List TimeBin) (place code : ℕ) (layer : Layer) → colum
 columns-few bins place code layer =
     omega (arith, count_by-le-length (λ b. b) (layer_flags bins place code layer), length-map bins (λ bin. shows layer (marks_at code (tracking_at place bin))))
 
-six-long : (a b c d e f : List ℕ) → length (a ++ b ++ c ++ d ++ e ++ f) ≡ length a + length b + length c + length d + length e + length f
+pub six-long : (a b c d e f : List ℕ) → length (a ++ b ++ c ++ d ++ e ++ f) ≡ length a + length b + length c + length d + length e + length f
 six-long a b c d e f = omega (arith, length-append (a ++ b ++ c ++ d ++ e) f, length-append (a ++ b ++ c ++ d) e, four-long a b c d)
 
 column-numbers-few : (phases missing slips returns rises halves : ℕ) → phases ≤ 1440 → missing ≤ 1440 → slips ≤ 1440 → returns ≤ 1440 → rises ≤ 1440 → halves ≤ 1440
@@ -233,7 +233,7 @@ bar-few bins place code few =
 
 -- ---- the line
 
-two-characters : (c : Code) → length (name_of c) ≡ 2
+pub two-characters : (c : Code) → length (name_of c) ≡ 2
 two-characters G1C = refl
 two-characters G1P = refl
 two-characters G1W = refl
@@ -263,7 +263,7 @@ top-few : (spacing : Spacing) (lines : ℕ) → lines ≤ 16 → line_top spacin
 top-few Wide lines few = omega arith
 top-few Close lines few = omega arith
 
-lines-few : (bins : List TimeBin) (place at : ℕ) → codes_before bins place at ≤ at
+pub lines-few : (bins : List TimeBin) (place at : ℕ) → codes_before bins place at ≤ at
 unfolding codes_before
 lines-few bins place at = omega (arith, count_by-le-length (has_code bins place) (range_with_len 0 at), length-range_with_len 0 at)
 
@@ -300,13 +300,13 @@ bars-small spacing bins place at code few listed =
 
 -- ---- no bar is larger
 
-boxes-within : (was : Bool) (bs : List Bool) → boxes_from was bs ≤ count_by (λ b. b) bs
+pub boxes-within : (was : Bool) (bs : List Bool) → boxes_from was bs ≤ count_by (λ b. b) bs
 boxes-within was [] = omega arith
 boxes-within was (false ∷ bs) = let rest = boxes-within false bs in rw (sum_by-cons (λ (b : Bool). cond b 1 0) false bs) (omega (arith, rest))
 boxes-within false (true ∷ bs) = let rest = boxes-within true bs in rw (sum_by-cons (λ (b : Bool). cond b 1 0) true bs) (omega (arith, rest))
 boxes-within true (true ∷ bs) = let rest = boxes-within true bs in rw (sum_by-cons (λ (b : Bool). cond b 1 0) true bs) (omega (arith, rest))
 
-over-within : (bs : List Bool) → boxes_over bs ≤ count_by (λ b. b) bs
+pub over-within : (bs : List Bool) → boxes_over bs ≤ count_by (λ b. b) bs
 unfolding boxes_over
 over-within bs = boxes-within false bs
 

@@ -1,3 +1,4 @@
+pub mod BandsLemmas
 pub mod BitLemmas
 pub mod BytesLemmas
 pub mod ChartLemmas
@@ -9,6 +10,7 @@ pub mod LawLemmas
 pub mod ListLemmas
 pub mod MarkLemmas
 pub mod PieceLemmas
+pub mod RestLemmas
 pub mod ScaleLemmas
 pub mod SeenLemmas
 pub mod SizeLemmas

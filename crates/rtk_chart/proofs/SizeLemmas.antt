@@ -76,7 +76,7 @@ end-is Close bins listed columns =
     (λ place. close-band (is_drawn bins place) (codes_before bins place listed)) (range_with_len 0 32) in
     omega (arith, bands, strip)
 
-height-is : (bins : List TimeBin) (listed : ℕ) (columns : List Strengths)
+pub height-is : (bins : List TimeBin) (listed : ℕ) (columns : List Strengths)
     → never_end (spacing_of bins listed) bins listed + strip_height columns + 230 ≡ picture_height bins listed columns
 unfolding picture_height
 height-is bins listed columns = end-is (spacing_of bins listed) bins listed columns
@@ -155,11 +155,11 @@ days-fit-screen bins listed columns satellites two bars nevers =
 
 -- ---- none is higher
 
-satellites-few : (bins : List TimeBin) → satellites_in bins ≤ 32
+pub satellites-few : (bins : List TimeBin) → satellites_in bins ≤ 32
 unfolding drawn_before
 satellites-few bins = count_by-le-length (is_drawn bins) (range_with_len 0 32)
 
-nevers-few : (bins : List TimeBin) (listed : ℕ) → lacked_before bins listed ≤ listed
+pub nevers-few : (bins : List TimeBin) (listed : ℕ) → lacked_before bins listed ≤ listed
 unfolding lacked_before
 nevers-few bins listed = omega (arith, count_by-le-length (is_lacked bins) (range_with_len 0 listed), length-range_with_len 0 listed)
 

@@ -1,12 +1,12 @@
 -- How high a picture in SVG is (this project's rule), by what it has: rows of bars, satellites, lines `never` and lanes of
 -- strengths. And how many boxes and marks the bar of a code has.
-use Rattle.std.specs.Prelude.{ℕ, ◌+◌, ◌*◌, Bool, false, not, ◌&&◌, List, [], ◌∷◌, max, count_by, is_some, if◌then◌else◌}
+use Rattle.std.specs.Prelude.{ℕ, ◌+◌, ◌*◌, Bool, false, not, ◌&&◌, List, [], ◌∷◌, length, max, count_by, is_some, if◌then◌else◌}
 use Rattle.std.specs.List.{range_with_len, sum_by}
 use Rattle.rtk_obs.specs.declared.code.Band.TheVariants.{L1, L2, L5}
-use Rattle.rtk_chart.specs.Signs.{is_drawn}
+use Rattle.rtk_chart.specs.Signs.{is_drawn, has_code}
 use Rattle.rtk_chart.specs.Means.{least_mean}
 use Rattle.rtk_chart.specs.TextPicture.{satellites_in}
-use Rattle.rtk_chart.specs.SvgPicture.{layer_flags, columns_of, codes_before, lacked_before, spacing_of}
+use Rattle.rtk_chart.specs.SvgPicture.{layer_flags, columns_of, outage_flags, codes_before, lacked_before, spacing_of}
 use Rattle.rtk_chart.specs.declared.time_bin.TimeBin.{TimeBin}
 use Rattle.rtk_chart.specs.declared.strengths.Strengths.{Strengths}
 use Rattle.rtk_chart.specs.declared.layer.Layer.TheVariants.{Level, Part, Absent, Slip, Return, Rise, Half}
@@ -60,3 +60,21 @@ forms_in_bar bins place code =
     sum_by (λ level. boxes_over (layer_flags bins place code (Level level))) (range_with_len 0 10)
     + boxes_over (layer_flags bins place code Part) + boxes_over (layer_flags bins place code Absent)
     + columns_of bins place code Slip + columns_of bins place code Half + columns_of bins place code Return + columns_of bins place code Rise
+
+-- a code that the satellite has nowhere has no bar
+abbrev pub forms_if_had : List TimeBin → ℕ → ℕ → ℕ
+forms_if_had bins place code = if has_code bins place code then forms_in_bar bins place code else 0
+
+-- how many boxes and marks the band of a satellite has, in a file of so many codes: a box over bins side by side in which it is
+-- out, and those of its bars
+unfoldable pub forms_in_band : List TimeBin → List Bool → ℕ → ℕ → ℕ
+forms_in_band bins outages listed place =
+    boxes_over (outage_flags outages (length bins) place) + sum_by (forms_if_had bins place) (range_with_len 0 listed)
+
+-- a satellite that is not drawn has no band
+abbrev pub forms_if_drawn : List TimeBin → List Bool → ℕ → ℕ → ℕ
+forms_if_drawn bins outages listed place = if is_drawn bins place then forms_in_band bins outages listed place else 0
+
+-- how many all bands have
+unfoldable pub forms_in_bands : List TimeBin → List Bool → ℕ → ℕ
+forms_in_bands bins outages listed = sum_by (forms_if_drawn bins outages listed) (range_with_len 0 32)

@@ -1,14 +1,16 @@
 -- Laws of the size of a picture in SVG.
-use Rattle.std.specs.Prelude.{◌≡◌, ◌≤◌, ◌<◌, ℕ, ◌+◌, ◌*◌, true, List, ◌++◌, length}
+use Rattle.std.specs.Prelude.{◌≡◌, ◌≤◌, ◌<◌, ℕ, ◌+◌, ◌*◌, ◌^◌, true, Bool, List, ◌++◌, length}
+use Rattle.std.specs.Option.{ForSome}
 use Rattle.rtk_obs.specs.declared.code.Code.{Code}
 use Rattle.rtk_rinex.specs.Record.{EpochTableView}
 use Rattle.rtk_chart.specs.Signs.{is_drawn}
-use Rattle.rtk_chart.specs.Grid.{bins_of}
+use Rattle.rtk_chart.specs.Scale.{IsScale}
+use Rattle.rtk_chart.specs.Grid.{bins_of, outages_of}
 use Rattle.rtk_chart.specs.Means.{columns_of}
 use Rattle.rtk_chart.specs.TextPicture.{satellites_in}
-use Rattle.rtk_chart.specs.SvgPicture.{codes_before, lines_before, lacked_before, code_line, svg_start}
+use Rattle.rtk_chart.specs.SvgPicture.{codes_before, lines_before, lacked_before, code_line, bands_text, svg_start}
 use Rattle.rtk_chart.specs.Chart.{svg_at}
-use Rattle.rtk_chart.specs.Size.{picture_height, forms_in_bar}
+use Rattle.rtk_chart.specs.Size.{picture_height, forms_in_bar, forms_in_bands}
 use Rattle.rtk_chart.specs.declared.time_bin.TimeBin.{TimeBin}
 use Rattle.rtk_chart.specs.declared.scale.Scale.{Scale}
 use Rattle.rtk_chart.specs.declared.strengths.Strengths.{Strengths}
@@ -47,3 +49,29 @@ abbrev pub NoBarIsLarger : Type 0
 NoBarIsLarger =
     (spacing : Spacing) (bins : List TimeBin) (place at : ℕ) (code : Code) → length bins ≤ 1440 → at < 16
     → length (code_line spacing bins place at code) ≤ 222_380
+
+-- the bands of a picture, of a file of at most 16 codes, have at most 260 bytes for each satellite, 620 for each bar, and 22 for each
+-- box and mark
+abbrev pub BandsAreSmall : Type 0
+BandsAreSmall =
+    (spacing : Spacing) (listed : List Code) (bins : List TimeBin) (outages : List Bool) → length listed ≤ 16 → length bins ≤ 1440
+    → length (bands_text spacing listed bins outages)
+    ≤ 260 * satellites_in bins + 620 * lines_before bins (length listed) 32 + 22 * forms_in_bands bins outages (length listed)
+
+-- the whole picture of a file has 260,000 bytes more at most. Its marker has at most 60 characters, and its interval is below 2^64 ms
+abbrev pub PicturesAreSmall : Type 0
+PicturesAreSmall =
+    (marker : List ℕ) (listed : List Code) (s : Scale) (es : List EpochTableView)
+    → length marker ≤ 60 → length listed ≤ 16 → IsScale s → ForSome s.interval (λ ms. ms < 2 ^ 64)
+    → length (svg_at marker listed s es)
+    ≤ 260_000 + 260 * satellites_in (bins_of s es) + 620 * lines_before (bins_of s es) (length listed) 32
+    + 22 * forms_in_bands (bins_of s es) (outages_of s es) (length listed)
+
+-- so a picture of at most 40 satellites, 130 bars, and 29,000 boxes and marks has less than 1 MB
+abbrev pub DaysAreSmall : Type 0
+DaysAreSmall =
+    (marker : List ℕ) (listed : List Code) (s : Scale) (es : List EpochTableView)
+    → length marker ≤ 60 → length listed ≤ 16 → IsScale s → ForSome s.interval (λ ms. ms < 2 ^ 64)
+    → satellites_in (bins_of s es) ≤ 40 → lines_before (bins_of s es) (length listed) 32 ≤ 130
+    → forms_in_bands (bins_of s es) (outages_of s es) (length listed) ≤ 29_000
+    → length (svg_at marker listed s es) < 1_000_000

@@ -5,7 +5,7 @@
 ghost use Rattle.rtk_chart.specs.Laws.{BinsAreFew, ShorterBinsAreTooMany, ScalesFillRoom, RowsHaveAllBins, ColumnsFillWidth, MissingMarksAreEpochs, MeansAreOfStrengths};
 ghost use Rattle.rtk_chart.specs.MarkLaws.{CodesShowEpochs, SatellitesShowEpochs, CodesAreOfEpochs, GapsAreMissing, OutagesAreOfEpochs, MissingAreOfSteps, SlipsAndRisesAreDigits};
 ghost use Rattle.rtk_chart.specs.HeadingLaws.{TablesHaveNumbers, TextHasHeading, EqualTextHeadings, SvgHasHeading, EqualSvgHeadings};
-ghost use Rattle.rtk_chart.specs.SizeLaws.{SvgHasItsHeight, DaysFitScreen, NoneIsHigher, BarsAreSmall, NoBarIsLarger};
+ghost use Rattle.rtk_chart.specs.SizeLaws.{SvgHasItsHeight, DaysFitScreen, NoneIsHigher, BarsAreSmall, NoBarIsLarger, BandsAreSmall, PicturesAreSmall, DaysAreSmall};
 
 use rtk_rinex::one_reading;
 use rtk_tracking::bits_are_of_three_kinds;
@@ -94,8 +94,17 @@ pub fn svg_heights_are_of_what_is_drawn()
 {}
 
 /// The line of a code in a picture in SVG has at most 620 bytes, and 22 more for each box and mark of its bar. Whatever
-/// the file, it has at most 222,380 bytes.
+/// the file, it has at most 222,380 bytes. The bands of all satellites have at most 260 more for each satellite, and 22 more for
+/// each box of an outage.
 pub fn svg_bars_are_small()
     ensures forms { BarsAreSmall }
     ensures most { NoBarIsLarger }
+    ensures bands { BandsAreSmall }
+{}
+
+/// A picture in SVG has at most 260,000 bytes beside its bands. So a picture of at most 40 satellites, 130 bars, and 29,000
+/// boxes and marks has less than 1 MB.
+pub fn svg_pictures_are_small()
+    ensures parts { PicturesAreSmall }
+    ensures day { DaysAreSmall }
 {}

@@ -86,6 +86,7 @@ pub use choice::{Choice, Chosen};
 pub use laws::{
     bins_are_least, bins_fill_room, counts_are_of_epochs, files_have_numbers, marks_are_of_epochs,
     means_are_of_strengths, missing_marks_are_epochs, svg_bars_are_small,
-    svg_headings_tell_numbers, svg_heights_are_of_what_is_drawn, text_headings_tell_numbers,
+    svg_headings_tell_numbers, svg_heights_are_of_what_is_drawn, svg_pictures_are_small,
+    text_headings_tell_numbers,
 };
 pub use passes::is_there;
