@@ -1,6 +1,5 @@
 //! Laws of the definitions of a picture: how long and how wide a bin is, what it shows of its
-//! epochs, where epochs are missing, what a heading tells, and how high and how long
-//! a picture is.
+//! epochs, where epochs are missing, what a heading tells, and how high and how large a picture is.
 
 ghost use Rattle.rtk_chart.specs.Laws.{BinsAreFew, ShorterBinsAreTooMany, ScalesFillRoom, RowsHaveAllBins, ColumnsFillWidth, MissingMarksAreEpochs, MeansAreOfStrengths};
 ghost use Rattle.rtk_chart.specs.MarkLaws.{CodesShowEpochs, SatellitesShowEpochs, CodesAreOfEpochs, GapsAreMissing, OutagesAreOfEpochs, MissingAreOfSteps, SlipsAndRisesAreDigits};
