@@ -21,6 +21,7 @@ mod auto_command;
 mod auto_converting;
 mod auto_labelling;
 mod auto_looking;
+mod auto_parting;
 mod auto_reading;
 mod auto_refusing;
 mod auto_rereading;

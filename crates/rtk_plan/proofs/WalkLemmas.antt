@@ -14,6 +14,7 @@ use Rattle.rtk_plan.specs.declared.joining.Ordered.{Ordered}
 use Rattle.rtk_plan.specs.Linking.{places_of, captures_of_link, is_nonempty}
 use Rattle.rtk_plan.specs.Lists.{unread_line, unread_lines_from}
 use Rattle.rtk_plan.specs.Plan.{some_out_of_reach}
+use Rattle.rtk_plan.specs.Stray.{greatest_of_others}
 
 pub cut-at : {X : Type 0} (xs : List X) (i : ℕ) (d : X) → i < length xs → drop i xs ≡ get_or xs i d ∷ drop (i + 1) xs
 cut-at xs i d lt = drop-cons xs i d lt ∙ ap (λ (k : ℕ). get_or xs i d ∷ drop k xs) (sym (add-one i))
@@ -109,3 +110,18 @@ reach-end near (c ∷ cs) [] zero past = refl
 reach-end near (c ∷ cs) [] (suc i) past = none-placed near (drop i cs)
 reach-end near (c ∷ cs) (p ∷ ps) zero past = absurd (omega (arith, past))
 reach-end near (c ∷ cs) (p ∷ ps) (suc i) past = reach-end near cs ps i (omega (arith, past))
+
+-- ---- the greatest epoch of all captures but the stray one
+
+none-greater : (known : Option ℕ) (cs : List StationCapture) (until : ℕ) → greatest_of_others known cs [] until ≡ known
+none-greater known [] until = refl
+none-greater known (c ∷ cs) until = refl
+
+pub others-end : (known : Option ℕ) (cs : List StationCapture) (ps : List (Option Placed)) (until i : ℕ) → min (length cs) (length ps) ≤ i
+    → greatest_of_others known (drop i cs) (drop i ps) until ≡ known
+others-end known [] ps until zero past = refl
+others-end known [] ps until (suc i) past = refl
+others-end known (c ∷ cs) [] until zero past = refl
+others-end known (c ∷ cs) [] until (suc i) past = none-greater known (drop i cs) until
+others-end known (c ∷ cs) (p ∷ ps) until zero past = absurd (omega (arith, past))
+others-end known (c ∷ cs) (p ∷ ps) until (suc i) past = others-end known cs ps until i (omega (arith, past))

@@ -1,4 +1,5 @@
 pub mod CaptureEquipment
+pub mod CaptureNames
 pub mod Causes
 pub mod ChosenStation
 pub mod FewPhases
@@ -9,13 +10,15 @@ pub mod LabelCommand
 pub mod Linking
 pub mod Lists
 pub mod Plan
-pub mod Points
 pub mod Positions
 pub mod Reach
+pub mod Reported
 pub mod SaidCommand
 pub mod SpanLine
 pub mod StationCaptures
 pub mod Steps
+pub mod Stray
 pub mod TextsLeftOut
 pub mod ToldLabel
 pub mod Values
+pub mod WrittenFile

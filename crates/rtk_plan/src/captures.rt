@@ -1,10 +1,15 @@
 //! The captures that were read, and how a refusal lists them.
 
+ghost use Rattle.std.specs.Prelude.{◌≡◌};
+ghost use Rattle.rtk_plan.specs.CaptureNames.{name_at};
+
 use crate::chosen_station::STATIONS;
 use crate::lists::{
-    put_capture_line, put_date_line, put_held, put_name_line, put_reach_line, put_station_line,
+    put_capture_line, put_date_line, put_name_line, put_reach_line, put_station_line,
+    put_to_come_line,
 };
-use crate::station_capture::{StationCapture, epochs_heard, told_in};
+use crate::message_lines::put_held;
+use crate::station_capture::{StationCapture, epochs_heard, to_come_in, told_in};
 use rtk_survey::{CaptureSurvey, Placed};
 use std::alloc::{AllocError, Global};
 
@@ -33,7 +38,9 @@ pub(crate) fn list_held(alloc: Global, surveys: &[CaptureSurvey]) -> Result<Vec<
 
 impl<'n> Captures<'_, 'n> {
     /// The name of a capture.
-    pub(crate) fn name(&self, place: usize) -> &'n str {
+    pub(crate) fn name(&self, place: usize) -> &'n str
+        ensures { result.now ≡ name_at self.now.names.now place }
+    {
         if place < self.names.len() {
             self.names[place]
         } else {
@@ -63,6 +70,17 @@ impl<'n> Captures<'_, 'n> {
         let mut lines = Vec::new(alloc);
         for station in 0..STATIONS {
             self.put_station_lines(&mut lines, station)?;
+        }
+        Ok(lines)
+    }
+
+    /// A line for each capture with a date that is to come.
+    pub(crate) fn list_to_come(&self, alloc: Global) -> Result<Vec<u8>, AllocError> {
+        let mut lines = Vec::new(alloc);
+        for (place, survey) in self.surveys.iter().enumerate() {
+            if let Some(date) = to_come_in(survey) {
+                put_to_come_line(&mut lines, date, self.name(place))?;
+            }
         }
         Ok(lines)
     }

@@ -71,7 +71,9 @@ fn joined_links(alloc: Global, ordered: &[Ordered]) -> Result<Vec<Vec<usize>>, A
 }
 
 // The last capture of each link.
-fn last_captures(alloc: Global, links: &[Vec<usize>]) -> Result<Vec<usize>, AllocError> {
+fn last_captures(alloc: Global, links: &[Vec<usize>]) -> Result<Vec<usize>, AllocError>
+    ensures { IfOk result (λ places. places.items ≡ spec.last_captures (spec.places_of links.now)) }
+{
     let mut places = Vec::new(alloc);
     for link in links {
         if let Some(place) = link.last() {
