@@ -7,6 +7,7 @@ pub mod Joining
 pub mod Kept
 pub mod KnownLines
 pub mod LabelCommand
+pub mod Laws
 pub mod Linking
 pub mod Lists
 pub mod Plan

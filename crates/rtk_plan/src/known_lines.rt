@@ -44,7 +44,8 @@ fn put_few_phases_of(
     ensures { OnOk result (lines.new.items ≡ lines.old.items
         ++ spec.few_phases_line phases.now.surveys.now phases.now.station phases.now.msm code) }
 {
-    put_few_phases_line(lines, phases.has_few(code), code)
+    put_few_phases_line(lines, phases.has_few(code), code)?;
+    Ok(())
 }
 
 // Appends the codes that have few phases.
@@ -189,7 +190,8 @@ fn put_not_taken(
     put_msms(lines, surveys, station, msm)?;
     put_doppler(lines, surveys, station, msm)?;
     put_sbas(lines, surveys, station)?;
-    put_unread(lines, surveys)
+    put_unread(lines, surveys)?;
+    Ok(())
 }
 
 // Appends what a person should know behind the line of late messages.

@@ -1,4 +1,5 @@
-use Rattle.std.proofs.Common.{◌≤◌, min, length, sym, ◌∙◌, arith}
+use Rattle.std.proofs.Common.{◌≡◌, ◌<◌, ◌≤◌, ℕ, Option, min, length, sym, ap, ◌∙◌, drop, get_or, arith}
+use Rattle.rtk_plan.specs.Stray.{greatest_before, greater_of, greatest_of_others}
 use Rattle.rtk_plan.proofs.WalkLemmas.{others-end}
 use Rattle.rtk_plan.proofs.stray.greatest_of_others.Goals as goal
 
