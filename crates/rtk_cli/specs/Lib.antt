@@ -1,3 +1,4 @@
+pub mod CaptureOrder
 pub mod Converting
 pub mod ConvertsBytes
 pub mod FaultLines

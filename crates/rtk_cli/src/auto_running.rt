@@ -12,6 +12,7 @@ use crate::auto_parting::put_parting_of;
 use crate::auto_reading::survey_captures;
 use crate::auto_refusing::{fail_differing, fail_output, keep_named, quoted, say_written};
 use crate::auto_rereading::{CaptureRead, captures_at, files_of_links, name_at, put_grown};
+use crate::capture_order::in_order_of_names;
 use crate::converting::{Converted, conversion_status};
 use crate::watching::Watched;
 use crate::words::AutoWords;
@@ -440,20 +441,6 @@ fn begin_planned<'a, R: Files + Input + Eprint + AllocGlobal, W: Write>(
     };
     tell(report, lines.as_slice());
     Ok(work)
-}
-
-// The captures by the bytes of their names, so that the order in which they are given makes no difference; or as
-// they are given.
-fn in_order_of_names<'a>(
-    alloc: Global,
-    names: &[&'a str],
-    as_given: bool,
-) -> Result<Vec<&'a str>, AllocError> {
-    let mut ordered = Vec::from_slice(alloc, names)?;
-    if !as_given {
-        ordered.sort()?;
-    }
-    Ok(ordered)
 }
 
 // Looks at the files, surveys the captures, plans their conversion, and says it. The surveys are let go

@@ -27,6 +27,7 @@ mod auto_refusing;
 mod auto_rereading;
 mod auto_running;
 mod auto_words;
+mod capture_order;
 mod chart_words;
 mod clap_words;
 mod code_list;
@@ -49,6 +50,7 @@ mod words;
 
 pub use auto_converting::convert_joined;
 pub use auto_reading::survey_through;
+pub use capture_order::order_makes_no_difference;
 pub use converting::{Converted, conversion_status, convert_through};
 pub use jobs::job;
 pub use rtk_commands::{CHECK_LIMIT, SHOW_LIMIT, check_file, show, show_line};
