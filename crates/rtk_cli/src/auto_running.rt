@@ -4,6 +4,7 @@
 ghost use Rattle.std.specs.Prelude.{◌≡◌, ◌≤◌, Ok, None, true, false, IfOk, IfErr, IsOk, IsTrue};
 ghost use Rattle.rtk_convert.specs.Failure.{IsRunFault};
 ghost use Rattle.rtk_streams.specs.declared.exit_status.TheConstants.{FAILED, NOT_VALID};
+ghost use Rattle.rtk_cli.specs.Said.{IsSaid};
 
 use crate::auto_converting::convert_joined;
 use crate::auto_labelling::label_beside;
@@ -12,6 +13,7 @@ use crate::auto_parting::put_parting_of;
 use crate::auto_reading::survey_captures;
 use crate::auto_refusing::{fail_differing, fail_output, keep_named, quoted, say_written};
 use crate::auto_rereading::{CaptureRead, captures_at, files_of_links, name_at, put_grown};
+use crate::auto_saying::{names_of_links, put_same_by_hand};
 use crate::capture_order::in_order_of_names;
 use crate::converting::{Converted, conversion_status};
 use crate::watching::Watched;
@@ -20,7 +22,7 @@ use rtk_convert::{Counts, Setup, Station};
 use rtk_label::Label;
 use rtk_plan::{
     Captures, Known, Plan, PlanFault, Refusal, Reported, Ways, WrittenFile,
-    equipment_in_captures, label_wanted, plan_of, put_command, put_counts, put_file, put_known,
+    equipment_in_captures, label_wanted, plan_of, put_counts, put_file, put_known,
     put_label_command, what_is_known,
 };
 use rtk_rinex::CreationTime;
@@ -64,23 +66,6 @@ fn fail_plan<R: Files + Input + Eprint + AllocGlobal, W: Write>(
     let _told = eprintln!(rt; "rtcm2rinex: {refusal}");
     tell(report, list.as_slice());
     NOT_VALID
-}
-
-// The names of the captures of each link.
-fn names_of_links<'a>(
-    alloc: Global,
-    links: &[Vec<usize>],
-    names: &[&'a str],
-) -> Result<Vec<Vec<&'a str>>, AllocError> {
-    let mut all = Vec::new(alloc);
-    for link in links {
-        let mut captures = Vec::new(alloc);
-        for place in link {
-            captures.push(names.get(*place).copied().unwrap_or(""))?;
-        }
-        all.push(captures)?;
-    }
-    Ok(all)
 }
 
 // The captures of each link, as they were read.
@@ -393,11 +378,12 @@ fn work_of<'a>(
     plan: Plan,
     ways: &Ways<'_>,
     lines: &mut Vec<u8>,
-) -> Result<Work<'a>, AllocError> {
-    let named = names_of_links(alloc, plan.links.as_slice(), captures.names)?;
+) -> Result<Work<'a>, AllocError>
+    ensures { IfOk result (λ work. IsSaid lines.old.items lines.new.items work.setup work.links.items) }
+{
     let links = captures_of_links(alloc, plan.links.as_slice(), captures.names, digests)?;
-    lines.extend_from_slice(b" the same by hand:\n")?;
-    put_command(lines, &plan.setup, named.as_slice())?;
+    let named = names_of_links(alloc, links.as_slice())?;
+    put_same_by_hand(lines, &plan.setup, named.as_slice())?;
     let (station, near) = (plan.setup.station(), plan.setup.near());
     let told = equipment_in_captures(alloc, captures.surveys, station, near)?;
     put_label_command(alloc, lines, &told, ways.output)?;

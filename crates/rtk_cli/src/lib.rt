@@ -26,6 +26,7 @@ mod auto_reading;
 mod auto_refusing;
 mod auto_rereading;
 mod auto_running;
+mod auto_saying;
 mod auto_words;
 mod capture_order;
 mod chart_words;
