@@ -15,6 +15,7 @@ pub mod Positions
 pub mod Reach
 pub mod Reported
 pub mod SaidCommand
+pub mod Sources
 pub mod SpanLine
 pub mod StationCaptures
 pub mod Steps

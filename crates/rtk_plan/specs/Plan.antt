@@ -10,10 +10,12 @@ use Rattle.rtk_survey.specs.declared.placing.Placed.{Placed}
 use Rattle.rtk_survey.specs.declared.survey.CaptureSurvey.{CaptureSurvey}
 use Rattle.rtk_plan.specs.ChosenStation.{IsObservedStation, IsOnlyObserved}
 use Rattle.rtk_plan.specs.Reach.{least_told, placed_if_any, reach_after, is_out_of_reach, second_of}
+use Rattle.rtk_plan.specs.declared.span_line.DatedSpan.{DatedSpan}
 use Rattle.rtk_plan.specs.declared.station_capture.StationCapture.{StationCapture}
 use Rattle.rtk_plan.specs.declared.reach.Base.{Base}
 use Rattle.rtk_plan.specs.declared.reach.Base.TheVariants.{Given, Told}
 use Rattle.rtk_plan.specs.StationCaptures.{capture_of}
+use Rattle.rtk_plan.specs.Sources.{span_of}
 use Rattle.rtk_plan.specs.Stray.{strays}
 use Rattle.rtk_plan.specs.Values.{most_epochs, codes_in_captures}
 use Rattle.rtk_plan.specs.declared.wanted.Wanted.{Wanted}
@@ -72,6 +74,11 @@ IsNearOf given cs near =
 abbrev pub AreStrays : Option ℕ → List StationCapture → List ℕ → Type 0
 AreStrays given cs places =
     (base : Base) × IsBaseOf given cs base × ((reach : Placed) × IsReachOf base cs reach × (places ≡ strays cs (map (placed_if_any base) cs) reach.until))
+
+-- the first and the last epoch of the station, and by what the captures are dated
+abbrev pub IsSpanOf : Option ℕ → List StationCapture → ℕ → DatedSpan → Type 0
+IsSpanOf given cs station span =
+    (base : Base) × IsBaseOf given cs base × ((reach : Placed) × IsReachOf base cs reach × (span ≡ span_of cs base station reach))
 
 -- what captures tell of a station, one after another
 abbrev pub captures_of : List CaptureSurvey → ℕ → List StationCapture

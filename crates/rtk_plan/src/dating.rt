@@ -3,8 +3,9 @@
 ghost use Rattle.std.specs.Prelude.{◌≡◌, ◌<◌, true, false, None, map, IfOk, IfErr, IfSome};
 ghost use Rattle.std.specs.List.{list_any};
 ghost use Rattle.rtk_plan.specs.Causes.{IfRefused, IsReachCause, IsDatingCause, IsPartedAt, has_several_dates, has_week, is_dated_by_week, is_dated_by_day, is_told_later, have_week_and_day};
-ghost use Rattle.rtk_plan.specs.Plan.{IsBaseOf, IsReachOf, IsNearOf, ArePlaced, AreStrays, some_out_of_reach};
+ghost use Rattle.rtk_plan.specs.Plan.{IsBaseOf, IsReachOf, IsNearOf, ArePlaced, AreStrays, IsSpanOf, some_out_of_reach};
 ghost use Rattle.rtk_plan.specs.Reach.{placed_if_any, second_of};
+ghost use Rattle.rtk_plan.specs.Sources as sources;
 ghost use Rattle.rtk_plan.specs.Stray.{strays};
 ghost use Rattle.rtk_obs.specs.declared.time.TheConstants.{LAST_MS};
 ghost use Rattle.rtk_survey.specs.declared.placing.Placed.{Placed};
@@ -150,7 +151,9 @@ fn base(
 }
 
 // By what a message dates this station.
-fn source_of_message(message: DateMessage, station: u16) -> DateSource {
+fn source_of_message(message: DateMessage, station: u16) -> DateSource
+    ensures { result ≡ sources.source_of_message message station }
+{
     match message {
         DateMessage::Utc(date) if date.station == station => DateSource::Station(date.number),
         DateMessage::Utc(date) => DateSource::OtherStation(date.number, date.station),
@@ -159,45 +162,70 @@ fn source_of_message(message: DateMessage, station: u16) -> DateSource {
 }
 
 // The message that told this moment, if one did.
-fn message_at(moment: GpsMs, told: Option<Told>) -> Option<DateMessage> {
+fn message_at(moment: GpsMs, told: Option<Told>) -> Option<DateMessage>
+    ensures { result ≡ sources.message_at moment told }
+{
     match told {
         Some(told) if told.first == moment.ms() => Some(told.message),
         _ => None,
     }
 }
 
-// The message that told the least first epoch.
-fn message_of_first(captures: &[StationCapture], least: GpsMs) -> Option<DateMessage> {
-    for capture in captures {
-        if let Some(message) = message_at(least, capture.told) {
-            return Some(message);
-        }
-    }
-    None
-}
-
-// The message that names the least moment.
-fn message_of_moment(captures: &[StationCapture], least: GpsMs) -> Option<DateMessage> {
-    for capture in captures {
-        if let Some(message) = message_at(least, capture.moment) {
-            return Some(message);
-        }
-    }
-    None
-}
-
-// By what the captures are dated: the message that told the least first epoch, or else the least moment.
-fn source_of(captures: &[StationCapture], base: Base, station: u16) -> DateSource {
-    let Base::Told(least) = base else {
-        return DateSource::Words;
-    };
-    let message = match message_of_first(captures, least) {
+fn or_message(found: Option<DateMessage>, other: Option<DateMessage>) -> Option<DateMessage>
+    ensures { result ≡ sources.or_message found other }
+{
+    match found {
         Some(message) => Some(message),
-        None => message_of_moment(captures, least),
-    };
+        None => other,
+    }
+}
+
+// The message that told the least first epoch.
+fn first_message(captures: &[StationCapture], least: GpsMs) -> Option<DateMessage>
+    ensures { result ≡ sources.first_message None least captures.now }
+{
+    let mut found = None;
+    for capture in captures {
+        found = or_message(found, message_at(least, capture.told));
+    }
+    found
+}
+
+// The same, or else the message that names the least moment.
+fn first_of_moments(
+    captures: &[StationCapture],
+    least: GpsMs,
+    first: Option<DateMessage>,
+) -> Option<DateMessage>
+    ensures { result ≡ sources.first_of_moments first least captures.now }
+{
+    let mut found = first;
+    for capture in captures {
+        found = or_message(found, message_at(least, capture.moment));
+    }
+    found
+}
+
+fn source_if_any(message: Option<DateMessage>, station: u16) -> DateSource
+    ensures { result ≡ sources.source_if_any message station }
+{
     match message {
         Some(message) => source_of_message(message, station),
         None => DateSource::Words,
+    }
+}
+
+// By what the captures are dated: the message that told the least first epoch, or else the one that names the
+// least moment.
+fn source_of(captures: &[StationCapture], base: Base, station: u16) -> DateSource
+    ensures { result ≡ sources.source_of captures.now base station }
+{
+    match base {
+        Base::Given(_) => DateSource::Words,
+        Base::Told(least) => {
+            let first = first_message(captures, least);
+            source_if_any(first_of_moments(captures, least, first), station)
+        }
     }
 }
 
@@ -237,6 +265,8 @@ fn dating_by(
     ensures in_reach { IfOk result (λ d. some_out_of_reach d.near captured.now.captures.now d.placed.items ≡ false) }
     ensures strays { IfOk result (λ d. (reach : Placed) × IsReachOf base captured.now.captures.now reach
         × (d.strays.items ≡ strays captured.now.captures.now (map (placed_if_any base) captured.now.captures.now) reach.until)) }
+    ensures span { IfOk result (λ d. (reach : Placed) × IsReachOf base captured.now.captures.now reach
+        × (d.span ≡ sources.span_of captured.now.captures.now base captured.now.station reach)) }
     ensures refused { IfErr result (IfRefused (IsReachCause base captured.now.captures.now)) }
 {
     let captures = captured.captures;
@@ -273,6 +303,7 @@ pub(crate) fn date_captures(
     ensures placed { IfOk result (λ d. ArePlaced near captured.now.captures.now d.placed.items) }
     ensures in_reach { IfOk result (λ d. some_out_of_reach d.near captured.now.captures.now d.placed.items ≡ false) }
     ensures strays { IfOk result (λ d. AreStrays near captured.now.captures.now d.strays.items) }
+    ensures span { IfOk result (λ d. IsSpanOf near captured.now.captures.now captured.now.station d.span) }
     ensures refused { IfErr result (IfRefused (IsDatingCause near captured.now.captures.now)) }
 {
     let captures = captured.captures;

@@ -9,7 +9,7 @@ ghost use Rattle.rtk_plan.specs.Causes.{IfRefused, IsStationCause, IsEmptyCause,
 ghost use Rattle.rtk_plan.specs.Kept.{empty_captures};
 ghost use Rattle.rtk_plan.specs.Linking.{places_of, AreLinksOf};
 ghost use Rattle.rtk_plan.specs.Positions.{some_are_far};
-ghost use Rattle.rtk_plan.specs.Plan.{IsChosenStation, msm_chosen, codes_chosen, marker_chosen, captures_of, IsNearOf, ArePlaced, AreStrays, IsInReach, IsSetupFor};
+ghost use Rattle.rtk_plan.specs.Plan.{IsChosenStation, msm_chosen, codes_chosen, marker_chosen, captures_of, IsNearOf, ArePlaced, AreStrays, IsSpanOf, IsInReach, IsSetupFor};
 ghost use Rattle.rtk_plan.specs.Values.{codes_in_captures};
 
 use crate::captures::{Captures, StationCaptures, list_held};
@@ -284,6 +284,7 @@ fn plan_of_station(
     ensures skipped { IfOk result (λ plan. plan.skipped.items ≡ empty_captures captured.now.captures.now) }
     ensures none_skipped { IfOk result (λ plan. skip_empty ≡ false → plan.skipped.items ≡ []) }
     ensures strays { IfOk result (λ plan. AreStrays wanted.now.near captured.now.captures.now plan.strays.items) }
+    ensures span { IfOk result (λ plan. IsSpanOf wanted.now.near captured.now.captures.now captured.now.station plan.span) }
     ensures refused { IfErr result (IfRefused (IsCaptureCause captured.now.all.surveys.now wanted.now skip_empty as_given
         captured.now.station captured.now.captures.now)) }
 {
@@ -337,6 +338,7 @@ pub fn plan_of(
     ensures skipped { IfOk result (λ plan. plan.skipped.items ≡ empty_captures plan.captures.items) }
     ensures none_skipped { IfOk result (λ plan. skip_empty ≡ false → plan.skipped.items ≡ []) }
     ensures strays { IfOk result (λ plan. AreStrays wanted.now.near plan.captures.items plan.strays.items) }
+    ensures span { IfOk result (λ plan. IsSpanOf wanted.now.near plan.captures.items plan.setup.station plan.span) }
 
     // A refusal comes only with its cause.
     ensures refused { IfErr result (IfRefused (IsCauseOf captures.now.surveys.now wanted.now skip_empty as_given)) }
