@@ -13,6 +13,7 @@ pub mod Lists
 pub mod Plan
 pub mod Positions
 pub mod Reach
+pub mod RefusalLists
 pub mod Reported
 pub mod SaidCommand
 pub mod Sources
