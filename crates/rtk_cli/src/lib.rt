@@ -40,6 +40,7 @@ mod help_texts;
 mod jobs;
 mod label_command;
 mod label_words;
+mod laws;
 mod limits;
 mod moment_text;
 mod option_texts;
@@ -51,9 +52,9 @@ mod words;
 
 pub use auto_converting::convert_joined;
 pub use auto_reading::survey_through;
-pub use capture_order::order_makes_no_difference;
 pub use converting::{Converted, conversion_status, convert_through};
 pub use jobs::job;
+pub use laws::order_makes_no_difference;
 pub use rtk_commands::{CHECK_LIMIT, SHOW_LIMIT, check_file, show, show_line};
 pub use rtk_streams::ToolFault;
 pub use running::run_program;

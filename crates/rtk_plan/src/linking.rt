@@ -81,10 +81,10 @@ fn last_of(link: &[usize]) -> Option<usize>
 fn put_place(places: &mut Vec<usize>, place: Option<usize>) -> Result<(), AllocError>
     ensures { OnOk result (places.new.items ≡ places.old.items ++ spec.place_if_any place) }
 {
-    match place {
-        Some(place) => places.push(place),
-        None => Ok(()),
+    if let Some(place) = place {
+        places.push(place)?;
     }
+    Ok(())
 }
 
 // The last capture of each link.
