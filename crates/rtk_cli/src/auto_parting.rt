@@ -26,6 +26,15 @@ fn place_by<R: Read + Drop, K: Before>(
     place_of_frame(alloc, &mut source, before, MOST_READS)
 }
 
+// The same, of a reader of which nothing need be known.
+fn place_through<R: Read + Drop>(
+    alloc: Global,
+    reader: R,
+    before: u64,
+) -> Result<Option<u64>, SurveyFault> {
+    place_by::<R, Brand>(alloc, reader, before)
+}
+
 // The byte at which the frame of a capture begins that comes after so many others.
 fn byte_of_frame<R: Files + Input + Eprint + AllocGlobal>(
     rt: &R,
@@ -37,7 +46,7 @@ fn byte_of_frame<R: Files + Input + Eprint + AllocGlobal>(
     let Some(capture) = open_input(rt, name) else {
         return Err(fail_to_open(rt, name));
     };
-    match place_by::<_, Brand>(rt.alloc(), capture, before) {
+    match place_through(rt.alloc(), capture, before) {
         Ok(Some(byte)) => Ok(byte),
         Ok(None) => Err(fail_differing(rt, name)),
         Err(fault) => Err(summary_status(rt, Err(fault))),
