@@ -1,0 +1,4 @@
+pub mod FindingLemmas
+pub mod RowLemmas
+pub mod RowsLemmas
+pub mod RecordLemmas

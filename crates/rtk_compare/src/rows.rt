@@ -1,0 +1,161 @@
+//! The rows of two records side by side.
+
+ghost use Rattle.std.specs.Prelude.{◌≡◌, ◌≤◌, ℕ, List, length, IfSome, IfNone};
+ghost use Rattle.rtk_rinex.specs.declared.epoch_table.SatelliteRow.{SatelliteRow};
+ghost use Rattle.rtk_tracking.specs.Epochs.{shown_at};
+ghost use Rattle.rtk_compare.specs.declared.shared_codes.SharedCode.{SharedCode};
+ghost use Rattle.rtk_compare.specs.Pairs.{Pair, by_satellite, side_by_side};
+ghost use Rattle.rtk_compare.specs.Differences.{Adds};
+ghost use Rattle.rtk_compare.specs.Steps.Tracks.{AreTracks, AreTracksAt, AreTracksOf};
+ghost use Rattle.rtk_compare.specs.Steps.SharedCodes.{HasShared};
+ghost use Rattle.rtk_compare.specs.Steps.Readers.{AreRowsOf};
+ghost use Rattle.rtk_compare.specs.Steps.Sides.{IsNextSide};
+ghost use Rattle.rtk_compare.specs.Steps.Rows.{row_view, place_at, gone_line, lines_told, NotesRow, next_view, observed_of, next_rows, Rise, ComparesRows};
+
+use crate::cells::compare_cell;
+use crate::difference::{Class, Place, What};
+use crate::findings::Findings;
+use crate::row_reader::RowReader;
+use crate::shared_codes::{SharedCode, SharedCodes};
+use crate::side::{Side, next_side};
+use crate::track::Track;
+use rtk_obs::{GpsMs, SatelliteIndex};
+use rtk_rinex::{MixedRows, Observed};
+
+// What two files show of a satellite at one epoch; no values if a file has no row of it.
+#[derive(Drop)]
+struct RowPair<'r> {
+    satellite: SatelliteIndex,
+    old: &'r [Observed],
+    new: &'r [Observed],
+}
+
+// Returns what a satellite shows of the code at this place.
+fn shown_at(observed: &[Observed], place: usize) -> Observed
+    ensures { result ≡ shown_at place observed.now }
+{
+    observed.get(place).copied().unwrap_or_default()
+}
+
+impl<'r> RowPair<'r> {
+    // Returns the place of the differences of a code, unless a greater difference is told in their place.
+    fn place_of(&self, code: &SharedCode, time: &Option<GpsMs>) -> Option<Place>
+        ensures { result ≡ place_at time.now (row_view self.now) code.now }
+    {
+        let Some(time) = time else {
+            return None;
+        };
+        if self.old.len() == 0 || self.new.len() == 0 {
+            return None;
+        }
+        Some(Place::of_signal(*time, self.satellite, code.code))
+    }
+
+    // Adds the satellite, if it is gone.
+    fn put_gone(&self, time: &Option<GpsMs>, findings: &mut Findings)
+        ensures { Adds findings.old findings.new (gone_line time.now (row_view self.now)) }
+    {
+        if let Some(time) = time {
+            let is_gone = self.old.len() != 0 && self.new.len() == 0;
+            let place = Place::of_satellite(*time, self.satellite);
+            findings.push_if(is_gone, Class::Lost, What::Satellite, &place);
+        }
+    }
+}
+
+// Compares a satellite. Its differences are added if there is a time, that of its epoch.
+fn compare_row(
+    codes: &[SharedCode],
+    tracks: &mut [Track],
+    row: &RowPair<'_>,
+    time: &Option<GpsMs>,
+    findings: &mut Findings,
+)
+    requires codes { length codes.now ≤ 16 }
+    requires tracks { AreTracks tracks.old }
+    ensures size { AreTracks tracks.new }
+    ensures lines { (shared : ℕ → List SharedCode) (earlier : List (List (Pair SatelliteRow))) → codes.now ≡ shared row.now.satellite
+        → AreTracksAt tracks.old shared earlier row.now.satellite → Adds findings.old findings.new (lines_told time.now shared earlier (row_view row.now)) }
+    ensures tracks { NotesRow tracks.old tracks.new codes.now (row_view row.now) }
+{
+    row.put_gone(time, findings);
+    let first = 16 * usize::from(row.satellite.index());
+    for k in 0..codes.len() {
+        let code = codes[k];
+        let old = shown_at(row.old, code.old);
+        let new = shown_at(row.new, code.new);
+        let place = row.place_of(&code, time);
+        compare_cell(&mut tracks[first + k], &old, &new, &place, findings);
+    }
+}
+
+// Returns the satellite that comes next.
+fn next_satellite(side: Side, old: &RowReader<'_>, new: &RowReader<'_>) -> Option<SatelliteIndex>
+    ensures { result ≡ next_view side old.now.satellite new.now.satellite }
+{
+    match side {
+        Side::New => new.satellite(),
+        _ => old.satellite(),
+    }
+}
+
+// Returns what a reader shows of this satellite, if it has a row of it.
+fn observed_if<'r>(has_row: bool, reader: &'r RowReader<'_>) -> &'r [Observed]
+    ensures { result.now ≡ observed_of has_row reader.now }
+{
+    if has_row { reader.observed() } else { &[] }
+}
+
+// Compares the rows that come next, and answers which files have one.
+fn compare_next(
+    shared: &SharedCodes,
+    tracks: &mut [Track],
+    old: &RowReader<'_>,
+    new: &RowReader<'_>,
+    time: &Option<GpsMs>,
+    findings: &mut Findings,
+) -> Option<Side>
+    requires tracks { AreTracks tracks.old }
+    ensures size { AreTracks tracks.new }
+    ensures side { IsNextSide old.now.satellite new.now.satellite result }
+    ensures lines { (codes : ℕ → List SharedCode) (earlier : List (List (Pair SatelliteRow))) → HasShared shared.now codes
+        → IfSome result (λ side. AreTracksAt tracks.old codes earlier (next_rows side old.now new.now).old.satellite
+        → Adds findings.old findings.new (lines_told time.now codes earlier (next_rows side old.now new.now))) }
+    ensures tracks { (codes : ℕ → List SharedCode) → HasShared shared.now codes
+        → IfSome result (λ side. NotesRow tracks.old tracks.new (codes (next_rows side old.now new.now).old.satellite) (next_rows side old.now new.now)) }
+    ensures end { IfNone result ((findings.new ≡ findings.old) × (tracks.new ≡ tracks.old)) }
+{
+    let side = next_side(old.number(), new.number())?;
+    let satellite = next_satellite(side, old, new)?;
+    let row = RowPair {
+        satellite,
+        old: observed_if(side.has_old(), old),
+        new: observed_if(side.has_new(), new),
+    };
+    let codes = shared.of_satellite(satellite);
+    compare_row(codes, tracks, &row, time, findings);
+    Some(side)
+}
+
+/// Compares the rows of two records. Their differences are added if there is a time.
+pub(crate) fn compare_rows(
+    shared: &SharedCodes,
+    tracks: &mut [Track],
+    old: Option<MixedRows<'_>>,
+    new: Option<MixedRows<'_>>,
+    time: &Option<GpsMs>,
+    findings: &mut Findings,
+)
+    requires tracks { AreTracks tracks.old }
+    ensures size { AreTracks tracks.new }
+    ensures compared { (codes : ℕ → List SharedCode) (earlier : List (List (Pair SatelliteRow))) (olds news : List SatelliteRow)
+        → HasShared shared.now codes → AreTracksOf tracks.old codes earlier → AreRowsOf old.entry olds → AreRowsOf new.entry news → Rise olds → Rise news
+        → ComparesRows time.now codes earlier (side_by_side by_satellite olds news) findings.old findings.new tracks.new }
+{
+    let mut old = RowReader::of(old);
+    let mut new = RowReader::of(new);
+    while let Some(side) = compare_next(shared, tracks, &old, &new, time, findings) {
+        old.advance_if(side.has_old());
+        new.advance_if(side.has_new());
+    }
+}
