@@ -82,8 +82,8 @@ adds-explained f found d is keeps = record { adds = λ ds has. record {
 
 -- ---- more and more differences
 
-pub adds-none : (f : Findings) → Adds f f []
-adds-none f = record { adds = λ ds has. subst (λ (xs : List Difference). HasFindings f xs) (sym (append-nil ds)) has }
+pub adds_none : (f : Findings) → Adds f f []
+adds_none f = record { adds = λ ds has. subst (λ (xs : List Difference). HasFindings f xs) (sym (append-nil ds)) has }
 
 pub adds-more : {a b c : Findings} {x y : List Difference} → Adds a b x → Adds b c y → Adds a c (x ++ y)
 adds-more {a} {b} {c} {x} {y} first second =
@@ -97,7 +97,7 @@ pub told : {a b : Findings} (c : Class) (w : What) (p : Place) {s t : Bool} → 
 told {a} {b} c w p same adds = subst (λ (x : Bool). Adds a b (told_if x c w p)) same adds
 
 pub not-told : (f : Findings) (s : Bool) (c : Class) (w : What) (p : Place) → s ≡ false → Adds f f (told_if s c w p)
-not-told f s c w p is = subst (λ (x : Bool). Adds f f (told_if x c w p)) (sym is) (adds-none f)
+not-told f s c w p is = subst (λ (x : Bool). Adds f f (told_if x c w p)) (sym is) (adds_none f)
 
 pub is-told : {a b : Findings} (s : Bool) (c : Class) (w : What) (p : Place) → s ≡ true → Adds a b (told_if true c w p) → Adds a b (told_if s c w p)
 is-told {a} {b} s c w p is adds = subst (λ (x : Bool). Adds a b (told_if x c w p)) (sym is) adds
@@ -108,6 +108,12 @@ pub adds-each : {A : Type 0} (f : A → List Difference) (xs : List A) (k : ℕ)
     → Adds a c (flat_map f (take (k + 1) xs))
 adds-each f xs k x first second more =
     adds-as (flat_map_more f [] (take k xs) x ∙ ap (flat_map f) (sym more)) (adds-more first second)
+
+-- the same behind other differences
+pub adds-after : {A : Type 0} (f : A → List Difference) (front : List Difference) (xs : List A) (k : ℕ) (x : A) {a b c : Findings} → Adds a b (front ++ flat_map f (take k xs)) → Adds b c (f x)
+    → take (k + 1) xs ≡ take k xs ++ x ∷ [] → Adds a c (front ++ flat_map f (take (k + 1) xs))
+adds-after f front xs k x first second more =
+    adds-as (flat_map_more f front (take k xs) x ∙ ap (λ (ys : List _). front ++ flat_map f ys) (sym more)) (adds-more first second)
 
 -- a difference at a place that is this one
 pub told-at : {a b : Findings} (c : Class) (w : What) (s : Bool) {p q : Place} → p ≡ q → Adds a b (told_if s c w p) → Adds a b (told_if s c w q)

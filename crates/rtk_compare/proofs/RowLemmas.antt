@@ -1,19 +1,29 @@
 -- Rows side by side, and what is remembered of satellites and codes.
-use Rattle.std.proofs.Common.{◌≡◌, ◌≢◌, ◌<◌, ◌≤◌, ◌+◌, ◌*◌, ℕ, zero, suc, Bool, true, false, cond, eqb, ltb, Option, Some, None, List, [], ◌∷◌, ◌++◌, map, length, get_or, ℤ, pos, negsuc, inl, inr, refl, sym, ap, subst, ◌∙◌, arith, append_assoc, append-nil}
-use Rattle.std.specs.Prelude.{AllPairs, All, IfSome, ◌⊎◌}
+use Rattle.std.proofs.Common.{◌≡◌, ◌≢◌, ◌<◌, ◌≤◌, ◌+◌, ◌*◌, ℕ, zero, suc, Bool, true, false, not, ◌&&◌, ◌||◌, cond, eqb, ltb, Option, Some, None, List, [], ◌∷◌, ◌++◌, map, length, get_or, set, ℤ, pos, negsuc, inl, inr, refl, sym, ap, subst, ◌∙◌, arith, append_assoc, append-nil}
+use Rattle.std.specs.Prelude.{AllPairs, All, IfSome, ◌⊎◌, flat_map}
 use Rattle.std.proofs.lemmas.Bool.{cases_Bool, lt-ltb, le-ltb, ltb-true, ltb-false, eqb-true, eqb-false, eq-eqb, ne_eqb}
-use Rattle.std.proofs.lemmas.List.{get_or_past}
+use Rattle.std.proofs.lemmas.List.{get_or_default, get_or-set_same, get_or-set_other}
 use Rattle.rtk_obs.specs.SatelliteIndex.{IsSatelliteIndex}
 use Rattle.rtk_rinex.specs.Record.{no_observation}
 use Rattle.rtk_rinex.specs.declared.epoch_table.Observed.{Observed}
 use Rattle.rtk_rinex.specs.declared.epoch_table.SatelliteRow.{SatelliteRow}
+use Rattle.rtk_tracking.specs.Epochs.{shown_at}
+use Rattle.rtk_compare.specs.declared.difference.Class.TheVariants.{Lost}
+use Rattle.rtk_compare.specs.declared.difference.What.TheVariants as what
+use Rattle.rtk_compare.specs.declared.difference.Place.{Place}
+use Rattle.rtk_compare.specs.declared.difference.Difference.{Difference}
+use Rattle.rtk_compare.specs.declared.findings.Findings.{Findings}
 use Rattle.rtk_compare.specs.declared.shared_codes.SharedCode.{SharedCode}
 use Rattle.rtk_compare.specs.declared.track.Track.{Track}
+use Rattle.rtk_compare.specs.Places.{at_satellite, at_signal}
 use Rattle.rtk_compare.specs.Pairs.{Pair, Order, old_alone, new_alone, beside, side_by_side, by_satellite}
 use Rattle.rtk_compare.specs.Phases.{rolls_kept, rolls_held}
+use Rattle.rtk_compare.specs.Cells.{told_if, cell_lines}
 use Rattle.rtk_compare.specs.Records.{cells_of, rows_of, cells_before}
-use Rattle.rtk_compare.specs.Steps.Tracks.{pair, IsTrackOf, no_track, track_at, AreTracksAt, AreTracksOf}
-use Rattle.rtk_compare.specs.Steps.Rows.{NotesRow}
+use Rattle.rtk_compare.specs.Differences.{Adds}
+use Rattle.rtk_compare.specs.Steps.Tracks.{pair, IsTrackOf, no_track, track_at, AreTracksAt, AreTracksOf, lines_if_told}
+use Rattle.rtk_compare.specs.Steps.Rows.{NotesRow, place_at, gone_line, lines_told}
+use Rattle.rtk_compare.proofs.FindingLemmas.{adds-as}
 
 -- ---- two lists in one order
 
@@ -53,7 +63,7 @@ module _ {A : Type 0} (order : Order A) where
 -- rows that rise, all above a satellite
 abbrev pub RiseAbove : ℕ → List SatelliteRow → Type 0
 RiseAbove n [] = Unit {0}
-RiseAbove n (r ∷ rows) = (n < r.satellite) × RiseAbove r.satellite rows
+RiseAbove n (r ∷ rows) = (n < r.satellite) × IsSatelliteIndex r.satellite × RiseAbove r.satellite rows
 
 -- pairs of rows of satellites up to this one
 abbrev pub AreUpTo : ℕ → List (Pair SatelliteRow) → Type 0
@@ -148,3 +158,70 @@ tracks-next old new codes earlier done p n few lt up_to are notes = λ s good k 
           subst (λ (q : Pair SatelliteRow). IsTrackOf (track_at new s k) (cells_of c q ∷ es)) (sym (rows_of-other s done p other))
           (subst (λ (t : Track). IsTrackOf t (cells_of c (rows_of s done) ∷ es)) (sym (notes.others (16 * s + k) place)) (are s good k code within))
     ]
+
+-- ---- the cells of a row, one more
+
+-- what is remembered of the cell at a place, before it is compared
+pub own-track : (start tracks : List Track) (s k : ℕ) (d : Track) (es : List (Pair Observed)) → 16 * s + k < length tracks
+    → ((n : ℕ) → (n < 16 * s) ⊎ (16 * s + k ≤ n) → get_or tracks n no_track ≡ get_or start n no_track) → IsTrackOf (track_at start s k) es → IsTrackOf (get_or tracks (16 * s + k) d) es
+own-track start tracks s k d es within others is =
+    subst (λ (t : Track). IsTrackOf t es) (sym (get_or_default tracks (16 * s + k) d no_track within ∙ others (16 * s + k) (inr (omega arith)))) is
+
+pub own-more : (start tracks : List Track) (codes : List SharedCode) (p : Pair SatelliteRow) (s k : ℕ) (now : Track) → 16 * s + k < length tracks
+    → ((j : ℕ) (code : SharedCode) (es : List (Pair Observed)) → j < k → IsTrackOf (track_at start s j) es → IsTrackOf (track_at tracks s j) (cells_of (get_or codes j code) p ∷ es))
+    → ((code : SharedCode) (es : List (Pair Observed)) → IsTrackOf (track_at start s k) es → IsTrackOf now (cells_of (get_or codes k code) p ∷ es))
+    → (j : ℕ) (code : SharedCode) (es : List (Pair Observed)) → j < k + 1 → IsTrackOf (track_at start s j) es → IsTrackOf (track_at (set tracks (16 * s + k) now) s j) (cells_of (get_or codes j code) p ∷ es)
+own-more start tracks codes p s k now within old here j code es lt is =
+    elim (cases_Bool (ltb j k)) [
+      | inl less ↦
+          let low : j < k = ltb-true _ _ less in
+          let unlike : 16 * s + j ≢ 16 * s + k = (λ same. omega (arith, same, low)) in
+          subst (λ (t : Track). IsTrackOf t (cells_of (get_or codes j code) p ∷ es)) (sym (get_or-set_other tracks (16 * s + k) (16 * s + j) now no_track unlike)) (old j code es low is)
+      | inr more ↦
+          let same : k ≡ j = (let high = ltb-false _ _ more in omega (arith, high, lt)) in
+          subst (λ (n : ℕ). IsTrackOf (track_at start s n) es → IsTrackOf (track_at (set tracks (16 * s + k) now) s n) (cells_of (get_or codes n code) p ∷ es)) same
+          (λ was. subst (λ (t : Track). IsTrackOf t (cells_of (get_or codes k code) p ∷ es)) (sym (get_or-set_same tracks (16 * s + k) now no_track within)) (here code es was))
+          is
+    ]
+
+pub others-more : (start tracks : List Track) (s k : ℕ) (now : Track) → ((n : ℕ) → (n < 16 * s) ⊎ (16 * s + k ≤ n) → get_or tracks n no_track ≡ get_or start n no_track)
+    → (n : ℕ) → (n < 16 * s) ⊎ (16 * s + (k + 1) ≤ n) → get_or (set tracks (16 * s + k) now) n no_track ≡ get_or start n no_track
+others-more start tracks s k now old n (inl low) =
+    let unlike : n ≢ 16 * s + k = (λ same. omega (arith, same, low)) in
+    get_or-set_other tracks (16 * s + k) n now no_track unlike ∙ old n (inl low)
+others-more start tracks s k now old n (inr high) =
+    let unlike : n ≢ 16 * s + k = (λ same. omega (arith, same, high)) in
+    get_or-set_other tracks (16 * s + k) n now no_track unlike ∙ old n (inr (omega (arith, high)))
+
+-- what is told of a cell
+pub cell-told : {a b : Findings} (time : Option ℕ) (p : Pair SatelliteRow) (code : SharedCode) (place : Option Place) (old new : Observed) (es : List (Pair Observed)) → place ≡ place_at time p code
+    → old ≡ shown_at code.old p.old.observed.items → new ≡ shown_at code.new p.new.observed.items → Adds a b (lines_if_told place es (pair old new)) → Adds a b (lines_if_told (place_at time p code) es (cells_of code p))
+cell-told time p code place old new es at old_is new_is adds =
+    adds-as (ap (λ (o : Option Place). lines_if_told o es (pair old new)) at ∙ ap (λ (o : Observed). lines_if_told (place_at time p code) es (pair o new)) old_is
+    ∙ ap (λ (o : Observed). lines_if_told (place_at time p code) es (pair (shown_at code.old p.old.observed.items) o)) new_is) adds
+
+-- and remembered of it
+pub cell-noted : (now : Track) (p : Pair SatelliteRow) (code : SharedCode) (old new : Observed) (es : List (Pair Observed)) → old ≡ shown_at code.old p.old.observed.items → new ≡ shown_at code.new p.new.observed.items
+    → IsTrackOf now (pair old new ∷ es) → IsTrackOf now (cells_of code p ∷ es)
+cell-noted now p code old new es old_is new_is is =
+    subst (λ (o : Observed). IsTrackOf now (pair (shown_at code.old p.old.observed.items) o ∷ es)) new_is (subst (λ (o : Observed). IsTrackOf now (pair o new ∷ es)) old_is is)
+
+-- ---- what is told of a row
+
+pub flat_map-none : {B : Type 0} (xs : List B) → flat_map {X = B} {A = Difference} (λ x. []) xs ≡ []
+flat_map-none [] = refl
+flat_map-none (x ∷ xs) = flat_map-none xs
+
+told-by : (t : ℕ) (codes : ℕ → List SharedCode) (earlier : List (List (Pair SatelliteRow))) (p : Pair SatelliteRow) (a b : Bool)
+    → told_if (not a && b) Lost what.Satellite (at_satellite t p.old.satellite)
+    ++ flat_map (λ (k : SharedCode). lines_if_told (cond (a || b) None (Some (at_signal t p.old.satellite k.code))) (cells_before p.old.satellite k earlier) (cells_of k p)) (codes p.old.satellite)
+    ≡ cond a [] (cond b (record { class = Lost; what = what.Satellite; place = at_satellite t p.old.satellite } ∷ [])
+    (flat_map (λ (k : SharedCode). cell_lines (cells_before p.old.satellite k earlier) (cells_of k p) (at_signal t p.old.satellite k.code)) (codes p.old.satellite)))
+told-by t codes earlier p true b = flat_map-none (codes p.old.satellite)
+told-by t codes earlier p false true = ap (λ (ds : List Difference). record { class = Lost; what = what.Satellite; place = at_satellite t p.old.satellite } ∷ ds) (flat_map-none (codes p.old.satellite))
+told-by t codes earlier p false false = refl
+
+pub row-told : (time : Option ℕ) (codes : ℕ → List SharedCode) (earlier : List (List (Pair SatelliteRow))) (p : Pair SatelliteRow)
+    → gone_line time p ++ flat_map (λ (k : SharedCode). lines_if_told (place_at time p k) (cells_before p.old.satellite k earlier) (cells_of k p)) (codes p.old.satellite) ≡ lines_told time codes earlier p
+row-told None codes earlier p = flat_map-none (codes p.old.satellite)
+row-told (Some t) codes earlier p = told-by t codes earlier p (eqb (length p.old.observed.items) 0) (eqb (length p.new.observed.items) 0)

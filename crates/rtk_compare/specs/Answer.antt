@@ -148,16 +148,16 @@ abbrev pub objects_text : Bool → List Difference → List ℕ
 objects_text are_others [] = []
 objects_text are_others (d ∷ ds) = object_text are_others d ++ objects_text true ds
 
-abbrev pub are_some : Found → Bool
-are_some found = nat_lt 0 (length found.first.items)
+abbrev pub has_kept : Found → Bool
+has_kept found = nat_lt 0 (length found.first.items)
 
 -- formula
 -- the object of what was found: the counts, and the first differences of each class
 unfoldable pub json_of : Findings → List ℕ
 json_of f =
     class_counts Json f ++ codes ",\"differences\":[\n" ++ objects_text false f.lost.first.items
-    ++ objects_text (are_some f.lost) f.changed.first.items
-    ++ objects_text (are_some f.lost || are_some f.changed) f.explained.first.items
+    ++ objects_text (has_kept f.lost) f.changed.first.items
+    ++ objects_text (has_kept f.lost || has_kept f.changed) f.explained.first.items
     ++ codes "]}\n"
 
 -- what is written of what was found

@@ -1,6 +1,7 @@
 pub mod Places
 pub mod Pairs
 pub mod Phases
+pub mod Distances
 pub mod Cells
 pub mod Codes
 pub mod Records

@@ -8,6 +8,7 @@ mod answer;
 mod cells;
 mod comparing;
 mod difference;
+mod distances;
 mod findings;
 mod form;
 mod headers;

@@ -1,9 +1,9 @@
 //! The records of a file, of which the next one is known.
 
-ghost use Rattle.std.specs.Prelude.{◌≡◌, ◌<◌, ◌≤◌, true, false, List, None, IsSome};
+ghost use Rattle.std.specs.Prelude.{◌≡◌, ◌+◌, ◌≤◌, true, false, if◌then◌else◌, List, None};
 ghost use Rattle.rtk_rinex.specs.Record.{EpochTableView};
 ghost use Rattle.rtk_rinex.specs.MixedRecords.{AreMixedLeft};
-ghost use Rattle.rtk_compare.specs.Steps.Readers.{IsAtEpochs, time_of, records_left};
+ghost use Rattle.rtk_compare.specs.Steps.Readers.{IsAtEpochs, some_count, time_of, records_left};
 
 use rtk_obs::GpsMs;
 use rtk_rinex::{MixedRecords, MixedRows};
@@ -36,12 +36,11 @@ impl<'a> RecordReader<'a> {
         }
     }
 
-    /// Returns the next record, and goes on to the one after it.
-    pub(crate) fn take(&mut self) -> Option<MixedRows<'a>>
+    // Returns the next record, and goes on to the one after it.
+    fn take(&mut self) -> Option<MixedRows<'a>>
         ensures value { result ≡ self.old.next }
         ensures next { (epochs : List EpochTableView) → AreMixedLeft self.old.records epochs → IsAtEpochs self.new epochs }
-        ensures less { IsSome self.old.next → records_left self.new < records_left self.old }
-        ensures at_most { records_left self.new ≤ records_left self.old }
+        ensures less { records_left self.new + some_count self.old.next ≤ records_left self.old }
     {
         let next = self.records.next();
         mem::replace(&mut self.next, next)
@@ -53,8 +52,7 @@ impl<'a> RecordReader<'a> {
         ensures none { is_asked_for ≡ false → result ≡ None }
         ensures next { (epochs : List EpochTableView) → is_asked_for ≡ true → AreMixedLeft self.old.records epochs → IsAtEpochs self.new epochs }
         ensures same { is_asked_for ≡ false → self.new ≡ self.old }
-        ensures less { is_asked_for ≡ true → IsSome self.old.next → records_left self.new < records_left self.old }
-        ensures at_most { records_left self.new ≤ records_left self.old }
+        ensures less { records_left self.new + (if is_asked_for then some_count self.old.next else 0) ≤ records_left self.old }
     {
         if !is_asked_for {
             return None;

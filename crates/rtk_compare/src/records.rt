@@ -8,7 +8,7 @@ ghost use Rattle.rtk_compare.specs.declared.shared_codes.SharedCode.{SharedCode}
 ghost use Rattle.rtk_compare.specs.Pairs.{Pair};
 ghost use Rattle.rtk_compare.specs.Records.{record_lines};
 ghost use Rattle.rtk_compare.specs.Differences.{Adds};
-ghost use Rattle.rtk_compare.specs.Steps.Records.{IsSideOf, ComparesEpoch};
+ghost use Rattle.rtk_compare.specs.Steps.Records.{IsSideOf, moment_of, gone_epoch, ComparesEpoch};
 ghost use Rattle.rtk_compare.specs.Steps.SharedCodes.{HasShared};
 ghost use Rattle.rtk_compare.specs.Steps.Tracks.{AreTracks, AreTracksOf};
 
@@ -22,21 +22,28 @@ use crate::track::Track;
 use rtk_obs::GpsMs;
 use rtk_rinex::{MixedRecords, MixedRows};
 
-// Adds an epoch that the new file has not. Returns the moment of an epoch that both files have.
-fn moment_of_both(
+// Returns the moment of an epoch that both files have.
+fn moment_of(old: &Option<MixedRows<'_>>, new: &Option<MixedRows<'_>>) -> Option<GpsMs>
+    ensures { result ≡ moment_of old.now new.now }
+{
+    match (old, new) {
+        (Some(old), Some(_)) => Some(old.time()),
+        _ => None,
+    }
+}
+
+// Adds an epoch that the new file has not.
+fn put_gone_epoch(
     old: &Option<MixedRows<'_>>,
     new: &Option<MixedRows<'_>>,
     findings: &mut Findings,
-) -> Option<GpsMs> {
-    let Some(old) = old else {
-        return None;
-    };
-    let time = old.time();
-    if new.is_none() {
-        findings.push(Class::Lost, What::Epoch, &Place::of_epoch(time));
-        return None;
+)
+    ensures { Adds findings.old findings.new (gone_epoch old.now new.now) }
+{
+    if let (Some(old), None) = (old, new) {
+        let place = Place::of_epoch(old.time());
+        findings.push(Class::Lost, What::Epoch, &place);
     }
-    Some(time)
 }
 
 // Compares the epochs of a moment. Their rows are told if both files have it.
@@ -53,7 +60,8 @@ fn compare_epoch(
         → HasShared shared.now codes → AreTracksOf tracks.old codes earlier → IsSideOf old.entry p.old → IsSideOf new.entry p.new
         → ComparesEpoch codes earlier p findings.old findings.new tracks.new }
 {
-    let time = moment_of_both(&old, &new, findings);
+    put_gone_epoch(&old, &new, findings);
+    let time = moment_of(&old, &new);
     compare_rows(shared, tracks, old, new, &time, findings);
 }
 
@@ -69,11 +77,11 @@ pub(crate) fn compare_records(
     ensures { (codes : ℕ → List SharedCode) (olds news : List EpochTableView) → HasShared shared.now codes → AreTracksOf tracks.old codes []
         → AreMixedLeft old.entry olds → AreMixedLeft new.entry news → Adds findings.old findings.new (record_lines codes olds news) }
 {
-    let mut old = RecordReader::of(old);
-    let mut new = RecordReader::of(new);
-    while let Some(side) = next_side(old.time(), new.time()) {
-        let old_rows = old.take_if(side.has_old());
-        let new_rows = new.take_if(side.has_new());
+    let mut olds = RecordReader::of(old);
+    let mut news = RecordReader::of(new);
+    while let Some(side) = next_side(olds.time(), news.time()) {
+        let old_rows = olds.take_if(side.has_old());
+        let new_rows = news.take_if(side.has_new());
         compare_epoch(shared, tracks, old_rows, new_rows, findings);
     }
 }

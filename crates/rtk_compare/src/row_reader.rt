@@ -1,8 +1,8 @@
 //! The rows of a record, of which the next one is known.
 
-ghost use Rattle.std.specs.Prelude.{◌≡◌, ◌<◌, ◌≤◌, true, false, List, IsSome};
+ghost use Rattle.std.specs.Prelude.{◌≡◌, ◌+◌, ◌≤◌, true, false, if◌then◌else◌, List};
 ghost use Rattle.rtk_rinex.specs.declared.epoch_table.SatelliteRow.{SatelliteRow};
-ghost use Rattle.rtk_compare.specs.Steps.Readers.{AreRowsOf, IsAtRows, rows_left};
+ghost use Rattle.rtk_compare.specs.Steps.Readers.{AreRowsOf, IsNextOf, IsAtRows, some_count, count_of, rows_left};
 
 use arrayvec::ArrayVec;
 use rtk_obs::SatelliteIndex;
@@ -16,6 +16,20 @@ pub(crate) struct RowReader<'a> {
     satellite: Option<SatelliteIndex>,
     /// What its codes show.
     observed: ArrayVec<Observed, 16>,
+}
+
+// Reads the next row of a record, if there is one.
+fn next_row(
+    rows: &mut Option<MixedRows<'_>>,
+    observed: &mut ArrayVec<Observed, 16>,
+) -> Option<SatelliteIndex>
+    ensures next { (all : List SatelliteRow) → AreRowsOf rows.old all → IsNextOf result all rows.new observed.new.items }
+    ensures less { some_count result + count_of rows.new ≤ count_of rows.old }
+{
+    match rows {
+        Some(rows) => rows.next_row(observed),
+        None => None,
+    }
 }
 
 impl<'a> RowReader<'a> {
@@ -33,23 +47,18 @@ impl<'a> RowReader<'a> {
     }
 
     /// Goes on to the next row.
-    pub(crate) fn advance(&mut self)
+    fn advance(&mut self)
         ensures next { (all : List SatelliteRow) → AreRowsOf self.old.rows all → IsAtRows self.new all }
-        ensures less { IsSome self.old.satellite → rows_left self.new < rows_left self.old }
-        ensures at_most { rows_left self.new ≤ rows_left self.old }
+        ensures less { rows_left self.new + some_count self.old.satellite ≤ rows_left self.old }
     {
-        self.satellite = match &mut self.rows {
-            Some(rows) => rows.next_row(&mut self.observed),
-            None => None,
-        };
+        self.satellite = next_row(&mut self.rows, &mut self.observed);
     }
 
     /// Goes on to the next row, if this one was read.
     pub(crate) fn advance_if(&mut self, is_read: bool)
         ensures next { (all : List SatelliteRow) → is_read ≡ true → AreRowsOf self.old.rows all → IsAtRows self.new all }
         ensures same { is_read ≡ false → self.new ≡ self.old }
-        ensures less { is_read ≡ true → IsSome self.old.satellite → rows_left self.new < rows_left self.old }
-        ensures at_most { rows_left self.new ≤ rows_left self.old }
+        ensures less { rows_left self.new + (if is_read then some_count self.old.satellite else 0) ≤ rows_left self.old }
     {
         if is_read {
             self.advance();

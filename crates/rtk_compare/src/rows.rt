@@ -1,6 +1,6 @@
 //! The rows of two records side by side.
 
-ghost use Rattle.std.specs.Prelude.{◌≡◌, ◌≤◌, ℕ, List, length, IfSome, IfNone};
+ghost use Rattle.std.specs.Prelude.{◌≡◌, ◌≤◌, ◌*◌, ℕ, List, length, IfSome, IfNone};
 ghost use Rattle.rtk_rinex.specs.declared.epoch_table.SatelliteRow.{SatelliteRow};
 ghost use Rattle.rtk_tracking.specs.Epochs.{shown_at};
 ghost use Rattle.rtk_compare.specs.declared.shared_codes.SharedCode.{SharedCode};
@@ -10,7 +10,7 @@ ghost use Rattle.rtk_compare.specs.Steps.Tracks.{AreTracks, AreTracksAt, AreTrac
 ghost use Rattle.rtk_compare.specs.Steps.SharedCodes.{HasShared};
 ghost use Rattle.rtk_compare.specs.Steps.Readers.{AreRowsOf};
 ghost use Rattle.rtk_compare.specs.Steps.Sides.{IsNextSide};
-ghost use Rattle.rtk_compare.specs.Steps.Rows.{row_view, place_at, gone_line, lines_told, NotesRow, next_view, observed_of, next_rows, Rise, ComparesRows};
+ghost use Rattle.rtk_compare.specs.Steps.Rows.{row_view, is_alone, is_gone_row, place_at, gone_line, lines_told, NotesRow, next_view, observed_of, next_rows, Rise, ComparesRows};
 
 use crate::cells::compare_cell;
 use crate::difference::{Class, Place, What};
@@ -37,7 +37,29 @@ fn shown_at(observed: &[Observed], place: usize) -> Observed
     observed.get(place).copied().unwrap_or_default()
 }
 
+// Returns the place of the first track of a satellite.
+fn first_track(satellite: SatelliteIndex) -> usize
+    ensures value { result ≡ 16 * satellite }
+    ensures bound { result ≤ 3536 }
+{
+    16 * usize::from(satellite.index())
+}
+
 impl<'r> RowPair<'r> {
+    // Does one of the rows show nothing?
+    fn is_alone(&self) -> bool
+        ensures { result ≡ is_alone (row_view self.now) }
+    {
+        self.old.len() == 0 || self.new.len() == 0
+    }
+
+    // Has the new file no row of the satellite, and the old one has?
+    fn is_gone(&self) -> bool
+        ensures { result ≡ is_gone_row (row_view self.now) }
+    {
+        self.old.len() != 0 && self.new.len() == 0
+    }
+
     // Returns the place of the differences of a code, unless a greater difference is told in their place.
     fn place_of(&self, code: &SharedCode, time: &Option<GpsMs>) -> Option<Place>
         ensures { result ≡ place_at time.now (row_view self.now) code.now }
@@ -45,7 +67,7 @@ impl<'r> RowPair<'r> {
         let Some(time) = time else {
             return None;
         };
-        if self.old.len() == 0 || self.new.len() == 0 {
+        if self.is_alone() {
             return None;
         }
         Some(Place::of_signal(*time, self.satellite, code.code))
@@ -56,9 +78,8 @@ impl<'r> RowPair<'r> {
         ensures { Adds findings.old findings.new (gone_line time.now (row_view self.now)) }
     {
         if let Some(time) = time {
-            let is_gone = self.old.len() != 0 && self.new.len() == 0;
             let place = Place::of_satellite(*time, self.satellite);
-            findings.push_if(is_gone, Class::Lost, What::Satellite, &place);
+            findings.push_if(self.is_gone(), Class::Lost, What::Satellite, &place);
         }
     }
 }
@@ -79,7 +100,7 @@ fn compare_row(
     ensures tracks { NotesRow tracks.old tracks.new codes.now (row_view row.now) }
 {
     row.put_gone(time, findings);
-    let first = 16 * usize::from(row.satellite.index());
+    let first = first_track(row.satellite);
     for k in 0..codes.len() {
         let code = codes[k];
         let old = shown_at(row.old, code.old);
@@ -127,10 +148,12 @@ fn compare_next(
 {
     let side = next_side(old.number(), new.number())?;
     let satellite = next_satellite(side, old, new)?;
+    let old_observed = observed_if(side.has_old(), old);
+    let new_observed = observed_if(side.has_new(), new);
     let row = RowPair {
         satellite,
-        old: observed_if(side.has_old(), old),
-        new: observed_if(side.has_new(), new),
+        old: old_observed,
+        new: new_observed,
     };
     let codes = shared.of_satellite(satellite);
     compare_row(codes, tracks, &row, time, findings);
@@ -152,10 +175,10 @@ pub(crate) fn compare_rows(
         → HasShared shared.now codes → AreTracksOf tracks.old codes earlier → AreRowsOf old.entry olds → AreRowsOf new.entry news → Rise olds → Rise news
         → ComparesRows time.now codes earlier (side_by_side by_satellite olds news) findings.old findings.new tracks.new }
 {
-    let mut old = RowReader::of(old);
-    let mut new = RowReader::of(new);
-    while let Some(side) = compare_next(shared, tracks, &old, &new, time, findings) {
-        old.advance_if(side.has_old());
-        new.advance_if(side.has_new());
+    let mut olds = RowReader::of(old);
+    let mut news = RowReader::of(new);
+    while let Some(side) = compare_next(shared, tracks, &olds, &news, time, findings) {
+        olds.advance_if(side.has_old());
+        news.advance_if(side.has_new());
     }
 }

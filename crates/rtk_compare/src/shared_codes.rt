@@ -1,7 +1,6 @@
 //! The codes that two files have both.
 
 ghost use Rattle.std.specs.Prelude.{◌≡◌, ◌≤◌, ◌<◌, ◌+◌, ◌++◌, length};
-ghost use Rattle.rtk_obs.specs.SatelliteIndex.{letter_of};
 ghost use Rattle.rtk_rinex.specs.MixedHeader.{codes_of};
 ghost use Rattle.rtk_compare.specs.Codes.{place_in, with_places, shared_of, shared_codes};
 ghost use Rattle.rtk_compare.specs.Steps.SharedCodes.{HasShared, codes_at};
@@ -34,15 +33,15 @@ pub(crate) struct SharedCodes {
     pub(crate) navic: Shared,
 }
 
-// Returns the codes of a system that a head lists.
-fn group(system: System, head: &MixedHead) -> ArrayVec<AnyCode, 16>
-    ensures { result.items ≡ codes_of (letter_of system) head.now.listed }
+// Returns the codes of the system of this letter.
+fn codes_of(letter: u8, listed: &[AnyCode]) -> ArrayVec<AnyCode, 69>
+    requires { length listed.now ≤ 69 }
+    ensures value { result.items ≡ codes_of letter listed.now }
+    ensures few { length result.items ≤ length listed.now }
 {
-    // A law: a place belongs to one code of a system, and is below 16.
-    any_code_laws();
     let mut codes = ArrayVec::new();
-    for code in head.codes() {
-        if code.system() == system && codes.try_push(*code).is_err() {
+    for code in listed {
+        if code.text()[0] == letter && codes.try_push(*code).is_err() {
             unreachable!();
         }
     }
@@ -53,9 +52,12 @@ fn group(system: System, head: &MixedHead) -> ArrayVec<AnyCode, 16>
 fn place_in(code: AnyCode, listed: &[AnyCode]) -> Option<usize>
     ensures { result ≡ place_in code listed.now }
 {
-    listed
-        .iter()
-        .position(|other| other.number() == code.number())
+    for place in 0..listed.len() {
+        if listed[place].number() == code.number() {
+            return Some(place);
+        }
+    }
+    None
 }
 
 // Adds a code, if it has a place in the new list.
@@ -72,7 +74,8 @@ fn put_shared(shared: &mut Shared, code: AnyCode, old: usize, new: Option<usize>
 // Returns the codes that both lists have.
 fn shared_of(olds: &[AnyCode], news: &[AnyCode]) -> Shared
     requires { length olds.now ≤ 16 }
-    ensures { result.items ≡ shared_of olds.now news.now }
+    ensures items { result.items ≡ shared_of olds.now news.now }
+    ensures few { length result.items ≤ 16 }
 {
     let mut shared = ArrayVec::new();
     for old in 0..olds.len() {
@@ -82,13 +85,15 @@ fn shared_of(olds: &[AnyCode], news: &[AnyCode]) -> Shared
     shared
 }
 
-// Returns the codes of a system that both heads list.
-fn shared_in(system: System, old: &MixedHead, new: &MixedHead) -> Shared
+// Returns the codes of the system of this letter that both heads list.
+fn shared_in(letter: u8, old: &MixedHead, new: &MixedHead) -> Shared
+    ensures items { result.items ≡ shared_of (codes_of letter old.now.listed) (codes_of letter new.now.listed) }
     ensures few { length result.items ≤ 16 }
-    ensures items { result.items ≡ shared_of (codes_of (letter_of system) old.now.listed) (codes_of (letter_of system) new.now.listed) }
 {
-    let olds = group(system, old);
-    let news = group(system, new);
+    // A law: a place belongs to one code of a system, and is below 16.
+    any_code_laws();
+    let olds = codes_of(letter, old.codes());
+    let news = codes_of(letter, new.codes());
     shared_of(olds.as_slice(), news.as_slice())
 }
 
@@ -98,13 +103,13 @@ impl SharedCodes {
         ensures { HasShared result (shared_codes old.now.listed new.now.listed) }
     {
         SharedCodes {
-            gps: shared_in(System::Gps, old, new),
-            glonass: shared_in(System::Glonass, old, new),
-            galileo: shared_in(System::Galileo, old, new),
-            beidou: shared_in(System::Beidou, old, new),
-            qzss: shared_in(System::Qzss, old, new),
-            sbas: shared_in(System::Sbas, old, new),
-            navic: shared_in(System::Navic, old, new),
+            gps: shared_in(b'G', old, new),
+            glonass: shared_in(b'R', old, new),
+            galileo: shared_in(b'E', old, new),
+            beidou: shared_in(b'C', old, new),
+            qzss: shared_in(b'J', old, new),
+            sbas: shared_in(b'S', old, new),
+            navic: shared_in(b'I', old, new),
         }
     }
 

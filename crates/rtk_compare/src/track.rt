@@ -1,8 +1,8 @@
 //! What is remembered of a satellite and code: what says why a slip is gone, and by which rolls the phases differ.
 
-ghost use Rattle.std.specs.Prelude.{◌≡◌, ◌<◌, ◌≤◌, ◌^◌, ◌/◌, ◌-ℤ◌, false, List, [], ◌∷◌, ℤ, Option, IfSome, unsigned_abs, None};
+ghost use Rattle.std.specs.Prelude.{◌≡◌, ◌<◌, ◌^◌, pos, if◌then◌else◌, List, [], ◌∷◌};
 ghost use Rattle.rtk_compare.specs.Pairs.{Pair};
-ghost use Rattle.rtk_compare.specs.Phases.{has_phase, had_phase, fills_gap, roll, nearest_rolls, beside_rolls, rolls_from, rolls_of_phases, rolls_held};
+ghost use Rattle.rtk_compare.specs.Phases.{nearest_rolls, beside_rolls, rolls_from, rolls_of_phases, rolls_or_none, rolls_kept, begins_anew, rolls_held};
 ghost use Rattle.rtk_compare.specs.Steps.Tracks.{IsTrackOf, pair};
 ghost use Rattle.rtk_rinex.specs.declared.epoch_table.Observed.{Observed};
 
@@ -62,6 +62,30 @@ pub(crate) fn rolls_of(old: Option<i64>, new: Option<i64>) -> Option<i64>
     }
 }
 
+// Returns these rolls, or none.
+fn rolls_or_none(rolls: Option<i64>) -> i64
+    ensures { result ≡ rolls_or_none rolls }
+{
+    match rolls {
+        Some(rolls) => rolls,
+        None => 0,
+    }
+}
+
+// Returns the rolls that were held, unless they begin anew.
+fn rolls_before(begins_anew: bool, held: i64) -> i64
+    ensures { result ≡ (if begins_anew then pos 0 else held) }
+{
+    if begins_anew { 0 } else { held }
+}
+
+// Returns the rolls that were held, or those that begin if none were.
+fn rolls_kept(held: i64, rolls: i64) -> i64
+    ensures { result ≡ rolls_kept held rolls }
+{
+    if held == 0 { rolls } else { held }
+}
+
 impl Track {
     /// Nothing came before.
     pub(crate) fn none() -> Track
@@ -74,17 +98,23 @@ impl Track {
         }
     }
 
-    /// Returns the rolls that are held with a phase, of which these are the rolls.
+    // Can the rolls begin anew with these cells?
+    fn begins_anew(&self, old: &Observed, new: &Observed) -> bool
+        ensures { (earlier : List (Pair Observed)) → IsTrackOf self.now earlier → result ≡ begins_anew earlier (pair old.now new.now) }
+    {
+        let has_old = old.phase_millicycles.is_some();
+        old.slip | new.slip | (has_old & self.fills_gap)
+    }
+
+    /// Returns the rolls that are held with these cells, of which these are the rolls.
     pub(crate) fn rolls_held(&self, old: &Observed, new: &Observed, rolls: Option<i64>) -> i64
         requires { rolls ≡ rolls_of_phases old.now.phase_millicycles new.now.phase_millicycles }
         ensures { (earlier : List (Pair Observed)) → IsTrackOf self.now earlier → result ≡ rolls_held (pair old.now new.now ∷ earlier) }
     {
-        let fills_gap = old.phase_millicycles.is_some() && self.fills_gap;
-        let begins_anew = old.slip || new.slip || fills_gap;
-        if begins_anew || self.rolls == 0 {
-            return rolls.unwrap_or(0);
-        }
-        self.rolls
+        let begins_anew = self.begins_anew(old, new);
+        let before = rolls_before(begins_anew, self.rolls);
+        let here = rolls_or_none(rolls);
+        rolls_kept(before, here)
     }
 
     /// Notes what both files show, with which these rolls are held.
@@ -93,8 +123,9 @@ impl Track {
             → IsTrackOf self.new (pair old.now new.now ∷ earlier) }
     {
         let has_old = old.phase_millicycles.is_some();
-        self.fills_gap = !has_old && (new.phase_millicycles.is_some() || self.fills_gap);
-        self.had_phase = has_old || self.had_phase;
+        let has_new = new.phase_millicycles.is_some();
+        self.fills_gap = !has_old & (has_new | self.fills_gap);
+        self.had_phase = has_old | self.had_phase;
         self.rolls = held;
     }
 }

@@ -4,6 +4,7 @@ use Rattle.rtk_rinex.specs.Record.{EpochTableView}
 use Rattle.rtk_rinex.specs.MixedForm.{FormView}
 use Rattle.rtk_rinex.specs.MixedTable.{IsMixedEpoch}
 use Rattle.rtk_rinex.specs.MixedRecords.{MixedRowsView, AreRowsLeft, AreMixedLeft, IsRecordOf}
+use Rattle.rtk_rinex.specs.declared.epoch_table.Observed.{Observed}
 use Rattle.rtk_rinex.specs.declared.epoch_table.SatelliteRow.{SatelliteRow}
 use Rattle.rtk_compare.specs.declared.row_reader.RowReader.{RowReader}
 use Rattle.rtk_compare.specs.declared.record_reader.RecordReader.{RecordReader}
@@ -14,6 +15,12 @@ use Rattle.rtk_compare.specs.declared.record_reader.RecordReader.{RecordReader}
 abbrev pub AreRowsOf : Option MixedRowsView → List SatelliteRow → Type 0
 AreRowsOf None rows = rows ≡ []
 AreRowsOf (Some left) rows = AreRowsLeft left rows
+
+-- what reading the next of these rows gives: its satellite and what its codes show, and the others are left
+abbrev pub IsNextOf : Option ℕ → List SatelliteRow → Option MixedRowsView → List Observed → Type 0
+IsNextOf None rows left observed = rows ≡ []
+IsNextOf (Some s) [] left observed = ⊥
+IsNextOf (Some s) (row ∷ rows) left observed = (s ≡ row.satellite) × (observed ≡ row.observed.items) × AreRowsOf left rows
 
 -- the first of these rows is the next one, and the others are left
 abbrev pub IsAtRows : RowReader → List SatelliteRow → Type 0

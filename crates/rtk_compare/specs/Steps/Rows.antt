@@ -38,10 +38,13 @@ abbrev pub place_at : Option ℕ → Pair SatelliteRow → SharedCode → Option
 place_at None p k = None
 place_at (Some time) p k = if is_alone p then None else Some (at_signal time p.old.satellite k.code)
 
+-- the old file has a row of the satellite, and the new one has none
+abbrev pub is_gone_row : Pair SatelliteRow → Bool
+is_gone_row p = not (length p.old.observed.items == 0) && (length p.new.observed.items == 0)
+
 abbrev pub gone_line : Option ℕ → Pair SatelliteRow → List Difference
 gone_line None p = []
-gone_line (Some time) p =
-    told_if (not (length p.old.observed.items == 0) && (length p.new.observed.items == 0)) Lost what.Satellite (at_satellite time p.old.satellite)
+gone_line (Some time) p = told_if (is_gone_row p) Lost what.Satellite (at_satellite time p.old.satellite)
 
 -- the differences of a satellite, if there is a time
 abbrev pub lines_told : Option ℕ → (ℕ → List SharedCode) → List (List (Pair SatelliteRow)) → Pair SatelliteRow → List Difference

@@ -6,12 +6,11 @@ use Rattle.rtk_rinex.specs.declared.epoch_table.Observed.{Observed}
 use Rattle.rtk_rinex.specs.declared.epoch_table.SatelliteRow.{SatelliteRow}
 use Rattle.rtk_compare.specs.declared.shared_codes.SharedCode.{SharedCode}
 use Rattle.rtk_compare.specs.declared.track.Track.{Track}
-use Rattle.rtk_compare.specs.declared.cells.Distances.{Distances}
 use Rattle.rtk_compare.specs.declared.difference.Difference.{Difference}
 use Rattle.rtk_compare.specs.declared.difference.Place.{Place}
 use Rattle.rtk_compare.specs.Pairs.{Pair}
-use Rattle.rtk_compare.specs.Phases.{had_phase, fills_gap, rolls_of, rolls_held}
-use Rattle.rtk_compare.specs.Cells.{ranges_apart, phases_apart, strengths_apart, rolls_are_due, cell_lines}
+use Rattle.rtk_compare.specs.Phases.{had_phase, fills_gap, rolls_held}
+use Rattle.rtk_compare.specs.Cells.{cell_lines}
 use Rattle.rtk_compare.specs.Records.{cells_before}
 
 abbrev pub pair : {A : Type 0} → A → A → Pair A
@@ -42,14 +41,6 @@ AreTracksAt tracks shared earlier s =
 -- and of all satellites
 abbrev pub AreTracksOf : List Track → (ℕ → List SharedCode) → List (List (Pair SatelliteRow)) → Type 0
 AreTracksOf tracks shared earlier = (s : ℕ) → IsSatelliteIndex s → AreTracksAt tracks shared earlier s
-
--- how far the values of a cell are apart, after these earlier ones
-pub record AreDistances (a : Distances) (earlier : List (Pair Observed)) (p : Pair Observed) : Type 0 where
-  pub range : a.range ≡ ranges_apart p
-  pub phase : a.phase ≡ phases_apart p
-  pub strength : a.strength ≡ strengths_apart p
-  pub rolls : a.rolls ≡ rolls_of p
-  pub are_due : a.are_due ≡ rolls_are_due earlier p
 
 -- the differences of a cell, if there is a place to tell them at
 abbrev pub lines_if_told : Option Place → List (Pair Observed) → Pair Observed → List Difference

@@ -1,8 +1,9 @@
-use Rattle.rtk_compare.specs.Cells.{cell_lines}
-use Rattle.rtk_compare.proofs.FindingLemmas.{adds-more}
+use Rattle.rtk_compare.specs.Steps.Tracks.{pair}
+use Rattle.rtk_compare.proofs.CellLemmas.{told-some, told-none}
 use Rattle.rtk_compare.proofs.cells.tell_cell.Goals as goal
 
-pub returns : goal.returns
-unfolding cell_lines
-returns c = λ earlier track are.
-    adds-more c.put_gone.ensures (adds-more (c.put_values.ensures earlier _ are) (adds-more (c.put_slips.ensures earlier track) (c.put_halves.ensures earlier are)))
+pub returns-in-Some : goal.returns-in-Some
+returns-in-Some c = λ earlier track are. told-some c.args.place.now _ earlier (pair c.args.old.now c.args.new.now) c.in-Some.is (c.put_cell.ensures earlier track are)
+
+pub returns-in_default : goal.returns-in_default
+returns-in_default c = λ earlier track are. told-none c.args.findings.now c.args.place.now earlier (pair c.args.old.now c.args.new.now) c.in_default.is

@@ -12,8 +12,8 @@ abbrev pub invariant-loop-side : goal.invariant-loop-side
 invariant-loop-side l = record {
   size : AreTracks l.tracks;
   walked : (codes : ℕ → List SharedCode) (olds news : List EpochTableView) → HasShared l.shared codes → AreTracksOf l.fn.tracks codes [] → AreMixedLeft l.fn.old olds → AreMixedLeft l.fn.new news
-      → HasWalked codes olds news l.fn.findings l.findings l.tracks l.old l.new;
+      → HasWalked codes olds news l.fn.findings l.findings l.tracks l.olds l.news;
 }
 
 abbrev pub decreases-loop-side : goal.decreases-loop-side
-decreases-loop-side l = records_left l.old + records_left l.new
+decreases-loop-side l = records_left l.olds + records_left l.news

@@ -14,8 +14,8 @@ invariant-loop-side l = record {
   size : AreTracks l.tracks;
   compared : (codes : ℕ → List SharedCode) (earlier : List (List (Pair SatelliteRow))) (olds news : List SatelliteRow)
       → HasShared l.shared codes → AreTracksOf l.fn.tracks codes earlier → AreRowsOf l.fn.old olds → AreRowsOf l.fn.new news → Rise olds → Rise news
-      → HasCompared l.time codes earlier (side_by_side by_satellite olds news) l.fn.findings l.findings l.tracks l.old l.new;
+      → HasCompared l.time codes earlier (side_by_side by_satellite olds news) l.fn.findings l.findings l.tracks l.olds l.news;
 }
 
 abbrev pub decreases-loop-side : goal.decreases-loop-side
-decreases-loop-side l = rows_left l.old + rows_left l.new
+decreases-loop-side l = rows_left l.olds + rows_left l.news
