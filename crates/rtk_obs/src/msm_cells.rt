@@ -1,6 +1,6 @@
 //! The cells of the MSM of GPS other than 1074.
 
-ghost use Rattle.std.specs.Prelude.{◌≡◌, ℕ, ◌%◌, ◌^◌, ◌<◌, ◌≤◌, length, IsTrue, IfSome, unsigned_abs};
+ghost use Rattle.std.specs.Prelude.{◌≡◌, ℕ, ◌%◌, ◌^◌, ◌<◌, ◌≤◌, true, false, length, IsTrue, IfSome, unsigned_abs};
 ghost use Rattle.std.specs.List.{All};
 ghost use Rattle.rtk_message.specs.MsmForm.{IsValid};
 ghost use Rattle.rtk_obs.specs.Cell.{IsInRange, AreDistinct, AreRising};
@@ -65,18 +65,22 @@ impl CellsOfMsm for Msm {
     }
 }
 
-// Returns the phase in millicycles of a frequency in Hz, if it is known.
-fn phase_on(kind: MsmKind, frequency: Option<u32>, rough: Option<i64>, fine: i32) -> Option<i64>
+// Returns the phase in millicycles of a frequency in Hz, if it is known, from a fine one without
+// extended resolution.
+fn msm_phase_on(frequency: Option<u32>, rough: Option<i64>, fine: i32) -> Option<i64>
+    requires { IfSome rough (λ r. unsigned_abs r ≤ 2 ^ 38) }
+    ensures { (kind : MsmKind) → has_extended_resolution kind ≡ false → result ≡ phase_on kind frequency rough fine }
+{
+    msm_phase(frequency?, rough, fine)
+}
+
+// The same from a fine one with extended resolution.
+fn extended_phase_on(frequency: Option<u32>, rough: Option<i64>, fine: i32) -> Option<i64>
     requires frequency { IfSome frequency (λ f. f % 4 ≡ 0) }
     requires rough { IfSome rough (λ r. unsigned_abs r ≤ 2 ^ 38) }
-    ensures { result ≡ phase_on kind frequency rough fine }
+    ensures { (kind : MsmKind) → has_extended_resolution kind ≡ true → result ≡ phase_on kind frequency rough fine }
 {
-    let frequency = frequency?;
-    if has_extended_resolution(kind) {
-        extended_phase(frequency, rough, fine)
-    } else {
-        msm_phase(frequency, rough, fine)
-    }
+    extended_phase(frequency?, rough, fine)
 }
 
 /// Sets a cell to the one at this place in a message, of a satellite with this rough range, on a
@@ -102,14 +106,15 @@ pub(crate) fn set_values(
     let lock = message.lock_indicator.as_slice()[place];
     if has_extended_resolution(message.kind) {
         cell.range_mm = extended_range(rough, fine_range);
+        cell.phase_millicycles = extended_phase_on(frequency, rough, fine_phase);
         cell.strength_millidbhz = strength_from_sixteenths(cnr);
         cell.lock_time_ms = least_lock_extended(lock);
     } else {
         cell.range_mm = msm_range(rough, fine_range);
+        cell.phase_millicycles = msm_phase_on(frequency, rough, fine_phase);
         cell.strength_millidbhz = strength_from_steps(MSM_STRENGTH_STEP, cnr as u8);
         cell.lock_time_ms = least_lock_msm(lock as u8);
     }
-    cell.phase_millicycles = phase_on(message.kind, frequency, rough, fine_phase);
     cell.half = message.half_cycle.as_slice()[place];
     cell.source = CellSource::Msm;
     cell.offset = None;
