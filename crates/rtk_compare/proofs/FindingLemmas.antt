@@ -1,7 +1,8 @@
 -- What was found, and more differences.
-use Rattle.std.proofs.Common.{◌≡◌, ◌+◌, ℕ, zero, suc, Bool, true, false, cond, List, [], ◌∷◌, ◌++◌, length, take, length-append, append_assoc, append-nil, refl, sym, ap, subst, ◌∙◌, arith}
+use Rattle.std.proofs.Common.{◌≡◌, ◌+◌, ℕ, zero, suc, Bool, true, false, not, ◌||◌, cond, ltb, List, [], ◌∷◌, ◌++◌, length, take, length-append, append_assoc, append-nil, refl, sym, ap, subst, ◌∙◌, arith}
 use Rattle.std.specs.Prelude.{min, flat_map}
 use Rattle.std.specs.List.{filter, range_with_len}
+use Rattle.std.proofs.lemmas.Bool.{lt-ltb}
 use Rattle.std.proofs.lemmas.List.Elements.{filter-append}
 use Rattle.std.proofs.lemmas.List.{flat_map_more, take_more}
 use Rattle.rtk_tracking.specs.Epochs.{capped}
@@ -13,7 +14,7 @@ use Rattle.rtk_compare.specs.declared.difference.Difference.{Difference}
 use Rattle.rtk_compare.specs.declared.findings.Found.{Found}
 use Rattle.rtk_compare.specs.declared.findings.Findings.{Findings}
 use Rattle.rtk_compare.specs.Cells.{told_if}
-use Rattle.rtk_compare.specs.Differences.{is_class, of_class, HasFound, HasFindings, Adds}
+use Rattle.rtk_compare.specs.Differences.{is_class, of_class, HasFound, HasFindings, Adds, is_worse}
 
 -- ---- a difference of a class
 
@@ -80,6 +81,16 @@ adds-explained f found d is keeps = record { adds = λ ds has. record {
   explained = keeps Explained ds (sym is) has.explained;
 } }
 
+pub push-lost : (f : Findings) (found : Found) (c : Class) (w : What) (p : Place) → c ≡ Lost → Keeps f.lost found (record { class = c; what = w; place = p }) → Adds f (record { lost = found; changed = f.changed; explained = f.explained }) (told_if true c w p)
+push-lost f found c w p is keeps = adds-lost f found (record { class = c; what = w; place = p }) is keeps
+
+pub push-changed : (f : Findings) (found : Found) (c : Class) (w : What) (p : Place) → c ≡ Changed → Keeps f.changed found (record { class = c; what = w; place = p }) → Adds f (record { lost = f.lost; changed = found; explained = f.explained }) (told_if true c w p)
+push-changed f found c w p is keeps = adds-changed f found (record { class = c; what = w; place = p }) is keeps
+
+pub push-explained : (f : Findings) (found : Found) (c : Class) (w : What) (p : Place) → c ≡ Explained → Keeps f.explained found (record { class = c; what = w; place = p })
+    → Adds f (record { lost = f.lost; changed = f.changed; explained = found }) (told_if true c w p)
+push-explained f found c w p is keeps = adds-explained f found (record { class = c; what = w; place = p }) is keeps
+
 -- ---- more and more differences
 
 pub adds_none : (f : Findings) → Adds f f []
@@ -118,3 +129,29 @@ adds-after f front xs k x first second more =
 -- a difference at a place that is this one
 pub told-at : {a b : Findings} (c : Class) (w : What) (s : Bool) {p q : Place} → p ≡ q → Adds a b (told_if s c w p) → Adds a b (told_if s c w q)
 told-at {a} {b} c w s same adds = subst (λ (x : Place). Adds a b (told_if s c w x)) same adds
+
+-- ---- what is worse
+
+or-true : (b : Bool) → (b || true) ≡ true
+or-true true = refl
+or-true false = refl
+
+worse-more : (c : Class) (d : Difference) (ls cs : List Difference) (w : Bool) → (ltb 0 (length ls) || ltb 0 (length cs)) ≡ w
+    → (ltb 0 (length (cond (is_class Lost c) (d ∷ ls) ls)) || ltb 0 (length (cond (is_class Changed c) (d ∷ cs) cs))) ≡ (not (is_class Explained c) || w)
+worse-more Lost d ls cs w is = refl
+worse-more Changed d ls cs w is = or-true (ltb 0 (length ls))
+worse-more Explained d ls cs w is = is
+
+worse-is : (ds : List Difference) → (ltb 0 (length (of_class Lost ds)) || ltb 0 (length (of_class Changed ds))) ≡ is_worse ds
+worse-is [] = refl
+worse-is (d ∷ ds) = worse-more d.class d (of_class Lost ds) (of_class Changed ds) (is_worse ds) (worse-is ds)
+
+some-counted : (n : ℕ) → ltb 0 (capped n) ≡ ltb 0 n
+some-counted zero = refl
+some-counted (suc n) = lt-ltb 0 (capped (suc n)) (omega arith)
+
+pub counts-worse : (f : Findings) (ds : List Difference) → HasFindings f ds → (ltb 0 f.lost.count || ltb 0 f.changed.count) ≡ is_worse ds
+counts-worse f ds has =
+    ap (λ (n : ℕ). ltb 0 n || ltb 0 f.changed.count) has.lost.count ∙ ap (λ (n : ℕ). ltb 0 (capped (length (of_class Lost ds))) || ltb 0 n) has.changed.count
+    ∙ ap (λ (b : Bool). b || ltb 0 (capped (length (of_class Changed ds)))) (some-counted (length (of_class Lost ds)))
+    ∙ ap (λ (b : Bool). ltb 0 (length (of_class Lost ds)) || b) (some-counted (length (of_class Changed ds))) ∙ worse-is ds

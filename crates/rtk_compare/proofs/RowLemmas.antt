@@ -1,5 +1,5 @@
 -- Rows side by side, and what is remembered of satellites and codes.
-use Rattle.std.proofs.Common.{◌≡◌, ◌≢◌, ◌<◌, ◌≤◌, ◌+◌, ◌*◌, ℕ, zero, suc, Bool, true, false, not, ◌&&◌, ◌||◌, cond, eqb, ltb, Option, Some, None, List, [], ◌∷◌, ◌++◌, map, length, get_or, set, ℤ, pos, negsuc, inl, inr, refl, sym, ap, subst, ◌∙◌, arith, append_assoc, append-nil}
+use Rattle.std.proofs.Common.{◌≡◌, ◌≢◌, ◌<◌, ◌≤◌, ◌+◌, ◌*◌, ℕ, zero, suc, Bool, true, false, not, ◌&&◌, ◌||◌, cond, eqb, ltb, Option, Some, None, List, [], ◌∷◌, ◌++◌, map, length, get_or, set, replicate, ℤ, pos, negsuc, inl, inr, refl, sym, ap, subst, ◌∙◌, arith, append_assoc, append-nil}
 use Rattle.std.specs.Prelude.{AllPairs, All, IfSome, ◌⊎◌, flat_map}
 use Rattle.std.proofs.lemmas.Bool.{cases_Bool, lt-ltb, le-ltb, ltb-true, ltb-false, eqb-true, eqb-false, eq-eqb, ne_eqb}
 use Rattle.std.proofs.lemmas.List.{get_or_default, get_or-set_same, get_or-set_other}
@@ -225,3 +225,13 @@ pub row-told : (time : Option ℕ) (codes : ℕ → List SharedCode) (earlier : 
     → gone_line time p ++ flat_map (λ (k : SharedCode). lines_if_told (place_at time p k) (cells_before p.old.satellite k earlier) (cells_of k p)) (codes p.old.satellite) ≡ lines_told time codes earlier p
 row-told None codes earlier p = flat_map-none (codes p.old.satellite)
 row-told (Some t) codes earlier p = told-by t codes earlier p (eqb (length p.old.observed.items) 0) (eqb (length p.new.observed.items) 0)
+
+-- ---- before any row
+
+fresh-at : (n i : ℕ) (t : Track) → IsTrackOf t [] → IsTrackOf (get_or (replicate n t) i no_track) []
+fresh-at zero i t is = record { had_phase = refl; fills_gap = refl; rolls = refl }
+fresh-at (suc n) zero t is = is
+fresh-at (suc n) (suc i) t is = fresh-at n i t is
+
+pub fresh-tracks : (tracks : List Track) (t : Track) (codes : ℕ → List SharedCode) → ((s : ℕ) → length (codes s) ≤ 16) → tracks ≡ replicate 3552 t → IsTrackOf t [] → AreTracksOf tracks codes []
+fresh-tracks tracks t codes few are is = λ s good k code lt. subst (λ (ts : List Track). IsTrackOf (get_or ts (16 * s + k) no_track) []) (sym are) (fresh-at 3552 (16 * s + k) t is)

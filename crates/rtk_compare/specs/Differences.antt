@@ -1,6 +1,6 @@
 -- The differences of two files, and how they are counted. All of it is this project's rule.
-use Rattle.std.specs.Prelude.{◌≡◌, ℕ, Bool, true, false, List, ◌++◌, length, take}
-use Rattle.std.specs.List.{filter}
+use Rattle.std.specs.Prelude.{◌≡◌, ℕ, Bool, true, false, not, List, ◌++◌, length, take}
+use Rattle.std.specs.List.{filter, list_any}
 use Rattle.rtk_rinex.specs.MixedTable.{MixedTable, IsMixedTable, mixed_table_text}
 use Rattle.rtk_tracking.specs.Epochs.{capped}
 use Rattle.rtk_compare.specs.declared.difference.Class.{Class}
@@ -46,6 +46,10 @@ pub record HasFindings (f : Findings) (ds : List Difference) : Type 0 where
 -- more differences were found: before, after
 pub record Adds (before after : Findings) (more : List Difference) : Type 0 where
   pub adds : (ds : List Difference) → HasFindings before ds → HasFindings after (ds ++ more)
+
+-- some difference is lost or changed, and not explained
+abbrev pub is_worse : List Difference → Bool
+is_worse ds = list_any (λ d. not (is_class Explained d.class)) ds
 
 -- the differences of the files of these texts were found
 abbrev pub AddsDifferences : Findings → Findings → List ℕ → List ℕ → Type 0

@@ -1,5 +1,5 @@
 -- The differences of the headers of two files. All of it is this project's rule.
-use Rattle.std.specs.Prelude.{ℕ, nat_lt, ◌==◌, Bool, true, false, not, ◌&&◌, List, [], ◌∷◌, ◌++◌, length, flat_map, bytes_eq, ℤ, pos, Option, None, Some, is_some}
+use Rattle.std.specs.Prelude.{ℕ, nat_lt, ◌==◌, Bool, true, false, not, ◌&&◌, List, [], ◌∷◌, ◌++◌, length, flat_map, bytes_eq, ℤ, pos, Option, None, Some}
 use Rattle.std.specs.List.{list_any, range_with_len}
 use Rattle.std.specs.Ordering.{int_eq}
 use Rattle.rtk_obs.specs.declared.any_code.AnyCode.{AnyCode}
@@ -12,7 +12,7 @@ use Rattle.rtk_compare.specs.declared.difference.What.{What}
 use Rattle.rtk_compare.specs.declared.difference.What.TheVariants.{Marker, Position, Height, Code, Channel, LeapSeconds}
 use Rattle.rtk_compare.specs.declared.difference.Difference.{Difference}
 use Rattle.rtk_compare.specs.Places.{in_header, at_code, at_slot}
-use Rattle.rtk_compare.specs.Cells.{told_if}
+use Rattle.rtk_compare.specs.Cells.{told_if, is_gone}
 
 -- something that both can have or not is lost, or has changed
 abbrev pub lines_of : Bool → Bool → Bool → What → List Difference
@@ -41,26 +41,32 @@ code_line c news = told_if (not (is_listed c news)) Lost Code (at_code c)
 abbrev pub code_lines : List AnyCode → List AnyCode → List Difference
 code_lines olds news = flat_map (λ c. code_line c news) olds
 
-abbrev pub is_same_channel : Option ℤ → Option ℤ → Bool
-is_same_channel None b = true
-is_same_channel (Some a) None = false
-is_same_channel (Some a) (Some b) = int_eq a b
+-- both have a channel, but not the same
+abbrev pub is_other_channel : Option ℤ → Option ℤ → Bool
+is_other_channel (Some a) (Some b) = not (int_eq a b)
+is_other_channel (Some a) None = false
+is_other_channel None b = false
 
 -- the channel of a slot of GLONASS
 abbrev pub slot_lines : GlonassView → GlonassView → ℕ → List Difference
 slot_lines g h slot =
-    told_if (is_some (channel_at g.channels slot) && not (is_some (channel_at h.channels slot))) Lost Channel (at_slot slot)
-    ++ told_if (is_some (channel_at h.channels slot) && not (is_same_channel (channel_at g.channels slot) (channel_at h.channels slot))) Changed Channel (at_slot slot)
+    told_if (is_gone (channel_at g.channels slot) (channel_at h.channels slot)) Lost Channel (at_slot slot)
+    ++ told_if (is_other_channel (channel_at g.channels slot) (channel_at h.channels slot)) Changed Channel (at_slot slot)
 
 abbrev pub channel_lines : GlonassView → GlonassView → List Difference
 channel_lines g h = flat_map (slot_lines g h) (range_with_len 1 27)
 
+abbrev pub told_lines : GlonassView → GlonassView → List Difference
+told_lines g h = channel_lines g h ++ told_if (not (g.leap_seconds == h.leap_seconds)) Changed LeapSeconds in_header
+
+abbrev pub told_beside : GlonassView → Option GlonassView → List Difference
+told_beside g None = []
+told_beside g (Some h) = told_lines g h
+
 -- what is told of GLONASS, if both files have its codes
 abbrev pub glonass_differences : Option GlonassView → Option GlonassView → List Difference
 glonass_differences None h = []
-glonass_differences (Some g) None = []
-glonass_differences (Some g) (Some h) =
-    channel_lines g h ++ told_if (not (g.leap_seconds == h.leap_seconds)) Changed LeapSeconds in_header
+glonass_differences (Some g) h = told_beside g h
 
 abbrev pub marker_lines : List ℕ → List ℕ → List Difference
 marker_lines a b = told_if (not (bytes_eq a b)) Changed Marker in_header

@@ -1,6 +1,6 @@
 //! The text of what was found, as lines or as JSON.
 
-ghost use Rattle.std.specs.Prelude.{◌≡◌, ◌++◌, OnOk, IfOk, flat_map};
+ghost use Rattle.std.specs.Prelude.{◌≡◌, ◌++◌, ◌||◌, nat_lt, length, OnOk, IfOk, flat_map};
 ghost use Rattle.rtk_rinex.specs.Reading.{reading_of};
 ghost use Rattle.rtk_compare.specs.Answer.{in_form, class_word, what_word, keyed_word, epoch_word, satellite_text, time_of_place, satellite_of_place, code_of_place, slot_of_place, place_text, class_text, difference_text, count_text, class_counts, more_line, class_lines, lines_text, object_text, objects_text, json_of, answer_text};
 ghost use Rattle.rtk_compare.specs.declared.form.Form.TheVariants.{Lines, Json};
@@ -178,7 +178,8 @@ fn put_place(text: &mut Vec<u8>, form: Form, place: &Place) -> Result<(), AllocE
     put_time_of(text, form, place.time)?;
     put_satellite_of(text, form, place.satellite)?;
     put_code_of(text, form, place)?;
-    put_slot_of(text, form, place.slot)
+    put_slot_of(text, form, place.slot)?;
+    Ok(())
 }
 
 // Appends the class of a difference.
@@ -197,14 +198,14 @@ fn put_class(text: &mut Vec<u8>, form: Form, class: Class) -> Result<(), AllocEr
 }
 
 // Appends a difference.
-#[tactic(auto, unfolding(crate::specs::Answer::difference_text))]
 fn put_difference(text: &mut Vec<u8>, form: Form, difference: &Difference) -> Result<(), AllocError>
     ensures { OnOk result (text.new.items ≡ text.old.items ++ difference_text form difference.now) }
 {
     put_class(text, form, difference.class)?;
     put_word(text, form, b",\"what\":", difference.what.word())?;
     put_place(text, form, &difference.place)?;
-    put_either(text, form, b"\n", b"}")
+    put_either(text, form, b"\n", b"}")?;
+    Ok(())
 }
 
 // Appends a count.
@@ -221,7 +222,8 @@ fn put_counts(text: &mut Vec<u8>, form: Form, findings: &Findings) -> Result<(),
 {
     put_count(text, form, b"lost ", b"{\"lost\":", findings.lost.count)?;
     put_count(text, form, b" changed ", b",\"changed\":", findings.changed.count)?;
-    put_count(text, form, b" explained ", b",\"explained\":", findings.explained.count)
+    put_count(text, form, b" explained ", b",\"explained\":", findings.explained.count)?;
+    Ok(())
 }
 
 // ---- lines
@@ -241,18 +243,26 @@ fn put_more(text: &mut Vec<u8>, class: Class, count: u64) -> Result<(), AllocErr
     Ok(())
 }
 
-// Appends the lines of the first differences of a class.
+// Appends the lines of differences.
+fn put_lines(text: &mut Vec<u8>, differences: &[Difference]) -> Result<(), AllocError>
+    ensures { OnOk result (text.new.items ≡ text.old.items ++ flat_map (difference_text Lines) differences.now) }
+{
+    for difference in differences {
+        put_difference(text, Form::Lines, difference)?;
+    }
+    Ok(())
+}
+
+// Appends the lines of the first differences of a class, and how many more there are.
 fn put_class_lines(text: &mut Vec<u8>, class: Class, found: &Found) -> Result<(), AllocError>
     ensures { OnOk result (text.new.items ≡ text.old.items ++ class_lines class found.now) }
 {
-    for difference in &found.first {
-        put_difference(text, Form::Lines, difference)?;
-    }
-    put_more(text, class, found.count.saturating_sub(MOST_OF_CLASS as u64))
+    put_lines(text, found.first.as_slice())?;
+    put_more(text, class, found.count.saturating_sub(MOST_OF_CLASS as u64))?;
+    Ok(())
 }
 
 // Makes the lines of what was found.
-#[tactic(auto, unfolding(crate::specs::Answer::lines_text))]
 fn lines_text(alloc: Global, findings: &Findings) -> Result<Vec<u8>, AllocError>
     ensures { IfOk result (λ text. text.items ≡ lines_text findings.now) }
 {
@@ -281,30 +291,33 @@ fn put_object(
     put_difference(text, Form::Json, difference)
 }
 
-// Appends the objects of a class.
-fn put_objects(text: &mut Vec<u8>, are_others: bool, found: &Found) -> Result<(), AllocError>
-    ensures { OnOk result (text.new.items ≡ text.old.items ++ objects_text are_others found.now.first.items) }
+// Appends objects, behind others if there are some. Do some stand there then?
+fn put_objects(
+    text: &mut Vec<u8>,
+    are_others: bool,
+    differences: &[Difference],
+) -> Result<bool, AllocError>
+    ensures text { OnOk result (text.new.items ≡ text.old.items ++ objects_text are_others differences.now) }
+    ensures others { IfOk result (λ are. are ≡ (are_others || nat_lt 0 (length differences.now))) }
 {
-    let differences = found.first.as_slice();
-    for k in 0..differences.len() {
-        put_object(text, are_others || 0 < k, &differences[k])?;
+    let mut are = are_others;
+    for difference in differences {
+        put_object(text, are, difference)?;
+        are = true;
     }
-    Ok(())
+    Ok(are)
 }
 
 // Makes the object of what was found.
-#[tactic(auto, unfolding(crate::specs::Answer::json_of))]
 fn json_of(alloc: Global, findings: &Findings) -> Result<Vec<u8>, AllocError>
     ensures { IfOk result (λ text. text.items ≡ json_of findings.now) }
 {
     let mut text = Vec::new(alloc);
     put_counts(&mut text, Form::Json, findings)?;
     text.extend_from_slice(b",\"differences\":[\n")?;
-    put_objects(&mut text, false, &findings.lost)?;
-    let are_lost = 0 < findings.lost.first.len();
-    put_objects(&mut text, are_lost, &findings.changed)?;
-    let are_worse = are_lost || 0 < findings.changed.first.len();
-    put_objects(&mut text, are_worse, &findings.explained)?;
+    let are_lost = put_objects(&mut text, false, findings.lost.first.as_slice())?;
+    let are_worse = put_objects(&mut text, are_lost, findings.changed.first.as_slice())?;
+    put_objects(&mut text, are_worse, findings.explained.first.as_slice())?;
     text.extend_from_slice(b"]}\n")?;
     Ok(text)
 }

@@ -1,10 +1,10 @@
 //! The differences that were found: how many of each class, and the first ones.
 
-ghost use Rattle.std.specs.Prelude.{◌≡◌, ◌<◌, ◌⊎◌, ◌++◌, ◌∷◌, [], List, take, Decides, true};
+ghost use Rattle.std.specs.Prelude.{◌≡◌, ◌||◌, ◌++◌, ◌∷◌, [], List, take, nat_lt, true};
 ghost use Rattle.rtk_compare.specs.declared.difference.Class.{Class};
 ghost use Rattle.rtk_compare.specs.declared.difference.Difference.{Difference};
 ghost use Rattle.rtk_compare.specs.Cells.{told_if};
-ghost use Rattle.rtk_compare.specs.Differences.{HasFound, HasFindings, Adds};
+ghost use Rattle.rtk_compare.specs.Differences.{HasFound, HasFindings, Adds, is_worse};
 
 use crate::difference::{Class, Difference, Place, What};
 use arrayvec::ArrayVec;
@@ -92,16 +92,22 @@ impl Findings {
     pub(crate) fn push_if(&mut self, differs: bool, class: Class, what: What, place: &Place)
         ensures { Adds self.old self.new (told_if differs class what place.now) }
     {
-        if !differs {
-            return;
+        if differs {
+            self.push(class, what, place);
         }
-        self.push(class, what, place);
+    }
+
+    // Are some counted that are lost or changed?
+    fn counts_worse(&self) -> bool
+        ensures { result ≡ (nat_lt 0 self.now.lost.count || nat_lt 0 self.now.changed.count) }
+    {
+        0 < self.lost.count || 0 < self.changed.count
     }
 
     /// Is something lost or changed?
     pub fn is_worse(&self) -> bool
-        ensures { Decides result ((0 < self.now.lost.count) ⊎ (0 < self.now.changed.count)) }
+        ensures { (ds : List Difference) → HasFindings self.now ds → result ≡ is_worse ds }
     {
-        0 < self.lost.count || 0 < self.changed.count
+        self.counts_worse()
     }
 }
