@@ -1,5 +1,5 @@
 -- What the words of a command line may give.
-use Rattle.std.specs.Prelude.{◌≡◌, ◌⊎◌, ℕ, ◌≤◌, Bool, nat_eq, List, [], ◌∷◌, length, map, count_by, codes}
+use Rattle.std.specs.Prelude.{◌≡◌, ◌⊎◌, ℕ, ◌≤◌, Bool, false, ◌&&◌, nat_eq, List, length, map, count_by, codes}
 use Rattle.std.specs.Cmp.Lexicographic.{pointwise}
 use Rattle.std.specs.Option.{ForSome}
 use Rattle.rtk_convert.specs.Converter.{IsLinkCount}
@@ -25,7 +25,7 @@ AreLinkNames links = IsLinkCount (length links) × (count_by is_stdin links ≤ 
 
 -- the files of a comparison: standard input is one of them at most (this project's rule)
 abbrev pub AreComparedNames : List ℕ → List ℕ → Type 0
-AreComparedNames old new = count_by is_stdin (old ∷ new ∷ []) ≤ 1
+AreComparedNames old new = (is_stdin old && is_stdin new) ≡ false
 
 -- formula
 -- a conversion is of a station, a window and links within their limits; so is the width of a picture

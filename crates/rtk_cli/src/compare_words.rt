@@ -16,13 +16,20 @@ pub(crate) struct ComparedFiles<'a> {
     pub(crate) new: &'a str,
 }
 
+// Are both files standard input?
+fn are_both_stdin(old: &str, new: &str) -> bool
+    ensures { result ≡ (is_stdin old.now && is_stdin new.now) }
+{
+    old == STDIN && new == STDIN
+}
+
 /// Returns the files of these names, unless both are standard input.
 pub(crate) fn compared_files<'a>(old: &'a str, new: &'a str) -> Result<ComparedFiles<'a>, BadWords>
     ensures names { IfOk result (λ files. AreComparedNames files.old.now files.new.now) }
     ensures same { IfOk result (λ files. (files.old.now ≡ old.now) × (files.new.now ≡ new.now)) }
-    ensures refused { IfErr result (λ cause. (cause ≡ Files) × ((is_stdin old.now && is_stdin new.now) ≡ true)) }
+    ensures refused { IfErr result (λ cause. (cause ≡ Files) × ¬ (AreComparedNames old.now new.now)) }
 {
-    if old == STDIN && new == STDIN {
+    if are_both_stdin(old, new) {
         return Err(BadWords::Files);
     }
     Ok(ComparedFiles { old, new })

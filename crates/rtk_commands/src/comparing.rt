@@ -1,12 +1,14 @@
 //! The command `compare`: what a new file of a station lacks of an old one.
 
-ghost use Rattle.std.specs.Prelude.{◌≤◌, IfOk};
-ghost use Rattle.rtk_streams.specs.declared.exit_status.TheConstants.{NOT_VALID};
-ghost use Rattle.rtk_commands.specs.CompareInput.{ComparesTexts};
+ghost use Rattle.std.specs.Prelude.{◌≡◌, ◌≤◌, if◌then◌else◌, ℕ, List, IfOk};
+ghost use Rattle.rtk_streams.specs.declared.exit_status.TheConstants.{DONE, NOT_VALID};
+ghost use Rattle.rtk_compare.specs.Differences.{HasFindings};
+ghost use Rattle.rtk_commands.specs.CompareInput.{IsPartedMixed, lines_of_labels, ComparesTexts};
 
 use crate::file_command::CHECK_LIMIT;
-use crate::with_label::mixed_with_label;
+use crate::with_label::{LabelledMixed, mixed_with_label};
 use rtk_compare::{Findings, Form, answer_text, compare, compare_labels};
+use rtk_label::Label;
 use rtk_rinex::CheckFault;
 use rtk_streams::{
     DONE, NOT_VALID, ToolFault, fail, fail_to_open, open_input, read_through, standard_output,
@@ -27,7 +29,7 @@ pub struct Compare {
 #[derive(Drop)]
 pub enum Compared {
     /// The text of the differences. Is something lost or changed?
-    Told { is_worse: bool, text: Vec<u8> },
+    Told { worse: bool, text: Vec<u8> },
     /// Without its label the old text is no file of `check`. This is its first fault.
     OldRefused(CheckFault),
     /// This is the first fault of the new text.
@@ -35,6 +37,35 @@ pub enum Compared {
 }
 
 impl Compare {
+    // What the labels differ in, if they are compared.
+    fn found_in_labels(&self, old: &Label, new: &Label) -> Findings
+        ensures { HasFindings result (lines_of_labels self.now.labels old.now new.now) }
+    {
+        if !self.labels {
+            return Findings::none();
+        }
+        let mut findings = Findings::none();
+        compare_labels(old, new, &mut findings);
+        findings
+    }
+
+    // Compares two files.
+    fn files(
+        &self,
+        alloc: Global,
+        old: &LabelledMixed<'_>,
+        new: &LabelledMixed<'_>,
+    ) -> Result<Compared, AllocError>
+        ensures { IfOk result (λ compared. (old_text new_text : List ℕ) → IsPartedMixed old_text old.now.table.text old.now.label
+            → IsPartedMixed new_text new.now.table.text new.now.label → ComparesTexts self.now old_text new_text compared) }
+    {
+        let mut findings = self.found_in_labels(&old.label, &new.label);
+        compare(alloc, &old.table, &new.table, &mut findings)?;
+        let worse = findings.is_worse();
+        let text = answer_text(alloc, self.form, &findings)?;
+        Ok(Compared::Told { worse, text })
+    }
+
     /// Compares two texts, whose labels are taken from them in their places.
     pub fn texts(
         &self,
@@ -52,16 +83,16 @@ impl Compare {
             Ok(file) => file,
             Err(fault) => return Ok(Compared::NewRefused(fault)),
         };
-        let mut findings = Findings::none();
-        if self.labels {
-            compare_labels(&old.label, &new.label, &mut findings);
-        }
-        compare(alloc, &old.table, &new.table, &mut findings)?;
-        Ok(Compared::Told {
-            is_worse: findings.is_worse(),
-            text: answer_text(alloc, self.form, &findings)?,
-        })
+        self.files(alloc, &old, &new)
     }
+}
+
+// The exit status: 0 exactly if nothing is lost or changed.
+fn status_of(worse: bool) -> u8
+    ensures value { result ≡ (if worse then NOT_VALID else DONE) }
+    ensures bound { result ≤ NOT_VALID }
+{
+    if worse { NOT_VALID } else { DONE }
 }
 
 // Says that a file is refused.
@@ -73,13 +104,13 @@ fn refuse<R: Eprint>(rt: &R, name: &str, fault: CheckFault) -> u8
 }
 
 // Writes the text of the differences.
-fn tell<R: Print + Eprint>(rt: &R, is_worse: bool, text: &[u8]) -> u8
+fn tell<R: Print + Eprint>(rt: &R, worse: bool, text: &[u8]) -> u8
     ensures { result ≤ NOT_VALID }
 {
     if standard_output(rt).write_all(text).is_err() {
         return fail(rt, ToolFault::Output);
     }
-    if is_worse { NOT_VALID } else { DONE }
+    status_of(worse)
 }
 
 /// Compares the files of these names, writes their differences to standard output, and answers the exit status.
@@ -107,7 +138,7 @@ pub fn compare_named<R: Files + Input + Print + Eprint + AllocGlobal>(
         Err(fault) => return fail(rt, fault),
     };
     match command.texts(rt.alloc(), old_text.as_mut_slice(), new_text.as_mut_slice()) {
-        Ok(Compared::Told { is_worse, text }) => tell(rt, is_worse, text.as_slice()),
+        Ok(Compared::Told { worse, text }) => tell(rt, worse, text.as_slice()),
         Ok(Compared::OldRefused(fault)) => refuse(rt, old, fault),
         Ok(Compared::NewRefused(fault)) => refuse(rt, new, fault),
         Err(_) => fail(rt, ToolFault::OutOfMemory),

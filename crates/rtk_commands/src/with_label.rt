@@ -2,6 +2,7 @@
 
 ghost use Rattle.std.specs.Prelude.{◌≡◌, ℕ, length, IfOk, IfErr};
 ghost use Rattle.rtk_commands.specs.FileTable.{text_of, HasItsLetter};
+ghost use Rattle.rtk_commands.specs.CompareInput.{IsPartedMixed, IsMixedRefused};
 ghost use Rattle.rtk_commands.specs.WithLabel.{IsPartedTable, IsRefused};
 
 use crate::any_table::{AnyTable, check_any};
@@ -44,7 +45,10 @@ pub(crate) struct LabelledMixed<'a> {
 }
 
 /// The table of any systems of a text, as `table_with_label` has that of GPS.
-pub(crate) fn mixed_with_label<'a>(text: &'a mut [u8]) -> Result<LabelledMixed<'a>, CheckFault> {
+pub(crate) fn mixed_with_label<'a>(text: &'a mut [u8]) -> Result<LabelledMixed<'a>, CheckFault>
+    ensures parted { IfOk result (λ read. IsPartedMixed text.old read.table.text read.label) }
+    ensures refused { IfErr result (IsMixedRefused text.old) }
+{
     let unlabelled = unlabel(text);
     let (_, plain) = text.split_at(unlabelled.from);
     match check_mixed_text(plain) {

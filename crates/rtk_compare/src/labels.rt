@@ -1,22 +1,29 @@
 //! The labels of two files.
 
+ghost use Rattle.std.specs.Prelude.{nat_lt, length};
 ghost use Rattle.rtk_compare.specs.Differences.{Adds};
 ghost use Rattle.rtk_compare.specs.Labels.{field_lines, label_lines};
 
 use crate::difference::What;
 use crate::findings::Findings;
-use crate::headers::Having;
+use crate::headers::{Having, is_same_text};
 use rtk_label::Label;
 
-// Compares a field of two labels. An empty text is a blank field.
+// Is a field filled? An empty text is a blank one.
+fn is_filled(field: &[u8]) -> bool
+    ensures { result ≡ nat_lt 0 (length field.now) }
+{
+    field.len() != 0
+}
+
+// Compares a field of two labels.
 fn compare_field(what: What, old: &[u8], new: &[u8], findings: &mut Findings)
     ensures { Adds findings.old findings.new (field_lines what old.now new.now) }
 {
-    let field = Having {
-        was: old.len() != 0,
-        is: new.len() != 0,
-        is_same: old == new,
-    };
+    let was = is_filled(old);
+    let is = is_filled(new);
+    let is_same = is_same_text(old, new);
+    let field = Having { was, is, is_same };
     field.put(what, findings);
 }
 
