@@ -2,7 +2,7 @@
 use Rattle.std.proofs.Common.{◌≡◌, ◌+◌, ℕ, zero, suc, Bool, true, false, not, ◌||◌, cond, ltb, List, [], ◌∷◌, ◌++◌, length, take, length-append, append_assoc, append-nil, refl, sym, ap, subst, ◌∙◌, arith}
 use Rattle.std.specs.Prelude.{min, flat_map}
 use Rattle.std.specs.List.{filter, range_with_len}
-use Rattle.std.proofs.lemmas.Bool.{lt-ltb}
+use Rattle.std.proofs.lemmas.Bool.{lt-ltb, or_left, or_right}
 use Rattle.std.proofs.lemmas.List.Elements.{filter-append}
 use Rattle.std.proofs.lemmas.List.{flat_map_more, take_more}
 use Rattle.rtk_tracking.specs.Epochs.{capped}
@@ -132,14 +132,10 @@ told-at {a} {b} c w s same adds = subst (λ (x : Place). Adds a b (told_if s c w
 
 -- ---- what is worse
 
-or-true : (b : Bool) → (b || true) ≡ true
-or-true true = refl
-or-true false = refl
-
 worse-more : (c : Class) (d : Difference) (ls cs : List Difference) (w : Bool) → (ltb 0 (length ls) || ltb 0 (length cs)) ≡ w
     → (ltb 0 (length (cond (is_class Lost c) (d ∷ ls) ls)) || ltb 0 (length (cond (is_class Changed c) (d ∷ cs) cs))) ≡ (not (is_class Explained c) || w)
-worse-more Lost d ls cs w is = refl
-worse-more Changed d ls cs w is = or-true (ltb 0 (length ls))
+worse-more Lost d ls cs w is = or_left (ltb 0 (suc (length ls))) (ltb 0 (length cs)) (lt-ltb 0 (suc (length ls)) (omega arith))
+worse-more Changed d ls cs w is = or_right (ltb 0 (length ls)) (ltb 0 (suc (length cs))) (lt-ltb 0 (suc (length cs)) (omega arith))
 worse-more Explained d ls cs w is = is
 
 worse-is : (ds : List Difference) → (ltb 0 (length (of_class Lost ds)) || ltb 0 (length (of_class Changed ds))) ≡ is_worse ds
@@ -148,7 +144,7 @@ worse-is (d ∷ ds) = worse-more d.class d (of_class Lost ds) (of_class Changed 
 
 some-counted : (n : ℕ) → ltb 0 (capped n) ≡ ltb 0 n
 some-counted zero = refl
-some-counted (suc n) = lt-ltb 0 (capped (suc n)) (omega arith)
+some-counted (suc n) = lt-ltb 0 (capped (suc n)) (omega arith) ∙ sym (lt-ltb 0 (suc n) (omega arith))
 
 pub counts-worse : (f : Findings) (ds : List Difference) → HasFindings f ds → (ltb 0 f.lost.count || ltb 0 f.changed.count) ≡ is_worse ds
 counts-worse f ds has =

@@ -164,8 +164,8 @@ epochs-both old new old' new' old_rows new_rows e es n ns same at_old at_new old
   at_new = new_takes.next ns refl at_new.1;
 }
 
-first-less : (t : ℕ) (y : EpochTableView) (ys : List EpochTableView) → t < y.time → (z : EpochTableView) (zs : List EpochTableView) → y ∷ ys ≡ z ∷ zs → t < z.time
-first-less t y ys less z zs is = let same : y ≡ z = cc in subst (λ (x : EpochTableView). t < x.time) same less
+sooner-first : (t : ℕ) (y : EpochTableView) (ys : List EpochTableView) → t < y.time → (z : EpochTableView) (zs : List EpochTableView) → y ∷ ys ≡ z ∷ zs → t < z.time
+sooner-first t y ys less z zs is = let same : y ≡ z = cc in subst (λ (x : EpochTableView). t < x.time) same less
 
 next-by : (side : Side) (old new old' new' : RecordReader) (old_rows new_rows : Option MixedRowsView) (olds news : List EpochTableView) → IsNextSide (time_of old.next) (time_of new.next) (Some side)
     → IsAtEpochs old olds → IsAtEpochs new news → Takes old old' old_rows (has_old side) → Takes new new' new_rows (has_new side) → NextEpochs old_rows new_rows old' new' olds news
@@ -184,9 +184,9 @@ next-by New old new old' new' old_rows new_rows (e ∷ es) [] next at_old at_new
 next-by Both old new old' new' old_rows new_rows (e ∷ es) [] next at_old at_new old_takes new_takes =
     absurd (let is = side-at _ _ (Some e.time) None (Some Both) (time-in _ e at_old.0) (ap time_of at_new) next in cc)
 next-by Old old new old' new' old_rows new_rows (e ∷ es) (n ∷ ns) next at_old at_new old_takes new_takes =
-    epochs-old old new old' new' old_rows new_rows e es (n ∷ ns) (first-less e.time n ns (side-at _ _ (Some e.time) (Some n.time) (Some Old) (time-in _ e at_old.0) (time-in _ n at_new.0) next)) at_old at_new old_takes new_takes
+    epochs-old old new old' new' old_rows new_rows e es (n ∷ ns) (sooner-first e.time n ns (side-at _ _ (Some e.time) (Some n.time) (Some Old) (time-in _ e at_old.0) (time-in _ n at_new.0) next)) at_old at_new old_takes new_takes
 next-by New old new old' new' old_rows new_rows (e ∷ es) (n ∷ ns) next at_old at_new old_takes new_takes =
-    epochs-new old new old' new' old_rows new_rows n ns (e ∷ es) (first-less n.time e es (side-at _ _ (Some e.time) (Some n.time) (Some New) (time-in _ e at_old.0) (time-in _ n at_new.0) next)) at_old at_new old_takes new_takes
+    epochs-new old new old' new' old_rows new_rows n ns (e ∷ es) (sooner-first n.time e es (side-at _ _ (Some e.time) (Some n.time) (Some New) (time-in _ e at_old.0) (time-in _ n at_new.0) next)) at_old at_new old_takes new_takes
 next-by Both old new old' new' old_rows new_rows (e ∷ es) (n ∷ ns) next at_old at_new old_takes new_takes =
     epochs-both old new old' new' old_rows new_rows e es n ns (side-at _ _ (Some e.time) (Some n.time) (Some Both) (time-in _ e at_old.0) (time-in _ n at_new.0) next) at_old at_new old_takes new_takes
 

@@ -2,7 +2,9 @@
 use Rattle.std.proofs.Common.{◌≡◌, ◌≢◌, ◌<◌, ◌≤◌, ◌+◌, ◌*◌, ℕ, zero, suc, Bool, true, false, not, ◌&&◌, ◌||◌, cond, eqb, ltb, Option, Some, None, List, [], ◌∷◌, ◌++◌, map, length, get_or, set, replicate, ℤ, pos, negsuc, inl, inr, refl, sym, ap, subst, ◌∙◌, arith, append_assoc, append-nil}
 use Rattle.std.specs.Prelude.{AllPairs, All, IfSome, ◌⊎◌, flat_map}
 use Rattle.std.proofs.lemmas.Bool.{cases_Bool, lt-ltb, le-ltb, ltb-true, ltb-false, eqb-true, eqb-false, eq-eqb, ne_eqb}
-use Rattle.std.proofs.lemmas.List.{get_or_default, get_or-set_same, get_or-set_other}
+use Rattle.std.specs.Ordering.{int_eq}
+use Rattle.std.proofs.lemmas.Bool.Decides.{Decides-int_eq}
+use Rattle.std.proofs.lemmas.List.{get_or-set_same, get_or-set_other}
 use Rattle.rtk_obs.specs.SatelliteIndex.{IsSatelliteIndex}
 use Rattle.rtk_rinex.specs.Record.{no_observation}
 use Rattle.rtk_rinex.specs.declared.epoch_table.Observed.{Observed}
@@ -104,10 +106,12 @@ rows_of-other s (q ∷ ps) p unlike = ap (λ (x : Pair SatelliteRow). cond (eqb 
 
 -- ---- what is remembered
 
+kept-by : (held : ℤ) (b : Bool) → int_eq held (pos 0) ≡ b → rolls_kept held (pos 0) ≡ held
+kept-by held true is = ap (λ (x : Bool). cond x (pos 0) held) is ∙ sym ((Decides-int_eq held (pos 0)).0 is)
+kept-by held false is = ap (λ (x : Bool). cond x (pos 0) held) is
+
 kept-none : (held : ℤ) → rolls_kept held (pos 0) ≡ held
-kept-none (pos zero) = refl
-kept-none (pos (suc n)) = refl
-kept-none (negsuc n) = refl
+kept-none held = kept-by held (int_eq held (pos 0)) refl
 
 -- a moment without the satellite changes nothing
 pub track-kept : (t : Track) (s : ℕ) (code : SharedCode) (es : List (Pair Observed)) → IsTrackOf t (cells_of code (none_of s) ∷ es) → IsTrackOf t es
@@ -162,10 +166,9 @@ tracks-next old new codes earlier done p n few lt up_to are notes = λ s good k 
 -- ---- the cells of a row, one more
 
 -- what is remembered of the cell at a place, before it is compared
-pub own-track : (start tracks : List Track) (s k : ℕ) (d : Track) (es : List (Pair Observed)) → 16 * s + k < length tracks
-    → ((n : ℕ) → (n < 16 * s) ⊎ (16 * s + k ≤ n) → get_or tracks n no_track ≡ get_or start n no_track) → IsTrackOf (track_at start s k) es → IsTrackOf (get_or tracks (16 * s + k) d) es
-own-track start tracks s k d es within others is =
-    subst (λ (t : Track). IsTrackOf t es) (sym (get_or_default tracks (16 * s + k) d no_track within ∙ others (16 * s + k) (inr (omega arith)))) is
+pub own-track : (start tracks : List Track) (s k : ℕ) (now : Track) (es : List (Pair Observed)) → ((n : ℕ) → (n < 16 * s) ⊎ (16 * s + k ≤ n) → get_or tracks n no_track ≡ get_or start n no_track)
+    → now ≡ get_or tracks (16 * s + k) no_track → IsTrackOf (track_at start s k) es → IsTrackOf now es
+own-track start tracks s k now es others is track = subst (λ (t : Track). IsTrackOf t es) (sym (is ∙ others (16 * s + k) (inr (omega arith)))) track
 
 pub own-more : (start tracks : List Track) (codes : List SharedCode) (p : Pair SatelliteRow) (s k : ℕ) (now : Track) → 16 * s + k < length tracks
     → ((j : ℕ) (code : SharedCode) (es : List (Pair Observed)) → j < k → IsTrackOf (track_at start s j) es → IsTrackOf (track_at tracks s j) (cells_of (get_or codes j code) p ∷ es))

@@ -78,7 +78,7 @@ pub record NextPair (side : Side) (old new old' new' : RowReader) (last : ℕ) (
 
 rise-from : (n last : ℕ) (rows : List SatelliteRow) → ((y : SatelliteRow) (ys : List SatelliteRow) → rows ≡ y ∷ ys → n < y.satellite) → RiseAbove last rows → RiseAbove n rows
 rise-from n last [] above rise = tt
-rise-from n last (y ∷ ys) above rise = (above y ys refl, rise.1)
+rise-from n last (y ∷ ys) above rise = (above y ys refl, rise.1, rise.2)
 
 old-rows : (old new : RowReader) (r : SatelliteRow) → old.satellite ≡ Some r.satellite → old.observed.items ≡ r.observed.items → next_rows Old old new ≡ old_alone by_satellite r
 old-rows old new r satellite shown =

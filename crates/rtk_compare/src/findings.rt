@@ -31,11 +31,11 @@ pub struct Findings {
 }
 
 // Keeps a difference, if there is room for it.
-fn keep(first: &mut ArrayVec<Difference, MOST_OF_CLASS>, difference: &Difference)
-    ensures { first.new.items ≡ take 100 (first.old.items ++ difference.now ∷ []) }
+fn keep<T: Copy + Default>(first: &mut ArrayVec<T, MOST_OF_CLASS>, difference: T)
+    ensures { first.new.items ≡ take 100 (first.old.items ++ difference ∷ []) }
 {
     if first.len() < MOST_OF_CLASS {
-        first.push(*difference);
+        first.push(difference);
     }
 }
 
@@ -49,8 +49,8 @@ impl Found {
         }
     }
 
-    fn push(&mut self, difference: &Difference)
-        ensures { (c : Class) (ds : List Difference) → c ≡ difference.now.class → HasFound c self.old ds → HasFound c self.new (ds ++ difference.now ∷ []) }
+    fn push(&mut self, difference: Difference)
+        ensures { (c : Class) (ds : List Difference) → c ≡ difference.class → HasFound c self.old ds → HasFound c self.new (ds ++ difference ∷ []) }
     {
         self.count = self.count.saturating_add(1);
         keep(&mut self.first, difference);
@@ -82,9 +82,9 @@ impl Findings {
             place: *place,
         };
         match class {
-            Class::Lost => self.lost.push(&difference),
-            Class::Changed => self.changed.push(&difference),
-            Class::Explained => self.explained.push(&difference),
+            Class::Lost => self.lost.push(difference),
+            Class::Changed => self.changed.push(difference),
+            Class::Explained => self.explained.push(difference),
         }
     }
 

@@ -9,7 +9,7 @@ ghost use Rattle.rtk_compare.specs.Headers.{lines_of, is_known, is_same_place, p
 
 use crate::difference::{Class, Place, What};
 use crate::findings::Findings;
-use rtk_obs::{AnyCode, Channel, Position};
+use rtk_obs::{AnyCode, Position};
 use rtk_rinex::{Glonass, MixedHead, MixedHeading};
 
 /// Something that both files can have or not.
@@ -99,27 +99,30 @@ fn compare_codes(olds: &[AnyCode], news: &[AnyCode], findings: &mut Findings)
     }
 }
 
-// Returns the channel of a slot.
-fn channel_of(glonass: &Glonass, slot: u8) -> Option<Channel>
+// Returns the number of the channel of a slot.
+fn channel_of(glonass: &Glonass, slot: u8) -> Option<i8>
     requires { IsSlot slot }
     ensures { result ≡ channel_at glonass.now.channels slot }
 {
-    glonass.channels().channel(slot)
+    match glonass.channels().channel(slot) {
+        Some(channel) => Some(channel.number()),
+        None => None,
+    }
 }
 
 // Has the old file a channel that the new one has not?
-fn channel_is_gone(old: Option<Channel>, new: Option<Channel>) -> bool
+fn channel_is_gone(old: Option<i8>, new: Option<i8>) -> bool
     ensures { result ≡ is_gone old new }
 {
     old.is_some() && new.is_none()
 }
 
 // Have both files a channel, but not the same?
-fn is_other_channel(old: Option<Channel>, new: Option<Channel>) -> bool
+fn is_other_channel(old: Option<i8>, new: Option<i8>) -> bool
     ensures { result ≡ is_other_channel old new }
 {
     match (old, new) {
-        (Some(old), Some(new)) => old.number() != new.number(),
+        (Some(old), Some(new)) => old != new,
         _ => false,
     }
 }

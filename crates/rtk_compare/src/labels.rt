@@ -7,7 +7,7 @@ ghost use Rattle.rtk_compare.specs.Labels.{field_lines, label_lines};
 use crate::difference::What;
 use crate::findings::Findings;
 use crate::headers::{Having, is_same_text};
-use rtk_label::Label;
+use rtk_label::{Label, LabelParts};
 
 // Is a field filled? An empty text is a blank one.
 fn is_filled(field: &[u8]) -> bool
@@ -27,11 +27,10 @@ fn compare_field(what: What, old: &[u8], new: &[u8], findings: &mut Findings)
     field.put(what, findings);
 }
 
-/// Adds the differences of two labels.
-pub fn compare_labels(old: &Label, new: &Label, findings: &mut Findings)
+// Adds the differences of the texts of two labels.
+fn compare_parts(old: &LabelParts<'_>, new: &LabelParts<'_>, findings: &mut Findings)
     ensures { Adds findings.old findings.new (label_lines old.now new.now) }
 {
-    let (old, new) = (old.parts(), new.parts());
     compare_field(What::RunBy, old.run_by, new.run_by, findings);
     compare_field(What::MarkerNumber, old.marker_number, new.marker_number, findings);
     compare_field(What::Observer, old.observer, new.observer, findings);
@@ -44,4 +43,13 @@ pub fn compare_labels(old: &Label, new: &Label, findings: &mut Findings)
     compare_field(What::DeltaHeight, old.height, new.height, findings);
     compare_field(What::DeltaEast, old.east, new.east, findings);
     compare_field(What::DeltaNorth, old.north, new.north, findings);
+}
+
+/// Adds the differences of two labels.
+pub fn compare_labels(old: &Label, new: &Label, findings: &mut Findings)
+    ensures { Adds findings.old findings.new (label_lines old.now new.now) }
+{
+    let old_parts = old.parts();
+    let new_parts = new.parts();
+    compare_parts(&old_parts, &new_parts, findings);
 }

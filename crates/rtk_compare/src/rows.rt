@@ -1,12 +1,15 @@
 //! The rows of two records side by side.
 
-ghost use Rattle.std.specs.Prelude.{◌≡◌, ◌≤◌, ◌*◌, ℕ, List, length, IfSome, IfNone};
+ghost use Rattle.std.specs.Prelude.{◌≡◌, ◌<◌, ◌≤◌, ◌*◌, ◌∷◌, ℕ, List, length, get_or, set, IfSome, IfNone, Some};
+ghost use Rattle.rtk_rinex.specs.declared.epoch_table.Observed.{Observed};
 ghost use Rattle.rtk_rinex.specs.declared.epoch_table.SatelliteRow.{SatelliteRow};
 ghost use Rattle.rtk_tracking.specs.Epochs.{shown_at};
 ghost use Rattle.rtk_compare.specs.declared.shared_codes.SharedCode.{SharedCode};
 ghost use Rattle.rtk_compare.specs.Pairs.{Pair, by_satellite, side_by_side};
 ghost use Rattle.rtk_compare.specs.Differences.{Adds};
-ghost use Rattle.rtk_compare.specs.Steps.Tracks.{AreTracks, AreTracksAt, AreTracksOf};
+ghost use Rattle.rtk_compare.specs.declared.track.Track.{Track};
+ghost use Rattle.rtk_compare.specs.Records.{cells_of};
+ghost use Rattle.rtk_compare.specs.Steps.Tracks.{IsTrackOf, AreTracks, AreTracksAt, AreTracksOf, lines_if_told};
 ghost use Rattle.rtk_compare.specs.Steps.SharedCodes.{HasShared};
 ghost use Rattle.rtk_compare.specs.Steps.Readers.{AreRowsOf};
 ghost use Rattle.rtk_compare.specs.Steps.Sides.{IsNextSide};
@@ -84,6 +87,48 @@ impl<'r> RowPair<'r> {
     }
 }
 
+// Returns the code at this place.
+fn code_at(codes: &[SharedCode], place: usize) -> SharedCode
+    requires { place < length codes.now }
+    ensures { (d : SharedCode) → result ≡ get_or codes.now place d }
+{
+    codes[place]
+}
+
+// Returns the track at this place.
+fn track_in(tracks: &[Track], place: usize) -> Track
+    requires { place < length tracks.now }
+    ensures { (d : Track) → result ≡ get_or tracks.now place d }
+{
+    tracks[place]
+}
+
+// Puts a track at this place.
+fn put_track(tracks: &mut [Track], place: usize, track: Track)
+    requires { place < length tracks.old }
+    ensures { tracks.new ≡ set tracks.old place track }
+{
+    tracks[place] = track;
+}
+
+// Compares a code of a satellite. Its differences are added if there is a time, that of its epoch.
+fn compare_code(
+    code: &SharedCode,
+    track: &mut Track,
+    row: &RowPair<'_>,
+    time: &Option<GpsMs>,
+    findings: &mut Findings,
+)
+    ensures lines { (es : List (Pair Observed)) → IsTrackOf track.old es
+        → Adds findings.old findings.new (lines_if_told (place_at time.now (row_view row.now) code.now) es (cells_of code.now (row_view row.now))) }
+    ensures track { (es : List (Pair Observed)) → IsTrackOf track.old es → IsTrackOf track.new (cells_of code.now (row_view row.now) ∷ es) }
+{
+    let old = shown_at(row.old, code.old);
+    let new = shown_at(row.new, code.new);
+    let place = row.place_of(code, time);
+    compare_cell(track, &old, &new, &place, findings);
+}
+
 // Compares a satellite. Its differences are added if there is a time, that of its epoch.
 fn compare_row(
     codes: &[SharedCode],
@@ -102,15 +147,14 @@ fn compare_row(
     row.put_gone(time, findings);
     let first = first_track(row.satellite);
     for k in 0..codes.len() {
-        let code = codes[k];
-        let old = shown_at(row.old, code.old);
-        let new = shown_at(row.new, code.new);
-        let place = row.place_of(&code, time);
-        compare_cell(&mut tracks[first + k], &old, &new, &place, findings);
+        let code = code_at(codes, k);
+        let mut track = track_in(tracks, first + k);
+        compare_code(&code, &mut track, row, time, findings);
+        put_track(tracks, first + k, track);
     }
 }
 
-// Returns the satellite that comes next.
+// Returns the satellite that comes next, if it is that of this side.
 fn next_satellite(side: Side, old: &RowReader<'_>, new: &RowReader<'_>) -> Option<SatelliteIndex>
     ensures { result ≡ next_view side old.now.satellite new.now.satellite }
 {
@@ -125,6 +169,39 @@ fn observed_if<'r>(has_row: bool, reader: &'r RowReader<'_>) -> &'r [Observed]
     ensures { result.now ≡ observed_of has_row reader.now }
 {
     if has_row { reader.observed() } else { &[] }
+}
+
+// Compares the rows that come next, which the files of this side have.
+fn compare_side(
+    side: Side,
+    shared: &SharedCodes,
+    tracks: &mut [Track],
+    old: &RowReader<'_>,
+    new: &RowReader<'_>,
+    time: &Option<GpsMs>,
+    findings: &mut Findings,
+)
+    requires tracks { AreTracks tracks.old }
+    requires side { IsNextSide old.now.satellite new.now.satellite (Some side) }
+    ensures size { AreTracks tracks.new }
+    ensures lines { (codes : ℕ → List SharedCode) (earlier : List (List (Pair SatelliteRow))) → HasShared shared.now codes
+        → AreTracksAt tracks.old codes earlier (next_rows side old.now new.now).old.satellite
+        → Adds findings.old findings.new (lines_told time.now codes earlier (next_rows side old.now new.now)) }
+    ensures tracks { (codes : ℕ → List SharedCode) → HasShared shared.now codes
+        → NotesRow tracks.old tracks.new (codes (next_rows side old.now new.now).old.satellite) (next_rows side old.now new.now) }
+{
+    let Some(satellite) = next_satellite(side, old, new) else {
+        unreachable!();
+    };
+    let old_observed = observed_if(side.has_old(), old);
+    let new_observed = observed_if(side.has_new(), new);
+    let row = RowPair {
+        satellite,
+        old: old_observed,
+        new: new_observed,
+    };
+    let codes = shared.of_satellite(satellite);
+    compare_row(codes, tracks, &row, time, findings);
 }
 
 // Compares the rows that come next, and answers which files have one.
@@ -146,18 +223,13 @@ fn compare_next(
         → IfSome result (λ side. NotesRow tracks.old tracks.new (codes (next_rows side old.now new.now).old.satellite) (next_rows side old.now new.now)) }
     ensures end { IfNone result ((findings.new ≡ findings.old) × (tracks.new ≡ tracks.old)) }
 {
-    let side = next_side(old.number(), new.number())?;
-    let satellite = next_satellite(side, old, new)?;
-    let old_observed = observed_if(side.has_old(), old);
-    let new_observed = observed_if(side.has_new(), new);
-    let row = RowPair {
-        satellite,
-        old: old_observed,
-        new: new_observed,
-    };
-    let codes = shared.of_satellite(satellite);
-    compare_row(codes, tracks, &row, time, findings);
-    Some(side)
+    match next_side(old.number(), new.number()) {
+        Some(side) => {
+            compare_side(side, shared, tracks, old, new, time, findings);
+            Some(side)
+        }
+        None => None,
+    }
 }
 
 /// Compares the rows of two records. Their differences are added if there is a time.

@@ -1,6 +1,7 @@
 //! The codes that two files have both.
 
-ghost use Rattle.std.specs.Prelude.{◌≡◌, ◌≤◌, ◌<◌, ◌+◌, ◌++◌, length};
+ghost use Rattle.std.specs.Prelude.{◌≡◌, ◌≤◌, ◌<◌, ◌+◌, ◌++◌, length, get_or};
+ghost use Rattle.rtk_obs.specs.declared.any_code.AnyCode.{AnyCode};
 ghost use Rattle.rtk_rinex.specs.MixedHeader.{codes_of};
 ghost use Rattle.rtk_compare.specs.Codes.{place_in, with_places, shared_of, shared_codes};
 ghost use Rattle.rtk_compare.specs.Steps.SharedCodes.{HasShared, codes_at};
@@ -71,6 +72,14 @@ fn put_shared(shared: &mut Shared, code: AnyCode, old: usize, new: Option<usize>
     }
 }
 
+// Returns the code at this place.
+fn code_at(listed: &[AnyCode], place: usize) -> AnyCode
+    requires { place < length listed.now }
+    ensures { (d : AnyCode) → result ≡ get_or listed.now place d }
+{
+    listed[place]
+}
+
 // Returns the codes that both lists have.
 fn shared_of(olds: &[AnyCode], news: &[AnyCode]) -> Shared
     requires { length olds.now ≤ 16 }
@@ -79,8 +88,9 @@ fn shared_of(olds: &[AnyCode], news: &[AnyCode]) -> Shared
 {
     let mut shared = ArrayVec::new();
     for old in 0..olds.len() {
-        let code = olds[old];
-        put_shared(&mut shared, code, old, place_in(code, news));
+        let code = code_at(olds, old);
+        let new = place_in(code, news);
+        put_shared(&mut shared, code, old, new);
     }
     shared
 }

@@ -1,9 +1,9 @@
 use Rattle.std.proofs.Common.{◌≡◌, ◌++◌, ◌||◌, true, Bool, ℕ, ltb, List, length, take, sym, ap, ◌∙◌, arith}
-use Rattle.std.proofs.lemmas.Bool.{lt-ltb}
+use Rattle.std.proofs.lemmas.Bool.{lt-ltb, or_right}
 use Rattle.std.proofs.lemmas.List.{take_all}
 use Rattle.rtk_compare.specs.declared.difference.Difference.{Difference}
-use Rattle.rtk_compare.specs.Answer.{object_text, objects_text}
-use Rattle.rtk_compare.proofs.TextLemmas.{or-true, objects-more}
+use Rattle.rtk_compare.specs.Answer.{objects_text}
+use Rattle.rtk_compare.proofs.TextLemmas.{objects-more}
 use Rattle.rtk_compare.proofs.answer.put_objects.Goals as goal
 
 pub loop-difference-preserved : goal.loop-difference-preserved
@@ -11,9 +11,8 @@ loop-difference-preserved c =
     let l = c.loop-difference in
     let k : ℕ = l.difference-index in
     record {
-      are = sym (ap (λ (b : Bool). c.args.are_others || b) (lt-ltb 0 (k + 1) (omega arith)) ∙ or-true c.args.are_others);
-      text = objects-more c.args.are_others c.args.differences.now k _ c.args.text.now.items l.text.items c.put_object.new.text.items c.loop-difference-test.true l.invariant.text
-          (c.in_ok-put_object.ensures ∙ ap (λ (b : Bool). l.text.items ++ object_text b _) l.invariant.are);
+      are = sym (or_right c.args.are_others (ltb 0 (k + 1)) (lt-ltb 0 (k + 1) (omega arith)));
+      text = objects-more c.args.are_others l.are c.args.differences.now k _ c.args.text.now.items l.text.items c.put_object.new.text.items c.loop-difference-test.true l.invariant.are l.invariant.text c.in_ok-put_object.ensures;
     }
 
 pub returns-clause-text : goal.returns-clause-text

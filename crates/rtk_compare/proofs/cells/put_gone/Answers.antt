@@ -15,5 +15,4 @@ returns c =
     let strength =
     c.is_gone-strength.ensures ∙ ap (λ (o : Option ℤ). is_gone o c.widened-new_strength.result) c.widened-old_strength.ensures ∙ ap (λ (o : Option ℤ). is_gone (strength_value old) o) c.widened-new_strength.ensures
     ∙ strength-gone old new in
-    adds-more (told Lost Range p c.is_gone-range.ensures c.push_if.ensures)
-    (adds-more (told Lost Phase p c.is_gone-phase.ensures c.push_if-2.ensures) (told Lost Strength p strength c.push_if-3.ensures))
+    adds-more (adds-more (told Lost Range p c.is_gone-range.ensures c.push_if.ensures) (told Lost Phase p c.is_gone-phase.ensures c.push_if-2.ensures)) (told Lost Strength p strength c.push_if-3.ensures)

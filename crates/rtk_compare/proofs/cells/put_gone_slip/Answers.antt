@@ -9,5 +9,5 @@ returns c = λ earlier track.
     let p = c.args.place.now in
     let gone = c.args.is_gone in
     let t = c.args.track.now in
-    adds-more (told Lost Slip p (lost-slip gone t earlier track) c.push_if.ensures)
-    (adds-more (told Explained FilledSlip p (filled-slip gone t earlier track) c.push_if-2.ensures) (told Explained FirstSlip p (first-slip gone t earlier track) c.push_if-3.ensures))
+    adds-more (adds-more (told Lost Slip p (lost-slip gone t earlier track) c.push_if.ensures) (told Explained FilledSlip p (filled-slip gone t earlier track) c.push_if-2.ensures))
+    (told Explained FirstSlip p (first-slip gone t earlier track) c.push_if-3.ensures)

@@ -19,8 +19,8 @@ loop-side-preserved c =
       size = c.compare_epoch.ensures.size;
       walked = λ codes olds news shared tracks left_old left_new.
           let h = l.invariant.walked codes olds news shared tracks left_old left_new in
-          let n = next-epochs c.in-Some.side l.olds l.news c.take_if-old_rows.new.self c.take_if-new_rows.new.self c.take_if-old_rows.result c.take_if-new_rows.result c.time.result c.time-2.result h.olds h.news c.in-Some.ensures
-          c.time.ensures c.time-2.ensures h.at_old h.at_new
+          let n = next-epochs c.in-Some.side l.olds l.news c.take_if-old_rows.new.self c.take_if-new_rows.new.self c.take_if-old_rows.result c.take_if-new_rows.result c.time.result c.time-in-loop-side.result h.olds h.news c.in-Some.ensures
+          c.time.ensures c.time-in-loop-side.ensures h.at_old h.at_new
           (takes-as l.olds c.take_if-old_rows.new.self c.take_if-old_rows.result _ _ c.has_old.ensures (record { value = old.value; none = old.none; next = old.next; same = old.same }))
           (takes-as l.news c.take_if-new_rows.new.self c.take_if-new_rows.result _ _ c.has_new.ensures (record { value = new.value; none = new.none; next = new.next; same = new.same })) in
           walked-more codes olds news c.args.findings.now l.findings c.compare_epoch.new.findings l.tracks c.compare_epoch.new.tracks l.olds l.news c.take_if-old_rows.new.self c.take_if-new_rows.new.self
@@ -30,10 +30,10 @@ loop-side-preserved c =
 
 pub loop-side-smaller : goal.loop-side-smaller
 loop-side-smaller c =
-    fewer-records c.in-Some.side c.loop-side.olds c.loop-side.news c.take_if-old_rows.new.self c.take_if-new_rows.new.self c.time.result c.time-2.result c.has_old.result c.has_new.result c.in-Some.ensures c.time.ensures c.time-2.ensures
+    fewer-records c.in-Some.side c.loop-side.olds c.loop-side.news c.take_if-old_rows.new.self c.take_if-new_rows.new.self c.time.result c.time-in-loop-side.result c.has_old.result c.has_new.result c.in-Some.ensures c.time.ensures c.time-in-loop-side.ensures
     c.has_old.ensures c.has_new.ensures c.take_if-old_rows.ensures.less c.take_if-new_rows.ensures.less
 
 pub returns : goal.returns
 returns c = λ codes olds news shared tracks left_old left_new.
     let l = c.loop-side in
-    walked-all codes olds news c.args.findings.now l.findings l.tracks l.olds l.news c.time.result c.time-2.result (l.invariant.walked codes olds news shared tracks left_old left_new) c.in_default.ensures c.time.ensures c.time-2.ensures
+    walked-all codes olds news c.args.findings.now l.findings l.tracks l.olds l.news c.time.result c.time-in-loop-side.result (l.invariant.walked codes olds news shared tracks left_old left_new) c.in_default.ensures c.time.ensures c.time-in-loop-side.ensures

@@ -19,16 +19,16 @@ loop-side-preserved c =
       size = c.compare_next.ensures.size;
       compared = λ codes earlier olds news shared tracks old new old_rise new_rise.
           compared-more c.args.time.now codes earlier (side_by_side by_satellite olds news) c.args.findings.now l.findings c.compare_next.new.findings l.tracks c.compare_next.new.tracks c.in-Some.side l.olds l.news
-          c.advance_if.new.self c.advance_if-2.new.self (λ s. shared.few s) (l.invariant.compared codes earlier olds news shared tracks old new old_rise new_rise) c.in-Some.ensures.side
+          c.advance_if.new.self c.advance_if-in-Some.new.self (λ s. shared.few s) (l.invariant.compared codes earlier olds news shared tracks old new old_rise new_rise) c.in-Some.ensures.side
           (c.in-Some.ensures.lines codes earlier shared) (c.in-Some.ensures.tracks codes shared)
           (goes-on l.olds c.advance_if.new.self _ _ c.has_old.ensures c.advance_if.ensures.next c.advance_if.ensures.same)
-          (goes-on l.news c.advance_if-2.new.self _ _ c.has_new.ensures c.advance_if-2.ensures.next c.advance_if-2.ensures.same);
+          (goes-on l.news c.advance_if-in-Some.new.self _ _ c.has_new.ensures c.advance_if-in-Some.ensures.next c.advance_if-in-Some.ensures.same);
     }
 
 pub loop-side-smaller : goal.loop-side-smaller
 loop-side-smaller c =
-    fewer-rows c.in-Some.side c.loop-side.olds c.loop-side.news c.advance_if.new.self c.advance_if-2.new.self c.has_old.result c.has_new.result c.in-Some.ensures.side c.has_old.ensures c.has_new.ensures
-    c.advance_if.ensures.less c.advance_if-2.ensures.less
+    fewer-rows c.in-Some.side c.loop-side.olds c.loop-side.news c.advance_if.new.self c.advance_if-in-Some.new.self c.has_old.result c.has_new.result c.in-Some.ensures.side c.has_old.ensures c.has_new.ensures
+    c.advance_if.ensures.less c.advance_if-in-Some.ensures.less
 
 pub returns-clause-compared : goal.returns-clause-compared
 returns-clause-compared c = λ codes earlier olds news shared tracks old new old_rise new_rise.
