@@ -12,7 +12,7 @@ use Rattle.rtk_compare.specs.declared.record_reader.RecordReader.{RecordReader}
 use Rattle.rtk_compare.specs.declared.row_reader.RowReader.{RowReader}
 use Rattle.rtk_compare.specs.declared.side.Side.{Side}
 use Rattle.rtk_compare.specs.declared.side.Side.TheVariants.{Old, New, Both}
-use Rattle.rtk_compare.specs.Steps.Readers.{AreRowsOf, IsNextOf, IsAtRows, some_count, count_of, rows_left, time_of, IsRecordIn, IsAtEpochs, records_left}
+use Rattle.rtk_compare.specs.Steps.Readers.{AreRowsOf, GivesNextRow, IsAtRows, some_count, count_of, rows_left, time_of, IsRecordIn, IsAtEpochs, records_left}
 use Rattle.rtk_compare.specs.Steps.Records.{IsSideOf}
 use Rattle.rtk_compare.specs.Steps.Rows.{Rise}
 use Rattle.rtk_compare.specs.Steps.Sides.{IsNextSide, has_old, has_new}
@@ -38,13 +38,13 @@ side-counts (Some a) (Some b) Both is = omega arith
 
 -- ---- rows
 
-next-some : (s : ℕ) (all : List SatelliteRow) (next : SatelliteRow) (observed : List Observed) (left : MixedRowsView) → next.satellite ≡ s → next.observed.items ≡ observed → IsNextRowOf all next left → IsNextOf (Some s) all (Some left) observed
+next-some : (s : ℕ) (all : List SatelliteRow) (next : SatelliteRow) (observed : List Observed) (left : MixedRowsView) → next.satellite ≡ s → next.observed.items ≡ observed → IsNextRowOf all next left → GivesNextRow (Some s) all (Some left) observed
 next-some s [] next observed left satellite shown is = absurd is
 next-some s (row ∷ rows) next observed left satellite shown is =
     (sym satellite ∙ ap (λ (r : SatelliteRow). r.satellite) is.0, sym shown ∙ ap (λ (r : SatelliteRow). r.observed.items) is.0, is.1)
 
 pub next-row : (answer : Option ℕ) (all : List SatelliteRow) (next : ℕ → SatelliteRow) (observed : List Observed) (left : MixedRowsView) → ((s : ℕ) → (next s).satellite ≡ s) → ((s : ℕ) → (next s).observed.items ≡ observed)
-    → MatchOption answer (all ≡ []) (λ s. IsNextRowOf all (next s) left) → IsNextOf answer all (Some left) observed
+    → MatchOption answer (all ≡ []) (λ s. IsNextRowOf all (next s) left) → GivesNextRow answer all (Some left) observed
 next-row None all next observed left satellite shown is = is
 next-row (Some s) all next observed left satellite shown is = next-some s all (next s) observed left (satellite s) (shown s) is
 
@@ -52,13 +52,13 @@ pub fewer-row : (answer : Option ℕ) (old new : MixedRowsView) (same : Type 0) 
 fewer-row None old new same end = (let is = ap (λ (r : MixedRowsView). r.count) end.1 in omega (arith, is))
 fewer-row (Some s) old new same reads = (let is = reads.count in omega (arith, is))
 
-at-rows-by : (r : RowReader) (o : Option ℕ) (all : List SatelliteRow) → r.satellite ≡ o → IsNextOf o all r.rows r.observed.items → IsAtRows r all
+at-rows-by : (r : RowReader) (o : Option ℕ) (all : List SatelliteRow) → r.satellite ≡ o → GivesNextRow o all r.rows r.observed.items → IsAtRows r all
 at-rows-by r None [] is next = is
 at-rows-by r None (row ∷ rows) is next = absurd (cc)
 at-rows-by r (Some s) [] is next = absurd next
 at-rows-by r (Some s) (row ∷ rows) is next = (is ∙ ap Some next.0, next.1, next.2)
 
-pub at-rows : (r : RowReader) (all : List SatelliteRow) → IsNextOf r.satellite all r.rows r.observed.items → IsAtRows r all
+pub at-rows : (r : RowReader) (all : List SatelliteRow) → GivesNextRow r.satellite all r.rows r.observed.items → IsAtRows r all
 at-rows r all next = at-rows-by r r.satellite all refl next
 
 -- the satellites of these rows are good

@@ -20,7 +20,7 @@ use Rattle.rtk_compare.specs.Cells.{told_if}
 use Rattle.rtk_compare.specs.Records.{row_lines, epoch_lines, lines_after, record_lines}
 use Rattle.rtk_compare.specs.Differences.{Adds}
 use Rattle.rtk_compare.specs.Steps.Readers.{AreRowsOf, IsAtEpochs, time_of}
-use Rattle.rtk_compare.specs.Steps.Records.{IsSideOf, moment_of, gone_epoch, ComparesEpoch}
+use Rattle.rtk_compare.specs.Steps.Records.{IsSideOf, moment_of_both, gone_epoch, ComparesEpoch}
 use Rattle.rtk_compare.specs.Steps.Rows.{Rise, lines_told, ComparesRows}
 use Rattle.rtk_compare.specs.Steps.Sides.{IsNextSide, has_old, has_new}
 use Rattle.rtk_compare.specs.Steps.Tracks.{pair, AreTracksOf}
@@ -52,7 +52,7 @@ epoch-by codes earlier p a b is_a is_b =
     ap (λ (x : Bool). cond x [] (cond (eqb (length p.new.rows) 0) lost rows)) is_a ∙ ap (λ (x : Bool). cond a [] (cond x lost rows)) is_b
 
 pub epoch-told : (old new : Option MixedRowsView) (codes : ℕ → List SharedCode) (earlier : List (List (Pair SatelliteRow))) (p : Pair EpochTableView) → IsSideOf old p.old → IsSideOf new p.new
-    → gone_epoch old new ++ flat_map (lines_told (moment_of old new) codes earlier) (rows_beside p) ≡ epoch_lines codes earlier p
+    → gone_epoch old new ++ flat_map (lines_told (moment_of_both old new) codes earlier) (rows_beside p) ≡ epoch_lines codes earlier p
 epoch-told None new codes earlier p is_old is_new =
     flat_map-none (rows_beside p) ∙ sym (epoch-by codes earlier p true (eqb (length p.new.rows) 0) (ap (λ (xs : List SatelliteRow). eqb (length xs) 0) is_old) refl)
 epoch-told (Some old) None codes earlier p is_old is_new =
@@ -64,7 +64,7 @@ epoch-told (Some old) (Some new) codes earlier p is_old is_new =
     ∙ sym (epoch-by codes earlier p false false (some-rows p.old.rows is_old.1.1.some) (some-rows p.new.rows is_new.1.1.some))
 
 pub epoch-compared : (old new : Option MixedRowsView) (codes : ℕ → List SharedCode) (earlier : List (List (Pair SatelliteRow))) (p : Pair EpochTableView) (time : Option ℕ) (a b c : Findings) (noted : List Track)
-    → IsSideOf old p.old → IsSideOf new p.new → Adds a b (gone_epoch old new) → time ≡ moment_of old new → ComparesRows time codes earlier (rows_beside p) b c noted → ComparesEpoch codes earlier p a c noted
+    → IsSideOf old p.old → IsSideOf new p.new → Adds a b (gone_epoch old new) → time ≡ moment_of_both old new → ComparesRows time codes earlier (rows_beside p) b c noted → ComparesEpoch codes earlier p a c noted
 epoch-compared old new codes earlier p time a b c noted is_old is_new gone at rows = record {
   lines = adds-as (ap (λ (t : Option ℕ). gone_epoch old new ++ flat_map (lines_told t codes earlier) (rows_beside p)) at ∙ epoch-told old new codes earlier p is_old is_new) (adds-more gone rows.lines);
   tracks = rows.tracks;

@@ -56,12 +56,12 @@ slot_lines g h slot =
 abbrev pub channel_lines : GlonassView → GlonassView → List Difference
 channel_lines g h = flat_map (slot_lines g h) (range_with_len 1 27)
 
-abbrev pub told_lines : GlonassView → GlonassView → List Difference
-told_lines g h = channel_lines g h ++ told_if (not (g.leap_seconds == h.leap_seconds)) Changed LeapSeconds in_header
+abbrev pub lines_of_told : GlonassView → GlonassView → List Difference
+lines_of_told g h = channel_lines g h ++ told_if (not (g.leap_seconds == h.leap_seconds)) Changed LeapSeconds in_header
 
 abbrev pub told_beside : GlonassView → Option GlonassView → List Difference
 told_beside g None = []
-told_beside g (Some h) = told_lines g h
+told_beside g (Some h) = lines_of_told g h
 
 -- what is told of GLONASS, if both files have its codes
 abbrev pub glonass_differences : Option GlonassView → Option GlonassView → List Difference

@@ -5,7 +5,7 @@ ghost use Rattle.rtk_obs.specs.Carriers.{IsSlot, channel_at};
 ghost use Rattle.rtk_rinex.specs.Header.{position_view};
 ghost use Rattle.rtk_compare.specs.Cells.{is_gone};
 ghost use Rattle.rtk_compare.specs.Differences.{Adds};
-ghost use Rattle.rtk_compare.specs.Headers.{lines_of, is_known, is_same_place, position_differences, is_listed, code_line, code_lines, is_other_channel, slot_lines, channel_lines, told_lines, told_beside, glonass_differences, marker_lines, header_lines};
+ghost use Rattle.rtk_compare.specs.Headers.{lines_of, is_known, is_same_place, position_differences, is_listed, code_line, code_lines, is_other_channel, slot_lines, channel_lines, lines_of_told, told_beside, glonass_differences, marker_lines, header_lines};
 
 use crate::difference::{Class, Place, What};
 use crate::findings::Findings;
@@ -152,7 +152,7 @@ fn compare_channels(old: &Glonass, new: &Glonass, findings: &mut Findings)
 
 // Compares what is told of GLONASS.
 fn compare_told(old: &Glonass, new: &Glonass, findings: &mut Findings)
-    ensures { Adds findings.old findings.new (told_lines old.now new.now) }
+    ensures { Adds findings.old findings.new (lines_of_told old.now new.now) }
 {
     compare_channels(old, new, findings);
     let place = Place::header();

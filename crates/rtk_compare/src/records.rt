@@ -8,7 +8,7 @@ ghost use Rattle.rtk_compare.specs.declared.shared_codes.SharedCode.{SharedCode}
 ghost use Rattle.rtk_compare.specs.Pairs.{Pair};
 ghost use Rattle.rtk_compare.specs.Records.{record_lines};
 ghost use Rattle.rtk_compare.specs.Differences.{Adds};
-ghost use Rattle.rtk_compare.specs.Steps.Records.{IsSideOf, moment_of, gone_epoch, ComparesEpoch};
+ghost use Rattle.rtk_compare.specs.Steps.Records.{IsSideOf, moment_of_both, gone_epoch, ComparesEpoch};
 ghost use Rattle.rtk_compare.specs.Steps.SharedCodes.{HasShared};
 ghost use Rattle.rtk_compare.specs.Steps.Tracks.{AreTracks, AreTracksOf};
 
@@ -23,8 +23,8 @@ use rtk_obs::GpsMs;
 use rtk_rinex::{MixedRecords, MixedRows};
 
 // Returns the moment of an epoch that both files have.
-fn moment_of(old: &Option<MixedRows<'_>>, new: &Option<MixedRows<'_>>) -> Option<GpsMs>
-    ensures { result ≡ moment_of old.now new.now }
+fn moment_of_both(old: &Option<MixedRows<'_>>, new: &Option<MixedRows<'_>>) -> Option<GpsMs>
+    ensures { result ≡ moment_of_both old.now new.now }
 {
     match (old, new) {
         (Some(old), Some(_)) => Some(old.time()),
@@ -61,7 +61,7 @@ fn compare_epoch(
         → ComparesEpoch codes earlier p findings.old findings.new tracks.new }
 {
     put_gone_epoch(&old, &new, findings);
-    let time = moment_of(&old, &new);
+    let time = moment_of_both(&old, &new);
     compare_rows(shared, tracks, old, new, &time, findings);
 }
 

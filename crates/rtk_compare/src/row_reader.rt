@@ -2,7 +2,7 @@
 
 ghost use Rattle.std.specs.Prelude.{◌≡◌, ◌+◌, ◌≤◌, true, false, if◌then◌else◌, List};
 ghost use Rattle.rtk_rinex.specs.declared.epoch_table.SatelliteRow.{SatelliteRow};
-ghost use Rattle.rtk_compare.specs.Steps.Readers.{AreRowsOf, IsNextOf, IsAtRows, some_count, count_of, rows_left};
+ghost use Rattle.rtk_compare.specs.Steps.Readers.{AreRowsOf, GivesNextRow, IsAtRows, some_count, count_of, rows_left};
 
 use arrayvec::ArrayVec;
 use rtk_obs::SatelliteIndex;
@@ -23,7 +23,7 @@ fn next_row(
     rows: &mut Option<MixedRows<'_>>,
     observed: &mut ArrayVec<Observed, 16>,
 ) -> Option<SatelliteIndex>
-    ensures next { (all : List SatelliteRow) → AreRowsOf rows.old all → IsNextOf result all rows.new observed.new.items }
+    ensures next { (all : List SatelliteRow) → AreRowsOf rows.old all → GivesNextRow result all rows.new observed.new.items }
     ensures less { some_count result + count_of rows.new ≤ count_of rows.old }
 {
     match rows {

@@ -17,10 +17,10 @@ AreRowsOf None rows = rows ≡ []
 AreRowsOf (Some left) rows = AreRowsLeft left rows
 
 -- what reading the next of these rows gives: its satellite and what its codes show, and the others are left
-abbrev pub IsNextOf : Option ℕ → List SatelliteRow → Option MixedRowsView → List Observed → Type 0
-IsNextOf None rows left observed = rows ≡ []
-IsNextOf (Some s) [] left observed = ⊥
-IsNextOf (Some s) (row ∷ rows) left observed = (s ≡ row.satellite) × (observed ≡ row.observed.items) × AreRowsOf left rows
+abbrev pub GivesNextRow : Option ℕ → List SatelliteRow → Option MixedRowsView → List Observed → Type 0
+GivesNextRow None rows left observed = rows ≡ []
+GivesNextRow (Some s) [] left observed = ⊥
+GivesNextRow (Some s) (row ∷ rows) left observed = (s ≡ row.satellite) × (observed ≡ row.observed.items) × AreRowsOf left rows
 
 -- the first of these rows is the next one, and the others are left
 abbrev pub IsAtRows : RowReader → List SatelliteRow → Type 0

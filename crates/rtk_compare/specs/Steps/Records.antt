@@ -23,10 +23,10 @@ IsSideOf None e = e.rows ≡ []
 IsSideOf (Some rows) e = IsRecordIn (Some rows) e
 
 -- the moment of an epoch that both files have
-abbrev pub moment_of : Option MixedRowsView → Option MixedRowsView → Option ℕ
-moment_of None new = None
-moment_of (Some old) None = None
-moment_of (Some old) (Some new) = Some old.time
+abbrev pub moment_of_both : Option MixedRowsView → Option MixedRowsView → Option ℕ
+moment_of_both None new = None
+moment_of_both (Some old) None = None
+moment_of_both (Some old) (Some new) = Some old.time
 
 -- an epoch that the new file has not
 abbrev pub gone_epoch : Option MixedRowsView → Option MixedRowsView → List Difference
