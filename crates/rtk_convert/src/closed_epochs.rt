@@ -1,81 +1,73 @@
 //! Writes the records of epochs as they close, and at the end of the epochs that are still open.
 
+ghost use Rattle.rtk_convert.specs.Epochs.{set_of};
 ghost use Rattle.rtk_convert.specs.Steps.Faults.{NamesFailedFile};
 ghost use Rattle.rtk_convert.specs.Steps.Closing.{AllAbove, ClosesEpoch, ClosesRemaining};
 ghost use Rattle.rtk_convert.specs.Steps.ShownCells.{AllBelow};
 ghost use Rattle.rtk_convert.specs.ClosedEpochs.{HasClosed};
-ghost use Rattle.rtk_obs.specs.Tracks.{RepresentsSteps};
-ghost use Rattle.rtk_obs.specs.declared.code.Code.{Code};
+ghost use Rattle.rtk_obs.specs.declared.any_code.AnyCode.{AnyCode};
 ghost use Rattle.rtk_rinex.specs.Header.{position_view};
-ghost use Rattle.std.specs.Prelude.{◌≡◌, ℕ, ◌<◌, [], List, false, IfOk};
+ghost use Rattle.std.specs.Prelude.{◌≡◌, ℕ, ◌<◌, [], List, false, map, IfOk};
 
 use crate::epoch_rows::push_rows;
 use crate::fault::ConvertFault;
+use crate::file_entry::FileEntry;
+use crate::row_lines::RowLines;
 use crate::setup::Setup;
 use crate::writing::write_record;
 use arrayvec::ArrayVec;
 use rtk_collect::{GatheredSet, GatheredSets};
 use rtk_frame::Sink;
-use rtk_obs::{CellEntry, Position, Tracks};
-use rtk_rinex::RecordLines;
+use rtk_obs::Position;
 use std::alloc::{AllocError, Global};
 use std::marker::Model;
 
 /// What is known of the closed epochs: the last phases, whether the header is written, and how many
 /// records are written.
 ///
-/// The text of a record is kept from epoch to epoch. The tracks and the room are large, and lie on the
+/// The text of a record is kept from epoch to epoch. The last phases and the room are large, and lie on the
 /// heap, so that no function on the way to them needs a large stack.
 #[derive(Drop)]
-pub(crate) struct ClosedEpochs {
-    tracks: Box<Tracks>,
+pub(crate) struct ClosedEpochs<E: FileEntry> {
+    phases: Box<E::Phases>,
     // Room for cells of an epoch that came in a 1004.
-    room: Box<ArrayVec<CellEntry, 64>>,
-    lines: RecordLines,
+    room: Box<ArrayVec<E, 64>>,
+    lines: E::Lines,
     is_header_out: bool,
     count: u64,
 }
 
 // Clauses don't see the room and the lines, which are written anew for each epoch. The reason why the
 // invariant names every field stands at `Converter`.
-impl Model for ClosedEpochs {
+impl<E: FileEntry> Model for ClosedEpochs<E> {
     ghost use Rattle.std.specs.Prelude.{◌≡◌};
     ghost use Rattle.rtk_convert.specs.ClosedEpochs.{ClosedEpochsView};
 
     ghost Value = { ClosedEpochsView };
 
-    ghost view = { λ r. record { tracks = r.tracks.value; is_header_out = r.is_header_out; count = r.count } };
+    ghost view = { λ r. record { tracks = E.places r.phases.value; is_header_out = r.is_header_out; count = r.count } };
 
-    ghost invariant = { λ r. r ≡ record { tracks = r.tracks; room = r.room; lines = r.lines; is_header_out = r.is_header_out; count = r.count } };
-}
-
-// Makes tracks without a phase. This function is alone in needing the stack for them, which is gone
-// when it returns.
-#[inline(never)]
-fn new_tracks(alloc: Global) -> Result<Box<Tracks>, AllocError>
-    ensures { IfOk result (λ tracks. RepresentsSteps tracks.value []) }
-{
-    Ok(Box::new(alloc, Tracks::new())?)
+    ghost invariant = { λ r. r ≡ record { phases = r.phases; room = r.room; lines = r.lines; is_header_out = r.is_header_out; count = r.count } };
 }
 
 // Makes room for cells, in which none stands yet.
 #[inline(never)]
-fn new_room(alloc: Global) -> Result<Box<ArrayVec<CellEntry, 64>>, AllocError>
+fn new_room<E: FileEntry>(alloc: Global) -> Result<Box<ArrayVec<E, 64>>, AllocError>
     ensures { IfOk result (λ room. room.value.items ≡ []) }
 {
     Ok(Box::new(alloc, ArrayVec::new())?)
 }
 
-impl ClosedEpochs {
+impl<E: FileEntry> ClosedEpochs<E> {
     /// Makes the state in which no epoch is closed.
-    pub(crate) fn new(alloc: Global) -> Result<ClosedEpochs, AllocError>
-        ensures follows { IfOk result (λ r. (listed : List Code) → HasClosed r listed []) }
+    pub(crate) fn new(alloc: Global) -> Result<ClosedEpochs<E>, AllocError>
+        ensures follows { IfOk result (λ r. (listed : List AnyCode) → HasClosed r listed []) }
         ensures below { IfOk result (λ r. (epoch : ℕ) → AllBelow r.tracks epoch) }
     {
         Ok(ClosedEpochs {
-            tracks: new_tracks(alloc)?,
+            phases: E::new_phases(alloc)?,
             room: new_room(alloc)?,
-            lines: RecordLines::new(alloc),
+            lines: E::Lines::new(alloc),
             is_header_out: false,
             count: 0,
         })
@@ -103,17 +95,17 @@ impl ClosedEpochs {
         alloc: Global,
         setup: &Setup,
         position: &Position,
-        set: &GatheredSet,
+        set: &GatheredSet<E>,
         out: &mut O,
     ) -> Result<(), ConvertFault>
         requires { AllBelow self.old.tracks set.now.epoch }
-        ensures closes { ClosesEpoch setup.now (position_view position.now) self.old set.now result self.new
+        ensures closes { ClosesEpoch setup.now (position_view position.now) self.old (set_of E.signal_of set.now) result self.new
             (O.taken out.old) (O.taken out.new) }
         ensures failed { NamesFailedFile result (O.failures out.old) (O.failures out.new) }
     {
         let listed = setup.head().codes();
         push_rows(
-            &mut self.tracks,
+            &mut *self.phases,
             set,
             listed,
             &mut self.lines,
@@ -142,17 +134,17 @@ impl ClosedEpochs {
 
 /// Writes the records of the epochs that are left, rising, and the header before the first record
 /// of the file.
-pub(crate) fn close_remaining<O: Sink>(
+pub(crate) fn close_remaining<E: FileEntry, O: Sink>(
     alloc: Global,
     setup: &Setup,
     position: &Position,
-    closed_epochs: &mut ClosedEpochs,
-    left: &mut GatheredSets,
+    closed_epochs: &mut ClosedEpochs<E>,
+    left: &mut GatheredSets<E>,
     out: &mut O,
 ) -> Result<(), ConvertFault>
-    requires above { AllAbove closed_epochs.old left.old.sets }
-    ensures closes { ClosesRemaining setup.now (position_view position.now) closed_epochs.old left.old.sets result closed_epochs.new
-        (O.taken out.old) (O.taken out.new) }
+    requires above { AllAbove closed_epochs.old (map (set_of E.signal_of) left.old.sets) }
+    ensures closes { ClosesRemaining setup.now (position_view position.now) closed_epochs.old (map (set_of E.signal_of) left.old.sets) result
+        closed_epochs.new (O.taken out.old) (O.taken out.new) }
     ensures failed { NamesFailedFile result (O.failures out.old) (O.failures out.new) }
 {
     'left: while let Some(set) = left.next_left() {
