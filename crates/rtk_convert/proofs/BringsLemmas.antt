@@ -1,6 +1,6 @@
 -- The systems of which a message was taken.
 use Rattle.std.proofs.Common.{◌≡◌, ◌∙◌, ◌==◌, ℕ, Bool, true, false, List, Option, None, Some, refl, sym, ap}
-use Rattle.std.specs.Prelude.{◌&&◌, ◌||◌, is_some}
+use Rattle.std.specs.Prelude.{◌&&◌, ◌||◌, ◌/◌, ◌%◌, is_some, not}
 use Rattle.rtk_message.specs.declared.any_message.AnyMessage.{AnyMessage as Message}
 use Rattle.rtk_message.specs.declared.any_message.AnyMessage.TheVariants as any
 use Rattle.rtk_message.specs.declared.message.Message.TheVariants.{Obs1004, Arp1005, Arp1006, Msm1074}
@@ -10,7 +10,7 @@ use Rattle.rtk_message.specs.declared.msm_type.MsmType.{MsmType}
 use Rattle.rtk_message.specs.declared.system.System.{System}
 use Rattle.rtk_message.specs.declared.system.System.TheVariants.{Gps, Glonass, Galileo, Beidou, Qzss, Sbas, Navic}
 use Rattle.rtk_message.specs.AnyDecoded.{number_of, tow_of}
-use Rattle.rtk_message.specs.Systems.{number_of_type, type_of_number}
+use Rattle.rtk_message.specs.Systems.{kind_of_digit, number_of_type, system_of_tens, type_of_both, type_of_number}
 use Rattle.rtk_obs.specs.SatelliteIndex.{letter_of}
 use Rattle.rtk_obs.specs.declared.signal_cells.SignalEntry.{SignalEntry}
 use Rattle.rtk_collect.specs.Answer.{Class, TakenClass}
@@ -64,6 +64,15 @@ read-back Navic Msm4 = refl
 read-back Navic Msm5 = refl
 read-back Navic Msm6 = refl
 read-back Navic Msm7 = refl
+
+gps-of-both : (k : Option MsmKind) → system_of_type (type_of_both (Some Gps) k) ≡ Gps
+gps-of-both None = refl
+gps-of-both (Some k) = refl
+
+-- the numbers of the MSM of GPS are of GPS
+pub gps-of-number : (number : ℕ) → number / 10 ≡ 107 → Gps ≡ system_of_number number
+gps-of-number number tens =
+    sym (ap (λ (n : ℕ). system_of_type (type_of_both (system_of_tens n) (kind_of_digit (number % 10)))) tens ∙ gps-of-both (kind_of_digit (number % 10)))
 
 -- an observation of a number is of its system
 observed-by : (m : Message) (e : Option ℕ) (system : System) → is_some e ≡ is_some (tow_of m)
@@ -143,18 +152,25 @@ and-false : (b : Bool) → (b && false) ≡ false
 and-false true = refl
 and-false false = refl
 
+-- whether a test is true or false by another one
+told-by : (b untimed expected : Bool) → b ≡ not untimed → untimed ≡ expected → b ≡ not expected
+told-by b untimed expected told is = told ∙ ap (λ (x : Bool). not x) is
+
 -- an observation that is taken puts its system into the set
-pub systems-put : (y : Systems) (number : ℕ) (epoch : Option ℕ) (e : ℕ) (class : Class) (system : System) → epoch ≡ Some e → class ≡ TakenClass
-    → has_system (with_system y (system_of_number number)) system ≡ (brings_by number epoch class system || has_system y system)
-systems-put y number epoch e class system timed is =
-    has-with y (system_of_number number) system
+pub systems-put : (y : Systems) (number : ℕ) (epoch : Option ℕ) (untimed : Bool) (class : Class) (system of : System) → is_some epoch ≡ not untimed → untimed ≡ false → class ≡ TakenClass → of ≡ system_of_number number
+    → has_system (with_system y of) system ≡ (brings_by number epoch class system || has_system y system)
+systems-put y number epoch untimed class system of told no is named =
+    ap (λ (x : System). has_system (with_system y x) system) named
+    ∙ has-with y (system_of_number number) system
     ∙ ap (λ (b : Bool). b || has_system y system) (sym (and-true (letter_of (system_of_number number) == letter_of system)))
-    ∙ ap (λ (o : Option ℕ). brings_by number o TakenClass system || has_system y system) (sym timed)
+    ∙ ap (λ (b : Bool). ((b && (letter_of (system_of_number number) == letter_of system)) && true) || has_system y system) (sym (told-by (is_some epoch) untimed false told no))
     ∙ ap (λ (c : Class). brings_by number epoch c system || has_system y system) (sym is)
 
 -- another message puts none into it
-pub systems-untimed : (y : Systems) (number : ℕ) (epoch : Option ℕ) (class : Class) (system : System) → epoch ≡ None → has_system y system ≡ (brings_by number epoch class system || has_system y system)
-systems-untimed y number epoch class system untimed = ap (λ (o : Option ℕ). brings_by number o class system || has_system y system) (sym untimed)
+pub systems-untimed : (y : Systems) (number : ℕ) (epoch : Option ℕ) (untimed : Bool) (class : Class) (system : System) → is_some epoch ≡ not untimed → untimed ≡ true
+    → has_system y system ≡ (brings_by number epoch class system || has_system y system)
+systems-untimed y number epoch untimed class system told yes =
+    ap (λ (b : Bool). ((b && (letter_of (system_of_number number) == letter_of system)) && is_taken class) || has_system y system) (sym (told-by (is_some epoch) untimed true told yes))
 
 pub systems-stay : (y : Systems) (number : ℕ) (epoch : Option ℕ) (class : Class) (system : System) → is_taken class ≡ false → has_system y system ≡ (brings_by number epoch class system || has_system y system)
 systems-stay y number epoch class system no =

@@ -3,7 +3,7 @@ use Rattle.std.proofs.Common.{◌≡◌, ◌≢◌, ◌∙◌, ◌+◌, ◌-◌,
 use Rattle.std.specs.Prelude.{All}
 use Rattle.std.specs.List.{range_with_len}
 use Rattle.std.proofs.lemmas.Bool.{cases_eq, cases_lt}
-use Rattle.std.proofs.lemmas.List.{get_or_past, length-map}
+use Rattle.std.proofs.lemmas.List.{get_or_past, get_or_read, length-map}
 use Rattle.std.proofs.lemmas.List.FromFn.{get_or-map-range_with_len, length-range_with_len}
 use Rattle.rtk_obs.specs.declared.any_code.AnyCode.{AnyCode}
 use Rattle.rtk_obs.specs.declared.code.Code.{Code}
@@ -167,6 +167,54 @@ module _ (blocks : List (List (Option Track))) (block : List (Option Track)) (sa
             ∙ subst (λ (n : ℕ). get_or block n None ≡ get_or (get_or blocks i []) n None) place stays
             ∙ ap (λ (n : ℕ). get_or (get_or blocks n []) (k % 512) None) (sym here)
       ])
+
+-- a step is taken in a block, which is read at an index: the index of the satellite, of the block and of the code
+-- are those that the code of the step comes to
+pub record IsStepIn (blocks : List (List (Option Track))) (satellite : ℕ) (code : AnyCode) (index at : ℕ) (c : Code) (block : List (Option Track)) : Type 0 where
+  pub size : length blocks ≡ 7
+  pub is : IsSatelliteIndex satellite
+  pub index_is : index ≡ satellite
+  pub at_is : at ≡ (index - 1) / 32
+  pub code_is : place_of c ≡ any.place_of code
+  pub read : block ≡ get_or blocks at block
+
+module _ (blocks : List (List (Option Track))) (satellite : ℕ) (code : AnyCode) (index at : ℕ) (c : Code) (block new : List (Option Track)) (h : IsStepIn blocks satellite code index at c block) where
+  at-block : at ≡ (satellite - 1) / 32
+  at-block = h.at_is ∙ ap (λ (n : ℕ). (n - 1) / 32) h.index_is
+
+  within-blocks : (satellite - 1) / 32 < length blocks
+  within-blocks = let size = h.size in let is = h.is in omega (arith, size, is.0, is.1)
+
+  block-read : block ≡ get_or blocks ((satellite - 1) / 32) []
+  block-read =
+      let low : at < length blocks = subst (λ (n : ℕ). n < length blocks) (sym at-block) within-blocks in
+      get_or_read blocks at block low h.read [] ∙ ap (λ (n : ℕ). get_or blocks n []) at-block
+
+  -- the phase before the step
+  pub step-before : track_at (phases_of blocks) satellite code ≡ tracks.track_at block ((index - 1) % 32 + 1) c
+  step-before =
+      in-block blocks new satellite code c h.is h.code_is
+      ∙ ap (λ (b : List (Option Track)). tracks.track_at b ((satellite - 1) % 32 + 1) c) (sym block-read)
+      ∙ ap (λ (n : ℕ). tracks.track_at block ((n - 1) % 32 + 1) c) (sym h.index_is)
+
+  -- and after it
+  pub step-after : track_at (phases_of (set blocks at new)) satellite code ≡ tracks.track_at new ((index - 1) % 32 + 1) c
+  step-after =
+      ap (λ (n : ℕ). track_at (phases_of (set blocks n new)) satellite code) at-block
+      ∙ in-next blocks new satellite code c h.is h.code_is within-blocks
+      ∙ ap (λ (n : ℕ). tracks.track_at new ((n - 1) % 32 + 1) c) (sym h.index_is)
+
+  -- the phases at other places stay
+  pub step-others : ((s : ℕ) (d : Code) → place_of_signal s d ≢ place_of_signal ((index - 1) % 32 + 1) c → tracks.track_at new s d ≡ tracks.track_at block s d)
+      → (s : ℕ) (d : AnyCode) → signal_place s d ≢ signal_place satellite code
+      → track_at (phases_of (set blocks at new)) s d ≡ track_at (phases_of blocks) s d
+  step-others others s d ne =
+      ap (λ (n : ℕ). track_at (phases_of (set blocks n new)) s d) at-block
+      ∙ in-others blocks new satellite code c h.is h.code_is within-blocks
+      (λ n k other.
+          others n k (subst (λ (i : ℕ). place_of_signal n k ≢ place_of_signal ((i - 1) % 32 + 1) c) (sym h.index_is) other)
+          ∙ ap (λ (b : List (Option Track)). tracks.track_at b n k) block-read)
+      s d ne
 
 -- ---- one block
 
