@@ -79,23 +79,28 @@ pub holds-more : {s : SetupView} {w w' : CollectorView SignalEntry} {a : Arrival
 holds-more {s} {w} {w'} {a} {before} taken kept window =
     record { taken = All-cons (λ (b : Arrival). IsTrue (takes s (number_of (message_of b)))) a before taken kept.taken; window = window }
 
-module _ {s : SetupView} {w w' : CollectorView SignalEntry} {c c' : ClosedEpochsView} {link : ℕ} {a : Arrival} (offer : Outcome SignalEntry AnySatelliteCode) (listed : List AnySatelliteCode) {lines : List ℕ} {o o' : Written}
+-- the answer is right for the window of the setup
+answered : {s : SetupView} {w w' : CollectorView SignalEntry} {a : Arrival} (offer : Outcome SignalEntry AnySatelliteCode) (listed : List AnySatelliteCode) → w.places ≡ s.window → AnswersMessage s w a offer listed w'
+    → (before : List Arrival) → HoldsKept s w before → IsRightAnswer signals (cells_by s) s.window a before offer listed
+answered {s} {w} {w'} {a} offer listed size meets before kept = subst (λ (n : ℕ). IsRightAnswer signals (cells_by s) n a before offer listed) size (meets before kept).0
+
+-- the file so far after it
+more-text : {s : SetupView} {w w' : CollectorView SignalEntry} {a : Arrival} (offer : Outcome SignalEntry AnySatelliteCode) (listed : List AnySatelliteCode) → w.places ≡ s.window → w'.places ≡ w.places → AnswersMessage s w a offer listed w'
+    → (before : List Arrival) → HoldsKept s w before
+    → file_so_far s (a ∷ before) ≡ file_so_far s before ++ closing_if s (site_of_window w') (closed_by offer) (closed signals (cells_by s) s.window before)
+more-text {s} {w} {w'} {a} offer listed size same meets before kept =
+    so_far-answer s a (closed_by offer) before (site_of_window w') (site-kept s w' (a ∷ before) (same ∙ size) (meets before kept).1)
+    (answer-closed s a before offer listed (answered {w' = w'} offer listed size meets before kept))
+
+module _ {s : SetupView} {w w' : CollectorView SignalEntry} {c : ClosedEpochsView} {link : ℕ} {a : Arrival} (offer : Outcome SignalEntry AnySatelliteCode) (listed : List AnySatelliteCode) {lines : List ℕ} {o o' : Written}
     (taken : IsTakenBy s (message_of a)) (size : w.places ≡ s.window) (same : w'.places ≡ w.places) (meets : AnswersMessage s w a offer listed w')
     (text : lines ≡ offer_lines link (number_of (message_of a)) (epoch_of a) offer listed) where
-  answered : (before : List Arrival) → HoldsKept s w before → IsRightAnswer signals (cells_by s) s.window a before offer listed
-  answered before kept = subst (λ (n : ℕ). IsRightAnswer signals (cells_by s) n a before offer listed) size (meets before kept).0
-
-  more-text : (before : List Arrival) → HoldsKept s w before
-      → file_so_far s (a ∷ before) ≡ file_so_far s before ++ closing_if s (site_of_window w') (closed_by offer) (closed signals (cells_by s) s.window before)
-  more-text before kept =
-      so_far-answer s a (closed_by offer) before (site_of_window w') (site-kept s w' (a ∷ before) (same ∙ size) (meets before kept).1) (answer-closed s a before offer listed (answered before kept))
-
   -- all was written
-  pub adds-all : {class : MessageClass} → class_named class ≡ class_of_offer offer → ClosesMore s.head.listed c (closed_by offer) c'
+  pub adds-all : {class : MessageClass} {c' : ClosedEpochsView} → class_named class ≡ class_of_offer offer → ClosesMore s.head.listed c (closed_by offer) c'
       → ((below : List (EpochSetView SignalEntry)) → HasClosed c s.head.listed below → o'.file ≡ with_more o.file (closing_if s (site_of_window w') (closed_by offer) below))
       → o'.report ≡ with_more o.report lines → (before : List Arrival) → RepresentsEpochs s (epochs w c) before → AddsArrivalAs s (epochs w c) link a class before (epochs w' c') o o'
-  adds-all {class} named closes file report before rep =
-      let answer = answered before rep.kept in
+  adds-all {class} {c'} named closes file report before rep =
+      let answer = answered {w' = w'} offer listed size meets before rep.kept in
       record {
         after = record {
           kept = holds-more taken rep.kept (meets before rep.kept).1;
@@ -104,7 +109,7 @@ module _ {s : SetupView} {w w' : CollectorView SignalEntry} {c c' : ClosedEpochs
         };
         is_class = named ∙ sym (answer-class s a before offer listed answer);
         out = writes-text o.file o'.file (file_so_far s before) (file_so_far s (a ∷ before)) (closing_if s (site_of_window w') (closed_by offer) (closed signals (cells_by s) s.window before))
-            (more-text before rep.kept) (file (closed signals (cells_by s) s.window before) rep.closed);
+            (more-text offer listed size same meets before rep.kept) (file (closed signals (cells_by s) s.window before) rep.closed);
         log = report ∙ ap (with_more o.report) (text ∙ sym (answer-lines s link a before offer listed answer));
       }
 
@@ -113,8 +118,8 @@ module _ {s : SetupView} {w w' : CollectorView SignalEntry} {c c' : ClosedEpochs
       → TakesPart o.report o'.report lines → (before : List Arrival) → RepresentsEpochs s (epochs w c) before → AddsArrivalPartAs s link a before o o'
   adds-part file report before rep = record {
     out = part-text o.file o'.file (file_so_far s before) (file_so_far s (a ∷ before)) (closing_if s (site_of_window w') (closed_by offer) (closed signals (cells_by s) s.window before))
-        (more-text before rep.kept) (file (closed signals (cells_by s) s.window before) rep.closed);
-    log = subst (λ (t : List ℕ). TakesPart o.report o'.report t) (text ∙ sym (answer-lines s link a before offer listed (answered before rep.kept))) report;
+        (more-text offer listed size same meets before rep.kept) (file (closed signals (cells_by s) s.window before) rep.closed);
+    log = subst (λ (t : List ℕ). TakesPart o.report o'.report t) (text ∙ sym (answer-lines s link a before offer listed (answered {w' = w'} offer listed size meets before rep.kept))) report;
   }
 
 -- nothing was written

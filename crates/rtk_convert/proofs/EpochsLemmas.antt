@@ -144,7 +144,7 @@ pub ends-records : {s : SetupView} {w : CollectorView SignalEntry} {c : ClosedEp
     → epochs w c ≡ old → old.collector.places ≡ s.window → site ≡ site_of_window w → ClosesEpochsInPart s site c w.sets o out → IsFrameFault fault → EndsEpochs s old (Err fault) o out
 ends-records {s} {w} {c} {old} {site} {o} {out} fault seen size is closes frame =
     subst (λ (x : EpochsView). EndsEpochs s x (Err fault) o out) seen
-    (record { ok = tt; err = λ A rep. finish-part-records (ap (λ (x : EpochsView). x.collector.places) seen ∙ size) is closes A rep; fault = frame })
+    (record { ok = tt; err = λ A rep. finish-part-records (ap (λ (x : EpochsView). x.collector.places) seen ∙ size) is o closes A rep; fault = frame })
 
 pub ends-header : {s : SetupView} {w : CollectorView SignalEntry} {c c' : ClosedEpochsView} {old : EpochsView} {site : PositionView} {o mid out : Option (List ℕ)} (fault : ConvertFault)
     → epochs w c ≡ old → old.collector.places ≡ s.window → site ≡ site_of_window w → ClosesEpochs s site c w.sets c' o mid
@@ -184,7 +184,7 @@ module _ {s : SetupView} {w w' : CollectorView SignalEntry} {c : ClosedEpochsVie
       subst (λ (x : EpochsView). AddsArrival s x link a (Err fault) new' o o') seen
       (record {
         ok = tt;
-        err = λ before rep. adds-part {c' = c} offer listed taken size-seen same meets text (λ below h. (wrote.file below h).part) wrote.report.part before rep;
+        err = λ before rep. adds-part offer listed taken size-seen same meets text (λ below h. (wrote.file below h).part) wrote.report.part before rep;
         fault = wrote.fault;
       })
 

@@ -118,8 +118,8 @@ module _ {s : SetupView} {w : CollectorView SignalEntry} {c : ClosedEpochsView} 
       )
 
   -- it breaks off in a record
-  pub finish-part-records : {o out : Option (List ℕ)} → ClosesEpochsInPart s site c w.sets o out → (A : List Arrival) → RepresentsEpochs s (epochs w c) A → WritesPartOfRest o out (file_so_far s A) (kept_file s A)
-  finish-part-records {o} {out} closes A rep =
+  pub finish-part-records : (o : Option (List ℕ)) {out : Option (List ℕ)} → ClosesEpochsInPart s site c w.sets o out → (A : List Arrival) → RepresentsEpochs s (epochs w c) A → WritesPartOfRest o out (file_so_far s A) (kept_file s A)
+  finish-part-records o {out} closes A rep =
       subst (λ (x : List ℕ). WritesPartOfRest o out x (kept_file s A)) (sym (so_far-text A rep))
       (part-longer o out (closed_text s site (closed signals (cells_by s) s.window A)) (closed_text s site (w.sets ++ closed signals (cells_by s) s.window A)) (kept_file s A) _ (file-text A rep)
       (closes (closed signals (cells_by s) s.window A) rep.closed))

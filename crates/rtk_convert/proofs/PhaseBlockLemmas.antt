@@ -1,5 +1,5 @@
 -- The last phases of all systems in blocks of the codes of GPS.
-use Rattle.std.proofs.Common.{◌≡◌, ◌≢◌, ◌∙◌, ◌+◌, ◌-◌, ◌*◌, ◌/◌, ◌%◌, ◌<◌, ℕ, List, [], length, set, get_or, get_or-set_other, get_or-set_same, Option, None, inl, inr, refl, sym, ap, subst, arith}
+use Rattle.std.proofs.Common.{◌≡◌, ◌≢◌, ◌∙◌, ◌+◌, ◌-◌, ◌*◌, ◌/◌, ◌%◌, ◌<◌, ℕ, zero, suc, List, [], length, set, get_or, get_or-set_other, get_or-set_same, Option, None, inl, inr, refl, sym, ap, subst, arith}
 use Rattle.std.specs.Prelude.{All}
 use Rattle.std.specs.List.{range_with_len}
 use Rattle.std.proofs.lemmas.Bool.{cases_eq, cases_lt}
@@ -65,23 +65,23 @@ band-same c k same = band-at c ∙ ap band_at same
 
 -- each place below 16 is that of a code
 place-at : (k : ℕ) → k < 16 → place_of (get_or all_codes k G1C) ≡ k
-place-at 0 lt = refl
-place-at 1 lt = refl
-place-at 2 lt = refl
-place-at 3 lt = refl
-place-at 4 lt = refl
-place-at 5 lt = refl
-place-at 6 lt = refl
-place-at 7 lt = refl
-place-at 8 lt = refl
-place-at 9 lt = refl
-place-at 10 lt = refl
-place-at 11 lt = refl
-place-at 12 lt = refl
-place-at 13 lt = refl
-place-at 14 lt = refl
-place-at 15 lt = refl
-place-at k lt = absurd (omega arith)
+place-at zero lt = refl
+place-at (suc zero) lt = refl
+place-at (suc (suc zero)) lt = refl
+place-at (suc (suc (suc zero))) lt = refl
+place-at (suc (suc (suc (suc zero)))) lt = refl
+place-at (suc (suc (suc (suc (suc zero))))) lt = refl
+place-at (suc (suc (suc (suc (suc (suc zero)))))) lt = refl
+place-at (suc (suc (suc (suc (suc (suc (suc zero))))))) lt = refl
+place-at (suc (suc (suc (suc (suc (suc (suc (suc zero)))))))) lt = refl
+place-at (suc (suc (suc (suc (suc (suc (suc (suc (suc zero))))))))) lt = refl
+place-at (suc (suc (suc (suc (suc (suc (suc (suc (suc (suc zero)))))))))) lt = refl
+place-at (suc (suc (suc (suc (suc (suc (suc (suc (suc (suc (suc zero))))))))))) lt = refl
+place-at (suc (suc (suc (suc (suc (suc (suc (suc (suc (suc (suc (suc zero)))))))))))) lt = refl
+place-at (suc (suc (suc (suc (suc (suc (suc (suc (suc (suc (suc (suc (suc zero))))))))))))) lt = refl
+place-at (suc (suc (suc (suc (suc (suc (suc (suc (suc (suc (suc (suc (suc (suc zero)))))))))))))) lt = refl
+place-at (suc (suc (suc (suc (suc (suc (suc (suc (suc (suc (suc (suc (suc (suc (suc zero))))))))))))))) lt = refl
+place-at (suc (suc (suc (suc (suc (suc (suc (suc (suc (suc (suc (suc (suc (suc (suc (suc k)))))))))))))))) lt = absurd (omega arith)
 
 -- each place of a block is that of a satellite and a code
 pub place-of : (k : ℕ) → place_of_signal (k / 16 + 1) (get_or all_codes (k % 16) G1C) ≡ k

@@ -66,7 +66,7 @@ impl SignalPhases {
         ensures { IfOk result (λ p. (satellite : ℕ) (code : AnyCode) → track_at p satellite code ≡ None) }
     {
         let mut blocks = Vec::with_capacity(alloc, BLOCKS)?;
-        'blocks: while blocks.len() < BLOCKS {
+        'adding: while blocks.len() < BLOCKS {
             add_block(&mut blocks)?;
         }
         Ok(SignalPhases { blocks })

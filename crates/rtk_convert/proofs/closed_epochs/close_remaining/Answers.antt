@@ -1,11 +1,11 @@
-use Rattle.std.proofs.Common.{◌<◌, length, map, get_or, sym, ap, subst, ◌∙◌, arith}
+use Rattle.std.proofs.Common.{◌<◌, length, map, get_or, refl, sym, ap, subst, ◌∙◌, arith}
 use Rattle.std.proofs.lemmas.List.{get_or-map, length-map, map-append}
 use Rattle.std.proofs.lemmas.Result.{err_from_is_err_and}
 use Rattle.rtk_obs.specs.declared.signal_cells.SignalEntry.{SignalEntry}
 use Rattle.rtk_collect.specs.EpochSet.{EpochSetView}
 use Rattle.rtk_convert.specs.Epochs.{set_of}
 use Rattle.rtk_convert.specs.Steps.ShownCells.{AllBelow}
-use Rattle.rtk_convert.proofs.FinishLemmas.{last-above, some-more, some-all, some-part}
+use Rattle.rtk_convert.proofs.FinishLemmas.{last-above, some-none, some-more, some-all, some-part}
 use Rattle.rtk_convert.proofs.closed_epochs.close_remaining.Goals as goal
 
 pub returns-in_err-close-clause-closes : goal.returns-in_err-close-clause-closes
@@ -38,3 +38,10 @@ pub close-requires : goal.close-requires
 close-requires g c =
     let f = set_of g.E.FileEntry.signal_of in
     last-above c.left.closed_epochs (map f c.next_left.new.self.sets) (f c.in-Some.set) (map f c.left.left.sets) (ap (map f) c.in-Some.ensures.next ∙ map-append f _ _) c.left.invariant.above
+
+pub left-init : goal.left-init
+left-init g c = record {
+  some = some-none _ _ _ _ _;
+  above = c.requires;
+  failures = refl;
+}

@@ -32,12 +32,12 @@ satellites-init g c =
         from = 1;
         one = omega arith;
         last = omega arith;
-        fills = fills-begin old c.epoch-epoch.result ms ls (all-map f _ IsSignalInRange laws.range _ c.msm_cells-msm.ensures.range) (all-map f _ IsSignalInRange laws.range _ c.legacy_left-legacy.ensures.range);
-        holds = subst (λ (rows : List SatelliteRow). g.E.Lines.RowLines.HasRows c.restart.new.self rows) (sym (rows_to-zero (shown_by old c.epoch-epoch.result (ms ++ ls)) c.args.listed.now)) c.restart.ensures;
+        fills = fills-begin old c.args.set.now.epoch ms ls (all-map f _ IsSignalInRange laws.range _ c.msm_cells-msm.ensures.range) (all-map f _ IsSignalInRange laws.range _ c.legacy_left-legacy.ensures.range);
+        holds = subst (λ (rows : List SatelliteRow). g.E.Lines.RowLines.HasRows c.restart.new.self rows) (sym (rows_to-zero (shown_by old c.args.set.now.epoch (ms ++ ls)) c.args.listed.now)) c.restart.ensures;
         few = c.form_from-form.ensures.codes.few;
         codes_are = c.form_from-form.ensures.codes.codes_are;
       };
-      epoch = c.form_from-form.ensures.epoch;
+      epoch = c.form_from-form.ensures.epoch ∙ c.epoch-epoch.ensures;
       within = c.form_from-form.ensures.last.1;
       columns = c.form_from-form.ensures.columns;
     }
@@ -49,7 +49,7 @@ form_at-form-requires-clause-satellite g c =
     let ls = map f c.legacy_left-legacy.result.now in
     let laws = c.cells_are_signals.ensures in
     let old = g.E.FileEntry.places c.args.phases.now in
-    let epoch = c.epoch-epoch.result in
+    let epoch = c.args.set.now.epoch in
     let i = c.satellites.invariant.shows in
     let ranges-m = all-map f _ IsSignalInRange laws.range _ c.msm_cells-msm.ensures.range in
     let ranges-l = all-map f _ IsSignalInRange laws.range _ c.legacy_left-legacy.ensures.range in
@@ -64,7 +64,7 @@ form_at-form-requires-clause-codes g c =
     let ls = map f c.legacy_left-legacy.result.now in
     let laws = c.cells_are_signals.ensures in
     let old = g.E.FileEntry.places c.args.phases.now in
-    let epoch = c.epoch-epoch.result in
+    let epoch = c.args.set.now.epoch in
     let i = c.satellites.invariant.shows in
     let ranges-m = all-map f _ IsSignalInRange laws.range _ c.msm_cells-msm.ensures.range in
     let ranges-l = all-map f _ IsSignalInRange laws.range _ c.legacy_left-legacy.ensures.range in
@@ -93,7 +93,7 @@ open_line-requires-clause-room g c =
     let ls = map f c.legacy_left-legacy.result.now in
     let laws = c.cells_are_signals.ensures in
     let old = g.E.FileEntry.places c.args.phases.now in
-    let epoch = c.epoch-epoch.result in
+    let epoch = c.args.set.now.epoch in
     let i = c.satellites.invariant.shows in
     let ranges-m = all-map f _ IsSignalInRange laws.range _ c.msm_cells-msm.ensures.range in
     let ranges-l = all-map f _ IsSignalInRange laws.range _ c.legacy_left-legacy.ensures.range in
@@ -115,7 +115,7 @@ fill_line-at-requires-clause-satellite g c =
     let ls = map f c.legacy_left-legacy.result.now in
     let laws = c.cells_are_signals.ensures in
     let old = g.E.FileEntry.places c.args.phases.now in
-    let epoch = c.epoch-epoch.result in
+    let epoch = c.args.set.now.epoch in
     let i = c.satellites.invariant.shows in
     let ranges-m = all-map f _ IsSignalInRange laws.range _ c.msm_cells-msm.ensures.range in
     let ranges-l = all-map f _ IsSignalInRange laws.range _ c.legacy_left-legacy.ensures.range in
@@ -130,7 +130,7 @@ fill_line-at-requires-clause-codes g c =
     let ls = map f c.legacy_left-legacy.result.now in
     let laws = c.cells_are_signals.ensures in
     let old = g.E.FileEntry.places c.args.phases.now in
-    let epoch = c.epoch-epoch.result in
+    let epoch = c.args.set.now.epoch in
     let i = c.satellites.invariant.shows in
     let ranges-m = all-map f _ IsSignalInRange laws.range _ c.msm_cells-msm.ensures.range in
     let ranges-l = all-map f _ IsSignalInRange laws.range _ c.legacy_left-legacy.ensures.range in
@@ -150,7 +150,7 @@ fill_line-at-requires-clause-msm g c =
     let ls = map f c.legacy_left-legacy.result.now in
     let laws = c.cells_are_signals.ensures in
     let old = g.E.FileEntry.places c.args.phases.now in
-    let epoch = c.epoch-epoch.result in
+    let epoch = c.args.set.now.epoch in
     let i = c.satellites.invariant.shows in
     let ranges-m = all-map f _ IsSignalInRange laws.range _ c.msm_cells-msm.ensures.range in
     let ranges-l = all-map f _ IsSignalInRange laws.range _ c.legacy_left-legacy.ensures.range in
@@ -170,7 +170,7 @@ fill_line-at-requires-clause-legacy g c =
     let ls = map f c.legacy_left-legacy.result.now in
     let laws = c.cells_are_signals.ensures in
     let old = g.E.FileEntry.places c.args.phases.now in
-    let epoch = c.epoch-epoch.result in
+    let epoch = c.args.set.now.epoch in
     let i = c.satellites.invariant.shows in
     let ranges-m = all-map f _ IsSignalInRange laws.range _ c.msm_cells-msm.ensures.range in
     let ranges-l = all-map f _ IsSignalInRange laws.range _ c.legacy_left-legacy.ensures.range in
@@ -190,7 +190,7 @@ fill_line-at-requires-clause-later g c =
     let ls = map f c.legacy_left-legacy.result.now in
     let laws = c.cells_are_signals.ensures in
     let old = g.E.FileEntry.places c.args.phases.now in
-    let epoch = c.epoch-epoch.result in
+    let epoch = c.args.set.now.epoch in
     let i = c.satellites.invariant.shows in
     let ranges-m = all-map f _ IsSignalInRange laws.range _ c.msm_cells-msm.ensures.range in
     let ranges-l = all-map f _ IsSignalInRange laws.range _ c.legacy_left-legacy.ensures.range in
@@ -204,7 +204,7 @@ fill_line-at-requires-clause-later g c =
     let same : epoch ≡ c.form_at-form.result.epoch = sym (c.form_at-form.ensures.epoch ∙ c.satellites.invariant.epoch) in
     subst (λ (e : ℕ). MayStep (g.E.FileEntry.places c.satellites.phases) [] n e) same
     (may-begin old epoch ms c.satellites.at.msm ls c.satellites.at.legacy n (g.E.FileEntry.places c.satellites.phases) at
-    (λ k hk. subst (λ (e : ℕ). IsLater (track_at old n k) e) (sym c.epoch-epoch.ensures) (c.requires.later n k hk)))
+    (λ k hk. c.requires.later n k hk))
 
 pub fill_line-at-requires-clause-open : goal.fill_line-at-requires-clause-open
 fill_line-at-requires-clause-open g c =
@@ -217,7 +217,7 @@ close_line-requires-clause-satellite g c =
     let ls = map f c.legacy_left-legacy.result.now in
     let laws = c.cells_are_signals.ensures in
     let old = g.E.FileEntry.places c.args.phases.now in
-    let epoch = c.epoch-epoch.result in
+    let epoch = c.args.set.now.epoch in
     let i = c.satellites.invariant.shows in
     let ranges-m = all-map f _ IsSignalInRange laws.range _ c.msm_cells-msm.ensures.range in
     let ranges-l = all-map f _ IsSignalInRange laws.range _ c.legacy_left-legacy.ensures.range in
@@ -232,7 +232,7 @@ close_line-requires-clause-within g c =
     let ls = map f c.legacy_left-legacy.result.now in
     let laws = c.cells_are_signals.ensures in
     let old = g.E.FileEntry.places c.args.phases.now in
-    let epoch = c.epoch-epoch.result in
+    let epoch = c.args.set.now.epoch in
     let i = c.satellites.invariant.shows in
     next-has (λ (s : ℕ). s ≤ g.E.Lines.RowLines.greatest) (all-map f _ (λ (e : SignalEntry). e.satellite ≤ g.E.Lines.RowLines.greatest) laws.lines _ c.msm_cells-msm.ensures.range)
     (all-map f _ (λ (e : SignalEntry). e.satellite ≤ g.E.Lines.RowLines.greatest) laws.lines _ c.legacy_left-legacy.ensures.range) c.in-Some.ensures.some
@@ -244,7 +244,7 @@ close_line-requires-clause-room g c =
     let ls = map f c.legacy_left-legacy.result.now in
     let laws = c.cells_are_signals.ensures in
     let old = g.E.FileEntry.places c.args.phases.now in
-    let epoch = c.epoch-epoch.result in
+    let epoch = c.args.set.now.epoch in
     let i = c.satellites.invariant.shows in
     let ranges-m = all-map f _ IsSignalInRange laws.range _ c.msm_cells-msm.ensures.range in
     let ranges-l = all-map f _ IsSignalInRange laws.range _ c.legacy_left-legacy.ensures.range in
@@ -276,7 +276,7 @@ satellites-preserved g c =
     let ls = map f c.legacy_left-legacy.result.now in
     let laws = c.cells_are_signals.ensures in
     let old = g.E.FileEntry.places c.args.phases.now in
-    let epoch = c.epoch-epoch.result in
+    let epoch = c.args.set.now.epoch in
     let i = c.satellites.invariant.shows in
     let ranges-m = all-map f _ IsSignalInRange laws.range _ c.msm_cells-msm.ensures.range in
     let ranges-l = all-map f _ IsSignalInRange laws.range _ c.legacy_left-legacy.ensures.range in
@@ -329,7 +329,7 @@ returns-clause-lines g c =
     let ls = map f c.legacy_left-legacy.result.now in
     let laws = c.cells_are_signals.ensures in
     let old = g.E.FileEntry.places c.args.phases.now in
-    let epoch = c.epoch-epoch.result in
+    let epoch = c.args.set.now.epoch in
     let i = c.satellites.invariant.shows in
     let ranges-m = all-map f _ IsSignalInRange laws.range _ c.msm_cells-msm.ensures.range in
     let ranges-l = all-map f _ IsSignalInRange laws.range _ c.legacy_left-legacy.ensures.range in
@@ -347,7 +347,6 @@ returns-clause-lines g c =
     (last
     ∙ rows_to-same (shown_by old epoch (ms ++ ls)) (observed_at e below) c.args.listed.now 221 (omega arith)
     (λ s k hs. ap (λ (o : Option Cell). observed_after (track_at old s k) k epoch o) (turn s k)
-    ∙ ap (λ (t : ℕ). observed_after (track_at old s k) k t (cell_at e.cells s k)) c.epoch-epoch.ensures
     ∙ ap (λ (o : Option Track). observed_after o k e.epoch (cell_at e.cells s k)) (has s k hs)))
     i.holds
 
@@ -358,7 +357,7 @@ returns-clause-phases g c =
     let ls = map f c.legacy_left-legacy.result.now in
     let laws = c.cells_are_signals.ensures in
     let old = g.E.FileEntry.places c.args.phases.now in
-    let epoch = c.epoch-epoch.result in
+    let epoch = c.args.set.now.epoch in
     let i = c.satellites.invariant.shows in
     let ranges-m = all-map f _ IsSignalInRange laws.range _ c.msm_cells-msm.ensures.range in
     let ranges-l = all-map f _ IsSignalInRange laws.range _ c.legacy_left-legacy.ensures.range in
@@ -373,7 +372,6 @@ returns-clause-phases g c =
     ∙ turn-is f _ laws.values c.args.set.now.cells c.legacy_left-legacy.result.now (laws.left _ _ _ c.legacy_left-legacy.ensures.left) s k in
     λ below has s k hs. end.done s k hs (omega (arith, hs.0.1))
     ∙ ap (λ (o : Option Cell). track_after (track_at old s k) k epoch o) (turn s k)
-    ∙ ap (λ (t : ℕ). track_after (track_at old s k) k t (cell_at e.cells s k)) c.epoch-epoch.ensures
     ∙ ap (λ (o : Option Track). track_after o k e.epoch (cell_at e.cells s k)) (has s k hs)
     ∙ track-below (cell_at e.cells s k) e.epoch k (cells_at_epochs below s k)
 
@@ -384,7 +382,7 @@ returns-clause-later g c =
     let ls = map f c.legacy_left-legacy.result.now in
     let laws = c.cells_are_signals.ensures in
     let old = g.E.FileEntry.places c.args.phases.now in
-    let epoch = c.epoch-epoch.result in
+    let epoch = c.args.set.now.epoch in
     let i = c.satellites.invariant.shows in
     let ranges-m = all-map f _ IsSignalInRange laws.range _ c.msm_cells-msm.ensures.range in
     let ranges-l = all-map f _ IsSignalInRange laws.range _ c.legacy_left-legacy.ensures.range in
@@ -394,5 +392,5 @@ returns-clause-later g c =
     let end = fills-end old epoch ms c.satellites.at.msm ls c.satellites.at.legacy i.from (g.E.FileEntry.places c.satellites.phases) i.fills rise-m rise-l i.last
     (omega (arith, none.0, length-map c.msm_cells-msm.result.now f)) (omega (arith, none.1, length-map c.legacy_left-legacy.result.now f)) in
     λ later h s k hs. subst (λ (o : Option Track). IsLater o later) (sym (end.done s k hs (omega (arith, hs.0.1))))
-    (later-after (track_at old s k) k epoch later (first_cell (ms ++ ls) s k) (omega (arith, h, c.epoch-epoch.ensures))
-    (subst (λ (e : ℕ). IsLater (track_at old s k) e) (sym c.epoch-epoch.ensures) (c.requires.later s k hs)))
+    (later-after (track_at old s k) k epoch later (first_cell (ms ++ ls) s k) h
+    (c.requires.later s k hs))

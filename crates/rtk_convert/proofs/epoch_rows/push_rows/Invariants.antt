@@ -6,11 +6,11 @@ use Rattle.rtk_convert.proofs.epoch_rows.push_rows.Given as goal
 -- the satellites below one are written: which one no variable says
 abbrev pub invariant-satellites : goal.invariant-satellites
 invariant-satellites g l = record {
-  shows : ShowsBelow g.E.Lines.RowLines.HasRows (g.E.FileEntry.places l.fn.phases) l.epoch (map g.E.FileEntry.signal_of l.msm) l.at.msm (map g.E.FileEntry.signal_of l.legacy) l.at.legacy l.listed
-      l.form.last l.form.codes (g.E.FileEntry.places l.phases) l.lines;
-  epoch : l.form.epoch ≡ l.epoch;
+  shows : ShowsBelow g.E.Lines.RowLines.HasRows (g.E.FileEntry.places l.fn.phases) l.fn.set.epoch (map g.E.FileEntry.signal_of l.msm) l.at.msm (map g.E.FileEntry.signal_of l.legacy) l.at.legacy l.listed
+      l.form.last l.form.codes.now (g.E.FileEntry.places l.phases) l.lines;
+  epoch : l.form.epoch ≡ l.fn.set.epoch;
   within : l.form.last ≤ 221;
-  columns : ArePlaces l.form.codes l.form.columns;
+  columns : ArePlaces l.form.codes.now l.form.columns;
 }
 
 abbrev pub decreases-satellites : goal.decreases-satellites

@@ -16,10 +16,10 @@ step-requires-clause-later c =
     let e = c.args.entry.now in
     let blocks = c.self.inside.blocks.items in
     let block = c.index_mut.result.now in
-    let in_block : IsStepIn blocks e.satellite e.code c.index.result c.from.result c.code_at-code.result block =
-    record { size = c.self.invariant; is = c.requires.range.signal.0; index_is = c.index.ensures.value; at_is = c.from.ensures; code_is = c.code_at-code.ensures ∙ c.place.ensures.value; read = c.index_mut.ensures.value } in
+    let in_block : IsStepIn blocks e.satellite e.code c.index-place.result c.from.result c.code_at-code.result block =
+    record { size = c.self.invariant; is = c.requires.range.signal.0; index_is = c.index-place.ensures.value; at_is = c.from.ensures; code_is = c.code_at-code.ensures ∙ c.place.ensures.value; read = c.index_mut.ensures.value } in
     subst (λ (t : Option Track). IsLater t c.args.epoch)
-    (ap (λ (t : List (Option Track)). track_at t e.satellite e.code) (sym c.self.view_is) ∙ step-before blocks e.satellite e.code c.index.result c.from.result c.code_at-code.result block block in_block)
+    (ap (λ (t : List (Option Track)). track_at t e.satellite e.code) (sym c.self.view_is) ∙ step-before blocks e.satellite e.code c.index-place.result c.from.result c.code_at-code.result block block in_block)
     c.requires.later
 
 pub returns-clause-digits : goal.returns-clause-digits
@@ -28,11 +28,11 @@ returns-clause-digits c =
     let blocks = c.self.inside.blocks.items in
     let block = c.index_mut.result.now in
     let cell : EpochCell = epoch_cell c.args.epoch e.cell in
-    let in_block : IsStepIn blocks e.satellite e.code c.index.result c.from.result c.code_at-code.result block =
-    record { size = c.self.invariant; is = c.requires.range.signal.0; index_is = c.index.ensures.value; at_is = c.from.ensures; code_is = c.code_at-code.ensures ∙ c.place.ensures.value; read = c.index_mut.ensures.value } in
-    let before = ap (λ (t : List (Option Track)). track_at t e.satellite e.code) (sym c.self.view_is) ∙ step-before blocks e.satellite e.code c.index.result c.from.result c.code_at-code.result block block in_block in
+    let in_block : IsStepIn blocks e.satellite e.code c.index-place.result c.from.result c.code_at-code.result block =
+    record { size = c.self.invariant; is = c.requires.range.signal.0; index_is = c.index-place.ensures.value; at_is = c.from.ensures; code_is = c.code_at-code.ensures ∙ c.place.ensures.value; read = c.index_mut.ensures.value } in
+    let before = ap (λ (t : List (Option Track)). track_at t e.satellite e.code) (sym c.self.view_is) ∙ step-before blocks e.satellite e.code c.index-place.result c.from.result c.code_at-code.result block block in_block in
     c.step.ensures.digits
-    ∙ ap (λ (b : Band). digits_since b (tracks.track_at block ((c.index.result - 1) % 32 + 1) c.code_at-code.result) cell) (band-same c.code_at-code.result e.code in_block.code_is)
+    ∙ ap (λ (b : Band). digits_since b (tracks.track_at block ((c.index-place.result - 1) % 32 + 1) c.code_at-code.result) cell) (band-same c.code_at-code.result e.code in_block.code_is)
     ∙ ap (λ (t : Option Track). digits_since (band_of e.code) t cell) (sym before)
 
 pub returns-clause-same : goal.returns-clause-same
@@ -41,12 +41,12 @@ returns-clause-same c =
     let blocks = c.self.inside.blocks.items in
     let block = c.index_mut.result.now in
     let cell : EpochCell = epoch_cell c.args.epoch e.cell in
-    let in_block : IsStepIn blocks e.satellite e.code c.index.result c.from.result c.code_at-code.result block =
-    record { size = c.self.invariant; is = c.requires.range.signal.0; index_is = c.index.ensures.value; at_is = c.from.ensures; code_is = c.code_at-code.ensures ∙ c.place.ensures.value; read = c.index_mut.ensures.value } in
-    let before = ap (λ (t : List (Option Track)). track_at t e.satellite e.code) (sym c.self.view_is) ∙ step-before blocks e.satellite e.code c.index.result c.from.result c.code_at-code.result block block in_block in
-    step-after blocks e.satellite e.code c.index.result c.from.result c.code_at-code.result block c.step.new.self in_block
+    let in_block : IsStepIn blocks e.satellite e.code c.index-place.result c.from.result c.code_at-code.result block =
+    record { size = c.self.invariant; is = c.requires.range.signal.0; index_is = c.index-place.ensures.value; at_is = c.from.ensures; code_is = c.code_at-code.ensures ∙ c.place.ensures.value; read = c.index_mut.ensures.value } in
+    let before = ap (λ (t : List (Option Track)). track_at t e.satellite e.code) (sym c.self.view_is) ∙ step-before blocks e.satellite e.code c.index-place.result c.from.result c.code_at-code.result block block in_block in
+    step-after blocks e.satellite e.code c.index-place.result c.from.result c.code_at-code.result block c.step.new.self in_block
     ∙ c.step.ensures.same
-    ∙ ap (λ (b : Band). last_after b (tracks.track_at block ((c.index.result - 1) % 32 + 1) c.code_at-code.result) cell) (band-same c.code_at-code.result e.code in_block.code_is)
+    ∙ ap (λ (b : Band). last_after b (tracks.track_at block ((c.index-place.result - 1) % 32 + 1) c.code_at-code.result) cell) (band-same c.code_at-code.result e.code in_block.code_is)
     ∙ ap (λ (t : Option Track). last_after (band_of e.code) t cell) (sym before)
 
 pub returns-clause-others : goal.returns-clause-others
@@ -54,7 +54,7 @@ returns-clause-others c = λ s d ne.
     let e = c.args.entry.now in
     let blocks = c.self.inside.blocks.items in
     let block = c.index_mut.result.now in
-    let in_block : IsStepIn blocks e.satellite e.code c.index.result c.from.result c.code_at-code.result block =
-    record { size = c.self.invariant; is = c.requires.range.signal.0; index_is = c.index.ensures.value; at_is = c.from.ensures; code_is = c.code_at-code.ensures ∙ c.place.ensures.value; read = c.index_mut.ensures.value } in
-    step-others blocks e.satellite e.code c.index.result c.from.result c.code_at-code.result block c.step.new.self in_block c.step.ensures.others s d ne
+    let in_block : IsStepIn blocks e.satellite e.code c.index-place.result c.from.result c.code_at-code.result block =
+    record { size = c.self.invariant; is = c.requires.range.signal.0; index_is = c.index-place.ensures.value; at_is = c.from.ensures; code_is = c.code_at-code.ensures ∙ c.place.ensures.value; read = c.index_mut.ensures.value } in
+    step-others blocks e.satellite e.code c.index-place.result c.from.result c.code_at-code.result block c.step.new.self in_block c.step.ensures.others s d ne
     ∙ ap (λ (t : List (Option Track)). track_at t s d) c.self.view_is
