@@ -25,20 +25,18 @@ use std::marker::Model;
 /// What is known of the closed epochs: the last phases, whether the header is written, and how many
 /// records are written.
 ///
-/// The text of a record is kept from epoch to epoch. The last phases and the room are large, and lie on the
-/// heap, so that no function on the way to them needs a large stack.
+/// The text of a record is kept from epoch to epoch. The last phases are large, and lie on the heap, so that no
+/// function on the way to them needs a large stack.
 #[derive(Drop)]
 pub(crate) struct ClosedEpochs<E: FileEntry> {
     phases: Box<E::Phases>,
-    // Room for cells of an epoch that came in a 1004.
-    room: Box<ArrayVec<E, 64>>,
     lines: E::Lines,
     is_header_out: bool,
     count: u64,
 }
 
-// Clauses don't see the room and the lines, which are written anew for each epoch. The reason why the
-// invariant names every field stands at `Converter`.
+// Clauses don't see the lines, which are written anew for each epoch. The reason why the invariant names every
+// field stands at `Converter`.
 impl<E: FileEntry> Model for ClosedEpochs<E> {
     ghost use Rattle.std.specs.Prelude.{◌≡◌};
     ghost use Rattle.rtk_convert.specs.ClosedEpochs.{ClosedEpochsView};
@@ -47,12 +45,13 @@ impl<E: FileEntry> Model for ClosedEpochs<E> {
 
     ghost view = { λ r. record { tracks = E.places r.phases.value; is_header_out = r.is_header_out; count = r.count } };
 
-    ghost invariant = { λ r. r ≡ record { phases = r.phases; room = r.room; lines = r.lines; is_header_out = r.is_header_out; count = r.count } };
+    ghost invariant = { λ r. r ≡ record { phases = r.phases; lines = r.lines; is_header_out = r.is_header_out; count = r.count } };
 }
 
-// Makes room for cells, in which none stands yet.
+/// Makes room for the cells of an epoch that came in a 1004, in which none stands yet. It is large, and lies on the
+/// heap. Each function on the way to it is lent it, so that the size of a cell is known where it is made.
 #[inline(never)]
-fn new_room<E: FileEntry>(alloc: Global) -> Result<Box<ArrayVec<E, 64>>, AllocError>
+pub(crate) fn new_room<E: FileEntry>(alloc: Global) -> Result<Box<ArrayVec<E, 64>>, AllocError>
     ensures { IfOk result (λ room. room.value.items ≡ []) }
 {
     Ok(Box::new(alloc, ArrayVec::new())?)
@@ -66,7 +65,6 @@ impl<E: FileEntry> ClosedEpochs<E> {
     {
         Ok(ClosedEpochs {
             phases: E::new_phases(alloc)?,
-            room: new_room(alloc)?,
             lines: E::Lines::new(alloc),
             is_header_out: false,
             count: 0,
@@ -96,21 +94,16 @@ impl<E: FileEntry> ClosedEpochs<E> {
         setup: &Setup,
         position: &Position,
         set: &GatheredSet<E>,
+        room: &mut ArrayVec<E, 64>,
         out: &mut O,
     ) -> Result<(), ConvertFault>
-        requires { AllBelow self.old.tracks set.now.epoch }
+        requires above { AllBelow self.old.tracks set.now.epoch }
         ensures closes { ClosesEpoch setup.now (position_view position.now) self.old (set_of E.signal_of set.now) result self.new
             (O.taken out.old) (O.taken out.new) }
         ensures failed { NamesFailedFile result (O.failures out.old) (O.failures out.new) }
     {
         let listed = setup.head().codes();
-        push_rows(
-            &mut *self.phases,
-            set,
-            listed,
-            &mut self.lines,
-            &mut self.room,
-        )?;
+        push_rows(&mut *self.phases, set, listed, &mut self.lines, room)?;
         let epoch = set.epoch();
         self.lines.finish(epoch);
         let text = self.lines.text();
@@ -140,6 +133,7 @@ pub(crate) fn close_remaining<E: FileEntry, O: Sink>(
     position: &Position,
     closed_epochs: &mut ClosedEpochs<E>,
     left: &mut GatheredSets<E>,
+    room: &mut ArrayVec<E, 64>,
     out: &mut O,
 ) -> Result<(), ConvertFault>
     requires above { AllAbove closed_epochs.old (map (set_of E.signal_of) left.old.sets) }
@@ -148,7 +142,7 @@ pub(crate) fn close_remaining<E: FileEntry, O: Sink>(
     ensures failed { NamesFailedFile result (O.failures out.old) (O.failures out.new) }
 {
     'left: while let Some(set) = left.next_left() {
-        closed_epochs.close(alloc, setup, position, &set, out)?;
+        closed_epochs.close(alloc, setup, position, &set, room, out)?;
     }
     Ok(())
 }

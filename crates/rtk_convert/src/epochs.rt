@@ -14,7 +14,7 @@ ghost use Rattle.rtk_convert.specs.Steps.Faults.{NamesFailedFile};
 ghost use Rattle.rtk_convert.specs.Steps.OfferLines.{class_named, class_of_offer};
 ghost use Rattle.rtk_convert.specs.Writing.{written};
 
-use crate::closed_epochs::{ClosedEpochs, close_remaining};
+use crate::closed_epochs::{ClosedEpochs, close_remaining, new_room};
 use crate::fault::ConvertFault;
 use crate::file_entry::FileEntry;
 use crate::link_number::LinkNumber;
@@ -22,6 +22,7 @@ use crate::message_class::MessageClass;
 use crate::report;
 use crate::setup::Setup;
 use crate::writing::{write_header_if_none, write_lines};
+use arrayvec::ArrayVec;
 use rtk_collect::{Conflicts, DatedRef, GatheredSet, Gatherer, Outcome};
 use rtk_frame::Sink;
 use rtk_obs::{CellEntry, SignalEntry};
@@ -91,10 +92,11 @@ impl<E: FileEntry> Epochs<E> {
         setup: &Setup,
         offer: Outcome<E>,
         lines: &[u8],
+        room: &mut ArrayVec<E, 64>,
         out: &mut O,
         log: &mut L,
     ) -> Result<(), ConvertFault>
-        requires { ClosesAbove self.old.closed (closed_by (outcome_of E.signal_of offer)) }
+        requires above { ClosesAbove self.old.closed (closed_by (outcome_of E.signal_of offer)) }
         ensures window { self.new.collector ≡ self.old.collector }
         ensures writes { WritesAnswer setup.now self.old (closed_by (outcome_of E.signal_of offer)) lines.now result self.new
             (written (O.taken out.old) (L.taken log.old)) (written (O.taken out.new) (L.taken log.new)) }
@@ -104,7 +106,8 @@ impl<E: FileEntry> Epochs<E> {
             return write_lines(log, lines);
         };
         let position = self.collector.station();
-        self.closed.close(alloc, setup, &position, &set, out)?;
+        self.closed
+            .close(alloc, setup, &position, &set, room, out)?;
         self.collector.hand_back(set);
         write_lines(log, lines)
     }
@@ -115,6 +118,7 @@ impl<E: FileEntry> Epochs<E> {
         self,
         alloc: Global,
         setup: &Setup,
+        room: &mut ArrayVec<E, 64>,
         out: &mut O,
     ) -> Result<u64, ConvertFault>
         requires places { self.collector.places ≡ setup.now.window }
@@ -125,7 +129,15 @@ impl<E: FileEntry> Epochs<E> {
         let position = self.collector.station();
         let mut closed = self.closed;
         let mut left = self.collector.close();
-        close_remaining(alloc, setup, &position, &mut closed, &mut left, out)?;
+        close_remaining(
+            alloc,
+            setup,
+            &position,
+            &mut closed,
+            &mut left,
+            room,
+            out,
+        )?;
         write_header_if_none(alloc, setup, &position, closed.is_header_out(), out)?;
         Ok(closed.count())
     }
@@ -139,6 +151,7 @@ impl Epochs<CellEntry> {
         setup: &Setup,
         link: LinkNumber,
         dated: DatedRef<'_>,
+        room: &mut ArrayVec<CellEntry, 64>,
         out: &mut O,
         log: &mut L,
     ) -> Result<MessageClass, ConvertFault>
@@ -157,7 +170,7 @@ impl Epochs<CellEntry> {
         let conflicts = self.conflicts.as_slice();
         let lines =
             report::message_lines::<CellEntry>(alloc, link, number, epoch, class, conflicts)?;
-        self.write_answer(alloc, setup, offer, &lines, out, log)?;
+        self.write_answer(alloc, setup, offer, &lines, room, out, log)?;
         Ok(class)
     }
 }
@@ -170,6 +183,7 @@ impl Epochs<SignalEntry> {
         setup: &Setup,
         link: LinkNumber,
         dated: DatedRef<'_>,
+        room: &mut ArrayVec<SignalEntry, 64>,
         out: &mut O,
         log: &mut L,
     ) -> Result<MessageClass, ConvertFault>
@@ -190,18 +204,18 @@ impl Epochs<SignalEntry> {
         let conflicts = self.conflicts.as_slice();
         let lines =
             report::message_lines::<SignalEntry>(alloc, link, number, epoch, class, conflicts)?;
-        self.write_answer(alloc, setup, offer, &lines, out, log)?;
+        self.write_answer(alloc, setup, offer, &lines, room, out, log)?;
         Ok(class)
     }
 }
 
-/// Epochs with cells of GPS, or of any system.
+/// Epochs with cells of GPS, or of any system, each with room for the cells of an epoch that came in a 1004.
 #[derive(Drop)]
 pub(crate) enum AnyEpochs {
     /// Those of a setup whose codes are of GPS.
-    Gps(Epochs<CellEntry>),
+    Gps(Epochs<CellEntry>, Box<ArrayVec<CellEntry, 64>>),
     /// Those of any other one.
-    Any(Epochs<SignalEntry>),
+    Any(Epochs<SignalEntry>, Box<ArrayVec<SignalEntry, 64>>),
 }
 
 impl AnyEpochs {
@@ -210,9 +224,9 @@ impl AnyEpochs {
         ensures { IfOk result (λ epochs. AreNewEpochs setup.now (epochs_in epochs) × AreEpochsOf setup.now epochs) }
     {
         if setup.is_of_gps() {
-            return Ok(AnyEpochs::Gps(Epochs::new(alloc, setup)?));
+            return Ok(AnyEpochs::Gps(Epochs::new(alloc, setup)?, new_room(alloc)?));
         }
-        Ok(AnyEpochs::Any(Epochs::new(alloc, setup)?))
+        Ok(AnyEpochs::Any(Epochs::new(alloc, setup)?, new_room(alloc)?))
     }
 
     /// Offers a message to the window, and writes what comes of it.
@@ -236,8 +250,12 @@ impl AnyEpochs {
         ensures failed { NamesFailedStreams result (O.failures out.old) (O.failures out.new) (L.failures log.old) (L.failures log.new) }
     {
         match self {
-            AnyEpochs::Gps(epochs) => epochs.add(alloc, setup, link, dated, out, log),
-            AnyEpochs::Any(epochs) => epochs.add_signals(alloc, setup, link, dated, out, log),
+            AnyEpochs::Gps(epochs, room) => {
+                epochs.add(alloc, setup, link, dated, &mut *room, out, log)
+            }
+            AnyEpochs::Any(epochs, room) => {
+                epochs.add_signals(alloc, setup, link, dated, &mut *room, out, log)
+            }
         }
     }
 
@@ -255,8 +273,8 @@ impl AnyEpochs {
         ensures failed { NamesFailedFile result (O.failures out.old) (O.failures out.new) }
     {
         match self {
-            AnyEpochs::Gps(epochs) => epochs.finish(alloc, setup, out),
-            AnyEpochs::Any(epochs) => epochs.finish(alloc, setup, out),
+            AnyEpochs::Gps(epochs, mut room) => epochs.finish(alloc, setup, &mut room, out),
+            AnyEpochs::Any(epochs, mut room) => epochs.finish(alloc, setup, &mut room, out),
         }
     }
 }

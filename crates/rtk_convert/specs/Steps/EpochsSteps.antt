@@ -10,13 +10,13 @@ use Rattle.rtk_convert.specs.Steps.AddedMessage.{RepresentsEpochs}
 
 -- what clauses see of epochs, whatever cells they have
 abbrev pub epochs_in : AnyEpochs → EpochsView
-epochs_in (Gps e) = e
-epochs_in (Any e) = e
+epochs_in (Gps e room) = e
+epochs_in (Any e room) = e
 
 -- epochs of cells of GPS are of a setup whose codes are of GPS
 abbrev pub AreEpochsOf : SetupView → AnyEpochs → Type 0
-AreEpochsOf s (Gps e) = IsTrue (is_of_gps s)
-AreEpochsOf s (Any e) = Unit {0}
+AreEpochsOf s (Gps e room) = IsTrue (is_of_gps s)
+AreEpochsOf s (Any e room) = Unit {0}
 
 -- epochs of a setup to which no message came
 pub record AreNewEpochs (s : SetupView) (e : EpochsView) : Type 0 where

@@ -34,14 +34,14 @@ left-preserved g c =
       failures = c.in_ok-close.ensures.failed.file_failed ∙ c.left.invariant.failures;
     }
 
-pub close-requires : goal.close-requires
-close-requires g c =
+pub close-requires-clause-above : goal.close-requires-clause-above
+close-requires-clause-above g c =
     let f = set_of g.E.FileEntry.signal_of in
     last-above c.left.closed_epochs (map f c.next_left.new.self.sets) (f c.in-Some.set) (map f c.left.left.sets) (ap (map f) c.in-Some.ensures.next ∙ map-append f _ _) c.left.invariant.above
 
 pub left-init : goal.left-init
 left-init g c = record {
   some = some-none _ _ _ _ _;
-  above = c.requires;
+  above = c.requires.above;
   failures = refl;
 }

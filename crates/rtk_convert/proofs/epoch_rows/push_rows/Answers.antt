@@ -106,7 +106,7 @@ open_line-requires-clause-room g c =
     let at = fills-next old epoch ms c.satellites.at.msm ls c.satellites.at.legacy i.from n (g.E.FileEntry.places c.satellites.phases) i.fills rise-m rise-l least in
     let few = next-has (λ (s : ℕ). s ≤ g.E.Lines.RowLines.greatest) (all-map f _ (λ (e : SignalEntry). e.satellite ≤ g.E.Lines.RowLines.greatest) laws.lines _ c.msm_cells-msm.ensures.range)
     (all-map f _ (λ (e : SignalEntry). e.satellite ≤ g.E.Lines.RowLines.greatest) laws.lines _ c.legacy_left-legacy.ensures.range) least in
-    room-held _ _ c.satellites.lines (shown_by old epoch (ms ++ ls)) c.args.listed.now (i.from - 1) i.holds (omega (arith, few, from, i.one))
+    room-held g.E.Lines.RowLines.HasRows g.E.Lines.RowLines.greatest c.satellites.lines (shown_by old epoch (ms ++ ls)) c.args.listed.now (i.from - 1) i.holds (omega (arith, few, from, i.one))
 
 pub fill_line-at-requires-clause-satellite : goal.fill_line-at-requires-clause-satellite
 fill_line-at-requires-clause-satellite g c =
@@ -161,7 +161,7 @@ fill_line-at-requires-clause-msm g c =
     let hn : IsSatelliteIndex n = next-satellite ranges-m ranges-l least in
     let from = next-from i.fills.msm i.fills.legacy least in
     let at = fills-next old epoch ms c.satellites.at.msm ls c.satellites.at.legacy i.from n (g.E.FileEntry.places c.satellites.phases) i.fills rise-m rise-l least in
-    record { ranges = ranges-m; kind = one-kind f _ laws.values _ c.msm_cells-msm.ensures.kind; from = record { rises = rise-m; place = at.msm } }
+    record { ranges = ranges-m; kind = one-kind f g.E.Entry.entries laws.values _ c.msm_cells-msm.ensures.kind; from = record { rises = rise-m; place = at.msm } }
 
 pub fill_line-at-requires-clause-legacy : goal.fill_line-at-requires-clause-legacy
 fill_line-at-requires-clause-legacy g c =
@@ -181,7 +181,7 @@ fill_line-at-requires-clause-legacy g c =
     let hn : IsSatelliteIndex n = next-satellite ranges-m ranges-l least in
     let from = next-from i.fills.msm i.fills.legacy least in
     let at = fills-next old epoch ms c.satellites.at.msm ls c.satellites.at.legacy i.from n (g.E.FileEntry.places c.satellites.phases) i.fills rise-m rise-l least in
-    record { ranges = ranges-l; kind = one-kind f _ laws.values _ c.legacy_left-legacy.ensures.kind; from = record { rises = rise-l; place = at.legacy } }
+    record { ranges = ranges-l; kind = one-kind f g.E.Entry.entries laws.values _ c.legacy_left-legacy.ensures.kind; from = record { rises = rise-l; place = at.legacy } }
 
 pub fill_line-at-requires-clause-later : goal.fill_line-at-requires-clause-later
 fill_line-at-requires-clause-later g c =
@@ -257,7 +257,7 @@ close_line-requires-clause-room g c =
     let at = fills-next old epoch ms c.satellites.at.msm ls c.satellites.at.legacy i.from n (g.E.FileEntry.places c.satellites.phases) i.fills rise-m rise-l least in
     let few = next-has (λ (s : ℕ). s ≤ g.E.Lines.RowLines.greatest) (all-map f _ (λ (e : SignalEntry). e.satellite ≤ g.E.Lines.RowLines.greatest) laws.lines _ c.msm_cells-msm.ensures.range)
     (all-map f _ (λ (e : SignalEntry). e.satellite ≤ g.E.Lines.RowLines.greatest) laws.lines _ c.legacy_left-legacy.ensures.range) least in
-    room-held _ _ c.fill_line-at.new.lines (shown_by old epoch (ms ++ ls)) c.args.listed.now (i.from - 1) (c.fill_line-at.ensures.lines _ (c.in_ok-open_line.ensures.rows _ i.holds)) (omega (arith, few, from, i.one))
+    room-held g.E.Lines.RowLines.HasRows g.E.Lines.RowLines.greatest c.fill_line-at.new.lines (shown_by old epoch (ms ++ ls)) c.args.listed.now (i.from - 1) (c.fill_line-at.ensures.lines _ (c.in_ok-open_line.ensures.rows _ i.holds)) (omega (arith, few, from, i.one))
 
 pub close_line-requires-clause-open : goal.close_line-requires-clause-open
 close_line-requires-clause-open g c = (_, c.fill_line-at.ensures.shows.row)
@@ -313,7 +313,7 @@ satellites-preserved g c =
             (g.E.FileEntry.places filled.new.phases) filled.new.lines filled.ensures.msm.from filled.ensures.msm.next filled.ensures.legacy.from filled.ensures.legacy.next shows;
         holds = subst (λ (all : List SatelliteRow). g.E.Lines.RowLines.HasRows c.close_line.new.self all)
             (rows-next h c.args.listed.now n rows (row_if_any h codes n) hn.0 refl (ap (λ (cs : List AnyCode). row_if_any h cs n) (sym same)))
-            (row-held _ c.close_line.new.self (c.blank_rows_are_left_out.ensures c.close_line.new.self) h codes n rows closed);
+            (row-held g.E.Lines.RowLines.HasRows c.close_line.new.self (c.blank_rows_are_left_out.ensures c.close_line.new.self) h codes n rows closed);
         few = c.form_at-form.ensures.codes.few;
         codes_are = λ s more less. c.form_at-form.ensures.codes.codes_are s (omega arith) less;
       };
@@ -342,7 +342,7 @@ returns-clause-lines g c =
     let e = set_of f c.args.set.now in
     let turn : (s : ℕ) (k : AnyCode) → first_cell (ms ++ ls) s k ≡ cell_at e.cells s k =
     λ s k. ap (λ (xs : List _). first_cell (map f xs ++ ls) s k) c.msm_cells-msm.ensures.value
-    ∙ turn-is f _ laws.values c.args.set.now.cells c.legacy_left-legacy.result.now (laws.left _ _ _ c.legacy_left-legacy.ensures.left) s k in
+    ∙ turn-is f g.E.Entry.entries laws.values c.args.set.now.cells c.legacy_left-legacy.result.now (laws.left _ _ _ c.legacy_left-legacy.ensures.left) s k in
     λ below has. subst (λ (rows : List SatelliteRow). g.E.Lines.RowLines.HasRows c.satellites.lines rows)
     (last
     ∙ rows_to-same (shown_by old epoch (ms ++ ls)) (observed_at e below) c.args.listed.now 221 (omega arith)
@@ -369,7 +369,7 @@ returns-clause-phases g c =
     let e = set_of f c.args.set.now in
     let turn : (s : ℕ) (k : AnyCode) → first_cell (ms ++ ls) s k ≡ cell_at e.cells s k =
     λ s k. ap (λ (xs : List _). first_cell (map f xs ++ ls) s k) c.msm_cells-msm.ensures.value
-    ∙ turn-is f _ laws.values c.args.set.now.cells c.legacy_left-legacy.result.now (laws.left _ _ _ c.legacy_left-legacy.ensures.left) s k in
+    ∙ turn-is f g.E.Entry.entries laws.values c.args.set.now.cells c.legacy_left-legacy.result.now (laws.left _ _ _ c.legacy_left-legacy.ensures.left) s k in
     λ below has s k hs. end.done s k hs (omega (arith, hs.0.1))
     ∙ ap (λ (o : Option Cell). track_after (track_at old s k) k epoch o) (turn s k)
     ∙ ap (λ (o : Option Track). track_after o k e.epoch (cell_at e.cells s k)) (has s k hs)

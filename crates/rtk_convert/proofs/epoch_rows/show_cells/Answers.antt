@@ -10,7 +10,7 @@ use Rattle.rtk_convert.proofs.epoch_rows.show_cells.Goals as goal
 pub cells-init : goal.cells-init
 cells-init g c = record {
   takes = takes-begin _ _ _ _ _ _ _ _ _ _ c.requires.cells.from.place.within c.requires.later;
-  codes = codes-begin _ _ _ _ _ c.requires.known;
+  codes = codes-begin c.args.known (map g.E.FileEntry.signal_of c.args.earlier.now) (map g.E.FileEntry.signal_of c.args.entries.now) c.args.begin c.args.satellite c.requires.known;
 }
 
 pub cells-preserved-then-known-bit-ne0 : goal.cells-preserved-then-known-bit-ne0

@@ -23,11 +23,11 @@ returns-in_default-clause-failed g c = record {
   report_failed = c.write_lines.ensures.report_failed;
 }
 
-pub close-requires : goal.close-requires
-close-requires g c =
+pub close-requires-clause-above : goal.close-requires-clause-above
+close-requires-clause-above g c =
     let f = set_of g.E.FileEntry.signal_of in
     let some : closed_by (outcome_of g.E.FileEntry.signal_of c.args.offer) ≡ Some (f c.in-Some.set) = sym c.closed_by.ensures ∙ ap (option_map f) c.in-Some.is in
-    subst (λ (x : Option (EpochSetView SignalEntry)). ClosesAbove c.self.inside.closed x) some (subst (λ (x : _). ClosesAbove x.closed (closed_by (outcome_of g.E.FileEntry.signal_of c.args.offer))) (sym c.self.view_is) c.requires)
+    subst (λ (x : Option (EpochSetView SignalEntry)). ClosesAbove c.self.inside.closed x) some (subst (λ (x : _). ClosesAbove x.closed (closed_by (outcome_of g.E.FileEntry.signal_of c.args.offer))) (sym c.self.view_is) c.requires.above)
 
 pub returns-in_err-close-clause-writes : goal.returns-in_err-close-clause-writes
 returns-in_err-close-clause-writes g c =
