@@ -1,6 +1,5 @@
 mod SystemLemmas
 mod PhasesLemmas
-mod MixedFileLemmas
 mod CodesLemmas
 mod EntriesLemmas
 mod PlacesLemmas

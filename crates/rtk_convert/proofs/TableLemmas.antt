@@ -8,6 +8,7 @@ use Rattle.std.proofs.lemmas.List.{append-nil, length-map}
 use Rattle.std.proofs.lemmas.List.Elements.{All-nil, All-cons, All-append, All-map, All-head, All-tail, All-weaker, filter-append}
 use Rattle.std.proofs.lemmas.List.Quantifiers.{all_pairs_push}
 use Rattle.std.proofs.lemmas.Grind.{flat_map-append}
+use Rattle.rtk_message.specs.declared.system.System.{System}
 use Rattle.rtk_obs.specs.declared.any_code.AnyCode.{AnyCode}
 use Rattle.rtk_obs.specs.declared.signal_cells.SignalEntry.{SignalEntry}
 use Rattle.rtk_obs.specs.declared.cell.Cell.{Cell}
@@ -16,24 +17,25 @@ use Rattle.rtk_obs.specs.AnyCode.{number_of}
 use Rattle.rtk_obs.specs.Rollover.{digits_since}
 use Rattle.rtk_obs.specs.Slip.{epoch_cell}
 use Rattle.rtk_obs.specs.declared.cell.CellSource.TheVariants.{Legacy, Msm}
+use Rattle.rtk_obs.specs.SatelliteIndex.{bit_at}
 use Rattle.rtk_obs.specs.SignalCells.{IsSignalInRange}
 use Rattle.rtk_collect.specs.Signals.{signals}
 use Rattle.rtk_collect.specs.EpochSet.{EpochSetView, is_from, FirstIsBelow, EpochsFall}
 use Rattle.rtk_rinex.specs.declared.epoch_table.Observed.{Observed}
 use Rattle.rtk_rinex.specs.Reading.{IsMoment}
 use Rattle.rtk_rinex.specs.Header.{PositionView, IsPositionView}
-use Rattle.rtk_rinex.specs.MixedForm.{form_of_head, has_phases}
+use Rattle.rtk_rinex.specs.MixedForm.{form_of_head, has_phases, phases_in}
 use Rattle.rtk_rinex.specs.MixedHead.{MixedHeadView}
 use Rattle.rtk_rinex.specs.MixedHeader.{mixed_header_text}
 use Rattle.rtk_rinex.specs.MixedRecord.{mixed_record_text}
-use Rattle.rtk_rinex.specs.MixedTable.{HasNoPhase, IsMixedTable, MixedTable, mixed_table_text}
-use Rattle.rtk_rinex.specs.Record.{EpochTableView, IsStrengthOrNone}
+use Rattle.rtk_rinex.specs.MixedTable.{HasNoPhase, IsEpochOfHead, IsMixedTable, IsRowOfHead, MixedTable, WritesNoPhase, mixed_table_text, shown_mixed_table, with_mixed_record}
+use Rattle.rtk_rinex.specs.Record.{EpochTableView, IsStrengthOrNone, is_present}
 use Rattle.rtk_rinex.specs.Table.{StartsAt, shown_epoch}
+use Rattle.rtk_rinex.proofs.PublicLaws.{mixed_file-is_shown}
 use Rattle.rtk_convert.specs.Rows.{band_of, codes_for, first_cell, is_signal, last_phase_of, cell_at, in_turn, observed_after, observed_at, or_nothing, rolled_or_none, table_of}
 use Rattle.rtk_convert.specs.File.{record_of, records, first_or, first_time, file_of, one_more_if_any, record_count}
 use Rattle.rtk_convert.specs.Setup.{SetupView, IsSetupView}
 use Rattle.rtk_convert.specs.FileLaws.{HasPhaseBy, IsGoodEpoch, FileIsTable}
-use Rattle.rtk_convert.proofs.MixedFileLemmas.{IsGoodRow, IsGoodTable, has_record, mixed-table, mixed-text, shown_mixed, with_mixed_record}
 use Rattle.rtk_convert.proofs.RowsLemmas.{all-rows, rows_to-rise, HasStrength, first-strength, observed-strength}
 
 -- the tables of the epochs, rising
@@ -50,6 +52,10 @@ tables-text listed (e ∷ below) =
     ∙ ap (λ (xs : List ℕ). records listed below ++ xs) (append-nil (record_of listed e below))
 
 -- ---- the first time
+
+-- an epoch has a record
+abbrev has_record : EpochTableView → Bool
+has_record e = nat_lt 0 (length (mixed_record_text e))
 
 first_of : List EpochTableView → Option ℕ
 first_of [] = None
@@ -108,8 +114,8 @@ observed-phase : (last : Option Track) (code : AnyCode) (epoch : ℕ) (o : Optio
 observed-phase last code epoch None h = refl
 observed-phase last code epoch (Some c) h = ap (λ (p : Option ℤ). rolled_or_none p (digits_since (band_of code) last (epoch_cell epoch c)).rolls) h
 
-table-rows : (s : SetupView) (e : EpochSetView SignalEntry) (below : List (EpochSetView SignalEntry)) → IsGoodEpoch s e → All (IsGoodRow s.head) (table_of s.head.listed e below).rows
-table-rows s e below good = all-rows (IsGoodRow s.head) (observed_at e below) s.head.listed 221 (omega arith)
+table-rows : (s : SetupView) (e : EpochSetView SignalEntry) (below : List (EpochSetView SignalEntry)) → IsGoodEpoch s e → All (IsRowOfHead s.head) (table_of s.head.listed e below).rows
+table-rows s e below good = all-rows (IsRowOfHead s.head) (observed_at e below) s.head.listed 221 (omega arith)
     (λ n hs m.
       let codes = codes_for s.head.listed n in
       let row = λ (code : AnyCode). or_nothing (observed_at e below n code) in
@@ -118,12 +124,14 @@ table-rows s e below good = all-rows (IsGoodRow s.head) (observed_at e below) s.
         width = length-map codes row;
         strengths = All-map (λ (o : Observed). IsStrengthOrNone o.strength_millidbhz) row codes
             (λ k d l. observed-strength (last_phase_of below n (get_or codes k d)) (get_or codes k d) e.epoch (cell_at e.cells n (get_or codes k d)) (cell-strength e.cells n (get_or codes k d) good.cells));
-        phases = λ none. All-map HasNoPhase row codes
-            (λ k d l. observed-phase (last_phase_of below n (get_or codes k d)) (get_or codes k d) e.epoch (cell_at e.cells n (get_or codes k d))
-                (first-phase s (in_turn e.cells) n (get_or codes k d) none (in-turn (HasPhaseBy s) e.cells good.phases)));
+        phases = λ is untold.
+            let none : has_phases (form_of_head s.head) n ≡ false = subst (λ (t : System). phases_in (form_of_head s.head) t (bit_at n) ≡ false) (sym is) untold in
+            All-map WritesNoPhase row codes
+            (λ k d l. ap is_present (observed-phase (last_phase_of below n (get_or codes k d)) (get_or codes k d) e.epoch (cell_at e.cells n (get_or codes k d))
+                (first-phase s (in_turn e.cells) n (get_or codes k d) none (in-turn (HasPhaseBy s) e.cells good.phases))));
       })
 
-table-good : (s : SetupView) (e : EpochSetView SignalEntry) (below : List (EpochSetView SignalEntry)) → IsGoodEpoch s e → IsGoodTable s.head (table_of s.head.listed e below)
+table-good : (s : SetupView) (e : EpochSetView SignalEntry) (below : List (EpochSetView SignalEntry)) → IsGoodEpoch s e → IsEpochOfHead s.head (table_of s.head.listed e below)
 table-good s e below good = record {
   time = good.time;
   rows = table-rows s e below good;
@@ -155,10 +163,10 @@ tables-rise listed (e ∷ below) f =
 
 -- ---- the first time is good
 
-first-moment : (h : MixedHeadView) (near : ℕ) (xs : List EpochTableView) → IsMoment near → All (IsGoodTable h) xs → IsMoment (unwrap_or (first_of xs) near)
+first-moment : (h : MixedHeadView) (near : ℕ) (xs : List EpochTableView) → IsMoment near → All (IsEpochOfHead h) xs → IsMoment (unwrap_or (first_of xs) near)
 unfolding first_of
 first-moment h near [] m good = m
-first-moment h near (e ∷ xs) m good = let one : IsGoodTable h e = All-head (IsGoodTable h) e xs good in one.time
+first-moment h near (e ∷ xs) m good = let one : IsEpochOfHead h e = All-head (IsEpochOfHead h) e xs good in one.time
 
 starts : (near : ℕ) (xs : List EpochTableView) → StartsAt (unwrap_or (first_of xs) near) xs
 unfolding first_of
@@ -211,12 +219,13 @@ file-has_records s site epochs good_setup good_site fall good =
     let some : List EpochTableView = with_mixed_record xs in
     let first : ℕ = unwrap_or (first_of some) s.near in
     let near : IsMoment s.near = let to = good_setup.1.to in omega arith in
-    let all : All (IsGoodTable s.head) xs = all-tables (IsGoodTable s.head) s (table-good s) epochs good in (
-      shown_mixed s.head site first xs,
-      mixed-table s.head site first xs good_setup.2 good_site (first-moment s.head s.near some near (all-kept (IsGoodTable s.head) has_record xs all)) all (tables-rise s.head.listed epochs fall) (starts s.near some),
+    let all : All (IsEpochOfHead s.head) xs = all-tables (IsEpochOfHead s.head) s (table-good s) epochs good in
+    let shown = mixed_file-is_shown s.head site first xs good_setup.2 good_site (first-moment s.head s.near some near (all-kept (IsEpochOfHead s.head) has_record xs all)) all (tables-rise s.head.listed epochs fall) (starts s.near some) in (
+      shown_mixed_table s.head site first xs,
+      shown.table,
       ap (λ (o : Option ℕ). mixed_header_text s.head site (unwrap_or o s.near) ++ records s.head.listed epochs) (first-same s.head.listed epochs)
           ∙ ap (λ (text : List ℕ). mixed_header_text s.head site first ++ text) (sym (tables-text s.head.listed epochs))
-          ∙ mixed-text s.head site first xs,
+          ∙ shown.text,
       λ few. length-map some shown_epoch ∙ sym (records-are s.head.listed epochs few),
     )
 
