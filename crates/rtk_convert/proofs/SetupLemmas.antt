@@ -1,11 +1,14 @@
 -- What a setup keeps beside what it is told.
-use Rattle.std.proofs.Common.{◌≡◌, ◌≢◌, ◌∙◌, ◌+◌, ◌-◌, ◌*◌, ◌<◌, ◌==◌, ℕ, ℤ, List, [], ◌∷◌, map, length, Option, None, false, refl, sym, ap, arith, get_or}
+use Rattle.std.proofs.Common.{◌≡◌, ◌≢◌, ◌∙◌, ◌+◌, ◌-◌, ◌*◌, ◌<◌, ◌==◌, ℕ, ℤ, Bool, true, List, [], ◌∷◌, map, length, Option, None, false, refl, sym, ap, arith, get_or}
 use Rattle.std.specs.Prelude.{if◌then◌else◌, nat_le}
 use Rattle.std.proofs.Math.Path.{fun_ext}
 use Rattle.std.proofs.lemmas.List.{get_or-map, length-map}
 use Rattle.rtk_message.specs.declared.any_message.AnyMessage.{AnyMessage as Message}
 use Rattle.rtk_message.specs.declared.any_message.AnyMessage.TheVariants as any
 use Rattle.rtk_message.specs.declared.msm.Msm.{Msm}
+use Rattle.rtk_message.specs.declared.msm_kind.MsmKind.{MsmKind}
+use Rattle.rtk_message.specs.declared.msm_kind.MsmKind.TheVariants.{Msm4, Msm5, Msm6, Msm7}
+use Rattle.rtk_message.specs.Accepted.{no_kind, only_kind, takes_kind}
 use Rattle.rtk_message.specs.declared.system.System.{System}
 use Rattle.rtk_message.specs.declared.system.System.TheVariants.{Gps, Glonass, Galileo, Beidou, Qzss, Sbas, Navic}
 use Rattle.rtk_obs.specs.declared.code.Code.{Code}
@@ -24,6 +27,19 @@ use Rattle.rtk_rinex.specs.MixedHead.{AreInOrder, IsMixedList, IsMixedHeadFault,
 use Rattle.rtk_rinex.specs.declared.mixed_head_fault.MixedHeadFault.{MixedHeadFault}
 use Rattle.rtk_rinex.specs.declared.mixed_head_fault.MixedHeadFault.TheVariants.{Codes, Glonass as NotTold}
 use Rattle.rtk_convert.specs.Setup.{AreSameChannels}
+
+-- ---- the kinds
+
+-- the kind of a system is taken exactly if a code of the system is listed
+pub takes-own : (b : Bool) (k : MsmKind) → takes_kind (if b then only_kind k else no_kind) k ≡ b
+takes-own true Msm4 = refl
+takes-own true Msm5 = refl
+takes-own true Msm6 = refl
+takes-own true Msm7 = refl
+takes-own false Msm4 = refl
+takes-own false Msm5 = refl
+takes-own false Msm6 = refl
+takes-own false Msm7 = refl
 
 -- ---- the channels
 

@@ -287,7 +287,7 @@ impl Setup {
     pub(crate) fn takes_gps(&self) -> bool
         ensures { result ≡ lists_system self.now.head.listed Gps }
     {
-        self.accepted.gps.msm4 || self.accepted.gps.msm5 || self.accepted.gps.msm6 || self.accepted.gps.msm7
+        self.accepted.gps.takes(self.kinds.gps)
     }
 
     /// Returns the channels by which phases of GLONASS are made.
