@@ -45,9 +45,9 @@ arrives-arrived {s} {w} {c} {new} {k} {k₁} {y} {b} {b₁} {link} payload {a} {
       },
     )
 
-pub breaks-arrived : {s : SetupView} {w : CollectorView SignalEntry} {c : ClosedEpochsView} {k k₁ : Counts} {y : Systems} {b b₁ : Bool} {link : ℕ} (payload : List ℕ) {a : Arrival} {o o' : Written}
-    → IsClassOfPayload s payload (Dated a) → AddsMessageInPart (state s w c k₁ y b₁) link a o o' → BreaksOffAtFrame (state s w c k y b) link payload o o'
-breaks-arrived {s} {w} {c} {k} {k₁} {y} {b} {b₁} {link} payload {a} {o} {o'} comes takes = λ before rep.
+pub breaks-arrived : {s : SetupView} {w : CollectorView SignalEntry} {c : ClosedEpochsView} {k : Counts} {y : Systems} {b : Bool} {link : ℕ} (payload : List ℕ) {a : Arrival} {o o' : Written}
+    → IsClassOfPayload s payload (Dated a) → AddsMessageInPart (state s w c k y b) link a o o' → BreaksOffAtFrame (state s w c k y b) link payload o o'
+breaks-arrived {s} {w} {c} {k} {y} {b} {link} payload {a} {o} {o'} comes takes = λ before rep.
     let t = takes (arrivals before) (record { kept = rep.kept; closed = rep.closed }) in (
       Dated a,
       comes,

@@ -159,23 +159,23 @@ told-by b untimed expected told is = told ∙ ap (λ (x : Bool). not x) is
 -- an observation that is taken puts its system into the set
 pub systems-put : (y : Systems) (number : ℕ) (epoch : Option ℕ) (untimed : Bool) (class : Class) (system of : System) → is_some epoch ≡ not untimed → untimed ≡ false → class ≡ TakenClass → of ≡ system_of_number number
     → has_system (with_system y of) system ≡ (brings_by number epoch class system || has_system y system)
-systems-put y number epoch untimed class system of told no is named =
+systems-put y number epoch untimed class system of told timed is named =
     ap (λ (x : System). has_system (with_system y x) system) named
     ∙ has-with y (system_of_number number) system
     ∙ ap (λ (b : Bool). b || has_system y system) (sym (and-true (letter_of (system_of_number number) == letter_of system)))
-    ∙ ap (λ (b : Bool). ((b && (letter_of (system_of_number number) == letter_of system)) && true) || has_system y system) (sym (told-by (is_some epoch) untimed false told no))
+    ∙ ap (λ (b : Bool). ((b && (letter_of (system_of_number number) == letter_of system)) && true) || has_system y system) (sym (told-by (is_some epoch) untimed false told timed))
     ∙ ap (λ (c : Class). brings_by number epoch c system || has_system y system) (sym is)
 
 -- another message puts none into it
 pub systems-untimed : (y : Systems) (number : ℕ) (epoch : Option ℕ) (untimed : Bool) (class : Class) (system : System) → is_some epoch ≡ not untimed → untimed ≡ true
     → has_system y system ≡ (brings_by number epoch class system || has_system y system)
-systems-untimed y number epoch untimed class system told yes =
-    ap (λ (b : Bool). ((b && (letter_of (system_of_number number) == letter_of system)) && is_taken class) || has_system y system) (sym (told-by (is_some epoch) untimed true told yes))
+systems-untimed y number epoch untimed class system told none =
+    ap (λ (b : Bool). ((b && (letter_of (system_of_number number) == letter_of system)) && is_taken class) || has_system y system) (sym (told-by (is_some epoch) untimed true told none))
 
 pub systems-stay : (y : Systems) (number : ℕ) (epoch : Option ℕ) (class : Class) (system : System) → is_taken class ≡ false → has_system y system ≡ (brings_by number epoch class system || has_system y system)
-systems-stay y number epoch class system no =
+systems-stay y number epoch class system left =
     ap (λ (b : Bool). b || has_system y system) (sym (and-false (is_some epoch && (letter_of (system_of_number number) == letter_of system))))
-    ∙ ap (λ (b : Bool). ((is_some epoch && (letter_of (system_of_number number) == letter_of system)) && b) || has_system y system) (sym no)
+    ∙ ap (λ (b : Bool). ((is_some epoch && (letter_of (system_of_number number) == letter_of system)) && b) || has_system y system) (sym left)
 
 -- what an arrival changes in the epochs of a conversion, its counts and its systems it changes in the conversion
 pub message-adds : {s : SetupView} {w w' : CollectorView SignalEntry} {c c' : ClosedEpochsView} {k k' : Counts} {y y' : Systems} {b : Bool} {link : ℕ} {a : Arrival} (class : MessageClass) {o o' : Written}

@@ -71,24 +71,24 @@ taken-is s m number answer expected is asked told = ap (λ (n : ℕ). takes s n)
 -- one that the setup does not take
 pub class-other : (s : SetupView) (r : Result Message AnyFault) (m : Message) (number : ℕ) (answer : Bool) → r ≡ Ok m → number ≡ number_of m → answer ≡ takes s number → answer ≡ false
     → IsClassOfReading s r OtherMessage
-class-other s r m number answer is named asked no =
-    let not_taken = taken-is s m number answer false named asked no in
+class-other s r m number answer is named asked told =
+    let not_taken = taken-is s m number answer false named asked told in
     subst (λ (x : Result Message AnyFault). IsClassOfReading s x OtherMessage) (sym is)
     (subst (λ (b : Bool). IsClassIf b s m OtherMessage) (sym not_taken) refl)
 
 -- one of another station
 pub class-foreign : (s : SetupView) (r : Result Message AnyFault) (m : Message) (number station own : ℕ) (answer : Bool) → r ≡ Ok m → number ≡ number_of m → answer ≡ takes s number → answer ≡ true
     → station ≡ station_of m → own ≡ s.station → station ≢ own → IsClassOfReading s r Foreign
-class-foreign s r m number station own answer is named asked yes of chosen other =
-    let taken = taken-is s m number answer true named asked yes in
+class-foreign s r m number station own answer is named asked told of chosen other =
+    let taken = taken-is s m number answer true named asked told in
     subst (λ (x : Result Message AnyFault). IsClassOfReading s x Foreign) (sym is)
     (subst (λ (b : Bool). IsClassIf b s m Foreign) (sym taken) (λ q. other (of ∙ q ∙ sym chosen)))
 
 -- one of the chosen station, with its epoch
 pub class-dated : (s : SetupView) (r : Result Message AnyFault) (m : Message) (number station own : ℕ) (answer : Bool) (a : Arrival) → r ≡ Ok m → number ≡ number_of m → answer ≡ takes s number → answer ≡ true
     → station ≡ station_of m → own ≡ s.station → station ≡ own → IsDatedMessage s m a → IsClassOfReading s r (Dated a)
-class-dated s r m number station own answer a is named asked yes of chosen same dated =
-    let taken = taken-is s m number answer true named asked yes in
+class-dated s r m number station own answer a is named asked told of chosen same dated =
+    let taken = taken-is s m number answer true named asked told in
     subst (λ (x : Result Message AnyFault). IsClassOfReading s x (Dated a)) (sym is)
     (subst (λ (b : Bool). IsClassIf b s m (Dated a)) (sym taken) (sym of ∙ same ∙ chosen, dated))
 

@@ -55,6 +55,15 @@ abbrev pub EndsFile : SetupView → CollectorView SignalEntry → ClosedEpochsVi
 EndsFile s w c count o out = (before : List Arrival) → RepresentsEpochs s (epochs w c) before
     → (count ≡ record_count s.head.listed (kept signals (cells_by s) s.window before)) × WritesRest o out (file_so_far s before) (kept_file s before)
 
+-- it breaks off in the file
+pub finish-part-file : {s : SetupView} {w : CollectorView SignalEntry} {c : ClosedEpochsView} {k : Counts} {y : Systems} {b : Bool} {o : Written} {file : Option (List ℕ)} → ((before : List Arrival) → RepresentsEpochs s (epochs w c) before → WritesPartOfRest o.file file (file_so_far s before) (kept_file s before))
+    → FinishesConversionInPart (state s w c k y b) o (written file o.report)
+finish-part-file {s} {w} {c} {k} {y} {b} {o} {file} part = λ found rep. record {
+  out = part (arrivals found) (record { kept = rep.kept; closed = rep.closed });
+  log = part-none o.report (lines s found) (report_of s found) (missing_lines s found ++ count_lines (all_counts s found)) refl;
+  counts_last = inl refl;
+}
+
 module _ {s : SetupView} {w : CollectorView SignalEntry} {c : ClosedEpochsView} {k k' : Counts} {y : Systems} {b : Bool} {o : Written} where
   pub finishes : {count : ℕ} {o' : Written} → EndsFile s w c count o.file o'.file → k' ≡ record k { epochs = count } → o'.report ≡ with_more o.report (last_lines s y k')
       → FinishesConversion (state s w c k y b) k' o o'
@@ -68,15 +77,6 @@ module _ {s : SetupView} {w : CollectorView SignalEntry} {c : ClosedEpochsView} 
         log = writes-text o.report o'.report (lines s found) (report_of s found) (missing_lines s found ++ count_lines (all_counts s found)) refl
             (wrote ∙ ap (with_more o.report) (ap (λ (x : Counts). missing_lines_by s y ++ count_lines x) same ∙ ap (λ (t : List ℕ). t ++ count_lines (all_counts s found)) (missing-same s y found rep.systems)));
       }
-
-  -- it breaks off in the file
-  pub finish-part-file : {file : Option (List ℕ)} → ((before : List Arrival) → RepresentsEpochs s (epochs w c) before → WritesPartOfRest o.file file (file_so_far s before) (kept_file s before))
-      → FinishesConversionInPart (state s w c k y b) o (written file o.report)
-  finish-part-file {file} part = λ found rep. record {
-    out = part (arrivals found) (record { kept = rep.kept; closed = rep.closed });
-    log = part-none o.report (lines s found) (report_of s found) (missing_lines s found ++ count_lines (all_counts s found)) refl;
-    counts_last = inl refl;
-  }
 
   -- in the last lines
   pub finish-part-lines : {count : ℕ} {o' : Written} → EndsFile s w c count o.file o'.file → k' ≡ record k { epochs = count } → TakesPart o.report o'.report (last_lines s y k')

@@ -46,7 +46,7 @@ use Rattle.rtk_convert.proofs.WritingLemmas.{on_ok-map, takes-none}
 abbrev pub empty_window : {E : Type 0} → ℕ → CollectorView E
 empty_window n = record { places = n; sets = []; arp1005 = None; arp1006 = None }
 
-take-none : (n : ℕ) → take n [] ≡ []
+take-none : (n : ℕ) → take {A = EpochSetView SignalEntry} n [] ≡ []
 take-none zero = refl
 take-none (suc n) = refl
 
@@ -155,12 +155,12 @@ ends-header {s} {w} {c} {c'} {old} {site} {o} {mid} {out} fault seen size is clo
 
 -- ---- a message
 
-module _ {s : SetupView} {w w' : CollectorView SignalEntry} {c : ClosedEpochsView} {old : EpochsView} {link : ℕ} {a : Arrival} {offer : Outcome SignalEntry AnySatelliteCode} {listed : List AnySatelliteCode} {lines : List ℕ}
+size-seen : {w : CollectorView SignalEntry} {c : ClosedEpochsView} {old : EpochsView} {n : ℕ} → epochs w c ≡ old → old.collector.places ≡ n → w.places ≡ n
+size-seen {w} {c} {old} {n} seen size = ap (λ (x : EpochsView). x.collector.places) seen ∙ size
+
+module _ {s : SetupView} {w w' : CollectorView SignalEntry} {c : ClosedEpochsView} {old : EpochsView} {link : ℕ} {a : Arrival} (offer : Outcome SignalEntry AnySatelliteCode) (listed : List AnySatelliteCode) {lines : List ℕ}
     (seen : epochs w c ≡ old) (taken : IsTakenBy s (message_of a)) (size : old.collector.places ≡ s.window) (same : w'.places ≡ w.places) (meets : AnswersMessage s w a offer listed w')
     (text : lines ≡ offer_lines link (number_of (message_of a)) (epoch_of a) offer listed) where
-  size-seen : w.places ≡ s.window
-  size-seen = ap (λ (x : EpochsView). x.collector.places) seen ∙ size
-
   -- all of it is written
   pub adds-message : {T : Type 0} {answer : T} {class : MessageClass} {mid new : EpochsView} {o o' : Written} → epochs w' c ≡ mid → new.collector ≡ mid.collector → class_named class ≡ class_of_offer offer
       → WritesAnswer s mid (closed_by offer) lines (Ok answer) new o o' → AddsArrival s old link a (Ok class) new o o'
@@ -171,7 +171,7 @@ module _ {s : SetupView} {w w' : CollectorView SignalEntry} {c : ClosedEpochsVie
       (record {
         ok = λ before rep.
             subst (λ (x : CollectorView SignalEntry). AddsArrivalAs s (epochs w c) link a class before (epochs x new.closed) o o') (sym window)
-            (adds-all offer listed taken size-seen same meets text named wrote.closes (λ below h. (wrote.file below h).all) wrote.report.all before rep);
+            (adds-all offer listed taken (size-seen seen size) same meets text named wrote.closes (λ below h. (wrote.file below h).all) wrote.report.all before rep);
         err = tt;
         fault = tt;
       })
@@ -184,7 +184,7 @@ module _ {s : SetupView} {w w' : CollectorView SignalEntry} {c : ClosedEpochsVie
       subst (λ (x : EpochsView). AddsArrival s x link a (Err fault) new' o o') seen
       (record {
         ok = tt;
-        err = λ before rep. adds-part offer listed taken size-seen same meets text (λ below h. (wrote.file below h).part) wrote.report.part before rep;
+        err = λ before rep. adds-part offer listed taken (size-seen seen size) same meets text (λ below h. (wrote.file below h).part) wrote.report.part before rep;
         fault = wrote.fault;
       })
 

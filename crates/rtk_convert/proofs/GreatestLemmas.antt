@@ -56,7 +56,7 @@ taken-low s bit h =
 index-up-to : (s : System) (bit : ℕ) → IfSome (index_in s bit) (λ i. i ≤ last_of s)
 index-up-to s bit = elim (cases_Bool (is_taken s bit)) [
   | inl is ↦ rw is (taken-low s bit is)
-  | inr no ↦ rw no tt
+  | inr other ↦ rw other tt
 ]
 
 entry-up-to : (limit : ℕ) (m : Msm) (k row : ℕ) (channel : Option ℤ) (o : Option ℕ) (c : Option AnyCode) → IfSome o (λ i. i ≤ limit) → All (IsUpTo limit) (entry_if m k row channel o c)

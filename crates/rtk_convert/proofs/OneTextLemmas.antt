@@ -6,7 +6,7 @@ use Rattle.std.proofs.lemmas.List.{append-nil, length-append}
 use Rattle.rtk_bits.specs.Bits.{bits}
 use Rattle.rtk_message.specs.declared.any_message.AnyMessage.{AnyMessage as Message}
 use Rattle.rtk_message.specs.declared.any_fault.AnyFault.{AnyFault}
-use Rattle.rtk_message.specs.AnyDecoded.{DecodesBy, IsValid, number_of}
+use Rattle.rtk_message.specs.AnyDecoded.{DecodesBy, Encodes, IsValid, number_of}
 use Rattle.rtk_obs.specs.declared.signal_cells.SignalEntry.{SignalEntry}
 use Rattle.rtk_collect.specs.Signals.{signals}
 use Rattle.rtk_collect.specs.EpochSet.{EpochSetView}
@@ -27,11 +27,13 @@ use Rattle.rtk_convert.proofs.SoFarLemmas.{so_far-stays}
 
 -- ---- an arrival holds a valid message
 
+valid-of : (bits_in : List Bool) (r : Result Message AnyFault) (m : Message) → IfOk r (λ x. Encodes bits_in x) → r ≡ Ok m → IsValid m
+valid-of bits_in r m h is = (subst (λ (x : Result Message AnyFault). IfOk x (λ y. Encodes bits_in y)) is h).valid
+
 valid-by : (s : SetupView) (payload : List ℕ) (r : Result Message AnyFault) (a : Arrival) → DecodesBy (taken_by s) (bits payload) r → IsClassOfReading s r (Dated a) → IsValid (message_of a)
 valid-by s payload r (At e m) d f =
     let p = dated-reading s r (At e m) f in
-    let read : IfOk r IsValid = d.message.valid in
-    subst IsValid (sym p.2.dated.0) (subst (λ (x : Result Message AnyFault). IfOk x IsValid) p.1 read)
+    subst IsValid (sym p.2.dated.0) (valid-of (bits payload) r p.0 d.message p.1)
 
 comes-valid : (s : SetupView) (payload : List ℕ) (a : Arrival) → IsClassOfPayload s payload (Dated a) → IsValid (message_of a)
 comes-valid s payload a c = valid-by s payload c.0 a c.1 c.2

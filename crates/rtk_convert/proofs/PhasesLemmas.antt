@@ -110,15 +110,19 @@ module _ (h : MixedHeadView) where
       ap (λ (o : Option ℤ). (cell_on m k row (frequency_at (carrier_of code) o)).phase_millicycles) channel
       ∙ ap (λ (f : Option ℕ). (cell_on m k row f).phase_millicycles) (glonass-frequency signal code is)
 
+  abbrev entry_of : System → Msm → ℕ → ℕ → ℕ → ℕ → AnyCode → SignalEntry
+  entry_of s m k row bit field code =
+      record { satellite = satellites_before s + bit; code = code; cell = cell_on m k row (frequency_at (carrier_of code) (channel_in s (channels_of h.glonass) bit field)) }
+
   of-system : (s : System) (m : Msm) (k row bit field signal : ℕ) (code : AnyCode) → code_in s signal ≡ Some code → is_taken s bit ≡ true
-      → HasPhase (record { satellite = satellites_before s + bit; code = code; cell = cell_on m k row (frequency_at (carrier_of code) (channel_in s (channels_of h.glonass) bit field)) })
-  of-system Gps m k row bit field signal code is taken = of-another _ Gps (system-of Gps bit taken) (λ e. cc)
+      → HasPhase (entry_of s m k row bit field code)
+  of-system Gps m k row bit field signal code is taken = of-another (entry_of Gps m k row bit field code) Gps (system-of Gps bit taken) (λ e. cc)
   of-system Glonass m k row bit field signal code is taken = of-glonass m k row bit field signal code is taken
-  of-system Galileo m k row bit field signal code is taken = of-another _ Galileo (system-of Galileo bit taken) (λ e. cc)
-  of-system Beidou m k row bit field signal code is taken = of-another _ Beidou (system-of Beidou bit taken) (λ e. cc)
-  of-system Qzss m k row bit field signal code is taken = of-another _ Qzss (system-of Qzss bit taken) (λ e. cc)
-  of-system Sbas m k row bit field signal code is taken = of-another _ Sbas (system-of Sbas bit taken) (λ e. cc)
-  of-system Navic m k row bit field signal code is taken = of-another _ Navic (system-of Navic bit taken) (λ e. cc)
+  of-system Galileo m k row bit field signal code is taken = of-another (entry_of Galileo m k row bit field code) Galileo (system-of Galileo bit taken) (λ e. cc)
+  of-system Beidou m k row bit field signal code is taken = of-another (entry_of Beidou m k row bit field code) Beidou (system-of Beidou bit taken) (λ e. cc)
+  of-system Qzss m k row bit field signal code is taken = of-another (entry_of Qzss m k row bit field code) Qzss (system-of Qzss bit taken) (λ e. cc)
+  of-system Sbas m k row bit field signal code is taken = of-another (entry_of Sbas m k row bit field code) Sbas (system-of Sbas bit taken) (λ e. cc)
+  of-system Navic m k row bit field signal code is taken = of-another (entry_of Navic m k row bit field code) Navic (system-of Navic bit taken) (λ e. cc)
 
   of-code : (m : Msm) (k row satellite : ℕ) (channel : Option ℤ) (c : Option AnyCode)
       → ((code : AnyCode) → c ≡ Some code → HasPhase (record { satellite = satellite; code = code; cell = cell_on m k row (frequency_at (carrier_of code) channel) }))

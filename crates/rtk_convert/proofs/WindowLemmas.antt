@@ -12,7 +12,7 @@ use Rattle.rtk_collect.specs.EpochSet.{EpochSetView}
 use Rattle.rtk_collect.specs.Offered.{ClosesBelow, ClosesLeast, LeastNeverFalls, NotBelow}
 use Rattle.rtk_convert.specs.Epochs.{set_of, window_of, outcome_of}
 
-module _ {E S : Type 0} (f : E → SignalEntry) where
+module _ {E : Type 0} (f : E → SignalEntry) where
   -- what holds of the epochs of all sets, and of all sets as signals
   pub to-signals : (P : ℕ → Type 0) (sets : List (EpochSetView E)) → All (λ x. P x.epoch) sets → All (λ x. P x.epoch) (map (set_of f) sets)
   to-signals P sets h = All-map (λ (x : EpochSetView SignalEntry). P x.epoch) (set_of f) sets h
@@ -22,7 +22,7 @@ module _ {E S : Type 0} (f : E → SignalEntry) where
       let is = get_or-map (set_of f) sets k d (set_of f d) lt in
       subst (λ (x : EpochSetView SignalEntry). P x.epoch) is (h k (set_of f d) (omega (arith, lt, length-map sets (set_of f))))
 
-  pub below-map : (offer : Outcome E S) (sets : List (EpochSetView E)) → ClosesBelow offer sets → ClosesBelow (outcome_of f offer) (map (set_of f) sets)
+  pub below-map : {S : Type 0} (offer : Outcome E S) (sets : List (EpochSetView E)) → ClosesBelow offer sets → ClosesBelow (outcome_of f offer) (map (set_of f) sets)
   below-map (Taken (Some set)) sets h = to-signals (λ (e : ℕ). set.epoch < e) sets h
   below-map (Taken None) sets h = tt
   below-map Conflict sets h = tt
@@ -32,7 +32,7 @@ module _ {E S : Type 0} (f : E → SignalEntry) where
   not-below-map : (set : EpochSetView E) (sets : List (EpochSetView E)) → NotBelow set sets → NotBelow (set_of f set) (map (set_of f) sets)
   not-below-map set sets h = λ e all. h e (from-signals (λ (x : ℕ). e ≤ x) sets all)
 
-  pub least-map : (n : ℕ) (sets : List (EpochSetView E)) (offer : Outcome E S) → ClosesLeast n sets offer → ClosesLeast n (map (set_of f) sets) (outcome_of f offer)
+  pub least-map : {S : Type 0} (n : ℕ) (sets : List (EpochSetView E)) (offer : Outcome E S) → ClosesLeast n sets offer → ClosesLeast n (map (set_of f) sets) (outcome_of f offer)
   least-map n sets (Taken (Some set)) h = (
     length-map sets (set_of f) ∙ h.0,
     (map (set_of f) h.1.0, ap (map (set_of f)) h.1.1 ∙ map-append (set_of f) h.1.0 (set ∷ [])),

@@ -33,7 +33,7 @@ returns-clause-adds g c =
     ∙ ap (λ (e : Option ℕ). class_lines c.args.link (number_of (message_of c.args.dated)) e (class_named c.class_of-class.result) (map name_of_gps c.as_slice-conflicts.result.now)) c.epoch-epoch.ensures.value
     ∙ ap (λ (k : Class). class_lines c.args.link (number_of (message_of c.args.dated)) (epoch_of c.args.dated) k (map name_of_gps c.as_slice-conflicts.result.now)) c.class_of-class.ensures
     ∙ ap (λ (xs : List SatelliteCode). offer_lines c.args.link (number_of (message_of c.args.dated)) (epoch_of c.args.dated) (outcome_of signal_of c.in_ok-offer.offer) (map name_of_gps xs)) c.as_slice-conflicts.ensures.value in
-    adds-message c.self.view_is c.requires.taken c.requires.places c.offer.ensures.places meets text refl c.write_answer.ensures.window c.class_of-class.ensures c.in_ok-write_answer.ensures.writes
+    adds-message (outcome_of signal_of c.in_ok-offer.offer) (map name_of_gps c.offer.new.conflicts) c.self.view_is c.requires.taken c.requires.places c.offer.ensures.places meets text refl c.write_answer.ensures.window c.class_of-class.ensures c.in_ok-write_answer.ensures.writes
 
 pub returns-clause-stays : goal.returns-clause-stays
 returns-clause-stays g c =
@@ -57,7 +57,7 @@ returns-in_err-write_answer-clause-adds g c =
     ∙ ap (λ (e : Option ℕ). class_lines c.args.link (number_of (message_of c.args.dated)) e (class_named c.class_of-class.result) (map name_of_gps c.as_slice-conflicts.result.now)) c.epoch-epoch.ensures.value
     ∙ ap (λ (k : Class). class_lines c.args.link (number_of (message_of c.args.dated)) (epoch_of c.args.dated) k (map name_of_gps c.as_slice-conflicts.result.now)) c.class_of-class.ensures
     ∙ ap (λ (xs : List SatelliteCode). offer_lines c.args.link (number_of (message_of c.args.dated)) (epoch_of c.args.dated) (outcome_of signal_of c.in_ok-offer.offer) (map name_of_gps xs)) c.as_slice-conflicts.ensures.value in
-    rw (p.1, p.2) (adds-in-part c.self.view_is c.requires.taken c.requires.places c.offer.ensures.places meets text refl c.in_err-write_answer.ensures.writes)
+    rw (p.1, p.2) (adds-in-part (outcome_of signal_of c.in_ok-offer.offer) (map name_of_gps c.offer.new.conflicts) c.self.view_is c.requires.taken c.requires.places c.offer.ensures.places meets text refl c.in_err-write_answer.ensures.writes)
 
 pub returns-in_err-write_answer-clause-stays : goal.returns-in_err-write_answer-clause-stays
 returns-in_err-write_answer-clause-stays g c =

@@ -48,7 +48,7 @@ returns-clause-adds g c =
     ∙ ap (λ (e : Option ℕ). class_lines c.args.link (number_of (message_of c.args.dated)) e (class_named c.class_of-class.result) (map name_same c.as_slice-conflicts.result.now)) c.epoch-epoch.ensures.value
     ∙ ap (λ (k : Class). class_lines c.args.link (number_of (message_of c.args.dated)) (epoch_of c.args.dated) k (map name_same c.as_slice-conflicts.result.now)) c.class_of-class.ensures
     ∙ ap (λ (xs : List AnySatelliteCode). offer_lines c.args.link (number_of (message_of c.args.dated)) (epoch_of c.args.dated) (outcome_of same c.in_ok-offer.offer) (map name_same xs)) c.as_slice-conflicts.ensures.value in
-    adds-message c.self.view_is c.requires.taken c.requires.places c.offer_signals.ensures.places meets text refl c.write_answer.ensures.window c.class_of-class.ensures c.in_ok-write_answer.ensures.writes
+    adds-message (outcome_of same c.in_ok-offer.offer) (map name_same c.offer_signals.new.conflicts) c.self.view_is c.requires.taken c.requires.places c.offer_signals.ensures.places meets text refl c.write_answer.ensures.window c.class_of-class.ensures c.in_ok-write_answer.ensures.writes
 
 pub returns-clause-stays : goal.returns-clause-stays
 returns-clause-stays g c =
@@ -84,7 +84,7 @@ returns-in_err-write_answer-clause-adds g c =
     ∙ ap (λ (e : Option ℕ). class_lines c.args.link (number_of (message_of c.args.dated)) e (class_named c.class_of-class.result) (map name_same c.as_slice-conflicts.result.now)) c.epoch-epoch.ensures.value
     ∙ ap (λ (k : Class). class_lines c.args.link (number_of (message_of c.args.dated)) (epoch_of c.args.dated) k (map name_same c.as_slice-conflicts.result.now)) c.class_of-class.ensures
     ∙ ap (λ (xs : List AnySatelliteCode). offer_lines c.args.link (number_of (message_of c.args.dated)) (epoch_of c.args.dated) (outcome_of same c.in_ok-offer.offer) (map name_same xs)) c.as_slice-conflicts.ensures.value in
-    rw (p.1, p.2) (adds-in-part c.self.view_is c.requires.taken c.requires.places c.offer_signals.ensures.places meets text refl c.in_err-write_answer.ensures.writes)
+    rw (p.1, p.2) (adds-in-part (outcome_of same c.in_ok-offer.offer) (map name_same c.offer_signals.new.conflicts) c.self.view_is c.requires.taken c.requires.places c.offer_signals.ensures.places meets text refl c.in_err-write_answer.ensures.writes)
 
 pub returns-in_err-write_answer-clause-stays : goal.returns-in_err-write_answer-clause-stays
 returns-in_err-write_answer-clause-stays g c =
