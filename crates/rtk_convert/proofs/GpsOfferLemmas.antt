@@ -82,7 +82,7 @@ taken-of-gps s is =
 pub accepts-taken : (s : SetupView) (n : ℕ) → IsTrue (takes s n) → accepted.accepts (taken_by s) n ≡ true
 accepts-taken s n h = elim (cases_Bool (n == 1004)) [
   | inl is ↦ rw is refl
-  | inr other ↦ rw other at h
+  | inr other ↦ rw other (rw other at h)
 ]
 
 pub gps-message : (s : SetupView) (m : Message) → IsTrue (is_of_gps s) → IsTakenBy s m → IsGpsMessage m
