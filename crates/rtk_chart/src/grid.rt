@@ -143,7 +143,11 @@ fn note_passes(
     for place in 0u8..32 {
         let observed = observed_in(rows, place + 1);
         note_pass(
-            &mut passes[usize::from(place)], interval, record_ms, time_ms, observed,
+            &mut passes[usize::from(place)],
+            interval,
+            record_ms,
+            time_ms,
+            observed,
         );
     }
 }
@@ -209,7 +213,8 @@ impl Grid {
     {
         let interval = scale.interval;
         let record_ms = ms_of(self.last);
-        self.called.call_for(&self.passes, interval, record_ms, epoch);
+        self.called
+            .call_for(&self.passes, interval, record_ms, epoch);
         let counts = self.called.counts();
         self.count_missing(scale, epoch);
         self.slips = self.slips.saturating_add(counts.slips);
