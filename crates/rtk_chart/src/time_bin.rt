@@ -6,7 +6,7 @@ ghost use Rattle.rtk_rinex.specs.Record.{EpochTableView};
 ghost use Rattle.rtk_tracking.specs.Epochs.{newest_moment};
 ghost use Rattle.rtk_chart.specs.Grid.{no_bin, tracking_at};
 ghost use Rattle.rtk_chart.specs.Steps.Standing.{StandForPasses};
-ghost use Rattle.rtk_chart.specs.Steps.Shown.{both_satellites, both_bins, bin_of, counted};
+ghost use Rattle.rtk_chart.specs.Steps.Shown.{both_satellites, both_bins, bin_of, codes_with};
 
 use crate::tracking::{Counts, Tracking};
 use rtk_rinex::EpochTable;
@@ -78,9 +78,9 @@ impl TimeBin {
 
     /// How many codes of satellites that have a row have a slip, a return and a rise.
     pub(crate) fn counts(&self) -> Counts
-        ensures slips { result.slips ≡ sum_by (counted (λ m. m.slip)) self.now.satellites }
-        ensures returns { result.returns ≡ sum_by (counted (λ m. m.returned)) self.now.satellites }
-        ensures rises { result.rises ≡ sum_by (counted (λ m. m.rise)) self.now.satellites }
+        ensures slips { result.slips ≡ sum_by (codes_with (λ m. m.slip)) self.now.satellites }
+        ensures returns { result.returns ≡ sum_by (codes_with (λ m. m.returned)) self.now.satellites }
+        ensures rises { result.rises ≡ sum_by (codes_with (λ m. m.rise)) self.now.satellites }
     {
         let mut slips = 0;
         let mut returns = 0;

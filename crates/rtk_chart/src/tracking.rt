@@ -6,7 +6,7 @@ ghost use Rattle.rtk_tracking.specs.Passes.{Sighting, last_record, has_phase};
 ghost use Rattle.rtk_tracking.specs.Standing.{StandsForPass};
 ghost use Rattle.rtk_chart.specs.Epochs.{is_seen};
 ghost use Rattle.rtk_chart.specs.Grid.{no_tracking};
-ghost use Rattle.rtk_chart.specs.Steps.Shown.{called_at, both_codes, both_trackings, counted, tracking_of};
+ghost use Rattle.rtk_chart.specs.Steps.Shown.{called_at, both_codes, both_trackings, codes_with, tracking_of};
 
 use crate::code_marks::CodeMarks;
 use crate::observations::{has_phase, is_seen, shown_at};
@@ -140,9 +140,9 @@ impl Tracking {
 
     /// How many codes have a slip, a return and a rise, if the satellite has a row.
     pub(crate) fn counts(&self) -> Counts
-        ensures slips { result.slips ≡ counted (λ m. m.slip) self.now }
-        ensures returns { result.returns ≡ counted (λ m. m.returned) self.now }
-        ensures rises { result.rises ≡ counted (λ m. m.rise) self.now }
+        ensures slips { result.slips ≡ codes_with (λ m. m.slip) self.now }
+        ensures returns { result.returns ≡ codes_with (λ m. m.returned) self.now }
+        ensures rises { result.rises ≡ codes_with (λ m. m.rise) self.now }
         ensures few { (result.slips ≤ 16) × (result.returns ≤ 16) × (result.rises ≤ 16) }
     {
         let has_row = self.seen;

@@ -52,8 +52,8 @@ both_trackings a b =
     if a.seen then record { codes = map (both_codes a.codes b.codes) (range_with_len 0 16); seen = true } else b
 
 -- how many codes of a satellite that has a row have a mark
-abbrev pub counted : (CodeMarks → Bool) → Tracking → ℕ
-counted test t = if t.seen then count_by test t.codes else 0
+abbrev pub codes_with : (CodeMarks → Bool) → Tracking → ℕ
+codes_with test t = if t.seen then count_by test t.codes else 0
 
 abbrev pub both_satellites : List Tracking → List Tracking → ℕ → Tracking
 both_satellites a b place = both_trackings (get_or a place no_tracking) (get_or b place no_tracking)
