@@ -6,11 +6,11 @@ use Rattle.rtk_chart.specs.Epochs.{sighting_of}
 use Rattle.rtk_chart.specs.Grid.{no_tracking}
 use Rattle.rtk_chart.specs.Steps.Standing.{StandForPasses}
 use Rattle.rtk_chart.specs.Steps.Shown.{tracking_of}
-use Rattle.rtk_chart.proofs.time_bin.TimeBin.of.Given as goal
+use Rattle.rtk_chart.proofs.time_bin.TimeBin.call_for.Given as goal
 
 abbrev pub invariant-loop-place : goal.invariant-loop-place
 invariant-loop-place l = record {
-  size : length l.bin.satellites ≡ 32;
+  size : length l.self.satellites ≡ 32;
   filled : (before : List EpochTableView) → StandForPasses l.passes l.interval before → l.record_ms ≡ newest_moment before → (k : ℕ) → k < l.place
-      → get_or l.bin.satellites k no_tracking ≡ tracking_of l.interval (sightings_of (k + 1) before) (sighting_of (k + 1) l.epoch);
+      → get_or l.self.satellites k no_tracking ≡ tracking_of l.interval (sightings_of (k + 1) before) (sighting_of (k + 1) l.epoch);
 }
