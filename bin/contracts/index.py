@@ -47,6 +47,12 @@ class Edit(NamedTuple):
         return self.function == function.name and self.file == Path(function.file.path).name and function.has(self.old.strip())
 
 
+def edits_of(name: str) -> list[Path]:
+    """The edits of a crate: those that the gate tries, and those that are tried before a release."""
+    folders = Path("crates", name, "must-fail"), Path("tests/outside/edits.d", name)
+    return sorted((path for folder in folders for path in folder.glob("*.edit")), key=lambda path: path.name)
+
+
 def read_edit(path: Path) -> Edit:
     function, mistake = path.name.split(".")[:2]
     parts = dict(re.findall(r"(?ms)^(why|file|old|new): ?(.*?)(?=^(?:why|file|old|new):|\Z)", path.read_text()))
@@ -105,7 +111,7 @@ class Crate:
     def __init__(self, tree: Tree, name: str) -> None:
         self.tree, self.name = tree, name
         self.specs: list[SpecFile] = tree.specs_of(name)
-        self.edits = [read_edit(path) for path in sorted(Path("crates", name).glob("must-fail/*.edit"))]
+        self.edits = [read_edit(path) for path in edits_of(name)]
         self.root = tree.sources[name, ""]
 
     @cached_property

@@ -5,7 +5,7 @@ use Rattle.std.specs.List.{range_with_len, sum_by}
 use Rattle.std.proofs.lemmas.Bool.{both_ways, cases_eq, eq-eqb, ne_eqb, lt-ltb, le-ltb}
 use Rattle.std.proofs.lemmas.List.{length-replicate, get_or-replicate}
 use Rattle.std.proofs.lemmas.List.FromFn.{fill_by_all, get_or-map-range_with_len, length-map-range_with_len}
-use Rattle.rtk_rinex.specs.Record.{EpochTableView}
+use Rattle.rtk_rinex.specs.Record.{EpochTableView, no_observation}
 use Rattle.rtk_rinex.specs.declared.epoch_table.Observed.{Observed}
 use Rattle.rtk_tracking.specs.Epochs.{capped, newest_moment, shows_phase, observed_in, shown_at}
 use Rattle.rtk_tracking.specs.Extremes.{lesser}
@@ -17,7 +17,7 @@ use Rattle.rtk_chart.specs.Epochs.{sighting_of, is_seen, lacks_phase, has_bit_1,
 use Rattle.rtk_chart.specs.Scale.{bin_at}
 use Rattle.rtk_chart.specs.Grid.{no_marks, no_tracking, no_bin, code_in, codes_in, tracking_in, trackings_in, bin_in, bins_of, has_missing_before, has_missing, gaps_of, has_record, recorded_of, has_outage, outages_of}
 use Rattle.rtk_chart.specs.Steps.Standing.{AddsMarks, StandForPasses}
-use Rattle.rtk_chart.specs.Steps.Shown.{called_for, called_at, both_marks, both_codes, both_trackings, both_satellites, both_bins, tracking_of, bin_of}
+use Rattle.rtk_chart.specs.Steps.Shown.{called_for, called_at, both_marks, both_codes, both_trackings, both_satellites, both_bins, codes_with, tracking_of, bin_of}
 use Rattle.rtk_chart.specs.declared.code_marks.CodeMarks.{CodeMarks}
 use Rattle.rtk_chart.specs.declared.tracking.Tracking.{Tracking}
 use Rattle.rtk_chart.specs.declared.scale.Scale.{Scale}
@@ -80,6 +80,12 @@ code-own s satellite e es c code at =
 code-other : (s : Scale) (satellite : ℕ) (e : EpochTableView) (es : List EpochTableView) (c code : ℕ) → bin_at s e.time ≢ c
     → code_in s satellite (e ∷ es) c code ≡ code_in s satellite es c code
 code-other s satellite e es c code apart = ap (with_epoch s satellite e es c code) (ne_eqb (bin_at s e.time) c apart)
+
+-- a code that an epoch does not show
+pub unshown-at : (os : List Observed) (code : ℕ) → length os ≤ code → shown_at code os ≡ no_observation
+unshown-at [] code above = refl
+unshown-at (o ∷ os) zero above = absurd (omega (arith, above))
+unshown-at (o ∷ os) (suc code) above = unshown-at os code (omega (arith, above))
 
 -- ---- a satellite
 
@@ -280,6 +286,13 @@ passes-more interval e es passes i j j0 time new d0 os at at0 within size same s
           (subst (λ (b : Bool). StandsForPass (get_or passes k d) interval (came k b)) (ltb-other i k other) (so_far k d lt))
     ]
 
+-- a pass after an epoch without a row of the satellite
+pub pass-unseen : (p : Pass) (interval : Option ℕ) (before : List Sighting) (time : ℕ) (os : List Observed) → is_seen os ≡ false → StandsForPass p interval before
+    → StandsForPass p interval (record { time = time; observed = os } ∷ before)
+pass-unseen p interval before time [] none stands =
+    record { last = stands.last; had = λ place lt. stands.had place lt; kept = λ place lt. stands.kept place lt }
+pass-unseen p interval before time (o ∷ os) none stands = absurd (both_ways (is_seen (o ∷ os)) none (has-row o os))
+
 -- all of them
 pub passes-all : (interval : Option ℕ) (e : EpochTableView) (es : List EpochTableView) (passes : List Pass) (i : ℕ) → i ≡ 32
     → ((k : ℕ) (d : Pass) → k < 32 → StandsForPass (get_or passes k d) interval (cond (ltb k i) (sightings_of (k + 1) (e ∷ es)) (sightings_of (k + 1) es)))
@@ -288,58 +301,79 @@ passes-all interval e es passes i end so_far = λ k d lt.
     let below : k < i = omega (arith, lt, end) in
     subst (λ (b : Bool). StandsForPass (get_or passes k d) interval (cond b (sightings_of (k + 1) (e ∷ es)) (sightings_of (k + 1) es))) (lt-ltb k i below) (so_far k d lt)
 
+-- what an epoch calls for of each code, if it shows this of a satellite
+abbrev called_showing : Option ℕ → List Sighting → Sighting → List Observed → List CodeMarks
+called_showing interval before now os =
+    map (λ code. called_for (shown_at code os) (has_phase os) (is_known interval code before now) (is_kept interval code before now)) (range_with_len 0 16)
+
+-- a satellite without a row has no such mark
+codes_with-all : (test : CodeMarks → Bool) (interval : Option ℕ) (before : List Sighting) (now : Sighting) (os : List Observed) → now.observed ≡ os
+    → count_by test (called_showing interval before now []) ≡ 0
+    → codes_with test (tracking_of interval before now) ≡ count_by test (tracking_of interval before now).codes
+unfolding tracking_of
+codes_with-all test interval before now [] none clear =
+    let codes : List CodeMarks = called_showing interval before now now.observed in
+    ap (λ (xs : List Observed). cond (is_seen xs) (count_by test codes) 0) none
+    ∙ sym (ap (λ (xs : List Observed). count_by test (called_showing interval before now xs)) none ∙ clear)
+codes_with-all test interval before now (o ∷ os) some clear =
+    let codes : List CodeMarks = called_showing interval before now now.observed in
+    ap (λ (xs : List Observed). cond (is_seen xs) (count_by test codes) 0) some ∙ ap (λ (b : Bool). cond b (count_by test codes) 0) (has-row o os)
+
 -- how often a mark stands in an epoch
 slips-of-tracking : (interval : Option ℕ) (before : List Sighting) (now : Sighting)
-    → count_by (λ m. m.slip) (tracking_of interval before now).codes ≡ count_by (λ code. is_slip interval code before now) (range_with_len 0 16)
+    → codes_with (λ m. m.slip) (tracking_of interval before now) ≡ count_by (λ code. is_slip interval code before now) (range_with_len 0 16)
 unfolding tracking_of
 slips-of-tracking interval before now =
-    sum-map (λ (m : CodeMarks). cond m.slip 1 0) (called_of interval before now) (range_with_len 0 16)
+    codes_with-all (λ m. m.slip) interval before now now.observed refl refl
+    ∙ sum-map (λ (m : CodeMarks). cond m.slip 1 0) (called_of interval before now) (range_with_len 0 16)
     ∙ sum-same (λ (code : ℕ). cond ((shown_at code now.observed).slip && is_kept interval code before now) 1 0) (λ (code : ℕ). cond (is_slip interval code before now) 1 0) (range_with_len 0 16)
     (λ code. ap (λ (bit : Bool). cond (bit && is_kept interval code before now) 1 0) (sym (bit-at code now.observed)))
 
 returns-of-tracking : (interval : Option ℕ) (before : List Sighting) (now : Sighting)
-    → count_by (λ m. m.returned) (tracking_of interval before now).codes ≡ count_by (λ code. is_return interval code before now) (range_with_len 0 16)
+    → codes_with (λ m. m.returned) (tracking_of interval before now) ≡ count_by (λ code. is_return interval code before now) (range_with_len 0 16)
 unfolding tracking_of
 returns-of-tracking interval before now =
     let back : ℕ → Bool = λ code. is_known interval code before now && not (is_kept interval code before now) in
-    sum-map (λ (m : CodeMarks). cond m.returned 1 0) (called_of interval before now) (range_with_len 0 16)
+    codes_with-all (λ m. m.returned) interval before now now.observed refl refl
+    ∙ sum-map (λ (m : CodeMarks). cond m.returned 1 0) (called_of interval before now) (range_with_len 0 16)
     ∙ sum-same (λ (code : ℕ). cond ((shown_at code now.observed).slip && back code) 1 0) (λ (code : ℕ). cond (is_return interval code before now) 1 0) (range_with_len 0 16)
     (λ code. ap (λ (bit : Bool). cond (bit && back code) 1 0) (sym (bit-at code now.observed)))
 
 rises-of-tracking : (interval : Option ℕ) (before : List Sighting) (now : Sighting)
-    → count_by (λ m. m.rise) (tracking_of interval before now).codes ≡ count_by (λ code. is_rise interval code before now) (range_with_len 0 16)
+    → codes_with (λ m. m.rise) (tracking_of interval before now) ≡ count_by (λ code. is_rise interval code before now) (range_with_len 0 16)
 unfolding tracking_of
 rises-of-tracking interval before now =
-    sum-map (λ (m : CodeMarks). cond m.rise 1 0) (called_of interval before now) (range_with_len 0 16)
+    codes_with-all (λ m. m.rise) interval before now now.observed refl refl
+    ∙ sum-map (λ (m : CodeMarks). cond m.rise 1 0) (called_of interval before now) (range_with_len 0 16)
     ∙ sum-same (λ (code : ℕ). cond ((shown_at code now.observed).slip && not (is_known interval code before now)) 1 0) (λ (code : ℕ). cond (is_rise interval code before now) 1 0) (range_with_len 0 16)
     (λ code. ap (λ (bit : Bool). cond (bit && not (is_known interval code before now)) 1 0) (sym (bit-at code now.observed)))
 
 pub slips-called : (interval : Option ℕ) (es : List EpochTableView) (e : EpochTableView) (called : TimeBin) → called ≡ bin_of interval es e
-    → sum_by (λ t. count_by (λ m. m.slip) t.codes) called.satellites ≡ times_in_epoch (is_slip interval) es e
+    → sum_by (codes_with (λ m. m.slip)) called.satellites ≡ times_in_epoch (is_slip interval) es e
 unfolding bin_of
 slips-called interval es e called are =
     let of : ℕ → Tracking = λ place. tracking_of interval (sightings_of (place + 1) es) (sighting_of (place + 1) e) in
-    ap (λ (b : TimeBin). sum_by (λ (t : Tracking). count_by (λ m. m.slip) t.codes) b.satellites) are
-    ∙ sum-map (λ (t : Tracking). count_by (λ m. m.slip) t.codes) of (range_with_len 0 32)
-    ∙ sum-same (λ (place : ℕ). count_by (λ m. m.slip) (of place).codes) _ (range_with_len 0 32) (λ place. slips-of-tracking interval (sightings_of (place + 1) es) (sighting_of (place + 1) e))
+    ap (λ (b : TimeBin). sum_by (codes_with (λ m. m.slip)) b.satellites) are
+    ∙ sum-map (codes_with (λ m. m.slip)) of (range_with_len 0 32)
+    ∙ sum-same (λ (place : ℕ). codes_with (λ m. m.slip) (of place)) _ (range_with_len 0 32) (λ place. slips-of-tracking interval (sightings_of (place + 1) es) (sighting_of (place + 1) e))
 
 pub returns-called : (interval : Option ℕ) (es : List EpochTableView) (e : EpochTableView) (called : TimeBin) → called ≡ bin_of interval es e
-    → sum_by (λ t. count_by (λ m. m.returned) t.codes) called.satellites ≡ times_in_epoch (is_return interval) es e
+    → sum_by (codes_with (λ m. m.returned)) called.satellites ≡ times_in_epoch (is_return interval) es e
 unfolding bin_of
 returns-called interval es e called are =
     let of : ℕ → Tracking = λ place. tracking_of interval (sightings_of (place + 1) es) (sighting_of (place + 1) e) in
-    ap (λ (b : TimeBin). sum_by (λ (t : Tracking). count_by (λ m. m.returned) t.codes) b.satellites) are
-    ∙ sum-map (λ (t : Tracking). count_by (λ m. m.returned) t.codes) of (range_with_len 0 32)
-    ∙ sum-same (λ (place : ℕ). count_by (λ m. m.returned) (of place).codes) _ (range_with_len 0 32) (λ place. returns-of-tracking interval (sightings_of (place + 1) es) (sighting_of (place + 1) e))
+    ap (λ (b : TimeBin). sum_by (codes_with (λ m. m.returned)) b.satellites) are
+    ∙ sum-map (codes_with (λ m. m.returned)) of (range_with_len 0 32)
+    ∙ sum-same (λ (place : ℕ). codes_with (λ m. m.returned) (of place)) _ (range_with_len 0 32) (λ place. returns-of-tracking interval (sightings_of (place + 1) es) (sighting_of (place + 1) e))
 
 pub rises-called : (interval : Option ℕ) (es : List EpochTableView) (e : EpochTableView) (called : TimeBin) → called ≡ bin_of interval es e
-    → sum_by (λ t. count_by (λ m. m.rise) t.codes) called.satellites ≡ times_in_epoch (is_rise interval) es e
+    → sum_by (codes_with (λ m. m.rise)) called.satellites ≡ times_in_epoch (is_rise interval) es e
 unfolding bin_of
 rises-called interval es e called are =
     let of : ℕ → Tracking = λ place. tracking_of interval (sightings_of (place + 1) es) (sighting_of (place + 1) e) in
-    ap (λ (b : TimeBin). sum_by (λ (t : Tracking). count_by (λ m. m.rise) t.codes) b.satellites) are
-    ∙ sum-map (λ (t : Tracking). count_by (λ m. m.rise) t.codes) of (range_with_len 0 32)
-    ∙ sum-same (λ (place : ℕ). count_by (λ m. m.rise) (of place).codes) _ (range_with_len 0 32) (λ place. rises-of-tracking interval (sightings_of (place + 1) es) (sighting_of (place + 1) e))
+    ap (λ (b : TimeBin). sum_by (codes_with (λ m. m.rise)) b.satellites) are
+    ∙ sum-map (codes_with (λ m. m.rise)) of (range_with_len 0 32)
+    ∙ sum-same (λ (place : ℕ). codes_with (λ m. m.rise) (of place)) _ (range_with_len 0 32) (λ place. rises-of-tracking interval (sightings_of (place + 1) es) (sighting_of (place + 1) e))
 
 -- whether a satellite has a row, at each default that has none
 pub seen-same : (satellites : List Tracking) (place : ℕ) (d e : Tracking) → d.seen ≡ e.seen → (get_or satellites place d).seen ≡ (get_or satellites place e).seen

@@ -7,16 +7,19 @@ ghost use Rattle.rtk_rinex.specs.Record.{EpochTableView};
 ghost use Rattle.rtk_tracking.specs.Interval.{missing_before};
 ghost use Rattle.rtk_chart.specs.Scale.{IsScale};
 ghost use Rattle.rtk_tracking.specs.Epochs.{newest_moment};
+ghost use Rattle.rtk_tracking.specs.Passes.{Sighting, last_record};
+ghost use Rattle.rtk_tracking.specs.Standing.{StandsForPass};
 ghost use Rattle.rtk_chart.specs.Grid.{bins_of, has_missing_before, recorded_of};
 ghost use Rattle.rtk_chart.specs.Steps.Standing.{AddsMarks, CountsMissing, StandForPasses, StandsForGrid};
 ghost use Rattle.rtk_chart.specs.Steps.Shown.{bin_of};
 
+use crate::observations::is_seen;
 use crate::outages::note_outages;
 use crate::scale::Scale;
 use crate::strengths::{MOST_COLUMNS, Strengths, note_strengths};
 use crate::time_bin::TimeBin;
 use rtk_obs::{Code, GpsMs};
-use rtk_rinex::EpochTable;
+use rtk_rinex::{EpochTable, Observed};
 use rtk_tracking::{Pass, missing_between, observed_in};
 use std::alloc::{AllocError, Global};
 
@@ -30,6 +33,9 @@ pub(crate) struct Grid {
     pub(crate) gaps: Vec<bool>,
     /// Whether a record lies in each bin.
     pub(crate) recorded: Vec<bool>,
+    /// What the last epoch called for. It is kept because to blank so many marks anew takes as long as to fill
+    /// them.
+    pub(crate) called: TimeBin,
     /// The strengths of each band, in columns of some bins.
     pub(crate) strengths: Vec<Strengths>,
     pub(crate) missing: u64,
@@ -106,6 +112,22 @@ fn ms_of(moment: Option<GpsMs>) -> Option<u64>
     }
 }
 
+// Notes the next epoch in the pass of a satellite. Without a row of the satellite its pass stays as it is.
+fn note_pass(
+    pass: &mut Pass,
+    interval: Option<u64>,
+    record_ms: Option<u64>,
+    time_ms: u64,
+    observed: &[Observed],
+)
+    ensures { (before : List Sighting) → StandsForPass pass.old interval before → record_ms ≡ last_record before
+        → StandsForPass pass.new interval (record { time = time_ms; observed = observed.now } ∷ before) }
+{
+    if is_seen(observed) {
+        pass.note(interval, record_ms, time_ms, observed);
+    }
+}
+
 // Notes an epoch in the pass of each satellite. It comes after a record at this moment, or is the first one.
 fn note_passes(
     passes: &mut [Pass; 32],
@@ -119,10 +141,14 @@ fn note_passes(
     let rows = epoch.rows();
     let time_ms = epoch.time().ms();
     for place in 0u8..32 {
-        let mut pass = passes[usize::from(place)];
         let observed = observed_in(rows, place + 1);
-        pass.note(interval, record_ms, time_ms, observed);
-        passes[usize::from(place)] = pass;
+        note_pass(
+            &mut passes[usize::from(place)],
+            interval,
+            record_ms,
+            time_ms,
+            observed,
+        );
     }
 }
 
@@ -140,6 +166,7 @@ impl Grid {
             outages: vec![in alloc; false; 32 * scale.bins as usize]?,
             gaps: vec![in alloc; false; scale.bins as usize]?,
             recorded: vec![in alloc; false; scale.bins as usize]?,
+            called: TimeBin::new(),
             strengths: vec![in alloc; Strengths::none(); MOST_COLUMNS]?,
             missing: 0,
             slips: 0,
@@ -160,6 +187,7 @@ impl Grid {
         ensures returns { self.new.returns ≡ self.old.returns }
         ensures rises { self.new.rises ≡ self.old.rises }
         ensures recorded { self.new.recorded ≡ self.old.recorded }
+        ensures called { self.new.called ≡ self.old.called }
         ensures strengths { self.new.strengths ≡ self.old.strengths }
         ensures size { length self.new.gaps.items ≡ length self.old.gaps.items }
         ensures missing { CountsMissing self.old self.new scale.now epoch.now }
@@ -185,12 +213,14 @@ impl Grid {
     {
         let interval = scale.interval;
         let record_ms = ms_of(self.last);
-        let called = TimeBin::of(&self.passes, interval, record_ms, epoch);
+        self.called
+            .call_for(&self.passes, interval, record_ms, epoch);
+        let counts = self.called.counts();
         self.count_missing(scale, epoch);
-        self.slips = self.slips.saturating_add(called.slips());
-        self.returns = self.returns.saturating_add(called.returns());
-        self.rises = self.rises.saturating_add(called.rises());
-        note_in_bin(&mut self.bins, scale, epoch.time().ms(), &called);
+        self.slips = self.slips.saturating_add(counts.slips);
+        self.returns = self.returns.saturating_add(counts.returns);
+        self.rises = self.rises.saturating_add(counts.rises);
+        note_in_bin(&mut self.bins, scale, epoch.time().ms(), &self.called);
         note_record(&mut self.recorded, scale, epoch.time().ms());
         note_strengths(&mut self.strengths, scale, codes, epoch);
         note_outages(&mut self.outages, scale, &self.passes, record_ms, epoch);

@@ -6,7 +6,7 @@ ghost use Rattle.rtk_tracking.specs.Passes.{Sighting, last_record, has_phase};
 ghost use Rattle.rtk_tracking.specs.Standing.{StandsForPass};
 ghost use Rattle.rtk_chart.specs.Epochs.{is_seen};
 ghost use Rattle.rtk_chart.specs.Grid.{no_tracking};
-ghost use Rattle.rtk_chart.specs.Steps.Shown.{called_at, both_codes, both_trackings, tracking_of};
+ghost use Rattle.rtk_chart.specs.Steps.Shown.{called_at, both_codes, both_trackings, codes_with, tracking_of};
 
 use crate::code_marks::CodeMarks;
 use crate::observations::{has_phase, is_seen, shown_at};
@@ -18,6 +18,14 @@ use rtk_tracking::{Known, Pass};
 pub(crate) struct Tracking {
     pub(crate) codes: [CodeMarks; 16],
     pub(crate) seen: bool,
+}
+
+/// How many codes have a slip, a return and a rise.
+#[derive(Drop)]
+pub(crate) struct Counts {
+    pub(crate) slips: u64,
+    pub(crate) returns: u64,
+    pub(crate) rises: u64,
 }
 
 // What an epoch calls for of the code at this place, after the codes that are known.
@@ -34,13 +42,14 @@ fn called_at(observed: &[Observed], tracked: bool, known: &Known, code: usize) -
     )
 }
 
-// What an epoch calls for of each code.
+// What an epoch calls for of each code. Those that it does not show are all alike, and a file lists few codes.
 fn called_for(observed: &[Observed], known: &Known) -> [CodeMarks; 16]
     ensures { result ≡ map (called_at observed.now known.now.had known.now.kept) (range_with_len 0 16) }
 {
     let tracked = has_phase(observed);
-    let mut codes = [CodeMarks::new(); 16];
-    for code in 0..16 {
+    let unshown = CodeMarks::of(Observed::default(), tracked, false, false);
+    let mut codes = [unshown; 16];
+    for code in 0..observed.len().min(16) {
         codes[code] = called_at(observed, tracked, known, code);
     }
     codes
@@ -51,9 +60,29 @@ fn add_codes(codes: &mut [CodeMarks; 16], more: &[CodeMarks; 16])
     ensures { codes.new ≡ map (both_codes more.now codes.old) (range_with_len 0 16) }
 {
     for code in 0..16 {
-        let mut marks = codes[code];
-        marks.add(more[code]);
-        codes[code] = marks;
+        codes[code].add(more[code]);
+    }
+}
+
+// Counts the codes that have a slip, a return or a rise.
+fn counts_of(codes: &[CodeMarks; 16]) -> Counts
+    ensures slips { result.slips ≡ count_by (λ m. m.slip) codes.now }
+    ensures returns { result.returns ≡ count_by (λ m. m.returned) codes.now }
+    ensures rises { result.rises ≡ count_by (λ m. m.rise) codes.now }
+    ensures few { (result.slips ≤ 16) × (result.returns ≤ 16) × (result.rises ≤ 16) }
+{
+    let mut slips = 0u64;
+    let mut returns = 0u64;
+    let mut rises = 0u64;
+    for marks in codes {
+        slips += u64::from(marks.slip);
+        returns += u64::from(marks.returned);
+        rises += u64::from(marks.rise);
+    }
+    Counts {
+        slips,
+        returns,
+        rises,
     }
 }
 
@@ -109,27 +138,21 @@ impl Tracking {
         }
     }
 
-    /// How many codes have a slip.
-    pub(crate) fn slips(&self) -> u64
-        ensures value { result ≡ count_by (λ m. m.slip) self.now.codes }
-        ensures few { result ≤ 16 }
+    /// How many codes have a slip, a return and a rise, if the satellite has a row.
+    pub(crate) fn counts(&self) -> Counts
+        ensures slips { result.slips ≡ codes_with (λ m. m.slip) self.now }
+        ensures returns { result.returns ≡ codes_with (λ m. m.returned) self.now }
+        ensures rises { result.rises ≡ codes_with (λ m. m.rise) self.now }
+        ensures few { (result.slips ≤ 16) × (result.returns ≤ 16) × (result.rises ≤ 16) }
     {
-        self.codes.iter().filter(|marks| marks.slip).count() as u64
-    }
-
-    /// How many codes have a return.
-    pub(crate) fn returns(&self) -> u64
-        ensures value { result ≡ count_by (λ m. m.returned) self.now.codes }
-        ensures few { result ≤ 16 }
-    {
-        self.codes.iter().filter(|marks| marks.returned).count() as u64
-    }
-
-    /// How many codes have a rise.
-    pub(crate) fn rises(&self) -> u64
-        ensures value { result ≡ count_by (λ m. m.rise) self.now.codes }
-        ensures few { result ≤ 16 }
-    {
-        self.codes.iter().filter(|marks| marks.rise).count() as u64
+        let has_row = self.seen;
+        if has_row {
+            return counts_of(&self.codes);
+        }
+        Counts {
+            slips: 0,
+            returns: 0,
+            rises: 0,
+        }
     }
 }

@@ -1,7 +1,8 @@
 //! Which messages are read.
 
 ghost use Rattle.std.specs.Prelude.{◌≡◌};
-ghost use Rattle.rtk_message.specs.Accepted.{only_kind, takes_kind, with_kind, only, kinds_of, takes, with_type, accepts};
+ghost use Rattle.rtk_message.specs.Accepted.{only_kind, takes_kind, with_kind, only, kinds_of, takes, takes_some, with_type, accepts};
+ghost use Rattle.rtk_message.specs.Systems.{type_of_number};
 
 use crate::msm_kind::MsmKind;
 use crate::msm_type::MsmType;
@@ -209,10 +210,19 @@ impl Accepted {
             1075 => self.gps.msm5,
             1076 => self.gps.msm6,
             1077 => self.gps.msm7,
-            _ => match MsmType::of_number(number) {
-                Some(msm_type) => self.takes(msm_type),
-                None => false,
-            },
+            _ => self.takes_number(number),
+        }
+    }
+
+    // Returns whether a message of this number is an MSM that is read. It is not inlined, so that the
+    // numbers of GPS are told by little code.
+    #[inline(never)]
+    fn takes_number(self, number: u16) -> bool
+        ensures { result ≡ takes_some self (type_of_number number) }
+    {
+        match MsmType::of_number(number) {
+            Some(msm_type) => self.takes(msm_type),
+            None => false,
         }
     }
 }

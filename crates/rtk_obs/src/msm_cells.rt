@@ -100,20 +100,20 @@ pub(crate) fn set_values(
     ensures { (row : ℕ) → rough ≡ rough_at message.now.rough_ms message.now.rough_fraction row
         → cell.new ≡ cell_on message.now place row frequency }
 {
-    let fine_range = message.fine_range.as_slice()[place];
-    let fine_phase = message.fine_phase.as_slice()[place];
-    let cnr = message.cnr.as_slice()[place];
-    let lock = message.lock_indicator.as_slice()[place];
+    let range = message.fine_range.as_slice();
+    let phase = message.fine_phase.as_slice();
+    let cnr = message.cnr.as_slice();
+    let lock = message.lock_indicator.as_slice();
     if has_extended_resolution(message.kind) {
-        cell.range_mm = extended_range(rough, fine_range);
-        cell.phase_millicycles = extended_phase_on(frequency, rough, fine_phase);
-        cell.strength_millidbhz = strength_from_sixteenths(cnr);
-        cell.lock_time_ms = least_lock_extended(lock);
+        cell.phase_millicycles = extended_phase_on(frequency, rough, phase[place]);
+        cell.range_mm = extended_range(rough, range[place]);
+        cell.strength_millidbhz = strength_from_sixteenths(cnr[place]);
+        cell.lock_time_ms = least_lock_extended(lock[place]);
     } else {
-        cell.range_mm = msm_range(rough, fine_range);
-        cell.phase_millicycles = msm_phase_on(frequency, rough, fine_phase);
-        cell.strength_millidbhz = strength_from_steps(MSM_STRENGTH_STEP, cnr as u8);
-        cell.lock_time_ms = least_lock_msm(lock as u8);
+        cell.phase_millicycles = msm_phase_on(frequency, rough, phase[place]);
+        cell.range_mm = msm_range(rough, range[place]);
+        cell.strength_millidbhz = strength_from_steps(MSM_STRENGTH_STEP, cnr[place] as u8);
+        cell.lock_time_ms = least_lock_msm(lock[place] as u8);
     }
     cell.half = message.half_cycle.as_slice()[place];
     cell.source = CellSource::Msm;

@@ -228,9 +228,9 @@ fn put_row<M: CellsOfMsm>(
     while rest != 0 {
         let top = top_bit(rest);
         let signal = signals[width - 1 - top as usize];
+        rest -= 1 << top;
         count = put_cell(found, count, message, cell, row, signal);
         cell += 1;
-        rest -= 1 << top;
     }
     Progress { cell, count }
 }

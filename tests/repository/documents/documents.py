@@ -177,7 +177,7 @@ def test_index(copy):
     compare("bin/index makes the index", output(copy / "bin/index"), (0, "", ""))
     index = (copy / "out/INDEX.md").read_text()
     compare("the index has public calls", "#### `" in index, True)
-    edits = len(list(ROOT.glob("crates/*/must-fail/*.edit")))
+    edits = sum(len(list(ROOT.glob(pattern))) for pattern in ("crates/*/must-fail/*.edit", "tests/outside/edits.d/*/*.edit"))
     compare("the index has each must-fail edit", (len(re.findall(r"(?m)^- refused: ", index)), edits > 0), (edits, True))
 
 

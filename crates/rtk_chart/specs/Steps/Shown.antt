@@ -1,5 +1,5 @@
 -- What one epoch calls for, and how it is added to the marks of a bin.
-use Rattle.std.specs.Prelude.{ℕ, ◌+◌, Bool, true, false, not, ◌&&◌, ◌||◌, List, map, get_or, is_some, if◌then◌else◌, Option}
+use Rattle.std.specs.Prelude.{ℕ, ◌+◌, Bool, true, false, not, ◌&&◌, ◌||◌, List, map, count_by, get_or, is_some, if◌then◌else◌, Option}
 use Rattle.std.specs.List.{range_with_len}
 use Rattle.rtk_rinex.specs.Record.{EpochTableView}
 use Rattle.rtk_rinex.specs.declared.epoch_table.Observed.{Observed}
@@ -50,6 +50,10 @@ both_codes a b code = both_marks (get_or a code no_marks) (get_or b code no_mark
 unfoldable pub both_trackings : Tracking → Tracking → Tracking
 both_trackings a b =
     if a.seen then record { codes = map (both_codes a.codes b.codes) (range_with_len 0 16); seen = true } else b
+
+-- how many codes of a satellite that has a row have a mark
+abbrev pub codes_with : (CodeMarks → Bool) → Tracking → ℕ
+codes_with test t = if t.seen then count_by test t.codes else 0
 
 abbrev pub both_satellites : List Tracking → List Tracking → ℕ → Tracking
 both_satellites a b place = both_trackings (get_or a place no_tracking) (get_or b place no_tracking)

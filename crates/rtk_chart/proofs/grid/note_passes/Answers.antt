@@ -10,12 +10,12 @@ pub loop-place-preserved : goal.loop-place-preserved
 loop-place-preserved c =
     let i : ℕ = c.loop-place.place in
     record {
-      size = length-set c.loop-place.passes c.from-in-loop-place.result c.note.new.self ∙ c.loop-place.invariant.size;
+      size = length-set c.loop-place.passes c.from.result c.note_pass.new.pass ∙ c.loop-place.invariant.size;
       noted = λ es stands last.
-          passes-more c.args.interval c.args.epoch.now es c.loop-place.passes i c.from-in-loop-place.result c.from.result c.ms-time_ms.result c.note.new.self _ c.observed_in-observed.result.now
-          c.from-in-loop-place.ensures c.from.ensures c.loop-place-test.true c.loop-place.invariant.size (c.ms-time_ms.ensures.value ∙ c.time.ensures)
+          passes-more c.args.interval c.args.epoch.now es c.loop-place.passes i c.from.result c.from.result c.ms-time_ms.result c.note_pass.new.pass _ c.observed_in-observed.result.now
+          c.from.ensures c.from.ensures c.loop-place-test.true c.loop-place.invariant.size (c.ms-time_ms.ensures.value ∙ c.time.ensures)
           (c.observed_in-observed.ensures ∙ ap (λ (rows : List SatelliteRow). observed_in (i + 1) rows) c.rows-rows.ensures.value)
-          (c.loop-place.invariant.noted es stands last) (λ was. c.note.ensures (sightings_of (i + 1) es) was (last ∙ record-is (i + 1) es));
+          (c.loop-place.invariant.noted es stands last) (λ was. c.note_pass.ensures (sightings_of (i + 1) es) was (last ∙ record-is (i + 1) es));
     }
 
 pub returns : goal.returns

@@ -12,7 +12,7 @@ returns-clause-grid c = λ listed. record {
   };
   last = refl;
   recorded = fresh-recorded c.args.scale.now c.in_ok-vec-4.field-0.items (c.in_ok-vec-4.ensures.items_if_clones_equal (λ y same. same));
-  passes = fresh-passes _ c.new-2.result c.args.scale.now.interval refl (c.new-2.ensures c.args.scale.now.interval);
+  passes = fresh-passes _ c.new-3.result c.args.scale.now.interval refl (c.new-3.ensures c.args.scale.now.interval);
   outages = fresh-outages c.args.scale.now c.in_ok-vec-2.field-0.items (c.in_ok-vec-2.ensures.items_if_clones_equal (λ y same. same));
   strengths = fresh-columns c.args.scale.now listed c.in_ok-vec-5.field-0.items c.none.result (c.in_ok-vec-5.ensures.items_if_clones_equal (λ y same. same)) c.none.ensures;
   slips = refl;

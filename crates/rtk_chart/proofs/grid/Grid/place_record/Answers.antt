@@ -16,10 +16,10 @@ returns-clause-grid c = λ es stands.
     let interval : Option ℕ = s.interval in
     let record_is : c.ms_of-record_ms.result ≡ newest_moment es = c.ms_of-record_ms.ensures ∙ stands.last in
     let t = c.count_missing.ensures in
-    let missing = t.missing es stands.last stands.missing in
-    let called : c.of-called.result ≡ bin_of interval es e = c.of-called.ensures es stands.passes record_is in
+    let missing = t.missing es stands.last (record { gaps = stands.missing.gaps; count = stands.missing.count }) in
+    let called : c.call_for.new.self ≡ bin_of interval es e = c.call_for.ensures es stands.passes record_is in
     record {
-      bins = c.note_in_bin.ensures.noted e es (c.ms.ensures.value ∙ c.time.ensures) called (ap (λ v. v.items) t.bins ∙ stands.bins);
+      bins = c.note_in_bin.ensures.noted e es (c.ms.ensures.value ∙ c.time.ensures) (t.called ∙ called) (ap (λ v. v.items) t.bins ∙ stands.bins);
       missing = record { gaps = missing.gaps; count = missing.count };
       last = ap Some c.time-3.ensures;
       outages = c.note_outages.ensures.noted es (subst (λ (ps : List Pass). StandForPasses ps interval es) (sym t.passes) stands.passes) record_is
@@ -27,10 +27,10 @@ returns-clause-grid c = λ es stands.
       passes = c.note_passes.ensures es (subst (λ (ps : List Pass). StandForPasses ps interval es) (sym t.passes) stands.passes) record_is;
       recorded = c.note_record.ensures e es (c.ms-2.ensures.value ∙ c.time-2.ensures) (ap (λ v. v.items) t.recorded ∙ stands.recorded);
       strengths = c.note_strengths.ensures es (ap (λ v. v.items) t.strengths ∙ stands.strengths);
-      slips = capped-more c.saturating_add-self.result c.count_missing.new.self.slips c.slips.result (times_in (is_slip interval) es) (times_in_epoch (is_slip interval) es e)
-          c.saturating_add-self.ensures (t.slips ∙ stands.slips) (c.slips.ensures ∙ slips-called interval es e c.of-called.result called);
-      returns = capped-more c.saturating_add-self-2.result c.count_missing.new.self.returns c.returns.result (times_in (is_return interval) es) (times_in_epoch (is_return interval) es e)
-          c.saturating_add-self-2.ensures (t.returns ∙ stands.returns) (c.returns.ensures ∙ returns-called interval es e c.of-called.result called);
-      rises = capped-more c.saturating_add-self-3.result c.count_missing.new.self.rises c.rises.result (times_in (is_rise interval) es) (times_in_epoch (is_rise interval) es e)
-          c.saturating_add-self-3.ensures (t.rises ∙ stands.rises) (c.rises.ensures ∙ rises-called interval es e c.of-called.result called);
+      slips = capped-more c.saturating_add-self.result c.count_missing.new.self.slips c.counts-counts.result.slips (times_in (is_slip interval) es) (times_in_epoch (is_slip interval) es e)
+          c.saturating_add-self.ensures (t.slips ∙ stands.slips) (c.counts-counts.ensures.slips ∙ slips-called interval es e c.call_for.new.self called);
+      returns = capped-more c.saturating_add-self-2.result c.count_missing.new.self.returns c.counts-counts.result.returns (times_in (is_return interval) es) (times_in_epoch (is_return interval) es e)
+          c.saturating_add-self-2.ensures (t.returns ∙ stands.returns) (c.counts-counts.ensures.returns ∙ returns-called interval es e c.call_for.new.self called);
+      rises = capped-more c.saturating_add-self-3.result c.count_missing.new.self.rises c.counts-counts.result.rises (times_in (is_rise interval) es) (times_in_epoch (is_rise interval) es e)
+          c.saturating_add-self-3.ensures (t.rises ∙ stands.rises) (c.counts-counts.ensures.rises ∙ rises-called interval es e c.call_for.new.self called);
     }
