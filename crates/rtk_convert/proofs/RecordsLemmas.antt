@@ -1,8 +1,8 @@
 -- One more closed epoch.
 use Rattle.std.proofs.Common.{◌≡◌, ℕ, true, false, List, [], ◌∷◌, Option, None, Some, refl, ap, sym, ◌∙◌}
 use Rattle.std.specs.Prelude.{is_some}
-use Rattle.rtk_obs.specs.declared.code.Code.{Code}
-use Rattle.rtk_obs.specs.declared.cell.CellEntry.{CellEntry}
+use Rattle.rtk_obs.specs.declared.any_code.AnyCode.{AnyCode}
+use Rattle.rtk_obs.specs.declared.signal_cells.SignalEntry.{SignalEntry}
 use Rattle.rtk_collect.specs.EpochSet.{EpochSetView}
 use Rattle.rtk_frame.specs.Stream.{count_after}
 use Rattle.rtk_convert.specs.File.{record_of, first_or, first_time, one_more_if_any, record_count}
@@ -29,7 +29,7 @@ count-yes n [] h = cc
 count-yes n (x ∷ text) h = refl
 
 -- an epoch without a record
-pub follows-no : (old new : ClosedEpochsView) (listed : List Code) (e : EpochSetView CellEntry) (below : List (EpochSetView CellEntry)) → HasLastPhases new.tracks (e ∷ below) → new.is_header_out ≡ old.is_header_out
+pub follows-no : (old new : ClosedEpochsView) (listed : List AnyCode) (e : EpochSetView SignalEntry) (below : List (EpochSetView SignalEntry)) → HasLastPhases new.tracks (e ∷ below) → new.is_header_out ≡ old.is_header_out
     → new.count ≡ old.count → is_any (record_of listed e below) ≡ false → HasClosed old listed below → HasClosed new listed (e ∷ below)
 unfolding first_time record_count
 follows-no old new listed e below phases out count none f = record {
@@ -39,7 +39,7 @@ follows-no old new listed e below phases out count none f = record {
 }
 
 -- one with a record
-pub follows-yes : (old new : ClosedEpochsView) (listed : List Code) (e : EpochSetView CellEntry) (below : List (EpochSetView CellEntry)) → HasLastPhases new.tracks (e ∷ below) → new.is_header_out ≡ true
+pub follows-yes : (old new : ClosedEpochsView) (listed : List AnyCode) (e : EpochSetView SignalEntry) (below : List (EpochSetView SignalEntry)) → HasLastPhases new.tracks (e ∷ below) → new.is_header_out ≡ true
     → new.count ≡ count_after old.count → is_any (record_of listed e below) ≡ true → HasClosed old listed below → HasClosed new listed (e ∷ below)
 unfolding first_time record_count
 follows-yes old new listed e below phases out count some f = record {
