@@ -1,4 +1,4 @@
-use Rattle.std.proofs.Common.{◌<◌, length, map, get_or, refl, sym, ap, subst, ◌∙◌, arith}
+use Rattle.std.proofs.Common.{rules, ◌<◌, length, map, get_or, refl, sym, ap, subst, ◌∙◌, arith}
 use Rattle.std.proofs.lemmas.List.{get_or-map, length-map, map-append}
 use Rattle.std.proofs.lemmas.Result.{err_from_is_err_and}
 use Rattle.rtk_obs.specs.declared.signal_cells.SignalEntry.{SignalEntry}
@@ -34,10 +34,10 @@ left-preserved g c =
       failures = c.in_ok-close.ensures.failed.file_failed ∙ c.left.invariant.failures;
     }
 
-pub close-requires-clause-above : goal.close-requires-clause-above
-close-requires-clause-above g c =
+pub close-requires : goal.close-requires
+close-requires g c =
     let f = set_of g.E.FileEntry.signal_of in
-    last-above c.left.closed_epochs (map f c.next_left.new.self.sets) (f c.in-Some.set) (map f c.left.left.sets) (ap (map f) c.in-Some.ensures.next ∙ map-append f _ _) c.left.invariant.above
+    (search rules, last-above c.left.closed_epochs (map f c.next_left.new.self.sets) (f c.in-Some.set) (map f c.left.left.sets) (ap (map f) c.in-Some.ensures.next ∙ map-append f _ _) c.left.invariant.above)
 
 pub left-init : goal.left-init
 left-init g c = record {

@@ -13,13 +13,13 @@ returns-then-not-is_taken c =
 
 pub returns-then-station : goal.returns-then-station
 returns-then-station c =
-    class-foreign c.args.setup.now c.args.reading.now c.in-Ok.message c.number.result c.station.result c.station-2.result c.is_taken.result c.in-Ok.is c.number.ensures c.is_taken.ensures c.if-not-is_taken.false
-    c.station.ensures c.station-2.ensures.value c.if-station.true
+    class-foreign c.args.setup.now c.args.reading.now c.in-Ok.message c.number.result c.station.result c.station-in-Ok.result c.is_taken.result c.in-Ok.is c.number.ensures c.is_taken.ensures c.if-not-is_taken.false
+    c.station.ensures c.station-in-Ok.ensures.value c.if-station.true
 
 pub returns-else-station : goal.returns-else-station
 returns-else-station c =
-    class-dated c.args.setup.now c.args.reading.now c.in-Ok.message c.number.result c.station.result c.station-2.result c.is_taken.result c.dated_message.result c.in-Ok.is c.number.ensures c.is_taken.ensures c.if-not-is_taken.false
-    c.station.ensures c.station-2.ensures.value c.if-station.false c.dated_message.ensures
+    class-dated c.args.setup.now c.args.reading.now c.in-Ok.message c.number.result c.station.result c.station-in-Ok.result c.is_taken.result c.dated_message.result c.in-Ok.is c.number.ensures c.is_taken.ensures c.if-not-is_taken.false
+    c.station.ensures c.station-in-Ok.ensures.value c.if-station.false c.dated_message.ensures
 
 pub returns-in-Err : goal.returns-in-Err
 returns-in-Err c = class-fault c.args.setup.now c.args.reading.now c.in-Err.fault c.class_of_fault.result c.in-Err.is c.class_of_fault.ensures

@@ -1,4 +1,4 @@
-use Rattle.std.proofs.Common.{◌≡◌, ◌∙◌, Option, None, Some, refl, sym, ap, subst}
+use Rattle.std.proofs.Common.{rules, ◌≡◌, ◌∙◌, Option, None, Some, refl, sym, ap, subst}
 use Rattle.std.specs.Prelude.{option_map}
 use Rattle.std.proofs.lemmas.Result.{err_from_is_err_and}
 use Rattle.rtk_obs.specs.declared.signal_cells.SignalEntry.{SignalEntry}
@@ -15,7 +15,7 @@ pub returns-in_default-clause-writes : goal.returns-in_default-clause-writes
 returns-in_default-clause-writes g c =
     let f = set_of g.E.FileEntry.signal_of in
     let none : closed_by (outcome_of g.E.FileEntry.signal_of c.args.offer) ≡ None = sym c.closed_by.ensures ∙ ap (option_map f) c.in_default.is in
-    writes-lines c.write_lines.result c.self.view_is none refl c.write_lines.ensures.puts c.write_lines.ensures.fault
+    writes-lines c.write_lines.result refl none refl c.write_lines.ensures.puts c.write_lines.ensures.fault
 
 pub returns-in_default-clause-failed : goal.returns-in_default-clause-failed
 returns-in_default-clause-failed g c = record {
@@ -23,11 +23,11 @@ returns-in_default-clause-failed g c = record {
   report_failed = c.write_lines.ensures.report_failed;
 }
 
-pub close-requires-clause-above : goal.close-requires-clause-above
-close-requires-clause-above g c =
+pub close-requires : goal.close-requires
+close-requires g c =
     let f = set_of g.E.FileEntry.signal_of in
     let some : closed_by (outcome_of g.E.FileEntry.signal_of c.args.offer) ≡ Some (f c.in-Some.set) = sym c.closed_by.ensures ∙ ap (option_map f) c.in-Some.is in
-    subst (λ (x : Option (EpochSetView SignalEntry)). ClosesAbove c.self.inside.closed x) some (subst (λ (x : _). ClosesAbove x.closed (closed_by (outcome_of g.E.FileEntry.signal_of c.args.offer))) (sym c.self.view_is) c.requires.above)
+    (search rules, subst (λ (x : Option (EpochSetView SignalEntry)). ClosesAbove c.self.inside.closed x) some (subst (λ (x : _). ClosesAbove x.closed (closed_by (outcome_of g.E.FileEntry.signal_of c.args.offer))) (sym c.self.view_is) c.requires.above))
 
 pub returns-in_err-close-clause-writes : goal.returns-in_err-close-clause-writes
 returns-in_err-close-clause-writes g c =

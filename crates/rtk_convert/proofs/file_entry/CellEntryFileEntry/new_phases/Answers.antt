@@ -7,5 +7,5 @@ use Rattle.rtk_convert.proofs.file_entry.CellEntryFileEntry.new_phases.Goals as 
 
 pub returns : goal.returns
 returns c = λ satellite code.
-    subst (λ (t : List (Option Track)). track_at t satellite code ≡ None) (sym c.in_ok-phases.ensures)
+    subst (λ (t : List (Option Track)). track_at t satellite code ≡ None) (sym c.in_ok-phases.ensures.ok)
     (no-phases c.new-empty.result c.new-empty.ensures.empty (signal_place satellite code))
