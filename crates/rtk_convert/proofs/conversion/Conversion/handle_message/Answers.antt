@@ -11,8 +11,8 @@ use Rattle.rtk_convert.proofs.BringsLemmas.{message-adds}
 use Rattle.rtk_convert.proofs.OutcomeLemmas.{stays-seen, ahead-seen, failed-err, message-ok, message-err}
 use Rattle.rtk_convert.proofs.conversion.Conversion.handle_message.Goals as goal
 
-pub add-class-requires : goal.add-class-requires
-add-class-requires g c = record {
+pub add-requires : goal.add-requires
+add-requires g c = record {
   taken = c.requires.taken;
   form = c.self.invariant.1;
   places = c.self.invariant.2.places;

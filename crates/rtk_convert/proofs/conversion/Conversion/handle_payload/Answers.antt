@@ -4,6 +4,7 @@ use Rattle.rtk_frame.specs.Stream.{with_more, TakesPart}
 use Rattle.rtk_convert.specs.declared.fault.ConvertFault.TheVariants.{OutOfMemory}
 use Rattle.rtk_convert.specs.declared.frame_class.FrameClass.{FrameClass}
 use Rattle.rtk_convert.specs.declared.frame_class.FrameClass.TheVariants.{OtherMessage, Refused, Foreign, Dated}
+use Rattle.rtk_convert.specs.Conversion.{ConversionView}
 use Rattle.rtk_convert.specs.FrameClass.{IsClassOfPayload}
 use Rattle.rtk_convert.specs.Report.{refused_line, one_frame_more}
 use Rattle.rtk_convert.proofs.ArriveLemmas.{arrives-arrived, breaks-arrived, arrives-other, arrives-foreign, arrives-refused, breaks-refused}
@@ -15,6 +16,12 @@ use Rattle.rtk_convert.proofs.conversion.Conversion.handle_payload.Goals as goal
 
 pub classify-requires : goal.classify-requires
 classify-requires g c = read-by c.self.inside.setup c.args.payload.now c.read_message.result.now c.read_message.ensures
+
+pub handle_message-requires-clause-under_way : goal.handle_message-requires-clause-under_way
+handle_message-requires-clause-under_way g c = record {
+  stopped = ap (λ (x : ConversionView). x.stopped) c.self.view_is ∙ c.requires.under_way.stopped;
+  ahead = ahead-seen c.self.view_is c.requires.under_way;
+}
 
 pub handle_message-requires-clause-taken : goal.handle_message-requires-clause-taken
 handle_message-requires-clause-taken g c =
