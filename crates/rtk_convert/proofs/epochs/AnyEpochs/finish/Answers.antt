@@ -9,8 +9,11 @@ pub finish-requires : goal.finish-requires
 finish-requires g c = (
   omega arith,
   (
+    omega arith,
+    (
     subst (λ (e : AnyEpochs). (epochs_in e).collector.places ≡ c.args.setup.now.window) c.in-Gps.is c.requires.places,
     subst (λ (e : AnyEpochs). IsAhead (epochs_in e).collector (epochs_in e).closed) c.in-Gps.is c.requires.ahead,
+    ),
   ),
 )
 
@@ -21,8 +24,11 @@ pub finish-requires-in-Any : goal.finish-requires-in-Any
 finish-requires-in-Any g c = (
   omega arith,
   (
+    omega arith,
+    (
     subst (λ (e : AnyEpochs). (epochs_in e).collector.places ≡ c.args.setup.now.window) c.in-Any.is c.requires.places,
     subst (λ (e : AnyEpochs). IsAhead (epochs_in e).collector (epochs_in e).closed) c.in-Any.is c.requires.ahead,
+    ),
   ),
 )
 

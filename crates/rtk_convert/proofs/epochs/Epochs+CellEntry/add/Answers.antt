@@ -21,7 +21,7 @@ use Rattle.rtk_convert.proofs.epochs.Epochs+CellEntry.add.Goals as goal
 pub write_answer-requires : goal.write_answer-requires
 write_answer-requires g c =
     let ahead = subst (λ (x : _). IsAhead x.collector x.closed) (sym c.self.view_is) c.requires.ahead in
-    (omega arith, closes-above (window_of signal_of c.self.inside.collector) c.self.inside.closed (outcome_of signal_of c.in_ok-offer.offer) (least-map signal_of c.self.inside.collector.places c.self.inside.collector.sets c.in_ok-offer.offer c.in_ok-offer.ensures.least_closes) ahead)
+    (omega arith, (omega arith, closes-above (window_of signal_of c.self.inside.collector) c.self.inside.closed (outcome_of signal_of c.in_ok-offer.offer) (least-map signal_of c.self.inside.collector.places c.self.inside.collector.sets c.in_ok-offer.offer c.in_ok-offer.ensures.least_closes) ahead))
 
 pub returns-clause-adds : goal.returns-clause-adds
 returns-clause-adds g c =
