@@ -1,10 +1,12 @@
-use Rattle.std.proofs.Common.{◌∙◌, ℕ, Option, refl, sym, ap, arith}
+use Rattle.std.proofs.Common.{◌∙◌, ℕ, Option, refl, sym, ap, subst, arith}
 use Rattle.std.specs.Prelude.{is_some, ◌||◌}
 use Rattle.std.proofs.lemmas.Result.{err_from_is_err_and}
 use Rattle.rtk_message.specs.AnyDecoded.{number_of}
 use Rattle.rtk_message.specs.declared.system.System.{System}
 use Rattle.rtk_collect.specs.Arrival.{message_of}
+use Rattle.rtk_convert.specs.Conversion.{ConversionView}
 use Rattle.rtk_convert.specs.Systems.{has_system}
+use Rattle.rtk_convert.specs.Steps.AddedMessage.{IsTakenBy}
 use Rattle.rtk_convert.specs.Steps.OfferLines.{class_named}
 use Rattle.rtk_convert.specs.Steps.ReadMessage.{brings_by}
 use Rattle.rtk_convert.proofs.BringsLemmas.{message-adds}
@@ -13,7 +15,7 @@ use Rattle.rtk_convert.proofs.conversion.Conversion.handle_message.Goals as goal
 
 pub add-requires : goal.add-requires
 add-requires g c = record {
-  taken = c.requires.taken;
+  taken = subst (λ (x : ConversionView). IsTakenBy x.setup (message_of c.args.dated)) (sym c.self.view_is) c.requires.taken;
   form = c.self.invariant.1;
   places = c.self.invariant.2.places;
   ahead = ahead-seen c.self.view_is c.requires.under_way;
