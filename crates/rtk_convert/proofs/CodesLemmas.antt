@@ -153,7 +153,7 @@ module _ (s : System) where
       let two : drop (e - b) (drop b listed) ≡ drop e listed = dropped listed b (e - b) ∙ ap (λ (n : ℕ). drop n listed) (let sum : b + (e - b) ≡ e = omega arith in sum) in
       let after : filter is_own (drop (e - b) (drop b listed)) ≡ [] =
       ap (filter is_own) two ∙ none-own (drop e listed) (λ k d lt.
-          subst (λ (c : AnyCode). system_of c ≢ s) (sym (at-drop listed e k d)) (none-after listed b e list le start.next last (e + k) d (omega arith) (omega arith))) in
+      subst (λ (c : AnyCode). system_of c ≢ s) (sym (at-drop listed e k d)) (none-after listed b e list le start.next last (e + k) d (omega arith) (omega arith))) in
       sym (skip-others listed b start.within start.others
       ∙ take-own (drop b listed) (e - b) (omega arith) (λ k d lt. ap system_of (at-drop listed b k d) ∙ own (b + k) d (omega arith) (omega arith))
       ∙ ap (λ (xs : List AnyCode). take (e - b) (drop b listed) ++ xs) after ∙ append-nil (take (e - b) (drop b listed)))

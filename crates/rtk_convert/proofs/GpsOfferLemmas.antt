@@ -75,8 +75,14 @@ kinds-none s system is ne = rw (lists-none s.head.listed (letter_of system) is n
 
 pub taken-of-gps : (s : SetupView) → IsTrue (is_of_gps s) → taken_by s ≡ accepted.of_gps (kinds_taken s Gps)
 taken-of-gps s is =
-    rw (kinds-none s Glonass is (λ e. omega arith), kinds-none s Galileo is (λ e. omega arith), kinds-none s Beidou is (λ e. omega arith),
-    kinds-none s Qzss is (λ e. omega arith), kinds-none s Sbas is (λ e. omega arith), kinds-none s Navic is (λ e. omega arith)) refl
+    rw (
+      kinds-none s Glonass is (λ e. omega arith),
+      kinds-none s Galileo is (λ e. omega arith),
+      kinds-none s Beidou is (λ e. omega arith),
+      kinds-none s Qzss is (λ e. omega arith),
+      kinds-none s Sbas is (λ e. omega arith),
+      kinds-none s Navic is (λ e. omega arith),
+    ) refl
 
 -- a message that the setup takes is read
 pub accepts-taken : (s : SetupView) (n : ℕ) → IsTrue (takes s n) → accepted.accepts (taken_by s) n ≡ true

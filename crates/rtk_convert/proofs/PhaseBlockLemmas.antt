@@ -212,8 +212,8 @@ module _ (blocks : List (List (Option Track))) (satellite : ℕ) (code : AnyCode
       ap (λ (n : ℕ). track_at (phases_of (set blocks n new)) s d) at-block
       ∙ in-others blocks new satellite code c h.is h.code_is within-blocks
       (λ n k other.
-          others n k (subst (λ (i : ℕ). place_of_signal n k ≢ place_of_signal ((i - 1) % 32 + 1) c) (sym h.index_is) other)
-          ∙ ap (λ (b : List (Option Track)). tracks.track_at b n k) block-read)
+      others n k (subst (λ (i : ℕ). place_of_signal n k ≢ place_of_signal ((i - 1) % 32 + 1) c) (sym h.index_is) other)
+      ∙ ap (λ (b : List (Option Track)). tracks.track_at b n k) block-read)
       s d ne
 
 -- ---- one block

@@ -106,8 +106,8 @@ first-phase setup [] s c none h = tt
 first-phase setup (e ∷ cells) s c none h =
     no-phase-if (is_signal s c e) e.cell (first_cell cells s c)
     (λ is.
-      let same : e.satellite ≡ s = eqb-true e.satellite s (and_parts (e.satellite == s) (number_of e.code == number_of c) is).0 in
-      All-head (HasPhaseBy setup) e cells h (subst (λ (n : ℕ). has_phases (form_of_head setup.head) n ≡ false) (sym same) none))
+    let same : e.satellite ≡ s = eqb-true e.satellite s (and_parts (e.satellite == s) (number_of e.code == number_of c) is).0 in
+    All-head (HasPhaseBy setup) e cells h (subst (λ (n : ℕ). has_phases (form_of_head setup.head) n ≡ false) (sym same) none))
     (first-phase setup cells s c none (All-tail (HasPhaseBy setup) e cells h))
 
 observed-phase : (last : Option Track) (code : AnyCode) (epoch : ℕ) (o : Option Cell) → ShowsNoPhase o → HasNoPhase (or_nothing (observed_after last code epoch o))
@@ -117,19 +117,19 @@ observed-phase last code epoch (Some c) h = ap (λ (p : Option ℤ). rolled_or_n
 table-rows : (s : SetupView) (e : EpochSetView SignalEntry) (below : List (EpochSetView SignalEntry)) → IsGoodEpoch s e → All (IsRowOfHead s.head) (table_of s.head.listed e below).rows
 table-rows s e below good = all-rows (IsRowOfHead s.head) (observed_at e below) s.head.listed 221 (omega arith)
     (λ n hs m.
-      let codes = codes_for s.head.listed n in
-      let row = λ (code : AnyCode). or_nothing (observed_at e below n code) in
-      record {
-        satellite = hs;
-        width = length-map codes row;
-        strengths = All-map (λ (o : Observed). IsStrengthOrNone o.strength_millidbhz) row codes
-            (λ k d l. observed-strength (last_phase_of below n (get_or codes k d)) (get_or codes k d) e.epoch (cell_at e.cells n (get_or codes k d)) (cell-strength e.cells n (get_or codes k d) good.cells));
-        phases = λ is untold.
-            let none : has_phases (form_of_head s.head) n ≡ false = subst (λ (t : System). phases_in (form_of_head s.head) t (bit_at n) ≡ false) (sym is) untold in
-            All-map WritesNoPhase row codes
-            (λ k d l. ap is_present (observed-phase (last_phase_of below n (get_or codes k d)) (get_or codes k d) e.epoch (cell_at e.cells n (get_or codes k d))
-                (first-phase s (in_turn e.cells) n (get_or codes k d) none (in-turn (HasPhaseBy s) e.cells good.phases))));
-      })
+    let codes = codes_for s.head.listed n in
+    let row = λ (code : AnyCode). or_nothing (observed_at e below n code) in
+    record {
+      satellite = hs;
+      width = length-map codes row;
+      strengths = All-map (λ (o : Observed). IsStrengthOrNone o.strength_millidbhz) row codes
+          (λ k d l. observed-strength (last_phase_of below n (get_or codes k d)) (get_or codes k d) e.epoch (cell_at e.cells n (get_or codes k d)) (cell-strength e.cells n (get_or codes k d) good.cells));
+      phases = λ is untold.
+          let none : has_phases (form_of_head s.head) n ≡ false = subst (λ (t : System). phases_in (form_of_head s.head) t (bit_at n) ≡ false) (sym is) untold in
+          All-map WritesNoPhase row codes
+          (λ k d l. ap is_present (observed-phase (last_phase_of below n (get_or codes k d)) (get_or codes k d) e.epoch (cell_at e.cells n (get_or codes k d))
+          (first-phase s (in_turn e.cells) n (get_or codes k d) none (in-turn (HasPhaseBy s) e.cells good.phases))));
+    })
 
 table-good : (s : SetupView) (e : EpochSetView SignalEntry) (below : List (EpochSetView SignalEntry)) → IsGoodEpoch s e → IsEpochOfHead s.head (table_of s.head.listed e below)
 table-good s e below good = record {

@@ -106,8 +106,7 @@ impl<E: FileEntry> Epochs<E> {
             return write_lines(log, lines);
         };
         let position = self.collector.station();
-        self.closed
-            .close(alloc, setup, &position, &set, room, out)?;
+        self.closed.close(alloc, setup, &position, &set, room, out)?;
         self.collector.hand_back(set);
         write_lines(log, lines)
     }
@@ -129,15 +128,7 @@ impl<E: FileEntry> Epochs<E> {
         let position = self.collector.station();
         let mut closed = self.closed;
         let mut left = self.collector.close();
-        close_remaining(
-            alloc,
-            setup,
-            &position,
-            &mut closed,
-            &mut left,
-            room,
-            out,
-        )?;
+        close_remaining(alloc, setup, &position, &mut closed, &mut left, room, out)?;
         write_header_if_none(alloc, setup, &position, closed.is_header_out(), out)?;
         Ok(closed.count())
     }
@@ -168,8 +159,9 @@ impl Epochs<CellEntry> {
         let offer = self.collector.offer(dated, &mut self.conflicts)?;
         let class = class_of(&offer);
         let conflicts = self.conflicts.as_slice();
-        let lines =
-            report::message_lines::<CellEntry>(alloc, link, number, epoch, class, conflicts)?;
+        let lines = report::message_lines::<CellEntry>(
+            alloc, link, number, epoch, class, conflicts,
+        )?;
         self.write_answer(alloc, setup, offer, &lines, room, out, log)?;
         Ok(class)
     }
@@ -202,8 +194,9 @@ impl Epochs<SignalEntry> {
             .offer_signals(dated, channels, &mut self.conflicts)?;
         let class = class_of(&offer);
         let conflicts = self.conflicts.as_slice();
-        let lines =
-            report::message_lines::<SignalEntry>(alloc, link, number, epoch, class, conflicts)?;
+        let lines = report::message_lines::<SignalEntry>(
+            alloc, link, number, epoch, class, conflicts,
+        )?;
         self.write_answer(alloc, setup, offer, &lines, room, out, log)?;
         Ok(class)
     }

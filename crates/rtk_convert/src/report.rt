@@ -210,11 +210,7 @@ fn put_letter(
 }
 
 // Appends the line of the listed systems of which no message was taken, if there are any.
-fn put_missing(
-    lines: &mut Vec<u8>,
-    setup: &Setup,
-    systems: Systems,
-) -> Result<(), AllocError>
+fn put_missing(lines: &mut Vec<u8>, setup: &Setup, systems: Systems) -> Result<(), AllocError>
     ensures { OnOk result (lines.new.items ≡ lines.old.items ++ missing_line (missing_letters_by setup.now systems)) }
 {
     let mut letters: ArrayVec<u8, 14> = ArrayVec::new();

@@ -30,7 +30,7 @@ returns-in-Gps-clause-form g c = subst (AreEpochsOf c.args.setup.now) c.in-Gps.i
 pub returns-in-Gps-clause-adds : goal.returns-in-Gps-clause-adds
 returns-in-Gps-clause-adds g c =
     subst (λ (e : AnyEpochs). AddsArrival c.args.setup.now (epochs_in e) c.args.link c.args.dated c.add.result c.add.new.self
-        (written (g.O.Sink.taken c.args.out.now) (g.L.Sink.taken c.args.log.now)) (written (g.O.Sink.taken c.add.new.out) (g.L.Sink.taken c.add.new.log))) (sym c.in-Gps.is) c.add.ensures.adds
+    (written (g.O.Sink.taken c.args.out.now) (g.L.Sink.taken c.args.log.now)) (written (g.O.Sink.taken c.add.new.out) (g.L.Sink.taken c.add.new.log))) (sym c.in-Gps.is) c.add.ensures.adds
 
 pub returns-in-Any-clause-stays : goal.returns-in-Any-clause-stays
 returns-in-Any-clause-stays g c = subst (λ (e : AnyEpochs). HandsOn c.args.setup.now (epochs_in e) c.add_signals.result c.add_signals.new.self) (sym c.in-Any.is) c.add_signals.ensures.stays
@@ -38,4 +38,4 @@ returns-in-Any-clause-stays g c = subst (λ (e : AnyEpochs). HandsOn c.args.setu
 pub returns-in-Any-clause-adds : goal.returns-in-Any-clause-adds
 returns-in-Any-clause-adds g c =
     subst (λ (e : AnyEpochs). AddsArrival c.args.setup.now (epochs_in e) c.args.link c.args.dated c.add_signals.result c.add_signals.new.self
-        (written (g.O.Sink.taken c.args.out.now) (g.L.Sink.taken c.args.log.now)) (written (g.O.Sink.taken c.add_signals.new.out) (g.L.Sink.taken c.add_signals.new.log))) (sym c.in-Any.is) c.add_signals.ensures.adds
+    (written (g.O.Sink.taken c.args.out.now) (g.L.Sink.taken c.args.log.now)) (written (g.O.Sink.taken c.add_signals.new.out) (g.L.Sink.taken c.add_signals.new.log))) (sym c.in-Any.is) c.add_signals.ensures.adds

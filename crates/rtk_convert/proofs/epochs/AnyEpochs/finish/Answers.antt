@@ -11,8 +11,8 @@ finish-requires g c = (
   (
     omega arith,
     (
-    subst (λ (e : AnyEpochs). (epochs_in e).collector.places ≡ c.args.setup.now.window) c.in-Gps.is c.requires.places,
-    subst (λ (e : AnyEpochs). IsAhead (epochs_in e).collector (epochs_in e).closed) c.in-Gps.is c.requires.ahead,
+      subst (λ (e : AnyEpochs). (epochs_in e).collector.places ≡ c.args.setup.now.window) c.in-Gps.is c.requires.places,
+      subst (λ (e : AnyEpochs). IsAhead (epochs_in e).collector (epochs_in e).closed) c.in-Gps.is c.requires.ahead,
     ),
   ),
 )
@@ -26,8 +26,8 @@ finish-requires-in-Any g c = (
   (
     omega arith,
     (
-    subst (λ (e : AnyEpochs). (epochs_in e).collector.places ≡ c.args.setup.now.window) c.in-Any.is c.requires.places,
-    subst (λ (e : AnyEpochs). IsAhead (epochs_in e).collector (epochs_in e).closed) c.in-Any.is c.requires.ahead,
+      subst (λ (e : AnyEpochs). (epochs_in e).collector.places ≡ c.args.setup.now.window) c.in-Any.is c.requires.places,
+      subst (λ (e : AnyEpochs). IsAhead (epochs_in e).collector (epochs_in e).closed) c.in-Any.is c.requires.ahead,
     ),
   ),
 )

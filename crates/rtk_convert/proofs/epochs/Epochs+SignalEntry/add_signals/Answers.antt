@@ -37,11 +37,11 @@ returns-clause-adds g c =
     let meets : AnswersMessage c.args.setup.now (window_of same c.self.inside.collector) c.args.dated (outcome_of same c.in_ok-offer.offer) (map name_same c.offer_signals.new.conflicts) (window_of same c.offer_signals.new.self) =
     signal-answers c.args.setup.now c.channels-channels.result.now (window_of same c.self.inside.collector) (window_of same c.offer_signals.new.self) c.args.dated (outcome_of same c.in_ok-offer.offer) (map name_same c.offer_signals.new.conflicts) c.channels-channels.ensures
     (λ before rep.
-      let m = c.in_ok-offer.ensures.answer before (subst (λ (w : CollectorView SignalEntry). RepresentsArrivals signals (entries_of c.channels-channels.result.now) w before) (window-id c.self.inside.collector) rep) in (
-        subst (λ (o : Outcome SignalEntry AnySatelliteCode). IsRightAnswer signals (entries_of c.channels-channels.result.now) c.self.inside.collector.places c.args.dated before o (map name_same c.offer_signals.new.conflicts)) (sym (outcome-id c.in_ok-offer.offer))
-        (subst (λ (xs : List AnySatelliteCode). IsRightAnswer signals (entries_of c.channels-channels.result.now) c.self.inside.collector.places c.args.dated before c.in_ok-offer.offer xs) (sym (map-id name_same (λ x. refl) c.offer_signals.new.conflicts)) m.0),
-        subst (λ (w : CollectorView SignalEntry). RepresentsArrivals signals (entries_of c.channels-channels.result.now) w (c.args.dated ∷ before)) (sym (window-id c.offer_signals.new.self)) m.1,
-      )) in
+    let m = c.in_ok-offer.ensures.answer before (subst (λ (w : CollectorView SignalEntry). RepresentsArrivals signals (entries_of c.channels-channels.result.now) w before) (window-id c.self.inside.collector) rep) in (
+      subst (λ (o : Outcome SignalEntry AnySatelliteCode). IsRightAnswer signals (entries_of c.channels-channels.result.now) c.self.inside.collector.places c.args.dated before o (map name_same c.offer_signals.new.conflicts)) (sym (outcome-id c.in_ok-offer.offer))
+          (subst (λ (xs : List AnySatelliteCode). IsRightAnswer signals (entries_of c.channels-channels.result.now) c.self.inside.collector.places c.args.dated before c.in_ok-offer.offer xs) (sym (map-id name_same (λ x. refl) c.offer_signals.new.conflicts)) m.0),
+      subst (λ (w : CollectorView SignalEntry). RepresentsArrivals signals (entries_of c.channels-channels.result.now) w (c.args.dated ∷ before)) (sym (window-id c.offer_signals.new.self)) m.1,
+    )) in
     let text : c.deref.result.now ≡ offer_lines c.args.link (number_of (message_of c.args.dated)) (epoch_of c.args.dated) (outcome_of same c.in_ok-offer.offer) (map name_same c.offer_signals.new.conflicts) =
     c.deref.ensures.value ∙ c.in_ok-lines.ensures
     ∙ ap (λ (n : ℕ). class_lines c.args.link n c.epoch-epoch.result (class_named c.class_of-class.result) (map name_same c.as_slice-conflicts.result.now)) c.number-number.ensures
@@ -55,11 +55,11 @@ returns-clause-stays g c =
     let meets : AnswersMessage c.args.setup.now (window_of same c.self.inside.collector) c.args.dated (outcome_of same c.in_ok-offer.offer) (map name_same c.offer_signals.new.conflicts) (window_of same c.offer_signals.new.self) =
     signal-answers c.args.setup.now c.channels-channels.result.now (window_of same c.self.inside.collector) (window_of same c.offer_signals.new.self) c.args.dated (outcome_of same c.in_ok-offer.offer) (map name_same c.offer_signals.new.conflicts) c.channels-channels.ensures
     (λ before rep.
-      let m = c.in_ok-offer.ensures.answer before (subst (λ (w : CollectorView SignalEntry). RepresentsArrivals signals (entries_of c.channels-channels.result.now) w before) (window-id c.self.inside.collector) rep) in (
-        subst (λ (o : Outcome SignalEntry AnySatelliteCode). IsRightAnswer signals (entries_of c.channels-channels.result.now) c.self.inside.collector.places c.args.dated before o (map name_same c.offer_signals.new.conflicts)) (sym (outcome-id c.in_ok-offer.offer))
-        (subst (λ (xs : List AnySatelliteCode). IsRightAnswer signals (entries_of c.channels-channels.result.now) c.self.inside.collector.places c.args.dated before c.in_ok-offer.offer xs) (sym (map-id name_same (λ x. refl) c.offer_signals.new.conflicts)) m.0),
-        subst (λ (w : CollectorView SignalEntry). RepresentsArrivals signals (entries_of c.channels-channels.result.now) w (c.args.dated ∷ before)) (sym (window-id c.offer_signals.new.self)) m.1,
-      )) in
+    let m = c.in_ok-offer.ensures.answer before (subst (λ (w : CollectorView SignalEntry). RepresentsArrivals signals (entries_of c.channels-channels.result.now) w before) (window-id c.self.inside.collector) rep) in (
+      subst (λ (o : Outcome SignalEntry AnySatelliteCode). IsRightAnswer signals (entries_of c.channels-channels.result.now) c.self.inside.collector.places c.args.dated before o (map name_same c.offer_signals.new.conflicts)) (sym (outcome-id c.in_ok-offer.offer))
+          (subst (λ (xs : List AnySatelliteCode). IsRightAnswer signals (entries_of c.channels-channels.result.now) c.self.inside.collector.places c.args.dated before c.in_ok-offer.offer xs) (sym (map-id name_same (λ x. refl) c.offer_signals.new.conflicts)) m.0),
+      subst (λ (w : CollectorView SignalEntry). RepresentsArrivals signals (entries_of c.channels-channels.result.now) w (c.args.dated ∷ before)) (sym (window-id c.offer_signals.new.self)) m.1,
+    )) in
     let ahead = ahead-written _ (outcome_of same c.in_ok-offer.offer) c.self.view_is refl c.write_answer.ensures.window (least-map same c.self.inside.collector.places c.self.inside.collector.sets c.in_ok-offer.offer c.in_ok-offer.ensures.least_closes) (below-map same c.in_ok-offer.offer c.offer_signals.new.self.sets c.in_ok-offer.ensures.closed) (never-map same c.self.inside.collector c.offer_signals.new.self c.offer_signals.ensures.least) c.requires.ahead c.in_ok-write_answer.ensures.writes in
     hands-on _ (outcome_of same c.in_ok-offer.offer) (map name_same c.offer_signals.new.conflicts) c.self.view_is c.requires.taken c.offer_signals.ensures.places (omega (arith, c.offer_signals.ensures.bound, length-map c.offer_signals.new.self.sets (set_of same))) meets c.write_answer.ensures.window ahead
 
@@ -73,11 +73,11 @@ returns-in_err-write_answer-clause-adds g c =
     let meets : AnswersMessage c.args.setup.now (window_of same c.self.inside.collector) c.args.dated (outcome_of same c.in_ok-offer.offer) (map name_same c.offer_signals.new.conflicts) (window_of same c.offer_signals.new.self) =
     signal-answers c.args.setup.now c.channels-channels.result.now (window_of same c.self.inside.collector) (window_of same c.offer_signals.new.self) c.args.dated (outcome_of same c.in_ok-offer.offer) (map name_same c.offer_signals.new.conflicts) c.channels-channels.ensures
     (λ before rep.
-      let m = c.in_ok-offer.ensures.answer before (subst (λ (w : CollectorView SignalEntry). RepresentsArrivals signals (entries_of c.channels-channels.result.now) w before) (window-id c.self.inside.collector) rep) in (
-        subst (λ (o : Outcome SignalEntry AnySatelliteCode). IsRightAnswer signals (entries_of c.channels-channels.result.now) c.self.inside.collector.places c.args.dated before o (map name_same c.offer_signals.new.conflicts)) (sym (outcome-id c.in_ok-offer.offer))
-        (subst (λ (xs : List AnySatelliteCode). IsRightAnswer signals (entries_of c.channels-channels.result.now) c.self.inside.collector.places c.args.dated before c.in_ok-offer.offer xs) (sym (map-id name_same (λ x. refl) c.offer_signals.new.conflicts)) m.0),
-        subst (λ (w : CollectorView SignalEntry). RepresentsArrivals signals (entries_of c.channels-channels.result.now) w (c.args.dated ∷ before)) (sym (window-id c.offer_signals.new.self)) m.1,
-      )) in
+    let m = c.in_ok-offer.ensures.answer before (subst (λ (w : CollectorView SignalEntry). RepresentsArrivals signals (entries_of c.channels-channels.result.now) w before) (window-id c.self.inside.collector) rep) in (
+      subst (λ (o : Outcome SignalEntry AnySatelliteCode). IsRightAnswer signals (entries_of c.channels-channels.result.now) c.self.inside.collector.places c.args.dated before o (map name_same c.offer_signals.new.conflicts)) (sym (outcome-id c.in_ok-offer.offer))
+          (subst (λ (xs : List AnySatelliteCode). IsRightAnswer signals (entries_of c.channels-channels.result.now) c.self.inside.collector.places c.args.dated before c.in_ok-offer.offer xs) (sym (map-id name_same (λ x. refl) c.offer_signals.new.conflicts)) m.0),
+      subst (λ (w : CollectorView SignalEntry). RepresentsArrivals signals (entries_of c.channels-channels.result.now) w (c.args.dated ∷ before)) (sym (window-id c.offer_signals.new.self)) m.1,
+    )) in
     let text : c.deref.result.now ≡ offer_lines c.args.link (number_of (message_of c.args.dated)) (epoch_of c.args.dated) (outcome_of same c.in_ok-offer.offer) (map name_same c.offer_signals.new.conflicts) =
     c.deref.ensures.value ∙ c.in_ok-lines.ensures
     ∙ ap (λ (n : ℕ). class_lines c.args.link n c.epoch-epoch.result (class_named c.class_of-class.result) (map name_same c.as_slice-conflicts.result.now)) c.number-number.ensures
@@ -92,11 +92,11 @@ returns-in_err-write_answer-clause-stays g c =
     let meets : AnswersMessage c.args.setup.now (window_of same c.self.inside.collector) c.args.dated (outcome_of same c.in_ok-offer.offer) (map name_same c.offer_signals.new.conflicts) (window_of same c.offer_signals.new.self) =
     signal-answers c.args.setup.now c.channels-channels.result.now (window_of same c.self.inside.collector) (window_of same c.offer_signals.new.self) c.args.dated (outcome_of same c.in_ok-offer.offer) (map name_same c.offer_signals.new.conflicts) c.channels-channels.ensures
     (λ before rep.
-      let m = c.in_ok-offer.ensures.answer before (subst (λ (w : CollectorView SignalEntry). RepresentsArrivals signals (entries_of c.channels-channels.result.now) w before) (window-id c.self.inside.collector) rep) in (
-        subst (λ (o : Outcome SignalEntry AnySatelliteCode). IsRightAnswer signals (entries_of c.channels-channels.result.now) c.self.inside.collector.places c.args.dated before o (map name_same c.offer_signals.new.conflicts)) (sym (outcome-id c.in_ok-offer.offer))
-        (subst (λ (xs : List AnySatelliteCode). IsRightAnswer signals (entries_of c.channels-channels.result.now) c.self.inside.collector.places c.args.dated before c.in_ok-offer.offer xs) (sym (map-id name_same (λ x. refl) c.offer_signals.new.conflicts)) m.0),
-        subst (λ (w : CollectorView SignalEntry). RepresentsArrivals signals (entries_of c.channels-channels.result.now) w (c.args.dated ∷ before)) (sym (window-id c.offer_signals.new.self)) m.1,
-      )) in
+    let m = c.in_ok-offer.ensures.answer before (subst (λ (w : CollectorView SignalEntry). RepresentsArrivals signals (entries_of c.channels-channels.result.now) w before) (window-id c.self.inside.collector) rep) in (
+      subst (λ (o : Outcome SignalEntry AnySatelliteCode). IsRightAnswer signals (entries_of c.channels-channels.result.now) c.self.inside.collector.places c.args.dated before o (map name_same c.offer_signals.new.conflicts)) (sym (outcome-id c.in_ok-offer.offer))
+          (subst (λ (xs : List AnySatelliteCode). IsRightAnswer signals (entries_of c.channels-channels.result.now) c.self.inside.collector.places c.args.dated before c.in_ok-offer.offer xs) (sym (map-id name_same (λ x. refl) c.offer_signals.new.conflicts)) m.0),
+      subst (λ (w : CollectorView SignalEntry). RepresentsArrivals signals (entries_of c.channels-channels.result.now) w (c.args.dated ∷ before)) (sym (window-id c.offer_signals.new.self)) m.1,
+    )) in
     rw (p.1, p.2) (hands-on _ (outcome_of same c.in_ok-offer.offer) (map name_same c.offer_signals.new.conflicts) c.self.view_is c.requires.taken c.offer_signals.ensures.places (omega (arith, c.offer_signals.ensures.bound, length-map c.offer_signals.new.self.sets (set_of same))) meets c.write_answer.ensures.window tt)
 
 pub returns-in_err-write_answer-clause-failed : goal.returns-in_err-write_answer-clause-failed
@@ -115,11 +115,11 @@ returns-in_err-lines-clause-stays g c =
     let meets : AnswersMessage c.args.setup.now (window_of same c.self.inside.collector) c.args.dated (outcome_of same c.in_ok-offer.offer) (map name_same c.offer_signals.new.conflicts) (window_of same c.offer_signals.new.self) =
     signal-answers c.args.setup.now c.channels-channels.result.now (window_of same c.self.inside.collector) (window_of same c.offer_signals.new.self) c.args.dated (outcome_of same c.in_ok-offer.offer) (map name_same c.offer_signals.new.conflicts) c.channels-channels.ensures
     (λ before rep.
-      let m = c.in_ok-offer.ensures.answer before (subst (λ (w : CollectorView SignalEntry). RepresentsArrivals signals (entries_of c.channels-channels.result.now) w before) (window-id c.self.inside.collector) rep) in (
-        subst (λ (o : Outcome SignalEntry AnySatelliteCode). IsRightAnswer signals (entries_of c.channels-channels.result.now) c.self.inside.collector.places c.args.dated before o (map name_same c.offer_signals.new.conflicts)) (sym (outcome-id c.in_ok-offer.offer))
-        (subst (λ (xs : List AnySatelliteCode). IsRightAnswer signals (entries_of c.channels-channels.result.now) c.self.inside.collector.places c.args.dated before c.in_ok-offer.offer xs) (sym (map-id name_same (λ x. refl) c.offer_signals.new.conflicts)) m.0),
-        subst (λ (w : CollectorView SignalEntry). RepresentsArrivals signals (entries_of c.channels-channels.result.now) w (c.args.dated ∷ before)) (sym (window-id c.offer_signals.new.self)) m.1,
-      )) in
+    let m = c.in_ok-offer.ensures.answer before (subst (λ (w : CollectorView SignalEntry). RepresentsArrivals signals (entries_of c.channels-channels.result.now) w before) (window-id c.self.inside.collector) rep) in (
+      subst (λ (o : Outcome SignalEntry AnySatelliteCode). IsRightAnswer signals (entries_of c.channels-channels.result.now) c.self.inside.collector.places c.args.dated before o (map name_same c.offer_signals.new.conflicts)) (sym (outcome-id c.in_ok-offer.offer))
+          (subst (λ (xs : List AnySatelliteCode). IsRightAnswer signals (entries_of c.channels-channels.result.now) c.self.inside.collector.places c.args.dated before c.in_ok-offer.offer xs) (sym (map-id name_same (λ x. refl) c.offer_signals.new.conflicts)) m.0),
+      subst (λ (w : CollectorView SignalEntry). RepresentsArrivals signals (entries_of c.channels-channels.result.now) w (c.args.dated ∷ before)) (sym (window-id c.offer_signals.new.self)) m.1,
+    )) in
     rw (p.1, p.2) (hands-on _ (outcome_of same c.in_ok-offer.offer) (map name_same c.offer_signals.new.conflicts) c.self.view_is c.requires.taken c.offer_signals.ensures.places (omega (arith, c.offer_signals.ensures.bound, length-map c.offer_signals.new.self.sets (set_of same))) meets refl tt)
 
 pub returns-in_err-lines-clause-failed : goal.returns-in_err-lines-clause-failed
