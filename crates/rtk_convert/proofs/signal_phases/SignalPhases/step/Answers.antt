@@ -1,5 +1,4 @@
-use Rattle.std.proofs.Common.{◌≡◌, ◌∙◌, ◌+◌, ◌-◌, ◌%◌, ℕ, List, Option, sym, ap, subst}
-use Rattle.rtk_obs.specs.declared.any_code.AnyCode.{AnyCode}
+use Rattle.std.proofs.Common.{◌∙◌, ◌+◌, ◌-◌, ◌%◌, List, Option, sym, ap, subst}
 use Rattle.rtk_obs.specs.declared.code.Band.{Band}
 use Rattle.rtk_obs.specs.declared.track.Track.{Track}
 use Rattle.rtk_obs.specs.Rollover.{digits_since, last_after}
