@@ -54,7 +54,7 @@ one-links true given cs xs ys is also = is ∙ sym also
 one-links false given cs xs ys is also =
     is.2 ∙ ap (λ (ps : List (Option Placed)). links_found cs ps) (one-placed given cs is.0 also.0 is.1 also.1) ∙ sym also.2
 
-setup_with : ℕ → ℕ → List ℕ → List Code → ℕ → ℕ → MsmKind → SetupView
+abbrev setup_with : ℕ → ℕ → List ℕ → List Code → ℕ → ℕ → MsmKind → SetupView
 setup_with station near marker listed made window msm = record { station = station; near = near; head = record { marker = marker; listed = listed; made = made }; window = window; msm = msm }
 
 one-setup : (ss : List CaptureSurvey) (links : List (List ℕ)) (w : Wanted) (made : ℕ) (s t : SetupView) → IsSetupFor ss links w made s → IsSetupFor ss links w made t → s ≡ t

@@ -335,6 +335,9 @@ left-out-told names ss plan known late by_stray place lasts some =
     let line = line-of (skipped_line names plan.captures.items) plan.skipped.items place some in
     let first = before-and-after [] skipped epochs (skipped_line names plan.captures.items place) line in
     let last = before-and-after [] (skipped ++ epochs) rest (skipped_line names plan.captures.items place) first in
-    let whole = before-and-after (known.first.items ++ late_count_line late by_stray known.window) ((skipped ++ epochs) ++ rest) [] (skipped_line names plan.captures.items place) last in
-    (whole.0, whole.1, ap (λ (t : List ℕ). (known.first.items ++ late_count_line late by_stray known.window) ++ t) lasts
-    ∙ sym (append-nil ((known.first.items ++ late_count_line late by_stray known.window) ++ ((skipped ++ epochs) ++ rest))) ∙ whole.2)
+    let whole = before-and-after (known.first.items ++ late_count_line late by_stray known.window) ((skipped ++ epochs) ++ rest) [] (skipped_line names plan.captures.items place) last in (
+      whole.0,
+      whole.1,
+      ap (λ (t : List ℕ). (known.first.items ++ late_count_line late by_stray known.window) ++ t) lasts
+          ∙ sym (append-nil ((known.first.items ++ late_count_line late by_stray known.window) ++ ((skipped ++ epochs) ++ rest))) ∙ whole.2,
+    )

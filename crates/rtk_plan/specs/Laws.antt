@@ -15,11 +15,11 @@ use Rattle.rtk_plan.specs.declared.wanted.Wanted.{Wanted}
 -- ---- one plan
 
 -- the parts of a plan: its setup, its links, the captures that are left out, and those with a stray epoch
-pub record IsPlanOf (ss : List CaptureSurvey) (w : Wanted) (made : ℕ) (as_given : Bool) (s : SetupView) (links : List (List ℕ)) (skipped strays : List ℕ) : Type 0 where
-  pub setup : IsSetupFor ss links w made s
-  pub links : AreLinksOf as_given w.near (captures_of ss s.station) links
-  pub skipped : skipped ≡ empty_captures (captures_of ss s.station)
-  pub strays : AreStrays w.near (captures_of ss s.station) strays
+pub record IsPlanOf (ss : List CaptureSurvey) (w : Wanted) (made : ℕ) (as_given : Bool) (s : SetupView) (chosen : List (List ℕ)) (left strayed : List ℕ) : Type 0 where
+  pub setup : IsSetupFor ss chosen w made s
+  pub links : AreLinksOf as_given w.near (captures_of ss s.station) chosen
+  pub skipped : left ≡ empty_captures (captures_of ss s.station)
+  pub strays : AreStrays w.near (captures_of ss s.station) strayed
 
 -- the surveys of captures and the words decide it
 abbrev pub OnePlan : Type 0

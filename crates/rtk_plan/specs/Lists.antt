@@ -233,7 +233,7 @@ abbrev pub held_line : List CaptureSurvey → ℕ → List ℕ
 held_line ss n = count_line_of (system_words n) n (held_in_captures ss n)
 
 -- those of all numbers (DF002)
-abbrev pub held_lines : List CaptureSurvey → List ℕ
+unfoldable pub held_lines : List CaptureSurvey → List ℕ
 held_lines ss = flat_map (held_line ss) (range_with_len 0 4096)
 
 -- formula

@@ -20,7 +20,7 @@ listed_captures names ss = lines_by (λ at s. capture_line (codes " ") (name_at 
 abbrev pub listed_station : List (Bor (List ℕ)) → List CaptureSurvey → ℕ → List ℕ
 listed_station names ss station = lines_by (λ at s. station_line s station (name_at names at)) 0 ss
 
-abbrev pub listed_stations : List (Bor (List ℕ)) → List CaptureSurvey → List ℕ
+unfoldable pub listed_stations : List (Bor (List ℕ)) → List CaptureSurvey → List ℕ
 listed_stations names ss = flat_map (listed_station names ss) (range_with_len 0 4096)
 
 -- the dates that are to come

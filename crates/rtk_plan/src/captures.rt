@@ -40,11 +40,7 @@ pub(crate) fn list_held(alloc: Global, surveys: &[CaptureSurvey]) -> Result<Vec<
     Ok(lines)
 }
 
-fn put_to_come_if(
-    lines: &mut Vec<u8>,
-    date: Option<UtcDate>,
-    name: &str,
-) -> Result<(), AllocError>
+fn put_to_come_if(lines: &mut Vec<u8>, date: Option<UtcDate>, name: &str) -> Result<(), AllocError>
     ensures { OnOk result (lines.new.items ≡ lines.old.items ++ spec.to_come_line_if date name.now) }
 {
     match date {
@@ -54,11 +50,7 @@ fn put_to_come_if(
 }
 
 // Appends the line of a capture, if it has nothing of the station.
-fn put_empty_if(
-    lines: &mut Vec<u8>,
-    capture: &StationCapture,
-    name: &str,
-) -> Result<(), AllocError>
+fn put_empty_if(lines: &mut Vec<u8>, capture: &StationCapture, name: &str) -> Result<(), AllocError>
     ensures { OnOk result (lines.new.items ≡ lines.old.items ++ spec.empty_line_if capture.now name.now) }
 {
     if capture.is_heard {
@@ -195,7 +187,11 @@ impl StationCaptures<'_, '_, '_> {
     {
         let mut lines = Vec::new(alloc);
         for (place, survey) in self.all.surveys.iter().enumerate() {
-            put_differing(&mut lines, told_in(self.station, survey), self.all.name(place))?;
+            put_differing(
+                &mut lines,
+                told_in(self.station, survey),
+                self.all.name(place),
+            )?;
         }
         Ok(lines)
     }

@@ -92,7 +92,8 @@ fn put_late(lines: &mut Vec<u8>, late: u64, by_stray: u64, window: usize) -> Res
     )?;
     lines.extend_from_slice(b" epochs, are left out")?;
     put_late_by_stray(lines, by_stray)?;
-    lines.extend_from_slice(b"\n")
+    lines.extend_from_slice(b"\n")?;
+    Ok(())
 }
 
 /// What a person should know of a conversion, but for late messages, which are known only once it is

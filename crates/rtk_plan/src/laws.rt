@@ -10,13 +10,11 @@ pub fn captures_are_taken_or_told()
     ensures taken { EachIsTakenOnce }
     ensures left_out { EachIsLeftOutOnce }
     ensures told { LeftOutIsTold }
-{
-}
+{}
 
 /// The surveys of captures and the words decide the plan: its setup, its links, the captures that are left out and
 /// those with a stray epoch. The moment near which it dates is a whole second.
 pub fn surveys_decide_plan()
     ensures one { OnePlan }
     ensures whole { NearIsWholeSecond }
-{
-}
+{}

@@ -223,7 +223,8 @@ pub fn put_parting(lines: &mut Vec<u8>, name: &str, byte: u64) -> Result<(), All
     put_named(lines, b": the second date begins at byte ", byte)?;
     lines.extend_from_slice(b"; these commands part it there:\n")?;
     put_part_command(lines, b"head -c ", byte, name, b".1\n")?;
-    put_part_command(lines, b"tail -c +", byte.saturating_add(1), name, b".2\n")
+    put_part_command(lines, b"tail -c +", byte.saturating_add(1), name, b".2\n")?;
+    Ok(())
 }
 
 /// Appends the line of a first epoch that a capture tells, if it can be written.

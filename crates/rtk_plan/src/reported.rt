@@ -36,10 +36,10 @@ fn link_and_rest(line: &[u8]) -> Option<(usize, &[u8])> {
     if !is_digit(*ones) {
         return None;
     }
-    let number = usize::from(*ones - b'0');
+    let number = usize::from(ones.saturating_sub(b'0'));
     match rest {
         [more, rest @ ..] if is_digit(*more) => {
-            Some((10 * number + usize::from(*more - b'0'), rest))
+            Some((10 * number + usize::from(more.saturating_sub(b'0')), rest))
         }
         _ => Some((number, rest)),
     }

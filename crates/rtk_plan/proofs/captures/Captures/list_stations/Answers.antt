@@ -2,7 +2,7 @@ use Rattle.std.proofs.Common.{◌≡◌, ◌++◌, ℕ, List, [], ap, ◌∙◌,
 use Rattle.std.specs.Prelude.{flat_map}
 use Rattle.std.specs.List.{range_with_len}
 use Rattle.rtk_survey.proofs.PublicLaws.{put-more}
-use Rattle.rtk_plan.specs.RefusalLists.{listed_station}
+use Rattle.rtk_plan.specs.RefusalLists.{listed_station, listed_stations}
 use Rattle.rtk_plan.proofs.captures.Captures.list_stations.Goals as goal
 
 pub loop-station-preserved : goal.loop-station-preserved
@@ -12,6 +12,7 @@ loop-station-preserved c =
     (omega arith) c.loop-station.invariant c.in_ok-put_station_lines.ensures
 
 pub returns : goal.returns
+unfolding listed_stations
 returns c =
     let end : c.loop-station.station ≡ 4096 = omega (arith, c.loop-station.auto.station-end, c.loop-station-test.false) in
     c.loop-station.invariant
