@@ -21,9 +21,8 @@ use crate::words::AutoWords;
 use rtk_convert::{Counts, Setup, Station};
 use rtk_label::Label;
 use rtk_plan::{
-    Captures, Known, Plan, PlanFault, Refusal, Reported, Ways, WrittenFile,
-    equipment_in_captures, label_wanted, plan_of, put_counts, put_file, put_known,
-    put_label_command, what_is_known,
+    Captures, Known, Plan, PlanFault, Refusal, Reported, Ways, WrittenFile, equipment_in_captures,
+    label_wanted, plan_of, put_counts, put_file, put_known, put_label_command, what_is_known,
 };
 use rtk_rinex::CreationTime;
 use rtk_streams::{

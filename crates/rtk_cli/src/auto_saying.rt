@@ -11,10 +11,7 @@ use rtk_plan::put_command;
 use std::alloc::{AllocError, Global};
 
 // The names of captures.
-fn names_of<'a>(
-    alloc: Global,
-    captures: &[CaptureRead<'a>],
-) -> Result<Vec<&'a str>, AllocError>
+fn names_of<'a>(alloc: Global, captures: &[CaptureRead<'a>]) -> Result<Vec<&'a str>, AllocError>
     ensures { IfOk result (λ names. names.items ≡ names_of captures.now) }
 {
     let mut names = Vec::new(alloc);

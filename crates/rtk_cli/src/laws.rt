@@ -7,5 +7,4 @@ ghost use Rattle.rtk_cli.specs.CaptureOrder.{OrderMakesNoDifference};
 /// Captures that are given to `auto` in another order are taken in the same order.
 pub fn order_makes_no_difference()
     ensures { OrderMakesNoDifference }
-{
-}
+{}
