@@ -4,6 +4,7 @@ use Rattle.rtk_compare.proofs.labels.compare_parts.Goals as goal
 pub returns : goal.returns
 returns c =
     rw (← c.old.view_is) (rw (← c.new.view_is)
-    (adds-more c.compare_field.ensures (adds-more c.compare_field-2.ensures (adds-more c.compare_field-3.ensures (adds-more c.compare_field-4.ensures
-    (adds-more c.compare_field-5.ensures (adds-more c.compare_field-6.ensures (adds-more c.compare_field-7.ensures (adds-more c.compare_field-8.ensures
-    (adds-more c.compare_field-9.ensures (adds-more c.compare_field-10.ensures (adds-more c.compare_field-11.ensures c.compare_field-12.ensures))))))))))))
+    (adds-more (adds-more (adds-more (adds-more (adds-more (adds-more (adds-more (adds-more (adds-more (adds-more (adds-more
+    c.compare_field.ensures c.compare_field-2.ensures) c.compare_field-3.ensures) c.compare_field-4.ensures) c.compare_field-5.ensures)
+    c.compare_field-6.ensures) c.compare_field-7.ensures) c.compare_field-8.ensures) c.compare_field-9.ensures) c.compare_field-10.ensures)
+    c.compare_field-11.ensures) c.compare_field-12.ensures))
