@@ -1,6 +1,6 @@
 //! The labels of two files.
 
-ghost use Rattle.std.specs.Prelude.{nat_lt, length};
+ghost use Rattle.std.specs.Prelude.{◌≡◌, nat_lt, length};
 ghost use Rattle.rtk_compare.specs.Differences.{Adds};
 ghost use Rattle.rtk_compare.specs.Labels.{field_lines, label_lines};
 

@@ -9,8 +9,8 @@ use Rattle.rtk_compare.specs.Steps.Tracks.{AreTracksAt}
 use Rattle.rtk_compare.proofs.RowsLemmas.{rows-same, notes-as, no-satellite}
 use Rattle.rtk_compare.proofs.rows.compare_side.Goals as goal
 
-pub prove-unreachable-requires : goal.prove-unreachable-requires
-prove-unreachable-requires c = no-satellite c.args.old.now.satellite c.args.new.now.satellite c.args.side c.requires.side (sym c.in_default.is ∙ c.next_satellite.ensures)
+pub unreachable-requires : goal.unreachable-requires
+unreachable-requires c = no-satellite c.args.old.now.satellite c.args.new.now.satellite c.args.side c.requires.side (sym c.in_default.is ∙ c.next_satellite.ensures)
 
 pub returns-clause-lines : goal.returns-clause-lines
 returns-clause-lines c = λ codes earlier shared tracks.

@@ -1,4 +1,4 @@
-use Rattle.std.proofs.Common.{◌≡◌, to_z, of_z, w64, arith}
+use Rattle.std.proofs.Common.{◌≡◌, ◌∙◌, to_z, of_z, w64, arith}
 use Rattle.std.proofs.lemmas.Int.{ints}
 
 use Rattle.rtk_compare.specs.Steps.Tracks.{pair}
