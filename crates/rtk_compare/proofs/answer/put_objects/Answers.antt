@@ -2,7 +2,7 @@ use Rattle.std.proofs.Common.{◌≡◌, ◌+◌, ◌++◌, ◌||◌, true, Bool
 use Rattle.std.proofs.lemmas.Bool.{lt-ltb, or_right}
 use Rattle.std.proofs.lemmas.List.{take_all}
 use Rattle.rtk_compare.specs.declared.difference.Difference.{Difference}
-use Rattle.rtk_compare.specs.Answer.{objects_text}
+use Rattle.rtk_compare.specs.Answer.{object_text, objects_text}
 use Rattle.rtk_compare.proofs.TextLemmas.{objects-more}
 use Rattle.rtk_compare.proofs.answer.put_objects.Goals as goal
 
@@ -12,7 +12,8 @@ loop-difference-preserved c =
     let k : ℕ = l.difference-index in
     record {
       are = sym (or_right c.args.are_others (ltb 0 (k + 1)) (lt-ltb 0 (k + 1) (omega arith)));
-      text = objects-more c.args.are_others l.are c.args.differences.now k _ c.args.text.now.items l.text.items c.put_object.new.text.items c.loop-difference-test.true l.invariant.are l.invariant.text c.in_ok-put_object.ensures;
+      text = objects-more c.args.are_others l.are c.args.differences.now k c.difference-item.result c.args.text.now.items l.text.items c.put_object.new.text.items c.loop-difference-test.true l.invariant.are l.invariant.text
+          (c.in_ok-put_object.ensures ∙ ap (λ (d : Difference). l.text.items ++ object_text l.are d) c.difference-item.is);
     }
 
 pub returns-clause-text : goal.returns-clause-text
