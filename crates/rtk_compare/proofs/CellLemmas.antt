@@ -1,5 +1,5 @@
 -- The differences of a cell.
-use Rattle.std.proofs.Common.{◌≡◌, ℕ, Bool, true, false, not, ◌&&◌, Option, Some, None, List, [], ◌∷◌, ℤ, refl, sym, ap, ◌∙◌}
+use Rattle.std.proofs.Common.{◌≡◌, ℕ, Bool, true, false, not, ◌&&◌, Option, Some, None, List, ◌∷◌, ℤ, refl, sym, ap, ◌∙◌}
 use Rattle.rtk_rinex.specs.declared.epoch_table.Observed.{Observed}
 use Rattle.rtk_compare.specs.declared.difference.Place.{Place}
 use Rattle.rtk_compare.specs.declared.distances.Distances.{Distances}

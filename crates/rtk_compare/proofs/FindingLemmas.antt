@@ -1,10 +1,9 @@
 -- What was found, and more differences.
 use Rattle.std.proofs.Common.{◌≡◌, ◌+◌, ℕ, zero, suc, Bool, true, false, not, ◌||◌, cond, ltb, List, [], ◌∷◌, ◌++◌, length, take, length-append, append_assoc, append-nil, refl, sym, ap, subst, ◌∙◌, arith}
 use Rattle.std.specs.Prelude.{min, flat_map}
-use Rattle.std.specs.List.{filter, range_with_len}
 use Rattle.std.proofs.lemmas.Bool.{lt-ltb, or_left, or_right}
 use Rattle.std.proofs.lemmas.List.Elements.{filter-append}
-use Rattle.std.proofs.lemmas.List.{flat_map_more, take_more}
+use Rattle.std.proofs.lemmas.List.{flat_map_more}
 use Rattle.rtk_tracking.specs.Epochs.{capped}
 use Rattle.rtk_compare.specs.declared.difference.Class.{Class}
 use Rattle.rtk_compare.specs.declared.difference.Class.TheVariants.{Lost, Changed, Explained}
@@ -61,25 +60,31 @@ class-apart : (c : Class) (d : Difference) (e : Class) → d.class ≡ e → is_
 class-apart c d e is other = ap (is_class c) is ∙ other
 
 pub adds-lost : (f : Findings) (found : Found) (d : Difference) → d.class ≡ Lost → Keeps f.lost found d → Adds f (record { lost = found; changed = f.changed; explained = f.explained }) (d ∷ [])
-adds-lost f found d is keeps = record { adds = λ ds has. record {
-  lost = keeps Lost ds (sym is) has.lost;
-  changed = found-other Changed f.changed ds d (class-apart Changed d Lost is refl) has.changed;
-  explained = found-other Explained f.explained ds d (class-apart Explained d Lost is refl) has.explained;
-} }
+adds-lost f found d is keeps = record {
+  adds = λ ds has. record {
+    lost = keeps Lost ds (sym is) has.lost;
+    changed = found-other Changed f.changed ds d (class-apart Changed d Lost is refl) has.changed;
+    explained = found-other Explained f.explained ds d (class-apart Explained d Lost is refl) has.explained;
+  };
+}
 
 pub adds-changed : (f : Findings) (found : Found) (d : Difference) → d.class ≡ Changed → Keeps f.changed found d → Adds f (record { lost = f.lost; changed = found; explained = f.explained }) (d ∷ [])
-adds-changed f found d is keeps = record { adds = λ ds has. record {
-  lost = found-other Lost f.lost ds d (class-apart Lost d Changed is refl) has.lost;
-  changed = keeps Changed ds (sym is) has.changed;
-  explained = found-other Explained f.explained ds d (class-apart Explained d Changed is refl) has.explained;
-} }
+adds-changed f found d is keeps = record {
+  adds = λ ds has. record {
+    lost = found-other Lost f.lost ds d (class-apart Lost d Changed is refl) has.lost;
+    changed = keeps Changed ds (sym is) has.changed;
+    explained = found-other Explained f.explained ds d (class-apart Explained d Changed is refl) has.explained;
+  };
+}
 
 pub adds-explained : (f : Findings) (found : Found) (d : Difference) → d.class ≡ Explained → Keeps f.explained found d → Adds f (record { lost = f.lost; changed = f.changed; explained = found }) (d ∷ [])
-adds-explained f found d is keeps = record { adds = λ ds has. record {
-  lost = found-other Lost f.lost ds d (class-apart Lost d Explained is refl) has.lost;
-  changed = found-other Changed f.changed ds d (class-apart Changed d Explained is refl) has.changed;
-  explained = keeps Explained ds (sym is) has.explained;
-} }
+adds-explained f found d is keeps = record {
+  adds = λ ds has. record {
+    lost = found-other Lost f.lost ds d (class-apart Lost d Explained is refl) has.lost;
+    changed = found-other Changed f.changed ds d (class-apart Changed d Explained is refl) has.changed;
+    explained = keeps Explained ds (sym is) has.explained;
+  };
+}
 
 pub push-lost : (f : Findings) (found : Found) (c : Class) (w : What) (p : Place) → c ≡ Lost → Keeps f.lost found (record { class = c; what = w; place = p }) → Adds f (record { lost = found; changed = f.changed; explained = f.explained }) (told_if true c w p)
 push-lost f found c w p is keeps = adds-lost f found (record { class = c; what = w; place = p }) is keeps

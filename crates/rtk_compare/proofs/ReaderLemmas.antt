@@ -1,18 +1,18 @@
 -- The rows of a record and the records of a file, read one after another.
-use Rattle.std.proofs.Common.{◌≡◌, ◌<◌, ◌≤◌, ◌+◌, ℕ, suc, Bool, true, false, cond, Option, Some, None, List, [], ◌∷◌, ◌++◌, length, get_or, refl, sym, ap, subst, ◌∙◌, arith}
+use Rattle.std.proofs.Common.{◌≡◌, ◌<◌, ◌≤◌, ◌+◌, ℕ, suc, Bool, cond, Option, Some, None, List, [], ◌∷◌, ◌++◌, length, get_or, refl, sym, ap, subst, ◌∙◌, arith}
 use Rattle.std.specs.Prelude.{All, MatchOption}
 use Rattle.std.proofs.lemmas.List.Elements.{All-nil, All-head}
 use Rattle.rtk_obs.specs.SatelliteIndex.{IsSatelliteIndex}
 use Rattle.rtk_rinex.specs.Record.{EpochTableView}
 use Rattle.rtk_rinex.specs.MixedTable.{IsMixedEpoch}
-use Rattle.rtk_rinex.specs.MixedRecords.{MixedRowsView, MixedRecordsView, AreRowsLeft, AreMixedLeft, IsNextRowOf, IsNextRecordOf, ReadsRow}
+use Rattle.rtk_rinex.specs.MixedRecords.{MixedRowsView, MixedRecordsView, AreMixedLeft, IsNextRowOf, IsNextRecordOf, ReadsRow}
 use Rattle.rtk_rinex.specs.declared.epoch_table.Observed.{Observed}
 use Rattle.rtk_rinex.specs.declared.epoch_table.SatelliteRow.{SatelliteRow}
 use Rattle.rtk_compare.specs.declared.record_reader.RecordReader.{RecordReader}
 use Rattle.rtk_compare.specs.declared.row_reader.RowReader.{RowReader}
 use Rattle.rtk_compare.specs.declared.side.Side.{Side}
 use Rattle.rtk_compare.specs.declared.side.Side.TheVariants.{Old, New, Both}
-use Rattle.rtk_compare.specs.Steps.Readers.{AreRowsOf, GivesNextRow, IsAtRows, some_count, count_of, rows_left, time_of, IsRecordIn, IsAtEpochs, records_left}
+use Rattle.rtk_compare.specs.Steps.Readers.{AreRowsOf, GivesNextRow, IsAtRows, some_count, rows_left, time_of, IsRecordIn, IsAtEpochs, records_left}
 use Rattle.rtk_compare.specs.Steps.Records.{IsSideOf}
 use Rattle.rtk_compare.specs.Steps.Rows.{Rise}
 use Rattle.rtk_compare.specs.Steps.Sides.{IsNextSide, has_old, has_new}

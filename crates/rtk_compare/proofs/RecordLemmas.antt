@@ -1,6 +1,6 @@
 -- The records of two files, compared one after another.
 use Rattle.std.proofs.Common.{◌≡◌, ◌≢◌, ◌<◌, ◌++◌, ℕ, Bool, true, false, cond, eqb, Option, Some, None, List, [], ◌∷◌, length, refl, sym, ap, subst, ◌∙◌, arith, append_assoc, append-nil}
-use Rattle.std.specs.Prelude.{flat_map, All, AllPairs}
+use Rattle.std.specs.Prelude.{flat_map}
 use Rattle.std.proofs.lemmas.Bool.{ne_eqb}
 use Rattle.rtk_rinex.specs.Record.{EpochTableView}
 use Rattle.rtk_rinex.specs.MixedRecords.{MixedRowsView, AreMixedLeft}
@@ -16,7 +16,6 @@ use Rattle.rtk_compare.specs.declared.side.Side.TheVariants.{Old, New, Both}
 use Rattle.rtk_compare.specs.declared.track.Track.{Track}
 use Rattle.rtk_compare.specs.Places.{at_epoch}
 use Rattle.rtk_compare.specs.Pairs.{Pair, side_by_side, by_time, old_alone, new_alone, rows_beside}
-use Rattle.rtk_compare.specs.Cells.{told_if}
 use Rattle.rtk_compare.specs.Records.{row_lines, epoch_lines, lines_after, record_lines}
 use Rattle.rtk_compare.specs.Differences.{Adds}
 use Rattle.rtk_compare.specs.Steps.Readers.{AreRowsOf, IsAtEpochs, time_of}

@@ -1,12 +1,11 @@
 -- Rows side by side, and what is remembered of satellites and codes.
-use Rattle.std.proofs.Common.{◌≡◌, ◌≢◌, ◌<◌, ◌≤◌, ◌+◌, ◌*◌, ℕ, zero, suc, Bool, true, false, not, ◌&&◌, ◌||◌, cond, eqb, ltb, Option, Some, None, List, [], ◌∷◌, ◌++◌, map, length, get_or, set, replicate, ℤ, pos, negsuc, inl, inr, refl, sym, ap, subst, ◌∙◌, arith, append_assoc, append-nil}
-use Rattle.std.specs.Prelude.{AllPairs, All, IfSome, ◌⊎◌, flat_map}
+use Rattle.std.proofs.Common.{◌≡◌, ◌≢◌, ◌<◌, ◌≤◌, ◌+◌, ◌*◌, ℕ, zero, suc, Bool, true, false, not, ◌&&◌, ◌||◌, cond, eqb, ltb, Option, Some, None, List, [], ◌∷◌, ◌++◌, length, get_or, set, replicate, ℤ, pos, inl, inr, refl, sym, ap, subst, ◌∙◌, arith}
+use Rattle.std.specs.Prelude.{◌⊎◌, flat_map}
 use Rattle.std.proofs.lemmas.Bool.{cases_Bool, lt-ltb, le-ltb, ltb-true, ltb-false, eqb-true, eqb-false, eq-eqb, ne_eqb}
 use Rattle.std.specs.Ordering.{int_eq}
 use Rattle.std.proofs.lemmas.Bool.Decides.{Decides-int_eq}
 use Rattle.std.proofs.lemmas.List.{get_or-set_same, get_or-set_other}
 use Rattle.rtk_obs.specs.SatelliteIndex.{IsSatelliteIndex}
-use Rattle.rtk_rinex.specs.Record.{no_observation}
 use Rattle.rtk_rinex.specs.declared.epoch_table.Observed.{Observed}
 use Rattle.rtk_rinex.specs.declared.epoch_table.SatelliteRow.{SatelliteRow}
 use Rattle.rtk_tracking.specs.Epochs.{shown_at}
@@ -18,7 +17,7 @@ use Rattle.rtk_compare.specs.declared.findings.Findings.{Findings}
 use Rattle.rtk_compare.specs.declared.shared_codes.SharedCode.{SharedCode}
 use Rattle.rtk_compare.specs.declared.track.Track.{Track}
 use Rattle.rtk_compare.specs.Places.{at_satellite, at_signal}
-use Rattle.rtk_compare.specs.Pairs.{Pair, Order, old_alone, new_alone, beside, side_by_side, by_satellite}
+use Rattle.rtk_compare.specs.Pairs.{Pair, Order, old_alone, new_alone, beside, side_by_side}
 use Rattle.rtk_compare.specs.Phases.{rolls_kept, rolls_held}
 use Rattle.rtk_compare.specs.Cells.{told_if, cell_lines}
 use Rattle.rtk_compare.specs.Records.{cells_of, rows_of, cells_before}
@@ -148,10 +147,10 @@ tracks-next old new codes earlier done p n few lt up_to are notes = λ s good k 
           let is : p.old.satellite ≡ s = eqb-true _ _ same in
           subst (λ (m : ℕ). (k < length (codes m)) → IsSatelliteIndex m → IsTrackOf (track_at new m k) (cells_before m (get_or (codes m) k code) ((done ++ p ∷ []) ∷ earlier))) is
           (λ low index.
-              let c = get_or (codes p.old.satellite) k code in
-              let es = cells_before p.old.satellite c earlier in
-              subst (λ (q : Pair SatelliteRow). IsTrackOf (track_at new p.old.satellite k) (cells_of c q ∷ es)) (sym (rows_of-next n done p lt up_to))
-              (notes.own k code es low (tracks-before old codes earlier done n p.old.satellite index lt up_to are k code low)))
+          let c = get_or (codes p.old.satellite) k code in
+          let es = cells_before p.old.satellite c earlier in
+          subst (λ (q : Pair SatelliteRow). IsTrackOf (track_at new p.old.satellite k) (cells_of c q ∷ es)) (sym (rows_of-next n done p lt up_to))
+          (notes.own k code es low (tracks-before old codes earlier done n p.old.satellite index lt up_to are k code low)))
           within good
       | inr unlike ↦
           let other : p.old.satellite ≢ s = eqb-false _ _ unlike in

@@ -4,7 +4,7 @@ use Rattle.std.specs.Prelude.{◌-ℤ◌, unsigned_abs, int_lt}
 use Rattle.rtk_rinex.specs.declared.epoch_table.Observed.{Observed}
 use Rattle.rtk_compare.specs.declared.track.Track.{Track}
 use Rattle.rtk_compare.specs.Pairs.{Pair}
-use Rattle.rtk_compare.specs.Phases.{has_phase, has_slip, fills_gap, nearest_rolls, rolls_from, rolls_of, rolls_or_none, rolls_kept, begins_anew, rolls_held}
+use Rattle.rtk_compare.specs.Phases.{has_phase, has_slip, nearest_rolls, rolls_from, rolls_of, rolls_or_none, rolls_kept, begins_anew, rolls_held}
 use Rattle.rtk_compare.specs.Steps.Tracks.{IsTrackOf}
 
 -- a number that is another one, of which this is known

@@ -1,5 +1,5 @@
 -- The differences of the headers of two files. All of it is this project's rule.
-use Rattle.std.specs.Prelude.{ℕ, nat_lt, ◌==◌, Bool, true, false, not, ◌&&◌, List, [], ◌∷◌, ◌++◌, length, flat_map, bytes_eq, ℤ, pos, Option, None, Some}
+use Rattle.std.specs.Prelude.{ℕ, nat_lt, ◌==◌, Bool, false, not, ◌&&◌, List, [], ◌++◌, flat_map, bytes_eq, ℤ, pos, Option, None, Some}
 use Rattle.std.specs.List.{list_any, range_with_len}
 use Rattle.std.specs.Ordering.{int_eq}
 use Rattle.rtk_obs.specs.declared.any_code.AnyCode.{AnyCode}

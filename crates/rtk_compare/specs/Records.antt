@@ -1,7 +1,6 @@
 -- The differences of the records of two files. What is gone with something greater is not told again: values
 -- with their satellite, and satellites with their epoch.
 use Rattle.std.specs.Prelude.{ℕ, ◌==◌, if◌then◌else◌, List, [], ◌∷◌, ◌++◌, length, map, flat_map}
-use Rattle.rtk_obs.specs.declared.any_code.AnyCode.{AnyCode}
 use Rattle.rtk_rinex.specs.declared.epoch_table.Observed.{Observed}
 use Rattle.rtk_rinex.specs.declared.epoch_table.SatelliteRow.{SatelliteRow}
 use Rattle.rtk_rinex.specs.Record.{EpochTableView}
@@ -11,7 +10,7 @@ use Rattle.rtk_compare.specs.declared.difference.What.TheVariants as what
 use Rattle.rtk_compare.specs.declared.difference.Difference.{Difference}
 use Rattle.rtk_compare.specs.declared.shared_codes.SharedCode.{SharedCode}
 use Rattle.rtk_compare.specs.Places.{at_epoch, at_satellite, at_signal}
-use Rattle.rtk_compare.specs.Pairs.{Pair, new_alone, by_time, by_satellite, side_by_side, rows_beside}
+use Rattle.rtk_compare.specs.Pairs.{Pair, by_time, by_satellite, side_by_side, rows_beside}
 use Rattle.rtk_compare.specs.Cells.{cell_lines}
 
 -- what the rows of a satellite show of a code

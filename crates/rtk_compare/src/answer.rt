@@ -120,7 +120,11 @@ fn put_time(text: &mut Vec<u8>, form: Form, time: GpsMs) -> Result<(), AllocErro
 }
 
 // Appends a satellite.
-fn put_satellite(text: &mut Vec<u8>, form: Form, satellite: SatelliteIndex) -> Result<(), AllocError>
+fn put_satellite(
+    text: &mut Vec<u8>,
+    form: Form,
+    satellite: SatelliteIndex,
+) -> Result<(), AllocError>
     ensures { OnOk result (text.new.items ≡ text.old.items ++ satellite_text form satellite) }
 {
     put_word(text, form, b",\"satellite\":", &satellite_name(satellite))
@@ -209,7 +213,13 @@ fn put_difference(text: &mut Vec<u8>, form: Form, difference: &Difference) -> Re
 }
 
 // Appends a count.
-fn put_count(text: &mut Vec<u8>, form: Form, line: &[u8], json: &[u8], count: u64) -> Result<(), AllocError>
+fn put_count(
+    text: &mut Vec<u8>,
+    form: Form,
+    line: &[u8],
+    json: &[u8],
+    count: u64,
+) -> Result<(), AllocError>
     ensures { OnOk result (text.new.items ≡ text.old.items ++ count_text form line.now json.now count) }
 {
     put_either(text, form, line, json)?;
@@ -221,8 +231,20 @@ fn put_counts(text: &mut Vec<u8>, form: Form, findings: &Findings) -> Result<(),
     ensures { OnOk result (text.new.items ≡ text.old.items ++ class_counts form findings.now) }
 {
     put_count(text, form, b"lost ", b"{\"lost\":", findings.lost.count)?;
-    put_count(text, form, b" changed ", b",\"changed\":", findings.changed.count)?;
-    put_count(text, form, b" explained ", b",\"explained\":", findings.explained.count)?;
+    put_count(
+        text,
+        form,
+        b" changed ",
+        b",\"changed\":",
+        findings.changed.count,
+    )?;
+    put_count(
+        text,
+        form,
+        b" explained ",
+        b",\"explained\":",
+        findings.explained.count,
+    )?;
     Ok(())
 }
 
@@ -258,7 +280,11 @@ fn put_class_lines(text: &mut Vec<u8>, class: Class, found: &Found) -> Result<()
     ensures { OnOk result (text.new.items ≡ text.old.items ++ class_lines class found.now) }
 {
     put_lines(text, found.first.as_slice())?;
-    put_more(text, class, found.count.saturating_sub(MOST_OF_CLASS as u64))?;
+    put_more(
+        text,
+        class,
+        found.count.saturating_sub(MOST_OF_CLASS as u64),
+    )?;
     Ok(())
 }
 

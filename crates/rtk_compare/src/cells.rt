@@ -71,8 +71,18 @@ fn put_gone_slip(track: &Track, is_gone: bool, place: &Place, findings: &mut Fin
 {
     let is_later = is_gone & track.had_phase;
     findings.push_if(is_later & !track.fills_gap, Class::Lost, What::Slip, place);
-    findings.push_if(is_later & track.fills_gap, Class::Explained, What::FilledSlip, place);
-    findings.push_if(is_gone & !track.had_phase, Class::Explained, What::FirstSlip, place);
+    findings.push_if(
+        is_later & track.fills_gap,
+        Class::Explained,
+        What::FilledSlip,
+        place,
+    );
+    findings.push_if(
+        is_gone & !track.had_phase,
+        Class::Explained,
+        What::FirstSlip,
+        place,
+    );
 }
 
 // Adds a slip that is gone, or has come.

@@ -32,14 +32,44 @@ fn compare_parts(old: &LabelParts<'_>, new: &LabelParts<'_>, findings: &mut Find
     ensures { Adds findings.old findings.new (label_lines old.now new.now) }
 {
     compare_field(What::RunBy, old.run_by, new.run_by, findings);
-    compare_field(What::MarkerNumber, old.marker_number, new.marker_number, findings);
+    compare_field(
+        What::MarkerNumber,
+        old.marker_number,
+        new.marker_number,
+        findings,
+    );
     compare_field(What::Observer, old.observer, new.observer, findings);
     compare_field(What::Agency, old.agency, new.agency, findings);
-    compare_field(What::ReceiverNumber, old.receiver_number, new.receiver_number, findings);
-    compare_field(What::ReceiverType, old.receiver_type, new.receiver_type, findings);
-    compare_field(What::ReceiverVersion, old.receiver_version, new.receiver_version, findings);
-    compare_field(What::AntennaNumber, old.antenna_number, new.antenna_number, findings);
-    compare_field(What::AntennaType, old.antenna_type, new.antenna_type, findings);
+    compare_field(
+        What::ReceiverNumber,
+        old.receiver_number,
+        new.receiver_number,
+        findings,
+    );
+    compare_field(
+        What::ReceiverType,
+        old.receiver_type,
+        new.receiver_type,
+        findings,
+    );
+    compare_field(
+        What::ReceiverVersion,
+        old.receiver_version,
+        new.receiver_version,
+        findings,
+    );
+    compare_field(
+        What::AntennaNumber,
+        old.antenna_number,
+        new.antenna_number,
+        findings,
+    );
+    compare_field(
+        What::AntennaType,
+        old.antenna_type,
+        new.antenna_type,
+        findings,
+    );
     compare_field(What::DeltaHeight, old.height, new.height, findings);
     compare_field(What::DeltaEast, old.east, new.east, findings);
     compare_field(What::DeltaNorth, old.north, new.north, findings);

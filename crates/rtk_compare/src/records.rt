@@ -33,11 +33,7 @@ fn moment_of_both(old: &Option<MixedRows<'_>>, new: &Option<MixedRows<'_>>) -> O
 }
 
 // Adds an epoch that the new file has not.
-fn put_gone_epoch(
-    old: &Option<MixedRows<'_>>,
-    new: &Option<MixedRows<'_>>,
-    findings: &mut Findings,
-)
+fn put_gone_epoch(old: &Option<MixedRows<'_>>, new: &Option<MixedRows<'_>>, findings: &mut Findings)
     ensures { Adds findings.old findings.new (gone_epoch old.now new.now) }
 {
     if let (Some(old), None) = (old, new) {

@@ -1,13 +1,10 @@
-use Rattle.std.proofs.Common.{ℕ, List, ap, refl, sym, subst, ◌∙◌}
-use Rattle.rtk_obs.specs.declared.any_code.AnyCode.{AnyCode}
+use Rattle.std.proofs.Common.{ℕ, List, ap, subst, ◌∙◌}
 use Rattle.rtk_rinex.specs.Header.{PositionView, position_view}
 use Rattle.rtk_rinex.specs.MixedHead.{MixedHeadView}
 use Rattle.rtk_compare.specs.declared.shared_codes.SharedCode.{SharedCode}
-use Rattle.rtk_compare.specs.declared.track.Track.{Track}
 use Rattle.rtk_compare.specs.Codes.{shared_codes}
 use Rattle.rtk_compare.specs.Headers.{header_lines}
 use Rattle.rtk_compare.specs.Steps.SharedCodes.{HasShared}
-use Rattle.rtk_compare.specs.Steps.Tracks.{AreTracksOf}
 use Rattle.rtk_compare.proofs.FindingLemmas.{adds-as, adds-more}
 use Rattle.rtk_compare.proofs.RowLemmas.{fresh-tracks}
 use Rattle.rtk_compare.proofs.comparing.compare.Goals as goal

@@ -1,4 +1,4 @@
-use Rattle.std.proofs.Common.{Bool, ℕ, not, eqb, ap, ◌∙◌}
+use Rattle.std.proofs.Common.{ℕ, not, eqb, ap, ◌∙◌}
 use Rattle.rtk_compare.specs.declared.difference.Class.TheVariants.{Changed}
 use Rattle.rtk_compare.specs.declared.difference.What.TheVariants.{LeapSeconds}
 use Rattle.rtk_compare.proofs.FindingLemmas.{told, told-at, adds-more}

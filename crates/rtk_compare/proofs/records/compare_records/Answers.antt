@@ -1,5 +1,3 @@
-use Rattle.std.proofs.Common.{ap, ◌∙◌, arith}
-use Rattle.rtk_compare.specs.Steps.Readers.{time_of}
 use Rattle.rtk_compare.proofs.ReaderLemmas.{fewer-records}
 use Rattle.rtk_compare.proofs.RecordLemmas.{walked-begin, walked-more, walked-all, next-epochs, takes-as}
 use Rattle.rtk_compare.proofs.records.compare_records.Goals as goal

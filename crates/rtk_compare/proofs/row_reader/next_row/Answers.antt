@@ -1,6 +1,5 @@
-use Rattle.std.proofs.Common.{◌≡◌, ◌≤◌, ◌+◌, ℕ, List, Option, refl, ap, subst, arith}
+use Rattle.std.proofs.Common.{ℕ, Option, refl, ap, subst, arith}
 use Rattle.rtk_rinex.specs.MixedRecords.{MixedRowsView}
-use Rattle.rtk_rinex.specs.declared.epoch_table.SatelliteRow.{SatelliteRow}
 use Rattle.rtk_compare.specs.Steps.Readers.{AreRowsOf, count_of}
 use Rattle.rtk_compare.proofs.ReaderLemmas.{next-row, fewer-row}
 use Rattle.rtk_compare.proofs.row_reader.next_row.Goals as goal

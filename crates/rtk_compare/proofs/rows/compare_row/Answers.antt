@@ -53,8 +53,8 @@ loop-k-preserved c =
           subst (λ (ts : List Track). IsTrackOf (track_at ts s j) (cells_of (get_or codes j code) p ∷ es)) (sym after)
           (own-more start l.tracks codes p s k now within i.own
           (λ d before track.
-              subst (λ (y : SharedCode). IsTrackOf now (cells_of y p ∷ before)) (c.code_at-code.ensures d)
-              (c.compare_code.ensures.track before (own-track start l.tracks s k c.track_in-track.result before i.others was track)))
+          subst (λ (y : SharedCode). IsTrackOf now (cells_of y p ∷ before)) (c.code_at-code.ensures d)
+          (c.compare_code.ensures.track before (own-track start l.tracks s k c.track_in-track.result before i.others was track)))
           j code es low is);
       others = λ m far.
           subst (λ (ts : List Track). get_or ts m no_track ≡ get_or start m no_track) (sym after) (others-more start l.tracks s k now i.others m far);

@@ -1,4 +1,3 @@
-use Rattle.std.proofs.Common.{arith}
 use Rattle.rtk_compare.specs.Pairs.{side_by_side, by_satellite}
 use Rattle.rtk_compare.proofs.ReaderLemmas.{rows-good, fewer-rows}
 use Rattle.rtk_compare.proofs.RowsLemmas.{compared-begin, compared-more, compared-all, goes-on}

@@ -1,10 +1,8 @@
-use Rattle.std.proofs.Common.{◌≡◌, ℕ, List, Some, sym, ap, subst, ◌∙◌}
+use Rattle.std.proofs.Common.{ℕ, sym, subst, ◌∙◌}
 use Rattle.rtk_rinex.specs.declared.epoch_table.SatelliteRow.{SatelliteRow}
-use Rattle.rtk_compare.specs.declared.row_reader.RowReader.{RowReader}
-use Rattle.rtk_compare.specs.declared.side.Side.{Side}
 use Rattle.rtk_compare.specs.Pairs.{Pair}
 use Rattle.rtk_compare.specs.Differences.{Adds}
-use Rattle.rtk_compare.specs.Steps.Rows.{lines_told, next_rows, next_view}
+use Rattle.rtk_compare.specs.Steps.Rows.{lines_told, next_rows}
 use Rattle.rtk_compare.specs.Steps.Tracks.{AreTracksAt}
 use Rattle.rtk_compare.proofs.RowsLemmas.{rows-same, notes-as, no-satellite}
 use Rattle.rtk_compare.proofs.rows.compare_side.Goals as goal

@@ -1,5 +1,3 @@
-use Rattle.std.proofs.Common.{refl}
-use Rattle.rtk_compare.specs.declared.difference.Class.TheVariants.{Lost, Changed, Explained}
 use Rattle.rtk_compare.proofs.FindingLemmas.{push-lost, push-changed, push-explained}
 use Rattle.rtk_compare.proofs.findings.Findings.push.Goals as goal
 

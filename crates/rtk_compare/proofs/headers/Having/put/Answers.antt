@@ -1,4 +1,3 @@
-use Rattle.std.proofs.Common.{refl}
 use Rattle.rtk_compare.specs.declared.difference.Class.TheVariants.{Lost, Changed}
 use Rattle.rtk_compare.proofs.FindingLemmas.{told-at, adds-more}
 use Rattle.rtk_compare.proofs.headers.Having.put.Goals as goal

@@ -1,4 +1,4 @@
-use Rattle.std.proofs.Common.{◌≡◌, ◌≤◌, ◌+◌, Option, length, ap, arith}
+use Rattle.std.proofs.Common.{◌≡◌, Option, ap, arith}
 use Rattle.rtk_rinex.specs.MixedRecords.{MixedRowsView}
 use Rattle.rtk_compare.specs.Steps.Readers.{some_count}
 use Rattle.rtk_compare.proofs.ReaderLemmas.{at-epochs, fewer-record, less-text}

@@ -1,6 +1,5 @@
 use Rattle.std.proofs.Common.{◌≡◌, ◌∙◌, to_z, of_z, w64, arith}
 use Rattle.std.proofs.lemmas.Int.{ints}
-
 use Rattle.rtk_compare.specs.Steps.Tracks.{pair}
 use Rattle.rtk_compare.proofs.TrackLemmas.{held-is}
 use Rattle.rtk_compare.proofs.track.Track.rolls_held.Goals as goal
