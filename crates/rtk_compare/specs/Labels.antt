@@ -10,18 +10,32 @@ abbrev pub field_lines : What → List ℕ → List ℕ → List Difference
 field_lines what old new = lines_of (nat_lt 0 (length old)) (nat_lt 0 (length new)) (bytes_eq old new) what
 
 -- table
--- the differences of two labels
-abbrev pub label_lines : LabelView → LabelView → List Difference
-label_lines l m =
+-- the differences of what the two labels say of the station and of who made the file
+abbrev pub station_lines : LabelView → LabelView → List Difference
+station_lines l m =
     field_lines RunBy l.run_by m.run_by
     ++ field_lines MarkerNumber l.marker_number m.marker_number
     ++ field_lines Observer l.observer m.observer
     ++ field_lines Agency l.agency m.agency
-    ++ field_lines ReceiverNumber l.receiver_number m.receiver_number
+
+-- table
+-- the differences of what they say of the receiver
+abbrev pub receiver_lines : LabelView → LabelView → List Difference
+receiver_lines l m =
+    field_lines ReceiverNumber l.receiver_number m.receiver_number
     ++ field_lines ReceiverType l.receiver_type m.receiver_type
     ++ field_lines ReceiverVersion l.receiver_version m.receiver_version
-    ++ field_lines AntennaNumber l.antenna_number m.antenna_number
+
+-- table
+-- the differences of what they say of the antenna
+abbrev pub antenna_lines : LabelView → LabelView → List Difference
+antenna_lines l m =
+    field_lines AntennaNumber l.antenna_number m.antenna_number
     ++ field_lines AntennaType l.antenna_type m.antenna_type
     ++ field_lines DeltaHeight l.height m.height
     ++ field_lines DeltaEast l.east m.east
     ++ field_lines DeltaNorth l.north m.north
+
+-- the differences of two labels
+abbrev pub label_lines : LabelView → LabelView → List Difference
+label_lines l m = station_lines l m ++ receiver_lines l m ++ antenna_lines l m

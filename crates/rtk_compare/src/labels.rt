@@ -2,7 +2,7 @@
 
 ghost use Rattle.std.specs.Prelude.{◌≡◌, nat_lt, length};
 ghost use Rattle.rtk_compare.specs.Differences.{Adds};
-ghost use Rattle.rtk_compare.specs.Labels.{field_lines, label_lines};
+ghost use Rattle.rtk_compare.specs.Labels.{field_lines, station_lines, receiver_lines, antenna_lines, label_lines};
 
 use crate::difference::What;
 use crate::findings::Findings;
@@ -27,9 +27,9 @@ fn compare_field(what: What, old: &[u8], new: &[u8], findings: &mut Findings)
     field.put(what, findings);
 }
 
-// Adds the differences of the texts of two labels.
-fn compare_parts(old: &LabelParts<'_>, new: &LabelParts<'_>, findings: &mut Findings)
-    ensures { Adds findings.old findings.new (label_lines old.now new.now) }
+// Compares what two labels say of the station.
+fn compare_station(old: &LabelParts<'_>, new: &LabelParts<'_>, findings: &mut Findings)
+    ensures { Adds findings.old findings.new (station_lines old.now new.now) }
 {
     compare_field(What::RunBy, old.run_by, new.run_by, findings);
     compare_field(
@@ -40,6 +40,12 @@ fn compare_parts(old: &LabelParts<'_>, new: &LabelParts<'_>, findings: &mut Find
     );
     compare_field(What::Observer, old.observer, new.observer, findings);
     compare_field(What::Agency, old.agency, new.agency, findings);
+}
+
+// Compares what two labels say of the receiver.
+fn compare_receiver(old: &LabelParts<'_>, new: &LabelParts<'_>, findings: &mut Findings)
+    ensures { Adds findings.old findings.new (receiver_lines old.now new.now) }
+{
     compare_field(
         What::ReceiverNumber,
         old.receiver_number,
@@ -58,6 +64,12 @@ fn compare_parts(old: &LabelParts<'_>, new: &LabelParts<'_>, findings: &mut Find
         new.receiver_version,
         findings,
     );
+}
+
+// Compares what two labels say of the antenna.
+fn compare_antenna(old: &LabelParts<'_>, new: &LabelParts<'_>, findings: &mut Findings)
+    ensures { Adds findings.old findings.new (antenna_lines old.now new.now) }
+{
     compare_field(
         What::AntennaNumber,
         old.antenna_number,
@@ -73,6 +85,15 @@ fn compare_parts(old: &LabelParts<'_>, new: &LabelParts<'_>, findings: &mut Find
     compare_field(What::DeltaHeight, old.height, new.height, findings);
     compare_field(What::DeltaEast, old.east, new.east, findings);
     compare_field(What::DeltaNorth, old.north, new.north, findings);
+}
+
+// Adds the differences of the texts of two labels.
+fn compare_parts(old: &LabelParts<'_>, new: &LabelParts<'_>, findings: &mut Findings)
+    ensures { Adds findings.old findings.new (label_lines old.now new.now) }
+{
+    compare_station(old, new, findings);
+    compare_receiver(old, new, findings);
+    compare_antenna(old, new, findings);
 }
 
 /// Adds the differences of two labels.

@@ -2,9 +2,4 @@ use Rattle.rtk_compare.proofs.FindingLemmas.{adds-more}
 use Rattle.rtk_compare.proofs.labels.compare_parts.Goals as goal
 
 pub returns : goal.returns
-returns c =
-    rw (← c.old.view_is) (rw (← c.new.view_is)
-    (adds-more (adds-more (adds-more (adds-more (adds-more (adds-more (adds-more (adds-more (adds-more (adds-more (adds-more
-    c.compare_field.ensures c.compare_field-2.ensures) c.compare_field-3.ensures) c.compare_field-4.ensures) c.compare_field-5.ensures)
-    c.compare_field-6.ensures) c.compare_field-7.ensures) c.compare_field-8.ensures) c.compare_field-9.ensures) c.compare_field-10.ensures)
-    c.compare_field-11.ensures) c.compare_field-12.ensures))
+returns c = adds-more (adds-more c.compare_station.ensures c.compare_receiver.ensures) c.compare_antenna.ensures
