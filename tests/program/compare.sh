@@ -138,10 +138,31 @@ if [ $? -eq 0 ]; then right hundred; else wrong hundred "$(head -c 300 out)"; fi
 "$program" label --agency 'Survey' old.rnx >labelled.rnx
 run compare labelled.rnx old.rnx
 expect labels_are_not_compared 0 'lost 0 changed 0 explained 0' ''
-# pins: label_lines
 run compare --labels labelled.rnx old.rnx
 expect label 3 'lost 1 changed 0 explained 0
 lost agency' ''
+"$program" label --agency 'Geodesy' old.rnx >other_label.rnx
+run compare --labels labelled.rnx other_label.rnx
+expect other_label 3 'lost 0 changed 1 explained 0
+changed agency' ''
+"$program" label --run-by Night --marker-number 14001M001 --observer Meyer --agency Survey --receiver-number 4711 --receiver-type 'SEPT POLARX5' \
+    --receiver-version 5.4.0 --antenna-number 12 --antenna-type 'LEIAR25.R4      LEIT' --delta-height 0.1234 --delta-east 0.0010 --delta-north 0.0020 \
+    old.rnx >full.rnx
+# pins: label_lines_of_station, label_lines_of_receiver, label_lines_of_antenna
+run compare --labels full.rnx old.rnx
+expect all_fields_of_a_label 3 'lost 12 changed 0 explained 0
+lost run-by
+lost marker-number
+lost observer
+lost agency
+lost receiver-number
+lost receiver-type
+lost receiver-version
+lost antenna-number
+lost antenna-type
+lost delta-height
+lost delta-east
+lost delta-north' ''
 
 # Files that are no files, and words that are refused.
 echo nothing >bad.rnx
