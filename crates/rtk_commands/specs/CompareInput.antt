@@ -18,11 +18,11 @@ use Rattle.rtk_commands.specs.declared.comparing.Compared.TheVariants.{Told, Old
 -- ---- a text of any systems with a label
 
 -- a text is that of this table with this label
-pub record IsLabelledText (text : List ℕ) (t : MixedTable) (l : LabelView) : Type 0 where
+pub record IsLabelledText (bytes : List ℕ) (t : MixedTable) (l : LabelView) : Type 0 where
   pub table : IsMixedTable t
   pub label : IsLabel l
   pub fits : IsFor l t.site
-  pub text : text ≡ labelled_mixed_text l t
+  pub text : bytes ≡ labelled_mixed_text l t
 
 -- a text is that of no table with a label
 abbrev pub IsNoLabelledText : List ℕ → Type 0

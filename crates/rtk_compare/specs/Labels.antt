@@ -11,8 +11,8 @@ field_lines what old new = lines_of (nat_lt 0 (length old)) (nat_lt 0 (length ne
 
 -- table
 -- the differences of what the two labels say of the station and of who made the file
-abbrev pub station_lines : LabelView → LabelView → List Difference
-station_lines l m =
+abbrev pub label_lines_of_station : LabelView → LabelView → List Difference
+label_lines_of_station l m =
     field_lines RunBy l.run_by m.run_by
     ++ field_lines MarkerNumber l.marker_number m.marker_number
     ++ field_lines Observer l.observer m.observer
@@ -20,16 +20,16 @@ station_lines l m =
 
 -- table
 -- the differences of what they say of the receiver
-abbrev pub receiver_lines : LabelView → LabelView → List Difference
-receiver_lines l m =
+abbrev pub label_lines_of_receiver : LabelView → LabelView → List Difference
+label_lines_of_receiver l m =
     field_lines ReceiverNumber l.receiver_number m.receiver_number
     ++ field_lines ReceiverType l.receiver_type m.receiver_type
     ++ field_lines ReceiverVersion l.receiver_version m.receiver_version
 
 -- table
 -- the differences of what they say of the antenna
-abbrev pub antenna_lines : LabelView → LabelView → List Difference
-antenna_lines l m =
+abbrev pub label_lines_of_antenna : LabelView → LabelView → List Difference
+label_lines_of_antenna l m =
     field_lines AntennaNumber l.antenna_number m.antenna_number
     ++ field_lines AntennaType l.antenna_type m.antenna_type
     ++ field_lines DeltaHeight l.height m.height
@@ -38,4 +38,4 @@ antenna_lines l m =
 
 -- the differences of two labels
 abbrev pub label_lines : LabelView → LabelView → List Difference
-label_lines l m = station_lines l m ++ receiver_lines l m ++ antenna_lines l m
+label_lines l m = label_lines_of_station l m ++ label_lines_of_receiver l m ++ label_lines_of_antenna l m

@@ -2,7 +2,7 @@
 
 ghost use Rattle.std.specs.Prelude.{◌≡◌, nat_lt, length};
 ghost use Rattle.rtk_compare.specs.Differences.{Adds};
-ghost use Rattle.rtk_compare.specs.Labels.{field_lines, station_lines, receiver_lines, antenna_lines, label_lines};
+ghost use Rattle.rtk_compare.specs.Labels.{field_lines, label_lines_of_station, label_lines_of_receiver, label_lines_of_antenna, label_lines};
 
 use crate::difference::What;
 use crate::findings::Findings;
@@ -29,7 +29,7 @@ fn compare_field(what: What, old: &[u8], new: &[u8], findings: &mut Findings)
 
 // Compares what two labels say of the station.
 fn compare_station(old: &LabelParts<'_>, new: &LabelParts<'_>, findings: &mut Findings)
-    ensures { Adds findings.old findings.new (station_lines old.now new.now) }
+    ensures { Adds findings.old findings.new (label_lines_of_station old.now new.now) }
 {
     compare_field(What::RunBy, old.run_by, new.run_by, findings);
     compare_field(
@@ -44,7 +44,7 @@ fn compare_station(old: &LabelParts<'_>, new: &LabelParts<'_>, findings: &mut Fi
 
 // Compares what two labels say of the receiver.
 fn compare_receiver(old: &LabelParts<'_>, new: &LabelParts<'_>, findings: &mut Findings)
-    ensures { Adds findings.old findings.new (receiver_lines old.now new.now) }
+    ensures { Adds findings.old findings.new (label_lines_of_receiver old.now new.now) }
 {
     compare_field(
         What::ReceiverNumber,
@@ -68,7 +68,7 @@ fn compare_receiver(old: &LabelParts<'_>, new: &LabelParts<'_>, findings: &mut F
 
 // Compares what two labels say of the antenna.
 fn compare_antenna(old: &LabelParts<'_>, new: &LabelParts<'_>, findings: &mut Findings)
-    ensures { Adds findings.old findings.new (antenna_lines old.now new.now) }
+    ensures { Adds findings.old findings.new (label_lines_of_antenna old.now new.now) }
 {
     compare_field(
         What::AntennaNumber,
