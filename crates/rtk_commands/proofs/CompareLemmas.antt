@@ -1,6 +1,5 @@
 -- Two texts, by what is left of each without its label.
-use Rattle.std.proofs.Common.{◌≡◌, ◌<◌, ◌+◌, ◌^◌, ℕ, Bool, List, ◌++◌, length, sym, ◌∙◌}
-use Rattle.rtk_rinex.specs.MixedTable.{MixedTable, IsMixedTable, mixed_table_text}
+use Rattle.std.proofs.Common.{◌≡◌, ◌<◌, ◌+◌, ◌^◌, ℕ, Bool, List, length, ◌∙◌}
 use Rattle.rtk_rinex.specs.MixedCheckTable.{HoldsMixedTable, IsMixedFault, IsWithoutMixedTable}
 use Rattle.rtk_rinex.specs.declared.check_fault.CheckFault.{CheckFault}
 use Rattle.rtk_label.specs.Fields.{marker_number_line}
@@ -11,7 +10,7 @@ use Rattle.rtk_compare.specs.declared.findings.Findings.{Findings}
 use Rattle.rtk_compare.specs.Answer.{answer_text}
 use Rattle.rtk_compare.specs.Differences as differences
 use Rattle.rtk_commands.specs.declared.comparing.Compare.{Compare}
-use Rattle.rtk_commands.specs.CompareInput.{IsLabelledText, IsNoLabelledText, IsPartedMixed, IsMixedRefused, lines_of_labels, all_differences, TellsDifferences}
+use Rattle.rtk_commands.specs.CompareInput.{IsLabelledText, IsPartedMixed, IsMixedRefused, lines_of_labels, all_differences, TellsDifferences}
 
 -- what was parted is a table with a label
 pub parted_mixed : (text plain left : List ℕ) (m : LabelView) (n k : ℕ) → left ≡ plain → IsParted text plain m → HoldsMixedTable plain n k → IsPartedMixed text left m

@@ -1,4 +1,4 @@
-use Rattle.std.proofs.Common.{◌∙◌, arith, refl}
+use Rattle.std.proofs.Common.{arith, refl}
 use Rattle.rtk_commands.proofs.CompareLemmas.{parted_mixed, refused_mixed}
 use Rattle.rtk_commands.proofs.WithLabelLemmas.{parted_as}
 use Rattle.rtk_commands.proofs.with_label.mixed_with_label.Goals as goal
