@@ -290,4 +290,4 @@ part-by-bytes {S} {R} {number} {inner} {before} {readers} remaining had {held} s
       out = read.2.out;
       log = read.2.log;
     } in
-    on-writers (λ (w v : Written). ConvertsFirstBytes s (map remaining readers) final w v) (file_so_far s (arrivals h.found)) (lines s.window h.found) b b' is-out part.out part.log part
+    on-writers (λ (w v : Written). ConvertsFirstBytes s (map remaining readers) final w v) (file_so_far s (arrivals h.found)) (lines s h.found) b b' is-out part.out part.log part

@@ -47,4 +47,4 @@ pub record ConvertsFirstBytes (s : SetupView) (bytes : List (Option (List ℕ)))
   pub history : History
   pub comes_to : IsHistoryOf s (length bytes) reads history
   pub out : written_new.file ≡ with_more written_old.file (file_so_far s (arrivals history.found))
-  pub log : written_new.report ≡ with_more written_old.report (lines s.window history.found)
+  pub log : written_new.report ≡ with_more written_old.report (lines s history.found)

@@ -24,3 +24,7 @@ pub use Rattle.rtk_collect.proofs.FewLemmas.{kept-are-few}
 pub use Rattle.rtk_collect.proofs.CellsLemmas.{with_cells-all}
 -- cells that are left beside others by satellite and code are left by their numbers
 pub use Rattle.rtk_collect.proofs.LegacyListLemmas.{left-is}
+-- the clauses `order`, `satellites` and `opens` of `signal_window_laws`
+pub use Rattle.rtk_collect.proofs.SignalLemmas.{gps-keeps-its-order, epochs-are-of-satellites, signals-open}
+-- the clause `gps` of `signal_window_laws`
+pub use Rattle.rtk_collect.proofs.SignalGpsLemmas.{gps-is-kept}

@@ -3,16 +3,17 @@ use Rattle.std.proofs.Common.{◌≡◌, ℕ, List, [], ◌∷◌, ◌++◌, tak
 use Rattle.std.specs.Prelude.{is_some, unwrap_or}
 use Rattle.std.proofs.lemmas.List.{append-nil, take-append-drop}
 use Rattle.rtk_message.specs.declared.any_message.AnyMessage.{AnyMessage as Message}
-use Rattle.rtk_obs.specs.declared.code.Code.{Code}
-use Rattle.rtk_collect.specs.Gps.{gps}
-use Rattle.rtk_obs.specs.MessageCells.{cells_of}
-use Rattle.rtk_obs.specs.declared.cell.CellEntry.{CellEntry}
+use Rattle.rtk_obs.specs.declared.any_code.AnyCode.{AnyCode}
+use Rattle.rtk_collect.specs.Signals.{signals}
+use Rattle.rtk_convert.specs.Setup.{cells_by}
+use Rattle.rtk_obs.specs.declared.signal_cells.SignalEntry.{SignalEntry}
 use Rattle.rtk_collect.specs.EpochSet.{EpochSetView}
 use Rattle.rtk_collect.specs.Arrival.{Arrival}
 use Rattle.rtk_collect.specs.Accepted.{station, kept, closed}
 use Rattle.rtk_collect.specs.Laws.{without_late, SetDecides, LateArrivalsChangeNothing}
 use Rattle.rtk_collect.proofs.PublicLaws.{closed-drop, closed-only-grow, closed-after}
-use Rattle.rtk_rinex.specs.Header.{PositionView, header_text}
+use Rattle.rtk_rinex.specs.Header.{PositionView}
+use Rattle.rtk_rinex.specs.MixedHeader.{mixed_header_text}
 use Rattle.rtk_convert.specs.declared.frame_class.FrameClass.{FrameClass}
 use Rattle.rtk_convert.specs.declared.frame_class.FrameClass.TheVariants.{OtherMessage, Refused, Foreign, Dated}
 use Rattle.rtk_convert.specs.ArrivalLaws.{OneSetHasOneFile, LateLeaveFile, Begins, SoFarBegins, HeaderIsFinal, and_if_arrived, only_arrived, OthersLeaveFile}
@@ -25,18 +26,18 @@ use Rattle.rtk_convert.proofs.FileLemmas.{first-kept, first_time-drop, closed-gr
 use Rattle.rtk_convert.proofs.SoFarLemmas.{so_far-is, so_far-grows, site-final}
 
 -- one set of epochs and one pair of station messages have one file
-same-file : (s : SetupView) (first second : List Arrival) → kept gps cells_of s.window first ≡ kept gps cells_of s.window second
+same-file : (s : SetupView) (first second : List Arrival) → kept signals (cells_by s) s.window first ≡ kept signals (cells_by s) s.window second
     → ((k : ℕ) → station s.window k first ≡ station s.window k second) → kept_file s first ≡ kept_file s second
 same-file s first second sets stations =
-    ap (λ (x : List (EpochSetView CellEntry)). file_of s (site_of_kept s.window first) x) sets
-    ∙ ap (λ (m : Option Message). file_of s (site_of_stations m (station s.window 1006 first)) (kept gps cells_of s.window second)) (stations 1005)
-    ∙ ap (λ (m : Option Message). file_of s (site_of_stations (station s.window 1005 second) m) (kept gps cells_of s.window second)) (stations 1006)
+    ap (λ (x : List (EpochSetView SignalEntry)). file_of s (site_of_kept s.window first) x) sets
+    ∙ ap (λ (m : Option Message). file_of s (site_of_stations m (station s.window 1006 first)) (kept signals (cells_by s) s.window second)) (stations 1005)
+    ∙ ap (λ (m : Option Message). file_of s (site_of_stations (station s.window 1005 second) m) (kept signals (cells_by s) s.window second)) (stations 1006)
 
-pub one-file : SetDecides gps cells_of → OneSetHasOneFile
-one-file law s first second good also same = let h = law s.window first second good also same in same-file s first second h.0 h.1
+pub one-file : ((s : SetupView) → SetDecides signals (cells_by s)) → OneSetHasOneFile
+one-file law s first second good also same = let h = law s s.window first second good also same in same-file s first second h.0 h.1
 
-pub late-leave : LateArrivalsChangeNothing gps cells_of → LateLeaveFile
-late-leave law s before = let h = law s.window before in same-file s (without_late s.window before) before h.3 h.4
+pub late-leave : ((s : SetupView) → LateArrivalsChangeNothing signals (cells_by s)) → LateLeaveFile
+late-leave law s before = let h = law s s.window before in same-file s (without_late s.window before) before h.3 h.4
 
 -- ---- the file so far
 
@@ -47,17 +48,17 @@ grows s (a ∷ later) before =
     let next = so_far-grows s a (later ++ before) in
     (first.0 ++ next.0, next.1 ∙ ap (λ (x : List ℕ). x ++ next.0) first.1 ∙ append_assoc (file_so_far s before) first.0 next.0)
 
-no_cells : EpochSetView CellEntry
+no_cells : EpochSetView SignalEntry
 no_cells = record { epoch = 0; cells = [] }
 
 -- the file so far begins the whole file
 whole : (s : SetupView) (before : List Arrival) → Begins (file_so_far s before) (kept_file s before)
 whole s before =
     let site = site_of_kept s.window before in
-    let all : List (EpochSetView CellEntry) = kept gps cells_of s.window before in
-    let split : take s.window all ++ closed gps cells_of s.window before ≡ all =
-    ap (λ (x : List (EpochSetView CellEntry)). take s.window all ++ x) (closed-drop gps cells_of s.window no_cells before) ∙ take-append-drop s.window all in
-    let more = closed-grows s site (take s.window all) (closed gps cells_of s.window before) in
+    let all : List (EpochSetView SignalEntry) = kept signals (cells_by s) s.window before in
+    let split : take s.window all ++ closed signals (cells_by s) s.window before ≡ all =
+    ap (λ (x : List (EpochSetView SignalEntry)). take s.window all ++ x) (closed-drop signals (cells_by s) s.window no_cells before) ∙ take-append-drop s.window all in
+    let more = closed-grows s site (take s.window all) (closed signals (cells_by s) s.window before) in
     let last : List ℕ = header_before s site s.near (is_some (first_time s.head.listed all)) in (
       more.0 ++ last,
       file-closed s site all
@@ -73,33 +74,33 @@ so_far-begins s later before =
 
 -- ---- the header
 
-first_time-more : (listed : List Code) (more below : List (EpochSetView CellEntry)) (t : ℕ) → first_time listed below ≡ Some t → first_time listed (more ++ below) ≡ Some t
+first_time-more : (listed : List AnyCode) (more below : List (EpochSetView SignalEntry)) (t : ℕ) → first_time listed below ≡ Some t → first_time listed (more ++ below) ≡ Some t
 unfolding first_time
 first_time-more listed [] below t h = h
 first_time-more listed (e ∷ more) below t h =
     first-kept (first_time listed (more ++ below)) e.epoch t (record_of listed e (more ++ below)) (first_time-more listed more below t h)
 
-first_time-kept : (s : SetupView) (before : List Arrival) (t : ℕ) → first_time s.head.listed (closed gps cells_of s.window before) ≡ Some t → first_time s.head.listed (kept gps cells_of s.window before) ≡ Some t
+first_time-kept : (s : SetupView) (before : List Arrival) (t : ℕ) → first_time s.head.listed (closed signals (cells_by s) s.window before) ≡ Some t → first_time s.head.listed (kept signals (cells_by s) s.window before) ≡ Some t
 first_time-kept s before t h =
-    first_time-drop s.window s.head.listed (kept gps cells_of s.window before) t (ap (first_time s.head.listed) (sym (closed-drop gps cells_of s.window no_cells before)) ∙ h)
+    first_time-drop s.window s.head.listed (kept signals (cells_by s) s.window before) t (ap (first_time s.head.listed) (sym (closed-drop signals (cells_by s) s.window no_cells before)) ∙ h)
 
-none-closed : (listed : List Code) (xs : List (EpochSetView CellEntry)) (t : ℕ) → first_time listed xs ≡ Some t → xs ≡ [] → ⊥
+none-closed : (listed : List AnyCode) (xs : List (EpochSetView SignalEntry)) (t : ℕ) → first_time listed xs ≡ Some t → xs ≡ [] → ⊥
 unfolding first_time
 none-closed listed [] t h e = cc
 none-closed listed (x ∷ xs) t h e = cc
 
 pub header-final : HeaderIsFinal
 header-final s a before t h =
-    let g = closed-only-grow gps cells_of s.window (a ∷ []) before in
-    let after : first_time s.head.listed (closed gps cells_of s.window (a ∷ before)) ≡ Some t =
-    ap (first_time s.head.listed) g.1 ∙ first_time-more s.head.listed g.0 (closed gps cells_of s.window before) t h in
-    let site : site_of_kept s.window (a ∷ before) ≡ site_of_kept s.window before = elim (closed-after gps cells_of s.window before) [
-      | inl none ↦ absurd (none-closed s.head.listed (closed gps cells_of s.window before) t h none)
+    let g = closed-only-grow signals (cells_by s) s.window (a ∷ []) before in
+    let after : first_time s.head.listed (closed signals (cells_by s) s.window (a ∷ before)) ≡ Some t =
+    ap (first_time s.head.listed) g.1 ∙ first_time-more s.head.listed g.0 (closed signals (cells_by s) s.window before) t h in
+    let site : site_of_kept s.window (a ∷ before) ≡ site_of_kept s.window before = elim (closed-after signals (cells_by s) s.window before) [
+      | inl none ↦ absurd (none-closed s.head.listed (closed signals (cells_by s) s.window before) t h none)
       | inr full ↦ site-final s.window a before full
     ] in
-    ap (λ (o : Option ℕ). header_text s.head (site_of_kept s.window (a ∷ before)) (unwrap_or o s.near)) (first_time-kept s (a ∷ before) t after)
-    ∙ ap (λ (x : PositionView). header_text s.head x t) site
-    ∙ ap (λ (o : Option ℕ). header_text s.head (site_of_kept s.window before) (unwrap_or o s.near)) (sym (first_time-kept s before t h))
+    ap (λ (o : Option ℕ). mixed_header_text s.head (site_of_kept s.window (a ∷ before)) (unwrap_or o s.near)) (first_time-kept s (a ∷ before) t after)
+    ∙ ap (λ (x : PositionView). mixed_header_text s.head x t) site
+    ∙ ap (λ (o : Option ℕ). mixed_header_text s.head (site_of_kept s.window before) (unwrap_or o s.near)) (sym (first_time-kept s before t h))
 
 -- ---- frames that are no arrivals
 

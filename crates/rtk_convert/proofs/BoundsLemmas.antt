@@ -1,21 +1,10 @@
 -- What a call on a link leaves of a converter: what it holds is bounded.
-use Rattle.std.proofs.Common.{◌≡◌, ◌≤◌, ℕ, Bool, [], ◌∷◌, ◌++◌, List, length, true, false, Option, None, Some, Result, Ok, Err, if◌then◌else◌, replicate, set, refl, sym, subst, arith}
+use Rattle.std.proofs.Common.{◌≡◌, ◌≤◌, ℕ, Bool, [], ◌++◌, List, length, true, false, Option, None, Some, Result, Ok, Err, if◌then◌else◌, replicate, set, refl, sym, subst, arith}
 use Rattle.std.specs.Prelude.{All, OnOk, slice_get}
 use Rattle.std.proofs.lemmas.List.{length-set}
-use Rattle.std.proofs.lemmas.List.Elements.{All-take, All-set, All-replicate}
+use Rattle.std.proofs.lemmas.List.Elements.{All-set, All-replicate}
 use Rattle.rtk_frame.specs.Frames.{final_frames, frames, payloads, pending}
 use Rattle.rtk_frame.specs.ScannerView.{scanner_view}
-use Rattle.rtk_collect.specs.Gps.{gps}
-use Rattle.rtk_obs.specs.MessageCells.{cells_of}
-use Rattle.rtk_obs.specs.declared.cell.CellEntry.{CellEntry}
-use Rattle.rtk_collect.specs.declared.conflicts.SatelliteCode.{SatelliteCode}
-use Rattle.rtk_collect.specs.declared.outcome.Outcome.{Outcome}
-use Rattle.rtk_collect.specs.Accepted.{kept}
-use Rattle.rtk_collect.specs.Arrival.{Arrival}
-use Rattle.rtk_collect.specs.Collector.{CollectorView}
-use Rattle.rtk_collect.specs.EpochSet.{EpochSetView}
-use Rattle.rtk_collect.proofs.PublicLaws.{kept-are-few}
-use Rattle.rtk_collect.specs.Offered.{AnswersArrival}
 use Rattle.rtk_convert.specs.Conversion.{ConversionView, HoldsArrivals}
 use Rattle.rtk_convert.specs.Converter.{ConverterView, IsConverterView, HoldsAtMost, FeedsLink, EndsLink, LeavesConverter, link_refusal, refusal}
 use Rattle.rtk_convert.specs.Failure.{IsFrameFault}
@@ -25,34 +14,25 @@ use Rattle.rtk_convert.specs.declared.fault.ConvertFault.{ConvertFault}
 use Rattle.rtk_convert.specs.declared.fault.ConvertFault.TheVariants.{NoLink, LinkClosed, Stopped}
 use Rattle.rtk_convert.specs.declared.link_state.LinkState.{LinkState}
 use Rattle.rtk_convert.proofs.ConverterLemmas.{converter, feeds, feeds-part, closes, closes-part}
+use Rattle.rtk_convert.proofs.GreatestLemmas.{cells-few}
 use Rattle.rtk_convert.proofs.WritingLemmas.{if_err-map}
 
--- a window still holds what is kept of some arrivals once a message was offered
-pub held-offered : (w w' : CollectorView CellEntry) (a : Arrival) (offer : Outcome CellEntry SatelliteCode) (listed : List SatelliteCode) → AnswersArrival gps cells_of w a offer listed w' → HoldsArrivals w → HoldsArrivals w'
-held-offered w w' a offer listed answers p = (a ∷ p.0, (answers p.0 p.1).1)
-
--- the epochs of a window are among the kept ones, and each of these has few cells
-cells-few : (w : CollectorView CellEntry) → HoldsArrivals w → All (λ (e : EpochSetView CellEntry). length e.cells ≤ 1024) w.sets
-cells-few w p =
-    subst (All (λ (e : EpochSetView CellEntry). length e.cells ≤ 1024)) (sym p.1.sets)
-    (All-take (λ (e : EpochSetView CellEntry). length e.cells ≤ 1024) w.places (kept gps cells_of w.places p.0) (kept-are-few w.places p.0))
-
 pub bounded : (c : ConverterView) → All (λ (l : LinkState). length l.scanner.pending ≤ 1029) c.links → length c.conversion.collector.sets ≤ c.conversion.setup.window
-    → HoldsArrivals c.conversion.collector → HoldsAtMost c
-bounded c short epochs held = record { bytes = short; epochs = epochs; cells = cells-few c.conversion.collector held }
+    → HoldsArrivals c.conversion.setup c.conversion.collector → HoldsAtMost c
+bounded c short epochs held = record { bytes = short; epochs = epochs; cells = cells-few c.conversion.setup c.conversion.collector held }
 
 pub bounded-before : (c : ConverterView) → IsConverterView c → HoldsAtMost c
 bounded-before c p = bounded c p.short p.epochs p.held
 
 -- after a call on one link
 pub bounded-after : (conversion : ConversionView) (links : List LinkState) (k : ℕ) (l : LinkState) → All (λ (l : LinkState). length l.scanner.pending ≤ 1029) links → length l.scanner.pending ≤ 1029
-    → length conversion.collector.sets ≤ conversion.setup.window → HoldsArrivals conversion.collector → HoldsAtMost (converter conversion (set links k l))
+    → length conversion.collector.sets ≤ conversion.setup.window → HoldsArrivals conversion.setup conversion.collector → HoldsAtMost (converter conversion (set links k l))
 bounded-after conversion links k l all short epochs held =
     bounded (converter conversion (set links k l)) (All-set (λ (l : LinkState). length l.scanner.pending ≤ 1029) links k l short all) epochs held
 
 -- of new links
 pub bounded-new : (conversion : ConversionView) (links : List LinkState) (n : ℕ) → links ≡ replicate n (record { scanner = scanner_view [] false; newest = None })
-    → length conversion.collector.sets ≤ conversion.setup.window → HoldsArrivals conversion.collector → HoldsAtMost (converter conversion links)
+    → length conversion.collector.sets ≤ conversion.setup.window → HoldsArrivals conversion.setup conversion.collector → HoldsAtMost (converter conversion links)
 bounded-new conversion links n new epochs held =
     bounded (converter conversion links) (subst (All (λ (l : LinkState). length l.scanner.pending ≤ 1029)) (sym new) (All-replicate (λ (l : LinkState). length l.scanner.pending ≤ 1029) n (record { scanner = scanner_view [] false; newest = None }) (omega arith))) epochs held
 
@@ -118,7 +98,7 @@ closes-link {T} {opened} {old} {conversion} {link} {l} {o} {o'} new (Err f) seen
     (record { ok = tt; err = λ is. closes-part there unended t.err })
 
 pub leaves-link : {T : Type 0} {opened old : ConverterView} {conversion : ConversionView} {link : ℕ} {found : List (List ℕ)} {newest newest' : Option ℕ} {o o' : Written} (new : LinkState) (r : Result T ConvertFault)
-    → opened ≡ old → All (λ (l : LinkState). length l.scanner.pending ≤ 1029) opened.links → HoldsArrivals opened.conversion.collector → length new.scanner.pending ≤ 1029
+    → opened ≡ old → All (λ (l : LinkState). length l.scanner.pending ≤ 1029) opened.links → HoldsArrivals opened.conversion.setup opened.conversion.collector → length new.scanner.pending ≤ 1029
     → TakesFrames opened.conversion link found r conversion newest newest' o o' → LeavesConverter old link r (converter conversion (set opened.links link new))
 leaves-link {T} {opened} {old} {conversion} {link} new r seen all held short t =
     let k = t.keeps in

@@ -70,7 +70,7 @@ pub record HasCome (s : SetupView) (links : ℕ) (calls : List Call) (now : Conv
   pub represents : RepresentsHistory now history
   pub setup : now.conversion.setup ≡ s
   pub out_is : o1.file ≡ with_more o0.file (file_so_far s (arrivals history.found))
-  pub log_is : o1.report ≡ with_more o0.report (lines s.window history.found)
+  pub log_is : o1.report ≡ with_more o0.report (lines s history.found)
 
 -- one more that is taken
 taken : (s : SetupView) (links : ℕ) (call : Call) (before : List Call) (mid now : ConverterView) (o0 o1 o2 : Written) → (p : HasCome s links before mid o0 o1)
@@ -82,7 +82,7 @@ taken s links call before mid now o0 o1 o2 p same next after represents w = reco
   represents = represents;
   setup = same ∙ p.setup;
   out_is = written-on o0.file o1.file o2.file (file_so_far s (arrivals p.history.found)) (file_so_far s (arrivals next.found)) p.out_is w.out;
-  log_is = written-on o0.report o1.report o2.report (lines s.window p.history.found) (lines s.window next.found) p.log_is w.log;
+  log_is = written-on o0.report o1.report o2.report (lines s p.history.found) (lines s next.found) p.log_is w.log;
 }
 
 -- one more that is refused
@@ -132,7 +132,7 @@ calls-write-kept s links calls counts o0 o2 p =
       (c.history, end.0, c.come_to, subst (λ (n : ℕ). IsAfterClosingAll s c.history n end.0) few end.1.closed, refl),
       kept-of s end.0.found counts o0 o2
           (written-on o0.file p.written_mid.file o2.file (file_so_far s (arrivals c.history.found)) (kept_file s (arrivals end.0.found)) c.out_is end.1.out)
-          (written-on o0.report p.written_mid.report o2.report (lines s.window c.history.found) (report_of s end.0.found) c.log_is end.1.log)
+          (written-on o0.report p.written_mid.report o2.report (lines s c.history.found) (report_of s end.0.found) c.log_is end.1.log)
           end.1.counts_are,
     )
 

@@ -5,23 +5,23 @@ use Rattle.std.proofs.lemmas.Bool.{cases_eq, cases_Bool}
 use Rattle.std.proofs.lemmas.Option.{slice_get_within}
 use Rattle.rtk_message.specs.declared.any_message.AnyMessage.{AnyMessage as Message}
 use Rattle.rtk_message.specs.declared.any_fault.AnyFault.{AnyFault}
-use Rattle.rtk_message.specs.declared.any_fault.AnyFault.TheVariants.{NoNumber, Other, Short, EpochRange, TooManyCells}
-use Rattle.rtk_message.specs.Accepted.{only, accepts}
-use Rattle.rtk_message.specs.AnyDecoded.{Encodes, DecodesBy, number_of, station_of, tow_of}
+use Rattle.rtk_message.specs.AnyDecoded.{Encodes, DecodesBy, number_of, station_of}
 use Rattle.rtk_bits.specs.Bits.{bits}
 use Rattle.std.specs.Prelude.{IfOk, IsTrue}
 use Rattle.rtk_collect.specs.Arrival.{Arrival, At}
 use Rattle.rtk_convert.specs.declared.frame_class.FrameClass.{FrameClass}
 use Rattle.rtk_convert.specs.declared.frame_class.FrameClass.TheVariants.{OtherMessage, Refused, Foreign, Dated}
 use Rattle.rtk_convert.specs.Conversion.{found_on}
-use Rattle.rtk_convert.specs.FrameClass.{Found, IsEpochOf, class_of_fault, IsClassOfReading, IsClassOfPayload, and_arrived, arrivals}
+use Rattle.rtk_convert.specs.FrameClass.{Found, IsEpochOf, IsClassIf, IsClassOfReading, IsClassOfPayload, and_arrived, arrivals}
 use Rattle.rtk_convert.specs.Headline.{has_ended, payloads_by, IsMessageIn, ComeIn, ComeBy, messages_of}
 use Rattle.rtk_convert.specs.History.{History, LinkPast, IsOpen, Finds, fed_on, with_piece, with_closed, found_by_piece, found_by_close}
 use Rattle.rtk_convert.specs.Kept.{and_came, came_of}
 use Rattle.rtk_convert.specs.ReadHistory.{Read, IsAfterPiece, IsHistoryOf, AllClosed, bytes_of}
 use Rattle.rtk_convert.specs.ReadSteps.{read_of}
-use Rattle.rtk_convert.specs.Setup.{SetupView}
-use Rattle.rtk_convert.specs.Steps.TakenMessage.{IsTakenMessage}
+use Rattle.rtk_convert.specs.Setup.{SetupView, taken_by, takes}
+use Rattle.rtk_convert.specs.Steps.ReadMessage.{IsReadMessage}
+use Rattle.rtk_convert.proofs.ClassLemmas.{dated-reading}
+use Rattle.rtk_convert.proofs.GpsOfferLemmas.{accepts-taken}
 use Rattle.rtk_convert.proofs.RunLemmas.{length-links}
 
 -- ---- the messages among found frames
@@ -38,30 +38,27 @@ messages-came (f ∷ before) = messages-and f.link f.class before (messages-came
 
 -- ---- a payload that is a message, and one that is none
 
-fault-not : (fault : AnyFault) (a : Arrival) → Dated a ≡ class_of_fault fault → ⊥
-fault-not NoNumber a e = cc
-fault-not (Other number) a e = cc
-fault-not (Short number) a e = cc
-fault-not (EpochRange number) a e = cc
-fault-not (TooManyCells number) a e = cc
-
 message-by : (s : SetupView) (payload : List ℕ) (epoch : Option ℕ) (m : Message) (r : Result Message AnyFault)
-    → DecodesBy (only s.msm) (bits payload) r → IsClassOfReading s r (Dated (At epoch m)) → IsMessageIn s payload (At epoch m)
-message-by s payload epoch m (Err fault) d c = absurd (fault-not fault (At epoch m) c)
-message-by s payload epoch m (Ok n) d c =
-    subst (λ (x : Message). Encodes (bits payload) x × IsTrue (accepts (only s.msm) (number_of x)) × (station_of x ≡ s.station) × IsEpochOf s.near (tow_of x) epoch)
-    (sym c.1.0) (d.message, d.accepted, c.0, c.1.1)
+    → DecodesBy (taken_by s) (bits payload) r → IsClassOfReading s r (Dated (At epoch m)) → IsMessageIn s payload (At epoch m)
+message-by s payload epoch m r d c =
+    let p = dated-reading s r (At epoch m) c in
+    let is : p.0 ≡ m = sym p.2.dated.0 in
+    let encodes : IfOk r (λ x. Encodes (bits payload) x) = d.message in
+    subst (λ (x : Message). Encodes (bits payload) x × IsTrue (takes s (number_of x)) × (station_of x ≡ s.station) × IsEpochOf s x epoch) is
+    (subst (λ (x : Result Message AnyFault). IfOk x (λ y. Encodes (bits payload) y)) p.1 encodes, p.2.taken, p.2.station, p.2.dated.1)
 
--- a message that is read is one that the setup takes
-pub taken-by : (s : SetupView) (payload : List ℕ) (r : Result Message AnyFault) → DecodesBy (only s.msm) (bits payload) r → IfOk r (λ m. IsTakenMessage s m)
-taken-by s payload (Ok m) d = record { valid = d.message.valid; taken = d.accepted }
-taken-by s payload (Err fault) d = tt
+-- a message that is read is valid and of the set, and a fault is of the set
+pub read-by : (s : SetupView) (payload : List ℕ) (r : Result Message AnyFault) → DecodesBy (taken_by s) (bits payload) r → IfOk r (λ m. IsReadMessage s m)
+read-by s payload (Ok m) d = record { valid = d.message.valid; read = d.accepted }
+read-by s payload (Err fault) d = tt
 
 is-message : (s : SetupView) (payload : List ℕ) (a : Arrival) → IsClassOfPayload s payload (Dated a) → IsMessageIn s payload a
 is-message s payload (At epoch m) p = message-by s payload epoch m p.0 p.1 p.2
 
-class-at : (s : SetupView) (payload : List ℕ) (f : FrameClass) (epoch : Option ℕ) (m : Message) → IsClassOfPayload s payload f → IsMessageIn s payload (At epoch m) → IsClassOfReading s (Ok m) f
-class-at s payload f epoch m p q = subst (λ (r : Result Message AnyFault). IsClassOfReading s r f) (p.1.only m q.1 q.0) p.2
+class-at : (s : SetupView) (payload : List ℕ) (f : FrameClass) (epoch : Option ℕ) (m : Message) → IsClassOfPayload s payload f → IsMessageIn s payload (At epoch m) → IsClassIf true s m f
+class-at s payload f epoch m p q =
+    let read : IsClassOfReading s (Ok m) f = subst (λ (r : Result Message AnyFault). IsClassOfReading s r f) (p.1.only m (accepts-taken s (number_of m) q.1) q.0) p.2 in
+    subst (λ (b : Bool). IsClassIf b s m f) q.1 read
 
 not-other : (s : SetupView) (payload : List ℕ) (a : Arrival) → IsClassOfPayload s payload OtherMessage → IsMessageIn s payload a → ⊥
 not-other s payload (At epoch m) p q = class-at s payload OtherMessage epoch m p q

@@ -124,7 +124,7 @@ ends {old} {closed} {counts} {o} {o1} {o2} same_setup all finishes = λ h r.
         closed = after;
         counts_are = f.counts_are ∙ ap (λ (s : SetupView). all_counts s last.found) same_setup;
         out = writes-on o.file o1.file o2.file _ _ _ writes.out (subst (λ (s : SetupView). WritesRest o1.file o2.file (file_so_far s (arrivals last.found)) (kept_file s (arrivals last.found))) same_setup f.out);
-        log = writes-on o.report o1.report o2.report _ _ _ writes.log (subst (λ (s : SetupView). WritesRest o1.report o2.report (lines s.window last.found) (report_of s last.found)) same_setup f.log);
+        log = writes-on o.report o1.report o2.report _ _ _ writes.log (subst (λ (s : SetupView). WritesRest o1.report o2.report (lines s last.found) (report_of s last.found)) same_setup f.log);
       },
     )
 
@@ -140,9 +140,9 @@ ends-part {old} {closed} {o} {o1} {o2} same_setup all part = λ h r.
       last = last;
       closed = after;
       out = writes-into o.file o1.file o2.file _ _ _ writes.out (subst (λ (s : SetupView). WritesPartOfRest o1.file o2.file (file_so_far s (arrivals last.found)) (kept_file s (arrivals last.found))) same_setup f.out);
-      log = writes-into o.report o1.report o2.report _ _ _ writes.log (subst (λ (s : SetupView). WritesPartOfRest o1.report o2.report (lines s.window last.found) (report_of s last.found)) same_setup f.log);
+      log = writes-into o.report o1.report o2.report _ _ _ writes.log (subst (λ (s : SetupView). WritesPartOfRest o1.report o2.report (lines s last.found) (report_of s last.found)) same_setup f.log);
       counts_last = elim f.counts_last [
-        | inl same ↦ inl (subst (λ (r : Option (List ℕ)). WritesRest o.report r (lines old.conversion.setup.window h.found) (lines old.conversion.setup.window last.found)) (sym same) writes.log)
+        | inl same ↦ inl (subst (λ (r : Option (List ℕ)). WritesRest o.report r (lines old.conversion.setup h.found) (lines old.conversion.setup last.found)) (sym same) writes.log)
         | inr whole ↦ inr (writes-on o.file o1.file o2.file _ _ _ writes.out (subst (λ (s : SetupView). WritesRest o1.file o2.file (file_so_far s (arrivals last.found)) (kept_file s (arrivals last.found))) same_setup whole))
       ];
     })

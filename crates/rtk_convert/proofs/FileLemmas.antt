@@ -2,20 +2,21 @@
 use Rattle.std.proofs.Common.{◌≡◌, ◌≢◌, ℕ, zero, suc, List, [], ◌∷◌, ◌++◌, drop, Option, None, Some, refl, ap, append_assoc, sym, ◌∙◌}
 use Rattle.std.specs.Prelude.{unwrap_or, is_some}
 use Rattle.std.proofs.lemmas.List.{append-nil}
-use Rattle.rtk_obs.specs.declared.code.Code.{Code}
-use Rattle.rtk_obs.specs.declared.cell.CellEntry.{CellEntry}
+use Rattle.rtk_obs.specs.declared.any_code.AnyCode.{AnyCode}
+use Rattle.rtk_obs.specs.declared.signal_cells.SignalEntry.{SignalEntry}
 use Rattle.rtk_collect.specs.EpochSet.{EpochSetView}
-use Rattle.rtk_rinex.specs.Header.{PositionView, header_text}
+use Rattle.rtk_rinex.specs.Header.{PositionView}
+use Rattle.rtk_rinex.specs.MixedHeader.{mixed_header_text}
 use Rattle.rtk_convert.specs.Setup.{SetupView}
 use Rattle.rtk_convert.specs.File.{record_of, records, first_or, first_time, header_of, file_of}
 use Rattle.rtk_convert.specs.FilePrefix.{unless_empty, so_far}
 use Rattle.rtk_convert.specs.Steps.ClosedText.{with_header, closed_text, header_before, closing_text, closing}
 
-pub records-more : (listed : List Code) (e : EpochSetView CellEntry) (below : List (EpochSetView CellEntry)) → records listed (e ∷ below) ≡ records listed below ++ record_of listed e below
+pub records-more : (listed : List AnyCode) (e : EpochSetView SignalEntry) (below : List (EpochSetView SignalEntry)) → records listed (e ∷ below) ≡ records listed below ++ record_of listed e below
 unfolding records
 records-more listed e below = refl
 
-pub first_time-more : (listed : List Code) (e : EpochSetView CellEntry) (below : List (EpochSetView CellEntry)) → first_time listed (e ∷ below) ≡ first_or (first_time listed below) e.epoch (record_of listed e below)
+pub first_time-more : (listed : List AnyCode) (e : EpochSetView SignalEntry) (below : List (EpochSetView SignalEntry)) → first_time listed (e ∷ below) ≡ first_or (first_time listed below) e.epoch (record_of listed e below)
 unfolding first_time
 first_time-more listed e below = refl
 
@@ -29,7 +30,7 @@ none-step None e before [] h f = append-nil before ∙ h refl
 none-step None e before (x ∷ text) h f = cc
 
 -- without a first time there is no record
-pub no-records : (listed : List Code) (epochs : List (EpochSetView CellEntry)) → first_time listed epochs ≡ None → records listed epochs ≡ []
+pub no-records : (listed : List AnyCode) (epochs : List (EpochSetView SignalEntry)) → first_time listed epochs ≡ None → records listed epochs ≡ []
 unfolding records first_time
 no-records listed [] h = refl
 no-records listed (e ∷ below) h = none-step (first_time listed below) e.epoch (records listed below) (record_of listed e below) (no-records listed below) h
@@ -41,7 +42,7 @@ some-step None e t [] (x ∷ text) h f k = cc
 some-step None e t (y ∷ before) text h f k = cc
 
 -- with one there is
-pub some-records : (listed : List Code) (epochs : List (EpochSetView CellEntry)) (t : ℕ) → first_time listed epochs ≡ Some t → records listed epochs ≢ []
+pub some-records : (listed : List AnyCode) (epochs : List (EpochSetView SignalEntry)) (t : ℕ) → first_time listed epochs ≡ Some t → records listed epochs ≢ []
 unfolding records first_time
 some-records listed [] t h = cc
 some-records listed (e ∷ below) t h = some-step (first_time listed below) e.epoch t (records listed below) (record_of listed e below) (λ u. some-records listed below u) h
@@ -51,7 +52,7 @@ first-kept None e t text h = cc
 first-kept (Some u) e t text h = h
 
 -- later epochs leave the first time
-pub first_time-drop : (n : ℕ) (listed : List Code) (epochs : List (EpochSetView CellEntry)) (t : ℕ) → first_time listed (drop n epochs) ≡ Some t → first_time listed epochs ≡ Some t
+pub first_time-drop : (n : ℕ) (listed : List AnyCode) (epochs : List (EpochSetView SignalEntry)) (t : ℕ) → first_time listed (drop n epochs) ≡ Some t → first_time listed epochs ≡ Some t
 unfolding first_time
 first_time-drop zero listed epochs t h = h
 first_time-drop (suc n) listed [] t h = h
@@ -61,16 +62,16 @@ not-empty : (xs text : List ℕ) → xs ≢ [] → unless_empty xs text ≡ text
 not-empty [] text h = absurd (h refl)
 not-empty (x ∷ xs) text h = refl
 
-so_far-step : (s : SetupView) (p : PositionView) (all_epochs closed : List (EpochSetView CellEntry)) (o : Option ℕ) → first_time s.head.listed closed ≡ o
+so_far-step : (s : SetupView) (p : PositionView) (all_epochs closed : List (EpochSetView SignalEntry)) (o : Option ℕ) → first_time s.head.listed closed ≡ o
     → ((t : ℕ) → first_time s.head.listed closed ≡ Some t → first_time s.head.listed all_epochs ≡ Some t)
     → so_far s p all_epochs closed ≡ with_header s p o (records s.head.listed closed)
 so_far-step s p all_epochs closed None q up = rw (no-records s.head.listed closed q) refl
 so_far-step s p all_epochs closed (Some t) q up =
     not-empty (records s.head.listed closed) (header_of s p all_epochs ++ records s.head.listed closed) (some-records s.head.listed closed t q)
-    ∙ ap (λ (o : Option ℕ). header_text s.head p (unwrap_or o s.near) ++ records s.head.listed closed) (up t q)
+    ∙ ap (λ (o : Option ℕ). mixed_header_text s.head p (unwrap_or o s.near) ++ records s.head.listed closed) (up t q)
 
 -- the file so far is the file of the closed epochs alone
-pub so_far-closed : (n : ℕ) (s : SetupView) (p : PositionView) (epochs : List (EpochSetView CellEntry)) → so_far s p epochs (drop n epochs) ≡ closed_text s p (drop n epochs)
+pub so_far-closed : (n : ℕ) (s : SetupView) (p : PositionView) (epochs : List (EpochSetView SignalEntry)) → so_far s p epochs (drop n epochs) ≡ closed_text s p (drop n epochs)
 so_far-closed n s p epochs =
     so_far-step s p epochs (drop n epochs) (first_time s.head.listed (drop n epochs)) refl (λ t h. first_time-drop n s.head.listed epochs t h)
 
@@ -78,17 +79,17 @@ closed-step : (s : SetupView) (p : PositionView) (e : ℕ) (before text : List �
     → with_header s p (first_or o e text) (before ++ text) ≡ with_header s p o before ++ closing_text s p e (is_some o) text
 closed-step s p e before [] None h = refl
 closed-step s p e before (x ∷ text) None h = rw (h refl) refl
-closed-step s p e before [] (Some t) h = rw append-nil (sym (append-nil (header_text s.head p t ++ before)))
-closed-step s p e before (x ∷ text) (Some t) h = sym (append_assoc (header_text s.head p t) before (x ∷ text))
+closed-step s p e before [] (Some t) h = rw append-nil (sym (append-nil (mixed_header_text s.head p t ++ before)))
+closed-step s p e before (x ∷ text) (Some t) h = sym (append_assoc (mixed_header_text s.head p t) before (x ∷ text))
 
 -- what one more closed epoch adds
-pub closed-more : (s : SetupView) (p : PositionView) (e : EpochSetView CellEntry) (below : List (EpochSetView CellEntry))
+pub closed-more : (s : SetupView) (p : PositionView) (e : EpochSetView SignalEntry) (below : List (EpochSetView SignalEntry))
     → closed_text s p (e ∷ below) ≡ closed_text s p below ++ closing s p e below
 unfolding records first_time
 closed-more s p e below = closed-step s p e.epoch (records s.head.listed below) (record_of s.head.listed e below) (first_time s.head.listed below) (no-records s.head.listed below)
 
 -- more closed epochs only add
-pub closed-grows : (s : SetupView) (p : PositionView) (more closed : List (EpochSetView CellEntry)) → (rest : List ℕ) × (closed_text s p (more ++ closed) ≡ closed_text s p closed ++ rest)
+pub closed-grows : (s : SetupView) (p : PositionView) (more closed : List (EpochSetView SignalEntry)) → (rest : List ℕ) × (closed_text s p (more ++ closed) ≡ closed_text s p closed ++ rest)
 closed-grows s p [] closed = ([], sym (append-nil (closed_text s p closed)))
 closed-grows s p (e ∷ more) closed =
     let before = closed-grows s p more closed in
@@ -96,12 +97,12 @@ closed-grows s p (e ∷ more) closed =
     (before.0 ++ t, closed-more s p e (more ++ closed) ∙ ap (λ (x : List ℕ). x ++ t) before.1 ∙ append_assoc (closed_text s p closed) before.0 t)
 
 file-step : (s : SetupView) (p : PositionView) (text : List ℕ) (o : Option ℕ) → (o ≡ None → text ≡ [])
-    → header_text s.head p (unwrap_or o s.near) ++ text ≡ with_header s p o text ++ header_before s p s.near (is_some o)
+    → mixed_header_text s.head p (unwrap_or o s.near) ++ text ≡ with_header s p o text ++ header_before s p s.near (is_some o)
 file-step s p text None h = rw (h refl, append-nil) refl
-file-step s p text (Some t) h = sym (append-nil (header_text s.head p t ++ text))
+file-step s p text (Some t) h = sym (append-nil (mixed_header_text s.head p t ++ text))
 
 -- the whole file: what is out once all its epochs are closed, and the header if there was no record
-pub file-closed : (s : SetupView) (p : PositionView) (epochs : List (EpochSetView CellEntry))
+pub file-closed : (s : SetupView) (p : PositionView) (epochs : List (EpochSetView SignalEntry))
     → file_of s p epochs ≡ closed_text s p epochs ++ header_before s p s.near (is_some (first_time s.head.listed epochs))
 file-closed s p epochs = file-step s p (records s.head.listed epochs) (first_time s.head.listed epochs) (no-records s.head.listed epochs)
 

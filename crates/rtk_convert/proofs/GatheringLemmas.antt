@@ -1,16 +1,15 @@
 -- The frames that one link finds, one after another.
-use Rattle.std.proofs.Common.{◌≡◌, ◌≤◌, ◌<◌, ◌+◌, ◌-◌, ◌%◌, ℕ, Bool, List, [], ◌∷◌, ◌++◌, Option, None, Some, Result, Ok, Err, length, take, drop, refl, ap, append_assoc, sym, subst, ◌∙◌, arith}
+use Rattle.std.proofs.Common.{◌≡◌, ◌≤◌, ◌<◌, ◌+◌, ◌-◌, ℕ, Bool, List, [], ◌∷◌, ◌++◌, Option, None, Some, Result, Ok, Err, length, take, drop, true, false, refl, ap, append_assoc, sym, subst, ◌∙◌, arith}
 use Rattle.std.proofs.lemmas.Grind.{common_steps}
 use Rattle.std.proofs.lemmas.List.{append-nil}
 use Rattle.std.specs.Borrow.{Bor}
 use Rattle.rtk_bits.specs.Bits.{bits}
 use Rattle.rtk_message.specs.declared.any_message.AnyMessage.{AnyMessage as Message}
 use Rattle.rtk_message.specs.declared.any_fault.AnyFault.{AnyFault}
-use Rattle.rtk_message.specs.Fields.{week_ms}
 use Rattle.rtk_message.specs.declared.accepted.Accepted.{Accepted}
-use Rattle.rtk_message.specs.Accepted.{only}
-use Rattle.rtk_message.specs.AnyDecoded.{DecodesBy, tow_of}
-use Rattle.rtk_obs.specs.Dating.{IsDated}
+use Rattle.rtk_message.specs.declared.system.System.{System}
+use Rattle.rtk_message.specs.AnyDecoded.{DecodesBy, number_of, tow_of}
+use Rattle.rtk_obs.specs.Clocks.{IsClockMoment}
 use Rattle.rtk_collect.specs.Arrival.{Arrival, At}
 use Rattle.rtk_frame.specs.Frames.{final_frames, frames, payloads, pending}
 use Rattle.rtk_frame.specs.Scanner.{FedAnswer, RestAnswer}
@@ -20,12 +19,12 @@ use Rattle.rtk_frame.specs.declared.scanner.Answer.TheVariants.{Found, Hungry}
 use Rattle.rtk_frame.proofs.PublicLaws.{after_found, first_payloads, with_more-with_more}
 use Rattle.rtk_convert.specs.Converter.{WritesOn, WritesInto}
 use Rattle.rtk_convert.specs.FileOfArrivals.{file_so_far}
-use Rattle.rtk_convert.specs.FrameClass.{IsEpochOf, IsDatedMessage, IsClassOfReading, IsClassOfPayload, Found as FoundFrame, arrivals}
+use Rattle.rtk_convert.specs.FrameClass.{IsMomentOf, IsDatedMessage, IsClassIf, IsClassOfReading, system_of, IsClassOfPayload, Found as FoundFrame, arrivals}
 use Rattle.rtk_convert.specs.Steps.LinkFrames.{AddsFrames, AddsFramesInPart}
 use Rattle.rtk_convert.specs.History.{Finds, epoch_found, later_of, newest_on}
 use Rattle.rtk_convert.specs.Steps.AcceptedFrame.{IsEpochIn, AcceptsFrame, BreaksOffAtFrame}
 use Rattle.rtk_convert.specs.Report.{lines}
-use Rattle.rtk_convert.specs.Setup.{SetupView}
+use Rattle.rtk_convert.specs.Setup.{SetupView, taken_by, takes}
 use Rattle.rtk_convert.specs.Conversion.{ConversionView, found_on}
 use Rattle.rtk_convert.specs.Writing.{Written, WritesRest}
 use Rattle.rtk_convert.specs.Steps.WritingInPart.{WritesPartOfRest}
@@ -41,51 +40,50 @@ decodes-once k bs (Ok m) s a b = sym (b.only m a.accepted a.message)
 decodes-once k bs (Err f) (Ok n) a b = a.only n b.accepted b.message
 decodes-once k bs (Err f) (Err g) a b = let e : Some f ≡ Some g = sym a.fault ∙ b.fault in cc
 
-dated-once : (near tow t u : ℕ) → IsDated near tow t → IsDated near tow u → t ≡ u
-dated-once near tow t u a b =
-    let same : t % week_ms ≡ u % week_ms = a.time_of_week ∙ sym b.time_of_week in
-    let from = a.from in
-    let before = a.before in
-    let from' = b.from in
-    let before' = b.before in
-    grind (arith)
+-- a clock has one moment
+abbrev pub OneClock : Type 0
+OneClock = (system : System) (near clock : ℕ) (given : Option ℕ) (t u : ℕ) → IsClockMoment system near clock given t → IsClockMoment system near clock given u → t ≡ u
 
-epoch-once : (near : ℕ) (tow a b : Option ℕ) → IsEpochOf near tow a → IsEpochOf near tow b → a ≡ b
-epoch-once near None None None p q = refl
-epoch-once near None None (Some u) p q = absurd q
-epoch-once near None (Some t) b p q = absurd p
-epoch-once near (Some tow) None b p q = absurd p
-epoch-once near (Some tow) (Some t) None p q = absurd q
-epoch-once near (Some tow) (Some t) (Some u) p q = ap Some (dated-once near tow t u p q)
+epoch-once : OneClock → (s : SetupView) (system : System) (clock a b : Option ℕ) → IsMomentOf s system clock a → IsMomentOf s system clock b → a ≡ b
+epoch-once law s system None None None p q = refl
+epoch-once law s system None None (Some u) p q = absurd q
+epoch-once law s system None (Some t) b p q = absurd p
+epoch-once law s system (Some clock) None b p q = absurd p
+epoch-once law s system (Some clock) (Some t) None p q = absurd q
+epoch-once law s system (Some clock) (Some t) (Some u) p q = ap Some (law system s.near clock s.leap_seconds t u p q)
 
-message-once : (s : SetupView) (m : Message) (a b : Arrival) → IsDatedMessage s m a → IsDatedMessage s m b → a ≡ b
-message-once s m (At e x) (At f y) p q =
+message-once : OneClock → (s : SetupView) (m : Message) (a b : Arrival) → IsDatedMessage s m a → IsDatedMessage s m b → a ≡ b
+message-once law s m (At e x) (At f y) p q =
     let messages : x ≡ y = p.0 ∙ sym q.0 in
-    let epochs : e ≡ f = epoch-once s.near (tow_of m) e f p.1 q.1 in
+    let epochs : e ≡ f = epoch-once law s (system_of m) (tow_of m) e f p.1 q.1 in
     cc
 
-class-once : (s : SetupView) (r : Result Message AnyFault) (f g : FrameClass) → IsClassOfReading s r f → IsClassOfReading s r g → f ≡ g
-class-once s (Err fault) f g p q = p ∙ sym q
-class-once s (Ok m) OtherMessage g p q = absurd p
-class-once s (Ok m) (Refused fault) g p q = absurd p
-class-once s (Ok m) Foreign OtherMessage p q = absurd q
-class-once s (Ok m) Foreign (Refused fault) p q = absurd q
-class-once s (Ok m) Foreign Foreign p q = refl
-class-once s (Ok m) Foreign (Dated b) p q = absurd (p q.0)
-class-once s (Ok m) (Dated a) OtherMessage p q = absurd q
-class-once s (Ok m) (Dated a) (Refused fault) p q = absurd q
-class-once s (Ok m) (Dated a) Foreign p q = absurd (q p.0)
-class-once s (Ok m) (Dated a) (Dated b) p q = ap Dated (message-once s m a b p.1 q.1)
+class-if-once : OneClock → (b : Bool) (s : SetupView) (m : Message) (f g : FrameClass) → IsClassIf b s m f → IsClassIf b s m g → f ≡ g
+class-if-once law false s m f g p q = p ∙ sym q
+class-if-once law true s m OtherMessage g p q = absurd p
+class-if-once law true s m (Refused fault) g p q = absurd p
+class-if-once law true s m Foreign OtherMessage p q = absurd q
+class-if-once law true s m Foreign (Refused fault) p q = absurd q
+class-if-once law true s m Foreign Foreign p q = refl
+class-if-once law true s m Foreign (Dated b) p q = absurd (p q.0)
+class-if-once law true s m (Dated a) OtherMessage p q = absurd q
+class-if-once law true s m (Dated a) (Refused fault) p q = absurd q
+class-if-once law true s m (Dated a) Foreign p q = absurd (q p.0)
+class-if-once law true s m (Dated a) (Dated b) p q = ap Dated (message-once law s m a b p.1 q.1)
 
-pub comes-once : (s : SetupView) (payload : List ℕ) (f g : FrameClass) → IsClassOfPayload s payload f → IsClassOfPayload s payload g → f ≡ g
-comes-once s payload f g (r, decodes, is) (r', decodes', is') =
-    let same : r' ≡ r = decodes-once (only s.msm) (bits payload) r' r decodes' decodes in
-    class-once s r f g is (subst (λ (x : Result Message AnyFault). IsClassOfReading s x g) same is')
+class-once : OneClock → (s : SetupView) (r : Result Message AnyFault) (f g : FrameClass) → IsClassOfReading s r f → IsClassOfReading s r g → f ≡ g
+class-once law s (Err fault) f g p q = p ∙ sym q
+class-once law s (Ok m) f g p q = class-if-once law (takes s (number_of m)) s m f g p q
+
+pub comes-once : OneClock → (s : SetupView) (payload : List ℕ) (f g : FrameClass) → IsClassOfPayload s payload f → IsClassOfPayload s payload g → f ≡ g
+comes-once law s payload f g (r, decodes, is) (r', decodes', is') =
+    let same : r' ≡ r = decodes-once (taken_by s) (bits payload) r' r decodes' decodes in
+    class-once law s r f g is (subst (λ (x : Result Message AnyFault). IsClassOfReading s x g) same is')
 
 -- ---- what was written
 
 pub writes-nothing : (s : SetupView) (found : List FoundFrame) (o : Written) → WritesOn s found found o o
-writes-nothing s found o = record { out = writes-none o.file (file_so_far s (arrivals found)) (file_so_far s (arrivals found)) refl; log = writes-none o.report (lines s.window found) (lines s.window found) refl }
+writes-nothing s found o = record { out = writes-none o.file (file_so_far s (arrivals found)) (file_so_far s (arrivals found)) refl; log = writes-none o.report (lines s found) (lines s found) refl }
 
 -- what was written, and what was written after it
 pub goes-on : (s : SetupView) (first mid last : List FoundFrame) (o0 o1 o2 : Written) → WritesOn s first mid o0 o1 → WritesOn s mid last o1 o2 → WritesOn s first last o0 o2
@@ -112,13 +110,13 @@ gathers-none old link n o = λ before represents. (
 newest-more : (link : ℕ) (f : FrameClass) (found : List FoundFrame) → newest_on link (found_on link f ∷ found) ≡ later_of (epoch_found f) (newest_on link found)
 newest-more link f found = grind (arith, common_steps)
 
-pub gathers-more : {old mid new : ConversionView} {link : ℕ} {done : List (List ℕ)} (payload : List ℕ) {epoch n0 n1 n2 : Option ℕ} {o0 o1 o2 : Written}
+pub gathers-more : OneClock → {old mid new : ConversionView} {link : ℕ} {done : List (List ℕ)} (payload : List ℕ) {epoch n0 n1 n2 : Option ℕ} {o0 o1 o2 : Written}
     → mid.setup ≡ old.setup → AddsFrames old link done mid n0 n1 o0 o1 → AcceptsFrame mid link payload new o1 o2 → IsEpochIn mid.setup payload epoch → n2 ≡ later_of epoch n1
     → AddsFrames old link (done ++ payload ∷ []) new n0 n2 o0 o2
-gathers-more {old} {mid} {new} {link} {done} payload {epoch} {n0} {n1} {n2} {o0} {o1} {o2} same_setup gathers arrives is newest = λ before represents.
+gathers-more law {old} {mid} {new} {link} {done} payload {epoch} {n0} {n1} {n2} {o0} {o1} {o2} same_setup gathers arrives is newest = λ before represents.
     let (found, g) = gathers before represents in
     let (f, comes, a) = arrives found g.represents in
-    let same : is.0 ≡ f = comes-once mid.setup payload is.0 f is.1 comes in (
+    let same : is.0 ≡ f = comes-once law mid.setup payload is.0 f is.1 comes in (
       found_on link f ∷ found,
       record {
         finds = finds-more old.setup link done payload f before found g.finds (subst (λ (s : SetupView). IsClassOfPayload s payload f) same_setup comes);
@@ -138,7 +136,7 @@ breaks-off {old} {mid} {link} {all} {done} left payload {n0} {n1} {o0} {o1} {o2}
     let (found, g) = gathers before represents in
     let (f, comes, b) = breaks found g.represents in
     let out = subst (λ (s : SetupView). WritesPartOfRest o1.file o2.file (file_so_far s (arrivals found)) (file_so_far s (arrivals (found_on link f ∷ found)))) same_setup b.out in
-    let log = subst (λ (s : SetupView). WritesPartOfRest o1.report o2.report (lines s.window found) (lines s.window (found_on link f ∷ found))) same_setup b.log in
+    let log = subst (λ (s : SetupView). WritesPartOfRest o1.report o2.report (lines s found) (lines s (found_on link f ∷ found))) same_setup b.log in
     record {
       done = done;
       payload = payload;

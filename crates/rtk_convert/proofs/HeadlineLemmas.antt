@@ -2,9 +2,9 @@
 use Rattle.std.proofs.Common.{◌≡◌, ◌↔◌, ℕ, List, [], ◌∷◌, length, Option, None, Some, refl, sym, ap, subst, ◌∙◌}
 use Rattle.rtk_frame.specs.Stream.{with_more}
 use Rattle.rtk_message.specs.declared.any_message.AnyMessage.{AnyMessage as Message}
-use Rattle.rtk_obs.specs.MessageCells.{cells_of}
-use Rattle.rtk_collect.specs.Gps.{gps}
-use Rattle.rtk_obs.specs.declared.cell.CellEntry.{CellEntry}
+use Rattle.rtk_convert.specs.Setup.{cells_by}
+use Rattle.rtk_collect.specs.Signals.{signals}
+use Rattle.rtk_obs.specs.declared.signal_cells.SignalEntry.{SignalEntry}
 use Rattle.rtk_collect.specs.Arrival.{Arrival, At}
 use Rattle.rtk_collect.specs.Accepted.{kept, station}
 use Rattle.rtk_collect.specs.EpochSet.{EpochSetView}
@@ -30,32 +30,32 @@ use Rattle.rtk_convert.proofs.RunLemmas.{RunsAs}
 
 content : SetupView → List Arrival → Content
 content s arrivals = record {
-  epochs = kept gps cells_of s.window arrivals;
+  epochs = kept signals (cells_by s) s.window arrivals;
   arp1005 = station s.window 1005 arrivals;
   arp1006 = station s.window 1006 arrivals;
 }
 
-station-of : (s : SetupView) (arrivals : List Arrival) (number : ℕ) → EqualKeysCarryEqualBodies (CameInTime s arrivals) → IsStationOf (CameInTime s arrivals) number (station s.window number arrivals)
+station-of : (s : SetupView) (arrivals : List Arrival) (number : ℕ) → EqualKeysCarryEqualBodies s (CameInTime s arrivals) → IsStationOf (CameInTime s arrivals) number (station s.window number arrivals)
 station-of s arrivals number good =
-    let law = kept-are-taken gps cells_of s.window arrivals in
+    let law = kept-are-taken signals (cells_by s) s.window arrivals in
     λ m. (
       λ e. let p = law.2 m number e in (taken-came s (At None m) arrivals p.0, p.1),
       λ p. subst (λ (k : ℕ). station s.window k arrivals ≡ Some m) p.1 ((law.3 (consistent s arrivals good)).1 m (came-taken s (At None m) arrivals p.0)),
     )
 
-content-of : (s : SetupView) (arrivals : List Arrival) → EqualKeysCarryEqualBodies (CameInTime s arrivals) → IsContentOf (CameInTime s arrivals) (content s arrivals)
+content-of : (s : SetupView) (arrivals : List Arrival) → EqualKeysCarryEqualBodies s (CameInTime s arrivals) → IsContentOf s (CameInTime s arrivals) (content s arrivals)
 unfolding content
 content-of s arrivals good =
-    let law = kept-are-taken gps cells_of s.window arrivals in
+    let law = kept-are-taken signals (cells_by s) s.window arrivals in
     record {
       epochs = λ e. (
-        λ p. let q = (law.0 e).0 (contains-has e (kept gps cells_of s.window arrivals) p) in (q.0, taken-came s (At (Some e) q.0) arrivals q.1),
-        λ p. has-contains e (kept gps cells_of s.window arrivals) ((law.0 e).1 (p.0, came-taken s (At (Some e) p.0) arrivals p.1)),
+        λ p. let q = (law.0 e).0 (contains-has e (kept signals (cells_by s) s.window arrivals) p) in (q.0, taken-came s (At (Some e) q.0) arrivals q.1),
+        λ p. has-contains e (kept signals (cells_by s) s.window arrivals) ((law.0 e).1 (p.0, came-taken s (At (Some e) p.0) arrivals p.1)),
       );
       cells = λ e x. (
-        λ p. let q = law.1 e x (stands-kept e x (kept gps cells_of s.window arrivals) p) in (q.0, taken-came s (At (Some e) q.0) arrivals q.1, among-contains x (cells_of q.0) q.2),
-        λ p. kept-stands e x (kept gps cells_of s.window arrivals)
-            ((law.3 (consistent s arrivals good)).0 e x (p.0, came-taken s (At (Some e) p.0) arrivals p.1, contains-among x (cells_of p.0) p.2)),
+        λ p. let q = law.1 e x (stands-kept e x (kept signals (cells_by s) s.window arrivals) p) in (q.0, taken-came s (At (Some e) q.0) arrivals q.1, among-contains x (cells_by s q.0) q.2),
+        λ p. kept-stands e x (kept signals (cells_by s) s.window arrivals)
+            ((law.3 (consistent s arrivals good)).0 e x (p.0, came-taken s (At (Some e) p.0) arrivals p.1, contains-among x (cells_by s p.0) p.2)),
       );
       arp1005 = station-of s arrivals 1005 good;
       arp1006 = station-of s arrivals 1006 good;
@@ -64,11 +64,11 @@ content-of s arrivals good =
 each-once : (s : SetupView) (arrivals : List Arrival) → EachOnce (content s arrivals)
 unfolding content
 each-once s arrivals = record {
-  epochs = fall-pairs (kept gps cells_of s.window arrivals) (kept-falls gps cells_of s.window arrivals);
-  cells = cells-pairs (kept gps cells_of s.window arrivals) (kept-rise gps cells_of s.window arrivals);
+  epochs = fall-pairs (kept signals (cells_by s) s.window arrivals) (kept-falls signals (cells_by s) s.window arrivals);
+  cells = cells-pairs (kept signals (cells_by s) s.window arrivals) (kept-rise signals (cells_by s) s.window arrivals);
 }
 
-file-of-set : (s : SetupView) (arrivals : List Arrival) → EqualKeysCarryEqualBodies (CameInTime s arrivals) → IsFileOf s (CameInTime s arrivals) (kept_file s arrivals)
+file-of-set : (s : SetupView) (arrivals : List Arrival) → EqualKeysCarryEqualBodies s (CameInTime s arrivals) → IsFileOf s (CameInTime s arrivals) (kept_file s arrivals)
 unfolding content
 file-of-set s arrivals good = (content s arrivals, content-of s arrivals good, each-once s arrivals, refl)
 
@@ -87,7 +87,7 @@ same-file-of : (s : SetupView) (set other : Arrival → Type 0) (first second : 
 same-file-of s set other first second same p q =
     let c : Content = p.0 in
     let d : Content = q.0 in
-    let epochs = kept-same gps c.epochs d.epochs (pairs-fall c.epochs p.2.epochs) (pairs-fall d.epochs q.2.epochs) (pairs-cells c.epochs p.2.cells) (pairs-cells d.epochs q.2.cells)
+    let epochs = kept-same signals c.epochs d.epochs (pairs-fall c.epochs p.2.epochs) (pairs-fall d.epochs q.2.epochs) (pairs-cells c.epochs p.2.cells) (pairs-cells d.epochs q.2.cells)
     (λ e h. let m = (p.1.epochs e).0 (has-contains e c.epochs h) in contains-has e d.epochs ((q.1.epochs e).1 (m.0, (same (At (Some e) m.0)).0 m.1)))
     (λ e h. let m = (q.1.epochs e).0 (has-contains e d.epochs h) in contains-has e c.epochs ((p.1.epochs e).1 (m.0, (same (At (Some e) m.0)).1 m.1)))
     (λ e x h. let m = (p.1.cells e x).0 (kept-stands e x c.epochs h) in stands-kept e x d.epochs ((q.1.cells e x).1 (m.0, (same (At (Some e) m.0)).0 m.1, m.2)))
@@ -96,7 +96,7 @@ same-file-of s set other first second same p q =
     let b = same-station set other 1006 c.arp1006 d.arp1006 same p.1.arp1006 q.1.arp1006 in
     p.3 ∙ ap (λ (m : Option Message). file_of s (site_of_stations m c.arp1006) c.epochs) a
     ∙ ap (λ (m : Option Message). file_of s (site_of_stations d.arp1005 m) c.epochs) b
-    ∙ ap (λ (xs : List (EpochSetView CellEntry)). file_of s (site_of_stations d.arp1005 d.arp1006) xs) epochs
+    ∙ ap (λ (xs : List (EpochSetView SignalEntry)). file_of s (site_of_stations d.arp1005 d.arp1006) xs) epochs
     ∙ sym q.3
 
 pub set-has-one-file : SetHasOneFile
@@ -110,7 +110,7 @@ in-time-stay n (a ∷ before) p = rw p.0 (ap (λ (xs : List Arrival). a ∷ xs) 
 
 late-nothing : (s : SetupView) (arrivals : List Arrival) → LateChangeNothing s arrivals
 late-nothing s arrivals =
-    let law = late-change-nothing gps cells_of s.window arrivals in
+    let law = late-change-nothing signals (cells_by s) s.window arrivals in
     record {
       others = law.0;
       none_late = in-time-stay s.window (without_late s.window arrivals) law.1;
@@ -127,7 +127,7 @@ pub headline-of : (s : SetupView) (found : List Found) (o o' : Written) → o'.f
 headline-of s found o o' out log =
     let same : arrivals found ≡ messages_of (came_of found) = sym (messages-came found) in
     record {
-      file_of_the_set = subst (λ (xs : List Arrival). EqualKeysCarryEqualBodies (CameInTime s xs) → IsWritten o.file o'.file (IsFileOf s (CameInTime s xs))) same
+      file_of_the_set = subst (λ (xs : List Arrival). EqualKeysCarryEqualBodies s (CameInTime s xs) → IsWritten o.file o'.file (IsFileOf s (CameInTime s xs))) same
           (λ good. (kept_file s (arrivals found), out, file-of-set s (arrivals found) good));
       late_are_listed = late-listed s found o.report o'.report log;
       late_change_nothing = subst (λ (xs : List Arrival). LateChangeNothing s xs) same (late-nothing s (arrivals found));
@@ -137,7 +137,7 @@ pub kept-of : (s : SetupView) (found : List Found) (counts : Counts) (o o' : Wri
     → counts ≡ all_counts s found → WritesKept s found counts o o'
 kept-of s found counts o o' out log counts_are = record {
   out = out;
-  late_leave_file = late-leave (late-change-nothing gps cells_of) s (arrivals found);
+  late_leave_file = late-leave (λ x. late-change-nothing signals (cells_by x)) s (arrivals found);
   log = log;
   counts_are = counts_are;
 }

@@ -8,23 +8,23 @@ use Rattle.std.proofs.lemmas.List.Elements.{filter-append}
 use Rattle.rtk_frame.specs.Stream.{with_more}
 use Rattle.rtk_message.specs.AnyDecoded.{number_of}
 use Rattle.rtk_message.specs.AnyFaultCode.{any_fault_text}
-use Rattle.rtk_obs.specs.declared.code.Code.{Code}
-use Rattle.rtk_collect.specs.Gps.{gps}
-use Rattle.rtk_obs.specs.MessageCells.{cells_of}
+use Rattle.rtk_obs.specs.declared.any_code.AnyCode.{AnyCode}
+use Rattle.rtk_collect.specs.Signals.{signals}
+use Rattle.rtk_convert.specs.Setup.{cells_by}
 use Rattle.rtk_collect.specs.Arrival.{Arrival, epoch_of, message_of}
 use Rattle.rtk_collect.specs.Answer.{Class, LateClass, TakenClass, RepeatClass, ConflictClass, class_of, conflicts_of}
-use Rattle.rtk_collect.specs.declared.conflicts.SatelliteCode.{SatelliteCode}
+use Rattle.rtk_collect.specs.declared.conflicts.AnySatelliteCode.{AnySatelliteCode}
 use Rattle.rtk_collect.specs.Late.{late}
 use Rattle.rtk_convert.specs.declared.counts.Counts.{Counts}
 use Rattle.rtk_convert.specs.declared.frame_class.FrameClass.{FrameClass}
 use Rattle.rtk_convert.specs.declared.frame_class.FrameClass.TheVariants.{OtherMessage, Refused, Foreign, Dated}
 use Rattle.rtk_convert.specs.FrameClass.{Found, arrivals}
-use Rattle.rtk_convert.specs.Finish.{all_counts, report_of}
+use Rattle.rtk_convert.specs.Finish.{all_counts, missing_letters, missing_lines, report_of}
 use Rattle.rtk_convert.specs.Headline.{messages_of, late_lines, LateAreListed}
 use Rattle.rtk_convert.specs.Kept.{came_of}
-use Rattle.rtk_convert.specs.Report.{refused_line, cell_lines, class_lines, frame_lines, lines}
-use Rattle.rtk_convert.specs.ReportText.{link_text, arrival_text, late_line, cell_conflict_line, signal_text, count_line, count_lines}
-use Rattle.rtk_convert.specs.Setup.{SetupView}
+use Rattle.rtk_convert.specs.Report.{arrival_class, refused_line, cell_lines, class_lines, frame_lines, lines}
+use Rattle.rtk_convert.specs.ReportText.{link_text, arrival_text, late_line, cell_conflict_line, signal_text, missing_line, count_line, count_lines}
+use Rattle.rtk_convert.specs.Setup.{SetupView, is_of_gps}
 use Rattle.rtk_convert.proofs.CameLemmas.{messages-came}
 
 -- ---- texts that are empty or end in LF
@@ -42,20 +42,20 @@ ended-after : (front text : List ℕ) → Ends front → IsEnded text → Ends (
 ended-after front text p (inl e) = (p.0, ap (λ t. front ++ t) e ∙ append-nil front ∙ p.1)
 ended-after front text p (inr q) = ends-after front text q
 
-cell-ends : (link number epoch satellite : ℕ) (code : Code) → Ends (cell_conflict_line link number epoch satellite code)
+cell-ends : (link number epoch satellite : ℕ) (code : AnyCode) → Ends (cell_conflict_line link number epoch satellite code)
 cell-ends link number epoch satellite code = (arrival_text link (codes " conflict ") number (Some epoch) ++ signal_text satellite code, refl)
 
-cells-ended : (link number : ℕ) (epoch : Option ℕ) (cells : List SatelliteCode) → IsEnded (cell_lines link number epoch cells)
+cells-ended : (link number : ℕ) (epoch : Option ℕ) (cells : List AnySatelliteCode) → IsEnded (cell_lines link number epoch cells)
 cells-ended link number None cells = inl refl
 cells-ended link number (Some e) [] = inl refl
 cells-ended link number (Some e) (c ∷ cells) =
     inr (ended-after (cell_conflict_line link number e c.satellite c.code) (cell_lines link number (Some e) cells) (cell-ends link number e c.satellite c.code) (cells-ended link number (Some e) cells))
 
-conflict-ended : (link number : ℕ) (epoch : Option ℕ) (cells : List SatelliteCode) → IsEnded (class_lines link number epoch ConflictClass cells)
+conflict-ended : (link number : ℕ) (epoch : Option ℕ) (cells : List AnySatelliteCode) → IsEnded (class_lines link number epoch ConflictClass cells)
 conflict-ended link number None cells = inr (arrival_text link (codes " conflict ") number None, refl)
 conflict-ended link number (Some e) cells = cells-ended link number (Some e) cells
 
-class-ended : (link number : ℕ) (epoch : Option ℕ) (c : Class) (cells : List SatelliteCode) → IsEnded (class_lines link number epoch c cells)
+class-ended : (link number : ℕ) (epoch : Option ℕ) (c : Class) (cells : List AnySatelliteCode) → IsEnded (class_lines link number epoch c cells)
 class-ended link number epoch LateClass cells = inr (arrival_text link (codes " late ") number epoch, refl)
 class-ended link number epoch TakenClass cells = cells-ended link number epoch cells
 class-ended link number epoch RepeatClass cells = inl refl
@@ -117,46 +117,59 @@ has-late lates text line p = record {
 
 -- ---- the lines of found frames
 
-late-lines : (n link : ℕ) (a : Arrival) (before : List Found) → late n a (arrivals before) ≡ true
-    → frame_lines n link (Dated a) (arrivals before) ≡ late_line link (number_of (message_of a)) (epoch_of a)
-late-lines n link a before over =
-    let e : class_of gps cells_of n a (arrivals before) ≡ LateClass = rw over refl in
-    ap (λ k. class_lines link (number_of (message_of a)) (epoch_of a) k (conflicts_of gps cells_of n a (arrivals before))) e
+late-lines : (s : SetupView) (link : ℕ) (a : Arrival) (before : List Found) → late s.window a (arrivals before) ≡ true
+    → frame_lines s link (Dated a) (arrivals before) ≡ late_line link (number_of (message_of a)) (epoch_of a)
+late-lines s link a before over =
+    let e : arrival_class s a (arrivals before) ≡ LateClass = rw over refl in
+    ap (λ k. class_lines link (number_of (message_of a)) (epoch_of a) k (conflicts_of signals (cells_by s) s.window a (arrivals before))) e
 
 late-more : (s : SetupView) (link : ℕ) (a : Arrival) (before : List (ℕ × Arrival)) (b : Bool) → late s.window a (messages_of before) ≡ b
     → late_lines s ((link, a) ∷ before) ≡ late_lines s before ++ (if b then arrival_text link (codes " late ") (number_of (message_of a)) (epoch_of a) ∷ [] else [])
 late-more s link a before b e = ap (λ (x : Bool). late_lines s before ++ (if x then arrival_text link (codes " late ") (number_of (message_of a)) (epoch_of a) ∷ [] else [])) e
 
-dated-listed : (s : SetupView) (link : ℕ) (a : Arrival) (before : List Found) → HasLines (late_lines s (came_of before)) (lines s.window before)
-    → HasLines (late_lines s ((link, a) ∷ came_of before)) (lines s.window before ++ frame_lines s.window link (Dated a) (arrivals before))
+dated-listed : (s : SetupView) (link : ℕ) (a : Arrival) (before : List Found) → HasLines (late_lines s (came_of before)) (lines s before)
+    → HasLines (late_lines s ((link, a) ∷ came_of before)) (lines s before ++ frame_lines s link (Dated a) (arrivals before))
 dated-listed s link a before p =
     let same : late s.window a (messages_of (came_of before)) ≡ late s.window a (arrivals before) = ap (λ (xs : List Arrival). late s.window a xs) (messages-came before) in
     elim (cases_Bool (late s.window a (arrivals before))) [
-      | inl over ↦ subst (λ (lates : List (List ℕ)). HasLines lates (lines s.window before ++ frame_lines s.window link (Dated a) (arrivals before)))
+      | inl over ↦ subst (λ (lates : List (List ℕ)). HasLines lates (lines s before ++ frame_lines s link (Dated a) (arrivals before)))
           (sym (late-more s link a (came_of before) true (same ∙ over)))
-          (subst (λ (t : List ℕ). HasLines (late_lines s (came_of before) ++ arrival_text link (codes " late ") (number_of (message_of a)) (epoch_of a) ∷ []) (lines s.window before ++ t))
-          (sym (late-lines s.window link a before over))
-          (has-late (late_lines s (came_of before)) (lines s.window before) (arrival_text link (codes " late ") (number_of (message_of a)) (epoch_of a)) p))
-      | inr in_time ↦ subst (λ (lates : List (List ℕ)). HasLines lates (lines s.window before ++ frame_lines s.window link (Dated a) (arrivals before)))
+          (subst (λ (t : List ℕ). HasLines (late_lines s (came_of before) ++ arrival_text link (codes " late ") (number_of (message_of a)) (epoch_of a) ∷ []) (lines s before ++ t))
+          (sym (late-lines s link a before over))
+          (has-late (late_lines s (came_of before)) (lines s before) (arrival_text link (codes " late ") (number_of (message_of a)) (epoch_of a)) p))
+      | inr in_time ↦ subst (λ (lates : List (List ℕ)). HasLines lates (lines s before ++ frame_lines s link (Dated a) (arrivals before)))
           (sym (late-more s link a (came_of before) false (same ∙ in_time) ∙ append-nil (late_lines s (came_of before))))
-          (has-more (late_lines s (came_of before)) (lines s.window before) (frame_lines s.window link (Dated a) (arrivals before)) p
-          (class-ended link (number_of (message_of a)) (epoch_of a) (class_of gps cells_of s.window a (arrivals before)) (conflicts_of gps cells_of s.window a (arrivals before))))
+          (has-more (late_lines s (came_of before)) (lines s before) (frame_lines s link (Dated a) (arrivals before)) p
+          (class-ended link (number_of (message_of a)) (epoch_of a) (class_of signals (cells_by s) s.window a (arrivals before)) (conflicts_of signals (cells_by s) s.window a (arrivals before))))
     ]
 
-frame-listed : (s : SetupView) (link : ℕ) (c : FrameClass) (before : List Found) → HasLines (late_lines s (came_of before)) (lines s.window before)
-    → HasLines (late_lines s (came_of (record { link = link; class = c } ∷ before))) (lines s.window before ++ frame_lines s.window link c (arrivals before))
-frame-listed s link OtherMessage before p = has-more (late_lines s (came_of before)) (lines s.window before) [] p (inl refl)
+frame-listed : (s : SetupView) (link : ℕ) (c : FrameClass) (before : List Found) → HasLines (late_lines s (came_of before)) (lines s before)
+    → HasLines (late_lines s (came_of (record { link = link; class = c } ∷ before))) (lines s before ++ frame_lines s link c (arrivals before))
+frame-listed s link OtherMessage before p = has-more (late_lines s (came_of before)) (lines s before) [] p (inl refl)
 frame-listed s link (Refused fault) before p =
-    has-more (late_lines s (came_of before)) (lines s.window before) (refused_line link fault) p
+    has-more (late_lines s (came_of before)) (lines s before) (refused_line link fault) p
     (inr (link_text link ++ codes " refused " ++ any_fault_text fault, refl))
-frame-listed s link Foreign before p = has-more (late_lines s (came_of before)) (lines s.window before) [] p (inl refl)
+frame-listed s link Foreign before p = has-more (late_lines s (came_of before)) (lines s before) [] p (inl refl)
 frame-listed s link (Dated a) before p = dated-listed s link a before p
 
-lines-listed : (s : SetupView) (found : List Found) → HasLines (late_lines s (came_of found)) (lines s.window found)
+lines-listed : (s : SetupView) (found : List Found) → HasLines (late_lines s (came_of found)) (lines s found)
 lines-listed s [] = record { all = []; is_text = refl; are_marked = refl }
 lines-listed s (f ∷ before) = frame-listed s f.link f.class before (lines-listed s before)
 
+line-ended : (letters : List ℕ) → IsEnded (missing_line letters)
+line-ended [] = inl refl
+line-ended (x ∷ letters) = inr (codes "no-message" ++ x ∷ letters, sym (append_assoc (codes "no-message") (x ∷ letters) (10 ∷ [])))
+
+missing-if : (b : Bool) (letters : List ℕ) → IsEnded (if b then [] else missing_line letters)
+missing-if true letters = inl refl
+missing-if false letters = line-ended letters
+
+missing-ended : (s : SetupView) (found : List Found) → IsEnded (missing_lines s found)
+missing-ended s found = missing-if (is_of_gps s) (missing_letters s found)
+
 pub late-listed : (s : SetupView) (found : List Found) (report_old report_new : Option (List ℕ)) → report_new ≡ with_more report_old (report_of s found) → LateAreListed s (came_of found) report_old report_new
 late-listed s found report_old report_new w =
-    let p = has-more (late_lines s (came_of found)) (lines s.window found) (count_lines (all_counts s found)) (lines-listed s found) (inr (counts-end (all_counts s found))) in
+    let missing = has-more (late_lines s (came_of found)) (lines s found) (missing_lines s found) (lines-listed s found) (missing-ended s found) in
+    let last = has-more (late_lines s (came_of found)) (lines s found ++ missing_lines s found) (count_lines (all_counts s found)) missing (inr (counts-end (all_counts s found))) in
+    let p = subst (λ (t : List ℕ). HasLines (late_lines s (came_of found)) t) (append_assoc (lines s found) (missing_lines s found) (count_lines (all_counts s found))) last in
     (report_of s found, w, (p.all, p.is_text, p.are_marked))

@@ -1,14 +1,13 @@
 -- How a call ends, at a conversion that was opened.
 use Rattle.std.proofs.Common.{◌≡◌, ℕ, Bool, List, Option, Result, Ok, Err, ap, sym, subst, ◌∙◌}
-use Rattle.std.specs.Prelude.{OnOk, IfErr}
-use Rattle.rtk_obs.specs.declared.cell.CellEntry.{CellEntry}
+use Rattle.std.specs.Prelude.{OnOk}
+use Rattle.rtk_obs.specs.declared.signal_cells.SignalEntry.{SignalEntry}
 use Rattle.rtk_collect.specs.Arrival.{Arrival}
 use Rattle.rtk_collect.specs.Collector.{CollectorView}
 use Rattle.rtk_convert.specs.ClosedEpochs.{ClosedEpochsView}
 use Rattle.rtk_convert.specs.declared.counts.Counts.{Counts}
+use Rattle.rtk_convert.specs.declared.systems.Systems.{Systems}
 use Rattle.rtk_convert.specs.declared.fault.ConvertFault.{ConvertFault}
-use Rattle.rtk_convert.specs.declared.fault.ConvertFault.TheVariants.{Write}
-use Rattle.rtk_convert.specs.declared.fault.Stream.TheVariants.{Log}
 use Rattle.rtk_convert.specs.declared.frame_class.FrameClass.{FrameClass}
 use Rattle.rtk_convert.specs.Conversion.{ConversionView, IsAhead}
 use Rattle.rtk_convert.specs.Failure.{IsFrameFault}
@@ -21,8 +20,6 @@ use Rattle.rtk_convert.specs.Steps.Closing.{FinishesConversion, FinishesConversi
 use Rattle.rtk_convert.specs.Setup.{SetupView}
 use Rattle.rtk_convert.specs.Writing.{Written}
 use Rattle.rtk_convert.proofs.ArriveLemmas.{state, arrives-still, breaks-still}
-use Rattle.rtk_convert.proofs.HandedLemmas.{log-frame}
-use Rattle.rtk_convert.proofs.WritingLemmas.{on_err-from}
 
 -- what is kept of the opened conversion is kept of the conversion
 pub keeps-seen : {opened old new : ConversionView} → opened ≡ old → KeepsWindow opened new → KeepsWindow old new
@@ -62,27 +59,24 @@ payload-err {opened} {old} {new} {link} {payload} {o} {o'} fault f seen comes ma
     (record { epoch = tt; ok = tt; err = breaks; fault = is; cause = (f, comes, may) })
 
 -- whether the conversion has stopped changes nothing of this
-pub payload-still : {s s' : SetupView} {w w' : CollectorView CellEntry} {c c' : ClosedEpochsView} {k k' : Counts} {b b' d d' : Bool} {old mid : ConversionView} {link : ℕ} {payload : List ℕ} {epoch : Option ℕ} {o o' : Written}
-    → state s w c k d ≡ old → state s' w' c' k' b' ≡ mid → HandlesPayload (state s w c k b) link payload (Ok epoch) mid o o'
-    → HandlesPayload old link payload (Ok epoch) (state s' w' c' k' d') o o'
-payload-still {s} {s'} {w} {w'} {c} {c'} {k} {k'} {b} {b'} {d} {d'} {old} {mid} {link} {payload} {epoch} {o} {o'} seen after h =
-    let accepts = subst (λ (x : ConversionView). AcceptsFrame (state s w c k b) link payload x o o') (sym after) h.ok in
-    subst (λ (x : ConversionView). HandlesPayload x link payload (Ok epoch) (state s' w' c' k' d') o o') seen
+pub payload-still : {s s' : SetupView} {w w' : CollectorView SignalEntry} {c c' : ClosedEpochsView} {k k' : Counts} {y y' : Systems} {b b' d d' : Bool} {old mid : ConversionView} {link : ℕ} {payload : List ℕ} {epoch : Option ℕ} {o o' : Written}
+    → state s w c k y d ≡ old → state s' w' c' k' y' b' ≡ mid → HandlesPayload (state s w c k y b) link payload (Ok epoch) mid o o'
+    → HandlesPayload old link payload (Ok epoch) (state s' w' c' k' y' d') o o'
+payload-still {s} {s'} {w} {w'} {c} {c'} {k} {k'} {y} {y'} {b} {b'} {d} {d'} {old} {mid} {link} {payload} {epoch} {o} {o'} seen after h =
+    let accepts = subst (λ (x : ConversionView). AcceptsFrame (state s w c k y b) link payload x o o') (sym after) h.ok in
+    subst (λ (x : ConversionView). HandlesPayload x link payload (Ok epoch) (state s' w' c' k' y' d') o o') seen
     (record { epoch = h.epoch; ok = arrives-still payload accepts; err = tt; fault = tt; cause = tt })
 
-pub payload-off : {s : SetupView} {w : CollectorView CellEntry} {c : ClosedEpochsView} {k : Counts} {b d : Bool} {old mid new : ConversionView} {link : ℕ} {payload : List ℕ} {fault : ConvertFault} {o o' : Written}
-    → state s w c k d ≡ old → HandlesPayload (state s w c k b) link payload (Err fault) mid o o' → HandlesPayload old link payload (Err fault) new o o'
-payload-off {s} {w} {c} {k} {b} {d} {old} {mid} {new} {link} {payload} {fault} {o} {o'} seen h =
+pub payload-off : {s : SetupView} {w : CollectorView SignalEntry} {c : ClosedEpochsView} {k : Counts} {y : Systems} {b d : Bool} {old mid new : ConversionView} {link : ℕ} {payload : List ℕ} {fault : ConvertFault} {o o' : Written}
+    → state s w c k y d ≡ old → HandlesPayload (state s w c k y b) link payload (Err fault) mid o o' → HandlesPayload old link payload (Err fault) new o o'
+payload-off {s} {w} {c} {k} {y} {b} {d} {old} {mid} {new} {link} {payload} {fault} {o} {o'} seen h =
     subst (λ (x : ConversionView). HandlesPayload x link payload (Err fault) new o o') seen
     (record { epoch = tt; ok = tt; err = breaks-still payload h.err; fault = h.fault; cause = h.cause })
 
--- the lines of a message were written, or the call breaks off in them
-pub message-lines : {T : Type 0} {opened old new : ConversionView} {link : ℕ} {a : Arrival} {o o' : Written} (r : Result T ConvertFault)
-    → opened ≡ old → IfErr r (λ f. f ≡ Write Log) → OnOk r (AddsMessage opened link a new o o') → AddsMessageInPart opened link a o o'
-    → HandlesMessage old link a r new o o'
-message-lines {T} {opened} {old} {new} {link} {a} {o} {o'} r seen is adds part =
-    subst (λ (x : ConversionView). HandlesMessage x link a r new o o') seen
-    (record { ok = adds; err = on_err-from r part; fault = log-frame r is })
+pub message-ok : {T : Type 0} {answer : T} {opened old new : ConversionView} {link : ℕ} {a : Arrival} {o o' : Written}
+    → opened ≡ old → AddsMessage opened link a new o o' → HandlesMessage old link a (Ok answer) new o o'
+message-ok {T} {answer} {opened} {old} {new} {link} {a} {o} {o'} seen adds =
+    subst (λ (x : ConversionView). HandlesMessage x link a (Ok answer) new o o') seen (record { ok = adds; err = tt; fault = tt })
 
 pub message-err : {T : Type 0} {opened old new : ConversionView} {link : ℕ} {a : Arrival} {o o' : Written} (fault : ConvertFault)
     → opened ≡ old → IsFrameFault fault → AddsMessageInPart opened link a o o' → HandlesMessage {T = T} old link a (Err fault) new o o'

@@ -3,7 +3,6 @@
 use Rattle.std.proofs.Common.{ℕ, zero, suc, inl, inr, List, [], ◌∷◌, sym, subst}
 use Rattle.std.specs.List.{AllByRecursion}
 use Rattle.std.proofs.lemmas.List.Elements.{All-from_recursion}
-use Rattle.rtk_rinex.proofs.PublicLaws.{file-is_shown}
 use Rattle.rtk_convert.specs.ArrivalLaws.{HasPayload}
 use Rattle.rtk_convert.specs.CallLaws.{Call, Feed, Close, IsAfterCall, CallsComeTo, CallsComeToTable}
 use Rattle.rtk_convert.specs.Converter.{IsAfterClosing, IsAfterClosingAll}
@@ -43,7 +42,7 @@ end-payloads s h (suc n) last p have = closing-payloads s p.0 n last p.2 (end-pa
 pub calls-table : CallsComeToTable
 calls-table s links calls found good_setup p =
     let have = subst (HavePayloads s) (sym p.4) (end-payloads s p.0 links p.1 p.3 (come-payloads s links calls p.0 p.2)) in
-    kept-file-is_table file-is_shown s found good_setup (All-from_recursion (HasPayload s) found have)
+    kept-file-is_table s found good_setup (All-from_recursion (HasPayload s) found have)
 
 piece-payloads : (s : SetupView) (h : History) (link : ℕ) (piece : List ℕ) (next : History) → IsAfterPiece s h link piece next → HavePayloads s h.found → HavePayloads s next.found
 piece-payloads s h link [] next p have = finds-payloads s link (found_by_close (fed_on link h.links)) h.found next.found p.found have
@@ -55,4 +54,4 @@ reads-payloads s links (r ∷ before) h p = piece-payloads s p.0 r.link r.piece 
 
 pub reads-table : (s : SetupView) (links : ℕ) (reads : List Read) (h : History) → IsSetupView s → IsHistoryOf s links reads h → IsTextOfTable (kept_file s (arrivals h.found))
 reads-table s links reads h good_setup p =
-    kept-file-is_table file-is_shown s h.found good_setup (All-from_recursion (HasPayload s) h.found (reads-payloads s links reads h p))
+    kept-file-is_table s h.found good_setup (All-from_recursion (HasPayload s) h.found (reads-payloads s links reads h p))

@@ -1,12 +1,14 @@
 -- One more closed epoch.
-use Rattle.std.proofs.Common.{◌≡◌, ℕ, true, false, List, [], ◌∷◌, Option, None, Some, refl, ap, sym, ◌∙◌}
+use Rattle.std.proofs.Common.{◌≡◌, ℕ, Bool, true, false, List, [], ◌∷◌, Option, None, Some, refl, ap, sym, ◌∙◌}
 use Rattle.std.specs.Prelude.{is_some}
-use Rattle.rtk_obs.specs.declared.code.Code.{Code}
-use Rattle.rtk_obs.specs.declared.cell.CellEntry.{CellEntry}
+use Rattle.rtk_obs.specs.declared.any_code.AnyCode.{AnyCode}
+use Rattle.rtk_obs.specs.declared.signal_cells.SignalEntry.{SignalEntry}
 use Rattle.rtk_collect.specs.EpochSet.{EpochSetView}
 use Rattle.rtk_frame.specs.Stream.{count_after}
+use Rattle.rtk_rinex.specs.Header.{PositionView}
+use Rattle.rtk_convert.specs.Setup.{SetupView}
 use Rattle.rtk_convert.specs.File.{record_of, first_or, first_time, one_more_if_any, record_count}
-use Rattle.rtk_convert.specs.Steps.ClosedText.{is_any}
+use Rattle.rtk_convert.specs.Steps.ClosedText.{closing, closing_text, is_any}
 use Rattle.rtk_convert.specs.LastPhases.{HasLastPhases}
 use Rattle.rtk_convert.specs.ClosedEpochs.{ClosedEpochsView, HasClosed}
 
@@ -29,7 +31,7 @@ count-yes n [] h = cc
 count-yes n (x ∷ text) h = refl
 
 -- an epoch without a record
-pub follows-no : (old new : ClosedEpochsView) (listed : List Code) (e : EpochSetView CellEntry) (below : List (EpochSetView CellEntry)) → HasLastPhases new.tracks (e ∷ below) → new.is_header_out ≡ old.is_header_out
+pub follows-no : (old new : ClosedEpochsView) (listed : List AnyCode) (e : EpochSetView SignalEntry) (below : List (EpochSetView SignalEntry)) → HasLastPhases new.tracks (e ∷ below) → new.is_header_out ≡ old.is_header_out
     → new.count ≡ old.count → is_any (record_of listed e below) ≡ false → HasClosed old listed below → HasClosed new listed (e ∷ below)
 unfolding first_time record_count
 follows-no old new listed e below phases out count none f = record {
@@ -39,7 +41,7 @@ follows-no old new listed e below phases out count none f = record {
 }
 
 -- one with a record
-pub follows-yes : (old new : ClosedEpochsView) (listed : List Code) (e : EpochSetView CellEntry) (below : List (EpochSetView CellEntry)) → HasLastPhases new.tracks (e ∷ below) → new.is_header_out ≡ true
+pub follows-yes : (old new : ClosedEpochsView) (listed : List AnyCode) (e : EpochSetView SignalEntry) (below : List (EpochSetView SignalEntry)) → HasLastPhases new.tracks (e ∷ below) → new.is_header_out ≡ true
     → new.count ≡ count_after old.count → is_any (record_of listed e below) ≡ true → HasClosed old listed below → HasClosed new listed (e ∷ below)
 unfolding first_time record_count
 follows-yes old new listed e below phases out count some f = record {
@@ -47,3 +49,11 @@ follows-yes old new listed e below phases out count some f = record {
   is_header_out = out ∙ sym (first-yes (first_time listed below) e.epoch (record_of listed e below) some);
   count = count ∙ ap count_after f.count ∙ sym (count-yes (record_count listed below) (record_of listed e below) some);
 }
+
+-- what the text of its record adds, by the header that is out
+pub closing-is : (s : SetupView) (site : PositionView) (e : EpochSetView SignalEntry) (below : List (EpochSetView SignalEntry)) (time : ℕ) (out : Bool) (text : List ℕ) → time ≡ e.epoch
+    → out ≡ is_some (first_time s.head.listed below) → text ≡ record_of s.head.listed e below → closing_text s site time out text ≡ closing s site e below
+closing-is s site e below time out text timed known shown =
+    ap (λ (t : ℕ). closing_text s site t out text) timed
+    ∙ ap (λ (b : Bool). closing_text s site e.epoch b text) known
+    ∙ ap (closing_text s site e.epoch (is_some (first_time s.head.listed below))) shown

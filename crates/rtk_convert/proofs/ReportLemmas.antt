@@ -5,16 +5,16 @@ use Rattle.std.specs.List.{count_by}
 use Rattle.std.proofs.lemmas.List.{append-nil, append_cancel_left}
 use Rattle.std.proofs.lemmas.List.Concat.{flat_map-append}
 use Rattle.std.proofs.lemmas.List.Sums.{sum_by_push, count_by-le-length}
-use Rattle.rtk_obs.specs.declared.code.Code.{Code}
-use Rattle.rtk_collect.specs.Gps.{gps}
-use Rattle.rtk_obs.specs.MessageCells.{cells_of}
-use Rattle.rtk_obs.specs.declared.cell.CellEntry.{CellEntry}
+use Rattle.rtk_obs.specs.declared.any_code.AnyCode.{AnyCode}
+use Rattle.rtk_collect.specs.Signals.{signals}
+use Rattle.rtk_convert.specs.Setup.{cells_by}
+use Rattle.rtk_obs.specs.declared.signal_cells.SignalEntry.{SignalEntry}
 use Rattle.rtk_collect.specs.Accepted.{kept}
 use Rattle.rtk_collect.specs.EpochSet.{EpochSetView}
-use Rattle.rtk_rinex.specs.Table.{WellFormedTable, FilesAreTables}
+use Rattle.rtk_rinex.specs.MixedTable.{MixedTable}
 use Rattle.rtk_convert.specs.declared.counts.Counts.{Counts}
 use Rattle.rtk_convert.specs.File.{record_of, records, one_more_if_any, record_count}
-use Rattle.rtk_convert.specs.Finish.{all_counts}
+use Rattle.rtk_convert.specs.Finish.{all_counts, missing_lines}
 use Rattle.rtk_convert.specs.FrameClass.{arrivals}
 use Rattle.rtk_convert.specs.NumberLaws.{CountLinesTellCounts, ReportTellsCounts, record_texts, has_bytes, EpochsAreRecords, EpochsAreOfTable}
 use Rattle.rtk_convert.specs.Report.{lines}
@@ -67,8 +67,10 @@ lines-tell c d held fits same =
 pub report-tells : ReportTellsCounts
 report-tells s found other held fits before same =
     lines-tell (all_counts s found) (all_counts s other) held fits
-    (append_cancel_left (lines s.window found) (count_lines (all_counts s found)) (count_lines (all_counts s other))
-    (same ∙ ap (λ (text : List ℕ). text ++ count_lines (all_counts s other)) (sym before)))
+    (append_cancel_left (lines s found ++ missing_lines s found) (count_lines (all_counts s found)) (count_lines (all_counts s other))
+    (append_assoc (lines s found) (missing_lines s found) (count_lines (all_counts s found)) ∙ same
+    ∙ sym (append_assoc (lines s other) (missing_lines s other) (count_lines (all_counts s other)))
+    ∙ ap (λ (text : List ℕ). text ++ count_lines (all_counts s other)) (sym before)))
 
 -- ---- the count of records
 
@@ -82,21 +84,21 @@ more-counted (x ∷ text) texts count is few =
     let most = count_by-le-length has_bytes texts in
     omega (arith, is, one, most, few)
 
-as-many : (listed : List Code) (epochs : List (EpochSetView CellEntry)) → length (record_texts listed epochs) ≡ length epochs
+as-many : (listed : List AnyCode) (epochs : List (EpochSetView SignalEntry)) → length (record_texts listed epochs) ≡ length epochs
 as-many listed [] = refl
 as-many listed (e ∷ below) =
     let before = as-many listed below in
     let more = length-append (record_texts listed below) (record_of listed e below ∷ []) in
     omega (arith, before, more)
 
-records-counted : (listed : List Code) (epochs : List (EpochSetView CellEntry)) → length epochs < 2 ^ 64 → record_count listed epochs ≡ count_by has_bytes (record_texts listed epochs)
+records-counted : (listed : List AnyCode) (epochs : List (EpochSetView SignalEntry)) → length epochs < 2 ^ 64 → record_count listed epochs ≡ count_by has_bytes (record_texts listed epochs)
 unfolding record_count
 records-counted listed [] few = refl
 records-counted listed (e ∷ below) few =
     let size = as-many listed below in
     more-counted (record_of listed e below) (record_texts listed below) (record_count listed below) (records-counted listed below (omega (arith, few))) (omega (arith, few, size))
 
-records-joined : (listed : List Code) (epochs : List (EpochSetView CellEntry)) → records listed epochs ≡ flat_map (λ text. text) (record_texts listed epochs)
+records-joined : (listed : List AnyCode) (epochs : List (EpochSetView SignalEntry)) → records listed epochs ≡ flat_map (λ text. text) (record_texts listed epochs)
 unfolding records
 records-joined listed [] = refl
 records-joined listed (e ∷ below) =
@@ -108,10 +110,10 @@ records-joined listed (e ∷ below) =
 
 pub epochs-are : EpochsAreRecords
 epochs-are s found few =
-    record { file = records-joined s.head.listed (kept gps cells_of s.window (arrivals found)); counted = records-counted s.head.listed (kept gps cells_of s.window (arrivals found)) few }
+    record { file = records-joined s.head.listed (kept signals (cells_by s) s.window (arrivals found)); counted = records-counted s.head.listed (kept signals (cells_by s) s.window (arrivals found)) few }
 
-pub epochs-of-table : FilesAreTables → EpochsAreOfTable
-epochs-of-table law s found epochs satellites good_setup h few holds =
-    let file = kept-file-has_records law s found good_setup h in
+pub epochs-of-table : EpochsAreOfTable
+epochs-of-table s found epochs satellites good_setup h few holds =
+    let file = kept-file-has_records s found good_setup h in
     let one : file.0 ≡ holds.table = holds.only file.0 file.1 file.2 in
-    sym (file.3 few) ∙ ap (λ (t : WellFormedTable). length t.epochs) one ∙ holds.epochs
+    sym (file.3 few) ∙ ap (λ (t : MixedTable). length t.epochs) one ∙ holds.epochs

@@ -72,7 +72,7 @@ has_read-more given is_at_end s h link before mid after reads new o0 o1 o2 q p =
   comes_to = (h, q.comes_to, p.is_next);
   gave = gave-more given before mid after reads (read_of link p.piece) q.gave p.gave;
   out = written-on o0.file o1.file o2.file (file_so_far s (arrivals h.found)) (file_so_far s (arrivals p.next.found)) q.out p.writes.out;
-  log = written-on o0.report o1.report o2.report (lines s.window h.found) (lines s.window p.next.found) q.log p.writes.log;
+  log = written-on o0.report o1.report o2.report (lines s h.found) (lines s p.next.found) q.log p.writes.log;
 }
 
 -- ---- the run breaks off
@@ -173,7 +173,7 @@ runs-as given calls is_at_end s before after converter counts o0 o1 o2 p last e 
       called = p.called;
       at_end = p.at_end;
       out = written-on o0.file o1.file o2.file (file_so_far s (arrivals p.history.found)) (kept_file s (arrivals last.found)) p.has_read.out e.out ∙ ap (λ (h : History). with_more o0.file (kept_file s (arrivals h.found))) same;
-      log = written-on o0.report o1.report o2.report (lines s.window p.history.found) (report_of s last.found) p.has_read.log e.log ∙ ap (λ (h : History). with_more o0.report (report_of s h.found)) same;
+      log = written-on o0.report o1.report o2.report (lines s p.history.found) (report_of s last.found) p.has_read.log e.log ∙ ap (λ (h : History). with_more o0.report (report_of s h.found)) same;
       counts_are = e.counts_are ∙ ap (λ (h : History). all_counts s h.found) same;
     }
 
@@ -196,9 +196,9 @@ breaks-ending given calls is_at_end s before after converter o0 o1 o2 p (inr bre
       called = p.called;
       at_end = p.at_end;
       out = subst (λ (h : History). WritesInto o0.file o2.file [] (file_so_far s (arrivals h.found)) (kept_file s (arrivals h.found))) same (into o0.file o1.file o2.file _ _ _ p.has_read.out breaks.out);
-      log = subst (λ (h : History). WritesInto o0.report o2.report [] (lines s.window h.found) (report_of s h.found)) same (into o0.report o1.report o2.report _ _ _ p.has_read.log breaks.log);
+      log = subst (λ (h : History). WritesInto o0.report o2.report [] (lines s h.found) (report_of s h.found)) same (into o0.report o1.report o2.report _ _ _ p.has_read.log breaks.log);
       counts_last = elim breaks.counts_last [
-        | inl alone ↦ inl (written-on o0.report o1.report o2.report (lines s.window p.history.found) (lines s.window breaks.last.found) p.has_read.log alone ∙ ap (λ (h : History). with_more o0.report (lines s.window h.found)) same)
+        | inl alone ↦ inl (written-on o0.report o1.report o2.report (lines s p.history.found) (lines s breaks.last.found) p.has_read.log alone ∙ ap (λ (h : History). with_more o0.report (lines s h.found)) same)
         | inr whole ↦ inr (written-on o0.file o1.file o2.file (file_so_far s (arrivals p.history.found)) (kept_file s (arrivals breaks.last.found)) p.has_read.out whole ∙ ap (λ (h : History). with_more o0.file (kept_file s (arrivals h.found))) same)
       ];
     }

@@ -3,10 +3,11 @@ use Rattle.std.proofs.Common.{◌≡◌, ℕ, zero, suc, ◌+◌, ◌<◌, ◌�
 use Rattle.std.specs.Prelude.{slice_get, option_map}
 use Rattle.rtk_frame.specs.Frames.{final_frames, frames, payloads, pending}
 use Rattle.rtk_frame.proofs.PublicLaws.{pending_cut}
-use Rattle.rtk_obs.specs.declared.code.Code.{Code}
-use Rattle.rtk_collect.specs.Gps.{gps}
-use Rattle.rtk_obs.specs.MessageCells.{cells_of}
-use Rattle.rtk_obs.specs.declared.cell.CellEntry.{CellEntry}
+use Rattle.rtk_obs.specs.declared.any_code.AnyCode.{AnyCode}
+use Rattle.rtk_collect.specs.Signals.{signals}
+use Rattle.rtk_message.specs.declared.any_message.AnyMessage.{AnyMessage as Message}
+use Rattle.rtk_message.specs.declared.system.System.{System}
+use Rattle.rtk_obs.specs.declared.signal_cells.SignalEntry.{SignalEntry}
 use Rattle.rtk_collect.specs.Accepted.{station, kept, closed}
 use Rattle.rtk_collect.specs.Arrival.{Arrival, message_of_1005, message_of_1006}
 use Rattle.rtk_collect.specs.Collector.{CollectorView, RepresentsArrivals}
@@ -16,15 +17,16 @@ use Rattle.rtk_convert.specs.declared.fault.ConvertFault.TheVariants.{LinkClosed
 use Rattle.rtk_convert.specs.declared.link_state.LinkState.{LinkState}
 use Rattle.rtk_convert.specs.CallLaws.{Call, Feed, Close, IsAfterCall}
 use Rattle.rtk_convert.specs.ClosedEpochs.{ClosedEpochsView, HasClosed}
-use Rattle.rtk_convert.specs.Conversion.{ConversionView, RepresentsFound}
+use Rattle.rtk_convert.specs.Conversion.{ConversionView, HoldsKept, RepresentsFound}
 use Rattle.rtk_convert.specs.Converter.{ConverterView, RepresentLinks, link_refusal, IsAfterClosing, IsAfterClosingAll}
 use Rattle.rtk_convert.specs.ConverterLaws.{refusal_by, LinkDecidesRefusal, LinkHoldsNewest, WaitingDecidesFrames, HasHistory, HeldDecidesCall, HeldDecidesEnd}
 use Rattle.rtk_convert.specs.FileOfArrivals.{kept_file, file_so_far}
 use Rattle.rtk_convert.specs.Finish.{report_of}
 use Rattle.rtk_convert.specs.FrameClass.{Found, arrivals}
 use Rattle.rtk_convert.specs.History.{LinkPast, History, Finds, fed_on, with_piece, with_closed, IsOpen, IsAfterFeed, IsAfterClose, found_by_piece, found_by_close, newest_on}
-use Rattle.rtk_convert.specs.Report.{lines, frame_counts}
-use Rattle.rtk_convert.specs.Setup.{SetupView}
+use Rattle.rtk_convert.specs.Report.{lines, frame_counts, has_taken}
+use Rattle.rtk_convert.specs.Setup.{SetupView, cells_by}
+use Rattle.rtk_convert.specs.Systems.{has_system}
 use Rattle.rtk_convert.proofs.ConverterLemmas.{link-at, found-pending, found-left}
 use Rattle.rtk_convert.proofs.RunLemmas.{length-with_piece, length-with_closed}
 use Rattle.rtk_convert.proofs.SameFoundLemmas.{rest-alike, alike-on, SameClosed, SameFound, AddsAlike, adds-none, finds-alike, counts-same, file-ends-alike, report-ends-alike}
@@ -170,25 +172,25 @@ record SameHistory (s : SetupView) (h other : History) : Type 0 where
   pub newest : (k : ℕ) → k < length h.links → newest_on k h.found ≡ newest_on k other.found
   pub found : SameFound s h.found other.found
 
-window-same : (n : ℕ) (w : CollectorView CellEntry) (first second : List Arrival) → w.places ≡ n → RepresentsArrivals gps cells_of w first → RepresentsArrivals gps cells_of w second → SameWindow n first second
-window-same n w first second places a b =
-    let A = subst (λ (k : ℕ). (w.sets ≡ take k (kept gps cells_of k first)) × (option_map message_of_1005 w.arp1005 ≡ station k 1005 first) × (option_map message_of_1006 w.arp1006 ≡ station k 1006 first)) places (a.sets, a.arp1005, a.arp1006) in
-    let B = subst (λ (k : ℕ). (w.sets ≡ take k (kept gps cells_of k second)) × (option_map message_of_1005 w.arp1005 ≡ station k 1005 second) × (option_map message_of_1006 w.arp1006 ≡ station k 1006 second)) places (b.sets, b.arp1005, b.arp1006) in
+window-same : (of : Message → List SignalEntry) (n : ℕ) (w : CollectorView SignalEntry) (first second : List Arrival) → w.places ≡ n → RepresentsArrivals signals of w first → RepresentsArrivals signals of w second → SameWindow of n first second
+window-same of n w first second places a b =
+    let A = subst (λ (k : ℕ). (w.sets ≡ take k (kept signals of k first)) × (option_map message_of_1005 w.arp1005 ≡ station k 1005 first) × (option_map message_of_1006 w.arp1006 ≡ station k 1006 first)) places (a.sets, a.arp1005, a.arp1006) in
+    let B = subst (λ (k : ℕ). (w.sets ≡ take k (kept signals of k second)) × (option_map message_of_1005 w.arp1005 ≡ station k 1005 second) × (option_map message_of_1006 w.arp1006 ≡ station k 1006 second)) places (b.sets, b.arp1005, b.arp1006) in
     record { sets = sym A.0 ∙ B.0; arp1005 = sym A.1 ∙ B.1; arp1006 = sym A.2 ∙ B.2 }
 
-window-too : (n : ℕ) (w : CollectorView CellEntry) (first second : List Arrival) → w.places ≡ n → SameWindow n first second → RepresentsArrivals gps cells_of w first → RepresentsArrivals gps cells_of w second
-window-too n w first second places same a =
-    let here = subst (λ (k : ℕ). SameWindow k first second) (sym places) same in
+window-too : (of : Message → List SignalEntry) (n : ℕ) (w : CollectorView SignalEntry) (first second : List Arrival) → w.places ≡ n → SameWindow of n first second → RepresentsArrivals signals of w first → RepresentsArrivals signals of w second
+window-too of n w first second places same a =
+    let here = subst (λ (k : ℕ). SameWindow of k first second) (sym places) same in
     record { sets = a.sets ∙ here.sets; arp1005 = a.arp1005 ∙ here.arp1005; arp1006 = a.arp1006 ∙ here.arp1006 }
 
-closed-same : (listed : List Code) (c : ClosedEpochsView) (first second : List (EpochSetView CellEntry)) → HasClosed c listed first → HasClosed c listed second → SameClosed listed first second
+closed-same : (listed : List AnyCode) (c : ClosedEpochsView) (first second : List (EpochSetView SignalEntry)) → HasClosed c listed first → HasClosed c listed second → SameClosed listed first second
 closed-same listed c first second a b = record {
   phases = λ satellite code is. sym (a.phases satellite code is) ∙ b.phases satellite code is;
   header = sym a.is_header_out ∙ b.is_header_out;
   count = sym a.count ∙ b.count;
 }
 
-closed-too : (listed : List Code) (c : ClosedEpochsView) (first second : List (EpochSetView CellEntry)) → SameClosed listed first second → HasClosed c listed first → HasClosed c listed second
+closed-too : (listed : List AnyCode) (c : ClosedEpochsView) (first second : List (EpochSetView SignalEntry)) → SameClosed listed first second → HasClosed c listed first → HasClosed c listed second
 closed-too listed c first second same a = record {
   phases = λ satellite code is. a.phases satellite code is ∙ same.phases satellite code is;
   is_header_out = a.is_header_out ∙ same.header;
@@ -198,22 +200,26 @@ closed-too listed c first second same a = record {
 found-same : (s : SetupView) (c : ConversionView) (first second : List Found) → c.setup ≡ s → c.collector.places ≡ s.window → RepresentsFound c first → RepresentsFound c second → SameFound s first second
 found-same s c first second setup places a b =
     let of_setup = λ (found : List Found) (r : RepresentsFound c found).
-    subst (λ (t : SetupView). HasClosed c.closed_epochs t.head.listed (closed gps cells_of t.window (arrivals found)) × (c.counts ≡ frame_counts t.window found)) setup (r.closed, r.counts) in
+    subst (λ (t : SetupView). HoldsKept t c.collector (arrivals found) × HasClosed c.closed_epochs t.head.listed (closed signals (cells_by t) t.window (arrivals found)) × (c.counts ≡ frame_counts t found)
+    × ((system : System) → has_system c.systems system ≡ has_taken t system found)) setup (r.kept, r.closed, r.counts, r.systems) in
     let A = of_setup first a in
     let B = of_setup second b in
     record {
-      window = window-same s.window c.collector (arrivals first) (arrivals second) places a.window b.window;
-      closed = closed-same s.head.listed c.closed_epochs _ _ A.0 B.0;
-      counts = sym A.1 ∙ B.1;
+      taken = B.0.taken;
+      window = window-same (cells_by s) s.window c.collector (arrivals first) (arrivals second) places A.0.window B.0.window;
+      closed = closed-same s.head.listed c.closed_epochs _ _ A.1 B.1;
+      counts = sym A.2 ∙ B.2;
+      systems = λ system. sym (A.3 system) ∙ B.3 system;
     }
 
 found-too : (s : SetupView) (c : ConversionView) (first second : List Found) → c.setup ≡ s → c.collector.places ≡ s.window → SameFound s first second → RepresentsFound c first → RepresentsFound c second
 found-too s c first second setup places same a =
     let here = subst (λ (t : SetupView). SameFound t first second) (sym setup) same in
     record {
-      window = window-too s.window c.collector (arrivals first) (arrivals second) places same.window a.window;
+      kept = record { taken = here.taken; window = window-too (cells_by c.setup) c.setup.window c.collector (arrivals first) (arrivals second) (places ∙ ap (λ (t : SetupView). t.window) (sym setup)) here.window a.kept.window };
       closed = closed-too c.setup.head.listed c.closed_epochs _ _ here.closed a.closed;
       counts = a.counts ∙ here.counts;
+      systems = λ system. a.systems system ∙ here.systems system;
     }
 
 history-same : (s : SetupView) (c : ConverterView) (h other : History) → HasHistory s c h → HasHistory s c other → SameHistory s h other
@@ -258,7 +264,7 @@ closed-both : (s : SetupView) (h other : History) (link : ℕ) → SameHistory s
 closed-both s h other link same closed_first is_open =
     let at = open-alike link is_open.0 other.links h.links (same-back h.links other.links same.pasts) is_open.1 in closed_first (at.fed, at.is_open)
 
-feeds-alike : KeptAreGreatest gps cells_of → ExcusedIsKept → (s : SetupView) (h next other : History) (link : ℕ) (piece : List ℕ) → SameHistory s h other → IsOpen h link → IsAfterFeed s h link piece next
+feeds-alike : ((s : SetupView) → KeptAreGreatest signals (cells_by s)) → ExcusedIsKept → (s : SetupView) (h next other : History) (link : ℕ) (piece : List ℕ) → SameHistory s h other → IsOpen h link → IsAfterFeed s h link piece next
     → StepsAlike s h next other (IsAfterFeed s other link piece)
 feeds-alike greatest excused s h next other link piece same is_open after =
     let at = open-alike link is_open.0 h.links other.links same.pasts is_open.1 in
@@ -276,7 +282,7 @@ feeds-alike greatest excused s h next other link piece same is_open after =
       adds = f.adds;
     }
 
-closes-alike : KeptAreGreatest gps cells_of → ExcusedIsKept → (s : SetupView) (h next other : History) (link : ℕ) → SameHistory s h other → IsOpen h link → IsAfterClose s h link next
+closes-alike : ((s : SetupView) → KeptAreGreatest signals (cells_by s)) → ExcusedIsKept → (s : SetupView) (h next other : History) (link : ℕ) → SameHistory s h other → IsOpen h link → IsAfterClose s h link next
     → StepsAlike s h next other (IsAfterClose s other link)
 closes-alike greatest excused s h next other link same is_open after =
     let at = open-alike link is_open.0 h.links other.links same.pasts is_open.1 in
@@ -294,14 +300,14 @@ closes-alike greatest excused s h next other link same is_open after =
       adds = f.adds;
     }
 
-closing-alike : KeptAreGreatest gps cells_of → ExcusedIsKept → (s : SetupView) (h next other : History) (link : ℕ) → SameHistory s h other → IsAfterClosing s h link next → StepsAlike s h next other (IsAfterClosing s other link)
+closing-alike : ((s : SetupView) → KeptAreGreatest signals (cells_by s)) → ExcusedIsKept → (s : SetupView) (h next other : History) (link : ℕ) → SameHistory s h other → IsAfterClosing s h link next → StepsAlike s h next other (IsAfterClosing s other link)
 closing-alike greatest excused s h next other link same (inl p) =
     let step = closes-alike greatest excused s h next other link same p.0 p.1 in
     record { last = step.last; is_next = inl (open-too s h other link same p.0, step.is_next); same = step.same; adds = step.adds }
 closing-alike greatest excused s h next other link same (inr p) =
     stays-alike s h next other (IsAfterClosing s other link) p.1 (inr (closed-both s h other link same p.0, refl)) same
 
-call-alike : KeptAreGreatest gps cells_of → ExcusedIsKept → (s : SetupView) (h next other : History) (call : Call) → SameHistory s h other → IsAfterCall s h call next → StepsAlike s h next other (IsAfterCall s other call)
+call-alike : ((s : SetupView) → KeptAreGreatest signals (cells_by s)) → ExcusedIsKept → (s : SetupView) (h next other : History) (call : Call) → SameHistory s h other → IsAfterCall s h call next → StepsAlike s h next other (IsAfterCall s other call)
 call-alike greatest excused s h next other (Feed link piece) same (inl p) =
     let step = feeds-alike greatest excused s h next other link piece same p.0 p.1 in
     record { last = step.last; is_next = inl (open-too s h other link same p.0, step.is_next); same = step.same; adds = step.adds }
@@ -309,7 +315,7 @@ call-alike greatest excused s h next other (Feed link piece) same (inr p) =
     stays-alike s h next other (IsAfterCall s other (Feed link piece)) p.1 (inr (closed-both s h other link same p.0, refl)) same
 call-alike greatest excused s h next other (Close link) same p = closing-alike greatest excused s h next other link same p
 
-pub held-decides-call : KeptAreGreatest gps cells_of → ExcusedIsKept → HeldDecidesCall
+pub held-decides-call : ((s : SetupView) → KeptAreGreatest signals (cells_by s)) → ExcusedIsKept → HeldDecidesCall
 held-decides-call greatest excused s old new h other call o o' a b makes =
     let step = call-alike greatest excused s h makes.next other call (history-same s old h other a b) makes.after in
     record {
@@ -324,7 +330,7 @@ held-decides-call greatest excused s old new h other call o o' a b makes =
 
 -- ---- the end
 
-ends-alike : KeptAreGreatest gps cells_of → ExcusedIsKept → (s : SetupView) (n : ℕ) (h last other : History) → SameHistory s h other → IsAfterClosingAll s h n last → StepsAlike s h last other (IsAfterClosingAll s other n)
+ends-alike : ((s : SetupView) → KeptAreGreatest signals (cells_by s)) → ExcusedIsKept → (s : SetupView) (n : ℕ) (h last other : History) → SameHistory s h other → IsAfterClosingAll s h n last → StepsAlike s h last other (IsAfterClosingAll s other n)
 ends-alike greatest excused s zero h last other same p = stays-alike s h last other (IsAfterClosingAll s other zero) p refl same
 ends-alike greatest excused s (suc n) h last other same (mid, before, p) =
     let most = ends-alike greatest excused s n h mid other same before in
@@ -340,7 +346,7 @@ ends-alike greatest excused s (suc n) h last other same (mid, before, p) =
       };
     }
 
-pub held-decides-end : KeptAreGreatest gps cells_of → ExcusedIsKept → HeldDecidesEnd
+pub held-decides-end : ((s : SetupView) → KeptAreGreatest signals (cells_by s)) → ExcusedIsKept → HeldDecidesEnd
 held-decides-end greatest excused s c h last other counts o o' a b f =
     let same = history-same s c h other a b in
     let step = ends-alike greatest excused s (length h.links) h last other same f.closed in
@@ -353,7 +359,7 @@ held-decides-end greatest excused s c h last other counts o o' a b f =
             (alike-on (file_so_far s (arrivals h.found)) (file_so_far s (arrivals last.found)) (kept_file s (arrivals last.found))
             (file_so_far s (arrivals other.found)) (file_so_far s (arrivals end.found)) (kept_file s (arrivals end.found)) step.adds.file (file-ends-alike s last.found end.found step.same.found)) f.out;
         log = rest-alike o.report o'.report _ _ _ _
-            (alike-on (lines s.window h.found) (lines s.window last.found) (report_of s last.found)
-            (lines s.window other.found) (lines s.window end.found) (report_of s end.found) step.adds.report (report-ends-alike s last.found end.found step.same.found)) f.log;
+            (alike-on (lines s h.found) (lines s last.found) (report_of s last.found)
+            (lines s other.found) (lines s end.found) (report_of s end.found) step.adds.report (report-ends-alike s last.found end.found step.same.found)) f.log;
       },
     )

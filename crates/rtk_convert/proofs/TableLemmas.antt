@@ -1,64 +1,78 @@
 -- The file of a set is the text of a well-formed table, since it is a header and the records of
 -- rising epochs.
-use Rattle.std.proofs.Common.{◌≡◌, ℕ, suc, ◌<◌, Bool, true, false, cond, List, [], ◌∷◌, ◌++◌, length, get_or, Option, None, Some, refl, ap, sym, ◌∙◌, arith, ◌≤◌, ◌^◌, inl, inr, length-append}
-use Rattle.std.specs.Prelude.{filter, flat_map, All, AllPairs, unwrap_or, nat_lt}
+use Rattle.std.proofs.Common.{◌≡◌, ℕ, suc, ◌<◌, Bool, true, false, cond, List, [], ◌∷◌, ◌++◌, length, get_or, Option, None, Some, refl, ap, sym, subst, ◌∙◌, arith, ◌≤◌, ◌^◌, inl, inr, length-append, ℤ}
+use Rattle.std.specs.Prelude.{filter, flat_map, All, AllPairs, IfSome, unwrap_or, nat_lt, ◌==◌}
 use Rattle.std.proofs.lemmas.Bool.Decides.{nat_tests}
-use Rattle.std.proofs.lemmas.Bool.{cases_Bool}
+use Rattle.std.proofs.lemmas.Bool.{and_parts, cases_Bool, eqb-true}
 use Rattle.std.proofs.lemmas.List.{append-nil, length-map}
 use Rattle.std.proofs.lemmas.List.Elements.{All-nil, All-cons, All-append, All-map, All-head, All-tail, All-weaker, filter-append}
 use Rattle.std.proofs.lemmas.List.Quantifiers.{all_pairs_push}
 use Rattle.std.proofs.lemmas.Grind.{flat_map-append}
-use Rattle.rtk_obs.specs.declared.code.Code.{Code}
-use Rattle.rtk_obs.specs.declared.cell.CellEntry.{CellEntry}
+use Rattle.rtk_message.specs.declared.system.System.{System}
+use Rattle.rtk_obs.specs.declared.any_code.AnyCode.{AnyCode}
+use Rattle.rtk_obs.specs.declared.signal_cells.SignalEntry.{SignalEntry}
+use Rattle.rtk_obs.specs.declared.cell.Cell.{Cell}
+use Rattle.rtk_obs.specs.declared.track.Track.{Track}
+use Rattle.rtk_obs.specs.AnyCode.{number_of}
+use Rattle.rtk_obs.specs.Rollover.{digits_since}
+use Rattle.rtk_obs.specs.Slip.{epoch_cell}
 use Rattle.rtk_obs.specs.declared.cell.CellSource.TheVariants.{Legacy, Msm}
-use Rattle.rtk_obs.specs.Cell.{IsInRange as IsEntry}
-use Rattle.rtk_collect.specs.Gps.{gps}
+use Rattle.rtk_obs.specs.SatelliteIndex.{bit_at}
+use Rattle.rtk_obs.specs.SignalCells.{IsSignalInRange}
+use Rattle.rtk_collect.specs.Signals.{signals}
 use Rattle.rtk_collect.specs.EpochSet.{EpochSetView, is_from, FirstIsBelow, EpochsFall}
 use Rattle.rtk_rinex.specs.declared.epoch_table.Observed.{Observed}
 use Rattle.rtk_rinex.specs.Reading.{IsMoment}
-use Rattle.rtk_rinex.specs.Header.{PositionView, IsPositionView, header_text}
-use Rattle.rtk_rinex.specs.Record.{EpochTableView, IsStrengthOrNone, IsSatelliteRow, IsEpochTableView, HasWidth, record_text}
-use Rattle.rtk_rinex.specs.Table.{WellFormedTable, IsWellFormedTable, table_text, StartsAt, with_record, shown_epoch, shown_table, FilesAreTables}
-use Rattle.rtk_convert.specs.Rows.{last_phase_of, cell_at, in_turn, observed_at, or_nothing, table_of}
+use Rattle.rtk_rinex.specs.Header.{PositionView, IsPositionView}
+use Rattle.rtk_rinex.specs.MixedForm.{form_of_head, has_phases, phases_in}
+use Rattle.rtk_rinex.specs.MixedHead.{MixedHeadView}
+use Rattle.rtk_rinex.specs.MixedHeader.{mixed_header_text}
+use Rattle.rtk_rinex.specs.MixedRecord.{mixed_record_text}
+use Rattle.rtk_rinex.specs.MixedTable.{HasNoPhase, IsEpochOfHead, IsMixedTable, IsRowOfHead, MixedTable, WritesNoPhase, mixed_table_text, shown_mixed_table, with_mixed_record}
+use Rattle.rtk_rinex.specs.Record.{EpochTableView, IsStrengthOrNone, is_present}
+use Rattle.rtk_rinex.specs.Table.{StartsAt, shown_epoch}
+use Rattle.rtk_rinex.proofs.PublicLaws.{mixed_file-is_shown}
+use Rattle.rtk_convert.specs.Rows.{band_of, codes_for, first_cell, is_signal, last_phase_of, cell_at, in_turn, observed_after, observed_at, or_nothing, rolled_or_none, table_of}
 use Rattle.rtk_convert.specs.File.{record_of, records, first_or, first_time, file_of, one_more_if_any, record_count}
 use Rattle.rtk_convert.specs.Setup.{SetupView, IsSetupView}
-use Rattle.rtk_convert.specs.FileLaws.{IsGoodEpoch, FileIsTable}
-use Rattle.rtk_convert.proofs.RowsLemmas.{all-rows, rows-width, rows_to-rise, HasStrength, first-strength, observed-strength}
+use Rattle.rtk_convert.specs.FileLaws.{HasPhaseBy, IsGoodEpoch, FileIsTable}
+use Rattle.rtk_convert.proofs.RowsLemmas.{all-rows, rows_to-rise, HasStrength, first-strength, observed-strength}
 
 -- the tables of the epochs, rising
-tables : List Code → List (EpochSetView CellEntry) → List EpochTableView
+tables : List AnyCode → List (EpochSetView SignalEntry) → List EpochTableView
 tables listed [] = []
 tables listed (e ∷ below) = tables listed below ++ table_of listed e below ∷ []
 
-tables-text : (listed : List Code) (epochs : List (EpochSetView CellEntry)) → flat_map record_text (tables listed epochs) ≡ records listed epochs
+tables-text : (listed : List AnyCode) (epochs : List (EpochSetView SignalEntry)) → flat_map mixed_record_text (tables listed epochs) ≡ records listed epochs
 unfolding tables records
 tables-text listed [] = refl
 tables-text listed (e ∷ below) =
-    flat_map-append record_text (tables listed below) (table_of listed e below ∷ [])
+    flat_map-append mixed_record_text (tables listed below) (table_of listed e below ∷ [])
     ∙ ap (λ (xs : List ℕ). xs ++ (record_of listed e below ++ [])) (tables-text listed below)
     ∙ ap (λ (xs : List ℕ). records listed below ++ xs) (append-nil (record_of listed e below))
 
 -- ---- the first time
 
+-- an epoch has a record
+abbrev has_record : EpochTableView → Bool
+has_record e = nat_lt 0 (length (mixed_record_text e))
+
 first_of : List EpochTableView → Option ℕ
 first_of [] = None
 first_of (e ∷ epochs) = Some e.time
 
-has_record : EpochTableView → Bool
-has_record e = nat_lt 0 (length (record_text e))
-
-first-step : (o : Option ℕ) (xs : List EpochTableView) (e : EpochTableView) (text : List ℕ) → o ≡ first_of xs → record_text e ≡ text
+first-step : (o : Option ℕ) (xs : List EpochTableView) (e : EpochTableView) (text : List ℕ) → o ≡ first_of xs → mixed_record_text e ≡ text
     → first_or o e.time text ≡ first_of (xs ++ filter has_record (e ∷ []))
-unfolding first_of has_record
+unfolding first_of
 first-step o [] e [] h k = rw (h, k) refl
 first-step o [] e (x ∷ text) h k = let some : nat_lt 0 (suc (length text)) ≡ true = grind (arith, nat_tests) in rw (h, k, some) refl
 first-step o (y ∷ xs) e text h k = rw h refl
 
-first-same : (listed : List Code) (epochs : List (EpochSetView CellEntry)) → first_time listed epochs ≡ first_of (with_record (tables listed epochs))
-unfolding first_time tables first_of has_record
+first-same : (listed : List AnyCode) (epochs : List (EpochSetView SignalEntry)) → first_time listed epochs ≡ first_of (with_mixed_record (tables listed epochs))
+unfolding first_time tables first_of
 first-same listed [] = refl
 first-same listed (e ∷ below) =
-    first-step (first_time listed below) (with_record (tables listed below)) (table_of listed e below) (record_of listed e below) (first-same listed below) refl
+    first-step (first_time listed below) (with_mixed_record (tables listed below)) (table_of listed e below) (record_of listed e below) (first-same listed below) refl
     ∙ ap first_of (sym (filter-append has_record (tables listed below) (table_of listed e below ∷ [])))
 
 -- ---- the epochs are good
@@ -71,36 +85,69 @@ all-kept : {X : Type 0} (P : X → Type 0) (p : X → Bool) (xs : List X) → Al
 all-kept P p [] h = All-nil P
 all-kept P p (x ∷ xs) h = kept-if P (p x) x (filter p xs) (All-head P x xs h) (all-kept P p xs (All-tail P x xs h))
 
-cell-strength : (cells : List CellEntry) (s : ℕ) (c : Code) → All IsEntry cells → HasStrength (cell_at cells s c)
-cell-strength cells s c h =
-    first-strength (in_turn cells) s c
-    (All-append IsEntry (filter (is_from gps Msm) cells) (filter (is_from gps Legacy) cells) (all-kept IsEntry (is_from gps Msm) cells h) (all-kept IsEntry (is_from gps Legacy) cells h))
+in-turn : (P : SignalEntry → Type 0) (cells : List SignalEntry) → All P cells → All P (in_turn cells)
+in-turn P cells h =
+    All-append P (filter (is_from signals Msm) cells) (filter (is_from signals Legacy) cells) (all-kept P (is_from signals Msm) cells h) (all-kept P (is_from signals Legacy) cells h)
 
-table-rows : (listed : List Code) (e : EpochSetView CellEntry) (below : List (EpochSetView CellEntry)) → All IsEntry e.cells → All IsSatelliteRow (table_of listed e below).rows
-table-rows listed e below h = all-rows IsSatelliteRow (observed_at e below) listed 32 (omega arith)
-    (λ s hs m. record {
-      satellite = (hs.0, hs.1);
-      strengths = All-map (λ (o : Observed). IsStrengthOrNone o.strength_millidbhz) (λ code. or_nothing (observed_at e below s code)) listed
-          (λ k d l. observed-strength (last_phase_of below s (get_or listed k d)) (get_or listed k d) e.epoch (cell_at e.cells s (get_or listed k d)) (cell-strength e.cells s (get_or listed k d) h));
+cell-strength : (cells : List SignalEntry) (s : ℕ) (c : AnyCode) → All IsSignalInRange cells → HasStrength (cell_at cells s c)
+cell-strength cells s c h = first-strength (in_turn cells) s c (in-turn IsSignalInRange cells h)
+
+-- ---- phases that have a meaning
+
+abbrev ShowsNoPhase : Option Cell → Type 0
+ShowsNoPhase o = IfSome o (λ c. c.phase_millicycles ≡ None)
+
+no-phase-if : (b : Bool) (c : Cell) (o : Option Cell) → (b ≡ true → c.phase_millicycles ≡ None) → ShowsNoPhase o → ShowsNoPhase (cond b (Some c) o)
+no-phase-if true c o h k = h refl
+no-phase-if false c o h k = k
+
+first-phase : (setup : SetupView) (cells : List SignalEntry) (s : ℕ) (c : AnyCode) → has_phases (form_of_head setup.head) s ≡ false → All (HasPhaseBy setup) cells → ShowsNoPhase (first_cell cells s c)
+first-phase setup [] s c none h = tt
+first-phase setup (e ∷ cells) s c none h =
+    no-phase-if (is_signal s c e) e.cell (first_cell cells s c)
+    (λ is.
+    let same : e.satellite ≡ s = eqb-true e.satellite s (and_parts (e.satellite == s) (number_of e.code == number_of c) is).0 in
+    All-head (HasPhaseBy setup) e cells h (subst (λ (n : ℕ). has_phases (form_of_head setup.head) n ≡ false) (sym same) none))
+    (first-phase setup cells s c none (All-tail (HasPhaseBy setup) e cells h))
+
+observed-phase : (last : Option Track) (code : AnyCode) (epoch : ℕ) (o : Option Cell) → ShowsNoPhase o → HasNoPhase (or_nothing (observed_after last code epoch o))
+observed-phase last code epoch None h = refl
+observed-phase last code epoch (Some c) h = ap (λ (p : Option ℤ). rolled_or_none p (digits_since (band_of code) last (epoch_cell epoch c)).rolls) h
+
+table-rows : (s : SetupView) (e : EpochSetView SignalEntry) (below : List (EpochSetView SignalEntry)) → IsGoodEpoch s e → All (IsRowOfHead s.head) (table_of s.head.listed e below).rows
+table-rows s e below good = all-rows (IsRowOfHead s.head) (observed_at e below) s.head.listed 221 (omega arith)
+    (λ n hs m.
+    let codes = codes_for s.head.listed n in
+    let row = λ (code : AnyCode). or_nothing (observed_at e below n code) in
+    record {
+      satellite = hs;
+      width = length-map codes row;
+      strengths = All-map (λ (o : Observed). IsStrengthOrNone o.strength_millidbhz) row codes
+          (λ k d l. observed-strength (last_phase_of below n (get_or codes k d)) (get_or codes k d) e.epoch (cell_at e.cells n (get_or codes k d)) (cell-strength e.cells n (get_or codes k d) good.cells));
+      phases = λ is untold.
+          let none : has_phases (form_of_head s.head) n ≡ false = subst (λ (t : System). phases_in (form_of_head s.head) t (bit_at n) ≡ false) (sym is) untold in
+          All-map WritesNoPhase row codes
+          (λ k d l. ap is_present (observed-phase (last_phase_of below n (get_or codes k d)) (get_or codes k d) e.epoch (cell_at e.cells n (get_or codes k d))
+          (first-phase s (in_turn e.cells) n (get_or codes k d) none (in-turn (HasPhaseBy s) e.cells good.phases))));
     })
 
-table-good : (listed : List Code) (e : EpochSetView CellEntry) (below : List (EpochSetView CellEntry)) → IsGoodEpoch e → IsEpochTableView (table_of listed e below)
-table-good listed e below good = record {
+table-good : (s : SetupView) (e : EpochSetView SignalEntry) (below : List (EpochSetView SignalEntry)) → IsGoodEpoch s e → IsEpochOfHead s.head (table_of s.head.listed e below)
+table-good s e below good = record {
   time = good.time;
-  rows = table-rows listed e below good.cells;
-  rise = rows_to-rise (observed_at e below) listed 32 (omega arith);
+  rows = table-rows s e below good;
+  rise = rows_to-rise (observed_at e below) s.head.listed 221 (omega arith);
 }
 
 -- what each table has, all have
-all-tables : (P : EpochTableView → Type 0) (listed : List Code) → ((e : EpochSetView CellEntry) (below : List (EpochSetView CellEntry)) → IsGoodEpoch e → P (table_of listed e below))
-    → (epochs : List (EpochSetView CellEntry)) → All IsGoodEpoch epochs → All P (tables listed epochs)
+all-tables : (P : EpochTableView → Type 0) (s : SetupView) → ((e : EpochSetView SignalEntry) (below : List (EpochSetView SignalEntry)) → IsGoodEpoch s e → P (table_of s.head.listed e below))
+    → (epochs : List (EpochSetView SignalEntry)) → All (IsGoodEpoch s) epochs → All P (tables s.head.listed epochs)
 unfolding tables
-all-tables P listed f [] h = All-nil P
-all-tables P listed f (e ∷ below) h =
-    All-append P (tables listed below) (table_of listed e below ∷ []) (all-tables P listed f below (All-tail IsGoodEpoch e below h))
-    (All-cons P (table_of listed e below) [] (f e below (All-head IsGoodEpoch e below h)) (All-nil P))
+all-tables P s f [] h = All-nil P
+all-tables P s f (e ∷ below) h =
+    All-append P (tables s.head.listed below) (table_of s.head.listed e below ∷ []) (all-tables P s f below (All-tail (IsGoodEpoch s) e below h))
+    (All-cons P (table_of s.head.listed e below) [] (f e below (All-head (IsGoodEpoch s) e below h)) (All-nil P))
 
-tables-below : (listed : List Code) (bound : ℕ) (epochs : List (EpochSetView CellEntry)) → FirstIsBelow bound epochs → EpochsFall epochs → All (λ (x : EpochTableView). x.time < bound) (tables listed epochs)
+tables-below : (listed : List AnyCode) (bound : ℕ) (epochs : List (EpochSetView SignalEntry)) → FirstIsBelow bound epochs → EpochsFall epochs → All (λ (x : EpochTableView). x.time < bound) (tables listed epochs)
 unfolding tables
 tables-below listed bound [] a f = All-nil (λ (x : EpochTableView). x.time < bound)
 tables-below listed bound (e ∷ below) a f =
@@ -108,7 +155,7 @@ tables-below listed bound (e ∷ below) a f =
     (All-weaker (λ (x : EpochTableView). x.time < e.epoch) (λ (x : EpochTableView). x.time < bound) (λ x h. omega arith) (tables listed below) (tables-below listed e.epoch below f.0 f.1))
     (All-cons (λ (x : EpochTableView). x.time < bound) (table_of listed e below) [] a (All-nil (λ (x : EpochTableView). x.time < bound)))
 
-tables-rise : (listed : List Code) (epochs : List (EpochSetView CellEntry)) → EpochsFall epochs → AllPairs (λ a b. a.time < b.time) (tables listed epochs)
+tables-rise : (listed : List AnyCode) (epochs : List (EpochSetView SignalEntry)) → EpochsFall epochs → AllPairs (λ a b. a.time < b.time) (tables listed epochs)
 unfolding tables
 tables-rise listed [] f = λ i j d h k. absurd (omega arith)
 tables-rise listed (e ∷ below) f =
@@ -116,10 +163,10 @@ tables-rise listed (e ∷ below) f =
 
 -- ---- the first time is good
 
-first-moment : (near : ℕ) (xs : List EpochTableView) → IsMoment near → All IsEpochTableView xs → IsMoment (unwrap_or (first_of xs) near)
+first-moment : (h : MixedHeadView) (near : ℕ) (xs : List EpochTableView) → IsMoment near → All (IsEpochOfHead h) xs → IsMoment (unwrap_or (first_of xs) near)
 unfolding first_of
-first-moment near [] m h = m
-first-moment near (e ∷ xs) m h = let good : IsEpochTableView e = All-head IsEpochTableView e xs h in good.time
+first-moment h near [] m good = m
+first-moment h near (e ∷ xs) m good = let one : IsEpochOfHead h e = All-head (IsEpochOfHead h) e xs good in one.time
 
 starts : (near : ℕ) (xs : List EpochTableView) → StartsAt (unwrap_or (first_of xs) near) xs
 unfolding first_of
@@ -129,13 +176,12 @@ starts near (e ∷ xs) = refl
 -- ---- the count of records
 
 -- one more epoch
-more-counted : (n count : ℕ) (xs : List EpochTableView) (e : EpochTableView) (text : List ℕ) → count ≡ length (with_record xs) → record_text e ≡ text
-    → length (with_record xs) ≤ n → suc n < 2 ^ 64 → one_more_if_any text count ≡ length (with_record xs ++ filter has_record (e ∷ []))
-unfolding has_record
-more-counted n count xs e [] is none few within = rw none (is ∙ ap (λ (t : List EpochTableView). length t) (sym (append-nil (with_record xs))))
+more-counted : (n count : ℕ) (xs : List EpochTableView) (e : EpochTableView) (text : List ℕ) → count ≡ length (with_mixed_record xs) → mixed_record_text e ≡ text
+    → length (with_mixed_record xs) ≤ n → suc n < 2 ^ 64 → one_more_if_any text count ≡ length (with_mixed_record xs ++ filter has_record (e ∷ []))
+more-counted n count xs e [] is none few within = rw none (is ∙ ap (λ (t : List EpochTableView). length t) (sym (append-nil (with_mixed_record xs))))
 more-counted n count xs e (x ∷ text) is some few within =
     let has : nat_lt 0 (suc (length text)) ≡ true = grind (arith, nat_tests) in
-    let more = length-append (with_record xs) (e ∷ []) in
+    let more = length-append (with_mixed_record xs) (e ∷ []) in
     rw (some, has) (omega (arith, is, more, few, within))
 
 one-at-most : (test : EpochTableView → Bool) (e : EpochTableView) → length (filter test (e ∷ [])) ≤ 1
@@ -144,19 +190,19 @@ one-at-most test e = elim (cases_Bool (test e)) [
   | inr fails ↦ rw fails (omega arith)
 ]
 
-few-records : (listed : List Code) (epochs : List (EpochSetView CellEntry)) → length (with_record (tables listed epochs)) ≤ length epochs
-unfolding tables has_record
+few-records : (listed : List AnyCode) (epochs : List (EpochSetView SignalEntry)) → length (with_mixed_record (tables listed epochs)) ≤ length epochs
+unfolding tables
 few-records listed [] = omega arith
 few-records listed (e ∷ below) =
     let few = few-records listed below in
     let joined = filter-append has_record (tables listed below) (table_of listed e below ∷ []) in
     let size = ap (λ (t : List EpochTableView). length t) joined in
-    let sum = length-append (with_record (tables listed below)) (filter has_record (table_of listed e below ∷ [])) in
+    let sum = length-append (with_mixed_record (tables listed below)) (filter has_record (table_of listed e below ∷ [])) in
     let one = one-at-most has_record (table_of listed e below) in
     omega (arith, few, size, sum, one)
 
-records-are : (listed : List Code) (epochs : List (EpochSetView CellEntry)) → length epochs < 2 ^ 64 → record_count listed epochs ≡ length (with_record (tables listed epochs))
-unfolding record_count tables has_record
+records-are : (listed : List AnyCode) (epochs : List (EpochSetView SignalEntry)) → length epochs < 2 ^ 64 → record_count listed epochs ≡ length (with_mixed_record (tables listed epochs))
+unfolding record_count tables
 records-are listed [] few = refl
 records-are listed (e ∷ below) few =
     let xs : List EpochTableView = tables listed below in
@@ -166,26 +212,23 @@ records-are listed (e ∷ below) few =
 -- ---- the table
 
 -- the file is the text of a table with as many records as are counted
-pub file-has_records : FilesAreTables → (s : SetupView) (site : PositionView) (epochs : List (EpochSetView CellEntry)) → IsSetupView s → IsPositionView site → EpochsFall epochs → All IsGoodEpoch epochs
-    → (t : WellFormedTable) × IsWellFormedTable t × (file_of s site epochs ≡ table_text t) × (length epochs < 2 ^ 64 → length t.epochs ≡ record_count s.head.listed epochs)
-unfolding has_record
-file-has_records law s site epochs good_setup good_site fall good =
+pub file-has_records : (s : SetupView) (site : PositionView) (epochs : List (EpochSetView SignalEntry)) → IsSetupView s → IsPositionView site → EpochsFall epochs → All (IsGoodEpoch s) epochs
+    → (t : MixedTable) × IsMixedTable t × (file_of s site epochs ≡ mixed_table_text t) × (length epochs < 2 ^ 64 → length t.epochs ≡ record_count s.head.listed epochs)
+file-has_records s site epochs good_setup good_site fall good =
     let xs : List EpochTableView = tables s.head.listed epochs in
-    let some : List EpochTableView = with_record xs in
+    let some : List EpochTableView = with_mixed_record xs in
     let first : ℕ = unwrap_or (first_of some) s.near in
     let near : IsMoment s.near = let to = good_setup.1.to in omega arith in
-    let all : All IsEpochTableView xs = all-tables IsEpochTableView s.head.listed (table-good s.head.listed) epochs good in
-    let widths : All (λ (e : EpochTableView). HasWidth (length s.head.listed) e.rows) xs =
-    all-tables (λ (e : EpochTableView). HasWidth (length s.head.listed) e.rows) s.head.listed (λ e below g. rows-width (observed_at e below) s.head.listed) epochs good in
-    let shown = law s.head site first xs good_setup.2 good_site (first-moment s.near some near (all-kept IsEpochTableView has_record xs all)) all widths (tables-rise s.head.listed epochs fall) (starts s.near some) in (
-      shown_table s.head site first xs,
+    let all : All (IsEpochOfHead s.head) xs = all-tables (IsEpochOfHead s.head) s (table-good s) epochs good in
+    let shown = mixed_file-is_shown s.head site first xs good_setup.2 good_site (first-moment s.head s.near some near (all-kept (IsEpochOfHead s.head) has_record xs all)) all (tables-rise s.head.listed epochs fall) (starts s.near some) in (
+      shown_mixed_table s.head site first xs,
       shown.table,
-      ap (λ (o : Option ℕ). header_text s.head site (unwrap_or o s.near) ++ records s.head.listed epochs) (first-same s.head.listed epochs)
-          ∙ ap (λ (text : List ℕ). header_text s.head site first ++ text) (sym (tables-text s.head.listed epochs))
+      ap (λ (o : Option ℕ). mixed_header_text s.head site (unwrap_or o s.near) ++ records s.head.listed epochs) (first-same s.head.listed epochs)
+          ∙ ap (λ (text : List ℕ). mixed_header_text s.head site first ++ text) (sym (tables-text s.head.listed epochs))
           ∙ shown.text,
       λ few. length-map some shown_epoch ∙ sym (records-are s.head.listed epochs few),
     )
 
-pub file-is_table : FilesAreTables → FileIsTable
-file-is_table law s site epochs good_setup good_site fall good =
-    let t = file-has_records law s site epochs good_setup good_site fall good in (t.0, t.1, t.2)
+pub file-is_table : FileIsTable
+file-is_table s site epochs good_setup good_site fall good =
+    let t = file-has_records s site epochs good_setup good_site fall good in (t.0, t.1, t.2)

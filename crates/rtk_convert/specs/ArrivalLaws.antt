@@ -1,23 +1,22 @@
 -- Laws on the file of arrivals. Lists of arrivals and of found frames are newest first.
 use Rattle.std.specs.Prelude.{◌≡◌, ◌↔◌, ℕ, List, [], ◌∷◌, ◌++◌, Some, All}
-use Rattle.rtk_collect.specs.Gps.{gps}
-use Rattle.rtk_obs.specs.MessageCells.{cells_of}
 use Rattle.rtk_collect.specs.Arrival.{Arrival}
 use Rattle.rtk_collect.specs.Accepted.{kept, closed, IsTaken, IsConsistent}
 use Rattle.rtk_collect.specs.Laws.{without_late}
+use Rattle.rtk_collect.specs.Signals.{signals}
 use Rattle.rtk_convert.specs.declared.frame_class.FrameClass.{FrameClass}
 use Rattle.rtk_convert.specs.declared.frame_class.FrameClass.TheVariants.{OtherMessage, Refused, Foreign, Dated}
 use Rattle.rtk_convert.specs.File.{first_time, header_of}
 use Rattle.rtk_convert.specs.FileLaws.{IsTextOfTable}
 use Rattle.rtk_convert.specs.FileOfArrivals.{site_of_kept, kept_file, file_so_far}
 use Rattle.rtk_convert.specs.FrameClass.{IsClassOfPayload, Found, arrivals}
-use Rattle.rtk_convert.specs.Setup.{SetupView, IsSetupView}
+use Rattle.rtk_convert.specs.Setup.{SetupView, IsSetupView, cells_by}
 use Rattle.rtk_convert.specs.Conversion.{found_on, AddsToOne}
 
 -- two lists of consistent arrivals with the same arrivals in time have the same file
 abbrev pub OneSetHasOneFile : Type 0
 OneSetHasOneFile =
-    (s : SetupView) (first second : List Arrival) → IsConsistent gps cells_of s.window first → IsConsistent gps cells_of s.window second
+    (s : SetupView) (first second : List Arrival) → IsConsistent signals (cells_by s) s.window first → IsConsistent signals (cells_by s) s.window second
     → ((a : Arrival) → IsTaken s.window a first ↔ IsTaken s.window a second) → kept_file s first ≡ kept_file s second
 
 -- with all late arrivals deleted the file is the same
@@ -37,8 +36,8 @@ SoFarBegins =
 -- once a closed epoch has a record the header stays
 abbrev pub HeaderIsFinal : Type 0
 HeaderIsFinal =
-    (s : SetupView) (a : Arrival) (before : List Arrival) (t : ℕ) → first_time s.head.listed (closed gps cells_of s.window before) ≡ Some t
-    → header_of s (site_of_kept s.window (a ∷ before)) (kept gps cells_of s.window (a ∷ before)) ≡ header_of s (site_of_kept s.window before) (kept gps cells_of s.window before)
+    (s : SetupView) (a : Arrival) (before : List Arrival) (t : ℕ) → first_time s.head.listed (closed signals (cells_by s) s.window before) ≡ Some t
+    → header_of s (site_of_kept s.window (a ∷ before)) (kept signals (cells_by s) s.window (a ∷ before)) ≡ header_of s (site_of_kept s.window before) (kept signals (cells_by s) s.window before)
 
 abbrev pub and_if_arrived : Found → FrameClass → List Found → List Found
 and_if_arrived f OtherMessage before = before

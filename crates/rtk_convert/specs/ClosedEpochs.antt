@@ -1,8 +1,8 @@
 -- What a conversion knows of the epochs that were closed.
 use Rattle.std.specs.Prelude.{◌≡◌, ℕ, Bool, List, Option, is_some}
-use Rattle.rtk_obs.specs.declared.code.Code.{Code}
+use Rattle.rtk_obs.specs.declared.any_code.AnyCode.{AnyCode}
+use Rattle.rtk_obs.specs.declared.signal_cells.SignalEntry.{SignalEntry}
 use Rattle.rtk_obs.specs.declared.track.Track.{Track}
-use Rattle.rtk_obs.specs.declared.cell.CellEntry.{CellEntry}
 use Rattle.rtk_collect.specs.EpochSet.{EpochSetView}
 use Rattle.rtk_convert.specs.File.{first_time, record_count}
 use Rattle.rtk_convert.specs.LastPhases.{HasLastPhases}
@@ -17,7 +17,7 @@ pub record ClosedEpochsView : Type 0 where
 
 -- these are the closed epochs, falling: each satellite and code has its last phase, the header is
 -- written once one of them has a record, and their records are counted
-pub record HasClosed (c : ClosedEpochsView) (listed : List Code) (epochs : List (EpochSetView CellEntry)) : Type 0 where
+pub record HasClosed (c : ClosedEpochsView) (listed : List AnyCode) (epochs : List (EpochSetView SignalEntry)) : Type 0 where
   pub phases : HasLastPhases c.tracks epochs
   pub is_header_out : c.is_header_out ≡ is_some (first_time listed epochs)
   pub count : c.count ≡ record_count listed epochs

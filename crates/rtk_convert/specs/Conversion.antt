@@ -1,41 +1,56 @@
 -- What a conversion represents: a list of found frames.
-use Rattle.std.specs.Prelude.{◌≡◌, ◌<◌, ◌≤◌, ◌⊎◌, ℕ, Bool, false, List, [], ◌∷◌, length, Option, None, Some, All}
-use Rattle.rtk_obs.specs.declared.code.Code.{Code}
+use Rattle.std.specs.Prelude.{◌≡◌, ◌<◌, ◌≤◌, ◌⊎◌, ℕ, Bool, false, List, [], ◌∷◌, length, Option, None, Some, All, IsTrue}
+use Rattle.rtk_message.specs.AnyDecoded.{number_of}
+use Rattle.rtk_message.specs.declared.system.System.{System}
+use Rattle.rtk_obs.specs.declared.any_code.AnyCode.{AnyCode}
+use Rattle.rtk_obs.specs.declared.signal_cells.SignalEntry.{SignalEntry}
 use Rattle.rtk_obs.specs.declared.track.Track.{Track}
-use Rattle.rtk_obs.specs.Cell.{IsSatellite}
-use Rattle.rtk_obs.specs.Tracks.{track_at}
-use Rattle.rtk_collect.specs.Gps.{gps}
-use Rattle.rtk_obs.specs.MessageCells.{cells_of}
-use Rattle.rtk_obs.specs.declared.cell.CellEntry.{CellEntry}
-use Rattle.rtk_collect.specs.Arrival.{Arrival}
+use Rattle.rtk_obs.specs.AnyCode.{IsSignal}
+use Rattle.rtk_collect.specs.Arrival.{Arrival, message_of}
 use Rattle.rtk_collect.specs.Accepted.{closed}
 use Rattle.rtk_collect.specs.Collector.{CollectorView, RepresentsArrivals}
+use Rattle.rtk_collect.specs.Signals.{signals}
 use Rattle.rtk_convert.specs.declared.frame_class.FrameClass.{FrameClass}
 use Rattle.rtk_convert.specs.declared.counts.Counts.{Counts}
+use Rattle.rtk_convert.specs.declared.systems.Systems.{Systems}
 use Rattle.rtk_convert.specs.FileOfArrivals.{file_so_far}
 use Rattle.rtk_convert.specs.FrameClass.{Found, arrivals}
 use Rattle.rtk_convert.specs.ClosedEpochs.{ClosedEpochsView, HasClosed}
-use Rattle.rtk_convert.specs.Report.{lines, frame_counts}
-use Rattle.rtk_convert.specs.Setup.{SetupView}
+use Rattle.rtk_convert.specs.LastPhases.{track_at}
+use Rattle.rtk_convert.specs.Report.{lines, frame_counts, has_taken}
+use Rattle.rtk_convert.specs.Setup.{SetupView, takes, cells_by}
+use Rattle.rtk_convert.specs.Systems.{has_system}
 
 pub record ConversionView : Type 0 where
   pub setup : SetupView
   -- the open epochs and the station messages
-  pub collector : CollectorView CellEntry
+  pub collector : CollectorView SignalEntry
   -- what is known of the closed epochs
   pub closed_epochs : ClosedEpochsView
   -- the counts of frames
   pub counts : Counts
+  -- the systems of which a message was taken
+  pub systems : Systems
   -- a call broke off
   pub stopped : Bool
 
+-- the setup takes the messages of these arrivals
+abbrev pub AllTaken : SetupView → List Arrival → Type 0
+AllTaken s arrivals = All (λ a. IsTrue (takes s (number_of (message_of a)))) arrivals
+
+-- a window of the setup holds what is kept of these arrivals, which the setup takes
+pub record HoldsKept (s : SetupView) (w : CollectorView SignalEntry) (arrivals : List Arrival) : Type 0 where
+  pub taken : AllTaken s arrivals
+  pub window : RepresentsArrivals signals (cells_by s) w arrivals
+
 -- a conversion represents these found frames: its window holds what is kept of their arrivals; it
 -- knows the last phases of the closed epochs, whether the header is written, and how many records
--- are; and it has the counts of the frames
+-- are; it has the counts of the frames; and it knows of which systems a message was taken
 pub record RepresentsFound (s : ConversionView) (found : List Found) : Type 0 where
-  pub window : RepresentsArrivals gps cells_of s.collector (arrivals found)
-  pub closed : HasClosed s.closed_epochs s.setup.head.listed (closed gps cells_of s.setup.window (arrivals found))
-  pub counts : s.counts ≡ frame_counts s.setup.window found
+  pub kept : HoldsKept s.setup s.collector (arrivals found)
+  pub closed : HasClosed s.closed_epochs s.setup.head.listed (closed signals (cells_by s.setup) s.setup.window (arrivals found))
+  pub counts : s.counts ≡ frame_counts s.setup found
+  pub systems : (system : System) → has_system s.systems system ≡ has_taken s.setup system found
 
 -- a new conversion with this setup: it has found no frame
 pub record IsNewConversion (s : SetupView) (c : ConversionView) : Type 0 where
@@ -45,18 +60,18 @@ pub record IsNewConversion (s : SetupView) (c : ConversionView) : Type 0 where
   pub few : length c.collector.sets ≤ s.window
 
 -- the window holds what is kept of some arrivals
-abbrev pub HoldsArrivals : CollectorView CellEntry → Type 0
-HoldsArrivals w = (before : List Arrival) × RepresentsArrivals gps cells_of w before
+abbrev pub HoldsArrivals : SetupView → CollectorView SignalEntry → Type 0
+HoldsArrivals s w = (before : List Arrival) × HoldsKept s w before
 
 -- a satellite and code have a last phase only once the window is full, and then of an epoch below
 -- all open ones
-abbrev pub IsUnder : Option Track → CollectorView CellEntry → Type 0
+abbrev pub IsUnder : Option Track → CollectorView SignalEntry → Type 0
 IsUnder None w = Unit {0}
 IsUnder (Some t) w = (length w.sets ≡ w.places) × All (λ x. t.epoch < x.epoch) w.sets
 
 -- all last phases are of epochs below the window
-abbrev pub IsAhead : CollectorView CellEntry → ClosedEpochsView → Type 0
-IsAhead w c = (satellite : ℕ) (code : Code) → IsSatellite satellite → IsUnder (track_at c.tracks satellite code) w
+abbrev pub IsAhead : CollectorView SignalEntry → ClosedEpochsView → Type 0
+IsAhead w c = (satellite : ℕ) (code : AnyCode) → IsSignal satellite code → IsUnder (track_at c.tracks satellite code) w
 
 -- the window has as many places as the setup says, and no more epochs than places; and unless a
 -- call broke off all last phases are of epochs below it
@@ -70,4 +85,4 @@ found_on link f = record { link = link; class = f }
 
 -- a frame adds to the file or to the lines, never to both
 abbrev pub AddsToOne : SetupView → Found → List Found → Type 0
-AddsToOne s f before = (file_so_far s (arrivals (f ∷ before)) ≡ file_so_far s (arrivals before)) ⊎ (lines s.window (f ∷ before) ≡ lines s.window before)
+AddsToOne s f before = (file_so_far s (arrivals (f ∷ before)) ≡ file_so_far s (arrivals before)) ⊎ (lines s (f ∷ before) ≡ lines s before)

@@ -1,5 +1,5 @@
 -- What a converter represents: a history; and what its calls do, whatever the history was.
-use Rattle.std.specs.Prelude.{◌≡◌, ◌⊎◌, ◌≤◌, ℕ, zero, suc, true, false, if◌then◌else◌, List, [], ◌∷◌, ◌++◌, Option, None, Some, length, slice_get, All, Result, OnOk, IfOk, IfErr, IsErrOf}
+use Rattle.std.specs.Prelude.{◌≡◌, ◌⊎◌, ◌≤◌, ◌*◌, ℕ, zero, suc, true, false, if◌then◌else◌, List, [], ◌∷◌, ◌++◌, Option, None, Some, length, slice_get, All, Result, OnOk, IfOk, IfErr, IsErrOf}
 use Rattle.std.specs.Int.{IsInRange}
 use Rattle.rtk_frame.specs.Frames.{pending}
 use Rattle.rtk_frame.specs.Stream.{with_more}
@@ -14,7 +14,7 @@ use Rattle.rtk_convert.specs.declared.frame_class.FrameClass.{FrameClass}
 use Rattle.rtk_convert.specs.Finish.{all_counts, report_of}
 use Rattle.rtk_convert.specs.History.{LinkPast, History, new_history, Finds, IsOpen, IsAfterFeed, IsAfterClose, fed_on, found_by_piece, found_by_close, newest_on}
 use Rattle.rtk_convert.specs.Report.{lines}
-use Rattle.rtk_convert.specs.Setup.{SetupView}
+use Rattle.rtk_convert.specs.Setup.{SetupView, greatest_satellite}
 use Rattle.rtk_convert.specs.Conversion.{ConversionView, HoldsArrivals, found_on, RepresentsFound}
 use Rattle.rtk_convert.specs.Writing.{Written, WritesRest}
 
@@ -35,7 +35,7 @@ pub record IsConverterView (c : ConverterView) : Type 0 where
   pub few : IsLinkCount (length c.links)
   pub short : All (λ l. length l.scanner.pending ≤ 1029) c.links
   pub epochs : length c.conversion.collector.sets ≤ c.conversion.setup.window
-  pub held : HoldsArrivals c.conversion.collector
+  pub held : HoldsArrivals c.conversion.setup c.conversion.collector
 
 -- why a call on a link is refused at once: the first cause that holds
 abbrev pub link_refusal : Option LinkState → Option ConvertFault
@@ -66,12 +66,12 @@ pub record RepresentsHistory (c : ConverterView) (h : History) : Type 0 where
   pub found : RepresentsFound c.conversion h.found
 
 -- what a converter holds: of each link at most the bytes of the longest frame; at most as many open
--- epochs as the setup says; and of each of these at most 1,024 cells, for 32 satellites, 16 codes
--- and 2 kinds of message
+-- epochs as the setup says; and of each of these at most 32 cells, for 16 codes and 2 kinds of message,
+-- for each satellite up to the greatest of the listed systems: 1,024 with codes of GPS alone
 pub record HoldsAtMost (c : ConverterView) : Type 0 where
   pub bytes : All (λ l. length l.scanner.pending ≤ 1029) c.links
   pub epochs : length c.conversion.collector.sets ≤ c.conversion.setup.window
-  pub cells : All (λ e. length e.cells ≤ 1024) c.conversion.collector.sets
+  pub cells : All (λ e. length e.cells ≤ 32 * greatest_satellite c.conversion.setup) c.conversion.collector.sets
 
 -- a new converter with this setup: its links are open, and nothing was fed on them
 pub record IsNewConverter (s : SetupView) (links : ℕ) (c : ConverterView) : Type 0 where
@@ -83,7 +83,7 @@ pub record IsNewConverter (s : SetupView) (links : ℕ) (c : ConverterView) : Ty
 -- what the frames after `before` add to the file and to the lines was written
 pub record WritesOn (s : SetupView) (before after : List Found) (written_old written_new : Written) : Type 0 where
   pub out : WritesRest written_old.file written_new.file (file_so_far s (arrivals before)) (file_so_far s (arrivals after))
-  pub log : WritesRest written_old.report written_new.report (lines s.window before) (lines s.window after)
+  pub log : WritesRest written_old.report written_new.report (lines s before) (lines s after)
 
 -- one more piece is fed on a link, whatever the history was
 abbrev pub FeedsPiece : ConverterView → ℕ → List ℕ → ConverterView → Written → Written → Type 0
@@ -116,7 +116,7 @@ pub record BreaksOffAfter (s : SetupView) (link : ℕ) (payloads : List (List �
   pub class : FrameClass
   pub comes : IsClassOfPayload s payload class
   pub out : WritesInto written_old.file written_new.file (file_so_far s (arrivals first)) (file_so_far s (arrivals found)) (file_so_far s (arrivals (found_on link class ∷ found)))
-  pub log : WritesInto written_old.report written_new.report (lines s.window first) (lines s.window found) (lines s.window (found_on link class ∷ found))
+  pub log : WritesInto written_old.report written_new.report (lines s first) (lines s found) (lines s (found_on link class ∷ found))
 
 abbrev pub BreaksOffAt : SetupView → ℕ → List (List ℕ) → List Found → Written → Written → Type 0
 BreaksOffAt s link payloads before written_old written_new = BreaksOffAfter s link payloads before before written_old written_new
@@ -172,7 +172,7 @@ pub record FinishesConverterAs (s : SetupView) (h last : History) (counts : Coun
   pub closed : IsAfterClosingAll s h (length h.links) last
   pub counts_are : counts ≡ all_counts s last.found
   pub out : WritesRest written_old.file written_new.file (file_so_far s (arrivals h.found)) (kept_file s (arrivals last.found))
-  pub log : WritesRest written_old.report written_new.report (lines s.window h.found) (report_of s last.found)
+  pub log : WritesRest written_old.report written_new.report (lines s h.found) (report_of s last.found)
 
 -- a converter ends so, whatever the history was
 abbrev pub FinishesConverter : ConverterView → Counts → Written → Written → Type 0
@@ -192,8 +192,8 @@ pub record BreaksOffFinishing (s : SetupView) (h : History) (written_old written
   pub last : History
   pub closed : IsAfterClosingAll s h (length h.links) last
   pub out : WritesInto written_old.file written_new.file (file_so_far s (arrivals h.found)) (file_so_far s (arrivals last.found)) (kept_file s (arrivals last.found))
-  pub log : WritesInto written_old.report written_new.report (lines s.window h.found) (lines s.window last.found) (report_of s last.found)
-  pub counts_last : WritesRest written_old.report written_new.report (lines s.window h.found) (lines s.window last.found)
+  pub log : WritesInto written_old.report written_new.report (lines s h.found) (lines s last.found) (report_of s last.found)
+  pub counts_last : WritesRest written_old.report written_new.report (lines s h.found) (lines s last.found)
       ⊎ WritesRest written_old.file written_new.file (file_so_far s (arrivals h.found)) (kept_file s (arrivals last.found))
 
 -- the end of a converter breaks off in one of these two ways, whatever the history was

@@ -5,12 +5,11 @@ use Rattle.rtk_message.specs.declared.arp1005.Arp1005.{Arp1005 as Message1005}
 use Rattle.rtk_message.specs.declared.any_message.AnyMessage.{AnyMessage as Message}
 use Rattle.rtk_message.specs.declared.any_message.AnyMessage.TheVariants as any
 use Rattle.rtk_message.specs.declared.message.Message.TheVariants.{Arp1005, Arp1006}
-use Rattle.rtk_collect.specs.Gps.{gps}
-use Rattle.rtk_obs.specs.MessageCells.{cells_of}
 use Rattle.rtk_collect.specs.Arrival.{Arrival}
 use Rattle.rtk_collect.specs.Accepted.{station, kept, closed}
+use Rattle.rtk_collect.specs.Signals.{signals}
 use Rattle.rtk_rinex.specs.Header.{PositionView}
-use Rattle.rtk_convert.specs.Setup.{SetupView}
+use Rattle.rtk_convert.specs.Setup.{SetupView, cells_by}
 use Rattle.rtk_convert.specs.File.{file_of}
 use Rattle.rtk_convert.specs.FilePrefix.{so_far}
 
@@ -39,10 +38,10 @@ site_of_kept n arrivals = site_of_stations (station n 1005 arrivals) (station n 
 
 -- the file of what is kept of these arrivals
 abbrev pub kept_file : SetupView → List Arrival → List ℕ
-kept_file s arrivals = file_of s (site_of_kept s.window arrivals) (kept gps cells_of s.window arrivals)
+kept_file s arrivals = file_of s (site_of_kept s.window arrivals) (kept signals (cells_by s) s.window arrivals)
 
 -- formula
 -- the part of it that is written once these arrivals have come: nothing until a closed epoch has a
 -- record; then the header and the records of the closed epochs
 abbrev pub file_so_far : SetupView → List Arrival → List ℕ
-file_so_far s arrivals = so_far s (site_of_kept s.window arrivals) (kept gps cells_of s.window arrivals) (closed gps cells_of s.window arrivals)
+file_so_far s arrivals = so_far s (site_of_kept s.window arrivals) (kept signals (cells_by s) s.window arrivals) (closed signals (cells_by s) s.window arrivals)

@@ -1,19 +1,41 @@
 -- The end of a conversion.
-use Rattle.std.specs.Prelude.{ℕ, List, ◌++◌}
-use Rattle.rtk_collect.specs.Gps.{gps}
-use Rattle.rtk_obs.specs.MessageCells.{cells_of}
+use Rattle.std.specs.Prelude.{ℕ, ◌&&◌, not, List, [], ◌∷◌, ◌++◌, if◌then◌else◌}
+use Rattle.rtk_message.specs.declared.system.System.{System}
+use Rattle.rtk_message.specs.declared.system.System.TheVariants.{Gps, Glonass, Galileo, Beidou, Qzss, Sbas, Navic}
+use Rattle.rtk_obs.specs.SatelliteIndex.{letter_of}
 use Rattle.rtk_collect.specs.Accepted.{kept}
+use Rattle.rtk_collect.specs.Signals.{signals}
 use Rattle.rtk_convert.specs.declared.counts.Counts.{Counts}
 use Rattle.rtk_convert.specs.File.{record_count}
 use Rattle.rtk_convert.specs.FrameClass.{Found, arrivals}
-use Rattle.rtk_convert.specs.Report.{lines, frame_counts}
-use Rattle.rtk_convert.specs.ReportText.{count_lines}
-use Rattle.rtk_convert.specs.Setup.{SetupView}
+use Rattle.rtk_convert.specs.Report.{lines, frame_counts, has_taken}
+use Rattle.rtk_convert.specs.ReportText.{missing_line, count_lines}
+use Rattle.rtk_convert.specs.Setup.{SetupView, is_of_gps, lists_system, cells_by}
 
 -- the counts of all found frames, and the count of the records of the file
 abbrev pub all_counts : SetupView → List Found → Counts
-all_counts s found = record (frame_counts s.window found) { epochs = record_count s.head.listed (kept gps cells_of s.window (arrivals found)) }
+all_counts s found = record (frame_counts s found) { epochs = record_count s.head.listed (kept signals (cells_by s) s.window (arrivals found)) }
 
--- the report of all found frames: their lines, then the counts
+-- the letter of a listed system of which no message was taken, after a blank
+abbrev pub missing_letter : SetupView → List Found → System → List ℕ
+missing_letter s found system =
+    if lists_system s.head.listed system && not (has_taken s system found) then 32 ∷ letter_of system ∷ [] else []
+
+-- the letters of all these systems, in the order G R E C J S I
+abbrev pub missing_letters : SetupView → List Found → List ℕ
+missing_letters s found =
+    missing_letter s found Gps ++ missing_letter s found Glonass ++ missing_letter s found Galileo ++ missing_letter s found Beidou
+    ++ missing_letter s found Qzss ++ missing_letter s found Sbas ++ missing_letter s found Navic
+
+-- formula
+-- the line of these systems, if a code of another system than GPS is listed
+abbrev pub missing_lines : SetupView → List Found → List ℕ
+missing_lines s found = if is_of_gps s then [] else missing_line (missing_letters s found)
+
+-- the lines before the counts: those of the found frames, and that of the systems without a message
+abbrev pub lines_before_counts : SetupView → List Found → List ℕ
+lines_before_counts s found = lines s found ++ missing_lines s found
+
+-- the report of all found frames: their lines, that of the systems without a message, then the counts
 abbrev pub report_of : SetupView → List Found → List ℕ
-report_of s found = lines s.window found ++ count_lines (all_counts s found)
+report_of s found = lines s found ++ (missing_lines s found ++ count_lines (all_counts s found))

@@ -8,22 +8,20 @@ use Rattle.rtk_bits.specs.Bits.{bits}
 use Rattle.rtk_frame.specs.Frames.{frames, final_frames, payloads}
 use Rattle.rtk_frame.specs.Stream.{with_more}
 use Rattle.rtk_message.specs.declared.any_message.AnyMessage.{AnyMessage as Message}
-use Rattle.rtk_message.specs.Accepted.{only, accepts}
-use Rattle.rtk_message.specs.AnyDecoded.{Encodes, number_of, station_of, tow_of}
-use Rattle.rtk_obs.specs.declared.cell.CellEntry.{CellEntry}
-use Rattle.rtk_obs.specs.MessageCells.{cells_of}
-use Rattle.rtk_collect.specs.Gps.{gps}
+use Rattle.rtk_message.specs.AnyDecoded.{Encodes, number_of, station_of}
+use Rattle.rtk_obs.specs.declared.signal_cells.SignalEntry.{SignalEntry}
 use Rattle.rtk_collect.specs.Arrival.{Arrival, At, epoch_of, message_of}
 use Rattle.rtk_collect.specs.EpochSet.{EpochSetView}
 use Rattle.rtk_collect.specs.Key.{key}
 use Rattle.rtk_collect.specs.Late.{late}
 use Rattle.rtk_collect.specs.Laws.{without_late}
+use Rattle.rtk_collect.specs.Signals.{signals}
 use Rattle.rtk_convert.specs.File.{file_of}
 use Rattle.rtk_convert.specs.FileOfArrivals.{site_of_stations}
 use Rattle.rtk_convert.specs.FrameClass.{IsEpochOf}
 use Rattle.rtk_convert.specs.ReadHistory.{Read, bytes_of, Gave, AllAtEnd}
 use Rattle.rtk_convert.specs.ReportText.{arrival_text}
-use Rattle.rtk_convert.specs.Setup.{SetupView}
+use Rattle.rtk_convert.specs.Setup.{SetupView, takes, cells_by}
 use Rattle.rtk_convert.specs.Writing.{Written}
 
 -- ---- "for every list of pieces fed over any links"
@@ -41,7 +39,7 @@ payloads_by fed (x ∷ piece) = drop (length (final_frames fed)) (payloads (fina
 -- a payload is this message, which the setup takes, of its station and with its epoch
 abbrev pub IsMessageIn : SetupView → List ℕ → Arrival → Type 0
 IsMessageIn s payload (At epoch m) =
-    Encodes (bits payload) m × IsTrue (accepts (only s.msm) (number_of m)) × (station_of m ≡ s.station) × IsEpochOf s.near (tow_of m) epoch
+    Encodes (bits payload) m × IsTrue (takes s (number_of m)) × (station_of m ≡ s.station) × IsEpochOf s m epoch
 
 -- messages that came, each with its link
 abbrev pub Came : Type 0
@@ -71,9 +69,9 @@ CameInTime s arrivals a = (later : List Arrival) × (before : List Arrival)
 -- ---- "provided equal keys carry equal bodies"
 
 -- cells of one epoch under one key are equal, and so are station messages of one number
-pub record EqualKeysCarryEqualBodies (set : Arrival → Type 0) : Type 0 where
-  pub cells : (e : ℕ) (m o : Message) (c d : CellEntry) → set (At (Some e) m) → set (At (Some e) o)
-      → Contains (cells_of m) c → Contains (cells_of o) d → key gps c ≡ key gps d → c ≡ d
+pub record EqualKeysCarryEqualBodies (s : SetupView) (set : Arrival → Type 0) : Type 0 where
+  pub cells : (e : ℕ) (m o : Message) (c d : SignalEntry) → set (At (Some e) m) → set (At (Some e) o)
+      → Contains (cells_by s m) c → Contains (cells_by s o) d → key signals c ≡ key signals d → c ≡ d
   pub stations : (m o : Message) → set (At None m) → set (At None o) → number_of m ≡ number_of o → m ≡ o
 
 -- ---- "the file written is byte for byte"
@@ -86,7 +84,7 @@ IsWritten before after IsText = (text : List ℕ) × (after ≡ with_more before
 
 -- what a file shows: epochs, each with its cells, and station messages
 pub record Content : Type 0 where
-  pub epochs : List (EpochSetView CellEntry)
+  pub epochs : List (EpochSetView SignalEntry)
   pub arp1005 : Option Message
   pub arp1006 : Option Message
 
@@ -95,10 +93,10 @@ abbrev pub IsStationOf : (Arrival → Type 0) → ℕ → Option Message → Typ
 IsStationOf set number kept = (m : Message) → (kept ≡ Some m) ↔ (set (At None m) × (number_of m ≡ number))
 
 -- the epochs, cells and station messages of a set, and no others
-pub record IsContentOf (set : Arrival → Type 0) (c : Content) : Type 0 where
+pub record IsContentOf (s : SetupView) (set : Arrival → Type 0) (c : Content) : Type 0 where
   pub epochs : (e : ℕ) → Contains (map (λ x. x.epoch) c.epochs) e ↔ ((m : Message) × set (At (Some e) m))
-  pub cells : (e : ℕ) (x : CellEntry) → ((of : EpochSetView CellEntry) × Contains c.epochs of × (of.epoch ≡ e) × Contains of.cells x)
-      ↔ ((m : Message) × set (At (Some e) m) × Contains (cells_of m) x)
+  pub cells : (e : ℕ) (x : SignalEntry) → ((of : EpochSetView SignalEntry) × Contains c.epochs of × (of.epoch ≡ e) × Contains of.cells x)
+      ↔ ((m : Message) × set (At (Some e) m) × Contains (cells_by s m) x)
   pub arp1005 : IsStationOf set 1005 c.arp1005
   pub arp1006 : IsStationOf set 1006 c.arp1006
 
@@ -107,11 +105,11 @@ pub record IsContentOf (set : Arrival → Type 0) (c : Content) : Type 0 where
 -- no epoch stands twice, since they fall; no two cells of an epoch have one key, since keys rise
 pub record EachOnce (c : Content) : Type 0 where
   pub epochs : AllPairs (λ x y. y.epoch < x.epoch) c.epochs
-  pub cells : All (λ x. AllPairs (λ a b. key gps a < key gps b) x.cells) c.epochs
+  pub cells : All (λ x. AllPairs (λ a b. key signals a < key signals b) x.cells) c.epochs
 
 -- the text of a set: the header, and the records of its epochs, rising
 abbrev pub IsFileOf : SetupView → (Arrival → Type 0) → List ℕ → Type 0
-IsFileOf s set text = (c : Content) × IsContentOf set c × EachOnce c × (text ≡ file_of s (site_of_stations c.arp1005 c.arp1006) c.epochs)
+IsFileOf s set text = (c : Content) × IsContentOf s set c × EachOnce c × (text ≡ file_of s (site_of_stations c.arp1005 c.arp1006) c.epochs)
 
 -- ---- "late arrivals are listed"
 
@@ -139,7 +137,7 @@ pub record LateChangeNothing (s : SetupView) (arrivals : List Arrival) : Type 0 
 
 -- of the messages that came
 pub record Headline (s : SetupView) (came : Came) (written_old written_new : Written) : Type 0 where
-  pub file_of_the_set : EqualKeysCarryEqualBodies (CameInTime s (messages_of came))
+  pub file_of_the_set : EqualKeysCarryEqualBodies s (CameInTime s (messages_of came))
       → IsWritten written_old.file written_new.file (IsFileOf s (CameInTime s (messages_of came)))
   pub late_are_listed : LateAreListed s came written_old.report written_new.report
   pub late_change_nothing : LateChangeNothing s (messages_of came)

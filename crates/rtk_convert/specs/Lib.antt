@@ -7,6 +7,8 @@ pub mod FilePrefix
 pub mod FileLaws
 pub mod Failure
 pub mod ClosedEpochs
+pub mod Epochs
+pub mod Systems
 pub mod Writing
 pub mod FrameClass
 pub mod SetupLaws

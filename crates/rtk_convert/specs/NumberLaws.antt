@@ -2,22 +2,20 @@
 -- `epochs` is the number of records.
 use Rattle.std.specs.Prelude.{◌≡◌, ◌<◌, ◌^◌, ℕ, Bool, true, false, List, [], ◌∷◌, ◌++◌, length, flat_map, All}
 use Rattle.std.specs.List.{count_by}
-use Rattle.rtk_obs.specs.declared.code.Code.{Code}
-use Rattle.rtk_collect.specs.Gps.{gps}
-use Rattle.rtk_obs.specs.MessageCells.{cells_of}
-use Rattle.rtk_obs.specs.declared.cell.CellEntry.{CellEntry}
+use Rattle.rtk_obs.specs.declared.any_code.AnyCode.{AnyCode}
+use Rattle.rtk_obs.specs.declared.signal_cells.SignalEntry.{SignalEntry}
 use Rattle.rtk_collect.specs.Accepted.{kept}
 use Rattle.rtk_collect.specs.EpochSet.{EpochSetView}
-use Rattle.rtk_rinex.specs.CheckTable.{HoldsTable}
+use Rattle.rtk_collect.specs.Signals.{signals}
+use Rattle.rtk_rinex.specs.MixedCheckTable.{HoldsMixedTable}
 use Rattle.rtk_convert.specs.declared.counts.Counts.{Counts}
 use Rattle.rtk_convert.specs.File.{record_of, records}
 use Rattle.rtk_convert.specs.ArrivalLaws.{HasPayload}
 use Rattle.rtk_convert.specs.FileOfArrivals.{kept_file}
-use Rattle.rtk_convert.specs.Finish.{all_counts, report_of}
+use Rattle.rtk_convert.specs.Finish.{all_counts, lines_before_counts, report_of}
 use Rattle.rtk_convert.specs.FrameClass.{Found, arrivals}
-use Rattle.rtk_convert.specs.Report.{lines}
 use Rattle.rtk_convert.specs.ReportText.{count_lines}
-use Rattle.rtk_convert.specs.Setup.{SetupView, IsSetupView}
+use Rattle.rtk_convert.specs.Setup.{SetupView, IsSetupView, cells_by}
 
 -- ---- what the lines tell
 
@@ -41,12 +39,12 @@ CountLinesTellCounts = (c d : Counts) → AreHeld c → AreHeld d → count_line
 abbrev pub ReportTellsCounts : Type 0
 ReportTellsCounts =
     (s : SetupView) (found other : List Found) → AreHeld (all_counts s found) → AreHeld (all_counts s other)
-    → lines s.window found ≡ lines s.window other → report_of s found ≡ report_of s other → all_counts s found ≡ all_counts s other
+    → lines_before_counts s found ≡ lines_before_counts s other → report_of s found ≡ report_of s other → all_counts s found ≡ all_counts s other
 
 -- ---- the count of records
 
 -- the records of epochs, rising; a record may be empty
-abbrev pub record_texts : List Code → List (EpochSetView CellEntry) → List (List ℕ)
+abbrev pub record_texts : List AnyCode → List (EpochSetView SignalEntry) → List (List ℕ)
 record_texts listed [] = []
 record_texts listed (e ∷ below) = record_texts listed below ++ record_of listed e below ∷ []
 
@@ -55,7 +53,7 @@ has_bytes [] = false
 has_bytes (x ∷ text) = true
 
 -- these texts are the records of the file, and this many of them are not empty
-pub record AreRecordsOf (listed : List Code) (epochs : List (EpochSetView CellEntry)) (texts : List (List ℕ)) (count : ℕ) : Type 0 where
+pub record AreRecordsOf (listed : List AnyCode) (epochs : List (EpochSetView SignalEntry)) (texts : List (List ℕ)) (count : ℕ) : Type 0 where
   pub file : records listed epochs ≡ flat_map (λ text. text) texts
   pub counted : count ≡ count_by has_bytes texts
 
@@ -63,11 +61,11 @@ pub record AreRecordsOf (listed : List Code) (epochs : List (EpochSetView CellEn
 -- hold the number of these epochs
 abbrev pub EpochsAreRecords : Type 0
 EpochsAreRecords =
-    (s : SetupView) (found : List Found) → length (kept gps cells_of s.window (arrivals found)) < 2 ^ 64
-    → AreRecordsOf s.head.listed (kept gps cells_of s.window (arrivals found)) (record_texts s.head.listed (kept gps cells_of s.window (arrivals found))) (all_counts s found).epochs
+    (s : SetupView) (found : List Found) → length (kept signals (cells_by s) s.window (arrivals found)) < 2 ^ 64
+    → AreRecordsOf s.head.listed (kept signals (cells_by s) s.window (arrivals found)) (record_texts s.head.listed (kept signals (cells_by s) s.window (arrivals found))) (all_counts s found).epochs
 
 -- so many records does `check` find in the file of found frames, whatever their payloads
 abbrev pub EpochsAreOfTable : Type 0
 EpochsAreOfTable =
-    (s : SetupView) (found : List Found) (epochs satellites : ℕ) → IsSetupView s → All (HasPayload s) found → length (kept gps cells_of s.window (arrivals found)) < 2 ^ 64
-    → HoldsTable (kept_file s (arrivals found)) epochs satellites → (all_counts s found).epochs ≡ epochs
+    (s : SetupView) (found : List Found) (epochs satellites : ℕ) → IsSetupView s → All (HasPayload s) found → length (kept signals (cells_by s) s.window (arrivals found)) < 2 ^ 64
+    → HoldsMixedTable (kept_file s (arrivals found)) epochs satellites → (all_counts s found).epochs ≡ epochs

@@ -11,7 +11,7 @@ use Rattle.rtk_convert.specs.Failure.{NamesFailedWrites}
 pub record KeepsWindow (old new : ConversionView) : Type 0 where
   pub same_setup : new.setup ≡ old.setup
   pub few : length new.collector.sets ≤ new.setup.window
-  pub held : HoldsArrivals old.collector → HoldsArrivals new.collector
+  pub held : HoldsArrivals old.setup old.collector → HoldsArrivals new.setup new.collector
 
 -- each of the two streams is named as failed exactly if one of its writes failed in this call
 pub record NamesFailedStreams {T : Type 0} (result : Result T ConvertFault) (out_old out_new log_old log_new : ℕ) : Type 0 where

@@ -23,7 +23,7 @@ pub record HasRead {R : Type 0} (given : R → Option (List ℕ)) (s : SetupView
   pub comes_to : IsHistoryOf s (length before) reads h
   pub gave : Gave given before after reads
   pub out : written_new.file ≡ with_more written_old.file (file_so_far s (arrivals h.found))
-  pub log : written_new.report ≡ with_more written_old.report (lines s.window h.found)
+  pub log : written_new.report ≡ with_more written_old.report (lines s h.found)
 
 -- the counts of failed reads are as they were
 abbrev pub SameFailures : {R : Type 0} → (R → ℕ) → List R → List R → Type 0

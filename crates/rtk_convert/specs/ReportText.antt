@@ -1,9 +1,10 @@
 -- The lines of a report (this project's rule). Links are counted from 1; moments are read as GPS
 -- time.
 use Rattle.std.specs.Prelude.{ℕ, ◌+◌, List, [], ◌∷◌, ◌++◌, codes, decimal, Option, None, Some}
-use Rattle.rtk_obs.specs.declared.code.Code.{Code}
-use Rattle.rtk_obs.specs.CivilText.{last_digits, civil_text}
-use Rattle.rtk_obs.specs.Code.{name_of}
+use Rattle.rtk_obs.specs.declared.any_code.AnyCode.{AnyCode}
+use Rattle.rtk_obs.specs.AnyCode.{name_of}
+use Rattle.rtk_obs.specs.CivilText.{civil_text}
+use Rattle.rtk_obs.specs.SatelliteIndex.{index_name}
 use Rattle.rtk_rinex.specs.Reading.{reading_of}
 use Rattle.rtk_convert.specs.declared.counts.Counts.{Counts}
 
@@ -34,15 +35,21 @@ conflict_line link number = arrival_text link (codes " conflict ") number None +
 
 -- formula
 -- a satellite and a code, as in: G05 1C
-unfoldable pub signal_text : ℕ → Code → List ℕ
-signal_text satellite code = codes " G" ++ last_digits 2 satellite ++ 32 ∷ name_of code
+unfoldable pub signal_text : ℕ → AnyCode → List ℕ
+signal_text satellite code = 32 ∷ index_name satellite ++ 32 ∷ name_of code
 
 -- formula
 -- a cell that differs from the one before, as in: link 1 conflict 1074 2024-05-17 12:00:00.000 G05
 -- 1C
-abbrev pub cell_conflict_line : ℕ → ℕ → ℕ → ℕ → Code → List ℕ
+abbrev pub cell_conflict_line : ℕ → ℕ → ℕ → ℕ → AnyCode → List ℕ
 cell_conflict_line link number epoch satellite code =
     arrival_text link (codes " conflict ") number (Some epoch) ++ signal_text satellite code ++ 10 ∷ []
+
+-- formula
+-- the systems of which no message was taken, if there are any, as in: no-message C J
+abbrev pub missing_line : List ℕ → List ℕ
+missing_line [] = []
+missing_line (x ∷ letters) = codes "no-message" ++ x ∷ letters ++ 10 ∷ []
 
 -- formula
 abbrev pub count_line : List ℕ → ℕ → List ℕ

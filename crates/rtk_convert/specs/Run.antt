@@ -65,8 +65,8 @@ pub record BreaksOffAtEnd {R : Type 0} (given : R → Option (List ℕ)) (calls 
   pub called : HasCalled calls before after (length reads)
   pub at_end : AllAtEnd is_at_end after
   pub out : WritesInto written_old.file written_new.file [] (file_so_far s (arrivals history.found)) (kept_file s (arrivals history.found))
-  pub log : WritesInto written_old.report written_new.report [] (lines s.window history.found) (report_of s history.found)
-  pub counts_last : (written_new.report ≡ with_more written_old.report (lines s.window history.found))
+  pub log : WritesInto written_old.report written_new.report [] (lines s history.found) (report_of s history.found)
+  pub counts_last : (written_new.report ≡ with_more written_old.report (lines s history.found))
       ⊎ (written_new.file ≡ with_more written_old.file (kept_file s (arrivals history.found)))
 
 -- memory was refused, or a write failed: before anything was read, at a frame, or at the end

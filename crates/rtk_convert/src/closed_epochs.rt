@@ -1,81 +1,71 @@
 //! Writes the records of epochs as they close, and at the end of the epochs that are still open.
 
+ghost use Rattle.rtk_convert.specs.Epochs.{set_of};
 ghost use Rattle.rtk_convert.specs.Steps.Faults.{NamesFailedFile};
 ghost use Rattle.rtk_convert.specs.Steps.Closing.{AllAbove, ClosesEpoch, ClosesRemaining};
 ghost use Rattle.rtk_convert.specs.Steps.ShownCells.{AllBelow};
 ghost use Rattle.rtk_convert.specs.ClosedEpochs.{HasClosed};
-ghost use Rattle.rtk_obs.specs.Tracks.{RepresentsSteps};
-ghost use Rattle.rtk_obs.specs.declared.code.Code.{Code};
+ghost use Rattle.rtk_obs.specs.declared.any_code.AnyCode.{AnyCode};
 ghost use Rattle.rtk_rinex.specs.Header.{position_view};
-ghost use Rattle.std.specs.Prelude.{◌≡◌, ℕ, ◌<◌, [], List, false, IfOk};
+ghost use Rattle.std.specs.Prelude.{◌≡◌, ℕ, ◌<◌, [], List, false, map, IfOk};
 
 use crate::epoch_rows::push_rows;
 use crate::fault::ConvertFault;
+use crate::file_entry::FileEntry;
+use crate::row_lines::RowLines;
 use crate::setup::Setup;
 use crate::writing::write_record;
 use arrayvec::ArrayVec;
 use rtk_collect::{GatheredSet, GatheredSets};
 use rtk_frame::Sink;
-use rtk_obs::{CellEntry, Position, Tracks};
-use rtk_rinex::RecordLines;
+use rtk_obs::Position;
 use std::alloc::{AllocError, Global};
 use std::marker::Model;
 
 /// What is known of the closed epochs: the last phases, whether the header is written, and how many
 /// records are written.
 ///
-/// The text of a record is kept from epoch to epoch. The tracks and the room are large, and lie on the
-/// heap, so that no function on the way to them needs a large stack.
+/// The text of a record is kept from epoch to epoch. The last phases are large, and lie on the heap, so that no
+/// function on the way to them needs a large stack.
 #[derive(Drop)]
-pub(crate) struct ClosedEpochs {
-    tracks: Box<Tracks>,
-    // Room for cells of an epoch that came in a 1004.
-    room: Box<ArrayVec<CellEntry, 64>>,
-    lines: RecordLines,
+pub(crate) struct ClosedEpochs<E: FileEntry> {
+    phases: Box<E::Phases>,
+    lines: E::Lines,
     is_header_out: bool,
     count: u64,
 }
 
-// Clauses don't see the room and the lines, which are written anew for each epoch. The reason why the
-// invariant names every field stands at `Converter`.
-impl Model for ClosedEpochs {
+// Clauses don't see the lines, which are written anew for each epoch. The reason why the invariant names every
+// field stands at `Converter`.
+impl<E: FileEntry> Model for ClosedEpochs<E> {
     ghost use Rattle.std.specs.Prelude.{◌≡◌};
     ghost use Rattle.rtk_convert.specs.ClosedEpochs.{ClosedEpochsView};
 
     ghost Value = { ClosedEpochsView };
 
-    ghost view = { λ r. record { tracks = r.tracks.value; is_header_out = r.is_header_out; count = r.count } };
+    ghost view = { λ r. record { tracks = E.places r.phases.value; is_header_out = r.is_header_out; count = r.count } };
 
-    ghost invariant = { λ r. r ≡ record { tracks = r.tracks; room = r.room; lines = r.lines; is_header_out = r.is_header_out; count = r.count } };
+    ghost invariant = { λ r. r ≡ record { phases = r.phases; lines = r.lines; is_header_out = r.is_header_out; count = r.count } };
 }
 
-// Makes tracks without a phase. This function is alone in needing the stack for them, which is gone
-// when it returns.
+/// Makes room for the cells of an epoch that came in a 1004, in which none stands yet. It is large, and lies on the
+/// heap. Each function on the way to it is lent it, so that the size of a cell is known where it is made.
 #[inline(never)]
-fn new_tracks(alloc: Global) -> Result<Box<Tracks>, AllocError>
-    ensures { IfOk result (λ tracks. RepresentsSteps tracks.value []) }
-{
-    Ok(Box::new(alloc, Tracks::new())?)
-}
-
-// Makes room for cells, in which none stands yet.
-#[inline(never)]
-fn new_room(alloc: Global) -> Result<Box<ArrayVec<CellEntry, 64>>, AllocError>
+pub(crate) fn new_room<E: FileEntry>(alloc: Global) -> Result<Box<ArrayVec<E, 64>>, AllocError>
     ensures { IfOk result (λ room. room.value.items ≡ []) }
 {
     Ok(Box::new(alloc, ArrayVec::new())?)
 }
 
-impl ClosedEpochs {
+impl<E: FileEntry> ClosedEpochs<E> {
     /// Makes the state in which no epoch is closed.
-    pub(crate) fn new(alloc: Global) -> Result<ClosedEpochs, AllocError>
-        ensures follows { IfOk result (λ r. (listed : List Code) → HasClosed r listed []) }
+    pub(crate) fn new(alloc: Global) -> Result<ClosedEpochs<E>, AllocError>
+        ensures follows { IfOk result (λ r. (listed : List AnyCode) → HasClosed r listed []) }
         ensures below { IfOk result (λ r. (epoch : ℕ) → AllBelow r.tracks epoch) }
     {
         Ok(ClosedEpochs {
-            tracks: new_tracks(alloc)?,
-            room: new_room(alloc)?,
-            lines: RecordLines::new(alloc),
+            phases: E::new_phases(alloc)?,
+            lines: E::Lines::new(alloc),
             is_header_out: false,
             count: 0,
         })
@@ -103,22 +93,17 @@ impl ClosedEpochs {
         alloc: Global,
         setup: &Setup,
         position: &Position,
-        set: &GatheredSet,
+        set: &GatheredSet<E>,
+        room: &mut ArrayVec<E, 64>,
         out: &mut O,
     ) -> Result<(), ConvertFault>
-        requires { AllBelow self.old.tracks set.now.epoch }
-        ensures closes { ClosesEpoch setup.now (position_view position.now) self.old set.now result self.new
+        requires above { AllBelow self.old.tracks set.now.epoch }
+        ensures closes { ClosesEpoch setup.now (position_view position.now) self.old (set_of E.signal_of set.now) result self.new
             (O.taken out.old) (O.taken out.new) }
         ensures failed { NamesFailedFile result (O.failures out.old) (O.failures out.new) }
     {
         let listed = setup.head().codes();
-        push_rows(
-            &mut self.tracks,
-            set,
-            listed,
-            &mut self.lines,
-            &mut self.room,
-        )?;
+        push_rows(&mut *self.phases, set, listed, &mut self.lines, room)?;
         let epoch = set.epoch();
         self.lines.finish(epoch);
         let text = self.lines.text();
@@ -142,21 +127,22 @@ impl ClosedEpochs {
 
 /// Writes the records of the epochs that are left, rising, and the header before the first record
 /// of the file.
-pub(crate) fn close_remaining<O: Sink>(
+pub(crate) fn close_remaining<E: FileEntry, O: Sink>(
     alloc: Global,
     setup: &Setup,
     position: &Position,
-    closed_epochs: &mut ClosedEpochs,
-    left: &mut GatheredSets,
+    closed_epochs: &mut ClosedEpochs<E>,
+    left: &mut GatheredSets<E>,
+    room: &mut ArrayVec<E, 64>,
     out: &mut O,
 ) -> Result<(), ConvertFault>
-    requires above { AllAbove closed_epochs.old left.old.sets }
-    ensures closes { ClosesRemaining setup.now (position_view position.now) closed_epochs.old left.old.sets result closed_epochs.new
-        (O.taken out.old) (O.taken out.new) }
+    requires above { AllAbove closed_epochs.old (map (set_of E.signal_of) left.old.sets) }
+    ensures closes { ClosesRemaining setup.now (position_view position.now) closed_epochs.old (map (set_of E.signal_of) left.old.sets) result
+        closed_epochs.new (O.taken out.old) (O.taken out.new) }
     ensures failed { NamesFailedFile result (O.failures out.old) (O.failures out.new) }
 {
     'left: while let Some(set) = left.next_left() {
-        closed_epochs.close(alloc, setup, position, &set, out)?;
+        closed_epochs.close(alloc, setup, position, &set, room, out)?;
     }
     Ok(())
 }

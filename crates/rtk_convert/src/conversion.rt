@@ -5,77 +5,84 @@
 //! is an invariant (`IsAhead`): there is a last phase only once the window is full, and its epoch
 //! is below all epochs of the window.
 
-ghost use Rattle.std.specs.Prelude.{◌≡◌, true, false, Err, IfOk, is_err};
+ghost use Rattle.std.specs.Prelude.{◌≡◌, ◌||◌, true, false, Err, IfOk, is_err};
+ghost use Rattle.rtk_message.specs.declared.system.System.{System};
+ghost use Rattle.rtk_collect.specs.Arrival.{message_of};
+ghost use Rattle.rtk_convert.specs.Steps.AddedMessage.{HandlesMessage, IsTakenBy};
 ghost use Rattle.rtk_convert.specs.Steps.Closing.{EndsConversion};
 ghost use Rattle.rtk_convert.specs.Steps.AcceptedFrame.{IsUnderWay, StaysUnderWay, HandlesPayload};
-ghost use Rattle.rtk_convert.specs.Steps.AddedMessage.{HandlesMessage, closed_by};
 ghost use Rattle.rtk_convert.specs.Report.{counted_as};
-ghost use Rattle.rtk_convert.specs.Steps.OfferLines.{class_of_offer};
+ghost use Rattle.rtk_convert.specs.Steps.OfferLines.{class_named};
 ghost use Rattle.rtk_convert.specs.Conversion.{IsNewConversion};
 ghost use Rattle.rtk_convert.specs.Outcome.{KeepsWindow, NamesFailedStreams, RefusesStopped};
+ghost use Rattle.rtk_convert.specs.Systems.{has_system};
+ghost use Rattle.rtk_convert.specs.Steps.ReadMessage.{brings_by, system_of_number};
 ghost use Rattle.rtk_convert.specs.Writing.{written};
 
-use crate::closed_epochs::{ClosedEpochs, close_remaining};
 use crate::counts::Counts;
+use crate::epochs::AnyEpochs;
 use crate::fault::ConvertFault;
 use crate::frame_class::{FrameClass, classify, read_message};
 use crate::link_number::LinkNumber;
+use crate::message_class::MessageClass;
 use crate::report;
 use crate::setup::Setup;
-use crate::writing::{write_header_if_none, write_lines};
-use rtk_collect::{Conflicts, DatedRef, GatheredSet, Gatherer, Outcome};
+use crate::systems::Systems;
+use crate::writing::write_lines;
+use rtk_collect::DatedRef;
 use rtk_frame::Sink;
-use rtk_message::AnyDecoder;
+use rtk_message::{AnyDecoder, MsmType, System};
 use rtk_obs::GpsMs;
 use std::alloc::{AllocError, Global};
 use std::marker::Model;
 
 /// The state of a conversion: the open epochs and the station messages, the last phases of the
-/// closed epochs, whether the header is written, and the counts.
+/// closed epochs, whether the header is written, the counts, and the systems of which a message was taken.
 ///
 /// A call that breaks off stops it: each later call answers V8.
 #[derive(Drop)]
 pub(crate) struct Conversion {
     alloc: Global,
     setup: Setup,
-    collector: Gatherer,
-    closed_epochs: ClosedEpochs,
+    epochs: AnyEpochs,
     counts: Counts,
+    systems: Systems,
     stopped: bool,
-    // The conflicting cells of the message that was offered last.
-    conflicts: Conflicts,
 }
 
-// Clauses don't see the allocator, nor the conflicts, which each message replaces. The reason why the
-// invariant names every field stands at `Converter`.
+// Clauses don't see the allocator, nor whether the epochs are of GPS alone. The reason why the invariant names
+// every field stands at `Converter`.
 impl Model for Conversion {
     ghost use Rattle.std.specs.Prelude.{◌≡◌};
     ghost use Rattle.rtk_convert.specs.Conversion.{ConversionView, IsConversionView};
+    ghost use Rattle.rtk_convert.specs.Steps.EpochsSteps.{AreEpochsOf, epochs_in};
 
     ghost Value = { ConversionView };
 
     ghost view = { λ c. record {
       setup = c.setup;
-      collector = c.collector;
-      closed_epochs = c.closed_epochs;
+      collector = (epochs_in c.epochs).collector;
+      closed_epochs = (epochs_in c.epochs).closed;
       counts = c.counts;
+      systems = c.systems;
       stopped = c.stopped;
     } };
 
     ghost invariant = { λ c. (c ≡ record {
       alloc = c.alloc;
       setup = c.setup;
-      collector = c.collector;
-      closed_epochs = c.closed_epochs;
+      epochs = c.epochs;
       counts = c.counts;
+      systems = c.systems;
       stopped = c.stopped;
-      conflicts = c.conflicts;
     })
+        × AreEpochsOf c.setup c.epochs
         × IsConversionView (record {
           setup = c.setup;
-          collector = c.collector;
-          closed_epochs = c.closed_epochs;
+          collector = (epochs_in c.epochs).collector;
+          closed_epochs = (epochs_in c.epochs).closed;
           counts = c.counts;
+          systems = c.systems;
           stopped = c.stopped;
         }) };
 }
@@ -85,13 +92,11 @@ impl Conversion {
     pub(crate) fn new(alloc: Global, setup: Setup) -> Result<Conversion, AllocError>
         ensures { IfOk result (IsNewConversion setup) }
     {
-        let closed_epochs = ClosedEpochs::new(alloc)?;
-        let collector = Gatherer::new(alloc, setup.window());
+        let epochs = AnyEpochs::new(alloc, &setup)?;
         Ok(Conversion {
             alloc,
             setup,
-            collector,
-            closed_epochs,
+            epochs,
             counts: Counts {
                 frames: 0,
                 other: 0,
@@ -103,8 +108,8 @@ impl Conversion {
                 late: 0,
                 epochs: 0,
             },
+            systems: Systems::NONE,
             stopped: false,
-            conflicts: Conflicts::new(),
         })
     }
 
@@ -193,31 +198,25 @@ impl Conversion {
         log: &mut L,
     ) -> Result<(), ConvertFault>
         requires under_way { IsUnderWay self.old }
+        requires taken { IsTakenBy self.old.setup (message_of dated) }
         ensures stays { StaysUnderWay self.old result self.new }
         ensures handles { HandlesMessage self.old link dated.entry result self.new
             (written (O.taken out.old) (L.taken log.old)) (written (O.taken out.new) (L.taken log.new)) }
         ensures failed { NamesFailedStreams result (O.failures out.old) (O.failures out.new) (L.failures log.old) (L.failures log.new) }
     {
-        let number = dated.number();
-        let epoch = dated.epoch();
-        let offer = self.collector.offer(dated, &mut self.conflicts)?;
-        let conflicts = self.conflicts.as_slice();
-        let lines = report::offer_lines(self.alloc, link, number, epoch, &offer, conflicts)?;
-        count_message(&mut self.counts, &offer);
-        let Some(set) = closed_by(offer) else {
-            return write_lines(log, &lines);
-        };
-        let position = self.collector.station();
-        self.closed_epochs
-            .close(self.alloc, &self.setup, &position, &set, out)?;
-        self.collector.hand_back(set);
-        write_lines(log, &lines)
+        let (number, epoch) = (dated.number(), dated.epoch());
+        let class = self
+            .epochs
+            .add(self.alloc, &self.setup, link, dated, out, log)?;
+        count_message(&mut self.counts, class);
+        put_system(&mut self.systems, number, epoch, class);
+        Ok(())
     }
 }
 
 impl Conversion {
     /// Ends the conversion. It writes the records of the epochs that are open, rising, and the
-    /// header if it is not out, to `out`, and the counts to `log`.
+    /// header if it is not out, to `out`, and the last lines to `log`.
     pub(crate) fn finish<O: Sink, L: Sink>(
         self,
         out: &mut O,
@@ -232,37 +231,49 @@ impl Conversion {
             return Err(ConvertFault::Stopped);
         }
         let (alloc, setup) = (self.alloc, self.setup);
-        let position = self.collector.station();
-        let mut closed_epochs = self.closed_epochs;
-        let mut left = self.collector.close();
-        close_remaining(alloc, &setup, &position, &mut closed_epochs, &mut left, out)?;
-        write_header_if_none(alloc, &setup, &position, closed_epochs.is_header_out(), out)?;
         let mut counts = self.counts;
-        counts.epochs = closed_epochs.count();
-        let lines = report::count_lines(alloc, &counts)?;
+        counts.epochs = self.epochs.finish(alloc, &setup, out)?;
+        let lines = report::last_lines(alloc, &setup, self.systems, &counts)?;
         write_lines(log, &lines)?;
         Ok(counts)
     }
 }
 
-// Returns the epoch that is closed by a message with this answer.
-fn closed_by(offer: Outcome) -> Option<GatheredSet>
-    ensures { result ≡ closed_by offer }
+// Returns the system of an observation of this number. Most are of GPS.
+fn system_of(number: u16) -> System
+    ensures { result ≡ system_of_number number }
 {
-    match offer {
-        Outcome::Taken { closed, .. } => closed,
-        _ => None,
+    match number {
+        1004 | 1074..=1077 => System::Gps,
+        _ => match MsmType::of_number(number) {
+            Some(msm_type) => msm_type.system,
+            None => System::Gps,
+        },
     }
 }
 
-// Counts a message with this answer.
-fn count_message(counts: &mut Counts, offer: &Outcome)
-    ensures { counts.new ≡ counted_as (class_of_offer offer.now) counts.old }
+// Puts the system of a message of this number, epoch and class into a set, if it is an observation that was
+// taken.
+fn put_system(systems: &mut Systems, number: u16, epoch: Option<GpsMs>, class: MessageClass)
+    ensures { (system : System) → has_system systems.new system ≡ (brings_by number epoch (class_named class) system || has_system systems.old system) }
 {
-    match offer {
-        Outcome::Late => counts.late = counts.late.saturating_add(1),
-        Outcome::Taken { .. } => counts.taken = counts.taken.saturating_add(1),
-        Outcome::Repeat => counts.repeat = counts.repeat.saturating_add(1),
-        Outcome::Conflict => counts.conflict = counts.conflict.saturating_add(1),
+    if epoch.is_none() {
+        return;
+    }
+    match class {
+        MessageClass::Taken => systems.put(system_of(number)),
+        MessageClass::Late | MessageClass::Repeat | MessageClass::Conflict => {}
+    }
+}
+
+// Counts a message of this class.
+fn count_message(counts: &mut Counts, class: MessageClass)
+    ensures { counts.new ≡ counted_as (class_named class) counts.old }
+{
+    match class {
+        MessageClass::Late => counts.late = counts.late.saturating_add(1),
+        MessageClass::Taken => counts.taken = counts.taken.saturating_add(1),
+        MessageClass::Repeat => counts.repeat = counts.repeat.saturating_add(1),
+        MessageClass::Conflict => counts.conflict = counts.conflict.saturating_add(1),
     }
 }

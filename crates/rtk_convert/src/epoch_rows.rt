@@ -1,31 +1,38 @@
 //! The rows of a closed epoch, made from its cells.
 //!
 //! A `Cell` is what a message says of a satellite and code. An `Observed` is what the file shows of it:
-//! the phase with its rolls, and the slip. A row has the `Observed` of each listed code of a satellite;
-//! its line is written code by code, each straight from its cell.
+//! the phase with its rolls, and the slip. A row has the `Observed` of each listed code of the satellite's
+//! system; its line is written code by code, each straight from its cell.
 //!
 //! The satellites that have cells are gone over with a place in each list of cells, which rises by
 //! satellite and code. The cells of the MSM come first, then the cells of the 1004 whose code no
-//! cell of the MSM has. Each of them takes a step of the tracks, also if its code is not listed,
+//! cell of the MSM has. Each of them takes a step of the last phases, also if its code is not listed,
 //! since a later phase is compared with it.
 
-ghost use Rattle.std.specs.Prelude.{◌≡◌, ◌≢◌, ℕ, ◌+◌, ◌^◌, ◌<◌, ◌≤◌, List, [], ◌∷◌, ◌++◌, map, length, Some, AllPairs, slice_range, None, IfSome, IfNone, OnOk};
-ghost use Rattle.rtk_obs.specs.declared.cell.CellEntry.{CellEntry};
-ghost use Rattle.rtk_obs.specs.Cell.{IsInRange, IsSatellite};
-ghost use Rattle.rtk_obs.specs.Code.{place_of};
-ghost use Rattle.rtk_obs.specs.Tracks.{IsLater, track_at};
+ghost use Rattle.std.specs.Prelude.{◌≡◌, ◌≢◌, ℕ, ◌+◌, ◌^◌, ◌<◌, ◌≤◌, List, [], ◌∷◌, ◌++◌, map, length, Some, AllPairs, slice_range, None, IfSome, IfNone, OnOk, All, Decides};
+ghost use Rattle.std.specs.Prelude.{IsTrue};
+ghost use Rattle.rtk_obs.specs.declared.any_code.AnyCode.{AnyCode};
+ghost use Rattle.rtk_obs.specs.declared.signal_cells.SignalEntry.{SignalEntry};
+ghost use Rattle.rtk_obs.specs.AnyCode.{place_of};
+ghost use Rattle.rtk_obs.specs.SatelliteIndex.{IsSatelliteIndex, letter_of, satellites_before, satellites_of_system};
+ghost use Rattle.rtk_obs.specs.Tracks.{IsLater};
 ghost use Rattle.rtk_collect.specs.EpochSet.{EpochSetView};
-ghost use Rattle.rtk_rinex.specs.Header.{IsCodeList};
+ghost use Rattle.rtk_rinex.specs.MixedHead.{IsMixedList};
+ghost use Rattle.rtk_rinex.specs.MixedHeader.{codes_of};
 ghost use Rattle.rtk_rinex.specs.declared.epoch_table.Observed.{Observed};
-ghost use Rattle.rtk_rinex.specs.RecordLines.{HasOpenLine, HoldsLines, KeepsLines};
+ghost use Rattle.rtk_convert.specs.Epochs.{set_of};
+ghost use Rattle.rtk_convert.specs.LastPhases.{HasLastPhases, track_at};
 ghost use Rattle.rtk_convert.specs.Rows.{rolled_or_none, observed_with, or_nothing, table_of};
-ghost use Rattle.rtk_convert.specs.LastPhases.{HasLastPhases};
-ghost use Rattle.rtk_convert.specs.Steps.ShownCells.{AllBelow, MayStep, IsPlaceOf, IsLeastAt, HasCellsFrom, TellsSatellite, IsSetOfCodes, AreCellsTo, ShowsRow, ShowsSome, StepsOver, TakesCells, ArePlaces, HasFreeOf, IsFreeOf, with_code};
+ghost use Rattle.rtk_convert.specs.Steps.RowLines.{Keeps};
+ghost use Rattle.rtk_convert.specs.Steps.ShownCells.{AllBelow, MayStep, IsPlaceOf, IsLeastAt, HasCellsFrom, TellsSatellite, IsSetOfCodes, AreCellsTo, AreCodesBefore, AreCodesFrom, AreCodesTo, AreRowCodes, ShowsRow, ShowsSome, StepsOver, TakesCells, ArePlaces, HasFreeOf, IsFreeOf, with_place};
 
+use crate::file_entry::FileEntry;
+use crate::row_lines::RowLines;
 use arrayvec::ArrayVec;
 use rtk_collect::GatheredSet;
-use rtk_obs::{Cell, CellEntry, Code, Digits, GpsMs, Tracks, rolled};
-use rtk_rinex::{Observed, RecordLines};
+use rtk_message::System;
+use rtk_obs::{AnyCode, Cell, Digits, GpsMs, SatelliteIndex, rolled};
+use rtk_rinex::Observed;
 use std::alloc::AllocError;
 
 // Returns a phase with its rolls, or `None` if there is no phase or it is outside the limits of an
@@ -52,26 +59,132 @@ fn observed(cell: &Cell, digits: Digits) -> Observed
     }
 }
 
-// Returns the place of each code among the listed ones, or 16. A list has at most 16 codes, whose
-// places are 0 to 15, so 16 is the place of no listed code.
-fn places_of(listed: &[Code]) -> [u8; 16]
-    requires few { length listed.now ≤ 16 }
-    requires distinct { AllPairs (λ a b. a ≢ b) listed.now }
-    ensures { ArePlaces listed.now result }
+// The greatest number of codes of a system.
+const CODES: usize = 16;
+
+// Returns where each code stands among the codes of a row, by its place among those of its system, or 16.
+// A row has at most 16 codes, whose places are 0 to 15, so 16 is where none stands.
+fn columns_of(codes: &[AnyCode]) -> [u8; CODES]
+    requires few { length codes.now ≤ 16 }
+    requires distinct { AllPairs (λ a b. place_of a ≢ place_of b) codes.now }
+    ensures { ArePlaces codes.now result }
 {
-    let mut places = [16; 16];
-    for k in 0..listed.len() {
-        places[listed[k].place()] = k as u8;
+    let mut columns = [16; CODES];
+    for k in 0..codes.len() {
+        columns[codes[k].place()] = k as u8;
     }
-    places
+    columns
 }
 
-// What the rows of an epoch have in common.
+// What the rows of the satellites of a system have in common.
 #[derive(Clone, Copy)]
-struct RowForm {
+struct RowForm<'a> {
     epoch: GpsMs,
-    // The place of each code among the listed ones, or 16.
-    places: [u8; 16],
+    // The listed codes of the system.
+    codes: &'a [AnyCode],
+    // Where each code stands among them, or 16.
+    columns: [u8; CODES],
+    // The last satellite of the system.
+    last: u8,
+}
+
+// Returns the last satellite of a system.
+fn last_satellite(system: System) -> u8
+    ensures { result ≡ satellites_before system + satellites_of_system system }
+{
+    match system {
+        System::Gps => 32,
+        System::Glonass => 59,
+        System::Galileo => 95,
+        System::Beidou => 158,
+        System::Qzss => 168,
+        System::Sbas => 207,
+        System::Navic => 221,
+    }
+}
+
+// Returns how many of the first codes are not of a system, and are before its codes.
+fn codes_before(listed: &[AnyCode], system: System) -> usize
+    requires { IsMixedList listed.now }
+    ensures { AreCodesBefore listed.now system result }
+{
+    for at in 0..listed.len() {
+        if listed[at].system() == system {
+            return at;
+        }
+    }
+    listed.len()
+}
+
+// Returns where the codes of a system end that begin at a place.
+fn codes_end(listed: &[AnyCode], system: System, begin: usize) -> usize
+    requires { begin ≤ length listed.now }
+    ensures { AreCodesFrom listed.now system begin result }
+{
+    for end in begin..listed.len() {
+        if listed[end].system() == system {
+            continue;
+        }
+        return end;
+    }
+    listed.len()
+}
+
+// Returns the codes of a system, which stand one after another.
+fn codes_of(listed: &[AnyCode], system: System) -> &[AnyCode]
+    requires { IsMixedList listed.now }
+    ensures { result.now ≡ codes_of (letter_of system) listed.now }
+{
+    let begin = codes_before(listed, system);
+    let end = codes_end(listed, system, begin);
+    &listed[begin..end]
+}
+
+// Returns what the rows from this satellite on have in common, up to the last one of its system.
+fn form_from(epoch: GpsMs, listed: &[AnyCode], satellite: u8) -> RowForm<'_>
+    requires listed { IsMixedList listed.now }
+    requires satellite { IsSatelliteIndex satellite }
+    ensures epoch { result.epoch ≡ epoch }
+    ensures codes { AreCodesTo listed.now satellite result.last result.codes.now }
+    ensures columns { ArePlaces result.codes.now result.columns }
+    ensures last { (satellite ≤ result.last) × (result.last ≤ 221) }
+{
+    let Some(index) = SatelliteIndex::new(satellite) else {
+        unreachable!()
+    };
+    let system = index.system();
+    let codes = codes_of(listed, system);
+    RowForm {
+        epoch,
+        codes,
+        columns: columns_of(codes),
+        last: last_satellite(system),
+    }
+}
+
+// Returns what the row of a satellite has in common with others: what the rows before it have, up to the last
+// satellite of their system, or else what the rows from it on have.
+#[inline(always)]
+fn form_at<'a>(form: &RowForm<'a>, listed: &'a [AnyCode], satellite: u8) -> RowForm<'a>
+    requires listed { IsMixedList listed.now }
+    requires satellite { IsSatelliteIndex satellite }
+    requires codes { satellite ≤ form.now.last → AreCodesTo listed.now satellite form.now.last form.now.codes.now }
+    requires columns { ArePlaces form.now.codes.now form.now.columns }
+    requires last { form.now.last ≤ 221 }
+    ensures epoch { result.epoch ≡ form.now.epoch }
+    ensures codes { AreCodesTo listed.now satellite result.last result.codes.now }
+    ensures columns { ArePlaces result.codes.now result.columns }
+    ensures last { (satellite ≤ result.last) × (result.last ≤ 221) }
+{
+    if satellite > form.last {
+        return form_from(form.epoch, listed, satellite);
+    }
+    RowForm {
+        epoch: form.epoch,
+        codes: form.codes,
+        columns: form.columns,
+        last: form.last,
+    }
 }
 
 // A place in each list of the cells of an epoch.
@@ -81,81 +194,72 @@ struct CellPlaces {
     legacy: usize,
 }
 
-// Writes what a code shows at its place in the open line, if it is listed.
+// Writes what the code with a place shows in the open line, if it is listed.
 #[inline(always)]
-fn put_listed(
-    listed: &[Code],
-    places: &[u8; 16],
-    code: Code,
-    shown: &Observed,
-    lines: &mut RecordLines,
-)
-    requires places { ArePlaces listed.now places.now }
-    requires free { HasFreeOf lines.old code listed.now }
-    ensures open { (row : List Observed) → HasOpenLine lines.old row → IsFreeOf code listed.now row
-        → HasOpenLine lines.new (with_code code shown.now listed.now row) }
-    ensures lines { KeepsLines lines.old lines.new }
+fn put_listed<L: RowLines>(form: &RowForm<'_>, place: usize, shown: &Observed, lines: &mut L)
+    requires place { place < 16 }
+    requires columns { ArePlaces form.now.codes.now form.now.columns }
+    requires free { HasFreeOf L.HasLine lines.old place form.now.codes.now }
+    ensures open { (row : List Observed) → L.HasLine lines.old row → IsFreeOf place form.now.codes.now row
+        → L.HasLine lines.new (with_place place shown.now form.now.codes.now row) }
+    ensures lines { Keeps L.HasRows lines.old lines.new }
 {
-    let place = usize::from(places[code.place()]);
-    if place < listed.len() {
-        lines.put_code(place, shown);
+    let column = usize::from(form.columns[place]);
+    if column < form.codes.len() {
+        lines.put_code(column, shown);
     }
 }
 
 // Takes the first cell of a satellite and code.
 #[inline(always)]
-fn show_entry(
-    tracks: &mut Tracks,
-    form: &RowForm,
-    entry: &CellEntry,
-    listed: &[Code],
-    lines: &mut RecordLines,
+fn show_entry<E: FileEntry>(
+    phases: &mut E::Phases,
+    form: &RowForm<'_>,
+    entry: &E,
+    lines: &mut E::Lines,
 )
-    requires range { IsInRange entry.now }
-    requires later { IsLater (track_at tracks.old entry.now.satellite entry.now.code) form.now.epoch }
-    requires places { ArePlaces listed.now form.now.places }
-    requires free { HasFreeOf lines.old entry.now.code listed.now }
-    ensures { StepsOver form.now.epoch entry.now listed.now tracks.old tracks.new lines.old lines.new }
+    requires range { E.InRange entry.now }
+    requires later { IsLater (track_at (E.places phases.old) (E.signal_of entry.now).satellite (E.signal_of entry.now).code) form.now.epoch }
+    requires columns { ArePlaces form.now.codes.now form.now.columns }
+    requires free { HasFreeOf E.Lines.HasLine lines.old (place_of (E.signal_of entry.now).code) form.now.codes.now }
+    ensures { StepsOver E.Lines.HasRows E.Lines.HasLine form.now.epoch (E.signal_of entry.now) form.now.codes.now
+        (E.places phases.old) (E.places phases.new) lines.old lines.new }
 {
-    let digits = tracks.step(entry.satellite, entry.code, form.epoch, &entry.cell);
-    let shown = observed(&entry.cell, digits);
-    put_listed(listed, &form.places, entry.code, &shown, lines);
+    E::cells_are_signals();
+    let digits = entry.step(phases, form.epoch);
+    let shown = observed(entry.cell(), digits);
+    put_listed(form, entry.code_place(), &shown, lines);
 }
 
-// Returns the set that has only this code. The bit of a code in a set of codes is at its place.
-fn bit_of(code: Code) -> u32
-    ensures { result ≡ 2 ^ place_of code }
+// Returns the set that has only the code of a cell. The bit of a code in a set of codes is at its place.
+fn bit_of<E: FileEntry>(entry: &E) -> u32
+    ensures { result ≡ 2 ^ place_of (E.signal_of entry.now).code }
 {
-    1 << code.place()
+    1 << entry.code_place()
 }
 
 // Returns whether there is a cell of this satellite at this place.
-fn has_satellite(entries: &[CellEntry], at: usize, satellite: u8) -> bool
-    ensures { TellsSatellite satellite entries.now at result }
+fn has_satellite<E: FileEntry>(entries: &[E], at: usize, satellite: u8) -> bool
+    ensures { TellsSatellite satellite (map E.signal_of entries.now) at result }
 {
-    at < entries.len() && entries[at].satellite == satellite
+    at < entries.len() && entries[at].satellite() == satellite
 }
 
 // Returns the least satellite that has a cell at these places of two lists.
-fn next_satellite(
-    msm: &[CellEntry],
-    msm_at: usize,
-    legacy: &[CellEntry],
-    legacy_at: usize,
-) -> Option<u8>
-    ensures some { IfSome result (λ satellite. IsLeastAt satellite msm.now msm_at legacy.now legacy_at) }
-    ensures none { IfNone result ((length msm.now ≤ msm_at) × (length legacy.now ≤ legacy_at)) }
+fn next_satellite<E: FileEntry>(msm: &[E], legacy: &[E], at: CellPlaces) -> Option<u8>
+    ensures some { IfSome result (λ satellite. IsLeastAt satellite (map E.signal_of msm.now) at.msm (map E.signal_of legacy.now) at.legacy) }
+    ensures none { IfNone result ((length msm.now ≤ at.msm) × (length legacy.now ≤ at.legacy)) }
 {
-    if msm_at >= msm.len() {
-        if legacy_at >= legacy.len() {
+    if at.msm >= msm.len() {
+        if at.legacy >= legacy.len() {
             return None;
         }
-        return Some(legacy[legacy_at].satellite);
+        return Some(legacy[at.legacy].satellite());
     }
-    if legacy_at >= legacy.len() {
-        return Some(msm[msm_at].satellite);
+    if at.legacy >= legacy.len() {
+        return Some(msm[at.msm].satellite());
     }
-    Some(msm[msm_at].satellite.min(legacy[legacy_at].satellite))
+    Some(msm[at.msm].satellite().min(legacy[at.legacy].satellite()))
 }
 
 // How far the cells of a satellite reach in a list, and the set of the codes that its cells have.
@@ -170,37 +274,39 @@ struct Reach {
 // alone, since the set has their codes. The function is inlined, because much of it falls away for
 // the first list, to which no cell is earlier.
 #[inline(always)]
-fn show_cells(
-    tracks: &mut Tracks,
-    form: &RowForm,
+fn show_cells<E: FileEntry>(
+    phases: &mut E::Phases,
+    form: &RowForm<'_>,
     satellite: u8,
-    earlier: &[CellEntry],
+    earlier: &[E],
     known: u32,
-    entries: &[CellEntry],
+    entries: &[E],
     begin: usize,
-    listed: &[Code],
-    lines: &mut RecordLines,
+    lines: &mut E::Lines,
 ) -> Reach
-    requires satellite { IsSatellite satellite }
-    requires known { IsSetOfCodes known earlier.now satellite }
-    requires cells { HasCellsFrom satellite entries.now begin }
-    requires later { MayStep tracks.old earlier.now satellite form.now.epoch }
-    requires places { ArePlaces listed.now form.now.places }
-    requires shows { ShowsSome form.now.epoch earlier.now satellite listed.now tracks.old lines.old }
-    ensures takes { TakesCells form.now.epoch earlier.now entries.now begin result.end satellite listed.now
-        tracks.old lines.old tracks.new lines.new }
-    ensures next { IsPlaceOf (satellite + 1) entries.now result.end }
-    ensures codes { IsSetOfCodes result.codes (earlier.now ++ slice_range entries.now begin result.end) satellite }
+    requires satellite { IsSatelliteIndex satellite }
+    requires codes { AreRowCodes form.now.codes.now satellite }
+    requires known { IsSetOfCodes known (map E.signal_of earlier.now) satellite }
+    requires ranges { All E.InRange entries.now }
+    requires cells { HasCellsFrom satellite (map E.signal_of entries.now) begin }
+    requires later { MayStep (E.places phases.old) (map E.signal_of earlier.now) satellite form.now.epoch }
+    requires columns { ArePlaces form.now.codes.now form.now.columns }
+    requires shows { ShowsSome E.Lines.HasLine form.now.epoch (map E.signal_of earlier.now) satellite form.now.codes.now (E.places phases.old) lines.old }
+    ensures takes { TakesCells E.Lines.HasRows E.Lines.HasLine form.now.epoch (map E.signal_of earlier.now) (map E.signal_of entries.now)
+        begin result.end satellite form.now.codes.now (E.places phases.old) lines.old (E.places phases.new) lines.new }
+    ensures next { IsPlaceOf (satellite + 1) (map E.signal_of entries.now) result.end }
+    ensures codes { IsSetOfCodes result.codes (map E.signal_of earlier.now ++ slice_range (map E.signal_of entries.now) begin result.end) satellite }
 {
     let mut codes = known;
     let mut end = begin;
     'cells: while has_satellite(entries, end, satellite) {
-        let bit = bit_of(entries[end].code);
+        let entry = &entries[end];
+        let bit = bit_of(entry);
         if known & bit != 0 {
             end += 1;
             continue;
         }
-        show_entry(tracks, form, &entries[end], listed, lines);
+        show_entry(phases, form, entry, lines);
         codes |= bit;
         end += 1;
     }
@@ -210,50 +316,41 @@ fn show_cells(
 // Takes the cells of a satellite, which has its place in two lists of cells. It takes first those
 // of an MSM, then those of a 1004 whose code none of an MSM has. It writes the line of the
 // satellite, which is open, and returns how far the cells reach.
-fn fill_line(
-    tracks: &mut Tracks,
-    form: &RowForm,
+fn fill_line<E: FileEntry>(
+    phases: &mut E::Phases,
+    form: &RowForm<'_>,
     satellite: u8,
-    msm: &[CellEntry],
-    legacy: &[CellEntry],
+    msm: &[E],
+    legacy: &[E],
     at: CellPlaces,
-    listed: &[Code],
-    lines: &mut RecordLines,
+    lines: &mut E::Lines,
 ) -> CellPlaces
-    requires satellite { IsSatellite satellite }
-    requires msm { HasCellsFrom satellite msm.now at.msm }
-    requires legacy { HasCellsFrom satellite legacy.now at.legacy }
-    requires later { MayStep tracks.old [] satellite form.now.epoch }
-    requires places { ArePlaces listed.now form.now.places }
-    requires open { HasOpenLine lines.old (map (λ code. or_nothing None) listed.now) }
-    ensures shows { ShowsRow tracks.old form.now.epoch
-        (slice_range msm.now at.msm result.msm ++ slice_range legacy.now at.legacy result.legacy)
-        satellite listed.now tracks.new lines.new }
-    ensures lines { KeepsLines lines.old lines.new }
-    ensures msm { AreCellsTo satellite msm.now at.msm result.msm }
-    ensures legacy { AreCellsTo satellite legacy.now at.legacy result.legacy }
+    requires satellite { IsSatelliteIndex satellite }
+    requires codes { AreRowCodes form.now.codes.now satellite }
+    requires ranges { All E.InRange msm.now × All E.InRange legacy.now }
+    requires msm { HasCellsFrom satellite (map E.signal_of msm.now) at.msm }
+    requires legacy { HasCellsFrom satellite (map E.signal_of legacy.now) at.legacy }
+    requires later { MayStep (E.places phases.old) [] satellite form.now.epoch }
+    requires columns { ArePlaces form.now.codes.now form.now.columns }
+    requires open { E.Lines.HasLine lines.old (map (λ code. or_nothing None) form.now.codes.now) }
+    ensures shows { ShowsRow E.Lines.HasLine (E.places phases.old) form.now.epoch
+        (slice_range (map E.signal_of msm.now) at.msm result.msm ++ slice_range (map E.signal_of legacy.now) at.legacy result.legacy)
+        satellite form.now.codes.now (E.places phases.new) lines.new }
+    ensures lines { Keeps E.Lines.HasRows lines.old lines.new }
+    ensures msm { AreCellsTo satellite (map E.signal_of msm.now) at.msm result.msm }
+    ensures legacy { AreCellsTo satellite (map E.signal_of legacy.now) at.legacy result.legacy }
 {
-    let first = show_cells(
-        tracks,
-        form,
-        satellite,
-        &msm[..0],
-        0,
-        msm,
-        at.msm,
-        listed,
-        lines,
-    );
+    let none = &msm[..0];
+    let first = show_cells(phases, form, satellite, none, 0, msm, at.msm, lines);
     let own = &msm[at.msm..first.end];
     let second = show_cells(
-        tracks,
+        phases,
         form,
         satellite,
         own,
         first.codes,
         legacy,
         at.legacy,
-        listed,
         lines,
     );
     CellPlaces {
@@ -268,34 +365,34 @@ fn fill_line(
 /// A cell is compared with the last phase of its satellite and code, however old that is, also if
 /// its code is not listed. Of a satellite and code the cell of an MSM stands, else that of a 1004. If
 /// memory is refused nothing is said of the lines and the last phases.
-pub(crate) fn push_rows(
-    tracks: &mut Tracks,
-    set: &GatheredSet,
-    listed: &[Code],
-    lines: &mut RecordLines,
-    room: &mut ArrayVec<CellEntry, 64>,
+pub(crate) fn push_rows<E: FileEntry>(
+    phases: &mut E::Phases,
+    set: &GatheredSet<E>,
+    listed: &[AnyCode],
+    lines: &mut E::Lines,
+    room: &mut ArrayVec<E, 64>,
 ) -> Result<(), AllocError>
-    requires listed { IsCodeList listed.now }
-    requires later { AllBelow tracks.old set.now.epoch }
-    ensures lines { OnOk result ((below : List (EpochSetView CellEntry)) → HasLastPhases tracks.old below
-        → HoldsLines lines.new (table_of listed.now set.now below).rows) }
-    ensures phases { OnOk result ((below : List (EpochSetView CellEntry)) → HasLastPhases tracks.old below
-        → HasLastPhases tracks.new (set.now ∷ below)) }
-    ensures later { OnOk result ((later : ℕ) → set.now.epoch < later → AllBelow tracks.new later) }
+    requires listed { IsMixedList listed.now }
+    requires later { AllBelow (E.places phases.old) set.now.epoch }
+    ensures lines { OnOk result ((below : List (EpochSetView SignalEntry)) → HasLastPhases (E.places phases.old) below
+        → E.Lines.HasRows lines.new (table_of listed.now (set_of E.signal_of set.now) below).rows) }
+    ensures phases { OnOk result ((below : List (EpochSetView SignalEntry)) → HasLastPhases (E.places phases.old) below
+        → HasLastPhases (E.places phases.new) (set_of E.signal_of set.now ∷ below)) }
+    ensures later { OnOk result ((later : ℕ) → set.now.epoch < later → AllBelow (E.places phases.new) later) }
 {
+    E::cells_are_signals();
+    E::Lines::blank_rows_are_left_out();
     lines.restart();
     let epoch = set.epoch();
     let msm = set.msm_cells();
     let legacy = set.legacy_left(room);
-    let form = RowForm {
-        epoch,
-        places: places_of(listed),
-    };
+    let mut form = form_from(epoch, listed, 1);
     let mut at = CellPlaces { msm: 0, legacy: 0 };
-    'satellites: while let Some(satellite) = next_satellite(msm, at.msm, legacy, at.legacy) {
-        lines.open_line(listed.len())?;
-        at = fill_line(tracks, &form, satellite, msm, legacy, at, listed, lines);
-        lines.close_line(satellite);
+    'satellites: while let Some(satellite) = next_satellite(msm, legacy, at) {
+        form = form_at(&form, listed, satellite);
+        lines.open_line(form.codes.len())?;
+        at = fill_line(phases, &form, satellite, msm, legacy, at, lines);
+        lines.close_line(satellite)?;
     }
     Ok(())
 }

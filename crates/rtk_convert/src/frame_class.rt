@@ -1,16 +1,16 @@
 //! What the payload of a frame means for a conversion: its class, and its epoch if it has one.
 
-ghost use Rattle.std.specs.Prelude.{◌<◌, IfOk};
+ghost use Rattle.std.specs.Prelude.{◌≡◌, IfOk};
 ghost use Rattle.rtk_bits.specs.Bits.{bits};
-ghost use Rattle.rtk_message.specs.Accepted.{only};
 ghost use Rattle.rtk_message.specs.AnyDecoded.{DecodesBy};
-ghost use Rattle.rtk_convert.specs.FrameClass.{IsDatedMessage, IsClassOfReading};
-ghost use Rattle.rtk_convert.specs.Steps.TakenMessage.{IsTakenMessage};
+ghost use Rattle.rtk_convert.specs.FrameClass.{IsDatedMessage, IsClassOfReading, system_of, class_of_fault};
+ghost use Rattle.rtk_convert.specs.Setup.{taken_by, takes};
+ghost use Rattle.rtk_convert.specs.Steps.ReadMessage.{IsRead, IsReadMessage};
 
 use crate::setup::Setup;
 use rtk_collect::DatedRef;
-use rtk_message::{Accepted, AnyDecoder, AnyFault, AnyMessage};
-use rtk_obs::date;
+use rtk_message::{AnyDecoder, AnyFault, AnyMessage, System};
+use rtk_obs::date_clock;
 
 /// What the payload of a frame means for a conversion.
 #[derive(Drop)]
@@ -25,6 +25,9 @@ pub enum FrameClass<'a> {
     Dated(DatedRef<'a>),
 }
 
+// The message of GPS that no MSM is.
+const LEGACY: u16 = 1004;
+
 /// Returns what a payload is read as, by the messages that the setup takes. It is lent until the
 /// next call.
 pub(crate) fn read_message<'a>(
@@ -32,22 +35,75 @@ pub(crate) fn read_message<'a>(
     decoder: &'a mut AnyDecoder,
     payload: &[u8],
 ) -> &'a Result<AnyMessage, AnyFault>
-    ensures { DecodesBy (only setup.now.msm) (bits payload.now) result.now }
+    ensures { DecodesBy (taken_by setup.now) (bits payload.now) result.now }
 {
-    decoder.read(Accepted::only(setup.msm()), payload)
+    decoder.read(setup.accepted(), payload)
 }
 
-// Returns a message with its epoch, which is the moment of its time of week that is nearest to the
-// reference.
+// Returns the system of a message.
+fn system_of(message: &AnyMessage) -> System
+    ensures { result ≡ system_of message.now }
+{
+    match message {
+        AnyMessage::Message(_) => System::Gps,
+        AnyMessage::Msm(msm) => msm.system,
+    }
+}
+
+// Returns a message with its epoch, which is the moment of its clock that is nearest to the reference.
 fn dated_message<'a>(setup: &Setup, message: &'a AnyMessage) -> DatedRef<'a>
-    requires { IsTakenMessage setup.now message.now }
+    requires { IsReadMessage setup.now message.now }
     ensures { IsDatedMessage setup.now message.now result }
 {
-    let Some(tow) = message.tow() else {
+    let Some(clock) = message.tow() else {
         return DatedRef::of_any(message, None);
     };
-    let epoch = date(setup.near(), tow);
+    let epoch = date_clock(
+        system_of(message),
+        setup.near(),
+        clock,
+        setup.leap_seconds(),
+    );
     DatedRef::of_any(message, Some(epoch))
+}
+
+// Returns whether the setup takes messages of a number that was read. A 1004 is read whatever the codes
+// are, and taken with codes of GPS alone.
+#[inline(always)]
+fn is_taken(setup: &Setup, number: u16) -> bool
+    requires { IsRead setup.now number }
+    ensures { result ≡ takes setup.now number }
+{
+    number != LEGACY || setup.takes_gps()
+}
+
+// Returns whether the setup takes messages of a number.
+fn takes(setup: &Setup, number: u16) -> bool
+    ensures { result ≡ takes setup.now number }
+{
+    if number == LEGACY {
+        return setup.takes_gps();
+    }
+    setup.accepted().accepts(number)
+}
+
+// Returns the class of a payload that is no message.
+fn class_of_fault<'a>(setup: &Setup, fault: AnyFault) -> FrameClass<'a>
+    ensures { result ≡ class_of_fault setup.now fault }
+{
+    match fault {
+        AnyFault::NoNumber => FrameClass::Refused(fault),
+        AnyFault::Other { .. } => FrameClass::OtherMessage,
+        AnyFault::Short { number }
+        | AnyFault::EpochRange { number }
+        | AnyFault::TooManyCells { number } => {
+            if takes(setup, number) {
+                FrameClass::Refused(fault)
+            } else {
+                FrameClass::OtherMessage
+            }
+        }
+    }
 }
 
 /// Returns the class of a payload that is read so, which is a message that the class borrows, or a
@@ -56,17 +112,19 @@ pub(crate) fn classify<'a>(
     setup: &Setup,
     reading: &'a Result<AnyMessage, AnyFault>,
 ) -> FrameClass<'a>
-    requires { IfOk reading.now (λ m. IsTakenMessage setup.now m) }
+    requires { IfOk reading.now (λ m. IsReadMessage setup.now m) }
     ensures { IsClassOfReading setup.now reading.now result }
 {
     match reading {
         Ok(message) => {
+            if !is_taken(setup, message.number()) {
+                return FrameClass::OtherMessage;
+            }
             if message.station() != setup.station() {
                 return FrameClass::Foreign;
             }
             FrameClass::Dated(dated_message(setup, message))
         }
-        Err(AnyFault::Other { .. }) => FrameClass::OtherMessage,
-        Err(fault) => FrameClass::Refused(*fault),
+        Err(fault) => class_of_fault(setup, *fault),
     }
 }

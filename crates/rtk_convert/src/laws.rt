@@ -8,22 +8,18 @@ ghost use Rattle.rtk_convert.specs.FileLaws.{FileIsTable};
 ghost use Rattle.rtk_convert.specs.Headline.{SetHasOneFile};
 ghost use Rattle.rtk_convert.specs.HistoryLaws.{ComesToOne, FeedsToOne, ClosesToOne, EndsAtOne, CallsFindOne, NextIsOne, ReadsComeToOne};
 ghost use Rattle.rtk_convert.specs.NumberLaws.{CountLinesTellCounts, ReportTellsCounts, EpochsAreRecords, EpochsAreOfTable};
-ghost use Rattle.rtk_convert.specs.SetupLaws.{DefaultTakesFour};
+ghost use Rattle.rtk_convert.specs.SetupLaws.{DefaultTakesFour, GpsMessagesStay};
 
-use rtk_collect::{
-    epochs_are_bounded, late_arrivals_change_nothing, set_decides, stations_are_final,
-};
+use rtk_collect::{signal_window_laws, stations_are_final};
 use rtk_message::decodes_by_four;
-use rtk_rinex::files_are_tables;
+use rtk_obs::clock_laws;
 
 /// The file of every set of messages is the text of a well-formed table, and so is the file of all
 /// found frames: the checker accepts both.
 pub fn file_laws()
     ensures table { FileIsTable }
     ensures kept { KeptFileIsTable }
-{
-    files_are_tables();
-}
+{}
 
 /// If equal keys carry equal bodies, the file depends only on the set of messages that came in
 /// time. Late messages change nothing, nor do frames that are other, refused or foreign.
@@ -32,8 +28,7 @@ pub fn set_decides_file()
     ensures late { LateLeaveFile }
     ensures others { OthersLeaveFile }
 {
-    set_decides();
-    late_arrivals_change_nothing();
+    signal_window_laws();
 }
 
 /// Each later file begins with what is written, whatever arrives after it; its header stays.
@@ -42,13 +37,19 @@ pub fn file_only_grows()
     ensures header { HeaderIsFinal }
 {}
 
-/// For a setup whose MSM is 1074 the messages are 1004, 1005, 1006 and 1074: the class of a payload
-/// is that by `decode`.
+/// For a setup with codes of GPS alone whose MSM is 1074 the messages are 1004, 1005, 1006 and 1074: the class
+/// of a payload is that by `decode`.
 pub fn default_takes_four()
     ensures { DefaultTakesFour }
 {
     decodes_by_four();
 }
+
+/// A setup with codes of GPS alone takes messages of GPS and of stations alone. The cells of these messages are
+/// those of GPS, and their epochs the moments of their times of week.
+pub fn gps_messages_stay()
+    ensures { GpsMessagesStay }
+{}
 
 /// A payload has one class. So the same calls always find the same frames, and come to the same
 /// history. At most one link is next. So the history alone decides which link is read next, and the
@@ -61,7 +62,9 @@ pub fn one_history_of_calls()
     ensures all { CallsFindOne }
     ensures next { NextIsOne }
     ensures reads { ReadsComeToOne }
-{}
+{
+    clock_laws();
+}
 
 /// What a converter holds decides what each call makes of its history and what the call answers.
 /// `feed` and `close` are refused by what the history says of their link. `newest` answers what the
@@ -75,7 +78,7 @@ pub fn converter_laws()
     ensures call { HeldDecidesCall }
     ensures end { HeldDecidesEnd }
 {
-    epochs_are_bounded();
+    signal_window_laws();
     stations_are_final();
 }
 
@@ -102,9 +105,7 @@ pub fn report_tells_counts()
 pub fn epochs_are_records()
     ensures kept { EpochsAreRecords }
     ensures table { EpochsAreOfTable }
-{
-    files_are_tables();
-}
+{}
 
 /// A set of messages has one file, whatever the order in which they came.
 pub fn set_has_one_file()

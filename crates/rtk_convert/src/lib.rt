@@ -55,18 +55,25 @@ mod conversion;
 mod converter;
 mod counts;
 mod epoch_rows;
+mod epochs;
 mod fault;
+mod file_entry;
 mod frame_class;
 mod laws;
 mod link_count;
 mod link_number;
 mod link_state;
+mod message_class;
 mod reference;
 mod report;
+mod row_lines;
 mod runs;
 mod setup;
 mod setup_fault;
+mod signal_phases;
 mod station;
+mod system_kinds;
+mod systems;
 mod window;
 mod writing;
 
@@ -76,7 +83,8 @@ pub use fault::{ConvertFault, Stream};
 pub use laws::{
     calls_come_to_table, calls_keep_promise, converter_laws, default_takes_four,
     each_frame_in_one_class, epochs_are_records, file_laws, file_only_grows, frames_add_to_one,
-    one_history_of_calls, report_tells_counts, set_decides_file, set_has_one_file,
+    gps_messages_stay, one_history_of_calls, report_tells_counts, set_decides_file,
+    set_has_one_file,
 };
 pub use link_count::{LinkCount, MOST_LINKS};
 pub use reference::Reference;
@@ -84,4 +92,5 @@ pub use runs::run;
 pub use setup::Setup;
 pub use setup_fault::SetupFault;
 pub use station::{GREATEST_STATION, Station};
+pub use system_kinds::SystemKinds;
 pub use window::{LEAST_WINDOW, MOST_WINDOW, Window};

@@ -12,7 +12,7 @@ use crate::fault::ConvertFault;
 use crate::link_number::LinkNumber;
 use rtk_frame::{Answer, Scanner, Sink};
 use rtk_message::AnyDecoder;
-use rtk_obs::GpsMs;
+use rtk_obs::{GpsMs, clock_laws};
 
 /// A link. It is closed exactly if its scanner has ended.
 ///
@@ -57,6 +57,7 @@ impl LinkState {
             (written (O.taken out.old) (L.taken log.old)) (written (O.taken out.new) (L.taken log.new)) }
         ensures failed { NamesFailedStreams result (O.failures out.old) (O.failures out.new) (L.failures log.old) (L.failures log.new) }
     {
+        clock_laws();
         let mut at = 0;
         'frames: loop {
             let fed = self.scanner.feed(&piece[at..]);
@@ -87,6 +88,7 @@ impl LinkState {
             (written (O.taken out.old) (L.taken log.old)) (written (O.taken out.new) (L.taken log.new)) }
         ensures failed { NamesFailedStreams result (O.failures out.old) (O.failures out.new) (L.failures log.old) (L.failures log.new) }
     {
+        clock_laws();
         'frames: while let Some(payload) = self.scanner.rest() {
             let epoch = conversion.accept_frame(decoder, number, payload, out, log)?;
             self.newest = later_of(epoch, self.newest);

@@ -1,16 +1,24 @@
 //! The lines of a report, as text.
 
-ghost use Rattle.std.specs.Prelude.{◌≡◌, ◌<◌, ◌++◌, [], Some, None, Option, ℕ, flat_map, IfOk, OnOk};
-ghost use Rattle.rtk_collect.specs.declared.conflicts.SatelliteCode.{SatelliteCode};
-ghost use Rattle.rtk_convert.specs.Report.{refused_line, cell_lines, conflict_lines};
-ghost use Rattle.rtk_convert.specs.Steps.OfferLines.{offer_lines};
-ghost use Rattle.rtk_convert.specs.ReportText.{epoch_text, link_text, arrival_text, signal_text, late_line, conflict_line, cell_conflict_line, count_line, count_lines};
+ghost use Rattle.std.specs.Prelude.{◌≡◌, ◌+◌, ◌<◌, ◌≤◌, ◌++◌, [], Some, None, Option, ℕ, map, flat_map, IfOk, OnOk};
+ghost use Rattle.arrayvec.specs.ArrayVec.{array_vec_len};
+ghost use Rattle.rtk_obs.specs.SatelliteIndex.{letter_of};
+ghost use Rattle.rtk_collect.specs.declared.conflicts.AnySatelliteCode.{AnySatelliteCode};
+ghost use Rattle.rtk_convert.specs.Report.{refused_line, cell_lines, conflict_lines, class_lines};
+ghost use Rattle.rtk_convert.specs.Steps.LastLines.{last_lines, missing_letter_by, missing_letters_by};
+ghost use Rattle.rtk_convert.specs.Steps.OfferLines.{class_named};
+ghost use Rattle.rtk_convert.specs.ReportText.{epoch_text, link_text, arrival_text, signal_text, late_line, conflict_line, cell_conflict_line, missing_line, count_line, count_lines};
 
 use crate::counts::Counts;
+use crate::file_entry::FileEntry;
 use crate::link_number::LinkNumber;
-use rtk_collect::{Outcome, SatelliteCode};
-use rtk_message::{AnyFault, put_any_fault, put_named};
-use rtk_obs::{GpsMs, civil, put_civil, two_digits};
+use crate::message_class::MessageClass;
+use crate::setup::Setup;
+use crate::systems::Systems;
+use arrayvec::ArrayVec;
+use rtk_collect::AnySatelliteCode;
+use rtk_message::{AnyFault, System, put_any_fault, put_named};
+use rtk_obs::{GpsMs, civil, put_civil, satellite_name};
 use std::alloc::{AllocError, Global};
 
 // Appends the epoch of a message, or a hyphen if it has none.
@@ -42,11 +50,11 @@ fn put_message(
 }
 
 // Appends the satellite and the code of a cell.
-fn put_signal(line: &mut Vec<u8>, cell: SatelliteCode) -> Result<(), AllocError>
+fn put_signal(line: &mut Vec<u8>, cell: AnySatelliteCode) -> Result<(), AllocError>
     ensures { OnOk result (line.new.items ≡ line.old.items ++ signal_text cell.satellite cell.code) }
 {
-    line.extend_from_slice(b" G")?;
-    line.extend_from_slice(&two_digits(cell.satellite))?;
+    line.push(b' ')?;
+    line.extend_from_slice(&satellite_name(cell.satellite))?;
     line.push(b' ')?;
     line.extend_from_slice(&cell.code.name())?;
     Ok(())
@@ -58,7 +66,7 @@ fn put_conflict(
     link: LinkNumber,
     number: u16,
     epoch: GpsMs,
-    cell: SatelliteCode,
+    cell: AnySatelliteCode,
 ) -> Result<(), AllocError>
     ensures { OnOk result (lines.new.items ≡ lines.old.items ++ cell_conflict_line link number epoch cell.satellite cell.code) }
 {
@@ -69,68 +77,70 @@ fn put_conflict(
 }
 
 // Appends a line for each cell that differs from the kept one.
-fn put_cell_conflicts(
+fn put_cell_conflicts<E: FileEntry>(
     lines: &mut Vec<u8>,
     link: LinkNumber,
     number: u16,
     epoch: Option<GpsMs>,
-    cells: &[SatelliteCode],
+    cells: &[E::Signal],
 ) -> Result<(), AllocError>
-    ensures { OnOk result (lines.new.items ≡ lines.old.items ++ cell_lines link number epoch cells.now) }
+    ensures { OnOk result (lines.new.items ≡ lines.old.items ++ cell_lines link number epoch (map E.name_of cells.now)) }
 {
     let Some(epoch) = epoch else {
         return Ok(());
     };
     for cell in cells {
-        put_conflict(lines, link, number, epoch, *cell)?;
+        put_conflict(lines, link, number, epoch, E::name(*cell))?;
     }
     Ok(())
 }
 
 // Appends the line that a station message differs from the kept one, or a line for each cell of an
 // observation that does.
-fn put_conflicts(
+fn put_conflicts<E: FileEntry>(
     lines: &mut Vec<u8>,
     link: LinkNumber,
     number: u16,
     epoch: Option<GpsMs>,
-    cells: &[SatelliteCode],
+    cells: &[E::Signal],
 ) -> Result<(), AllocError>
-    ensures { OnOk result (lines.new.items ≡ lines.old.items ++ conflict_lines link number epoch cells.now) }
+    ensures { OnOk result (lines.new.items ≡ lines.old.items ++ conflict_lines link number epoch (map E.name_of cells.now)) }
 {
     if epoch.is_some() {
-        return put_cell_conflicts(lines, link, number, epoch, cells);
+        return put_cell_conflicts::<E>(lines, link, number, epoch, cells);
     }
     put_message(lines, link, b" conflict ", number, None)?;
     lines.push(b'\n')?;
     Ok(())
 }
 
-/// Returns the lines of a message, from its number, its epoch, the answer that it got and its cells
-/// that conflict. A message without a line takes no memory.
-pub(crate) fn offer_lines(
+/// Returns the lines of a message, from its number, its epoch, its class and its cells that conflict. A
+/// message without a line takes no memory.
+pub(crate) fn message_lines<E: FileEntry>(
     alloc: Global,
     link: LinkNumber,
     number: u16,
     epoch: Option<GpsMs>,
-    offer: &Outcome,
-    conflicts: &[SatelliteCode],
+    class: MessageClass,
+    conflicts: &[E::Signal],
 ) -> Result<Vec<u8>, AllocError>
-    ensures { IfOk result (λ lines. lines.items ≡ offer_lines link number epoch offer.now conflicts.now) }
+    ensures { IfOk result (λ lines. lines.items ≡ class_lines link number epoch (class_named class) (map E.name_of conflicts.now)) }
 {
     let mut lines = Vec::new(alloc);
-    match offer {
-        Outcome::Late => {
+    match class {
+        MessageClass::Late => {
             put_message(&mut lines, link, b" late ", number, epoch)?;
             lines.push(b'\n')?;
         }
-        Outcome::Taken { .. } => {
+        MessageClass::Taken => {
             if !conflicts.is_empty() {
-                put_cell_conflicts(&mut lines, link, number, epoch, conflicts)?;
+                put_cell_conflicts::<E>(&mut lines, link, number, epoch, conflicts)?;
             }
         }
-        Outcome::Conflict => put_conflicts(&mut lines, link, number, epoch, conflicts)?,
-        Outcome::Repeat => {}
+        MessageClass::Conflict => {
+            put_conflicts::<E>(&mut lines, link, number, epoch, conflicts)?
+        }
+        MessageClass::Repeat => {}
     }
     Ok(lines)
 }
@@ -160,19 +170,79 @@ fn put_count(lines: &mut Vec<u8>, name: &[u8], count: u64) -> Result<(), AllocEr
     Ok(())
 }
 
-/// Returns the lines of the counts, at the end of the report.
-pub(crate) fn count_lines(alloc: Global, counts: &Counts) -> Result<Vec<u8>, AllocError>
-    ensures { IfOk result (λ lines. lines.items ≡ count_lines counts.now) }
+// Appends the lines of the counts.
+fn put_counts(lines: &mut Vec<u8>, counts: &Counts) -> Result<(), AllocError>
+    ensures { OnOk result (lines.new.items ≡ lines.old.items ++ count_lines counts.now) }
+{
+    put_count(lines, b"frames ", counts.frames)?;
+    put_count(lines, b"other ", counts.other)?;
+    put_count(lines, b"refused ", counts.refused)?;
+    put_count(lines, b"foreign ", counts.foreign)?;
+    put_count(lines, b"taken ", counts.taken)?;
+    put_count(lines, b"repeat ", counts.repeat)?;
+    put_count(lines, b"conflict ", counts.conflict)?;
+    put_count(lines, b"late ", counts.late)?;
+    put_count(lines, b"epochs ", counts.epochs)?;
+    Ok(())
+}
+
+// Appends the letter of a system after a blank, if a code of it is listed and no message of it was taken.
+fn put_letter(
+    letters: &mut ArrayVec<u8, 14>,
+    setup: &Setup,
+    systems: Systems,
+    system: System,
+    letter: u8,
+)
+    requires letter { letter ≡ letter_of system }
+    requires room { array_vec_len letters.old ≤ 12 }
+    ensures letters { letters.new.items ≡ letters.old.items ++ missing_letter_by setup.now systems system }
+    ensures few { array_vec_len letters.new ≤ array_vec_len letters.old + 2 }
+{
+    if !setup.lists(system) {
+        return;
+    }
+    if systems.has(system) {
+        return;
+    }
+    letters.push(b' ');
+    letters.push(letter);
+}
+
+// Appends the line of the listed systems of which no message was taken, if there are any.
+fn put_missing(lines: &mut Vec<u8>, setup: &Setup, systems: Systems) -> Result<(), AllocError>
+    ensures { OnOk result (lines.new.items ≡ lines.old.items ++ missing_line (missing_letters_by setup.now systems)) }
+{
+    let mut letters: ArrayVec<u8, 14> = ArrayVec::new();
+    put_letter(&mut letters, setup, systems, System::Gps, b'G');
+    put_letter(&mut letters, setup, systems, System::Glonass, b'R');
+    put_letter(&mut letters, setup, systems, System::Galileo, b'E');
+    put_letter(&mut letters, setup, systems, System::Beidou, b'C');
+    put_letter(&mut letters, setup, systems, System::Qzss, b'J');
+    put_letter(&mut letters, setup, systems, System::Sbas, b'S');
+    put_letter(&mut letters, setup, systems, System::Navic, b'I');
+    if letters.is_empty() {
+        return Ok(());
+    }
+    lines.extend_from_slice(b"no-message")?;
+    lines.extend_from_slice(letters.as_slice())?;
+    lines.push(b'\n')?;
+    Ok(())
+}
+
+/// Returns the last lines of the report: that of the systems without a message, and the counts.
+pub(crate) fn last_lines(
+    alloc: Global,
+    setup: &Setup,
+    systems: Systems,
+    counts: &Counts,
+) -> Result<Vec<u8>, AllocError>
+    ensures { IfOk result (λ lines. lines.items ≡ last_lines setup.now systems counts.now) }
 {
     let mut lines = Vec::new(alloc);
-    put_count(&mut lines, b"frames ", counts.frames)?;
-    put_count(&mut lines, b"other ", counts.other)?;
-    put_count(&mut lines, b"refused ", counts.refused)?;
-    put_count(&mut lines, b"foreign ", counts.foreign)?;
-    put_count(&mut lines, b"taken ", counts.taken)?;
-    put_count(&mut lines, b"repeat ", counts.repeat)?;
-    put_count(&mut lines, b"conflict ", counts.conflict)?;
-    put_count(&mut lines, b"late ", counts.late)?;
-    put_count(&mut lines, b"epochs ", counts.epochs)?;
+    if !setup.is_of_gps() {
+        put_missing(&mut lines, setup, systems)?;
+    }
+    put_counts(&mut lines, counts)?;
     Ok(lines)
 }

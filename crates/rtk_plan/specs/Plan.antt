@@ -3,6 +3,7 @@ use Rattle.std.specs.Prelude.{◌≡◌, ℕ, Bool, false, ◌||◌, List, [], �
 use Rattle.std.specs.declared.vec.Vec.{Vec}
 use Rattle.rtk_message.specs.declared.msm_kind.MsmKind.{MsmKind}
 use Rattle.rtk_obs.specs.declared.code.Code.{Code}
+use Rattle.rtk_obs.specs.AnyCode.{code_of_gps}
 use Rattle.rtk_obs.specs.CivilText.{last_digits}
 use Rattle.rtk_convert.specs.Setup.{SetupView}
 use Rattle.rtk_survey.specs.Proposal.{proposed}
@@ -76,8 +77,8 @@ captures_of ss station = map (capture_of station) ss
 -- making: each value is named or found
 pub record IsSetupFor (ss : List CaptureSurvey) (links : List (List ℕ)) (w : Wanted) (made : ℕ) (s : SetupView) : Type 0 where
   pub station : IsChosenStation ss w.station s.station
-  pub msm : s.msm ≡ msm_chosen w.msm ss links s.station
-  pub listed : s.head.listed ≡ codes_chosen w.codes ss s.station s.msm
+  pub msm : s.kinds.gps ≡ msm_chosen w.msm ss links s.station
+  pub listed : s.head.listed ≡ map code_of_gps (codes_chosen w.codes ss s.station s.kinds.gps)
   pub marker : s.head.marker ≡ marker_chosen w.marker s.station
   pub made_at : s.head.made ≡ made
   pub window : s.window ≡ w.window

@@ -5,9 +5,11 @@ use Rattle.std.specs.List.{list_any}
 use Rattle.std.specs.declared.vec.Vec.{Vec}
 use Rattle.rtk_message.specs.ShellText.{sh_quoted}
 use Rattle.rtk_obs.specs.CivilText.{date_text, clock_text}
-use Rattle.rtk_rinex.specs.Header.{HeadView}
+use Rattle.rtk_obs.specs.declared.any_code.AnyCode.{AnyCode}
+use Rattle.rtk_obs.specs.AnyCode.{name_of}
+use Rattle.rtk_rinex.specs.MixedHead.{MixedHeadView}
 use Rattle.rtk_rinex.specs.Reading.{reading_of}
-use Rattle.rtk_survey.specs.SummaryText.{joined_names, msm_option}
+use Rattle.rtk_survey.specs.SummaryText.{msm_option}
 use Rattle.rtk_convert.specs.Setup.{SetupView}
 
 -- formula
@@ -28,13 +30,19 @@ station_words s = codes "rtcm2rinex convert --station " ++ decimal s.station ++ 
 
 -- formula
 -- the time of making and the marker
-unfoldable pub marker_words : HeadView → List ℕ
+unfoldable pub marker_words : MixedHeadView → List ℕ
 marker_words h = codes " --made " ++ time_text h.made ++ codes " --marker " ++ word_text h.marker
 
 -- formula
--- the codes, the MSM and the window
+-- the names of codes, the first after this separator and each other one after a comma
+abbrev pub code_names : ℕ → List AnyCode → List ℕ
+code_names separator [] = []
+code_names separator (c ∷ cs) = separator ∷ name_of c ++ code_names 44 cs
+
+-- formula
+-- the codes, the MSM of GPS and the window
 unfoldable pub value_words : SetupView → List ℕ
-value_words s = codes " --codes" ++ joined_names 32 s.head.listed ++ msm_option s.msm ++ codes " --window " ++ decimal s.window
+value_words s = codes " --codes" ++ code_names 32 s.head.listed ++ msm_option s.kinds.gps ++ codes " --window " ++ decimal s.window
 
 -- formula
 -- the command with its options

@@ -16,8 +16,8 @@ use crate::station_capture::{StationCapture, passed_over_in, span_in, told_in};
 use crate::texts_left_out::put_texts_left_out;
 use crate::written_file::WrittenFile;
 use rtk_convert::{Counts, Setup};
-use rtk_message::put_named;
-use rtk_obs::GpsMs;
+use rtk_message::{System, put_named};
+use rtk_obs::{ALL_CODES, GpsMs};
 use rtk_survey::{CaptureEpochs, CaptureSurvey, Equipment, Span, Told, place};
 use std::alloc::{AllocError, Global};
 
@@ -129,10 +129,14 @@ fn put_few_phases(
     let phases = CapturePhases {
         surveys: captures.surveys,
         station: setup.station(),
-        msm: setup.msm(),
+        msm: setup.kinds().gps,
     };
-    for code in setup.head().codes() {
-        if phases.has_few(*code) {
+    for listed in setup.head().codes() {
+        if listed.system() != System::Gps {
+            continue;
+        }
+        let code = ALL_CODES[listed.place()];
+        if phases.has_few(code) {
             lines.extend_from_slice(b" few-phases ")?;
             lines.extend_from_slice(&code.name())?;
             lines.extend_from_slice(
@@ -233,8 +237,8 @@ pub fn what_is_known(
     let mut last = Vec::new(alloc);
     put_skipped(&mut last, captures, plan)?;
     put_epochs(&mut last, captures, plan)?;
-    put_msms(&mut last, surveys, setup.station(), setup.msm())?;
-    put_doppler(&mut last, surveys, setup.station(), setup.msm())?;
+    put_msms(&mut last, surveys, setup.station(), setup.kinds().gps)?;
+    put_doppler(&mut last, surveys, setup.station(), setup.kinds().gps)?;
     put_unread(&mut last, surveys)?;
     Ok(Known {
         first,

@@ -4,13 +4,13 @@
 
 ghost use Rattle.std.specs.Prelude.{◌≡◌, ◌++◌, OnOk};
 ghost use Rattle.rtk_rinex.specs.Reading.{reading_of};
-ghost use Rattle.rtk_survey.specs.SummaryText.{joined_names, msm_option};
+ghost use Rattle.rtk_survey.specs.SummaryText.{msm_option};
 ghost use Rattle.rtk_plan.specs.SaidCommand as spec;
 
 use rtk_convert::Setup;
 use rtk_message::{MsmKind, put_named, put_sh_quoted};
-use rtk_obs::{Civil, Code, GpsMs, civil, put_clock, put_date};
-use rtk_rinex::Head;
+use rtk_obs::{AnyCode, Civil, GpsMs, civil, put_clock, put_date};
+use rtk_rinex::MixedHead;
 use std::alloc::AllocError;
 
 /// The reading of a moment.
@@ -44,8 +44,8 @@ pub(crate) fn put_word(line: &mut Vec<u8>, word: &[u8]) -> Result<(), AllocError
 }
 
 // Appends codes, the first after this separator.
-fn put_codes(line: &mut Vec<u8>, codes: &[Code]) -> Result<(), AllocError>
-    ensures { OnOk result (line.new.items ≡ line.old.items ++ joined_names 32 codes.now) }
+fn put_codes(line: &mut Vec<u8>, codes: &[AnyCode]) -> Result<(), AllocError>
+    ensures { OnOk result (line.new.items ≡ line.old.items ++ spec.code_names 32 codes.now) }
 {
     let mut separator = b' ';
     for code in codes {
@@ -85,7 +85,7 @@ fn put_station_words(line: &mut Vec<u8>, setup: &Setup) -> Result<(), AllocError
 
 // Appends the time of making and the marker.
 #[tactic(auto, unfolding(crate::specs::SaidCommand::marker_words))]
-fn put_marker_words(line: &mut Vec<u8>, head: &Head) -> Result<(), AllocError>
+fn put_marker_words(line: &mut Vec<u8>, head: &MixedHead) -> Result<(), AllocError>
     ensures { OnOk result (line.new.items ≡ line.old.items ++ spec.marker_words head.now) }
 {
     line.extend_from_slice(b" --made ")?;
@@ -95,14 +95,14 @@ fn put_marker_words(line: &mut Vec<u8>, head: &Head) -> Result<(), AllocError>
     Ok(())
 }
 
-// Appends the codes, the MSM and the window.
+// Appends the codes, the MSM of GPS and the window.
 #[tactic(auto, unfolding(crate::specs::SaidCommand::value_words))]
 fn put_value_words(line: &mut Vec<u8>, setup: &Setup) -> Result<(), AllocError>
     ensures { OnOk result (line.new.items ≡ line.old.items ++ spec.value_words setup.now) }
 {
     line.extend_from_slice(b" --codes")?;
     put_codes(line, setup.head().codes())?;
-    line.extend_from_slice(msm_option(setup.msm()))?;
+    line.extend_from_slice(msm_option(setup.kinds().gps))?;
     put_named(line, b" --window ", setup.window() as u64)?;
     Ok(())
 }

@@ -1,9 +1,11 @@
 -- What the words of `convert` say, and why they are refused.
 use Rattle.std.specs.Prelude.{◌≡◌, ◌⊎◌, ℕ, List, map}
 use Rattle.rtk_obs.specs.Dating.{IsReference}
+use Rattle.rtk_obs.specs.declared.any_code.AnyCode.{AnyCode}
 use Rattle.rtk_obs.specs.declared.code.Code.{Code}
+use Rattle.rtk_obs.specs.AnyCode.{code_of_gps}
 use Rattle.rtk_rinex.specs.Header.{IsMarker, IsCodeList}
-use Rattle.rtk_convert.specs.Setup.{SetupView}
+use Rattle.rtk_convert.specs.Setup.{SetupView, all_of}
 use Rattle.rtk_cli.specs.declared.options.ConvertOptions.{ConvertOptions}
 use Rattle.rtk_cli.specs.declared.words.BadWords.{BadWords}
 use Rattle.rtk_cli.specs.declared.words.BadWords.TheVariants.{Near, Made, Codes, Marker, Links}
@@ -15,13 +17,17 @@ use Rattle.rtk_cli.specs.Words.{AreLinkNames}
 use Rattle.rtk_cli.specs.Steps.CodeList.{Lists}
 use Rattle.rtk_cli.specs.Steps.MomentText.{WritesMoment, HasMoment}
 
+-- these codes of GPS are what a text lists
+abbrev pub ListsOfGps : List ℕ → List AnyCode → Type 0
+ListsOfGps text listed = (own : List Code) × Lists text own × (listed ≡ map code_of_gps own)
+
 -- formula
 -- the setup is what the options write
 abbrev pub SaysSetup : ConvertOptions → SetupView → Type 0
 SaysSetup o s =
     (s.station ≡ o.station) × WritesMoment o.near.now s.near × WritesMoment o.made.now s.head.made
-    × (s.head.marker ≡ o.marker.now) × Lists o.codes.now s.head.listed × (s.window ≡ o.window)
-    × (s.msm ≡ o.msm)
+    × (s.head.marker ≡ o.marker.now) × ListsOfGps o.codes.now s.head.listed × (s.window ≡ o.window)
+    × (s.kinds ≡ all_of o.msm)
 
 -- the job is the conversion that the options and the names of the links say
 abbrev pub SaysConversion : ConvertOptions → List (List ℕ) → Job → Type 0

@@ -26,7 +26,7 @@ pub record AcceptsFrameAs (old : ConversionView) (link : ℕ) (f : FrameClass) (
 -- the call breaks off: a first part of that was written
 pub record BreaksOffAtFrameAs (old : ConversionView) (link : ℕ) (f : FrameClass) (before : List Found) (written_old written_new : Written) : Type 0 where
   pub out : WritesPartOfRest written_old.file written_new.file (file_so_far old.setup (arrivals before)) (file_so_far old.setup (arrivals (found_on link f ∷ before)))
-  pub log : WritesPartOfRest written_old.report written_new.report (lines old.setup.window before) (lines old.setup.window (found_on link f ∷ before))
+  pub log : WritesPartOfRest written_old.report written_new.report (lines old.setup before) (lines old.setup (found_on link f ∷ before))
   pub one : AddsToOne old.setup (found_on link f) before
 
 -- a frame with this payload is accepted so, whatever was found before

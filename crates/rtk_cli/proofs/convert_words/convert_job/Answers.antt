@@ -1,6 +1,6 @@
 use Rattle.std.proofs.Common.{inr, refl, sym, ap, ◌∙◌, subst}
 use Rattle.rtk_rinex.specs.Header.{HeadView, IsMarker, IsCodeList}
-use Rattle.rtk_convert.specs.Setup.{SetupView, setup_of}
+use Rattle.rtk_convert.specs.Setup.{SetupView, all_of, setup_of}
 use Rattle.rtk_cli.specs.declared.words.BadWords.TheVariants.{Near, Made, Codes, Marker, Links}
 use Rattle.rtk_cli.specs.Steps.CodeList.{Lists}
 use Rattle.rtk_cli.specs.Steps.ConvertWords.{HasTimes, HasNames, HasMarker, IsFirstCause}
@@ -96,7 +96,7 @@ returns-in_err-near-2-clause-refused c =
 pub returns-clause-said : goal.returns-clause-said
 returns-clause-said c =
     let head = ap (λ (h : HeadView). setup_of c.args.options.now.station c.in_ok-near-2.near h c.args.options.now.window) c.in-Ok.ensures.head in
-    let setup = c.with_msm.ensures ∙ ap (λ (s : SetupView). record s { msm = c.args.options.now.msm }) (c.from_parts-setup.ensures.setup ∙ head) in (
+    let setup = c.with_msm.ensures ∙ ap (λ (s : SetupView). record s { kinds = all_of c.args.options.now.msm }) (c.from_parts-setup.ensures.setup ∙ head) in (
       says-setup c.args.options.now c.with_msm.result c.in_ok-near-2.near c.in_ok-made.made c.in_ok-marker.marker c.as_slice.result.now setup
           (subst (WritesMoment c.args.options.now.near.now) (sym c.in_ok-near-2.ensures.near) c.in_ok-near.ensures.moment)
           c.in_ok-made.ensures.moment c.in_ok-marker.ensures.marker

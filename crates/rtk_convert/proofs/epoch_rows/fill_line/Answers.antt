@@ -1,35 +1,48 @@
-use Rattle.std.proofs.Common.{◌∙◌}
+use Rattle.std.proofs.Common.{◌++◌, List, map, slice_range, subst, sym}
+use Rattle.rtk_obs.specs.declared.signal_cells.SignalEntry.{SignalEntry}
+use Rattle.rtk_convert.specs.Steps.ShownCells.{IsSetOfCodes, MayStep, ShowsRow}
+use Rattle.rtk_convert.proofs.EntriesLemmas.{map-slice}
 use Rattle.rtk_convert.proofs.SatelliteLemmas.{codes-none, shows-nothing}
 use Rattle.rtk_convert.proofs.epoch_rows.fill_line.Goals as goal
 
 pub show_cells-first-requires-clause-shows : goal.show_cells-first-requires-clause-shows
-show_cells-first-requires-clause-shows c = record {
-  first = c.args.tracks.now;
-  shows = shows-nothing c.args.form.now.epoch c.args.satellite c.args.listed.now c.args.tracks.now c.args.lines.now c.requires.open;
+show_cells-first-requires-clause-shows g c = record {
+  first = g.E.FileEntry.places c.args.phases.now;
+  shows = shows-nothing _ c.args.form.now.epoch c.args.satellite c.args.form.now.codes.now _ _ c.requires.open;
 }
 
 pub show_cells-first-requires-clause-known : goal.show_cells-first-requires-clause-known
-show_cells-first-requires-clause-known c = codes-none c.args.satellite
+show_cells-first-requires-clause-known g c = codes-none c.args.satellite
 
 pub show_cells-second-requires-clause-known : goal.show_cells-second-requires-clause-known
-show_cells-second-requires-clause-known c = c.show_cells-first.ensures.codes
+show_cells-second-requires-clause-known g c =
+    let own = map-slice g.E.FileEntry.signal_of c.args.msm.now c.args.at.msm c.show_cells-first.result.end in
+    subst (λ (xs : List SignalEntry). IsSetOfCodes c.show_cells-first.result.codes xs c.args.satellite) (sym own) c.show_cells-first.ensures.codes
 
 pub show_cells-second-requires-clause-later : goal.show_cells-second-requires-clause-later
-show_cells-second-requires-clause-later c = c.show_cells-first.ensures.takes.later
+show_cells-second-requires-clause-later g c =
+    let own = map-slice g.E.FileEntry.signal_of c.args.msm.now c.args.at.msm c.show_cells-first.result.end in
+    subst (λ (xs : List SignalEntry). MayStep (g.E.FileEntry.places c.show_cells-first.new.phases) xs c.args.satellite c.args.form.now.epoch) (sym own) c.show_cells-first.ensures.takes.later
 
 pub show_cells-second-requires-clause-shows : goal.show_cells-second-requires-clause-shows
-show_cells-second-requires-clause-shows c = record {
-  first = c.args.tracks.now;
-  shows = c.show_cells-first.ensures.takes.shows c.args.tracks.now
-      (shows-nothing c.args.form.now.epoch c.args.satellite c.args.listed.now c.args.tracks.now c.args.lines.now c.requires.open);
-}
+show_cells-second-requires-clause-shows g c =
+    let own = map-slice g.E.FileEntry.signal_of c.args.msm.now c.args.at.msm c.show_cells-first.result.end in
+    record {
+      first = g.E.FileEntry.places c.args.phases.now;
+      shows = subst (λ (xs : List SignalEntry). ShowsRow g.E.Lines.RowLines.HasLine (g.E.FileEntry.places c.args.phases.now) c.args.form.now.epoch xs c.args.satellite c.args.form.now.codes.now (g.E.FileEntry.places c.show_cells-first.new.phases) c.show_cells-first.new.lines) (sym own)
+          (c.show_cells-first.ensures.takes.shows (g.E.FileEntry.places c.args.phases.now)
+          (shows-nothing _ c.args.form.now.epoch c.args.satellite c.args.form.now.codes.now _ _ c.requires.open));
+    }
 
 pub returns-clause-shows : goal.returns-clause-shows
-returns-clause-shows c =
-    let begin = shows-nothing c.args.form.now.epoch c.args.satellite c.args.listed.now c.args.tracks.now c.args.lines.now c.requires.open in
-    c.show_cells-second.ensures.takes.shows c.args.tracks.now (c.show_cells-first.ensures.takes.shows c.args.tracks.now begin)
+returns-clause-shows g c =
+    let f = g.E.FileEntry.signal_of in
+    let own = map-slice f c.args.msm.now c.args.at.msm c.show_cells-first.result.end in
+    let begin = shows-nothing _ c.args.form.now.epoch c.args.satellite c.args.form.now.codes.now (g.E.FileEntry.places c.args.phases.now) _ c.requires.open in
+    let first = subst (λ (xs : List SignalEntry). ShowsRow g.E.Lines.RowLines.HasLine (g.E.FileEntry.places c.args.phases.now) c.args.form.now.epoch xs c.args.satellite c.args.form.now.codes.now (g.E.FileEntry.places c.show_cells-first.new.phases) c.show_cells-first.new.lines) (sym own)
+    (c.show_cells-first.ensures.takes.shows (g.E.FileEntry.places c.args.phases.now) begin) in
+    subst (λ (xs : List SignalEntry). ShowsRow g.E.Lines.RowLines.HasLine (g.E.FileEntry.places c.args.phases.now) c.args.form.now.epoch (xs ++ slice_range (map f c.args.legacy.now) c.args.at.legacy c.show_cells-second.result.end) c.args.satellite c.args.form.now.codes.now (g.E.FileEntry.places c.show_cells-second.new.phases) c.show_cells-second.new.lines) own
+    (c.show_cells-second.ensures.takes.shows (g.E.FileEntry.places c.args.phases.now) first)
 
 pub returns-clause-lines : goal.returns-clause-lines
-returns-clause-lines c =
-    let first = c.show_cells-first.ensures.takes.kept in
-    let second = c.show_cells-second.ensures.takes.kept in record { text = second.text ∙ first.text; count = second.count ∙ first.count }
+returns-clause-lines g c = λ rows h. c.show_cells-second.ensures.takes.kept rows (c.show_cells-first.ensures.takes.kept rows h)

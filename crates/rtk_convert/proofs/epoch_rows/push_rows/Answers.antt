@@ -1,180 +1,396 @@
-use Rattle.std.proofs.Common.{◌+◌, ◌-◌, ℕ, List, Option, ◌++◌, filter, refl, sym, ap, subst, ◌∙◌, arith}
-use Rattle.rtk_obs.specs.Cell.{IsSatellite}
+use Rattle.std.proofs.Common.{◌≡◌, ◌+◌, ◌-◌, ◌≤◌, ℕ, List, [], Option, ◌++◌, map, slice_range, refl, sym, ap, subst, ◌∙◌, arith}
+use Rattle.std.proofs.lemmas.List.{length-map}
+use Rattle.rtk_obs.specs.SatelliteIndex.{IsSatelliteIndex}
+use Rattle.rtk_obs.specs.SignalCells.{IsSignalInRange}
+use Rattle.rtk_obs.specs.declared.any_code.AnyCode.{AnyCode}
 use Rattle.rtk_obs.specs.declared.cell.Cell.{Cell}
-use Rattle.rtk_obs.specs.declared.cell.CellEntry.{CellEntry}
-use Rattle.rtk_obs.specs.declared.code.Code.{Code}
-use Rattle.rtk_obs.specs.declared.cell.CellSource.TheVariants.{Legacy, Msm}
+use Rattle.rtk_obs.specs.declared.signal_cells.SignalEntry.{SignalEntry}
 use Rattle.rtk_obs.specs.declared.track.Track.{Track}
-use Rattle.rtk_obs.specs.Tracks.{IsLater, track_at}
-use Rattle.rtk_collect.specs.Gps.{gps}
-use Rattle.rtk_collect.specs.EpochSet.{is_from}
+use Rattle.rtk_obs.specs.Tracks.{IsLater}
 use Rattle.rtk_rinex.specs.declared.epoch_table.Observed.{Observed}
 use Rattle.rtk_rinex.specs.declared.epoch_table.SatelliteRow.{SatelliteRow}
-use Rattle.rtk_rinex.specs.RecordLines.{HasOpenLine, HoldsLines}
-use Rattle.rtk_convert.specs.Rows.{first_cell, cell_at, cells_at_epochs, observed_at, observed_after, row_with, row_if_any, rows_to}
-use Rattle.rtk_convert.specs.Steps.ShownCells.{shown_by, track_after}
-use Rattle.rtk_convert.proofs.LeftCellsLemmas.{first-left}
+use Rattle.rtk_convert.specs.Epochs.{set_of}
+use Rattle.rtk_convert.specs.LastPhases.{track_at}
+use Rattle.rtk_convert.specs.Rows.{first_cell, cell_at, cells_at_epochs, codes_for, observed_at, observed_after, row_with, row_if_any, rows_to}
+use Rattle.rtk_convert.specs.Steps.ShownCells.{AreRowCodes, MayStep, ShowsRow, shown_by, track_after}
+use Rattle.rtk_convert.proofs.EntriesLemmas.{all-map, one-kind, turn-is}
 use Rattle.rtk_convert.proofs.ThroughLemmas.{track-below, later-after}
-use Rattle.rtk_convert.proofs.RowsLemmas.{row-blank, row-held, lines-kept, few-held, rows_to-zero, rows_to-same}
-use Rattle.rtk_convert.proofs.SatelliteLemmas.{fills-begin, next-satellite, next-from, fills-next, fills-end, rows-between, may-begin, fills-more, fills-row, rows-next, cells-fall}
+use Rattle.rtk_convert.proofs.RowsLemmas.{row-blank, row-held, room-held, rows_to-zero, rows_to-same}
+use Rattle.rtk_convert.proofs.SatelliteLemmas.{fills-begin, next-satellite, next-has, next-from, fills-next, fills-end, rows-between, may-begin, fills-more, fills-row, rows-next, cells-fall}
+use Rattle.rtk_convert.proofs.SystemLemmas.{codes-are-signals}
 use Rattle.rtk_convert.proofs.epoch_rows.push_rows.Goals as goal
 
 pub satellites-init : goal.satellites-init
-satellites-init c = record {
-  from = 1;
-  one = omega arith;
-  last = omega arith;
-  fills = fills-begin c.args.tracks.now c.epoch-epoch.result c.msm_cells-msm.result.now c.legacy_left-legacy.result.now c.msm_cells-msm.ensures.range c.legacy_left-legacy.ensures.range;
-  holds = subst (λ (rows : List SatelliteRow). HoldsLines c.restart.new.self rows)
-      (sym (rows_to-zero (shown_by c.args.tracks.now c.epoch-epoch.result (c.msm_cells-msm.result.now ++ c.legacy_left-legacy.result.now)) c.args.listed.now)) c.restart.ensures;
-}
+satellites-init g c =
+    let f = g.E.FileEntry.signal_of in
+    let ms = map f c.msm_cells-msm.result.now in
+    let ls = map f c.legacy_left-legacy.result.now in
+    let laws = c.cells_are_signals.ensures in
+    let old = g.E.FileEntry.places c.args.phases.now in
+    record {
+      shows = record {
+        from = 1;
+        one = omega arith;
+        last = omega arith;
+        fills = fills-begin old c.args.set.now.epoch ms ls (all-map f _ IsSignalInRange laws.range _ c.msm_cells-msm.ensures.range) (all-map f _ IsSignalInRange laws.range _ c.legacy_left-legacy.ensures.range);
+        holds = subst (λ (rows : List SatelliteRow). g.E.Lines.RowLines.HasRows c.restart.new.self rows) (sym (rows_to-zero (shown_by old c.args.set.now.epoch (ms ++ ls)) c.args.listed.now)) c.restart.ensures;
+        few = c.form_from-form.ensures.codes.few;
+        codes_are = c.form_from-form.ensures.codes.codes_are;
+      };
+      epoch = c.form_from-form.ensures.epoch ∙ c.epoch-epoch.ensures;
+      within = c.form_from-form.ensures.last.1;
+      columns = c.form_from-form.ensures.columns;
+    }
 
-pub fill_line-at-requires-clause-satellite : goal.fill_line-at-requires-clause-satellite
-fill_line-at-requires-clause-satellite c = next-satellite c.msm_cells-msm.ensures.range c.legacy_left-legacy.ensures.range c.in-Some.ensures.some
+pub form_at-form-requires-clause-satellite : goal.form_at-form-requires-clause-satellite
+form_at-form-requires-clause-satellite g c =
+    let f = g.E.FileEntry.signal_of in
+    let ms = map f c.msm_cells-msm.result.now in
+    let ls = map f c.legacy_left-legacy.result.now in
+    let laws = c.cells_are_signals.ensures in
+    let old = g.E.FileEntry.places c.args.phases.now in
+    let epoch = c.args.set.now.epoch in
+    let i = c.satellites.invariant.shows in
+    let ranges-m = all-map f _ IsSignalInRange laws.range _ c.msm_cells-msm.ensures.range in
+    let ranges-l = all-map f _ IsSignalInRange laws.range _ c.legacy_left-legacy.ensures.range in
+    let rise-m = laws.rise _ c.msm_cells-msm.ensures.rises in
+    let rise-l = laws.rise _ c.legacy_left-legacy.ensures.rises in
+    next-satellite ranges-m ranges-l c.in-Some.ensures.some
 
-pub fill_line-at-requires-clause-msm : goal.fill_line-at-requires-clause-msm
-fill_line-at-requires-clause-msm c =
-    let ms = c.msm_cells-msm.result.now in
-    let ls = c.legacy_left-legacy.result.now in
+pub form_at-form-requires-clause-codes : goal.form_at-form-requires-clause-codes
+form_at-form-requires-clause-codes g c =
+    let f = g.E.FileEntry.signal_of in
+    let ms = map f c.msm_cells-msm.result.now in
+    let ls = map f c.legacy_left-legacy.result.now in
+    let laws = c.cells_are_signals.ensures in
+    let old = g.E.FileEntry.places c.args.phases.now in
+    let epoch = c.args.set.now.epoch in
+    let i = c.satellites.invariant.shows in
+    let ranges-m = all-map f _ IsSignalInRange laws.range _ c.msm_cells-msm.ensures.range in
+    let ranges-l = all-map f _ IsSignalInRange laws.range _ c.legacy_left-legacy.ensures.range in
+    let rise-m = laws.rise _ c.msm_cells-msm.ensures.rises in
+    let rise-l = laws.rise _ c.legacy_left-legacy.ensures.rises in
     let n = c.in-Some.satellite in
-    let at = fills-next c.args.tracks.now c.epoch-epoch.result ms c.satellites.at.msm ls c.satellites.at.legacy c.satellites.invariant.from n c.satellites.tracks c.satellites.invariant.fills c.msm_cells-msm.ensures.rises c.legacy_left-legacy.ensures.rises
-    c.in-Some.ensures.some in
-    record { ranges = c.msm_cells-msm.ensures.range; kind = c.msm_cells-msm.ensures.kind; from = record { rises = c.msm_cells-msm.ensures.rises; place = at.msm } }
+    let least = c.in-Some.ensures.some in
+    let hn : IsSatelliteIndex n = next-satellite ranges-m ranges-l least in
+    let from = next-from i.fills.msm i.fills.legacy least in
+    let at = fills-next old epoch ms c.satellites.at.msm ls c.satellites.at.legacy i.from n (g.E.FileEntry.places c.satellites.phases) i.fills rise-m rise-l least in
+    λ within. record { few = i.few; codes_are = λ s more less. i.codes_are s (omega arith) less }
 
-pub fill_line-at-requires-clause-legacy : goal.fill_line-at-requires-clause-legacy
-fill_line-at-requires-clause-legacy c =
-    let ms = c.msm_cells-msm.result.now in
-    let ls = c.legacy_left-legacy.result.now in
-    let n = c.in-Some.satellite in
-    let at = fills-next c.args.tracks.now c.epoch-epoch.result ms c.satellites.at.msm ls c.satellites.at.legacy c.satellites.invariant.from n c.satellites.tracks c.satellites.invariant.fills c.msm_cells-msm.ensures.rises c.legacy_left-legacy.ensures.rises
-    c.in-Some.ensures.some in
-    record { ranges = c.legacy_left-legacy.ensures.range; kind = c.legacy_left-legacy.ensures.kind; from = record { rises = c.legacy_left-legacy.ensures.rises; place = at.legacy } }
+pub form_at-form-requires-clause-columns : goal.form_at-form-requires-clause-columns
+form_at-form-requires-clause-columns g c = c.satellites.invariant.columns
 
-pub fill_line-at-requires-clause-later : goal.fill_line-at-requires-clause-later
-fill_line-at-requires-clause-later c =
-    let ms = c.msm_cells-msm.result.now in
-    let ls = c.legacy_left-legacy.result.now in
-    let n = c.in-Some.satellite in
-    let at = fills-next c.args.tracks.now c.epoch-epoch.result ms c.satellites.at.msm ls c.satellites.at.legacy c.satellites.invariant.from n c.satellites.tracks c.satellites.invariant.fills c.msm_cells-msm.ensures.rises c.legacy_left-legacy.ensures.rises
-    c.in-Some.ensures.some in
-    let hn : IsSatellite n = next-satellite c.msm_cells-msm.ensures.range c.legacy_left-legacy.ensures.range c.in-Some.ensures.some in
-    may-begin c.args.tracks.now c.epoch-epoch.result ms c.satellites.at.msm ls c.satellites.at.legacy n c.satellites.tracks at hn
-    (λ k. subst (λ (e : ℕ). IsLater (track_at c.args.tracks.now n k) e) (sym c.epoch-epoch.ensures) (c.requires.later n k hn))
+pub form_at-form-requires-clause-last : goal.form_at-form-requires-clause-last
+form_at-form-requires-clause-last g c = c.satellites.invariant.within
 
-pub fill_line-at-requires-clause-open : goal.fill_line-at-requires-clause-open
-fill_line-at-requires-clause-open c =
-    subst (λ (row : List Observed). HasOpenLine c.open_line.new.self row) (sym (row-blank c.args.listed.now)) c.in_ok-open_line.ensures.open
+pub open_line-requires-clause-few : goal.open_line-requires-clause-few
+open_line-requires-clause-few g c = c.form_at-form.ensures.codes.few
 
 pub open_line-requires-clause-room : goal.open_line-requires-clause-room
-open_line-requires-clause-room c =
-    let ms = c.msm_cells-msm.result.now in
-    let ls = c.legacy_left-legacy.result.now in
+open_line-requires-clause-room g c =
+    let f = g.E.FileEntry.signal_of in
+    let ms = map f c.msm_cells-msm.result.now in
+    let ls = map f c.legacy_left-legacy.result.now in
+    let laws = c.cells_are_signals.ensures in
+    let old = g.E.FileEntry.places c.args.phases.now in
+    let epoch = c.args.set.now.epoch in
+    let i = c.satellites.invariant.shows in
+    let ranges-m = all-map f _ IsSignalInRange laws.range _ c.msm_cells-msm.ensures.range in
+    let ranges-l = all-map f _ IsSignalInRange laws.range _ c.legacy_left-legacy.ensures.range in
+    let rise-m = laws.rise _ c.msm_cells-msm.ensures.rises in
+    let rise-l = laws.rise _ c.legacy_left-legacy.ensures.rises in
     let n = c.in-Some.satellite in
-    let at = fills-next c.args.tracks.now c.epoch-epoch.result ms c.satellites.at.msm ls c.satellites.at.legacy c.satellites.invariant.from n c.satellites.tracks c.satellites.invariant.fills c.msm_cells-msm.ensures.rises c.legacy_left-legacy.ensures.rises
-    c.in-Some.ensures.some in
-    let hn : IsSatellite n = next-satellite c.msm_cells-msm.ensures.range c.legacy_left-legacy.ensures.range c.in-Some.ensures.some in
-    let f = shown_by c.args.tracks.now c.epoch-epoch.result (ms ++ ls) in
-    let from = next-from c.satellites.invariant.fills.msm c.satellites.invariant.fills.legacy c.in-Some.ensures.some in
-    few-held c.satellites.lines f c.args.listed.now (c.satellites.invariant.from - 1) c.satellites.invariant.holds (omega (arith, from, hn.1, c.satellites.invariant.one))
+    let least = c.in-Some.ensures.some in
+    let hn : IsSatelliteIndex n = next-satellite ranges-m ranges-l least in
+    let from = next-from i.fills.msm i.fills.legacy least in
+    let at = fills-next old epoch ms c.satellites.at.msm ls c.satellites.at.legacy i.from n (g.E.FileEntry.places c.satellites.phases) i.fills rise-m rise-l least in
+    let few = next-has (λ (s : ℕ). s ≤ g.E.Lines.RowLines.greatest) (all-map f _ (λ (e : SignalEntry). e.satellite ≤ g.E.Lines.RowLines.greatest) laws.lines _ c.msm_cells-msm.ensures.range)
+    (all-map f _ (λ (e : SignalEntry). e.satellite ≤ g.E.Lines.RowLines.greatest) laws.lines _ c.legacy_left-legacy.ensures.range) least in
+    room-held g.E.Lines.RowLines.HasRows g.E.Lines.RowLines.greatest c.satellites.lines (shown_by old epoch (ms ++ ls)) c.args.listed.now (i.from - 1) i.holds (omega (arith, few, from, i.one))
 
-pub close_line-requires : goal.close_line-requires
-close_line-requires c =
-    let ms = c.msm_cells-msm.result.now in
-    let ls = c.legacy_left-legacy.result.now in
+pub fill_line-at-requires-clause-satellite : goal.fill_line-at-requires-clause-satellite
+fill_line-at-requires-clause-satellite g c =
+    let f = g.E.FileEntry.signal_of in
+    let ms = map f c.msm_cells-msm.result.now in
+    let ls = map f c.legacy_left-legacy.result.now in
+    let laws = c.cells_are_signals.ensures in
+    let old = g.E.FileEntry.places c.args.phases.now in
+    let epoch = c.args.set.now.epoch in
+    let i = c.satellites.invariant.shows in
+    let ranges-m = all-map f _ IsSignalInRange laws.range _ c.msm_cells-msm.ensures.range in
+    let ranges-l = all-map f _ IsSignalInRange laws.range _ c.legacy_left-legacy.ensures.range in
+    let rise-m = laws.rise _ c.msm_cells-msm.ensures.rises in
+    let rise-l = laws.rise _ c.legacy_left-legacy.ensures.rises in
+    next-satellite ranges-m ranges-l c.in-Some.ensures.some
+
+pub fill_line-at-requires-clause-codes : goal.fill_line-at-requires-clause-codes
+fill_line-at-requires-clause-codes g c =
+    let f = g.E.FileEntry.signal_of in
+    let ms = map f c.msm_cells-msm.result.now in
+    let ls = map f c.legacy_left-legacy.result.now in
+    let laws = c.cells_are_signals.ensures in
+    let old = g.E.FileEntry.places c.args.phases.now in
+    let epoch = c.args.set.now.epoch in
+    let i = c.satellites.invariant.shows in
+    let ranges-m = all-map f _ IsSignalInRange laws.range _ c.msm_cells-msm.ensures.range in
+    let ranges-l = all-map f _ IsSignalInRange laws.range _ c.legacy_left-legacy.ensures.range in
+    let rise-m = laws.rise _ c.msm_cells-msm.ensures.rises in
+    let rise-l = laws.rise _ c.legacy_left-legacy.ensures.rises in
     let n = c.in-Some.satellite in
-    let at = fills-next c.args.tracks.now c.epoch-epoch.result ms c.satellites.at.msm ls c.satellites.at.legacy c.satellites.invariant.from n c.satellites.tracks c.satellites.invariant.fills c.msm_cells-msm.ensures.rises c.legacy_left-legacy.ensures.rises
-    c.in-Some.ensures.some in
-    let hn : IsSatellite n = next-satellite c.msm_cells-msm.ensures.range c.legacy_left-legacy.ensures.range c.in-Some.ensures.some in
-    let f = shown_by c.args.tracks.now c.epoch-epoch.result (ms ++ ls) in
-    let from = next-from c.satellites.invariant.fills.msm c.satellites.invariant.fills.legacy c.in-Some.ensures.some in
-    omega (
-      arith,
-      few-held c.satellites.lines f c.args.listed.now (c.satellites.invariant.from - 1) c.satellites.invariant.holds (omega (arith, from, hn.1, c.satellites.invariant.one)),
-      c.in_ok-open_line.ensures.lines.count,
-      c.fill_line-at.ensures.lines.count,
-    )
+    let least = c.in-Some.ensures.some in
+    let hn : IsSatelliteIndex n = next-satellite ranges-m ranges-l least in
+    let from = next-from i.fills.msm i.fills.legacy least in
+    let at = fills-next old epoch ms c.satellites.at.msm ls c.satellites.at.legacy i.from n (g.E.FileEntry.places c.satellites.phases) i.fills rise-m rise-l least in
+    subst (λ (cs : List AnyCode). AreRowCodes cs n) (c.form_at-form.ensures.codes.codes_are n (omega arith) c.form_at-form.ensures.last.0) (codes-are-signals c.args.listed.now n hn)
+
+pub fill_line-at-requires-clause-msm : goal.fill_line-at-requires-clause-msm
+fill_line-at-requires-clause-msm g c =
+    let f = g.E.FileEntry.signal_of in
+    let ms = map f c.msm_cells-msm.result.now in
+    let ls = map f c.legacy_left-legacy.result.now in
+    let laws = c.cells_are_signals.ensures in
+    let old = g.E.FileEntry.places c.args.phases.now in
+    let epoch = c.args.set.now.epoch in
+    let i = c.satellites.invariant.shows in
+    let ranges-m = all-map f _ IsSignalInRange laws.range _ c.msm_cells-msm.ensures.range in
+    let ranges-l = all-map f _ IsSignalInRange laws.range _ c.legacy_left-legacy.ensures.range in
+    let rise-m = laws.rise _ c.msm_cells-msm.ensures.rises in
+    let rise-l = laws.rise _ c.legacy_left-legacy.ensures.rises in
+    let n = c.in-Some.satellite in
+    let least = c.in-Some.ensures.some in
+    let hn : IsSatelliteIndex n = next-satellite ranges-m ranges-l least in
+    let from = next-from i.fills.msm i.fills.legacy least in
+    let at = fills-next old epoch ms c.satellites.at.msm ls c.satellites.at.legacy i.from n (g.E.FileEntry.places c.satellites.phases) i.fills rise-m rise-l least in
+    record { ranges = ranges-m; kind = one-kind f g.E.Entry.entries laws.values _ c.msm_cells-msm.ensures.kind; from = record { rises = rise-m; place = at.msm } }
+
+pub fill_line-at-requires-clause-legacy : goal.fill_line-at-requires-clause-legacy
+fill_line-at-requires-clause-legacy g c =
+    let f = g.E.FileEntry.signal_of in
+    let ms = map f c.msm_cells-msm.result.now in
+    let ls = map f c.legacy_left-legacy.result.now in
+    let laws = c.cells_are_signals.ensures in
+    let old = g.E.FileEntry.places c.args.phases.now in
+    let epoch = c.args.set.now.epoch in
+    let i = c.satellites.invariant.shows in
+    let ranges-m = all-map f _ IsSignalInRange laws.range _ c.msm_cells-msm.ensures.range in
+    let ranges-l = all-map f _ IsSignalInRange laws.range _ c.legacy_left-legacy.ensures.range in
+    let rise-m = laws.rise _ c.msm_cells-msm.ensures.rises in
+    let rise-l = laws.rise _ c.legacy_left-legacy.ensures.rises in
+    let n = c.in-Some.satellite in
+    let least = c.in-Some.ensures.some in
+    let hn : IsSatelliteIndex n = next-satellite ranges-m ranges-l least in
+    let from = next-from i.fills.msm i.fills.legacy least in
+    let at = fills-next old epoch ms c.satellites.at.msm ls c.satellites.at.legacy i.from n (g.E.FileEntry.places c.satellites.phases) i.fills rise-m rise-l least in
+    record { ranges = ranges-l; kind = one-kind f g.E.Entry.entries laws.values _ c.legacy_left-legacy.ensures.kind; from = record { rises = rise-l; place = at.legacy } }
+
+pub fill_line-at-requires-clause-later : goal.fill_line-at-requires-clause-later
+fill_line-at-requires-clause-later g c =
+    let f = g.E.FileEntry.signal_of in
+    let ms = map f c.msm_cells-msm.result.now in
+    let ls = map f c.legacy_left-legacy.result.now in
+    let laws = c.cells_are_signals.ensures in
+    let old = g.E.FileEntry.places c.args.phases.now in
+    let epoch = c.args.set.now.epoch in
+    let i = c.satellites.invariant.shows in
+    let ranges-m = all-map f _ IsSignalInRange laws.range _ c.msm_cells-msm.ensures.range in
+    let ranges-l = all-map f _ IsSignalInRange laws.range _ c.legacy_left-legacy.ensures.range in
+    let rise-m = laws.rise _ c.msm_cells-msm.ensures.rises in
+    let rise-l = laws.rise _ c.legacy_left-legacy.ensures.rises in
+    let n = c.in-Some.satellite in
+    let least = c.in-Some.ensures.some in
+    let hn : IsSatelliteIndex n = next-satellite ranges-m ranges-l least in
+    let from = next-from i.fills.msm i.fills.legacy least in
+    let at = fills-next old epoch ms c.satellites.at.msm ls c.satellites.at.legacy i.from n (g.E.FileEntry.places c.satellites.phases) i.fills rise-m rise-l least in
+    let same : epoch ≡ c.form_at-form.result.epoch = sym (c.form_at-form.ensures.epoch ∙ c.satellites.invariant.epoch) in
+    subst (λ (e : ℕ). MayStep (g.E.FileEntry.places c.satellites.phases) [] n e) same
+    (may-begin old epoch ms c.satellites.at.msm ls c.satellites.at.legacy n (g.E.FileEntry.places c.satellites.phases) at
+    (λ k hk. c.requires.later n k hk))
+
+pub fill_line-at-requires-clause-open : goal.fill_line-at-requires-clause-open
+fill_line-at-requires-clause-open g c =
+    subst (λ (row : List Observed). g.E.Lines.RowLines.HasLine c.open_line.new.self row) (sym (row-blank c.form_at-form.result.codes.now)) c.in_ok-open_line.ensures.open
+
+pub close_line-requires-clause-satellite : goal.close_line-requires-clause-satellite
+close_line-requires-clause-satellite g c =
+    let f = g.E.FileEntry.signal_of in
+    let ms = map f c.msm_cells-msm.result.now in
+    let ls = map f c.legacy_left-legacy.result.now in
+    let laws = c.cells_are_signals.ensures in
+    let old = g.E.FileEntry.places c.args.phases.now in
+    let epoch = c.args.set.now.epoch in
+    let i = c.satellites.invariant.shows in
+    let ranges-m = all-map f _ IsSignalInRange laws.range _ c.msm_cells-msm.ensures.range in
+    let ranges-l = all-map f _ IsSignalInRange laws.range _ c.legacy_left-legacy.ensures.range in
+    let rise-m = laws.rise _ c.msm_cells-msm.ensures.rises in
+    let rise-l = laws.rise _ c.legacy_left-legacy.ensures.rises in
+    next-satellite ranges-m ranges-l c.in-Some.ensures.some
+
+pub close_line-requires-clause-within : goal.close_line-requires-clause-within
+close_line-requires-clause-within g c =
+    let f = g.E.FileEntry.signal_of in
+    let ms = map f c.msm_cells-msm.result.now in
+    let ls = map f c.legacy_left-legacy.result.now in
+    let laws = c.cells_are_signals.ensures in
+    let old = g.E.FileEntry.places c.args.phases.now in
+    let epoch = c.args.set.now.epoch in
+    let i = c.satellites.invariant.shows in
+    next-has (λ (s : ℕ). s ≤ g.E.Lines.RowLines.greatest) (all-map f _ (λ (e : SignalEntry). e.satellite ≤ g.E.Lines.RowLines.greatest) laws.lines _ c.msm_cells-msm.ensures.range)
+    (all-map f _ (λ (e : SignalEntry). e.satellite ≤ g.E.Lines.RowLines.greatest) laws.lines _ c.legacy_left-legacy.ensures.range) c.in-Some.ensures.some
+
+pub close_line-requires-clause-room : goal.close_line-requires-clause-room
+close_line-requires-clause-room g c =
+    let f = g.E.FileEntry.signal_of in
+    let ms = map f c.msm_cells-msm.result.now in
+    let ls = map f c.legacy_left-legacy.result.now in
+    let laws = c.cells_are_signals.ensures in
+    let old = g.E.FileEntry.places c.args.phases.now in
+    let epoch = c.args.set.now.epoch in
+    let i = c.satellites.invariant.shows in
+    let ranges-m = all-map f _ IsSignalInRange laws.range _ c.msm_cells-msm.ensures.range in
+    let ranges-l = all-map f _ IsSignalInRange laws.range _ c.legacy_left-legacy.ensures.range in
+    let rise-m = laws.rise _ c.msm_cells-msm.ensures.rises in
+    let rise-l = laws.rise _ c.legacy_left-legacy.ensures.rises in
+    let n = c.in-Some.satellite in
+    let least = c.in-Some.ensures.some in
+    let hn : IsSatelliteIndex n = next-satellite ranges-m ranges-l least in
+    let from = next-from i.fills.msm i.fills.legacy least in
+    let at = fills-next old epoch ms c.satellites.at.msm ls c.satellites.at.legacy i.from n (g.E.FileEntry.places c.satellites.phases) i.fills rise-m rise-l least in
+    let few = next-has (λ (s : ℕ). s ≤ g.E.Lines.RowLines.greatest) (all-map f _ (λ (e : SignalEntry). e.satellite ≤ g.E.Lines.RowLines.greatest) laws.lines _ c.msm_cells-msm.ensures.range)
+    (all-map f _ (λ (e : SignalEntry). e.satellite ≤ g.E.Lines.RowLines.greatest) laws.lines _ c.legacy_left-legacy.ensures.range) least in
+    room-held g.E.Lines.RowLines.HasRows g.E.Lines.RowLines.greatest c.fill_line-at.new.lines (shown_by old epoch (ms ++ ls)) c.args.listed.now (i.from - 1) (c.fill_line-at.ensures.lines _ (c.in_ok-open_line.ensures.rows _ i.holds)) (omega (arith, few, from, i.one))
+
+pub close_line-requires-clause-open : goal.close_line-requires-clause-open
+close_line-requires-clause-open g c = (_, c.fill_line-at.ensures.shows.row)
 
 pub satellites-smaller : goal.satellites-smaller
-satellites-smaller c =
-    let filled = c.fill_line-at.ensures in cells-fall c.in-Some.ensures.some filled.msm.from filled.msm.next filled.legacy.from filled.legacy.next
+satellites-smaller g c =
+    let f = g.E.FileEntry.signal_of in
+    let filled = c.fill_line-at.ensures in
+    let less = cells-fall c.in-Some.ensures.some filled.msm.from filled.msm.next filled.legacy.from filled.legacy.next in
+    omega (arith, less, length-map c.msm_cells-msm.result.now f, length-map c.legacy_left-legacy.result.now f)
 
 pub satellites-preserved : goal.satellites-preserved
-satellites-preserved c =
-    let ms = c.msm_cells-msm.result.now in
-    let ls = c.legacy_left-legacy.result.now in
+satellites-preserved g c =
+    let f = g.E.FileEntry.signal_of in
+    let ms = map f c.msm_cells-msm.result.now in
+    let ls = map f c.legacy_left-legacy.result.now in
+    let laws = c.cells_are_signals.ensures in
+    let old = g.E.FileEntry.places c.args.phases.now in
+    let epoch = c.args.set.now.epoch in
+    let i = c.satellites.invariant.shows in
+    let ranges-m = all-map f _ IsSignalInRange laws.range _ c.msm_cells-msm.ensures.range in
+    let ranges-l = all-map f _ IsSignalInRange laws.range _ c.legacy_left-legacy.ensures.range in
+    let rise-m = laws.rise _ c.msm_cells-msm.ensures.rises in
+    let rise-l = laws.rise _ c.legacy_left-legacy.ensures.rises in
     let n = c.in-Some.satellite in
-    let at = fills-next c.args.tracks.now c.epoch-epoch.result ms c.satellites.at.msm ls c.satellites.at.legacy c.satellites.invariant.from n c.satellites.tracks c.satellites.invariant.fills c.msm_cells-msm.ensures.rises c.legacy_left-legacy.ensures.rises
-    c.in-Some.ensures.some in
-    let hn : IsSatellite n = next-satellite c.msm_cells-msm.ensures.range c.legacy_left-legacy.ensures.range c.in-Some.ensures.some in
-    let from = next-from c.satellites.invariant.fills.msm c.satellites.invariant.fills.legacy c.in-Some.ensures.some in
+    let least = c.in-Some.ensures.some in
+    let hn : IsSatelliteIndex n = next-satellite ranges-m ranges-l least in
+    let from = next-from i.fills.msm i.fills.legacy least in
+    let at = fills-next old epoch ms c.satellites.at.msm ls c.satellites.at.legacy i.from n (g.E.FileEntry.places c.satellites.phases) i.fills rise-m rise-l least in
+    let codes = c.form_at-form.result.codes.now in
+    let own = subst (λ (cs : List AnyCode). AreRowCodes cs n) (c.form_at-form.ensures.codes.codes_are n (omega arith) c.form_at-form.ensures.last.0) (codes-are-signals c.args.listed.now n hn) in
+    let same : codes_for c.args.listed.now n ≡ codes = c.form_at-form.ensures.codes.codes_are n (omega arith) c.form_at-form.ensures.last.0 in
     let filled = c.fill_line-at in
-    let old = c.args.tracks.now in
-    let epoch = c.epoch-epoch.result in
-    let f = shown_by old epoch (ms ++ ls) in
-    let rows = rows_to f c.args.listed.now (n - 1) in
-    let before : HoldsLines c.satellites.lines rows =
-    subst (λ (rs : List SatelliteRow). HoldsLines c.satellites.lines rs)
-    (rows-between old epoch ms c.satellites.at.msm ls c.satellites.at.legacy c.satellites.invariant.from n c.satellites.tracks c.satellites.invariant.fills from at.msm at.legacy c.args.listed.now c.satellites.invariant.one)
-    c.satellites.invariant.holds in
-    let held = lines-kept (lines-kept before c.in_ok-open_line.ensures.lines) filled.ensures.lines in
-    let shown = fills-row old epoch ms c.satellites.at.msm ls c.satellites.at.legacy n c.satellites.tracks at hn filled.result.msm filled.result.legacy c.args.listed.now filled.new.tracks filled.new.lines
-    filled.ensures.msm.from filled.ensures.msm.next filled.ensures.legacy.from filled.ensures.legacy.next filled.ensures.shows in
+    let formed : c.form_at-form.result.epoch ≡ epoch = c.form_at-form.ensures.epoch ∙ c.satellites.invariant.epoch in
+    let shows = subst (λ (e : ℕ). ShowsRow g.E.Lines.RowLines.HasLine (g.E.FileEntry.places c.satellites.phases) e
+    (slice_range ms c.satellites.at.msm filled.result.msm ++ slice_range ls c.satellites.at.legacy filled.result.legacy) n codes (g.E.FileEntry.places filled.new.phases) filled.new.lines) formed filled.ensures.shows in
+    let h = shown_by old epoch (ms ++ ls) in
+    let rows = rows_to h c.args.listed.now (n - 1) in
+    let before : g.E.Lines.RowLines.HasRows c.satellites.lines rows =
+    subst (λ (rs : List SatelliteRow). g.E.Lines.RowLines.HasRows c.satellites.lines rs)
+    (rows-between old epoch ms c.satellites.at.msm ls c.satellites.at.legacy i.from n (g.E.FileEntry.places c.satellites.phases) i.fills from at.msm at.legacy c.args.listed.now i.one (omega (arith, hn.1)))
+    i.holds in
+    let held = filled.ensures.lines rows (c.in_ok-open_line.ensures.rows rows before) in
+    let shown = fills-row old epoch ms c.satellites.at.msm ls c.satellites.at.legacy n (g.E.FileEntry.places c.satellites.phases) at _ filled.result.msm filled.result.legacy codes own
+    (g.E.FileEntry.places filled.new.phases) filled.new.lines filled.ensures.msm.from filled.ensures.msm.next filled.ensures.legacy.from filled.ensures.legacy.next shows in
+    let closed = c.in_ok-close_line.ensures rows (row_with h codes n).observed.items held shown in
     record {
-      from = n + 1;
-      one = omega arith;
-      last = omega (arith, hn.1);
-      fills = fills-more old epoch ms c.satellites.at.msm ls c.satellites.at.legacy n c.satellites.tracks at hn filled.result.msm filled.result.legacy c.args.listed.now filled.new.tracks filled.new.lines
-          filled.ensures.msm.from filled.ensures.msm.next filled.ensures.legacy.from filled.ensures.legacy.next filled.ensures.shows;
-      holds = subst (λ (all : List SatelliteRow). HoldsLines c.close_line.new.self all) (rows-next f c.args.listed.now n rows (row_if_any f c.args.listed.now n) hn.0 refl refl)
-          (row-held c.close_line.new.self f c.args.listed.now n rows (c.close_line.ensures rows (row_with f c.args.listed.now n).observed.items held shown));
+      shows = record {
+        from = n + 1;
+        one = omega arith;
+        last = omega (arith, hn.1);
+        fills = fills-more old epoch ms c.satellites.at.msm ls c.satellites.at.legacy n (g.E.FileEntry.places c.satellites.phases) at _ filled.result.msm filled.result.legacy codes own
+            (g.E.FileEntry.places filled.new.phases) filled.new.lines filled.ensures.msm.from filled.ensures.msm.next filled.ensures.legacy.from filled.ensures.legacy.next shows;
+        holds = subst (λ (all : List SatelliteRow). g.E.Lines.RowLines.HasRows c.close_line.new.self all)
+            (rows-next h c.args.listed.now n rows (row_if_any h codes n) hn.0 refl (ap (λ (cs : List AnyCode). row_if_any h cs n) (sym same)))
+            (row-held g.E.Lines.RowLines.HasRows c.close_line.new.self (c.blank_rows_are_left_out.ensures c.close_line.new.self) h codes n rows closed);
+        few = c.form_at-form.ensures.codes.few;
+        codes_are = λ s more less. c.form_at-form.ensures.codes.codes_are s (omega arith) less;
+      };
+      epoch = formed;
+      within = c.form_at-form.ensures.last.1;
+      columns = c.form_at-form.ensures.columns;
     }
 
 pub returns-clause-lines : goal.returns-clause-lines
-returns-clause-lines c =
-    let old = c.args.tracks.now in
-    let set = c.args.set.now in
-    let ms = c.msm_cells-msm.result.now in
-    let ls = c.legacy_left-legacy.result.now in
-    let turn = λ (s : ℕ) (k : Code). ap (λ (xs : List CellEntry). first_cell (xs ++ ls) s k) c.msm_cells-msm.ensures.value
-    ∙ first-left (filter (is_from gps Msm) set.cells) (filter (is_from gps Legacy) set.cells) ls s k c.legacy_left-legacy.ensures.left in
+returns-clause-lines g c =
+    let f = g.E.FileEntry.signal_of in
+    let ms = map f c.msm_cells-msm.result.now in
+    let ls = map f c.legacy_left-legacy.result.now in
+    let laws = c.cells_are_signals.ensures in
+    let old = g.E.FileEntry.places c.args.phases.now in
+    let epoch = c.args.set.now.epoch in
+    let i = c.satellites.invariant.shows in
+    let ranges-m = all-map f _ IsSignalInRange laws.range _ c.msm_cells-msm.ensures.range in
+    let ranges-l = all-map f _ IsSignalInRange laws.range _ c.legacy_left-legacy.ensures.range in
+    let rise-m = laws.rise _ c.msm_cells-msm.ensures.rises in
+    let rise-l = laws.rise _ c.legacy_left-legacy.ensures.rises in
     let none = c.in_default.ensures.none in
-    let end = fills-end c.args.tracks.now c.epoch-epoch.result c.msm_cells-msm.result.now c.satellites.at.msm c.legacy_left-legacy.result.now c.satellites.at.legacy c.satellites.invariant.from c.satellites.tracks c.satellites.invariant.fills
-    c.msm_cells-msm.ensures.rises c.legacy_left-legacy.ensures.rises c.satellites.invariant.last none.0 none.1 in
-    let last = rows-between old c.epoch-epoch.result ms c.satellites.at.msm ls c.satellites.at.legacy c.satellites.invariant.from 33 c.satellites.tracks c.satellites.invariant.fills c.satellites.invariant.last end.msm end.legacy c.args.listed.now
-    c.satellites.invariant.one in
-    λ below has. subst (λ (rows : List SatelliteRow). HoldsLines c.satellites.lines rows)
+    let end = fills-end old epoch ms c.satellites.at.msm ls c.satellites.at.legacy i.from (g.E.FileEntry.places c.satellites.phases) i.fills rise-m rise-l i.last
+    (omega (arith, none.0, length-map c.msm_cells-msm.result.now f)) (omega (arith, none.1, length-map c.legacy_left-legacy.result.now f)) in
+    let last = rows-between old epoch ms c.satellites.at.msm ls c.satellites.at.legacy i.from 222 (g.E.FileEntry.places c.satellites.phases) i.fills i.last end.msm end.legacy c.args.listed.now i.one (omega arith) in
+    let e = set_of f c.args.set.now in
+    let turn : (s : ℕ) (k : AnyCode) → first_cell (ms ++ ls) s k ≡ cell_at e.cells s k =
+    λ s k. ap (λ (xs : List _). first_cell (map f xs ++ ls) s k) c.msm_cells-msm.ensures.value
+    ∙ turn-is f g.E.Entry.entries laws.values c.args.set.now.cells c.legacy_left-legacy.result.now (laws.left _ _ _ c.legacy_left-legacy.ensures.left) s k in
+    λ below has. subst (λ (rows : List SatelliteRow). g.E.Lines.RowLines.HasRows c.satellites.lines rows)
     (last
-    ∙ rows_to-same (shown_by old c.epoch-epoch.result (ms ++ ls)) (observed_at set below) c.args.listed.now 32 (omega arith)
-    (λ s k hs. ap (λ (o : Option Cell). observed_after (track_at old s k) k c.epoch-epoch.result o) (turn s k)
-    ∙ ap (λ (e : ℕ). observed_after (track_at old s k) k e (cell_at set.cells s k)) c.epoch-epoch.ensures
-    ∙ ap (λ (o : Option Track). observed_after o k set.epoch (cell_at set.cells s k)) (has s k hs)))
-    c.satellites.invariant.holds
+    ∙ rows_to-same (shown_by old epoch (ms ++ ls)) (observed_at e below) c.args.listed.now 221 (omega arith)
+    (λ s k hs. ap (λ (o : Option Cell). observed_after (track_at old s k) k epoch o) (turn s k)
+    ∙ ap (λ (o : Option Track). observed_after o k e.epoch (cell_at e.cells s k)) (has s k hs)))
+    i.holds
 
 pub returns-clause-phases : goal.returns-clause-phases
-returns-clause-phases c =
-    let old = c.args.tracks.now in
-    let set = c.args.set.now in
-    let ms = c.msm_cells-msm.result.now in
-    let ls = c.legacy_left-legacy.result.now in
-    let turn = λ (s : ℕ) (k : Code). ap (λ (xs : List CellEntry). first_cell (xs ++ ls) s k) c.msm_cells-msm.ensures.value
-    ∙ first-left (filter (is_from gps Msm) set.cells) (filter (is_from gps Legacy) set.cells) ls s k c.legacy_left-legacy.ensures.left in
+returns-clause-phases g c =
+    let f = g.E.FileEntry.signal_of in
+    let ms = map f c.msm_cells-msm.result.now in
+    let ls = map f c.legacy_left-legacy.result.now in
+    let laws = c.cells_are_signals.ensures in
+    let old = g.E.FileEntry.places c.args.phases.now in
+    let epoch = c.args.set.now.epoch in
+    let i = c.satellites.invariant.shows in
+    let ranges-m = all-map f _ IsSignalInRange laws.range _ c.msm_cells-msm.ensures.range in
+    let ranges-l = all-map f _ IsSignalInRange laws.range _ c.legacy_left-legacy.ensures.range in
+    let rise-m = laws.rise _ c.msm_cells-msm.ensures.rises in
+    let rise-l = laws.rise _ c.legacy_left-legacy.ensures.rises in
     let none = c.in_default.ensures.none in
-    let end = fills-end c.args.tracks.now c.epoch-epoch.result c.msm_cells-msm.result.now c.satellites.at.msm c.legacy_left-legacy.result.now c.satellites.at.legacy c.satellites.invariant.from c.satellites.tracks c.satellites.invariant.fills
-    c.msm_cells-msm.ensures.rises c.legacy_left-legacy.ensures.rises c.satellites.invariant.last none.0 none.1 in
-    λ below has s k hs. end.done s k hs (omega (arith, hs.1))
-    ∙ ap (λ (o : Option Cell). track_after (track_at old s k) k c.epoch-epoch.result o) (turn s k)
-    ∙ ap (λ (e : ℕ). track_after (track_at old s k) k e (cell_at set.cells s k)) c.epoch-epoch.ensures
-    ∙ ap (λ (o : Option Track). track_after o k set.epoch (cell_at set.cells s k)) (has s k hs)
-    ∙ track-below (cell_at set.cells s k) set.epoch k (cells_at_epochs below s k)
+    let end = fills-end old epoch ms c.satellites.at.msm ls c.satellites.at.legacy i.from (g.E.FileEntry.places c.satellites.phases) i.fills rise-m rise-l i.last
+    (omega (arith, none.0, length-map c.msm_cells-msm.result.now f)) (omega (arith, none.1, length-map c.legacy_left-legacy.result.now f)) in
+    let e = set_of f c.args.set.now in
+    let turn : (s : ℕ) (k : AnyCode) → first_cell (ms ++ ls) s k ≡ cell_at e.cells s k =
+    λ s k. ap (λ (xs : List _). first_cell (map f xs ++ ls) s k) c.msm_cells-msm.ensures.value
+    ∙ turn-is f g.E.Entry.entries laws.values c.args.set.now.cells c.legacy_left-legacy.result.now (laws.left _ _ _ c.legacy_left-legacy.ensures.left) s k in
+    λ below has s k hs. end.done s k hs (omega (arith, hs.0.1))
+    ∙ ap (λ (o : Option Cell). track_after (track_at old s k) k epoch o) (turn s k)
+    ∙ ap (λ (o : Option Track). track_after o k e.epoch (cell_at e.cells s k)) (has s k hs)
+    ∙ track-below (cell_at e.cells s k) e.epoch k (cells_at_epochs below s k)
 
 pub returns-clause-later : goal.returns-clause-later
-returns-clause-later c =
-    let old = c.args.tracks.now in
-    let ms = c.msm_cells-msm.result.now in
-    let ls = c.legacy_left-legacy.result.now in
+returns-clause-later g c =
+    let f = g.E.FileEntry.signal_of in
+    let ms = map f c.msm_cells-msm.result.now in
+    let ls = map f c.legacy_left-legacy.result.now in
+    let laws = c.cells_are_signals.ensures in
+    let old = g.E.FileEntry.places c.args.phases.now in
+    let epoch = c.args.set.now.epoch in
+    let i = c.satellites.invariant.shows in
+    let ranges-m = all-map f _ IsSignalInRange laws.range _ c.msm_cells-msm.ensures.range in
+    let ranges-l = all-map f _ IsSignalInRange laws.range _ c.legacy_left-legacy.ensures.range in
+    let rise-m = laws.rise _ c.msm_cells-msm.ensures.rises in
+    let rise-l = laws.rise _ c.legacy_left-legacy.ensures.rises in
     let none = c.in_default.ensures.none in
-    let end = fills-end c.args.tracks.now c.epoch-epoch.result c.msm_cells-msm.result.now c.satellites.at.msm c.legacy_left-legacy.result.now c.satellites.at.legacy c.satellites.invariant.from c.satellites.tracks c.satellites.invariant.fills
-    c.msm_cells-msm.ensures.rises c.legacy_left-legacy.ensures.rises c.satellites.invariant.last none.0 none.1 in
-    λ later h s k hs. subst (λ (o : Option Track). IsLater o later) (sym (end.done s k hs (omega (arith, hs.1))))
-    (later-after (track_at old s k) k c.epoch-epoch.result later (first_cell (ms ++ ls) s k) (omega (arith, h, c.epoch-epoch.ensures))
-    (subst (λ (e : ℕ). IsLater (track_at old s k) e) (sym c.epoch-epoch.ensures) (c.requires.later s k hs)))
+    let end = fills-end old epoch ms c.satellites.at.msm ls c.satellites.at.legacy i.from (g.E.FileEntry.places c.satellites.phases) i.fills rise-m rise-l i.last
+    (omega (arith, none.0, length-map c.msm_cells-msm.result.now f)) (omega (arith, none.1, length-map c.legacy_left-legacy.result.now f)) in
+    λ later h s k hs. subst (λ (o : Option Track). IsLater o later) (sym (end.done s k hs (omega (arith, hs.0.1))))
+    (later-after (track_at old s k) k epoch later (first_cell (ms ++ ls) s k) h
+    (c.requires.later s k hs))

@@ -1,37 +1,30 @@
-use Rattle.std.proofs.Common.{◌≡◌, ℕ, List, get_or, sym, subst, arith}
+use Rattle.std.proofs.Common.{ℕ, List, sym, subst, arith}
 use Rattle.rtk_rinex.specs.declared.epoch_table.Observed.{Observed}
-use Rattle.rtk_rinex.specs.RecordLines.{HasOpenLine}
 use Rattle.rtk_convert.specs.Steps.ShownCells.{IsPlaceAmong}
-use Rattle.rtk_convert.proofs.ListedLemmas.{with_code-none, with_code-one}
+use Rattle.rtk_convert.proofs.ListedLemmas.{with_place-none, with_place-one}
 use Rattle.rtk_convert.proofs.epoch_rows.put_listed.Goals as goal
 
 pub put_code-requires : goal.put_code-requires
-put_code-requires c =
-    let listed = c.args.listed.now in
-    let at = subst (λ (i : ℕ). c.from-place.result ≡ get_or c.args.places.now i 0) c.place.ensures.value c.from-place.ensures in
-    let among = subst (λ (p : ℕ). IsPlaceAmong listed c.args.code p) (sym at) (c.requires.places.among c.args.code) in
-    let inside = c.if-place-listed.true in
+put_code-requires g c =
+    let codes = c.args.form.now.codes.now in
+    let among = subst (λ (p : ℕ). IsPlaceAmong codes c.args.place p) (sym c.from-column.ensures) (c.requires.columns.among c.args.place c.requires.place) in
+    let inside = c.if-column-form.true in
     let free = c.requires.free.free in
-    record {
-      observed = c.requires.free.row;
-      open_line = c.requires.free.open_line;
-      free = record { inside = omega (arith, free.width); free = λ d. free.free c.from-place.result d inside (among.found inside) };
-    }
+    (c.requires.free.row, c.requires.free.open_line, record { inside = omega (arith, free.width); free = λ d. free.free c.from-column.result d inside (among.found inside) })
 
-pub returns-then-place-listed-clause-open : goal.returns-then-place-listed-clause-open
-returns-then-place-listed-clause-open c = λ row h f.
-    let listed = c.args.listed.now in
-    let at = subst (λ (i : ℕ). c.from-place.result ≡ get_or c.args.places.now i 0) c.place.ensures.value c.from-place.ensures in
-    let among = subst (λ (p : ℕ). IsPlaceAmong listed c.args.code p) (sym at) (c.requires.places.among c.args.code) in
-    let inside = c.if-place-listed.true in
+pub returns-then-column-form-clause-open : goal.returns-then-column-form-clause-open
+returns-then-column-form-clause-open g c = λ row h f.
+    let codes = c.args.form.now.codes.now in
+    let among = subst (λ (p : ℕ). IsPlaceAmong codes c.args.place p) (sym c.from-column.ensures) (c.requires.columns.among c.args.place c.requires.place) in
+    let inside = c.if-column-form.true in
     let one = among.found inside in
-    subst (λ (xs : List Observed). HasOpenLine c.put_code.new.self xs) (sym (with_code-one c.args.code c.args.shown.now listed row c.from-place.result c.requires.places.distinct inside f.width one))
-    (c.put_code.ensures.open row h (record { inside = omega (arith, f.width); free = λ d. f.free c.from-place.result d inside one }))
+    subst (λ (xs : List Observed). g.L.RowLines.HasLine c.put_code.new.self xs)
+    (sym (with_place-one c.args.place c.args.shown.now codes row c.from-column.result c.requires.columns.distinct inside f.width one))
+    (c.put_code.ensures.open row h (record { inside = omega (arith, f.width); free = λ d. f.free c.from-column.result d inside one }))
 
-pub returns-else-place-listed-clause-open : goal.returns-else-place-listed-clause-open
-returns-else-place-listed-clause-open c = λ row h f.
-    let listed = c.args.listed.now in
-    let at = subst (λ (i : ℕ). c.from-place.result ≡ get_or c.args.places.now i 0) c.place.ensures.value c.from-place.ensures in
-    let among = subst (λ (p : ℕ). IsPlaceAmong listed c.args.code p) (sym at) (c.requires.places.among c.args.code) in
-    let none = among.unlisted c.if-place-listed.false in
-    subst (λ (xs : List Observed). HasOpenLine c.args.lines.now xs) (sym (with_code-none c.args.code c.args.shown.now listed row none f.width)) h
+pub returns-else-column-form-clause-open : goal.returns-else-column-form-clause-open
+returns-else-column-form-clause-open g c = λ row h f.
+    let codes = c.args.form.now.codes.now in
+    let among = subst (λ (p : ℕ). IsPlaceAmong codes c.args.place p) (sym c.from-column.ensures) (c.requires.columns.among c.args.place c.requires.place) in
+    let none = among.unlisted c.if-column-form.false in
+    subst (λ (xs : List Observed). g.L.RowLines.HasLine c.args.lines.now xs) (sym (with_place-none c.args.place c.args.shown.now codes row none f.width)) h

@@ -1,66 +1,91 @@
-use Rattle.std.proofs.Common.{◌≡◌, ◌+◌, ◌^◌, ℕ, bit_and, bit_or, ◌++◌, get_or, slice_range, refl, sym, subst}
-use Rattle.rtk_obs.specs.Code.{place_of}
+use Rattle.std.proofs.Common.{◌≡◌, ◌+◌, ◌^◌, ◌++◌, ℕ, bit_and, bit_or, map, slice_range, refl, sym, subst}
+use Rattle.rtk_obs.specs.AnyCode.{place_of}
+use Rattle.rtk_obs.specs.declared.signal_cells.SignalEntry.{SignalEntry}
 use Rattle.rtk_convert.specs.Steps.ShownCells.{IsSetOfCodes}
-use Rattle.rtk_convert.proofs.CellOrderLemmas.{any_cell, place-after}
-use Rattle.rtk_convert.proofs.SatelliteLemmas.{takes-begin, takes-repeat, takes-free, takes-open, takes-more, codes-begin, codes-repeat, codes-next}
+use Rattle.rtk_convert.proofs.CellOrderLemmas.{place-after}
+use Rattle.rtk_convert.proofs.EntriesLemmas.{entry-at, within-map}
+use Rattle.rtk_convert.proofs.SatelliteLemmas.{signal-at, takes-begin, takes-repeat, takes-free, takes-later, takes-open, takes-more, codes-begin, codes-repeat, codes-next, next-signal}
 use Rattle.rtk_convert.proofs.epoch_rows.show_cells.Goals as goal
 
 pub cells-init : goal.cells-init
-cells-init c = record {
-  takes = takes-begin c.args.form.now.epoch c.args.earlier.now c.args.entries.now c.args.begin c.args.satellite c.args.listed.now c.args.tracks.now c.args.lines.now c.requires.cells.from.place.within c.requires.later;
-  codes = codes-begin c.args.known c.args.earlier.now c.args.entries.now c.args.begin c.args.satellite c.requires.known;
+cells-init g c = record {
+  takes = takes-begin _ _ _ _ _ _ _ _ _ _ c.requires.cells.from.place.within c.requires.later;
+  codes = codes-begin c.args.known (map g.E.FileEntry.signal_of c.args.earlier.now) (map g.E.FileEntry.signal_of c.args.entries.now) c.args.begin c.args.satellite c.requires.known;
 }
 
 pub cells-preserved-then-known-bit-ne0 : goal.cells-preserved-then-known-bit-ne0
-cells-preserved-then-known-bit-ne0 c =
-    let here = c.cells-test.ensures.yes refl in
-    let e = get_or c.args.entries.now c.cells.end any_cell in
-    let seen = c.requires.known.some e.code (rw c.bit_of-bit.ensures at c.if-known-bit-ne0.true) in
+cells-preserved-then-known-bit-ne0 g c =
+    let f = g.E.FileEntry.signal_of in
+    let x = c.index-entries-end.result in
+    let told = c.cells-test.ensures.yes refl in
+    let low = within-map f c.args.entries.now c.cells.end told.0 in
+    let here = λ (d : SignalEntry). entry-at f c.args.entries.now c.cells.end x d low c.index-entries-end.is in
+    let at : (f x).satellite ≡ c.args.satellite = subst (λ (e : SignalEntry). e.satellite ≡ c.args.satellite) (here (f x)) (told.1 (f x)) in
+    let g0 = c.cells.invariant.takes in
+    let own = next-signal _ _ _ _ _ _ _ _ _ _ _ _ _ (f x) g0 c.requires.codes c.requires.cells.ranges told.0 here at in
+    let seen = c.requires.known.some (f x).code (signal-at (f x) at own) (rw c.bit_of-bit.ensures at c.if-known-bit-ne0.true) in
     record {
-      takes = takes-repeat c.args.form.now.epoch c.args.earlier.now c.args.entries.now c.args.begin c.cells.end c.args.satellite c.args.listed.now c.args.tracks.now c.args.lines.now c.cells.tracks c.cells.lines
-          c.cells.invariant.takes c.requires.satellite here.0 here.1 seen;
-      codes = codes-repeat c.args.form.now.epoch c.args.earlier.now c.args.entries.now c.args.begin c.cells.end c.args.satellite c.args.listed.now c.args.tracks.now c.args.lines.now c.cells.tracks c.cells.lines
-          c.cells.invariant.takes c.requires.satellite here.0 here.1 c.cells.codes seen c.cells.invariant.codes;
+      takes = takes-repeat _ _ _ _ _ _ _ _ _ _ _ _ _ (f x) g0 c.requires.codes c.requires.cells.ranges told.0 here at seen;
+      codes = codes-repeat _ _ _ _ _ _ _ _ _ _ _ _ _ (f x) g0 c.requires.codes c.requires.cells.ranges told.0 here at c.cells.codes seen c.cells.invariant.codes;
     }
 
+pub show_entry-requires-clause-range : goal.show_entry-requires-clause-range
+show_entry-requires-clause-range g c =
+    let f = g.E.FileEntry.signal_of in
+    let told = c.cells-test.ensures.yes refl in
+    let low = within-map f c.args.entries.now c.cells.end told.0 in
+    subst g.E.Entry.InRange (sym c.index-entries-end.is) (c.requires.ranges c.cells.end c.index-entries-end.result low)
+
 pub show_entry-requires-clause-later : goal.show_entry-requires-clause-later
-show_entry-requires-clause-later c =
-    let here = c.cells-test.ensures.yes refl in
-    let e = get_or c.args.entries.now c.cells.end any_cell in
-    let bit = c.bit_of-bit.ensures in
-    let unseen : bit_and c.args.known (2 ^ place_of e.code) ≡ 0 = rw bit at c.if-known-bit-ne0.false in
-    let free = takes-free c.args.form.now.epoch c.args.earlier.now c.args.entries.now c.args.begin c.cells.end c.args.satellite c.args.listed.now c.args.tracks.now c.args.lines.now c.cells.tracks c.cells.lines
-    c.cells.invariant.takes c.requires.satellite here.0 here.1 c.requires.cells.from.rises c.requires.cells.kind (c.requires.known.none e.code unseen) in
-    rw (here.1 any_cell) (c.cells.invariant.takes.later e.code (rw (here.1 any_cell) at free))
+show_entry-requires-clause-later g c =
+    let f = g.E.FileEntry.signal_of in
+    let x = c.index-entries-end.result in
+    let told = c.cells-test.ensures.yes refl in
+    let low = within-map f c.args.entries.now c.cells.end told.0 in
+    let here = λ (d : SignalEntry). entry-at f c.args.entries.now c.cells.end x d low c.index-entries-end.is in
+    let at : (f x).satellite ≡ c.args.satellite = subst (λ (e : SignalEntry). e.satellite ≡ c.args.satellite) (here (f x)) (told.1 (f x)) in
+    let g0 = c.cells.invariant.takes in
+    let own = next-signal _ _ _ _ _ _ _ _ _ _ _ _ _ (f x) g0 c.requires.codes c.requires.cells.ranges told.0 here at in
+    let unseen : bit_and c.args.known (2 ^ place_of (f x).code) ≡ 0 = rw c.bit_of-bit.ensures at c.if-known-bit-ne0.false in
+    let free = takes-free _ _ _ _ _ _ _ _ _ _ _ _ _ (f x) g0 c.requires.codes c.requires.cells.ranges told.0 here at c.requires.cells.from.rises c.requires.cells.kind
+    (c.requires.known.none (f x).code (signal-at (f x) at own) unseen) in
+    takes-later _ _ _ _ _ _ _ _ _ _ _ _ _ (f x) g0 c.requires.codes c.requires.cells.ranges told.0 here at free
 
 pub show_entry-requires-clause-free : goal.show_entry-requires-clause-free
-show_entry-requires-clause-free c =
-    let here = c.cells-test.ensures.yes refl in
-    let e = get_or c.args.entries.now c.cells.end any_cell in
-    let bit = c.bit_of-bit.ensures in
-    let unseen : bit_and c.args.known (2 ^ place_of e.code) ≡ 0 = rw bit at c.if-known-bit-ne0.false in
-    let free = takes-free c.args.form.now.epoch c.args.earlier.now c.args.entries.now c.args.begin c.cells.end c.args.satellite c.args.listed.now c.args.tracks.now c.args.lines.now c.cells.tracks c.cells.lines
-    c.cells.invariant.takes c.requires.satellite here.0 here.1 c.requires.cells.from.rises c.requires.cells.kind (c.requires.known.none e.code unseen) in
-    takes-open c.args.form.now.epoch c.args.earlier.now c.args.entries.now c.args.begin c.cells.end c.args.satellite c.args.listed.now c.args.tracks.now c.args.lines.now c.cells.tracks c.cells.lines
-    c.cells.invariant.takes c.requires.satellite here.0 here.1 free c.requires.shows
+show_entry-requires-clause-free g c =
+    let f = g.E.FileEntry.signal_of in
+    let x = c.index-entries-end.result in
+    let told = c.cells-test.ensures.yes refl in
+    let low = within-map f c.args.entries.now c.cells.end told.0 in
+    let here = λ (d : SignalEntry). entry-at f c.args.entries.now c.cells.end x d low c.index-entries-end.is in
+    let at : (f x).satellite ≡ c.args.satellite = subst (λ (e : SignalEntry). e.satellite ≡ c.args.satellite) (here (f x)) (told.1 (f x)) in
+    let g0 = c.cells.invariant.takes in
+    let own = next-signal _ _ _ _ _ _ _ _ _ _ _ _ _ (f x) g0 c.requires.codes c.requires.cells.ranges told.0 here at in
+    let unseen : bit_and c.args.known (2 ^ place_of (f x).code) ≡ 0 = rw c.bit_of-bit.ensures at c.if-known-bit-ne0.false in
+    let free = takes-free _ _ _ _ _ _ _ _ _ _ _ _ _ (f x) g0 c.requires.codes c.requires.cells.ranges told.0 here at c.requires.cells.from.rises c.requires.cells.kind
+    (c.requires.known.none (f x).code (signal-at (f x) at own) unseen) in
+    takes-open _ _ _ _ _ _ _ _ _ _ _ _ _ (f x) g0 c.requires.codes c.requires.cells.ranges told.0 here at free c.requires.shows
 
 pub cells-preserved : goal.cells-preserved
-cells-preserved c =
-    let here = c.cells-test.ensures.yes refl in
-    let e = get_or c.args.entries.now c.cells.end any_cell in
-    let bit = c.bit_of-bit.ensures in
-    let unseen : bit_and c.args.known (2 ^ place_of e.code) ≡ 0 = rw bit at c.if-known-bit-ne0.false in
-    let free = takes-free c.args.form.now.epoch c.args.earlier.now c.args.entries.now c.args.begin c.cells.end c.args.satellite c.args.listed.now c.args.tracks.now c.args.lines.now c.cells.tracks c.cells.lines
-    c.cells.invariant.takes c.requires.satellite here.0 here.1 c.requires.cells.from.rises c.requires.cells.kind (c.requires.known.none e.code unseen) in
+cells-preserved g c =
+    let f = g.E.FileEntry.signal_of in
+    let x = c.index-entries-end.result in
+    let told = c.cells-test.ensures.yes refl in
+    let low = within-map f c.args.entries.now c.cells.end told.0 in
+    let here = λ (d : SignalEntry). entry-at f c.args.entries.now c.cells.end x d low c.index-entries-end.is in
+    let at : (f x).satellite ≡ c.args.satellite = subst (λ (e : SignalEntry). e.satellite ≡ c.args.satellite) (here (f x)) (told.1 (f x)) in
+    let g0 = c.cells.invariant.takes in
+    let own = next-signal _ _ _ _ _ _ _ _ _ _ _ _ _ (f x) g0 c.requires.codes c.requires.cells.ranges told.0 here at in
+    let unseen : bit_and c.args.known (2 ^ place_of (f x).code) ≡ 0 = rw c.bit_of-bit.ensures at c.if-known-bit-ne0.false in
+    let free = takes-free _ _ _ _ _ _ _ _ _ _ _ _ _ (f x) g0 c.requires.codes c.requires.cells.ranges told.0 here at c.requires.cells.from.rises c.requires.cells.kind
+    (c.requires.known.none (f x).code (signal-at (f x) at own) unseen) in
     record {
-      takes = takes-more c.args.form.now.epoch c.args.earlier.now c.args.entries.now c.args.begin c.cells.end c.args.satellite c.args.listed.now c.args.tracks.now c.args.lines.now c.cells.tracks c.cells.lines
-          c.cells.invariant.takes c.requires.satellite here.0 here.1 c.show_entry.new.tracks c.show_entry.new.lines free c.show_entry.ensures;
-      codes = subst (λ (b : ℕ). IsSetOfCodes (bit_or c.cells.codes b) (c.args.earlier.now ++ slice_range c.args.entries.now c.args.begin (c.cells.end + 1)) c.args.satellite) (sym bit)
-          (codes-next c.args.form.now.epoch c.args.earlier.now c.args.entries.now c.args.begin c.cells.end c.args.satellite c.args.listed.now c.args.tracks.now c.args.lines.now c.cells.tracks c.cells.lines
-          c.cells.invariant.takes c.requires.satellite here.0 here.1 c.cells.codes free c.cells.invariant.codes);
+      takes = takes-more _ _ _ _ _ _ _ _ _ _ _ _ _ (f x) g0 c.requires.codes c.requires.cells.ranges told.0 here at _ _ free c.show_entry.ensures;
+      codes = subst (λ (b : ℕ). IsSetOfCodes (bit_or c.cells.codes b) (map f c.args.earlier.now ++ slice_range (map f c.args.entries.now) c.args.begin (c.cells.end + 1)) c.args.satellite) (sym c.bit_of-bit.ensures)
+          (codes-next _ _ _ _ _ _ _ _ _ _ _ _ _ (f x) g0 c.requires.codes c.requires.cells.ranges told.0 here at c.cells.codes free c.cells.invariant.codes);
     }
 
 pub returns-clause-next : goal.returns-clause-next
-returns-clause-next c =
-    let g = c.cells.invariant.takes in
-    place-after c.args.entries.now c.args.begin c.cells.end c.args.satellite c.requires.cells.from.rises c.requires.cells.from.place g.from g.within g.same (c.cells-test.ensures.no refl)
+returns-clause-next g c =
+    let g0 = c.cells.invariant.takes in
+    place-after _ _ _ _ c.requires.cells.from.rises c.requires.cells.from.place g0.from g0.within g0.same (c.cells-test.ensures.no refl)

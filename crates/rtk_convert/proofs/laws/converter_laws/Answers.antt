@@ -1,3 +1,4 @@
+use Rattle.rtk_convert.specs.Setup.{SetupView, channels_of}
 use Rattle.rtk_convert.proofs.SameHistoryLemmas.{link-decides-refusal, link-holds-newest, waiting-decides-frames, held-decides-call, held-decides-end}
 use Rattle.rtk_convert.proofs.laws.converter_laws.Goals as goal
 
@@ -6,6 +7,6 @@ returns c = record {
   refused = link-decides-refusal;
   newest = link-holds-newest;
   found = waiting-decides-frames;
-  call = held-decides-call c.epochs_are_bounded.ensures.greatest c.stations_are_final.ensures.excused;
-  end = held-decides-end c.epochs_are_bounded.ensures.greatest c.stations_are_final.ensures.excused;
+  call = held-decides-call (λ (s : SetupView). c.signal_window_laws.ensures.greatest (channels_of s.head.glonass)) c.stations_are_final.ensures.excused;
+  end = held-decides-end (λ (s : SetupView). c.signal_window_laws.ensures.greatest (channels_of s.head.glonass)) c.stations_are_final.ensures.excused;
 }

@@ -2,6 +2,7 @@ use Rattle.std.proofs.Common.{true, refl, sym, subst}
 use Rattle.std.proofs.lemmas.Result.{err_from_is_err_and}
 use Rattle.rtk_convert.specs.Conversion.{ConversionView, IsAhead}
 use Rattle.rtk_convert.specs.Outcome.{KeepsWindow}
+use Rattle.rtk_convert.specs.Steps.EpochsSteps.{epochs_in}
 use Rattle.rtk_convert.proofs.ArriveLemmas.{state}
 use Rattle.rtk_convert.proofs.OutcomeLemmas.{keeps-seen, payload-still, payload-off}
 use Rattle.rtk_convert.proofs.conversion.Conversion.accept_frame.Goals as goal
@@ -9,9 +10,10 @@ use Rattle.rtk_convert.proofs.conversion.Conversion.accept_frame.Goals as goal
 pub invariant_of-self-2 : goal.invariant_of-self-2
 invariant_of-self-2 g c = (
   refl,
+  c.self-2.invariant.1,
   record {
-    places = c.self-2.invariant.1.places;
-    few = c.self-2.invariant.1.few;
+    places = c.self-2.invariant.2.places;
+    few = c.self-2.invariant.2.few;
     ahead = λ going. subst (λ (x : ConversionView). IsAhead x.collector x.closed_epochs) (sym c.self-2.view_is) c.in_ok-epoch.ensures.stays.ahead;
   },
 )
@@ -19,7 +21,7 @@ invariant_of-self-2 g c = (
 pub returns-clause-keeps : goal.returns-clause-keeps
 returns-clause-keeps g c =
     let k = c.handle_payload.ensures.stays.keeps in
-    let seen = subst (λ (x : ConversionView). KeepsWindow (state c.self.inside.setup c.self.inside.collector c.self.inside.closed_epochs c.self.inside.counts true) x) (sym c.self-2.view_is) k in
+    let seen = subst (λ (x : ConversionView). KeepsWindow (state c.self.inside.setup (epochs_in c.self.inside.epochs).collector (epochs_in c.self.inside.epochs).closed c.self.inside.counts c.self.inside.systems true) x) (sym c.self-2.view_is) k in
     keeps-seen c.self.view_is (record { same_setup = seen.same_setup; few = seen.few; held = seen.held })
 
 pub returns-in_err-epoch-clause-keeps : goal.returns-in_err-epoch-clause-keeps

@@ -4,16 +4,29 @@ use Rattle.rtk_frame.specs.Stream.{with_more, TakesPart}
 use Rattle.rtk_convert.specs.declared.fault.ConvertFault.TheVariants.{OutOfMemory}
 use Rattle.rtk_convert.specs.declared.frame_class.FrameClass.{FrameClass}
 use Rattle.rtk_convert.specs.declared.frame_class.FrameClass.TheVariants.{OtherMessage, Refused, Foreign, Dated}
+use Rattle.rtk_convert.specs.Conversion.{ConversionView}
 use Rattle.rtk_convert.specs.FrameClass.{IsClassOfPayload}
 use Rattle.rtk_convert.specs.Report.{refused_line, one_frame_more}
 use Rattle.rtk_convert.proofs.ArriveLemmas.{arrives-arrived, breaks-arrived, arrives-other, arrives-foreign, arrives-refused, breaks-refused}
+use Rattle.rtk_convert.proofs.ClassLemmas.{dated-taken}
 use Rattle.rtk_convert.proofs.WritingLemmas.{takes-none}
-use Rattle.rtk_convert.proofs.CameLemmas.{taken-by}
+use Rattle.rtk_convert.proofs.CameLemmas.{read-by}
 use Rattle.rtk_convert.proofs.OutcomeLemmas.{keeps-seen, stays-seen, ahead-seen, failed-err, payload-ok, payload-err}
 use Rattle.rtk_convert.proofs.conversion.Conversion.handle_payload.Goals as goal
 
 pub classify-requires : goal.classify-requires
-classify-requires g c = taken-by c.self.inside.setup c.args.payload.now c.read_message.result.now c.read_message.ensures
+classify-requires g c = read-by c.self.inside.setup c.args.payload.now c.read_message.result.now c.read_message.ensures
+
+pub handle_message-requires-clause-under_way : goal.handle_message-requires-clause-under_way
+handle_message-requires-clause-under_way g c = record {
+  stopped = ap (λ (x : ConversionView). x.stopped) c.self.view_is ∙ c.requires.under_way.stopped;
+  ahead = ahead-seen c.self.view_is c.requires.under_way;
+}
+
+pub handle_message-requires-clause-taken : goal.handle_message-requires-clause-taken
+handle_message-requires-clause-taken g c =
+    let comes = subst (λ (f : FrameClass). IsClassOfPayload c.self.inside.setup c.args.payload.now f) c.in-Dated.is (c.read_message.result.now, c.read_message.ensures, c.classify.ensures) in
+    dated-taken c.self.inside.setup comes.0 c.in-Dated.dated comes.2
 
 pub returns-in-OtherMessage-clause-handles : goal.returns-in-OtherMessage-clause-handles
 returns-in-OtherMessage-clause-handles g c =
@@ -74,23 +87,23 @@ returns-in_err-handle_message-in-Dated-clause-failed g c =
     rw (p.1, p.2) (failed-err c.in_err-handle_message-in-Dated.ensures.failed)
 
 pub returns-in-OtherMessage-clause-stays : goal.returns-in-OtherMessage-clause-stays
-returns-in-OtherMessage-clause-stays g c = stays-seen c.self.view_is c.requires.under_way (record { same_setup = refl; few = omega (arith, c.self.invariant.1.few, c.self.invariant.1.places); held = λ h. h }) refl (ahead-seen c.self.view_is c.requires.under_way)
+returns-in-OtherMessage-clause-stays g c = stays-seen c.self.view_is c.requires.under_way (record { same_setup = refl; few = omega (arith, c.self.invariant.2.few, c.self.invariant.2.places); held = λ h. h }) refl (ahead-seen c.self.view_is c.requires.under_way)
 
 pub returns-in-Foreign-clause-stays : goal.returns-in-Foreign-clause-stays
-returns-in-Foreign-clause-stays g c = stays-seen c.self.view_is c.requires.under_way (record { same_setup = refl; few = omega (arith, c.self.invariant.1.few, c.self.invariant.1.places); held = λ h. h }) refl (ahead-seen c.self.view_is c.requires.under_way)
+returns-in-Foreign-clause-stays g c = stays-seen c.self.view_is c.requires.under_way (record { same_setup = refl; few = omega (arith, c.self.invariant.2.few, c.self.invariant.2.places); held = λ h. h }) refl (ahead-seen c.self.view_is c.requires.under_way)
 
 pub returns-in_err-line-in-Refused-clause-stays : goal.returns-in_err-line-in-Refused-clause-stays
 returns-in_err-line-in-Refused-clause-stays g c =
     let p = err_from_is_err_and c.from_residual.result c.from_residual.ensures.1 in
-    rw (p.1, p.2) (stays-seen c.self.view_is c.requires.under_way (record { same_setup = refl; few = omega (arith, c.self.invariant.1.few, c.self.invariant.1.places); held = λ h. h }) refl tt)
+    rw (p.1, p.2) (stays-seen c.self.view_is c.requires.under_way (record { same_setup = refl; few = omega (arith, c.self.invariant.2.few, c.self.invariant.2.places); held = λ h. h }) refl tt)
 
 pub returns-in_ok-write_lines-in-Refused-clause-stays : goal.returns-in_ok-write_lines-in-Refused-clause-stays
-returns-in_ok-write_lines-in-Refused-clause-stays g c = stays-seen c.self.view_is c.requires.under_way (record { same_setup = refl; few = omega (arith, c.self.invariant.1.few, c.self.invariant.1.places); held = λ h. h }) refl (ahead-seen c.self.view_is c.requires.under_way)
+returns-in_ok-write_lines-in-Refused-clause-stays g c = stays-seen c.self.view_is c.requires.under_way (record { same_setup = refl; few = omega (arith, c.self.invariant.2.few, c.self.invariant.2.places); held = λ h. h }) refl (ahead-seen c.self.view_is c.requires.under_way)
 
 pub returns-in_err-write_lines-in-Refused-clause-stays : goal.returns-in_err-write_lines-in-Refused-clause-stays
 returns-in_err-write_lines-in-Refused-clause-stays g c =
     let p = err_from_is_err_and c.from_residual-in_err-write_lines-in-Refused.result c.from_residual-in_err-write_lines-in-Refused.ensures.1 in
-    rw (p.1, p.2) (stays-seen c.self.view_is c.requires.under_way (record { same_setup = refl; few = omega (arith, c.self.invariant.1.few, c.self.invariant.1.places); held = λ h. h }) refl tt)
+    rw (p.1, p.2) (stays-seen c.self.view_is c.requires.under_way (record { same_setup = refl; few = omega (arith, c.self.invariant.2.few, c.self.invariant.2.places); held = λ h. h }) refl tt)
 
 pub returns-in_ok-handle_message-in-Dated-clause-stays : goal.returns-in_ok-handle_message-in-Dated-clause-stays
 returns-in_ok-handle_message-in-Dated-clause-stays g c =

@@ -1,30 +1,30 @@
-use Rattle.std.proofs.Common.{◌≡◌, ◌≤◌, ℕ, [], length, None, refl, ap, sym, subst, ◌∙◌, arith}
-use Rattle.rtk_obs.specs.declared.cell.CellEntry.{CellEntry}
-use Rattle.rtk_collect.specs.Collector.{CollectorView}
-use Rattle.rtk_obs.specs.MessageCells.{cells_of}
-use Rattle.rtk_convert.proofs.AheadLemmas.{ahead-none}
+use Rattle.std.proofs.Common.{◌≡◌, false, refl, arith}
+use Rattle.rtk_message.specs.declared.system.System.{System}
+use Rattle.rtk_message.specs.declared.system.System.TheVariants.{Gps, Glonass, Galileo, Beidou, Qzss, Sbas, Navic}
+use Rattle.rtk_convert.specs.Systems.{has_system, no_systems}
 use Rattle.rtk_convert.proofs.conversion.Conversion.new.Goals as goal
 
-few-new : (w : CollectorView CellEntry) (size : ℕ) → w ≡ record { places = size; sets = []; arp1005 = None; arp1006 = None } → length w.sets ≤ w.places
-few-new w size p = subst (λ (x : CollectorView CellEntry). length x.sets ≤ x.places) (sym p) (omega arith)
+-- no message of a system was taken at the start
+none-taken : (system : System) → has_system no_systems system ≡ false
+none-taken Gps = refl
+none-taken Glonass = refl
+none-taken Galileo = refl
+none-taken Beidou = refl
+none-taken Qzss = refl
+none-taken Sbas = refl
+none-taken Navic = refl
 
 pub invariant_of-result : goal.invariant_of-result
-invariant_of-result c = (
-  refl,
-  record {
-    places = ap (λ (w : CollectorView CellEntry). w.places) c.new-collector.ensures.empty ∙ c.window.ensures.value;
-    few = few-new c.new-collector.result c.window.result c.new-collector.ensures.empty;
-    ahead = λ going. ahead-none c.new-collector.result c.in_ok-closed_epochs.closed_epochs (c.in_ok-closed_epochs.ensures.below 0);
-  },
-)
+invariant_of-result c =
+    let e = c.in_ok-epochs.ensures in
+    (refl, e.1, record { places = e.0.places; few = omega (arith, e.0.few, e.0.places); ahead = λ going. e.0.ahead })
 
 pub returns : goal.returns
 returns c =
-    let few = few-new c.new-collector.result c.window.result c.new-collector.ensures.empty in
-    let places = ap (λ (w : CollectorView CellEntry). w.places) c.new-collector.ensures.empty ∙ c.window.ensures.value in
+    let e = c.in_ok-epochs.ensures in
     record {
-      represents = record { window = c.new-collector.ensures.history cells_of; closed = c.in_ok-closed_epochs.ensures.follows c.args.setup.head.listed; counts = refl };
+      represents = record { kept = e.0.represents.kept; closed = e.0.represents.closed; counts = refl; systems = none-taken };
       same_setup = refl;
       going = refl;
-      few = omega (arith, few, places);
+      few = e.0.few;
     }

@@ -22,5 +22,5 @@ returns-clause-ok c =
       };
       same_setup = new.same_setup;
       as_many = ap length links ∙ length-replicate c.args.links _;
-      bounds = bounded-new c.in_ok-conversion.conversion c.in_ok-links.links.items c.args.links links (subst (λ (s : SetupView). length c.in_ok-conversion.conversion.collector.sets ≤ s.window) (sym new.same_setup) new.few) ([], new.represents.window);
+      bounds = bounded-new c.in_ok-conversion.conversion c.in_ok-links.links.items c.args.links links (subst (λ (s : SetupView). length c.in_ok-conversion.conversion.collector.sets ≤ s.window) (sym new.same_setup) new.few) ([], new.represents.kept);
     }

@@ -28,7 +28,7 @@ frames-preserved g c =
       taken = (
         i.taken.0 ++ c.in-Some.payload.now ∷ [],
         s.taken,
-        gathers-more c.in-Some.payload.now
+        gathers-more c.clock_laws.ensures.one_moment c.in-Some.payload.now
             i.keeps.same_setup i.taken.2 h.ok h.epoch c.later_of-self.ensures,
       );
     }

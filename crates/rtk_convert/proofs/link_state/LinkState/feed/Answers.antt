@@ -35,7 +35,7 @@ frames-preserved g c =
       taken = (
         i.taken.0 ++ c.in-Found.payload.now ∷ [],
         s.taken,
-        gathers-more c.in-Found.payload.now
+        gathers-more c.clock_laws.ensures.one_moment c.in-Found.payload.now
             i.keeps.same_setup i.taken.2 h.ok h.epoch c.later_of-self.ensures,
       );
     }

@@ -1,0 +1,56 @@
+-- The clock of a valid message, and its moment.
+use Rattle.std.proofs.Common.{◌≡◌, ◌<◌, ◌^◌, ◌%◌, ◌/◌, ℕ, true, Option, None, Some, refl, sym, subst, arith}
+use Rattle.std.specs.Prelude.{nat_lt}
+use Rattle.std.proofs.lemmas.Bool.{and_parts}
+use Rattle.std.proofs.lemmas.Bool.Decides.{nat_tests}
+use Rattle.rtk_message.specs.Fields.{week_ms}
+use Rattle.rtk_message.specs.declared.any_message.AnyMessage.{AnyMessage as Message}
+use Rattle.rtk_message.specs.declared.any_message.AnyMessage.TheVariants as any
+use Rattle.rtk_message.specs.declared.message.Message.TheVariants.{Obs1004, Arp1005, Arp1006, Msm1074}
+use Rattle.rtk_message.specs.declared.system.System.{System}
+use Rattle.rtk_message.specs.declared.system.System.TheVariants.{Gps, Glonass, Galileo, Beidou, Qzss, Sbas, Navic}
+use Rattle.rtk_message.specs.AnyDecoded.{IsValid, tow_of}
+use Rattle.rtk_message.specs.Systems.{is_in_week}
+use Rattle.rtk_obs.specs.Clocks.{IsClock, IsClockMoment}
+use Rattle.rtk_collect.specs.Arrival.{Arrival, At}
+use Rattle.rtk_convert.specs.FrameClass.{IsDatedMessage, IsMomentOf, system_of}
+use Rattle.rtk_convert.specs.Setup.{SetupView}
+
+less-of : (a b : ℕ) → nat_lt a b ≡ true → a < b
+less-of a b h = grind (arith, nat_tests)
+
+in-week : (s : System) (c : ℕ) → is_in_week s c ≡ true → IsClock s c
+in-week Gps c h = less-of c week_ms h
+in-week Glonass c h = less-of (c % 2 ^ 27) 86_401_000 (and_parts (nat_lt (c / 2 ^ 27) 7) (nat_lt (c % 2 ^ 27) 86_401_000) h).1
+in-week Galileo c h = less-of c week_ms h
+in-week Beidou c h = less-of c week_ms h
+in-week Qzss c h = less-of c week_ms h
+in-week Sbas c h = less-of c week_ms h
+in-week Navic c h = less-of c week_ms h
+
+same-clock : (a b : ℕ) → Some a ≡ Some b → a ≡ b
+same-clock a b h = cc
+
+-- the clock of a valid message is one of its system
+pub clock-of-valid : (m : Message) (clock : ℕ) → IsValid m → tow_of m ≡ Some clock → IsClock (system_of m) clock
+clock-of-valid (any.Message (Obs1004 m)) clock valid is = subst (IsClock Gps) (same-clock m.tow clock is) valid.time_in_week
+clock-of-valid (any.Message (Arp1005 m)) clock valid is = absurd cc
+clock-of-valid (any.Message (Arp1006 m)) clock valid is = absurd cc
+clock-of-valid (any.Message (Msm1074 m)) clock valid is = subst (IsClock Gps) (same-clock m.header.tow clock is) valid.time_in_week
+clock-of-valid (any.Msm m) clock valid is = subst (IsClock m.system) (same-clock m.header.tow clock is) (in-week m.system m.header.tow valid.form.time_in_week)
+
+-- ---- a dated message
+
+-- the moment of its clock
+pub dated-some : (s : SetupView) (m : Message) (system : System) (near clock epoch : ℕ) (leap : Option ℕ) (a : Arrival)
+    → system ≡ system_of m → near ≡ s.near → leap ≡ s.leap_seconds → tow_of m ≡ Some clock → IsClockMoment system near clock leap epoch → a ≡ At (Some epoch) m → IsDatedMessage s m a
+dated-some s m system near clock epoch leap a of from with_leap timed moment is =
+    let one = subst (λ (x : System). IsClockMoment x near clock leap epoch) of moment in
+    let two = subst (λ (x : ℕ). IsClockMoment (system_of m) x clock leap epoch) from one in
+    let three = subst (λ (x : Option ℕ). IsClockMoment (system_of m) s.near clock x epoch) with_leap two in
+    subst (IsDatedMessage s m) (sym is) (refl, subst (λ (o : Option ℕ). IsMomentOf s (system_of m) o (Some epoch)) (sym timed) three)
+
+-- a message without a clock has none
+pub dated-none : (s : SetupView) (m : Message) (a : Arrival) → tow_of m ≡ None → a ≡ At None m → IsDatedMessage s m a
+dated-none s m a untimed is =
+    subst (IsDatedMessage s m) (sym is) (refl, subst (λ (o : Option ℕ). IsMomentOf s (system_of m) o None) (sym untimed) tt)

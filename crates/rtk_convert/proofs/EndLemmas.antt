@@ -1,0 +1,94 @@
+-- The end of a conversion: the counts, and the last lines.
+use Rattle.std.proofs.Common.{◌≡◌, ◌∙◌, ℕ, Bool, List, [], ◌∷◌, ◌++◌, Option, inl, inr, refl, ap, subst}
+use Rattle.std.specs.Prelude.{◌&&◌, not, if◌then◌else◌}
+use Rattle.rtk_message.specs.declared.system.System.{System}
+use Rattle.rtk_message.specs.declared.system.System.TheVariants.{Gps, Glonass, Galileo, Beidou, Qzss, Sbas, Navic}
+use Rattle.rtk_obs.specs.SatelliteIndex.{letter_of}
+use Rattle.rtk_obs.specs.declared.signal_cells.SignalEntry.{SignalEntry}
+use Rattle.rtk_collect.specs.Accepted.{kept}
+use Rattle.rtk_collect.specs.Arrival.{Arrival}
+use Rattle.rtk_collect.specs.Collector.{CollectorView}
+use Rattle.rtk_collect.specs.Signals.{signals}
+use Rattle.rtk_frame.specs.Stream.{with_more, TakesPart}
+use Rattle.rtk_convert.specs.declared.counts.Counts.{Counts}
+use Rattle.rtk_convert.specs.declared.systems.Systems.{Systems}
+use Rattle.rtk_convert.specs.ClosedEpochs.{ClosedEpochsView}
+use Rattle.rtk_convert.specs.File.{record_count}
+use Rattle.rtk_convert.specs.FileOfArrivals.{kept_file, file_so_far}
+use Rattle.rtk_convert.specs.Finish.{all_counts, missing_letter, missing_lines, report_of}
+use Rattle.rtk_convert.specs.FrameClass.{Found, arrivals}
+use Rattle.rtk_convert.specs.Report.{lines, frame_counts, has_taken}
+use Rattle.rtk_convert.specs.ReportText.{missing_line, count_lines}
+use Rattle.rtk_convert.specs.Setup.{SetupView, is_of_gps, lists_system, cells_by}
+use Rattle.rtk_convert.specs.Systems.{has_system}
+use Rattle.rtk_convert.specs.Writing.{Written, written, WritesRest}
+use Rattle.rtk_convert.specs.Steps.AddedMessage.{RepresentsEpochs}
+use Rattle.rtk_convert.specs.Steps.Closing.{FinishesConversion, FinishesConversionInPart}
+use Rattle.rtk_convert.specs.Steps.LastLines.{last_lines, missing_letter_by, missing_lines_by}
+use Rattle.rtk_convert.specs.Steps.WritingInPart.{WritesPartOfRest}
+use Rattle.rtk_convert.proofs.AddLemmas.{epochs}
+use Rattle.rtk_convert.proofs.ArriveLemmas.{state}
+use Rattle.rtk_convert.proofs.WritingLemmas.{writes-text, part-text, part-none, part-all}
+
+-- ---- the systems of which no message was taken
+
+letter-same : (s : SetupView) (y : Systems) (found : List Found) → ((system : System) → has_system y system ≡ has_taken s system found) → (system : System) → missing_letter_by s y system ≡ missing_letter s found system
+letter-same s y found h system =
+    ap (λ (b : Bool). if (lists_system s.head.listed system && not b) then 32 ∷ letter_of system ∷ [] else []) (h system)
+
+missing-same : (s : SetupView) (y : Systems) (found : List Found) → ((system : System) → has_system y system ≡ has_taken s system found) → missing_lines_by s y ≡ missing_lines s found
+missing-same s y found h =
+    let letter = letter-same s y found h in
+    ap (λ (t : List ℕ). if is_of_gps s then [] else missing_line t)
+    (ap (λ (t : List ℕ). t ++ missing_letter_by s y Glonass ++ missing_letter_by s y Galileo ++ missing_letter_by s y Beidou ++ missing_letter_by s y Qzss ++ missing_letter_by s y Sbas ++ missing_letter_by s y Navic) (letter Gps)
+    ∙ ap (λ (t : List ℕ). missing_letter s found Gps ++ t ++ missing_letter_by s y Galileo ++ missing_letter_by s y Beidou ++ missing_letter_by s y Qzss ++ missing_letter_by s y Sbas ++ missing_letter_by s y Navic) (letter Glonass)
+    ∙ ap (λ (t : List ℕ). missing_letter s found Gps ++ missing_letter s found Glonass ++ t ++ missing_letter_by s y Beidou ++ missing_letter_by s y Qzss ++ missing_letter_by s y Sbas ++ missing_letter_by s y Navic) (letter Galileo)
+    ∙ ap (λ (t : List ℕ). missing_letter s found Gps ++ missing_letter s found Glonass ++ missing_letter s found Galileo ++ t ++ missing_letter_by s y Qzss ++ missing_letter_by s y Sbas ++ missing_letter_by s y Navic) (letter Beidou)
+    ∙ ap (λ (t : List ℕ). missing_letter s found Gps ++ missing_letter s found Glonass ++ missing_letter s found Galileo ++ missing_letter s found Beidou ++ t ++ missing_letter_by s y Sbas ++ missing_letter_by s y Navic) (letter Qzss)
+    ∙ ap (λ (t : List ℕ). missing_letter s found Gps ++ missing_letter s found Glonass ++ missing_letter s found Galileo ++ missing_letter s found Beidou ++ missing_letter s found Qzss ++ t ++ missing_letter_by s y Navic) (letter Sbas)
+    ∙ ap (λ (t : List ℕ). missing_letter s found Gps ++ missing_letter s found Glonass ++ missing_letter s found Galileo ++ missing_letter s found Beidou ++ missing_letter s found Qzss ++ missing_letter s found Sbas ++ t) (letter Navic))
+
+-- ---- the end
+
+-- the rest of the file was written, with this count of records
+abbrev pub EndsFile : SetupView → CollectorView SignalEntry → ClosedEpochsView → ℕ → Option (List ℕ) → Option (List ℕ) → Type 0
+EndsFile s w c count o out = (before : List Arrival) → RepresentsEpochs s (epochs w c) before
+    → (count ≡ record_count s.head.listed (kept signals (cells_by s) s.window before)) × WritesRest o out (file_so_far s before) (kept_file s before)
+
+-- it breaks off in the file
+pub finish-part-file : {s : SetupView} {w : CollectorView SignalEntry} {c : ClosedEpochsView} {k : Counts} {y : Systems} {b : Bool} {o : Written} {file : Option (List ℕ)} → ((before : List Arrival) → RepresentsEpochs s (epochs w c) before → WritesPartOfRest o.file file (file_so_far s before) (kept_file s before))
+    → FinishesConversionInPart (state s w c k y b) o (written file o.report)
+finish-part-file {s} {w} {c} {k} {y} {b} {o} {file} part = λ found rep. record {
+  out = part (arrivals found) (record { kept = rep.kept; closed = rep.closed });
+  log = part-none o.report (lines s found) (report_of s found) (missing_lines s found ++ count_lines (all_counts s found)) refl;
+  counts_last = inl refl;
+}
+
+module _ {s : SetupView} {w : CollectorView SignalEntry} {c : ClosedEpochsView} {k k' : Counts} {y : Systems} {b : Bool} {o : Written} where
+  pub finishes : {count : ℕ} {o' : Written} → EndsFile s w c count o.file o'.file → k' ≡ record k { epochs = count } → o'.report ≡ with_more o.report (last_lines s y k')
+      → FinishesConversion (state s w c k y b) k' o o'
+  finishes {count} {o'} ends counts wrote = λ found rep.
+      let t = ends (arrivals found) (record { kept = rep.kept; closed = rep.closed }) in
+      let same : k' ≡ all_counts s found =
+      counts ∙ ap (λ (x : Counts). record x { epochs = count }) rep.counts ∙ ap (λ (n : ℕ). record (frame_counts s found) { epochs = n }) t.0 in
+      record {
+        counts_are = same;
+        out = t.1;
+        log = writes-text o.report o'.report (lines s found) (report_of s found) (missing_lines s found ++ count_lines (all_counts s found)) refl
+            (wrote ∙ ap (with_more o.report) (ap (λ (x : Counts). missing_lines_by s y ++ count_lines x) same ∙ ap (λ (t : List ℕ). t ++ count_lines (all_counts s found)) (missing-same s y found rep.systems)));
+      }
+
+  -- in the last lines
+  pub finish-part-lines : {count : ℕ} {o' : Written} → EndsFile s w c count o.file o'.file → k' ≡ record k { epochs = count } → TakesPart o.report o'.report (last_lines s y k')
+      → FinishesConversionInPart (state s w c k y b) o o'
+  finish-part-lines {count} {o'} ends counts part = λ found rep.
+      let t = ends (arrivals found) (record { kept = rep.kept; closed = rep.closed }) in
+      let same : k' ≡ all_counts s found =
+      counts ∙ ap (λ (x : Counts). record x { epochs = count }) rep.counts ∙ ap (λ (n : ℕ). record (frame_counts s found) { epochs = n }) t.0 in
+      let text = ap (λ (x : Counts). missing_lines_by s y ++ count_lines x) same ∙ ap (λ (t : List ℕ). t ++ count_lines (all_counts s found)) (missing-same s y found rep.systems) in
+      record {
+        out = part-all o.file o'.file (file_so_far s (arrivals found)) (kept_file s (arrivals found)) t.1;
+        log = part-text o.report o'.report (lines s found) (report_of s found) (missing_lines s found ++ count_lines (all_counts s found)) refl
+            (subst (λ (x : List ℕ). TakesPart o.report o'.report x) text part);
+        counts_last = inr t.1;
+      }

@@ -1,0 +1,179 @@
+//! The text of a record, whose lines are written code by code.
+
+ghost use Rattle.std.specs.Prelude.{◌≡◌, ℕ, ◌≤◌, false, List, [], ◌∷◌, ◌++◌, replicate, slice_set, OnOk};
+ghost use Rattle.rtk_obs.specs.SatelliteIndex.{IsSatelliteIndex};
+ghost use Rattle.rtk_rinex.specs.declared.epoch_table.Observed.{Observed};
+ghost use Rattle.rtk_rinex.specs.declared.epoch_table.SatelliteRow.{SatelliteRow};
+ghost use Rattle.rtk_rinex.specs.MixedRecord.{mixed_record_text};
+ghost use Rattle.rtk_rinex.specs.Record.{has_line, no_observation};
+ghost use Rattle.rtk_rinex.specs.RecordLines.{IsFreeIn};
+ghost use Rattle.rtk_convert.specs.Steps.RowLines.{Keeps, HasRoom, HasFree};
+
+use rtk_obs::{GpsMs, SatelliteIndex};
+use rtk_rinex::{MixedRecordLines, Observed, RecordLines};
+use std::alloc::{AllocError, Global};
+
+/// The text of a record, whose lines are written code by code, in any order.
+pub(crate) trait RowLines: Drop + Sized {
+    /// The text has the lines of these rows.
+    ghost HasRows: { Self → List SatelliteRow → Type 0 };
+
+    /// A line is open whose codes show this.
+    ghost HasLine: { Self → List Observed → Type 0 };
+
+    /// The greatest satellite that can have a line.
+    ghost greatest: { ℕ };
+
+    /// The text.
+    ghost text_of: { Self → List ℕ };
+
+    /// Makes a text without rows. It takes no memory.
+    fn new(alloc: Global) -> Self
+        ensures { HasRows result [] };
+
+    /// Begins another record, without rows.
+    fn restart(&mut self)
+        ensures { HasRows self.new [] };
+
+    /// Opens the line of a satellite with this number of codes, which show nothing yet.
+    fn open_line(&mut self, codes: usize) -> Result<(), AllocError>
+        requires few { codes ≤ 16 }
+        requires room { HasRoom HasRows greatest self.old }
+        ensures open { OnOk result (HasLine self.new (replicate codes no_observation)) }
+        ensures rows { Keeps HasRows self.old self.new };
+
+    /// Writes what a code shows at its place in the open line, in which it shows nothing yet.
+    fn put_code(&mut self, place: usize, observed: &Observed)
+        requires { HasFree HasLine self.old place }
+        ensures open { (row : List Observed) → HasLine self.old row → IsFreeIn row place
+            → HasLine self.new (slice_set row place observed.now) }
+        ensures rows { Keeps HasRows self.old self.new };
+
+    /// Ends the open line as that of this satellite. A line without a written observation is left out.
+    fn close_line(&mut self, satellite: u8) -> Result<(), AllocError>
+        requires satellite { IsSatelliteIndex satellite }
+        requires within { satellite ≤ greatest }
+        requires room { HasRoom HasRows greatest self.old }
+        requires open { (row : List Observed) × HasLine self.old row }
+        ensures { OnOk result ((rows : List SatelliteRow) (observed : List Observed) → HasRows self.old rows → HasLine self.old observed
+            → HasRows self.new (rows ++ record { satellite = satellite; observed = record { items = observed } } ∷ [])) };
+
+    /// Writes the epoch line before the lines if there are any. The text is the record then.
+    fn finish(&mut self, time: GpsMs)
+        ensures text { (rows : List SatelliteRow) → HasRows self.old rows → text_of self.new ≡ mixed_record_text (record { time = time; rows = rows }) };
+
+    /// Returns the text: after `finish` that of the record, or no bytes if no observation is written.
+    fn text(&self) -> &[u8]
+        ensures { result.now ≡ text_of self.now };
+
+    /// Does nothing. A row without a written observation has no line.
+    fn blank_rows_are_left_out()
+        ensures { (lines : Self) (rows : List SatelliteRow) (row : SatelliteRow) → has_line row ≡ false
+            → HasRows lines (rows ++ row ∷ []) → HasRows lines rows };
+}
+
+impl RowLines for RecordLines {
+    ghost use Rattle.rtk_rinex.specs.RecordLines.{HasOpenLine};
+    ghost use Rattle.rtk_convert.specs.Steps.RowLines.{HoldsGpsLines};
+
+    ghost HasRows = { HoldsGpsLines };
+
+    ghost HasLine = { HasOpenLine };
+
+    ghost greatest = { 32 };
+
+    ghost text_of = { λ l. l.text };
+
+    fn new(alloc: Global) -> RecordLines {
+        RecordLines::new(alloc)
+    }
+
+    fn restart(&mut self) {
+        RecordLines::restart(self);
+    }
+
+    fn open_line(&mut self, codes: usize) -> Result<(), AllocError> {
+        RecordLines::open_line(self, codes)
+    }
+
+    #[inline(always)]
+    fn put_code(&mut self, place: usize, observed: &Observed) {
+        RecordLines::put_code(self, place, observed);
+    }
+
+    fn close_line(&mut self, satellite: u8) -> Result<(), AllocError> {
+        RecordLines::close_line(self, satellite);
+        Ok(())
+    }
+
+    fn finish(&mut self, time: GpsMs) {
+        RecordLines::finish(self, time);
+    }
+
+    fn text(&self) -> &[u8] {
+        RecordLines::text(self)
+    }
+
+    fn blank_rows_are_left_out() {}
+}
+
+/// The text of a record of any systems, and what the codes show in the line that is open.
+#[derive(Drop)]
+pub(crate) struct SignalLines {
+    lines: MixedRecordLines,
+    row: [Observed; 16],
+    // How many codes the open line has.
+    codes: usize,
+}
+
+impl RowLines for SignalLines {
+    ghost use Rattle.rtk_rinex.specs.MixedRecord.{HoldsMixedLines};
+    ghost use Rattle.rtk_convert.specs.Steps.RowLines.{IsOpenRow};
+
+    ghost HasRows = { λ l rows. HoldsMixedLines l.lines rows };
+
+    ghost HasLine = { λ l row. IsOpenRow l.row l.codes row };
+
+    ghost greatest = { 221 };
+
+    ghost text_of = { λ l. l.lines.text };
+
+    fn new(alloc: Global) -> SignalLines {
+        SignalLines {
+            lines: MixedRecordLines::new(alloc),
+            row: [Observed::default(); 16],
+            codes: 0,
+        }
+    }
+
+    fn restart(&mut self) {
+        self.lines.restart();
+    }
+
+    fn open_line(&mut self, codes: usize) -> Result<(), AllocError> {
+        self.row = [Observed::default(); 16];
+        self.codes = codes;
+        Ok(())
+    }
+
+    fn put_code(&mut self, place: usize, observed: &Observed) {
+        self.row[place] = *observed;
+    }
+
+    fn close_line(&mut self, satellite: u8) -> Result<(), AllocError> {
+        let Some(satellite) = SatelliteIndex::new(satellite) else {
+            unreachable!()
+        };
+        self.lines.push_row(satellite, &self.row[..self.codes])
+    }
+
+    fn finish(&mut self, time: GpsMs) {
+        self.lines.finish(time);
+    }
+
+    fn text(&self) -> &[u8] {
+        self.lines.text()
+    }
+
+    fn blank_rows_are_left_out() {}
+}
