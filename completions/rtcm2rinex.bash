@@ -20,7 +20,7 @@ _rtcm2rinex() {
     done
     case $command in
         '')
-            options='auto convert show check summary chart quality cut label help -h --help -V --version'
+            options='auto convert show check summary chart quality cut label compare help -h --help -V --version'
             ;;
         auto)
             options='-o --output -f --force --label --marker --near --made --station --codes --msm --window --skip-empty --links-as-given --report -h --help'
@@ -65,9 +65,13 @@ _rtcm2rinex() {
             values='--run-by --marker-number --observer --agency --receiver-number --receiver-type --receiver-version --antenna-number --antenna-type --delta-height --delta-east --delta-north'
             arguments='files stdin'
             ;;
+        compare)
+            options='--labels --json -h --help'
+            arguments='files stdin'
+            ;;
         help)
             options=''
-            arguments='auto convert show check summary chart quality cut label'
+            arguments='auto convert show check summary chart quality cut label compare'
             ;;
         *) return ;;
     esac

@@ -12,6 +12,7 @@ complete -c rtcm2rinex -n __fish_use_subcommand -a chart -d 'Draws a file: its s
 complete -c rtcm2rinex -n __fish_use_subcommand -a quality -d 'Tells the numbers of a file: phases, slips, strengths and passes'
 complete -c rtcm2rinex -n __fish_use_subcommand -a cut -d 'Writes the file of a part of a file; no slip is lost'
 complete -c rtcm2rinex -n __fish_use_subcommand -a label -d 'Writes a file with more fields in its header'
+complete -c rtcm2rinex -n __fish_use_subcommand -a compare -d 'Tells what a new file lacks of an old one, or has otherwise'
 complete -c rtcm2rinex -n __fish_use_subcommand -a help -d 'Print this message or the help of the given subcommand(s)'
 complete -c rtcm2rinex -n '__fish_seen_subcommand_from auto' -s o -l output -r -F -d 'Where the file goes; standard output if not given'
 complete -c rtcm2rinex -n '__fish_seen_subcommand_from auto' -s f -l force -d 'Replace a FILE that is there'
@@ -75,4 +76,8 @@ complete -c rtcm2rinex -n '__fish_seen_subcommand_from label' -l delta-north -x 
 complete -c rtcm2rinex -n '__fish_seen_subcommand_from label' -l blank -d 'No field: the file is again as convert wrote it'
 complete -c rtcm2rinex -n '__fish_seen_subcommand_from label' -s h -l help -d 'Print help (see more with \'--help\')'
 complete -c rtcm2rinex -n '__fish_seen_subcommand_from label' -F -a stdin
-complete -c rtcm2rinex -n '__fish_seen_subcommand_from help' -a 'auto convert show check summary chart quality cut label'
+complete -c rtcm2rinex -n '__fish_seen_subcommand_from compare' -l labels -d 'The fields of the labels are compared too'
+complete -c rtcm2rinex -n '__fish_seen_subcommand_from compare' -l json -d 'One JSON object in place of the lines'
+complete -c rtcm2rinex -n '__fish_seen_subcommand_from compare' -s h -l help -d 'Print help (see more with \'--help\')'
+complete -c rtcm2rinex -n '__fish_seen_subcommand_from compare' -F -a stdin
+complete -c rtcm2rinex -n '__fish_seen_subcommand_from help' -a 'auto convert show check summary chart quality cut label compare'

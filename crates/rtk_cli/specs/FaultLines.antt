@@ -2,7 +2,7 @@
 use Rattle.std.specs.Prelude.{◌≡◌, ℕ, List, codes}
 use Rattle.rtk_label.specs.declared.label_fault.LabelFault.TheVariants.{RunBy, MarkerNumber, Observer, Agency, ReceiverNumber, ReceiverType, ReceiverVersion, AntennaNumber, AntennaType, DeltaHeight, DeltaEast, DeltaNorth}
 use Rattle.rtk_cli.specs.declared.words.BadWords.{BadWords}
-use Rattle.rtk_cli.specs.declared.words.BadWords.TheVariants.{Near, Made, Codes, Marker, Links, Systems, Satellites, From, Until, Field}
+use Rattle.rtk_cli.specs.declared.words.BadWords.TheVariants.{Near, Made, Codes, Marker, Links, Systems, Satellites, From, Until, Field, Files}
 use Rattle.rtk_cli.specs.declared.words.WordsFault.{WordsFault}
 use Rattle.rtk_cli.specs.declared.words.WordsFault.TheVariants.{Bad, OutOfMemory}
 
@@ -30,6 +30,7 @@ fault_line (Field AntennaType) = codes "bad --antenna-type"
 fault_line (Field DeltaHeight) = codes "bad --delta-height"
 fault_line (Field DeltaEast) = codes "bad --delta-east"
 fault_line (Field DeltaNorth) = codes "bad --delta-north"
+fault_line Files = codes "bad files"
 
 -- the words are refused by the fault line of this cause
 abbrev pub TellsCause : BadWords → WordsFault → Type 0

@@ -1,5 +1,5 @@
 -- What the words of a command line may give.
-use Rattle.std.specs.Prelude.{◌≡◌, ◌⊎◌, ℕ, ◌≤◌, Bool, nat_eq, List, length, map, count_by, codes}
+use Rattle.std.specs.Prelude.{◌≡◌, ◌⊎◌, ℕ, ◌≤◌, Bool, false, ◌&&◌, nat_eq, List, length, map, count_by, codes}
 use Rattle.std.specs.Cmp.Lexicographic.{pointwise}
 use Rattle.std.specs.Option.{ForSome}
 use Rattle.rtk_convert.specs.Converter.{IsLinkCount}
@@ -9,7 +9,7 @@ use Rattle.rtk_commands.specs.ChartInput.{IsWidth}
 use Rattle.rtk_cli.specs.FaultLines.{fault_line}
 use Rattle.rtk_cli.specs.declared.words.BadWords.{BadWords}
 use Rattle.rtk_cli.specs.declared.words.Job.{Job}
-use Rattle.rtk_cli.specs.declared.words.Job.TheVariants.{Convert, Chart, Cut}
+use Rattle.rtk_cli.specs.declared.words.Job.TheVariants.{Convert, Chart, Cut, Compare}
 use Rattle.rtk_cli.specs.declared.words.WordsFault.{WordsFault}
 use Rattle.rtk_cli.specs.declared.words.WordsFault.TheVariants.{Clap, Bad, OutOfMemory}
 
@@ -23,14 +23,19 @@ is_stdin word = pointwise nat_eq word (codes "stdin")
 abbrev pub AreLinkNames : List (List ℕ) → Type 0
 AreLinkNames links = IsLinkCount (length links) × (count_by is_stdin links ≤ 1)
 
+-- the files of a comparison: standard input is one of them at most (this project's rule)
+abbrev pub AreComparedNames : List ℕ → List ℕ → Type 0
+AreComparedNames old new = (is_stdin old && is_stdin new) ≡ false
+
 -- formula
 -- a conversion is of a station, a window and links within their limits; so is the width of a picture
--- in characters, and the step of a part
+-- in characters, and the step of a part; and standard input is one of two files at most
 abbrev pub IsWithinLimits : Job → Type 0
 IsWithinLimits (Convert setup links) =
     IsStation setup.station × IsWindow setup.window × AreLinkNames (map (λ link. link.now) links.items)
 IsWithinLimits (Chart chart file) = ForSome chart.width IsWidth
 IsWithinLimits (Cut part file) = IsStepOrNone part.every
+IsWithinLimits (Compare command old new) = AreComparedNames old.now new.now
 IsWithinLimits _ = Unit {0}
 
 -- table

@@ -86,6 +86,23 @@ fn quality_command<'a>(alloc: Global) -> Result<Command<'a>, AllocError> {
         .arg(file_arg(alloc, "The file, or stdin for standard input"))
 }
 
+// An argument that names one of the files of `compare`.
+fn compared_arg<'a>(alloc: Global, name: &'a str, help: &'a str) -> Arg<'a> {
+    Arg::new(alloc, name).help(help).required(true)
+}
+
+fn compare_command<'a>(alloc: Global) -> Result<Command<'a>, AllocError> {
+    let labels = "The fields of the labels are compared too";
+    let json = "One JSON object in place of the lines";
+    Command::new(alloc, "compare")
+        .about("Tells what a new file lacks of an old one, or has otherwise")
+        .after_long_help(help_texts::COMPARE)
+        .arg(switch_arg(alloc, "labels", labels))?
+        .arg(switch_arg(alloc, "json", json))?
+        .arg(compared_arg(alloc, "OLD", "The old file, or stdin for standard input"))?
+        .arg(compared_arg(alloc, "NEW", "The new file, or stdin for standard input"))
+}
+
 fn required_arg<'a>(alloc: Global, name: &'a str, value: &'a str, help: &'a str) -> Arg<'a> {
     option_arg(alloc, name, value, help).required(true)
 }
@@ -179,5 +196,6 @@ pub(crate) fn program_command<'a>(alloc: Global) -> Result<Command<'a>, AllocErr
     let program = with_command(program, chart_command(alloc))?;
     let program = with_command(program, quality_command(alloc))?;
     let program = with_command(program, cut_command(alloc))?;
-    with_command(program, label_command(alloc))
+    let program = with_command(program, label_command(alloc))?;
+    with_command(program, compare_command(alloc))
 }

@@ -155,3 +155,16 @@ Exit status:
   3  the file is not as convert or label writes it; standard error says where
 
 Manual: man rtcm2rinex, or docs/MANUAL.md";
+
+pub(crate) const COMPARE: &str = "\
+Example:
+  rtcm2rinex compare old.rnx new.rnx
+
+Exit status:
+  0  nothing is lost or changed
+  1  the differences are not written, or in part; standard error says why
+  2  the words are refused
+  3  something is lost or changed; or a file is not as convert or label writes it,
+     and standard error says where
+
+Manual: man rtcm2rinex, or docs/MANUAL.md";

@@ -9,6 +9,7 @@ use crate::auto_words::auto_words;
 use crate::chart_words::choice_of;
 use crate::clap_words::{matches_of, missing_word};
 use crate::command_line::program_command;
+use crate::compare_words::{compared_files, comparison};
 use crate::convert_words::convert_job;
 use crate::cut_words::part_of;
 use crate::label_words::label_of;
@@ -100,6 +101,24 @@ fn label_job<'a>(words: &ArgMatches<'a>, file: &'a str) -> Result<Option<Job<'a>
     Ok(Some(Job::Label { label, file }))
 }
 
+fn compare_job<'a>(words: &ArgMatches<'a>) -> Result<Option<Job<'a>>, WordsFault>
+    ensures limits { IfOk result (λ job. IfSome job IsWithinLimits) }
+    ensures fault { IfErr result IsWordsFault }
+{
+    let Some(old) = words.get_str("OLD") else {
+        return Ok(None);
+    };
+    let Some(new) = words.get_str("NEW") else {
+        return Ok(None);
+    };
+    let files = compared_files(old, new)?;
+    Ok(Some(Job::Compare {
+        command: comparison(words.get_flag("labels"), words.get_flag("json")),
+        old: files.old,
+        new: files.new,
+    }))
+}
+
 // What the words of a command ask for that has one file.
 fn file_job<'a>(
     alloc: Global,
@@ -138,6 +157,7 @@ fn job_of_matches<'a>(
     match matches.subcommand() {
         Some(("auto", words)) => auto_job(alloc, words),
         Some(("convert", words)) => conversion(alloc, words),
+        Some(("compare", words)) => compare_job(words),
         Some((command, words)) => file_job(alloc, command, words),
         None => Ok(None),
     }

@@ -30,6 +30,7 @@ mod chart_words;
 mod clap_words;
 mod code_list;
 mod command_line;
+mod compare_words;
 mod convert_words;
 mod converting;
 mod cut_words;

@@ -10,7 +10,7 @@ use crate::converting::convert_links;
 use crate::jobs::job;
 use crate::refusing::refuse_words;
 use crate::words::Job;
-use rtk_commands::{Check, run_file, show_named, summarize_named};
+use rtk_commands::{Check, compare_named, run_file, show_named, summarize_named};
 use rtk_message::MsmKind;
 use rtk_streams::{ToolFault, fail};
 use std::env::Env;
@@ -56,6 +56,7 @@ fn run_job<R: Env + Clock + Files + Input + Print + Eprint + AllocGlobal, W: Wri
         Job::Quality { form, file } => run_file(rt, &form, file),
         Job::Cut { part, file } => run_file(rt, &part, file),
         Job::Label { label, file } => run_file(rt, &label, file),
+        Job::Compare { command, old, new } => compare_named(rt, command, old, new),
     }
 }
 

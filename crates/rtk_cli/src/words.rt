@@ -1,6 +1,6 @@
 //! What the words of a command line ask for, and why a command is not done.
 
-use rtk_commands::Chart;
+use rtk_commands::{Chart, Compare};
 use rtk_convert::Setup;
 use rtk_cut::Part;
 use rtk_label::{Label, LabelFault};
@@ -77,6 +77,12 @@ pub enum Job<'a> {
         label: Label,
         file: &'a str,
     },
+    /// What a new file lacks of an old one. Standard input is one of them at most.
+    Compare {
+        command: Compare,
+        old: &'a str,
+        new: &'a str,
+    },
 }
 
 /// Why words that clap takes give no conversion, no picture, no part or no label: the first cause that holds, in this
@@ -107,6 +113,8 @@ pub(crate) enum BadWords {
     Until,
     /// A field of a label does not fit its columns.
     Field(LabelFault),
+    /// Both files of a comparison are standard input.
+    Files,
 }
 
 impl BadWords {
@@ -139,6 +147,7 @@ impl BadWords {
             BadWords::Field(LabelFault::DeltaHeight) => "bad --delta-height",
             BadWords::Field(LabelFault::DeltaEast) => "bad --delta-east",
             BadWords::Field(LabelFault::DeltaNorth) => "bad --delta-north",
+            BadWords::Files => "bad files",
         }
     }
 }

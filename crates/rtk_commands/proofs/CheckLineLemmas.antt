@@ -1,5 +1,5 @@
 -- The lines of `check` tell their numbers and causes.
-use Rattle.std.proofs.Common.{◌≡◌, ◌==◌, ℕ, List, [], ◌∷◌, ◌++◌, cond, codes, decimal, get_or, length, refl, sym, ap, ap₂, ◌∙◌, append_assoc, arith}
+use Rattle.std.proofs.Common.{◌≡◌, ◌==◌, ℕ, List, [], ◌∷◌, ◌++◌, cond, codes, decimal, get_or, refl, sym, ap, ap₂, ◌∙◌, append_assoc, arith}
 use Rattle.std.proofs.lemmas.List.{append_cancel_left, append_cancel_right}
 use Rattle.rtk_rinex.specs.CauseText.{cause_text}
 use Rattle.rtk_rinex.specs.CheckTable.{OneTable, OneFault}

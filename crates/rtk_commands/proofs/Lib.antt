@@ -1,5 +1,6 @@
 mod AfterFrontLemmas
 mod CheckLineLemmas
+mod CompareLemmas
 mod FileLemmas
 mod FileTableLemmas
 mod KindLemmas

@@ -15,3 +15,4 @@ pub mod ShownByKind
 pub mod Summarized
 pub mod WithLabel
 pub mod WrittenLaws
+pub mod CompareInput

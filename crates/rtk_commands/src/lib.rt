@@ -1,4 +1,4 @@
-//! The commands that convert nothing: `show`, `summary`, `check`, `chart`, `quality`, `cut` and `label`.
+//! The commands that convert nothing: `show`, `summary`, `check`, `chart`, `quality`, `cut`, `label` and `compare`.
 //!
 //! `check`, `chart`, `quality`, `cut` and `label` implement `FileCommand`: each makes bytes of a text. One driver
 //! (`run_file`) opens and reads the file, has the command write, and answers the exit status.
@@ -35,6 +35,7 @@ mod any_table;
 mod assessing;
 mod charting;
 mod checking;
+mod comparing;
 mod cutting;
 mod file_answer;
 mod file_command;
@@ -49,6 +50,7 @@ mod with_label;
 
 pub use charting::Chart;
 pub use checking::{Check, check_file};
+pub use comparing::{Compare, Compared, compare_named};
 pub use file_answer::FileAnswer;
 pub use file_command::{CHECK_LIMIT, FileCommand, file_through, gathered_through, run_file};
 pub use payload_line::show_line;

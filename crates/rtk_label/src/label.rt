@@ -207,6 +207,27 @@ impl Label {
         })
     }
 
+    /// The texts of the label.
+    pub fn parts(&self) -> LabelParts<'_>
+        ensures value { result ≡ self.now }
+        ensures good { IsLabel self.now }
+    {
+        LabelParts {
+            run_by: self.run_by.as_slice(),
+            marker_number: self.marker_number.as_slice(),
+            observer: self.observer.as_slice(),
+            agency: self.agency.as_slice(),
+            receiver_number: self.receiver_number.as_slice(),
+            receiver_type: self.receiver_type.as_slice(),
+            receiver_version: self.receiver_version.as_slice(),
+            antenna_number: self.antenna_number.as_slice(),
+            antenna_type: self.antenna_type.as_slice(),
+            height: self.height.as_slice(),
+            east: self.east.as_slice(),
+            north: self.north.as_slice(),
+        }
+    }
+
     /// The label whose fields are all blank.
     pub fn blank() -> Label
         ensures { result ≡ blank_label }

@@ -1,0 +1,10 @@
+pub mod FindingLemmas
+pub mod TrackLemmas
+pub mod CellLemmas
+pub mod CodeLemmas
+pub mod HeaderLemmas
+pub mod RowLemmas
+pub mod RowsLemmas
+pub mod ReaderLemmas
+pub mod RecordLemmas
+pub mod TextLemmas

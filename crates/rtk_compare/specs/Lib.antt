@@ -1,0 +1,12 @@
+pub mod Places
+pub mod Pairs
+pub mod Phases
+pub mod Distances
+pub mod Cells
+pub mod Codes
+pub mod Records
+pub mod Headers
+pub mod Labels
+pub mod Differences
+pub mod Answer
+pub mod Steps
