@@ -16,8 +16,6 @@
 //! Its tests: tests/values/src/cli.rt.in and cli/, and tests/program
 #![tactic(auto)]
 
-mod arguments;
-mod auto_command;
 mod auto_converting;
 mod auto_labelling;
 mod auto_looking;
@@ -29,16 +27,12 @@ mod auto_words;
 mod chart_words;
 mod clap_words;
 mod code_list;
-mod command_line;
 mod compare_words;
 mod convert_words;
 mod converting;
 mod cut_words;
-mod help_texts;
 mod jobs;
-mod label_command;
 mod label_words;
-mod limits;
 mod moment_text;
 mod option_texts;
 mod options;

@@ -12,13 +12,13 @@ ghost use Rattle.rtk_convert.specs.Setup.{IsStation, IsWindow};
 ghost use Rattle.rtk_cut.specs.Cut.{IsStepOrNone};
 ghost use Rattle.rtk_commands.specs.ChartInput.{IsWidth};
 
-use crate::limits::{LEAST_WIDTH, MOST_STEP, MOST_WIDTH};
 use clap::ArgMatches;
 use rtk_convert::{Station, Window};
 use rtk_label::LabelParts;
 use rtk_message::MsmKind;
 use rtk_plan::Ways;
 use rtk_quality::Form;
+use rtk_usage::{LEAST_WIDTH, MOST_STEP, MOST_WIDTH};
 
 /// How many characters wide a picture is if no number is given. It is not clap's default value,
 /// unlike `WINDOW` of command_line.rt: without `--text` a picture has no such width.

@@ -184,7 +184,7 @@ fn with_command<'a>(
 }
 
 /// The whole command line.
-pub(crate) fn program_command<'a>(alloc: Global) -> Result<Command<'a>, AllocError> {
+pub fn program_command<'a>(alloc: Global) -> Result<Command<'a>, AllocError> {
     let program = program_alone(alloc)?
         .no_binary_name(true)
         .subcommand_required(true);
