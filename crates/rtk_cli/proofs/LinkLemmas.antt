@@ -9,7 +9,7 @@ use Rattle.rtk_frame.specs.Stream.{with_more}
 use Rattle.rtk_streams.specs.Steps.ReadLimits.{most_reads}
 use Rattle.rtk_streams.specs.Passed.{given_of, IsLeft, taken_of}
 use Rattle.rtk_streams.specs.declared.resuming.Resumed.{Resumed}
-use Rattle.rtk_convert.specs.declared.counts.Counts.{Counts}
+use Rattle.rtk_setup.specs.declared.counts.Counts.{Counts}
 use Rattle.rtk_convert.specs.declared.fault.ConvertFault.{ConvertFault}
 use Rattle.rtk_convert.specs.declared.fault.ConvertFault.TheVariants.{Read as ReadFailed, Endless}
 use Rattle.rtk_convert.specs.FileOfArrivals.{kept_file, file_so_far}
@@ -22,7 +22,7 @@ use Rattle.rtk_convert.specs.ReadHistory.{Read, IsHistoryOf, Gave, bytes_of}
 use Rattle.rtk_convert.specs.ReadSteps.{HasRead}
 use Rattle.rtk_convert.specs.Report.{lines}
 use Rattle.rtk_convert.specs.Run.{FailsReading, StaysOpen}
-use Rattle.rtk_convert.specs.Setup.{SetupView}
+use Rattle.rtk_setup.specs.Setup.{SetupView}
 use Rattle.rtk_convert.specs.Writing.{Written, written}
 use Rattle.rtk_cli.specs.ConvertsBytes.{KeepsBytes, EndsAtRead, ConvertsFirstBytes}
 use Rattle.rtk_cli.specs.Steps.Links.{bytes_had, AreLinksOf}

@@ -2,7 +2,7 @@
 use Rattle.std.proofs.Common.{◌≡◌, ℕ, List, map, None, refl, sym, subst}
 use Rattle.rtk_obs.specs.declared.code.Code.{Code}
 use Rattle.rtk_obs.specs.AnyCode.{code_of_gps}
-use Rattle.rtk_convert.specs.Setup.{SetupView, all_of}
+use Rattle.rtk_setup.specs.Setup.{SetupView, all_of}
 use Rattle.rtk_cli.specs.declared.options.ConvertOptions.{ConvertOptions}
 use Rattle.rtk_cli.specs.Steps.CodeList.{Lists}
 use Rattle.rtk_cli.specs.Steps.ConvertWords.{SaysSetup}

@@ -2,7 +2,7 @@
 use Rattle.std.specs.Prelude.{◌≡◌, ◌<◌, ℕ, true, List, ◌++◌, length, Option, None, Some, Result, Err, IsErrOf, slice_index_or}
 use Rattle.rtk_frame.specs.Stream.{with_more}
 use Rattle.rtk_streams.specs.Steps.ReadLimits.{most_reads}
-use Rattle.rtk_convert.specs.declared.counts.Counts.{Counts}
+use Rattle.rtk_setup.specs.declared.counts.Counts.{Counts}
 use Rattle.rtk_convert.specs.declared.fault.ConvertFault.{ConvertFault}
 use Rattle.rtk_convert.specs.declared.fault.ConvertFault.TheVariants.{Read as ReadFailed, Endless}
 use Rattle.rtk_convert.specs.FileOfArrivals.{file_so_far}
@@ -12,7 +12,7 @@ use Rattle.rtk_convert.specs.History.{History}
 use Rattle.rtk_convert.specs.Kept.{KeepsInOrder}
 use Rattle.rtk_convert.specs.ReadHistory.{Read, IsHistoryOf, bytes_of}
 use Rattle.rtk_convert.specs.Report.{lines}
-use Rattle.rtk_convert.specs.Setup.{SetupView}
+use Rattle.rtk_setup.specs.Setup.{SetupView}
 use Rattle.rtk_convert.specs.Writing.{Written}
 
 -- a conversion of readers, each of them a link: where the bytes that a reader had are known, the

@@ -3,7 +3,7 @@ use Rattle.std.specs.Prelude.{◌≡◌, ◌⊎◌, ℕ, ◌≤◌, Bool, false,
 use Rattle.std.specs.Cmp.Lexicographic.{pointwise}
 use Rattle.std.specs.Option.{ForSome}
 use Rattle.rtk_convert.specs.Converter.{IsLinkCount}
-use Rattle.rtk_convert.specs.Setup.{IsStation, IsWindow}
+use Rattle.rtk_setup.specs.Setup.{IsStation, IsWindow}
 use Rattle.rtk_cut.specs.Cut.{IsStepOrNone}
 use Rattle.rtk_commands.specs.ChartInput.{IsWidth}
 use Rattle.rtk_cli.specs.FaultLines.{fault_line}

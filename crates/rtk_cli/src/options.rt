@@ -8,7 +8,7 @@ ghost use Rattle.std.specs.Prelude.{◌≡◌, ◌+◌, IfSome, MatchOption};
 ghost use Rattle.std.specs.Int.{IsInRange};
 ghost use Rattle.std.specs.Option.{ForSome};
 ghost use Rattle.rtk_message.specs.Systems.{number_of_kind};
-ghost use Rattle.rtk_convert.specs.Setup.{IsStation, IsWindow};
+ghost use Rattle.rtk_setup.specs.Setup.{IsStation, IsWindow};
 ghost use Rattle.rtk_cut.specs.Cut.{IsStepOrNone};
 ghost use Rattle.rtk_commands.specs.ChartInput.{IsWidth};
 

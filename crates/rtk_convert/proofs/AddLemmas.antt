@@ -27,7 +27,7 @@ use Rattle.rtk_convert.specs.Conversion.{HoldsKept}
 use Rattle.rtk_convert.specs.Epochs.{EpochsView}
 use Rattle.rtk_convert.specs.FileOfArrivals.{site_of_stations, site_of_kept, file_so_far}
 use Rattle.rtk_convert.specs.Report.{frame_lines}
-use Rattle.rtk_convert.specs.Setup.{SetupView, takes, cells_by}
+use Rattle.rtk_setup.specs.Setup.{SetupView, takes, cells_by}
 use Rattle.rtk_convert.specs.Writing.{Written}
 use Rattle.rtk_convert.specs.Steps.AddedMessage.{AddsArrivalAs, AddsArrivalPartAs, IsTakenBy, RepresentsEpochs, closed_by}
 use Rattle.rtk_convert.specs.Steps.ClosedText.{closing}

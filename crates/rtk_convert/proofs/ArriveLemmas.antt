@@ -8,14 +8,14 @@ use Rattle.rtk_collect.specs.Collector.{CollectorView}
 use Rattle.rtk_frame.specs.Stream.{with_more, TakesPart, count_after}
 use Rattle.rtk_frame.proofs.PublicLaws.{with_more-nil}
 use Rattle.rtk_convert.specs.declared.frame_class.FrameClass.TheVariants.{OtherMessage, Refused, Foreign, Dated}
-use Rattle.rtk_convert.specs.declared.counts.Counts.{Counts}
+use Rattle.rtk_setup.specs.declared.counts.Counts.{Counts}
 use Rattle.rtk_convert.specs.declared.systems.Systems.{Systems}
 use Rattle.rtk_convert.specs.ClosedEpochs.{ClosedEpochsView}
 use Rattle.rtk_convert.specs.Conversion.{ConversionView}
 use Rattle.rtk_convert.specs.FileOfArrivals.{file_so_far}
 use Rattle.rtk_convert.specs.FrameClass.{IsClassOfPayload, Found, arrivals}
 use Rattle.rtk_convert.specs.Report.{arrival_class, brings, frame_lines, refused_line, lines, counted_as, one_frame_more, frame_counts, has_taken}
-use Rattle.rtk_convert.specs.Setup.{SetupView}
+use Rattle.rtk_setup.specs.Setup.{SetupView}
 use Rattle.rtk_convert.specs.Writing.{Written, written}
 use Rattle.rtk_convert.specs.Steps.AcceptedFrame.{AcceptsFrame, BreaksOffAtFrame}
 use Rattle.rtk_convert.specs.Steps.AddedMessage.{AddsMessage, AddsMessageInPart}

@@ -16,13 +16,13 @@ use Rattle.rtk_obs.specs.declared.signal_cells.SignalEntry.{SignalEntry}
 use Rattle.rtk_collect.specs.Answer.{Class, TakenClass}
 use Rattle.rtk_collect.specs.Arrival.{Arrival, epoch_of, message_of}
 use Rattle.rtk_collect.specs.Collector.{CollectorView}
-use Rattle.rtk_convert.specs.declared.counts.Counts.{Counts}
+use Rattle.rtk_setup.specs.declared.counts.Counts.{Counts}
 use Rattle.rtk_convert.specs.declared.frame_class.FrameClass.TheVariants.{Dated}
 use Rattle.rtk_convert.specs.declared.message_class.MessageClass.{MessageClass}
 use Rattle.rtk_convert.specs.declared.systems.Systems.{Systems}
 use Rattle.rtk_convert.specs.ClosedEpochs.{ClosedEpochsView}
 use Rattle.rtk_convert.specs.Report.{arrival_class, brings, counted_as, is_of, is_taken}
-use Rattle.rtk_convert.specs.Setup.{SetupView}
+use Rattle.rtk_setup.specs.Setup.{SetupView}
 use Rattle.rtk_convert.specs.Systems.{has_system, with_system}
 use Rattle.rtk_convert.specs.Writing.{Written}
 use Rattle.rtk_convert.specs.Steps.AddedMessage.{AddsArrivalAs, AddsMessage, RepresentsEpochs}

@@ -15,7 +15,7 @@ use Rattle.rtk_convert.specs.FrameClass.{Found, arrivals}
 use Rattle.rtk_convert.specs.Finish.{report_of}
 use Rattle.rtk_convert.specs.History.{History, LinkPast, IsOpen, IsAfterFeed, IsAfterClose, new_history}
 use Rattle.rtk_convert.specs.Report.{lines}
-use Rattle.rtk_convert.specs.Setup.{SetupView}
+use Rattle.rtk_setup.specs.Setup.{SetupView}
 use Rattle.rtk_convert.specs.Writing.{Written}
 use Rattle.rtk_convert.proofs.HeadlineLemmas.{headline-of, kept-of}
 use Rattle.rtk_convert.proofs.ReadLemmas.{open-goes}

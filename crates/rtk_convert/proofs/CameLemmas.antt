@@ -18,7 +18,7 @@ use Rattle.rtk_convert.specs.History.{History, LinkPast, IsOpen, Finds, fed_on, 
 use Rattle.rtk_convert.specs.Kept.{and_came, came_of}
 use Rattle.rtk_convert.specs.ReadHistory.{Read, IsAfterPiece, IsHistoryOf, AllClosed, bytes_of}
 use Rattle.rtk_convert.specs.ReadSteps.{read_of}
-use Rattle.rtk_convert.specs.Setup.{SetupView, taken_by, takes}
+use Rattle.rtk_setup.specs.Setup.{SetupView, taken_by, takes}
 use Rattle.rtk_convert.specs.Steps.ReadMessage.{IsReadMessage}
 use Rattle.rtk_convert.proofs.ClassLemmas.{dated-reading}
 use Rattle.rtk_convert.proofs.GpsOfferLemmas.{accepts-taken}

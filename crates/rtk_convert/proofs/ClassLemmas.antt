@@ -12,7 +12,7 @@ use Rattle.rtk_collect.specs.Arrival.{Arrival, At, message_of}
 use Rattle.rtk_convert.specs.declared.frame_class.FrameClass.{FrameClass}
 use Rattle.rtk_convert.specs.declared.frame_class.FrameClass.TheVariants.{OtherMessage, Foreign, Dated}
 use Rattle.rtk_convert.specs.FrameClass.{IsClassIf, IsClassOfReading, IsDatedMessage, class_of_fault, refused_if}
-use Rattle.rtk_convert.specs.Setup.{SetupView, lists_system, taken_by, takes}
+use Rattle.rtk_setup.specs.Setup.{SetupView, lists_system, taken_by, takes}
 use Rattle.rtk_convert.specs.Steps.AddedMessage.{IsTakenBy}
 use Rattle.rtk_convert.specs.Steps.ReadMessage.{IsReadMessage}
 

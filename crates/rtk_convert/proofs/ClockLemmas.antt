@@ -14,7 +14,7 @@ use Rattle.rtk_message.specs.Systems.{is_in_week}
 use Rattle.rtk_obs.specs.Clocks.{IsClock, IsClockMoment}
 use Rattle.rtk_collect.specs.Arrival.{Arrival, At}
 use Rattle.rtk_convert.specs.FrameClass.{IsDatedMessage, IsMomentOf, system_of}
-use Rattle.rtk_convert.specs.Setup.{SetupView}
+use Rattle.rtk_setup.specs.Setup.{SetupView}
 
 less-of : (a b : ℕ) → nat_lt a b ≡ true → a < b
 less-of a b h = grind (arith, nat_tests)

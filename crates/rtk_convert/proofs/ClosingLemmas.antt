@@ -11,11 +11,11 @@ use Rattle.rtk_convert.specs.Finish.{all_counts, report_of}
 use Rattle.rtk_convert.specs.Steps.Closing.{FinishesConversion, FinishesConversionInPart, EndsConversion}
 use Rattle.rtk_convert.specs.History.{History, IsAfterClose, fed_on, found_by_close}
 use Rattle.rtk_convert.specs.Report.{lines}
-use Rattle.rtk_convert.specs.Setup.{SetupView}
+use Rattle.rtk_setup.specs.Setup.{SetupView}
 use Rattle.rtk_convert.specs.Writing.{Written, WritesRest}
 use Rattle.rtk_convert.specs.Steps.WritingInPart.{WritesPartOfRest}
 use Rattle.rtk_convert.specs.Conversion.{ConversionView}
-use Rattle.rtk_convert.specs.declared.counts.Counts.{Counts}
+use Rattle.rtk_setup.specs.declared.counts.Counts.{Counts}
 use Rattle.rtk_convert.specs.declared.fault.ConvertFault.{ConvertFault}
 use Rattle.rtk_convert.proofs.GatheringLemmas.{writes-nothing, goes-on, writes-into}
 use Rattle.rtk_convert.proofs.ConverterLemmas.{are-many, accepted-open, open-accepted}

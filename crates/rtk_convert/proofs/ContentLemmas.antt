@@ -4,7 +4,7 @@ use Rattle.std.specs.Prelude.{slice_index_or}
 use Rattle.std.proofs.lemmas.List.Elements.{All-cons, All-nil, All-head, All-tail, All-weaker}
 use Rattle.std.proofs.lemmas.List.Kept.{AllPairs-cons}
 use Rattle.rtk_obs.specs.declared.signal_cells.SignalEntry.{SignalEntry}
-use Rattle.rtk_convert.specs.Setup.{cells_by}
+use Rattle.rtk_setup.specs.Setup.{cells_by}
 use Rattle.rtk_collect.specs.Signals.{signals}
 use Rattle.rtk_collect.specs.Arrival.{Arrival, At}
 use Rattle.rtk_collect.specs.Accepted.{IsTaken, AmongCells, IsConsistent}
@@ -13,7 +13,7 @@ use Rattle.rtk_collect.specs.Key.{key, Above, KeysRise}
 use Rattle.rtk_collect.specs.Late.{late}
 use Rattle.rtk_collect.specs.Laws.{HasEpoch, IsKept, CellsRise}
 use Rattle.rtk_convert.specs.Headline.{CameInTime, EqualKeysCarryEqualBodies}
-use Rattle.rtk_convert.specs.Setup.{SetupView}
+use Rattle.rtk_setup.specs.Setup.{SetupView}
 
 -- ---- an element of a list
 

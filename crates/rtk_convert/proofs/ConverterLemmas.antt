@@ -10,7 +10,7 @@ use Rattle.rtk_convert.specs.Converter.{ConverterView, RepresentsLink, Represent
 use Rattle.rtk_convert.specs.FrameClass.{Found}
 use Rattle.rtk_convert.specs.Steps.LinkFrames.{AddsFrames, AddsFramesInPart}
 use Rattle.rtk_convert.specs.History.{LinkPast, History, Finds, IsOpen, fed_on, with_piece, with_closed, found_by_piece, found_by_close, newest_on}
-use Rattle.rtk_convert.specs.Setup.{SetupView}
+use Rattle.rtk_setup.specs.Setup.{SetupView}
 use Rattle.rtk_convert.specs.Conversion.{ConversionView, found_on}
 use Rattle.rtk_convert.specs.declared.frame_class.FrameClass.{FrameClass}
 use Rattle.rtk_convert.specs.declared.fault.ConvertFault.{ConvertFault}

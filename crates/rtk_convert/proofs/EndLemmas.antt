@@ -10,7 +10,7 @@ use Rattle.rtk_collect.specs.Arrival.{Arrival}
 use Rattle.rtk_collect.specs.Collector.{CollectorView}
 use Rattle.rtk_collect.specs.Signals.{signals}
 use Rattle.rtk_frame.specs.Stream.{with_more, TakesPart}
-use Rattle.rtk_convert.specs.declared.counts.Counts.{Counts}
+use Rattle.rtk_setup.specs.declared.counts.Counts.{Counts}
 use Rattle.rtk_convert.specs.declared.systems.Systems.{Systems}
 use Rattle.rtk_convert.specs.ClosedEpochs.{ClosedEpochsView}
 use Rattle.rtk_convert.specs.File.{record_count}
@@ -18,8 +18,9 @@ use Rattle.rtk_convert.specs.FileOfArrivals.{kept_file, file_so_far}
 use Rattle.rtk_convert.specs.Finish.{all_counts, missing_letter, missing_lines, report_of}
 use Rattle.rtk_convert.specs.FrameClass.{Found, arrivals}
 use Rattle.rtk_convert.specs.Report.{lines, frame_counts, has_taken}
-use Rattle.rtk_convert.specs.ReportText.{missing_line, count_lines}
-use Rattle.rtk_convert.specs.Setup.{SetupView, is_of_gps, lists_system, cells_by}
+use Rattle.rtk_convert.specs.ReportText.{missing_line}
+use Rattle.rtk_setup.specs.Counts.{count_lines}
+use Rattle.rtk_setup.specs.Setup.{SetupView, is_of_gps, lists_system, cells_by}
 use Rattle.rtk_convert.specs.Systems.{has_system}
 use Rattle.rtk_convert.specs.Writing.{Written, written, WritesRest}
 use Rattle.rtk_convert.specs.Steps.AddedMessage.{RepresentsEpochs}

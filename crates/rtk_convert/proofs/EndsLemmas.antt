@@ -7,7 +7,7 @@ use Rattle.rtk_convert.specs.History.{History, LinkPast, new_history, IsOpen, wi
 use Rattle.rtk_convert.specs.ReadSteps.{HasRead, HasCalled}
 use Rattle.rtk_convert.specs.Steps.ReadLink.{ReadsLink, HasReadAll}
 use Rattle.rtk_convert.specs.ReadHistory.{Read, AllClosed, AreAtEnd, IsAfterPiece}
-use Rattle.rtk_convert.specs.Setup.{SetupView}
+use Rattle.rtk_setup.specs.Setup.{SetupView}
 use Rattle.rtk_convert.specs.Writing.{Written}
 
 abbrev OpenAt : List LinkPast → ℕ → Type 0

@@ -24,7 +24,7 @@ use Rattle.rtk_convert.specs.ClosedEpochs.{ClosedEpochsView, HasClosed}
 use Rattle.rtk_convert.specs.Conversion.{HoldsArrivals, HoldsKept, IsAhead}
 use Rattle.rtk_convert.specs.Epochs.{EpochsView, window_of}
 use Rattle.rtk_convert.specs.Failure.{IsFrameFault}
-use Rattle.rtk_convert.specs.Setup.{SetupView, cells_by}
+use Rattle.rtk_setup.specs.Setup.{SetupView, cells_by}
 use Rattle.rtk_convert.specs.Writing.{Written}
 use Rattle.rtk_convert.specs.Steps.AddedMessage.{AddsArrival, AddsArrivalAs, IsTakenBy, closed_by}
 use Rattle.rtk_convert.specs.Steps.ClosedText.{closing, header_before}

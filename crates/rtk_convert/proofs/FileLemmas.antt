@@ -7,7 +7,7 @@ use Rattle.rtk_obs.specs.declared.signal_cells.SignalEntry.{SignalEntry}
 use Rattle.rtk_collect.specs.EpochSet.{EpochSetView}
 use Rattle.rtk_rinex.specs.Header.{PositionView}
 use Rattle.rtk_rinex.specs.MixedHeader.{mixed_header_text}
-use Rattle.rtk_convert.specs.Setup.{SetupView}
+use Rattle.rtk_setup.specs.Setup.{SetupView}
 use Rattle.rtk_convert.specs.File.{record_of, records, first_or, first_time, header_of, file_of}
 use Rattle.rtk_convert.specs.FilePrefix.{unless_empty, so_far}
 use Rattle.rtk_convert.specs.Steps.ClosedText.{with_header, closed_text, header_before, closing_text, closing}

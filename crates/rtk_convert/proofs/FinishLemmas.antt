@@ -4,7 +4,7 @@ use Rattle.std.proofs.Math.Seq.{get_or-append_seam}
 use Rattle.std.specs.Prelude.{is_some}
 use Rattle.std.proofs.lemmas.List.{append-nil, take-append-drop}
 use Rattle.rtk_collect.specs.Signals.{signals}
-use Rattle.rtk_convert.specs.Setup.{cells_by}
+use Rattle.rtk_setup.specs.Setup.{cells_by}
 use Rattle.rtk_obs.specs.declared.signal_cells.SignalEntry.{SignalEntry}
 use Rattle.rtk_collect.specs.EpochSet.{EpochSetView}
 use Rattle.rtk_collect.specs.Arrival.{Arrival}
@@ -19,7 +19,7 @@ use Rattle.rtk_convert.specs.FileOfArrivals.{kept_file, file_so_far}
 use Rattle.rtk_convert.specs.Steps.Closing.{AllAbove, ClosesEpochs, ClosesEpochsInPart}
 use Rattle.rtk_convert.specs.Steps.ShownCells.{AllBelow}
 use Rattle.rtk_convert.specs.ClosedEpochs.{ClosedEpochsView, HasClosed}
-use Rattle.rtk_convert.specs.Setup.{SetupView}
+use Rattle.rtk_setup.specs.Setup.{SetupView}
 use Rattle.rtk_convert.specs.Writing.{WritesRest}
 use Rattle.rtk_convert.specs.Steps.WritingInPart.{WritesPartOfRest}
 use Rattle.rtk_convert.proofs.FileLemmas.{closed-more, closed-grows, file-closed}

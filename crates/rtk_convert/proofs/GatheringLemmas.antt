@@ -24,7 +24,7 @@ use Rattle.rtk_convert.specs.Steps.LinkFrames.{AddsFrames, AddsFramesInPart}
 use Rattle.rtk_convert.specs.History.{Finds, epoch_found, later_of, newest_on}
 use Rattle.rtk_convert.specs.Steps.AcceptedFrame.{IsEpochIn, AcceptsFrame, BreaksOffAtFrame}
 use Rattle.rtk_convert.specs.Report.{lines}
-use Rattle.rtk_convert.specs.Setup.{SetupView, taken_by, takes}
+use Rattle.rtk_setup.specs.Setup.{SetupView, taken_by, takes}
 use Rattle.rtk_convert.specs.Conversion.{ConversionView, found_on}
 use Rattle.rtk_convert.specs.Writing.{Written, WritesRest}
 use Rattle.rtk_convert.specs.Steps.WritingInPart.{WritesPartOfRest}

@@ -20,7 +20,7 @@ use Rattle.rtk_obs.specs.declared.any_code.AnyCode.{AnyCode}
 use Rattle.rtk_collect.specs.Signals.{IsGpsMessage}
 use Rattle.rtk_rinex.specs.MixedHead.{letter}
 use Rattle.rtk_convert.specs.FrameClass.{IsClassOfReading, IsEpochOf, IsMomentOf, system_of}
-use Rattle.rtk_convert.specs.Setup.{SetupView, IsSetupView, channels_of, is_of_gps, taken_by}
+use Rattle.rtk_setup.specs.Setup.{SetupView, IsSetupView, channels_of, is_of_gps, taken_by}
 use Rattle.rtk_convert.specs.SetupLaws.{DefaultTakesFour, GpsMessagesStay, IsGpsEpoch}
 use Rattle.rtk_convert.proofs.GpsOfferLemmas.{entries-same, gps-message, taken-of-gps}
 

@@ -49,7 +49,7 @@ use Rattle.rtk_rinex.specs.MixedHead.{letter}
 use Rattle.rtk_convert.specs.Conversion.{AllTaken}
 use Rattle.rtk_convert.specs.Epochs.{set_of, window_of, outcome_of}
 use Rattle.rtk_convert.proofs.EntriesLemmas.{filter-map}
-use Rattle.rtk_convert.specs.Setup.{SetupView, is_of_gps, kinds_taken, taken_by, takes, channels_of}
+use Rattle.rtk_setup.specs.Setup.{SetupView, is_of_gps, kinds_taken, taken_by, takes, channels_of}
 use Rattle.rtk_convert.specs.Steps.AddedMessage.{IsTakenBy}
 use Rattle.rtk_convert.specs.Steps.OfferedMessage.{AnswersMessage, name_of_gps}
 use Rattle.rtk_convert.proofs.EntriesLemmas.{filter-map}

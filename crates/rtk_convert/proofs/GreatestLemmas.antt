@@ -34,7 +34,7 @@ use Rattle.rtk_collect.specs.EpochSet.{EpochSetView}
 use Rattle.rtk_collect.specs.Signals.{signals, AreUpTo}
 use Rattle.rtk_collect.proofs.PublicLaws.{epochs-are-of-satellites}
 use Rattle.rtk_convert.specs.Conversion.{AllTaken, HoldsArrivals}
-use Rattle.rtk_convert.specs.Setup.{SetupView, taken_by, kind_of, lists_system, last_or, greatest_satellite, cells_by, channels_of}
+use Rattle.rtk_setup.specs.Setup.{SetupView, taken_by, kind_of, lists_system, last_or, greatest_satellite, cells_by, channels_of}
 use Rattle.rtk_convert.specs.Steps.AddedMessage.{IsTakenBy}
 use Rattle.rtk_convert.proofs.GpsOfferLemmas.{accepts-taken}
 

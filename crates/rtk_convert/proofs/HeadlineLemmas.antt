@@ -2,7 +2,7 @@
 use Rattle.std.proofs.Common.{◌≡◌, ◌↔◌, ℕ, List, [], ◌∷◌, length, Option, None, Some, refl, sym, ap, subst, ◌∙◌}
 use Rattle.rtk_frame.specs.Stream.{with_more}
 use Rattle.rtk_message.specs.declared.any_message.AnyMessage.{AnyMessage as Message}
-use Rattle.rtk_convert.specs.Setup.{cells_by}
+use Rattle.rtk_setup.specs.Setup.{cells_by}
 use Rattle.rtk_collect.specs.Signals.{signals}
 use Rattle.rtk_obs.specs.declared.signal_cells.SignalEntry.{SignalEntry}
 use Rattle.rtk_collect.specs.Arrival.{Arrival, At}
@@ -16,8 +16,8 @@ use Rattle.rtk_convert.specs.FrameClass.{Found, arrivals}
 use Rattle.rtk_convert.specs.Finish.{all_counts, report_of}
 use Rattle.rtk_convert.specs.Headline.{messages_of, CameInTime, EqualKeysCarryEqualBodies, IsWritten, Content, IsStationOf, IsContentOf, EachOnce, IsFileOf, LateChangeNothing, Headline, RunHeadline, SetHasOneFile}
 use Rattle.rtk_convert.specs.Kept.{came_of, WritesKept, RunKeeps}
-use Rattle.rtk_convert.specs.declared.counts.Counts.{Counts}
-use Rattle.rtk_convert.specs.Setup.{SetupView}
+use Rattle.rtk_setup.specs.declared.counts.Counts.{Counts}
+use Rattle.rtk_setup.specs.Setup.{SetupView}
 use Rattle.rtk_convert.specs.Writing.{Written}
 use Rattle.rtk_convert.proofs.ArrivalLawsLemmas.{late-leave}
 use Rattle.rtk_convert.proofs.CameLemmas.{messages-came, come-by, all-ended}

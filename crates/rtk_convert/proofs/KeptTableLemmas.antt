@@ -33,7 +33,7 @@ use Rattle.rtk_convert.specs.File.{record_count}
 use Rattle.rtk_convert.specs.FileLaws.{HasPhaseBy, IsGoodEpoch}
 use Rattle.rtk_convert.specs.FileOfArrivals.{no_site, site_of_1005, site_of_stations, site_of_kept, kept_file}
 use Rattle.rtk_convert.specs.FrameClass.{IsDatedMessage, IsMomentOf, system_of, IsClassOfReading, IsClassOfPayload, Found, and_arrived, arrivals}
-use Rattle.rtk_convert.specs.Setup.{SetupView, IsSetupView, cells_by, channels_of, taken_by}
+use Rattle.rtk_setup.specs.Setup.{SetupView, IsSetupView, cells_by, channels_of, taken_by}
 use Rattle.rtk_convert.proofs.ClassLemmas.{dated-reading}
 use Rattle.rtk_convert.proofs.MomentLemmas.{clock-moment}
 use Rattle.rtk_convert.proofs.PhasesLemmas.{entries-phases}

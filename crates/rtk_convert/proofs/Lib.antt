@@ -56,5 +56,4 @@ mod ReportLemmas
 mod SameWindowLemmas
 mod SameFoundLemmas
 mod SameHistoryLemmas
-mod SetupLemmas
 mod RowLinesLemmas

@@ -10,12 +10,12 @@ use Rattle.rtk_message.specs.AnyDecoded.{number_of}
 use Rattle.rtk_message.specs.AnyFaultCode.{any_fault_text}
 use Rattle.rtk_obs.specs.declared.any_code.AnyCode.{AnyCode}
 use Rattle.rtk_collect.specs.Signals.{signals}
-use Rattle.rtk_convert.specs.Setup.{cells_by}
+use Rattle.rtk_setup.specs.Setup.{cells_by}
 use Rattle.rtk_collect.specs.Arrival.{Arrival, epoch_of, message_of}
 use Rattle.rtk_collect.specs.Answer.{Class, LateClass, TakenClass, RepeatClass, ConflictClass, class_of, conflicts_of}
 use Rattle.rtk_collect.specs.declared.conflicts.AnySatelliteCode.{AnySatelliteCode}
 use Rattle.rtk_collect.specs.Late.{late}
-use Rattle.rtk_convert.specs.declared.counts.Counts.{Counts}
+use Rattle.rtk_setup.specs.declared.counts.Counts.{Counts}
 use Rattle.rtk_convert.specs.declared.frame_class.FrameClass.{FrameClass}
 use Rattle.rtk_convert.specs.declared.frame_class.FrameClass.TheVariants.{OtherMessage, Refused, Foreign, Dated}
 use Rattle.rtk_convert.specs.FrameClass.{Found, arrivals}
@@ -23,8 +23,9 @@ use Rattle.rtk_convert.specs.Finish.{all_counts, missing_letters, missing_lines,
 use Rattle.rtk_convert.specs.Headline.{messages_of, late_lines, LateAreListed}
 use Rattle.rtk_convert.specs.Kept.{came_of}
 use Rattle.rtk_convert.specs.Report.{arrival_class, refused_line, cell_lines, class_lines, frame_lines, lines}
-use Rattle.rtk_convert.specs.ReportText.{link_text, arrival_text, late_line, cell_conflict_line, signal_text, missing_line, count_line, count_lines}
-use Rattle.rtk_convert.specs.Setup.{SetupView, is_of_gps}
+use Rattle.rtk_convert.specs.ReportText.{link_text, arrival_text, late_line, cell_conflict_line, signal_text, missing_line}
+use Rattle.rtk_setup.specs.Counts.{count_line, count_lines}
+use Rattle.rtk_setup.specs.Setup.{SetupView, is_of_gps}
 use Rattle.rtk_convert.proofs.CameLemmas.{messages-came}
 
 -- ---- texts that are empty or end in LF

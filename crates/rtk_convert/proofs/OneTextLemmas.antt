@@ -20,7 +20,7 @@ use Rattle.rtk_convert.specs.declared.frame_class.FrameClass.TheVariants.{OtherM
 use Rattle.rtk_convert.specs.FileOfArrivals.{file_so_far}
 use Rattle.rtk_convert.specs.FrameClass.{IsClassOfReading, IsClassOfPayload, Found, arrivals}
 use Rattle.rtk_convert.specs.Report.{class_lines, cell_lines, frame_lines, lines}
-use Rattle.rtk_convert.specs.Setup.{SetupView, cells_by, channels_of, taken_by}
+use Rattle.rtk_setup.specs.Setup.{SetupView, cells_by, channels_of, taken_by}
 use Rattle.rtk_convert.specs.Conversion.{found_on, AddsToOne}
 use Rattle.rtk_convert.proofs.ClassLemmas.{dated-reading}
 use Rattle.rtk_convert.proofs.SoFarLemmas.{so_far-stays}

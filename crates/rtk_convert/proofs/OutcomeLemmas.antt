@@ -5,7 +5,7 @@ use Rattle.rtk_obs.specs.declared.signal_cells.SignalEntry.{SignalEntry}
 use Rattle.rtk_collect.specs.Arrival.{Arrival}
 use Rattle.rtk_collect.specs.Collector.{CollectorView}
 use Rattle.rtk_convert.specs.ClosedEpochs.{ClosedEpochsView}
-use Rattle.rtk_convert.specs.declared.counts.Counts.{Counts}
+use Rattle.rtk_setup.specs.declared.counts.Counts.{Counts}
 use Rattle.rtk_convert.specs.declared.systems.Systems.{Systems}
 use Rattle.rtk_convert.specs.declared.fault.ConvertFault.{ConvertFault}
 use Rattle.rtk_convert.specs.declared.frame_class.FrameClass.{FrameClass}
@@ -17,7 +17,7 @@ use Rattle.rtk_convert.specs.Outcome.{KeepsWindow, NamesFailedStreams}
 use Rattle.rtk_convert.specs.Steps.AcceptedFrame.{AcceptsFrame, BreaksOffAtFrame, HandlesPayload, IsUnderWay, MayBreakOff, StaysUnderWay}
 use Rattle.rtk_convert.specs.Steps.AddedMessage.{AddsMessage, AddsMessageInPart, HandlesMessage}
 use Rattle.rtk_convert.specs.Steps.Closing.{FinishesConversion, FinishesConversionInPart, EndsConversion}
-use Rattle.rtk_convert.specs.Setup.{SetupView}
+use Rattle.rtk_setup.specs.Setup.{SetupView}
 use Rattle.rtk_convert.specs.Writing.{Written}
 use Rattle.rtk_convert.proofs.ArriveLemmas.{state, arrives-still, breaks-still}
 

@@ -11,7 +11,7 @@ use Rattle.rtk_convert.specs.FileLaws.{IsTextOfTable}
 use Rattle.rtk_convert.specs.FileOfArrivals.{kept_file}
 use Rattle.rtk_convert.specs.History.{History, Finds, found_by_piece, found_by_close, fed_on}
 use Rattle.rtk_convert.specs.ReadHistory.{Read, IsAfterPiece, IsHistoryOf}
-use Rattle.rtk_convert.specs.Setup.{SetupView, IsSetupView}
+use Rattle.rtk_setup.specs.Setup.{SetupView, IsSetupView}
 use Rattle.rtk_convert.specs.Conversion.{found_on}
 use Rattle.rtk_convert.proofs.KeptTableLemmas.{kept-file-is_table}
 

@@ -25,7 +25,7 @@ use Rattle.rtk_obs.specs.SignalCells.{bit_of_row, channel_in, entries_of, entry_
 use Rattle.rtk_obs.proofs.PublicLaws.{cells_of-satellites}
 use Rattle.rtk_rinex.specs.MixedForm.{form_of_head, has_channel, has_phases, phases_in}
 use Rattle.rtk_rinex.specs.MixedHead.{GlonassView, MixedHeadView}
-use Rattle.rtk_convert.specs.Setup.{channels_of}
+use Rattle.rtk_setup.specs.Setup.{channels_of}
 use Rattle.rtk_convert.proofs.SystemLemmas.{at-gps, in-system}
 
 le-of : (a b : ℕ) → nat_le a b ≡ true → a ≤ b

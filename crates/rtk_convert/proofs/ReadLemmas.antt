@@ -16,7 +16,7 @@ use Rattle.rtk_convert.specs.History.{History, LinkPast, IsOpen, IsNextLink, IsA
 use Rattle.rtk_convert.specs.ReadSteps.{read_of, found_by_read, AnyAtGreatest, HasCalled, SameFailures}
 use Rattle.rtk_convert.specs.Steps.ReadLink.{CallsOne, ReadsLink, BreaksOffAfterRead}
 use Rattle.rtk_convert.specs.ReadHistory.{Read, piece_on, bytes_of, IsAfterPiece, Gave}
-use Rattle.rtk_convert.specs.Setup.{SetupView}
+use Rattle.rtk_setup.specs.Setup.{SetupView}
 use Rattle.rtk_convert.specs.Writing.{Written}
 
 -- ---- the counts of calls

@@ -6,7 +6,7 @@ use Rattle.rtk_obs.specs.declared.signal_cells.SignalEntry.{SignalEntry}
 use Rattle.rtk_collect.specs.EpochSet.{EpochSetView}
 use Rattle.rtk_frame.specs.Stream.{count_after}
 use Rattle.rtk_rinex.specs.Header.{PositionView}
-use Rattle.rtk_convert.specs.Setup.{SetupView}
+use Rattle.rtk_setup.specs.Setup.{SetupView}
 use Rattle.rtk_convert.specs.File.{record_of, first_or, first_time, one_more_if_any, record_count}
 use Rattle.rtk_convert.specs.Steps.ClosedText.{closing, closing_text, is_any}
 use Rattle.rtk_convert.specs.LastPhases.{HasLastPhases}

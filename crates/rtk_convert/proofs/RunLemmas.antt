@@ -6,7 +6,7 @@ use Rattle.std.proofs.lemmas.List.{append_assoc, length-replicate}
 use Rattle.rtk_frame.specs.Stream.{with_more, CountRises}
 use Rattle.rtk_frame.proofs.PublicLaws.{with_more-nil, with_more-with_more}
 use Rattle.rtk_convert.specs.Converter.{IsLinkCount, ConverterView, WritesInto, IsAfterClosingAll, FinishesConverterAs, BreaksOffClosing, BreaksOffFinishing}
-use Rattle.rtk_convert.specs.declared.counts.Counts.{Counts}
+use Rattle.rtk_setup.specs.declared.counts.Counts.{Counts}
 use Rattle.rtk_convert.specs.declared.fault.ConvertFault.{ConvertFault}
 use Rattle.rtk_convert.specs.declared.fault.ConvertFault.TheVariants.{Setup, NoLink, LinkClosed, OutOfMemory, Write, Read as ReadFault, Endless, Stopped}
 use Rattle.rtk_convert.specs.Failure.{IsFrameFault, IsReadingFault, IsRunFault}
@@ -22,7 +22,7 @@ use Rattle.rtk_convert.specs.Steps.ReadLink.{ReadsLink, BreaksOffAfterRead, Fail
 use Rattle.rtk_convert.specs.ReadHistory.{Read, AllClosed, AllAtEnd, IsHistoryOf, IsAfterPiece, Gave}
 use Rattle.rtk_convert.specs.Report.{lines}
 use Rattle.rtk_convert.specs.Run.{BreaksOffReading, BreaksOffAtEnd, FailsReading}
-use Rattle.rtk_convert.specs.Setup.{SetupView}
+use Rattle.rtk_setup.specs.Setup.{SetupView}
 use Rattle.rtk_convert.specs.Writing.{Written, WritesRest}
 use Rattle.rtk_convert.proofs.ReadLemmas.{gave-none, gave-more}
 

@@ -34,7 +34,7 @@ use Rattle.rtk_collect.proofs.PublicLaws.{closed-drop}
 use Rattle.rtk_rinex.specs.Header.{PositionView}
 use Rattle.rtk_rinex.specs.MixedRecord.{mixed_record_text}
 use Rattle.rtk_rinex.specs.declared.epoch_table.SatelliteRow.{SatelliteRow}
-use Rattle.rtk_convert.specs.declared.counts.Counts.{Counts}
+use Rattle.rtk_setup.specs.declared.counts.Counts.{Counts}
 use Rattle.rtk_convert.specs.declared.frame_class.FrameClass.{FrameClass}
 use Rattle.rtk_convert.specs.declared.frame_class.FrameClass.TheVariants.{OtherMessage, Refused, Foreign, Dated}
 use Rattle.rtk_convert.specs.Conversion.{AllTaken, found_on}
@@ -44,9 +44,10 @@ use Rattle.rtk_convert.specs.Finish.{all_counts, missing_letter, missing_letters
 use Rattle.rtk_convert.specs.FrameClass.{IsDatedMessage, IsEpochOf, IsClassOfReading, IsClassOfPayload, Found, arrivals}
 use Rattle.rtk_convert.specs.History.{Finds, newest_on}
 use Rattle.rtk_convert.specs.Report.{brings, class_lines, frame_lines, has_taken, is_of, is_taken, lines, counted_as, one_frame_more, frame_counts}
-use Rattle.rtk_convert.specs.ReportText.{count_lines, missing_line}
+use Rattle.rtk_convert.specs.ReportText.{missing_line}
+use Rattle.rtk_setup.specs.Counts.{count_lines}
 use Rattle.rtk_convert.specs.Rows.{band_of, cell_at, and_below, last_phase_of, observed_after, observed_at}
-use Rattle.rtk_convert.specs.Setup.{SetupView, cells_by, is_of_gps, lists_system, takes}
+use Rattle.rtk_setup.specs.Setup.{SetupView, cells_by, is_of_gps, lists_system, takes}
 use Rattle.rtk_convert.specs.Steps.ClosedText.{header_before, closed_text, closing_text, closing}
 use Rattle.rtk_convert.specs.Writing.{WritesRest}
 use Rattle.rtk_convert.proofs.ClassLemmas.{dated-reading, dated-taken}

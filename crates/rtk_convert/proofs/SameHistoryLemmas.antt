@@ -25,7 +25,7 @@ use Rattle.rtk_convert.specs.Finish.{report_of}
 use Rattle.rtk_convert.specs.FrameClass.{Found, arrivals}
 use Rattle.rtk_convert.specs.History.{LinkPast, History, Finds, fed_on, with_piece, with_closed, IsOpen, IsAfterFeed, IsAfterClose, found_by_piece, found_by_close, newest_on}
 use Rattle.rtk_convert.specs.Report.{lines, frame_counts, has_taken}
-use Rattle.rtk_convert.specs.Setup.{SetupView, cells_by}
+use Rattle.rtk_setup.specs.Setup.{SetupView, cells_by}
 use Rattle.rtk_convert.specs.Systems.{has_system}
 use Rattle.rtk_convert.proofs.ConverterLemmas.{link-at, found-pending, found-left}
 use Rattle.rtk_convert.proofs.RunLemmas.{length-with_piece, length-with_closed}

@@ -2,7 +2,7 @@
 use Rattle.std.proofs.Common.{◌≡◌, ℕ, ◌≤◌, List, [], ◌∷◌, ◌++◌, drop, length, Option, ap, sym, ◌∙◌, inl, inr}
 use Rattle.rtk_message.specs.declared.any_message.AnyMessage.{AnyMessage as Message}
 use Rattle.rtk_collect.specs.Signals.{signals}
-use Rattle.rtk_convert.specs.Setup.{cells_by}
+use Rattle.rtk_setup.specs.Setup.{cells_by}
 use Rattle.rtk_obs.specs.declared.signal_cells.SignalEntry.{SignalEntry}
 use Rattle.rtk_collect.specs.EpochSet.{EpochSetView}
 use Rattle.rtk_collect.specs.Arrival.{Arrival}
@@ -10,7 +10,7 @@ use Rattle.rtk_collect.specs.Late.{epochs}
 use Rattle.rtk_collect.specs.Accepted.{station, kept, closed}
 use Rattle.rtk_collect.proofs.PublicLaws.{closed-drop, closed-only-grow, closed-after, stations-are-final}
 use Rattle.rtk_rinex.specs.Header.{PositionView}
-use Rattle.rtk_convert.specs.Setup.{SetupView}
+use Rattle.rtk_setup.specs.Setup.{SetupView}
 use Rattle.rtk_convert.specs.FilePrefix.{so_far}
 use Rattle.rtk_convert.specs.Steps.ClosedText.{closed_text, closing}
 use Rattle.rtk_convert.specs.FileOfArrivals.{site_of_stations, site_of_kept, file_so_far}

@@ -34,7 +34,7 @@ use Rattle.rtk_rinex.specs.Table.{StartsAt, shown_epoch}
 use Rattle.rtk_rinex.proofs.PublicLaws.{mixed_file-is_shown}
 use Rattle.rtk_convert.specs.Rows.{band_of, codes_for, first_cell, is_signal, last_phase_of, cell_at, in_turn, observed_after, observed_at, or_nothing, rolled_or_none, table_of}
 use Rattle.rtk_convert.specs.File.{record_of, records, first_or, first_time, file_of, one_more_if_any, record_count}
-use Rattle.rtk_convert.specs.Setup.{SetupView, IsSetupView}
+use Rattle.rtk_setup.specs.Setup.{SetupView, IsSetupView}
 use Rattle.rtk_convert.specs.FileLaws.{HasPhaseBy, IsGoodEpoch, FileIsTable}
 use Rattle.rtk_convert.proofs.RowsLemmas.{all-rows, rows_to-rise, HasStrength, first-strength, observed-strength}
 

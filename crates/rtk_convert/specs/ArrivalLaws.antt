@@ -10,7 +10,7 @@ use Rattle.rtk_convert.specs.File.{first_time, header_of}
 use Rattle.rtk_convert.specs.FileLaws.{IsTextOfTable}
 use Rattle.rtk_convert.specs.FileOfArrivals.{site_of_kept, kept_file, file_so_far}
 use Rattle.rtk_convert.specs.FrameClass.{IsClassOfPayload, Found, arrivals}
-use Rattle.rtk_convert.specs.Setup.{SetupView, IsSetupView, cells_by}
+use Rattle.rtk_setup.specs.Setup.{SetupView, IsSetupView, cells_by}
 use Rattle.rtk_convert.specs.Conversion.{found_on, AddsToOne}
 
 -- two lists of consistent arrivals with the same arrivals in time have the same file

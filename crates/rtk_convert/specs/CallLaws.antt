@@ -1,7 +1,7 @@
 -- The promise for any list of calls, and what they write, by the contracts of `feed`, `close` and
 -- `finish`. Lists of calls are newest first.
 use Rattle.std.specs.Prelude.{◌≡◌, ◌⊎◌, ℕ, List, [], ◌∷◌, None, Some}
-use Rattle.rtk_convert.specs.declared.counts.Counts.{Counts}
+use Rattle.rtk_setup.specs.declared.counts.Counts.{Counts}
 use Rattle.rtk_convert.specs.declared.fault.ConvertFault.TheVariants.{NoLink, LinkClosed}
 use Rattle.rtk_convert.specs.Converter.{ConverterView, RepresentsHistory, refusal, FeedsPiece, ClosesLink, FinishesConverter, IsAfterClosing, IsAfterClosingAll}
 use Rattle.rtk_convert.specs.FileLaws.{IsTextOfTable}
@@ -10,7 +10,7 @@ use Rattle.rtk_convert.specs.FrameClass.{Found, arrivals}
 use Rattle.rtk_convert.specs.Headline.{Headline}
 use Rattle.rtk_convert.specs.History.{History, new_history, IsOpen, IsAfterFeed}
 use Rattle.rtk_convert.specs.Kept.{came_of, WritesKept}
-use Rattle.rtk_convert.specs.Setup.{SetupView, IsSetupView}
+use Rattle.rtk_setup.specs.Setup.{SetupView, IsSetupView}
 use Rattle.rtk_convert.specs.Writing.{Written}
 
 -- ---- what calls find

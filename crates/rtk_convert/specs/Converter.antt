@@ -3,7 +3,7 @@ use Rattle.std.specs.Prelude.{◌≡◌, ◌⊎◌, ◌≤◌, ◌*◌, ℕ, zer
 use Rattle.std.specs.Int.{IsInRange}
 use Rattle.rtk_frame.specs.Frames.{pending}
 use Rattle.rtk_frame.specs.Stream.{with_more}
-use Rattle.rtk_convert.specs.declared.counts.Counts.{Counts}
+use Rattle.rtk_setup.specs.declared.counts.Counts.{Counts}
 use Rattle.rtk_convert.specs.declared.fault.ConvertFault.{ConvertFault}
 use Rattle.rtk_convert.specs.declared.fault.ConvertFault.TheVariants.{NoLink, LinkClosed, Stopped}
 use Rattle.rtk_convert.specs.declared.link_state.LinkState.{LinkState}
@@ -14,7 +14,7 @@ use Rattle.rtk_convert.specs.declared.frame_class.FrameClass.{FrameClass}
 use Rattle.rtk_convert.specs.Finish.{all_counts, report_of}
 use Rattle.rtk_convert.specs.History.{LinkPast, History, new_history, Finds, IsOpen, IsAfterFeed, IsAfterClose, fed_on, found_by_piece, found_by_close, newest_on}
 use Rattle.rtk_convert.specs.Report.{lines}
-use Rattle.rtk_convert.specs.Setup.{SetupView, greatest_satellite}
+use Rattle.rtk_setup.specs.Setup.{SetupView, greatest_satellite}
 use Rattle.rtk_convert.specs.Conversion.{ConversionView, HoldsArrivals, found_on, RepresentsFound}
 use Rattle.rtk_convert.specs.Writing.{Written, WritesRest}
 

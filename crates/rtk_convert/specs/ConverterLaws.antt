@@ -2,14 +2,14 @@
 -- call, what the call answers and what it writes (this project's rules).
 use Rattle.std.specs.Prelude.{◌≡◌, ℕ, false, if◌then◌else◌, List, ◌++◌, Option, None, Some, slice_get}
 use Rattle.rtk_frame.specs.Frames.{frames, final_frames, payloads}
-use Rattle.rtk_convert.specs.declared.counts.Counts.{Counts}
+use Rattle.rtk_setup.specs.declared.counts.Counts.{Counts}
 use Rattle.rtk_convert.specs.declared.fault.ConvertFault.{ConvertFault}
 use Rattle.rtk_convert.specs.declared.fault.ConvertFault.TheVariants.{NoLink, LinkClosed}
 use Rattle.rtk_convert.specs.declared.link_state.LinkState.{LinkState}
 use Rattle.rtk_convert.specs.CallLaws.{Call, IsAfterCall}
 use Rattle.rtk_convert.specs.Converter.{ConverterView, RepresentsHistory, refusal, WritesOn, FinishesConverterAs}
 use Rattle.rtk_convert.specs.History.{LinkPast, History, fed_on, found_by_piece, found_by_close, newest_on}
-use Rattle.rtk_convert.specs.Setup.{SetupView}
+use Rattle.rtk_setup.specs.Setup.{SetupView}
 use Rattle.rtk_convert.specs.Writing.{Written}
 
 -- ---- what a call answers

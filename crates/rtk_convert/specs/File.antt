@@ -9,7 +9,7 @@ use Rattle.rtk_rinex.specs.Header.{PositionView}
 use Rattle.rtk_rinex.specs.MixedHeader.{mixed_header_text}
 use Rattle.rtk_rinex.specs.MixedRecord.{mixed_record_text}
 use Rattle.rtk_convert.specs.Rows.{table_of}
-use Rattle.rtk_convert.specs.Setup.{SetupView}
+use Rattle.rtk_setup.specs.Setup.{SetupView}
 
 -- the record of an epoch, given the epochs below it; empty if no listed observation is written (a
 -- phase may be rolled to 0 or outside the limits, so this depends on the epochs below)

@@ -7,7 +7,7 @@ use Rattle.rtk_rinex.specs.Header.{PositionView, IsPositionView}
 use Rattle.rtk_rinex.specs.Reading.{IsMoment}
 use Rattle.rtk_rinex.specs.MixedForm.{form_of_head, has_phases}
 use Rattle.rtk_rinex.specs.MixedTable.{MixedTable, IsMixedTable, mixed_table_text}
-use Rattle.rtk_convert.specs.Setup.{SetupView, IsSetupView}
+use Rattle.rtk_setup.specs.Setup.{SetupView, IsSetupView}
 use Rattle.rtk_convert.specs.File.{file_of}
 
 -- a cell of a satellite of GLONASS has no phase unless the head tells the channel of its slot

@@ -9,7 +9,7 @@ use Rattle.rtk_collect.specs.Arrival.{Arrival}
 use Rattle.rtk_collect.specs.Accepted.{station, kept, closed}
 use Rattle.rtk_collect.specs.Signals.{signals}
 use Rattle.rtk_rinex.specs.Header.{PositionView}
-use Rattle.rtk_convert.specs.Setup.{SetupView, cells_by}
+use Rattle.rtk_setup.specs.Setup.{SetupView, cells_by}
 use Rattle.rtk_convert.specs.File.{file_of}
 use Rattle.rtk_convert.specs.FilePrefix.{so_far}
 

@@ -5,12 +5,13 @@ use Rattle.rtk_message.specs.declared.system.System.TheVariants.{Gps, Glonass, G
 use Rattle.rtk_obs.specs.SatelliteIndex.{letter_of}
 use Rattle.rtk_collect.specs.Accepted.{kept}
 use Rattle.rtk_collect.specs.Signals.{signals}
-use Rattle.rtk_convert.specs.declared.counts.Counts.{Counts}
+use Rattle.rtk_setup.specs.declared.counts.Counts.{Counts}
 use Rattle.rtk_convert.specs.File.{record_count}
 use Rattle.rtk_convert.specs.FrameClass.{Found, arrivals}
 use Rattle.rtk_convert.specs.Report.{lines, frame_counts, has_taken}
-use Rattle.rtk_convert.specs.ReportText.{missing_line, count_lines}
-use Rattle.rtk_convert.specs.Setup.{SetupView, is_of_gps, lists_system, cells_by}
+use Rattle.rtk_convert.specs.ReportText.{missing_line}
+use Rattle.rtk_setup.specs.Counts.{count_lines}
+use Rattle.rtk_setup.specs.Setup.{SetupView, is_of_gps, lists_system, cells_by}
 
 -- the counts of all found frames, and the count of the records of the file
 abbrev pub all_counts : SetupView → List Found → Counts

@@ -10,7 +10,7 @@ use Rattle.rtk_message.specs.declared.system.System.TheVariants.{Gps}
 use Rattle.rtk_message.specs.AnyDecoded.{DecodesBy, number_of, station_of, tow_of}
 use Rattle.rtk_obs.specs.Clocks.{IsClockMoment}
 use Rattle.rtk_collect.specs.Arrival.{Arrival, At}
-use Rattle.rtk_convert.specs.Setup.{SetupView, taken_by, takes}
+use Rattle.rtk_setup.specs.Setup.{SetupView, taken_by, takes}
 use Rattle.rtk_convert.specs.declared.frame_class.FrameClass.{FrameClass}
 use Rattle.rtk_convert.specs.declared.frame_class.FrameClass.TheVariants.{OtherMessage, Refused, Foreign, Dated}
 

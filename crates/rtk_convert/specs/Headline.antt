@@ -21,7 +21,7 @@ use Rattle.rtk_convert.specs.FileOfArrivals.{site_of_stations}
 use Rattle.rtk_convert.specs.FrameClass.{IsEpochOf}
 use Rattle.rtk_convert.specs.ReadHistory.{Read, bytes_of, Gave, AllAtEnd}
 use Rattle.rtk_convert.specs.ReportText.{arrival_text}
-use Rattle.rtk_convert.specs.Setup.{SetupView, takes, cells_by}
+use Rattle.rtk_setup.specs.Setup.{SetupView, takes, cells_by}
 use Rattle.rtk_convert.specs.Writing.{Written}
 
 -- ---- "for every list of pieces fed over any links"

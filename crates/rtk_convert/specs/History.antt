@@ -6,7 +6,7 @@ use Rattle.rtk_collect.specs.Arrival.{epoch_of}
 use Rattle.rtk_convert.specs.declared.frame_class.FrameClass.{FrameClass}
 use Rattle.rtk_convert.specs.declared.frame_class.FrameClass.TheVariants.{OtherMessage, Refused, Foreign, Dated}
 use Rattle.rtk_convert.specs.FrameClass.{Found, IsClassOfPayload}
-use Rattle.rtk_convert.specs.Setup.{SetupView}
+use Rattle.rtk_setup.specs.Setup.{SetupView}
 use Rattle.rtk_convert.specs.Conversion.{found_on}
 
 -- the bytes that were fed on a link, and whether it is closed

@@ -7,7 +7,7 @@ use Rattle.rtk_convert.specs.FrameClass.{IsClassOfPayload, Found}
 use Rattle.rtk_convert.specs.CallLaws.{Call, FindAll}
 use Rattle.rtk_convert.specs.History.{History, IsAfterFeed, IsAfterClose, IsNextLink}
 use Rattle.rtk_convert.specs.ReadHistory.{Read, IsHistoryOf}
-use Rattle.rtk_convert.specs.Setup.{SetupView}
+use Rattle.rtk_setup.specs.Setup.{SetupView}
 
 abbrev pub ComesToOne : Type 0
 ComesToOne = (s : SetupView) (payload : List ℕ) (f g : FrameClass) → IsClassOfPayload s payload f → IsClassOfPayload s payload g → f ≡ g

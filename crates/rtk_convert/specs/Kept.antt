@@ -3,7 +3,7 @@
 use Rattle.std.specs.Prelude.{◌≡◌, ℕ, List, [], ◌∷◌, length, Option}
 use Rattle.rtk_frame.specs.Stream.{with_more}
 use Rattle.rtk_collect.specs.Laws.{without_late}
-use Rattle.rtk_convert.specs.declared.counts.Counts.{Counts}
+use Rattle.rtk_setup.specs.declared.counts.Counts.{Counts}
 use Rattle.rtk_convert.specs.declared.frame_class.FrameClass.{FrameClass}
 use Rattle.rtk_convert.specs.declared.frame_class.FrameClass.TheVariants.{OtherMessage, Refused, Foreign, Dated}
 use Rattle.rtk_convert.specs.FileLaws.{IsTextOfTable}
@@ -14,7 +14,7 @@ use Rattle.rtk_convert.specs.Headline.{Came, RunHeadline}
 use Rattle.rtk_convert.specs.History.{History}
 use Rattle.rtk_convert.specs.ReadHistory.{Read, IsHistoryOf, AllClosed}
 use Rattle.rtk_convert.specs.ReadSteps.{HasCalled}
-use Rattle.rtk_convert.specs.Setup.{SetupView, IsSetupView}
+use Rattle.rtk_setup.specs.Setup.{SetupView, IsSetupView}
 use Rattle.rtk_convert.specs.Writing.{Written}
 
 -- ---- of found frames

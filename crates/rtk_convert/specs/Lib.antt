@@ -1,5 +1,3 @@
-pub mod Setup
-pub mod SetupFault
 pub mod Rows
 pub mod LastPhases
 pub mod File

@@ -8,14 +8,14 @@ use Rattle.rtk_collect.specs.Accepted.{kept}
 use Rattle.rtk_collect.specs.EpochSet.{EpochSetView}
 use Rattle.rtk_collect.specs.Signals.{signals}
 use Rattle.rtk_rinex.specs.MixedCheckTable.{HoldsMixedTable}
-use Rattle.rtk_convert.specs.declared.counts.Counts.{Counts}
+use Rattle.rtk_setup.specs.declared.counts.Counts.{Counts}
 use Rattle.rtk_convert.specs.File.{record_of, records}
 use Rattle.rtk_convert.specs.ArrivalLaws.{HasPayload}
 use Rattle.rtk_convert.specs.FileOfArrivals.{kept_file}
 use Rattle.rtk_convert.specs.Finish.{all_counts, lines_before_counts, report_of}
 use Rattle.rtk_convert.specs.FrameClass.{Found, arrivals}
-use Rattle.rtk_convert.specs.ReportText.{count_lines}
-use Rattle.rtk_convert.specs.Setup.{SetupView, IsSetupView, cells_by}
+use Rattle.rtk_setup.specs.Counts.{count_lines}
+use Rattle.rtk_setup.specs.Setup.{SetupView, IsSetupView, cells_by}
 
 -- ---- what the lines tell
 

@@ -2,7 +2,7 @@
 use Rattle.std.specs.Prelude.{◌≡◌, ℕ, ◌<◌, ◌≤◌, ◌==◌, if◌then◌else◌, List, [], ◌∷◌, ◌++◌, length, Option, slice_index_or}
 use Rattle.rtk_frame.specs.Stream.{with_more}
 use Rattle.rtk_convert.specs.History.{History, new_history, IsOpen, IsAfterFeed, IsAfterClose, IsNextLink}
-use Rattle.rtk_convert.specs.Setup.{SetupView}
+use Rattle.rtk_setup.specs.Setup.{SetupView}
 
 -- a read: its link, and the bytes that it gave
 pub record Read : Type 0 where

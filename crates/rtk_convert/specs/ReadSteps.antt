@@ -6,7 +6,7 @@ use Rattle.rtk_convert.specs.FrameClass.{arrivals}
 use Rattle.rtk_convert.specs.History.{History, fed_on, found_by_piece, found_by_close}
 use Rattle.rtk_convert.specs.ReadHistory.{Read, IsHistoryOf, Gave}
 use Rattle.rtk_convert.specs.Report.{lines}
-use Rattle.rtk_convert.specs.Setup.{SetupView}
+use Rattle.rtk_setup.specs.Setup.{SetupView}
 use Rattle.rtk_convert.specs.Writing.{Written}
 
 -- a read of a link that gave these bytes

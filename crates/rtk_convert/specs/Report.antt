@@ -16,8 +16,8 @@ use Rattle.rtk_convert.specs.FrameClass.{Found, arrivals, system_of}
 use Rattle.rtk_convert.specs.declared.frame_class.FrameClass.{FrameClass}
 use Rattle.rtk_convert.specs.declared.frame_class.FrameClass.TheVariants.{OtherMessage, Refused, Foreign, Dated}
 use Rattle.rtk_convert.specs.ReportText.{link_text, late_line, conflict_line, cell_conflict_line}
-use Rattle.rtk_convert.specs.Setup.{SetupView, cells_by}
-use Rattle.rtk_convert.specs.declared.counts.Counts.{Counts}
+use Rattle.rtk_setup.specs.Setup.{SetupView, cells_by}
+use Rattle.rtk_setup.specs.declared.counts.Counts.{Counts}
 
 -- ---- lines
 

@@ -6,7 +6,6 @@ use Rattle.rtk_obs.specs.AnyCode.{name_of}
 use Rattle.rtk_obs.specs.CivilText.{civil_text}
 use Rattle.rtk_obs.specs.SatelliteIndex.{index_name}
 use Rattle.rtk_rinex.specs.Reading.{reading_of}
-use Rattle.rtk_convert.specs.declared.counts.Counts.{Counts}
 
 -- formula
 -- the epoch of a message; a hyphen for a station message, which has none
@@ -50,15 +49,3 @@ cell_conflict_line link number epoch satellite code =
 abbrev pub missing_line : List ℕ → List ℕ
 missing_line [] = []
 missing_line (x ∷ letters) = codes "no-message" ++ x ∷ letters ++ 10 ∷ []
-
--- formula
-abbrev pub count_line : List ℕ → ℕ → List ℕ
-count_line name count = name ++ decimal count ++ 10 ∷ []
-
--- formula
--- the nine counts at the end
-unfoldable pub count_lines : Counts → List ℕ
-count_lines c =
-    count_line (codes "frames ") c.frames ++ count_line (codes "other ") c.other ++ count_line (codes "refused ") c.refused
-    ++ count_line (codes "foreign ") c.foreign ++ count_line (codes "taken ") c.taken ++ count_line (codes "repeat ") c.repeat
-    ++ count_line (codes "conflict ") c.conflict ++ count_line (codes "late ") c.late ++ count_line (codes "epochs ") c.epochs

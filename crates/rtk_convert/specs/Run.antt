@@ -9,7 +9,7 @@ use Rattle.rtk_convert.specs.History.{History, IsOpen, IsNextLink}
 use Rattle.rtk_convert.specs.ReadSteps.{read_of, found_by_read, HasRead, HasCalled}
 use Rattle.rtk_convert.specs.ReadHistory.{Read, IsHistoryOf, AllClosed, AreAtEnd, AllAtEnd, Gave}
 use Rattle.rtk_convert.specs.Report.{lines}
-use Rattle.rtk_convert.specs.Setup.{SetupView}
+use Rattle.rtk_setup.specs.Setup.{SetupView}
 use Rattle.rtk_convert.specs.Writing.{Written}
 
 -- ---- as far as it came

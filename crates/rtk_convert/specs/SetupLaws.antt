@@ -13,7 +13,7 @@ use Rattle.rtk_obs.specs.SignalCells.{signal_of}
 use Rattle.rtk_collect.specs.Signals.{IsGpsMessage}
 use Rattle.rtk_convert.specs.declared.frame_class.FrameClass.{FrameClass}
 use Rattle.rtk_convert.specs.FrameClass.{IsEpochOf, IsClassOfReading, IsClassOfPayload}
-use Rattle.rtk_convert.specs.Setup.{SetupView, IsSetupView, is_of_gps, takes, cells_by}
+use Rattle.rtk_setup.specs.Setup.{SetupView, IsSetupView, is_of_gps, takes, cells_by}
 
 -- the class of a payload, if 1004, 1005, 1006 and 1074 are the messages that are read
 abbrev pub IsClassByFour : SetupView → List ℕ → FrameClass → Type 0

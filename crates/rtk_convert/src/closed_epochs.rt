@@ -13,12 +13,12 @@ use crate::epoch_rows::push_rows;
 use crate::fault::ConvertFault;
 use crate::file_entry::FileEntry;
 use crate::row_lines::RowLines;
-use crate::setup::Setup;
 use crate::writing::write_record;
 use arrayvec::ArrayVec;
 use rtk_collect::{GatheredSet, GatheredSets};
 use rtk_frame::Sink;
 use rtk_obs::Position;
+use rtk_setup::Setup;
 use std::alloc::{AllocError, Global};
 use std::marker::Model;
 

@@ -19,20 +19,19 @@ ghost use Rattle.rtk_convert.specs.Systems.{has_system};
 ghost use Rattle.rtk_convert.specs.Steps.ReadMessage.{brings_by, system_of_number};
 ghost use Rattle.rtk_convert.specs.Writing.{written};
 
-use crate::counts::Counts;
 use crate::epochs::AnyEpochs;
 use crate::fault::ConvertFault;
 use crate::frame_class::{FrameClass, classify, read_message};
 use crate::link_number::LinkNumber;
 use crate::message_class::MessageClass;
 use crate::report;
-use crate::setup::Setup;
 use crate::systems::Systems;
 use crate::writing::write_lines;
 use rtk_collect::DatedRef;
 use rtk_frame::Sink;
 use rtk_message::{AnyDecoder, MsmType, System};
 use rtk_obs::GpsMs;
+use rtk_setup::{Counts, Setup};
 use std::alloc::{AllocError, Global};
 use std::marker::Model;
 

@@ -11,15 +11,14 @@ ghost use Rattle.rtk_convert.specs.Outcome.{NamesFailedStreams};
 ghost use Rattle.rtk_convert.specs.Writing.{written};
 
 use crate::conversion::Conversion;
-use crate::counts::Counts;
 use crate::fault::ConvertFault;
 use crate::link_count::LinkCount;
 use crate::link_number::LinkNumber;
 use crate::link_state::LinkState;
-use crate::setup::Setup;
 use rtk_frame::{Scanner, Sink};
 use rtk_message::AnyDecoder;
 use rtk_obs::GpsMs;
+use rtk_setup::{Counts, Setup};
 use std::alloc::{AllocError, Global};
 use std::marker::Model;
 

@@ -4,13 +4,13 @@ ghost use Rattle.std.specs.Prelude.{◌≡◌, IfOk};
 ghost use Rattle.rtk_bits.specs.Bits.{bits};
 ghost use Rattle.rtk_message.specs.AnyDecoded.{DecodesBy};
 ghost use Rattle.rtk_convert.specs.FrameClass.{IsDatedMessage, IsClassOfReading, system_of, class_of_fault};
-ghost use Rattle.rtk_convert.specs.Setup.{taken_by, takes};
+ghost use Rattle.rtk_setup.specs.Setup.{taken_by, takes};
 ghost use Rattle.rtk_convert.specs.Steps.ReadMessage.{IsRead, IsReadMessage};
 
-use crate::setup::Setup;
 use rtk_collect::DatedRef;
 use rtk_message::{AnyDecoder, AnyFault, AnyMessage, System};
 use rtk_obs::date_clock;
+use rtk_setup::Setup;
 
 /// What the payload of a frame means for a conversion.
 #[derive(Drop)]

@@ -53,7 +53,6 @@
 mod closed_epochs;
 mod conversion;
 mod converter;
-mod counts;
 mod epoch_rows;
 mod epochs;
 mod fault;
@@ -64,21 +63,14 @@ mod link_count;
 mod link_number;
 mod link_state;
 mod message_class;
-mod reference;
 mod report;
 mod row_lines;
 mod runs;
-mod setup;
-mod setup_fault;
 mod signal_phases;
-mod station;
-mod system_kinds;
 mod systems;
-mod window;
 mod writing;
 
 pub use converter::Converter;
-pub use counts::Counts;
 pub use fault::{ConvertFault, Stream};
 pub use laws::{
     calls_come_to_table, calls_keep_promise, converter_laws, default_takes_four,
@@ -86,11 +78,9 @@ pub use laws::{
     gps_messages_stay, one_history_of_calls, report_tells_counts, set_decides_file,
     set_has_one_file,
 };
-pub use link_count::{LinkCount, MOST_LINKS};
-pub use reference::Reference;
+pub use link_count::LinkCount;
+pub use rtk_setup::{
+    Counts, GREATEST_STATION, LEAST_WINDOW, MOST_LINKS, MOST_WINDOW, Reference, Setup, SetupFault,
+    Station, SystemKinds, Window,
+};
 pub use runs::run;
-pub use setup::Setup;
-pub use setup_fault::SetupFault;
-pub use station::{GREATEST_STATION, Station};
-pub use system_kinds::SystemKinds;
-pub use window::{LEAST_WINDOW, MOST_WINDOW, Window};

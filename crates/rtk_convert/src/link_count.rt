@@ -4,10 +4,8 @@ ghost use Rattle.std.specs.Prelude.{◌≡◌, IfOk, IfErr};
 ghost use Rattle.rtk_convert.specs.Converter.{IsLinkCount};
 
 use crate::fault::ConvertFault;
+use rtk_setup::MOST_LINKS;
 use std::marker::Model;
-
-/// The most links that a conversion reads.
-pub const MOST_LINKS: usize = 16;
 
 /// How many links a conversion reads, 1 to 16.
 #[derive(Clone, Copy, Debug, PartialEq, Eq)]

@@ -7,18 +7,18 @@ ghost use Rattle.rtk_collect.specs.declared.conflicts.AnySatelliteCode.{AnySatel
 ghost use Rattle.rtk_convert.specs.Report.{refused_line, cell_lines, conflict_lines, class_lines};
 ghost use Rattle.rtk_convert.specs.Steps.LastLines.{last_lines, missing_letter_by, missing_letters_by};
 ghost use Rattle.rtk_convert.specs.Steps.OfferLines.{class_named};
-ghost use Rattle.rtk_convert.specs.ReportText.{epoch_text, link_text, arrival_text, signal_text, late_line, conflict_line, cell_conflict_line, missing_line, count_line, count_lines};
+ghost use Rattle.rtk_convert.specs.ReportText.{epoch_text, link_text, arrival_text, signal_text, late_line, conflict_line, cell_conflict_line, missing_line};
+ghost use Rattle.rtk_setup.specs.Counts.{count_line, count_lines};
 
-use crate::counts::Counts;
 use crate::file_entry::FileEntry;
 use crate::link_number::LinkNumber;
 use crate::message_class::MessageClass;
-use crate::setup::Setup;
 use crate::systems::Systems;
 use arrayvec::ArrayVec;
 use rtk_collect::AnySatelliteCode;
 use rtk_message::{AnyFault, System, put_any_fault, put_named};
 use rtk_obs::{GpsMs, civil, put_civil, satellite_name};
+use rtk_setup::{Counts, Setup};
 use std::alloc::{AllocError, Global};
 
 // Appends the epoch of a message, or a hyphen if it has none.

@@ -15,12 +15,11 @@ ghost use Rattle.rtk_convert.specs.Outcome.{NamesFailedStreams};
 ghost use Rattle.rtk_convert.specs.Writing.{written};
 
 use crate::converter::Converter;
-use crate::counts::Counts;
 use crate::fault::ConvertFault;
 use crate::link_number::LinkNumber;
-use crate::setup::Setup;
 use rtk_frame::{Sink, Source, read_one};
 use rtk_obs::GpsMs;
+use rtk_setup::{Counts, Setup};
 use std::alloc::Global;
 
 // How many bytes a read asks for.

@@ -8,10 +8,10 @@ ghost use Rattle.rtk_convert.specs.Steps.WritingInPart.{PutsText};
 ghost use Rattle.rtk_convert.specs.Steps.ClosedText.{closing_text, header_before, is_any};
 
 use crate::fault::{ConvertFault, Stream};
-use crate::setup::Setup;
 use rtk_frame::{Sink, write_all};
 use rtk_obs::{GpsMs, Position};
 use rtk_rinex::mixed_header;
+use rtk_setup::Setup;
 use std::alloc::{AllocError, Global};
 
 // Writes a text to the file.

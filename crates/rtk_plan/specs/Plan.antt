@@ -5,7 +5,7 @@ use Rattle.rtk_message.specs.declared.msm_kind.MsmKind.{MsmKind}
 use Rattle.rtk_obs.specs.declared.code.Code.{Code}
 use Rattle.rtk_obs.specs.AnyCode.{code_of_gps}
 use Rattle.rtk_obs.specs.CivilText.{last_digits}
-use Rattle.rtk_convert.specs.Setup.{SetupView}
+use Rattle.rtk_setup.specs.Setup.{SetupView}
 use Rattle.rtk_survey.specs.Proposal.{proposed}
 use Rattle.rtk_survey.specs.Placing.{second_of}
 use Rattle.rtk_survey.specs.declared.placing.Placed.{Placed}

@@ -10,7 +10,7 @@ use Rattle.rtk_obs.specs.AnyCode.{name_of}
 use Rattle.rtk_rinex.specs.MixedHead.{MixedHeadView}
 use Rattle.rtk_rinex.specs.Reading.{reading_of}
 use Rattle.rtk_survey.specs.SummaryText.{msm_option}
-use Rattle.rtk_convert.specs.Setup.{SetupView}
+use Rattle.rtk_setup.specs.Setup.{SetupView}
 
 -- formula
 -- a moment as an option writes it, its milliseconds dropped: 2024-05-17T12:00:00

@@ -1,10 +1,10 @@
 //! The counts of a conversion, as its report shows them.
 
 ghost use Rattle.std.specs.Prelude.{◌≡◌, ◌++◌, OnOk};
-ghost use Rattle.rtk_convert.specs.ReportText as spec;
+ghost use Rattle.rtk_setup.specs.Counts as spec;
 
-use rtk_convert::Counts;
 use rtk_message::put_named;
+use rtk_setup::Counts;
 use std::alloc::AllocError;
 
 fn put_count(lines: &mut Vec<u8>, name: &[u8], count: u64) -> Result<(), AllocError>
@@ -16,7 +16,7 @@ fn put_count(lines: &mut Vec<u8>, name: &[u8], count: u64) -> Result<(), AllocEr
 }
 
 /// Appends the nine counts.
-#[tactic(auto, unfolding(rtk_convert::specs::ReportText::count_lines))]
+#[tactic(auto, unfolding(rtk_setup::specs::Counts::count_lines))]
 pub fn put_counts(lines: &mut Vec<u8>, counts: &Counts) -> Result<(), AllocError>
     ensures { OnOk result (lines.new.items ≡ lines.old.items ++ spec.count_lines counts.now) }
 {

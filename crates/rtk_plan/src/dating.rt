@@ -14,8 +14,8 @@ use crate::reach::{Base, is_out_of_reach, least_told, near_of, place_captures, r
 use crate::refusal::{PlanFault, Refusal, refused};
 use crate::span_line::{DateSource, DatedSpan};
 use crate::station_capture::StationCapture;
-use rtk_convert::Reference;
 use rtk_obs::{GpsMs, HALF_WEEK_MS};
+use rtk_setup::Reference;
 use rtk_survey::{DateMessage, Placed};
 use std::alloc::Global;
 

@@ -15,9 +15,9 @@ use crate::span_line::{DateSource, DatedSpan, put_span};
 use crate::station_capture::{StationCapture, passed_over_in, span_in, told_in};
 use crate::texts_left_out::put_texts_left_out;
 use crate::written_file::WrittenFile;
-use rtk_convert::{Counts, Setup};
 use rtk_message::{System, put_named};
 use rtk_obs::{ALL_CODES, GpsMs};
+use rtk_setup::{Counts, Setup};
 use rtk_survey::{CaptureEpochs, CaptureSurvey, Equipment, Span, Told, place};
 use std::alloc::{AllocError, Global};
 

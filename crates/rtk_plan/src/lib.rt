@@ -5,7 +5,7 @@
 //! specs/Plan.antt defines what a plan has, and specs/Causes.antt when each refusal comes.
 //!
 //! ```rust
-//! use rtk_convert::{Reference, Window};
+//! use rtk_setup::{Reference, Window};
 //! use rtk_frame::{After, MemSource};
 //! use rtk_obs::GpsMs;
 //! use rtk_plan::{Captures, Wanted, plan_of};

@@ -9,7 +9,7 @@ use crate::joining::{Ordered, in_order, links_of};
 use crate::kept::{is_heard_at, kept_captures};
 use crate::refusal::{PlanFault, Refusal, refused};
 use crate::station_capture::StationCapture;
-use rtk_convert::MOST_LINKS;
+use rtk_setup::MOST_LINKS;
 use rtk_survey::Placed;
 use std::alloc::{AllocError, Global};
 

@@ -23,10 +23,10 @@ use crate::span_line::DatedSpan;
 use crate::station_capture::{StationCapture, captures_of};
 use crate::values::{codes_in_captures, msm_of_links};
 use crate::wanted::Wanted;
-use rtk_convert::{Reference, Setup, Station};
 use rtk_message::MsmKind;
 use rtk_obs::{Code, GpsMs};
 use rtk_rinex::{CreationTime, Head, Marker};
+use rtk_setup::{Reference, Setup, Station};
 use rtk_survey::{CaptureSurvey, Placed};
 use std::alloc::{AllocError, Global};
 

@@ -7,10 +7,10 @@ ghost use Rattle.rtk_rinex.specs.Reading.{reading_of};
 ghost use Rattle.rtk_survey.specs.SummaryText.{msm_option};
 ghost use Rattle.rtk_plan.specs.SaidCommand as spec;
 
-use rtk_convert::Setup;
 use rtk_message::{MsmKind, put_named, put_sh_quoted};
 use rtk_obs::{AnyCode, Civil, GpsMs, civil, put_clock, put_date};
 use rtk_rinex::MixedHead;
+use rtk_setup::Setup;
 use std::alloc::AllocError;
 
 /// The reading of a moment.

@@ -3,10 +3,10 @@
 ghost use Rattle.std.specs.Option.{ForSome};
 ghost use Rattle.rtk_rinex.specs.Header.{IsCodeList};
 
-use rtk_convert::{Reference, Station, Window};
 use rtk_message::MsmKind;
 use rtk_obs::Code;
 use rtk_rinex::Marker;
+use rtk_setup::{Reference, Station, Window};
 
 /// What the words say of the values of a conversion. `None` is to be found in the captures.
 #[derive(Drop)]

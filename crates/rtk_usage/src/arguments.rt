@@ -1,7 +1,7 @@
 //! The arguments that several commands have.
 
 use clap::{Arg, ArgAction, value_parser};
-use rtk_convert::{GREATEST_STATION, LEAST_WINDOW, MOST_WINDOW};
+use rtk_setup::{GREATEST_STATION, LEAST_WINDOW, MOST_WINDOW};
 use std::alloc::Global;
 
 /// The name of the one input of a command.

@@ -5,7 +5,7 @@ use Rattle.rtk_obs.specs.declared.any_code.AnyCode.{AnyCode}
 use Rattle.rtk_obs.specs.declared.code.Code.{Code}
 use Rattle.rtk_obs.specs.AnyCode.{code_of_gps}
 use Rattle.rtk_rinex.specs.Header.{IsMarker, IsCodeList}
-use Rattle.rtk_convert.specs.Setup.{SetupView, all_of}
+use Rattle.rtk_setup.specs.Setup.{SetupView, all_of}
 use Rattle.rtk_cli.specs.declared.options.ConvertOptions.{ConvertOptions}
 use Rattle.rtk_cli.specs.declared.words.BadWords.{BadWords}
 use Rattle.rtk_cli.specs.declared.words.BadWords.TheVariants.{Near, Made, Codes, Marker, Links}

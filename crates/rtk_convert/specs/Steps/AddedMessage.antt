@@ -21,7 +21,7 @@ use Rattle.rtk_convert.specs.ClosedEpochs.{HasClosed}
 use Rattle.rtk_convert.specs.Epochs.{EpochsView}
 use Rattle.rtk_convert.specs.Report.{arrival_class, brings, counted_as, frame_lines}
 use Rattle.rtk_convert.specs.Conversion.{ConversionView, HoldsKept}
-use Rattle.rtk_convert.specs.Setup.{SetupView, takes, cells_by}
+use Rattle.rtk_setup.specs.Setup.{SetupView, takes, cells_by}
 use Rattle.rtk_convert.specs.Systems.{has_system}
 use Rattle.rtk_convert.specs.Writing.{Written, WritesRest}
 use Rattle.rtk_convert.specs.Steps.OfferLines.{class_named}

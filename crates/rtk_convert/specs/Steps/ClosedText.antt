@@ -6,7 +6,7 @@ use Rattle.rtk_collect.specs.EpochSet.{EpochSetView}
 use Rattle.rtk_rinex.specs.Header.{PositionView}
 use Rattle.rtk_rinex.specs.MixedHeader.{mixed_header_text}
 use Rattle.rtk_convert.specs.File.{records, first_time, record_of}
-use Rattle.rtk_convert.specs.Setup.{SetupView}
+use Rattle.rtk_setup.specs.Setup.{SetupView}
 
 -- a header with this first time, and then a text; nothing if there is no first time
 abbrev pub with_header : SetupView → PositionView → Option ℕ → List ℕ → List ℕ

@@ -6,7 +6,7 @@ use Rattle.rtk_collect.specs.Arrival.{Arrival}
 use Rattle.rtk_collect.specs.EpochSet.{EpochSetView}
 use Rattle.rtk_collect.specs.Signals.{signals}
 use Rattle.rtk_rinex.specs.Header.{PositionView}
-use Rattle.rtk_convert.specs.declared.counts.Counts.{Counts}
+use Rattle.rtk_setup.specs.declared.counts.Counts.{Counts}
 use Rattle.rtk_convert.specs.declared.fault.ConvertFault.{ConvertFault}
 use Rattle.rtk_convert.specs.Failure.{IsFrameFault}
 use Rattle.rtk_convert.specs.Steps.ClosedText.{closed_text, closing}
@@ -17,7 +17,7 @@ use Rattle.rtk_convert.specs.ClosedEpochs.{ClosedEpochsView, HasClosed}
 use Rattle.rtk_convert.specs.Report.{lines}
 use Rattle.rtk_convert.specs.Epochs.{EpochsView}
 use Rattle.rtk_convert.specs.File.{record_count}
-use Rattle.rtk_convert.specs.Setup.{SetupView, cells_by}
+use Rattle.rtk_setup.specs.Setup.{SetupView, cells_by}
 use Rattle.rtk_convert.specs.Steps.AddedMessage.{RepresentsEpochs}
 use Rattle.rtk_convert.specs.Conversion.{ConversionView, RepresentsFound}
 use Rattle.rtk_convert.specs.Writing.{Written, WritesRest}

@@ -5,7 +5,7 @@ use Rattle.rtk_convert.specs.declared.epochs.AnyEpochs.TheVariants.{Gps, Any}
 use Rattle.rtk_convert.specs.declared.fault.ConvertFault.{ConvertFault}
 use Rattle.rtk_convert.specs.Conversion.{HoldsArrivals, IsAhead}
 use Rattle.rtk_convert.specs.Epochs.{EpochsView}
-use Rattle.rtk_convert.specs.Setup.{SetupView, is_of_gps}
+use Rattle.rtk_setup.specs.Setup.{SetupView, is_of_gps}
 use Rattle.rtk_convert.specs.Steps.AddedMessage.{RepresentsEpochs}
 
 -- what clauses see of epochs, whatever cells they have

@@ -3,10 +3,11 @@ use Rattle.std.specs.Prelude.{ℕ, ◌&&◌, not, List, [], ◌∷◌, ◌++◌,
 use Rattle.rtk_message.specs.declared.system.System.{System}
 use Rattle.rtk_message.specs.declared.system.System.TheVariants.{Gps, Glonass, Galileo, Beidou, Qzss, Sbas, Navic}
 use Rattle.rtk_obs.specs.SatelliteIndex.{letter_of}
-use Rattle.rtk_convert.specs.declared.counts.Counts.{Counts}
+use Rattle.rtk_setup.specs.declared.counts.Counts.{Counts}
 use Rattle.rtk_convert.specs.declared.systems.Systems.{Systems}
-use Rattle.rtk_convert.specs.ReportText.{missing_line, count_lines}
-use Rattle.rtk_convert.specs.Setup.{SetupView, is_of_gps, lists_system}
+use Rattle.rtk_convert.specs.ReportText.{missing_line}
+use Rattle.rtk_setup.specs.Counts.{count_lines}
+use Rattle.rtk_setup.specs.Setup.{SetupView, is_of_gps, lists_system}
 use Rattle.rtk_convert.specs.Systems.{has_system}
 
 -- the letter of a listed system that the set does not have, after a blank

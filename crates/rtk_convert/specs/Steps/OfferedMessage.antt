@@ -10,7 +10,7 @@ use Rattle.rtk_collect.specs.Arrival.{Arrival}
 use Rattle.rtk_collect.specs.Collector.{CollectorView, RepresentsArrivals}
 use Rattle.rtk_collect.specs.Signals.{signals}
 use Rattle.rtk_convert.specs.Conversion.{HoldsKept}
-use Rattle.rtk_convert.specs.Setup.{SetupView, cells_by}
+use Rattle.rtk_setup.specs.Setup.{SetupView, cells_by}
 
 -- the index of a satellite, or the first one for a number that no satellite has
 abbrev pub index_or_first : ℕ → ℕ

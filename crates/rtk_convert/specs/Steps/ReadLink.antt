@@ -8,7 +8,7 @@ use Rattle.rtk_convert.specs.Run.{BreaksOffReading, StaysOpen}
 use Rattle.rtk_convert.specs.declared.fault.ConvertFault.{ConvertFault}
 use Rattle.rtk_convert.specs.declared.fault.ConvertFault.TheVariants.{Endless}
 use Rattle.rtk_convert.specs.ReadHistory.{Read, IsNextRead, AllClosed, AllAtEnd, Gave}
-use Rattle.rtk_convert.specs.Setup.{SetupView}
+use Rattle.rtk_setup.specs.Setup.{SetupView}
 use Rattle.rtk_convert.specs.ReadSteps.{read_of, found_by_read, HasRead, HasCalled, AnyAtGreatest}
 use Rattle.rtk_convert.specs.Writing.{Written}
 

@@ -10,7 +10,7 @@ use Rattle.rtk_message.specs.Systems.{type_of_number}
 use Rattle.rtk_obs.specs.SatelliteIndex.{letter_of}
 use Rattle.rtk_collect.specs.Answer.{Class}
 use Rattle.rtk_convert.specs.Report.{is_taken}
-use Rattle.rtk_convert.specs.Setup.{SetupView, taken_by}
+use Rattle.rtk_setup.specs.Setup.{SetupView, taken_by}
 
 -- messages of this number are read
 abbrev pub IsRead : SetupView → ℕ → Type 0

@@ -11,7 +11,7 @@ use Rattle.rtk_convert.specs.ClosedEpochs.{ClosedEpochsView, HasClosed}
 use Rattle.rtk_convert.specs.Epochs.{EpochsView}
 use Rattle.rtk_convert.specs.Failure.{IsFrameFault}
 use Rattle.rtk_convert.specs.FileOfArrivals.{site_of_stations}
-use Rattle.rtk_convert.specs.Setup.{SetupView}
+use Rattle.rtk_setup.specs.Setup.{SetupView}
 use Rattle.rtk_convert.specs.Writing.{Written}
 use Rattle.rtk_convert.specs.Steps.ClosedText.{closing}
 use Rattle.rtk_convert.specs.Steps.ShownCells.{AllBelow}

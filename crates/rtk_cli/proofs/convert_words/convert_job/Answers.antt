@@ -1,6 +1,6 @@
 use Rattle.std.proofs.Common.{inr, refl, sym, ap, ◌∙◌, subst}
 use Rattle.rtk_rinex.specs.Header.{HeadView, IsMarker, IsCodeList}
-use Rattle.rtk_convert.specs.Setup.{SetupView, all_of, setup_of}
+use Rattle.rtk_setup.specs.Setup.{SetupView, all_of, setup_of}
 use Rattle.rtk_cli.specs.declared.words.BadWords.TheVariants.{Near, Made, Codes, Marker, Links}
 use Rattle.rtk_cli.specs.Steps.CodeList.{Lists}
 use Rattle.rtk_cli.specs.Steps.ConvertWords.{HasTimes, HasNames, HasMarker, IsFirstCause}

@@ -1,4 +1,4 @@
-use Rattle.rtk_convert.specs.Setup.{SetupView, channels_of}
+use Rattle.rtk_setup.specs.Setup.{SetupView, channels_of}
 use Rattle.rtk_convert.proofs.SameHistoryLemmas.{link-decides-refusal, link-holds-newest, waiting-decides-frames, held-decides-call, held-decides-end}
 use Rattle.rtk_convert.proofs.laws.converter_laws.Goals as goal
 

@@ -1,4 +1,4 @@
-use Rattle.rtk_convert.specs.Setup.{SetupView, channels_of}
+use Rattle.rtk_setup.specs.Setup.{SetupView, channels_of}
 use Rattle.rtk_convert.proofs.ArrivalLawsLemmas.{one-file, late-leave, others-leave}
 use Rattle.rtk_convert.proofs.laws.set_decides_file.Goals as goal
 

@@ -1,5 +1,5 @@
 use Rattle.std.specs.Prelude.{codes}
-use Rattle.rtk_convert.specs.ReportText.{count_line, count_lines}
+use Rattle.rtk_setup.specs.Counts.{count_line, count_lines}
 use Rattle.rtk_convert.proofs.JoinLemmas.{nine}
 use Rattle.rtk_convert.proofs.report.put_counts.Goals as goal
 

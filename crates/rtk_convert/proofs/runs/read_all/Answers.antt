@@ -4,7 +4,7 @@ use Rattle.rtk_convert.specs.Steps.Faults.{IsReadFault}
 use Rattle.rtk_convert.specs.History.{new_history, IsNextLink}
 use Rattle.rtk_convert.specs.ReadSteps.{read_of, HasCalled}
 use Rattle.rtk_convert.specs.Steps.ReadLink.{ReadsLink, BreaksOffAfterRead}
-use Rattle.rtk_convert.specs.Setup.{SetupView}
+use Rattle.rtk_setup.specs.Setup.{SetupView}
 use Rattle.rtk_convert.specs.Writing.{written}
 use Rattle.rtk_convert.proofs.EndsLemmas.{ends-new, ends-more, has-read-all}
 use Rattle.rtk_convert.proofs.NextLemmas.{are_links-length}

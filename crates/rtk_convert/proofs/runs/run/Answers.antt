@@ -5,7 +5,7 @@ use Rattle.rtk_convert.specs.declared.fault.ConvertFault.TheVariants.{Read as Re
 use Rattle.rtk_convert.specs.Failure.{IsReadingFault}
 use Rattle.rtk_convert.specs.Steps.ReadLink.{HasReadAll}
 use Rattle.rtk_convert.specs.Run.{FailsReading, StaysOpen, BreaksOffReading}
-use Rattle.rtk_convert.specs.Setup.{SetupView}
+use Rattle.rtk_setup.specs.Setup.{SetupView}
 use Rattle.rtk_convert.specs.Writing.{written}
 use Rattle.rtk_convert.proofs.HeadlineLemmas.{run-keeps}
 use Rattle.rtk_convert.proofs.OutcomeLemmas.{failed-err}

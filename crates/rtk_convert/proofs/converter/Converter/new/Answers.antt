@@ -3,7 +3,7 @@ use Rattle.std.proofs.lemmas.List.{length-replicate}
 use Rattle.rtk_frame.specs.ScannerView.{scanner_view}
 use Rattle.rtk_convert.specs.Converter.{RepresentLinks}
 use Rattle.rtk_convert.specs.History.{new_history}
-use Rattle.rtk_convert.specs.Setup.{SetupView}
+use Rattle.rtk_setup.specs.Setup.{SetupView}
 use Rattle.rtk_convert.specs.declared.link_state.LinkState.{LinkState}
 use Rattle.rtk_convert.proofs.BoundsLemmas.{bounded-new}
 use Rattle.rtk_convert.proofs.ConverterLemmas.{links-new}
