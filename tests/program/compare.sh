@@ -146,7 +146,7 @@ run compare --labels labelled.rnx other_label.rnx
 expect other_label 3 'lost 0 changed 1 explained 0
 changed agency' ''
 "$program" label --run-by Night --marker-number 14001M001 --observer Meyer --agency Survey --receiver-number 4711 --receiver-type 'SEPT POLARX5' \
-    --receiver-version 5.4.0 --antenna-number 12 --antenna-type 'LEIAR25.R4      LEIT' --delta-height 0.1234 --delta-east 0.0010 --delta-north 0.0020 \
+    --receiver-version 5.4.0 --antenna-number 12 --antenna-type 'LEIAR25.R4      LEIT' --delta-height +0.1234 --delta-east +0.0010 --delta-north +0.0020 \
     old.rnx >full.rnx
 # pins: label_lines_of_station, label_lines_of_receiver, label_lines_of_antenna
 run compare --labels full.rnx old.rnx
