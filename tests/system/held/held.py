@@ -34,10 +34,10 @@ READ_AHEAD, SCANNED = 32_768, 2 * 1_029 + 4 * (2 * 1_029 + 1)
 LINK = 62_000
 GATHERED = 2 * 65_536
 # What a conversion of one link holds besides: the manual says some 100 kB.
-LEAST_BESIDE, MOST_BESIDE = 95_000, 100_000
-# What a summary of one station holds: some 68 kB. `auto` holds as much as `convert`, and before that a survey of each capture, with
+LEAST_BESIDE, MOST_BESIDE = 98_000, 103_000
+# What a summary of one station holds: some 73 kB. `auto` holds as much as `convert`, and before that a survey of each capture, with
 # the stations and one kind of messages.
-LEAST_OF_SUMMARY, MOST_OF_SUMMARY = 64_000, 69_000
+LEAST_OF_SUMMARY, MOST_OF_SUMMARY = 69_000, 74_000
 LEAST_OF_AUTO, MOST_OF_AUTO = -10_000, 2_000
 CAPTURE = 900 + 9_000 + 8_500
 
