@@ -123,16 +123,18 @@ pub fn compare_named<R: Files + Input + Print + Eprint + AllocGlobal>(
 ) -> u8
     ensures { result ≤ NOT_VALID }
 {
+    let alloc = rt.alloc();
+    // The old file is read before the new one is opened. Else the new one would have the number of standard
+    // input where that is closed, and would be read in its place.
     let Some(old_file) = open_input(rt, old) else {
         return fail_to_open(rt, old);
     };
-    let Some(new_file) = open_input(rt, new) else {
-        return fail_to_open(rt, new);
-    };
-    let alloc = rt.alloc();
     let mut old_text = match read_through(alloc, old_file, CHECK_LIMIT) {
         Ok(text) => text,
         Err(fault) => return fail(rt, fault),
+    };
+    let Some(new_file) = open_input(rt, new) else {
+        return fail_to_open(rt, new);
     };
     let mut new_text = match read_through(alloc, new_file, CHECK_LIMIT) {
         Ok(text) => text,

@@ -162,28 +162,22 @@ fn form_from(epoch: GpsMs, listed: &[AnyCode], satellite: u8) -> RowForm<'_>
     }
 }
 
-// Returns what the row of a satellite has in common with others: what the rows before it have, up to the last
-// satellite of their system, or else what the rows from it on have.
+// Makes the form anew for the row of a satellite that is behind the last one of the form's system. No copy is
+// made of a form that stays, since there is a row for each satellite of each epoch.
 #[inline(always)]
-fn form_at<'a>(form: &RowForm<'a>, listed: &'a [AnyCode], satellite: u8) -> RowForm<'a>
+fn renew_form<'a>(form: &mut RowForm<'a>, listed: &'a [AnyCode], satellite: u8)
     requires listed { IsMixedList listed.now }
     requires satellite { IsSatelliteIndex satellite }
-    requires codes { satellite ≤ form.now.last → AreCodesTo listed.now satellite form.now.last form.now.codes.now }
-    requires columns { ArePlaces form.now.codes.now form.now.columns }
-    requires last { form.now.last ≤ 221 }
-    ensures epoch { result.epoch ≡ form.now.epoch }
-    ensures codes { AreCodesTo listed.now satellite result.last result.codes.now }
-    ensures columns { ArePlaces result.codes.now result.columns }
-    ensures last { (satellite ≤ result.last) × (result.last ≤ 221) }
+    requires codes { satellite ≤ form.old.last → AreCodesTo listed.now satellite form.old.last form.old.codes.now }
+    requires columns { ArePlaces form.old.codes.now form.old.columns }
+    requires last { form.old.last ≤ 221 }
+    ensures epoch { form.new.epoch ≡ form.old.epoch }
+    ensures codes { AreCodesTo listed.now satellite form.new.last form.new.codes.now }
+    ensures columns { ArePlaces form.new.codes.now form.new.columns }
+    ensures last { (satellite ≤ form.new.last) × (form.new.last ≤ 221) }
 {
     if satellite > form.last {
-        return form_from(form.epoch, listed, satellite);
-    }
-    RowForm {
-        epoch: form.epoch,
-        codes: form.codes,
-        columns: form.columns,
-        last: form.last,
+        *form = form_from(form.epoch, listed, satellite);
     }
 }
 
@@ -389,7 +383,7 @@ pub(crate) fn push_rows<E: FileEntry>(
     let mut form = form_from(epoch, listed, 1);
     let mut at = CellPlaces { msm: 0, legacy: 0 };
     'satellites: while let Some(satellite) = next_satellite(msm, legacy, at) {
-        form = form_at(&form, listed, satellite);
+        renew_form(&mut form, listed, satellite);
         lines.open_line(form.codes.len())?;
         at = fill_line(phases, &form, satellite, msm, legacy, at, lines);
         lines.close_line(satellite)?;

@@ -42,8 +42,8 @@ satellites-init g c =
       columns = c.form_from-form.ensures.columns;
     }
 
-pub form_at-form-requires-clause-satellite : goal.form_at-form-requires-clause-satellite
-form_at-form-requires-clause-satellite g c =
+pub renew_form-requires-clause-satellite : goal.renew_form-requires-clause-satellite
+renew_form-requires-clause-satellite g c =
     let f = g.E.FileEntry.signal_of in
     let ms = map f c.msm_cells-msm.result.now in
     let ls = map f c.legacy_left-legacy.result.now in
@@ -57,8 +57,8 @@ form_at-form-requires-clause-satellite g c =
     let rise-l = laws.rise _ c.legacy_left-legacy.ensures.rises in
     next-satellite ranges-m ranges-l c.in-Some.ensures.some
 
-pub form_at-form-requires-clause-codes : goal.form_at-form-requires-clause-codes
-form_at-form-requires-clause-codes g c =
+pub renew_form-requires-clause-codes : goal.renew_form-requires-clause-codes
+renew_form-requires-clause-codes g c =
     let f = g.E.FileEntry.signal_of in
     let ms = map f c.msm_cells-msm.result.now in
     let ls = map f c.legacy_left-legacy.result.now in
@@ -77,14 +77,14 @@ form_at-form-requires-clause-codes g c =
     let at = fills-next old epoch ms c.satellites.at.msm ls c.satellites.at.legacy i.from n (g.E.FileEntry.places c.satellites.phases) i.fills rise-m rise-l least in
     λ within. record { few = i.few; codes_are = λ s more less. i.codes_are s (omega arith) less }
 
-pub form_at-form-requires-clause-columns : goal.form_at-form-requires-clause-columns
-form_at-form-requires-clause-columns g c = c.satellites.invariant.columns
+pub renew_form-requires-clause-columns : goal.renew_form-requires-clause-columns
+renew_form-requires-clause-columns g c = c.satellites.invariant.columns
 
-pub form_at-form-requires-clause-last : goal.form_at-form-requires-clause-last
-form_at-form-requires-clause-last g c = c.satellites.invariant.within
+pub renew_form-requires-clause-last : goal.renew_form-requires-clause-last
+renew_form-requires-clause-last g c = c.satellites.invariant.within
 
 pub open_line-requires-clause-few : goal.open_line-requires-clause-few
-open_line-requires-clause-few g c = c.form_at-form.ensures.codes.few
+open_line-requires-clause-few g c = c.renew_form.ensures.codes.few
 
 pub open_line-requires-clause-room : goal.open_line-requires-clause-room
 open_line-requires-clause-room g c =
@@ -141,7 +141,7 @@ fill_line-at-requires-clause-codes g c =
     let hn : IsSatelliteIndex n = next-satellite ranges-m ranges-l least in
     let from = next-from i.fills.msm i.fills.legacy least in
     let at = fills-next old epoch ms c.satellites.at.msm ls c.satellites.at.legacy i.from n (g.E.FileEntry.places c.satellites.phases) i.fills rise-m rise-l least in
-    subst (λ (cs : List AnyCode). AreRowCodes cs n) (c.form_at-form.ensures.codes.codes_are n (omega arith) c.form_at-form.ensures.last.0) (codes-are-signals c.args.listed.now n hn)
+    subst (λ (cs : List AnyCode). AreRowCodes cs n) (c.renew_form.ensures.codes.codes_are n (omega arith) c.renew_form.ensures.last.0) (codes-are-signals c.args.listed.now n hn)
 
 pub fill_line-at-requires-clause-msm : goal.fill_line-at-requires-clause-msm
 fill_line-at-requires-clause-msm g c =
@@ -201,14 +201,14 @@ fill_line-at-requires-clause-later g c =
     let hn : IsSatelliteIndex n = next-satellite ranges-m ranges-l least in
     let from = next-from i.fills.msm i.fills.legacy least in
     let at = fills-next old epoch ms c.satellites.at.msm ls c.satellites.at.legacy i.from n (g.E.FileEntry.places c.satellites.phases) i.fills rise-m rise-l least in
-    let same : epoch ≡ c.form_at-form.result.epoch = sym (c.form_at-form.ensures.epoch ∙ c.satellites.invariant.epoch) in
+    let same : epoch ≡ c.renew_form.new.form.epoch = sym (c.renew_form.ensures.epoch ∙ c.satellites.invariant.epoch) in
     subst (λ (e : ℕ). MayStep (g.E.FileEntry.places c.satellites.phases) [] n e) same
     (may-begin old epoch ms c.satellites.at.msm ls c.satellites.at.legacy n (g.E.FileEntry.places c.satellites.phases) at
     (λ k hk. c.requires.later n k hk))
 
 pub fill_line-at-requires-clause-open : goal.fill_line-at-requires-clause-open
 fill_line-at-requires-clause-open g c =
-    subst (λ (row : List Observed). g.E.Lines.RowLines.HasLine c.open_line.new.self row) (sym (row-blank c.form_at-form.result.codes.now)) c.in_ok-open_line.ensures.open
+    subst (λ (row : List Observed). g.E.Lines.RowLines.HasLine c.open_line.new.self row) (sym (row-blank c.renew_form.new.form.codes.now)) c.in_ok-open_line.ensures.open
 
 pub close_line-requires-clause-satellite : goal.close_line-requires-clause-satellite
 close_line-requires-clause-satellite g c =
@@ -287,11 +287,11 @@ satellites-preserved g c =
     let hn : IsSatelliteIndex n = next-satellite ranges-m ranges-l least in
     let from = next-from i.fills.msm i.fills.legacy least in
     let at = fills-next old epoch ms c.satellites.at.msm ls c.satellites.at.legacy i.from n (g.E.FileEntry.places c.satellites.phases) i.fills rise-m rise-l least in
-    let codes = c.form_at-form.result.codes.now in
-    let own = subst (λ (cs : List AnyCode). AreRowCodes cs n) (c.form_at-form.ensures.codes.codes_are n (omega arith) c.form_at-form.ensures.last.0) (codes-are-signals c.args.listed.now n hn) in
-    let same : codes_for c.args.listed.now n ≡ codes = c.form_at-form.ensures.codes.codes_are n (omega arith) c.form_at-form.ensures.last.0 in
+    let codes = c.renew_form.new.form.codes.now in
+    let own = subst (λ (cs : List AnyCode). AreRowCodes cs n) (c.renew_form.ensures.codes.codes_are n (omega arith) c.renew_form.ensures.last.0) (codes-are-signals c.args.listed.now n hn) in
+    let same : codes_for c.args.listed.now n ≡ codes = c.renew_form.ensures.codes.codes_are n (omega arith) c.renew_form.ensures.last.0 in
     let filled = c.fill_line-at in
-    let formed : c.form_at-form.result.epoch ≡ epoch = c.form_at-form.ensures.epoch ∙ c.satellites.invariant.epoch in
+    let formed : c.renew_form.new.form.epoch ≡ epoch = c.renew_form.ensures.epoch ∙ c.satellites.invariant.epoch in
     let shows = subst (λ (e : ℕ). ShowsRow g.E.Lines.RowLines.HasLine (g.E.FileEntry.places c.satellites.phases) e
     (slice_range ms c.satellites.at.msm filled.result.msm ++ slice_range ls c.satellites.at.legacy filled.result.legacy) n codes (g.E.FileEntry.places filled.new.phases) filled.new.lines) formed filled.ensures.shows in
     let h = shown_by old epoch (ms ++ ls) in
@@ -314,12 +314,12 @@ satellites-preserved g c =
         holds = subst (λ (all : List SatelliteRow). g.E.Lines.RowLines.HasRows c.close_line.new.self all)
             (rows-next h c.args.listed.now n rows (row_if_any h codes n) hn.0 refl (ap (λ (cs : List AnyCode). row_if_any h cs n) (sym same)))
             (row-held g.E.Lines.RowLines.HasRows c.close_line.new.self (c.blank_rows_are_left_out.ensures c.close_line.new.self) h codes n rows closed);
-        few = c.form_at-form.ensures.codes.few;
-        codes_are = λ s more less. c.form_at-form.ensures.codes.codes_are s (omega arith) less;
+        few = c.renew_form.ensures.codes.few;
+        codes_are = λ s more less. c.renew_form.ensures.codes.codes_are s (omega arith) less;
       };
       epoch = formed;
-      within = c.form_at-form.ensures.last.1;
-      columns = c.form_at-form.ensures.columns;
+      within = c.renew_form.ensures.last.1;
+      columns = c.renew_form.ensures.columns;
     }
 
 pub returns-clause-lines : goal.returns-clause-lines
