@@ -8,8 +8,8 @@
 //!
 //! // `--version` is answered as an error, with the text that is to be shown.
 //! fn example(alloc: Global) -> Result<bool, AllocError> {
-//!     let command = program_command(alloc)?;
-//!     Ok(command.try_get_matches_from(alloc, &["rtcm2rinex", "--version"]).is_err())
+//!     let mut program = program_command(alloc)?;
+//!     Ok(program.try_get_matches_from_mut(&["--version"]).is_err())
 //! }
 //! ```
 //!
