@@ -11,6 +11,7 @@ pub mod Epochs
 pub mod Systems
 pub mod Writing
 pub mod FrameClass
+pub mod Slots
 pub mod SetupLaws
 pub mod FileOfArrivals
 pub mod ReportText

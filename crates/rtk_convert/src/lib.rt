@@ -58,19 +58,23 @@ mod epoch_rows;
 mod epochs;
 mod fault;
 mod file_entry;
+mod file_header;
 mod frame_class;
 mod laws;
+mod leap_seconds;
 mod link_count;
 mod link_number;
 mod link_state;
 mod message_class;
 mod reference;
+mod remarks;
 mod report;
 mod row_lines;
 mod runs;
 mod setup;
 mod setup_fault;
 mod signal_phases;
+mod slots;
 mod station;
 mod system_kinds;
 mod systems;
@@ -86,6 +90,7 @@ pub use laws::{
     gps_messages_stay, one_history_of_calls, report_tells_counts, set_decides_file,
     set_has_one_file,
 };
+pub use leap_seconds::LeapSeconds;
 pub use link_count::{LinkCount, MOST_LINKS};
 pub use reference::Reference;
 pub use runs::run;

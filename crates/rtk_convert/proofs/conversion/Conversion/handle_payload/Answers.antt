@@ -9,6 +9,7 @@ use Rattle.rtk_convert.specs.FrameClass.{IsClassOfPayload}
 use Rattle.rtk_convert.specs.Report.{refused_line, one_frame_more}
 use Rattle.rtk_convert.proofs.ArriveLemmas.{arrives-arrived, breaks-arrived, arrives-other, arrives-foreign, arrives-refused, breaks-refused}
 use Rattle.rtk_convert.proofs.ClassLemmas.{dated-taken}
+use Rattle.rtk_convert.proofs.SlotsLemmas.{slots-put}
 use Rattle.rtk_convert.proofs.WritingLemmas.{takes-none}
 use Rattle.rtk_convert.proofs.CameLemmas.{read-by}
 use Rattle.rtk_convert.proofs.OutcomeLemmas.{keeps-seen, stays-seen, ahead-seen, failed-err, payload-ok, payload-err}
@@ -67,7 +68,9 @@ pub returns-in_ok-handle_message-in-Dated-clause-handles : goal.returns-in_ok-ha
 returns-in_ok-handle_message-in-Dated-clause-handles g c =
     let comes = subst (λ (f : FrameClass). IsClassOfPayload c.self.inside.setup c.args.payload.now f) c.in-Dated.is (c.read_message.result.now, c.read_message.ensures, c.classify.ensures) in
     payload-ok (Dated c.in-Dated.dated) c.self.view_is comes c.epoch-epoch.ensures.value
-    (arrives-arrived c.args.payload.now comes (ap (λ (n : ℕ). record c.self.inside.counts { frames = n }) c.saturating_add-self-inside.ensures) c.handle_message.ensures.stays.keeps.same_setup c.in_ok-handle_message-in-Dated.ensures.handles.ok)
+    (arrives-arrived c.args.payload.now comes (ap (λ (n : ℕ). record c.self.inside.counts { frames = n }) c.saturating_add-self-inside.ensures)
+    (slots-put c.self.inside.setup c.read_message.result.now c.in-Dated.dated c.channels-in-Dated.result.now comes.2 c.channels-in-Dated.ensures.slots c.put_slots-in-Dated.ensures)
+    c.handle_message.ensures.stays.keeps.same_setup c.in_ok-handle_message-in-Dated.ensures.handles.ok)
 
 pub returns-in_err-handle_message-in-Dated-clause-handles : goal.returns-in_err-handle_message-in-Dated-clause-handles
 returns-in_err-handle_message-in-Dated-clause-handles g c =
