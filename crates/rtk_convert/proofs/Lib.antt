@@ -55,6 +55,7 @@ mod HistoryLemmas
 mod CountLemmas
 mod JoinLemmas
 mod ReportLemmas
+mod ChannelLawsLemmas
 mod SameWindowLemmas
 mod SameFoundLemmas
 mod SameHistoryLemmas

@@ -21,6 +21,7 @@ pub mod Finish
 pub mod CountLaws
 pub mod NumberLaws
 pub mod ArrivalLaws
+pub mod ChannelLaws
 pub mod History
 pub mod Outcome
 pub mod Converter

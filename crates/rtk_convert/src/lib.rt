@@ -87,8 +87,8 @@ pub use fault::{ConvertFault, Stream};
 pub use laws::{
     calls_come_to_table, calls_keep_promise, converter_laws, default_takes_four,
     each_frame_in_one_class, epochs_are_records, file_laws, file_only_grows, frames_add_to_one,
-    gps_messages_stay, one_history_of_calls, report_tells_counts, set_decides_file,
-    set_has_one_file,
+    gps_messages_stay, one_history_of_calls, report_tells_channels, report_tells_counts,
+    set_decides_file, set_has_one_file,
 };
 pub use leap_seconds::LeapSeconds;
 pub use link_count::{LinkCount, MOST_LINKS};
