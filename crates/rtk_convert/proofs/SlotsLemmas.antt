@@ -7,6 +7,7 @@ use Rattle.std.proofs.lemmas.Bool.Decides.{nat_tests}
 use Rattle.rtk_message.specs.declared.any_fault.AnyFault.{AnyFault}
 use Rattle.rtk_message.specs.declared.any_message.AnyMessage.{AnyMessage as Message}
 use Rattle.rtk_message.specs.declared.any_message.AnyMessage.TheVariants as any
+use Rattle.rtk_message.specs.declared.message.Message.{Message as GpsMessage}
 use Rattle.rtk_message.specs.declared.msm.Msm.{Msm}
 use Rattle.rtk_message.specs.declared.system.System.{System}
 use Rattle.rtk_message.specs.declared.system.System.TheVariants.{Gps, Glonass, Galileo, Beidou, Qzss, Sbas, Navic}
@@ -170,6 +171,10 @@ other-letter Sbas ne = refl
 other-letter Navic ne = refl
 
 module _ (channels : List (Option ℤ)) where
+  -- a message that is no MSM, or a 1074
+  pub message-none : (m : GpsMessage) (old : Remarks) → PutsSlots channels (any.Message m) old old
+  message-none m old = record { systems = refl; other_channels = λ slot is. refl; no_channels = λ slot is. refl }
+
   -- an MSM of GLONASS
   pub msm-put : (m : Msm) (old new : Remarks) → m.system ≡ Glonass → PutsSatellites channels m old new → PutsSlots channels (any.Msm m) old new
   msm-put m old new of puts =
