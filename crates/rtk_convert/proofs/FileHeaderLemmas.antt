@@ -1,6 +1,7 @@
 -- The leap seconds of a file, and the head that tells them.
 use Rattle.std.proofs.Common.{◌≡◌, ◌∙◌, ◌<◌, ◌≤◌, ℕ, zero, suc, Bool, true, false, List, Option, None, Some, Decides, refl, sym, ap, inl, inr, arith}
 use Rattle.std.specs.Prelude.{All, IfSome, nat_le, option_map, unwrap_or}
+use Rattle.std.specs.Option.{SomeIff}
 use Rattle.std.proofs.lemmas.Bool.{cases_Bool, cases_order, both_ways}
 use Rattle.std.proofs.lemmas.Bool.Decides.{nat_tests}
 use Rattle.std.proofs.lemmas.List.Elements.{All-weaker}
@@ -8,11 +9,13 @@ use Rattle.rtk_obs.specs.declared.any_code.AnyCode.{AnyCode}
 use Rattle.rtk_obs.specs.LeapSeconds.{leap_start, IsLeapSecondsAt}
 use Rattle.rtk_obs.specs.SatelliteIndex.{bit_at}
 use Rattle.rtk_rinex.specs.declared.epoch_table.SatelliteRow.{SatelliteRow}
+use Rattle.rtk_rinex.specs.Header.{PositionView}
 use Rattle.rtk_rinex.specs.MixedForm.{has_channel}
-use Rattle.rtk_rinex.specs.MixedHead.{GlonassView, IsMixedHead, TellsGlonass}
+use Rattle.rtk_rinex.specs.MixedHead.{GlonassView, IsMixedHead, TellsGlonass, has_glonass}
+use Rattle.rtk_rinex.specs.MixedHeader.{mixed_header_text}
 use Rattle.rtk_rinex.specs.MixedTable.{IsEpochOfHead, IsRowOfHead}
 use Rattle.rtk_rinex.specs.Record.{EpochTableView}
-use Rattle.rtk_convert.specs.File.{begun_row, file_leap_seconds, told_with, head_at}
+use Rattle.rtk_convert.specs.File.{begun_row, file_leap_seconds, told_with, head_at, header_at}
 use Rattle.rtk_convert.specs.Setup.{SetupView, IsSetupView, IsLeapSeconds}
 
 -- ---- the table of leap seconds
@@ -70,6 +73,32 @@ leap-of-table s first n is h =
     sym (leap-is first n h) ∙ ap (λ (o : Option ℕ). unwrap_or o (begun_row (λ k. nat_le (leap_start k) first) 18)) (sym is)
 
 -- ---- the head that tells them
+
+-- what was made of good parts
+pub some-is : (o : Option GlonassView) (n : ℕ) (v : GlonassView) → SomeIff o (n ≤ 99) v → n ≤ 99 → o ≡ Some v
+some-is None n v made few = absurd (made few)
+some-is (Some x) n v made few = ap Some made.1
+
+none-told : (g : Option GlonassView) (n : ℕ) → option_map (told_with n) g ≡ None → g ≡ None
+none-told None n h = refl
+none-told (Some g) n h = absurd cc
+
+some-told : (listed : List AnyCode) (g : Option GlonassView) (n : ℕ) (told : GlonassView) → Some told ≡ option_map (told_with n) g → TellsGlonass listed g → has_glonass listed ≡ true
+some-told listed None n told is good = absurd cc
+some-told listed (Some g) n told is good = good.0
+
+-- a head that tells of GLONASS lists a code of it
+pub told-listed : (s : SetupView) (first : ℕ) (told : GlonassView) → Some told ≡ (head_at s first).glonass → IsMixedHead s.head → has_glonass s.head.listed ≡ true
+told-listed s first told is good = some-told s.head.listed s.head.glonass (file_leap_seconds s first) told is good.glonass
+
+-- the header, if the head tells of GLONASS, and if it does not
+pub header-some : (s : SetupView) (site : PositionView) (first : ℕ) (told : GlonassView) → Some told ≡ (head_at s first).glonass
+    → mixed_header_text (record s.head { glonass = Some told }) site first ≡ header_at s site first
+header-some s site first told is = ap (λ (g : Option GlonassView). mixed_header_text (record s.head { glonass = g }) site first) is
+
+pub header-none : (s : SetupView) (site : PositionView) (first : ℕ) → (head_at s first).glonass ≡ None → mixed_header_text s.head site first ≡ header_at s site first
+header-none s site first none =
+    ap (λ (g : Option GlonassView). mixed_header_text (record s.head { glonass = g }) site first) (none-told s.head.glonass (file_leap_seconds s first) none ∙ sym none)
 
 told-good : (listed : List AnyCode) (g : Option GlonassView) (n : ℕ) → n ≤ 99 → TellsGlonass listed g → TellsGlonass listed (option_map (told_with n) g)
 told-good listed None n few told = told

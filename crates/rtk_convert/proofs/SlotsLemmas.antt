@@ -2,7 +2,7 @@
 use Rattle.std.proofs.Common.{◌≡◌, ◌≢◌, ◌∙◌, ◌+◌, ◌-◌, ◌^◌, ◌<◌, ◌≤◌, ◌==◌, ℕ, zero, suc, ℤ, Bool, true, false, List, [], ◌∷◌, cond, Option, None, Some, Result, Ok, refl, sym, ap, subst, replicate, inl, inr, arith}
 use Rattle.std.specs.Prelude.{◌&&◌, ◌||◌, not, is_some, nat_le, slice_index_or, if◌then◌else◌, IfOk}
 use Rattle.std.proofs.Math.Path.{fun_ext}
-use Rattle.std.proofs.lemmas.Bool.{cases_Bool, eqb-true, ne_eqb, and_left, or_from}
+use Rattle.std.proofs.lemmas.Bool.{cases_Bool, both_ways, eqb-true, eq-eqb, ne_eqb, and_left, or_from}
 use Rattle.std.proofs.lemmas.Bool.Decides.{nat_tests}
 use Rattle.rtk_message.specs.declared.any_fault.AnyFault.{AnyFault}
 use Rattle.rtk_message.specs.declared.any_message.AnyMessage.{AnyMessage as Message}
@@ -38,6 +38,19 @@ pub same-slot : (test : ℕ → Bool) (slot k : ℕ) → ((slot == k) && test sl
 same-slot test slot k = elim (cases_Bool (slot == k)) [
   | inl same ↦ ap (λ (n : ℕ). (slot == k) && test n) (eqb-true slot k same)
   | inr other ↦ rw other refl
+]
+
+-- a slot that does not belong to a set is not put into it
+pub put-none : (same belongs has : Bool) → belongs ≡ false → has ≡ ((same && belongs) || has)
+put-none same true has h = absurd cc
+put-none true false has h = refl
+put-none false false has h = refl
+
+-- and one that belongs to it is
+pub put-some : (slot k : ℕ) (belongs old new : Bool) → belongs ≡ true → (slot ≡ k → new ≡ true) → (slot ≢ k → new ≡ old) → new ≡ (((slot == k) && belongs) || old)
+put-some slot k belongs old new is at other = elim (cases_Bool (slot == k)) [
+  | inl same ↦ rw (same, is) (at (eqb-true slot k same))
+  | inr unlike ↦ rw unlike (other (λ e. both_ways (slot == k) unlike (eq-eqb slot k e)))
 ]
 
 -- ---- the channel of a satellite

@@ -53,9 +53,10 @@ impl Slots {
         requires { IsSlot slot }
         ensures { (s : ℕ) → IsSlot s → has_slot self.new s ≡ (((slot == s) && belongs) || has_slot self.old s) }
     {
-        if belongs {
-            self.put(slot);
+        if !belongs {
+            return;
         }
+        self.put(slot);
     }
 
     /// Returns whether the set has a slot.
