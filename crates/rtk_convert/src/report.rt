@@ -283,7 +283,8 @@ fn put_slots(
     let names = slot_names(alloc, slots)?;
     lines.extend_from_slice(name)?;
     lines.extend_from_slice(shown_names(&names))?;
-    lines.push(b'\n')
+    lines.push(b'\n')?;
+    Ok(())
 }
 
 // Appends the lines of the slots whose satellites have no phases, if a code of GLONASS is listed.
