@@ -21,7 +21,7 @@ use Rattle.rtk_convert.specs.Conversion.{HasRemarks}
 use Rattle.rtk_convert.specs.Finish.{all_counts, missing_letter, missing_lines, unphased_lines, remark_lines, report_of}
 use Rattle.rtk_convert.specs.FrameClass.{Found, arrivals}
 use Rattle.rtk_convert.specs.Report.{lines, frame_counts, has_taken}
-use Rattle.rtk_convert.specs.ReportText.{missing_line, slot_name, slot_names, slots_line, count_lines}
+use Rattle.rtk_convert.specs.ReportText.{missing_line, slot_name, slot_names, slots_line, channels_text, count_lines}
 use Rattle.rtk_convert.specs.Setup.{SetupView, is_of_gps, lists_system, cells_by}
 use Rattle.rtk_convert.specs.Slots.{has_slot, is_without_channel, is_of_other_channel, any_tells}
 use Rattle.rtk_convert.specs.Systems.{has_system}
@@ -55,18 +55,23 @@ missing-same s y found h =
 -- ---- the slots whose satellites have no phases
 
 -- the same names, if two tests hold of the same slots
-pub names-same : (p q : ℕ → Bool) → ((slot : ℕ) → IsSlot slot → p slot ≡ q slot) → (n : ℕ) → n ≤ 27 → slot_names p n ≡ slot_names q n
+names-same : (p q : ℕ → Bool) → ((slot : ℕ) → IsSlot slot → p slot ≡ q slot) → (n : ℕ) → n ≤ 27 → slot_names p n ≡ slot_names q n
 names-same p q h zero few = refl
 names-same p q h (suc n) few =
     ap (λ (t : List ℕ). t ++ (if p (suc n) then slot_name (suc n) else [])) (names-same p q h n (omega arith))
     ∙ ap (λ (b : Bool). slot_names q n ++ (if b then slot_name (suc n) else [])) (h (suc n) (omega arith, omega arith))
 
+-- so the lines of such slots are the same
+pub channels-same : (b : Bool) (p q u v : ℕ → Bool) → ((slot : ℕ) → IsSlot slot → p slot ≡ u slot) → ((slot : ℕ) → IsSlot slot → q slot ≡ v slot)
+    → (if b then channels_text p q else []) ≡ (if b then channels_text u v else [])
+channels-same b p q u v h k =
+    ap (λ (t : List ℕ). if b then slots_line (codes "other-channel") t ++ slots_line (codes "no-channel") (slot_names q 27) else []) (names-same p u h 27 (omega arith))
+    ∙ ap (λ (t : List ℕ). if b then slots_line (codes "other-channel") (slot_names u 27) ++ slots_line (codes "no-channel") t else []) (names-same q v k 27 (omega arith))
+
 unphased-same : (s : SetupView) (y : Remarks) (found : List Found) → HasRemarks s y found → unphased_lines_by s y ≡ unphased_lines s found
 unphased-same s y found h =
-    let other = names-same (has_slot y.other_channels) (λ slot. any_tells is_of_other_channel s slot found) h.1 27 (omega arith) in
-    let without = names-same (has_slot y.no_channels) (λ slot. any_tells is_without_channel s slot found) h.2 27 (omega arith) in
-    ap (λ (t : List ℕ). if lists_system s.head.listed Glonass then slots_line (codes "other-channel") t ++ slots_line (codes "no-channel") (slot_names (has_slot y.no_channels) 27) else []) other
-    ∙ ap (λ (t : List ℕ). if lists_system s.head.listed Glonass then slots_line (codes "other-channel") (slot_names (λ slot. any_tells is_of_other_channel s slot found) 27) ++ slots_line (codes "no-channel") t else []) without
+    channels-same (lists_system s.head.listed Glonass) (has_slot y.other_channels) (has_slot y.no_channels)
+    (λ slot. any_tells is_of_other_channel s slot found) (λ slot. any_tells is_without_channel s slot found) h.1 h.2
 
 remarks-same : (s : SetupView) (y : Remarks) (found : List Found) → HasRemarks s y found → remark_lines_by s y ≡ remark_lines s found
 remarks-same s y found h =

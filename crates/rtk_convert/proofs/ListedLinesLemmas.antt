@@ -24,7 +24,7 @@ use Rattle.rtk_convert.specs.Finish.{all_counts, missing_letters, missing_lines,
 use Rattle.rtk_convert.specs.Headline.{messages_of, late_lines, LateAreListed}
 use Rattle.rtk_convert.specs.Kept.{came_of}
 use Rattle.rtk_convert.specs.Report.{arrival_class, refused_line, cell_lines, class_lines, frame_lines, lines}
-use Rattle.rtk_convert.specs.ReportText.{link_text, arrival_text, late_line, cell_conflict_line, signal_text, missing_line, shown_names, slot_names, slots_line, count_line, count_lines}
+use Rattle.rtk_convert.specs.ReportText.{link_text, arrival_text, late_line, cell_conflict_line, signal_text, missing_line, shown_names, slot_names, slots_line, channels_text, count_line, count_lines}
 use Rattle.rtk_convert.specs.Setup.{SetupView, is_of_gps, lists_system}
 use Rattle.rtk_convert.specs.Slots.{is_without_channel, is_of_other_channel, any_tells}
 use Rattle.rtk_convert.proofs.CameLemmas.{messages-came}
@@ -172,15 +172,13 @@ missing-ended s found = missing-if (is_of_gps s) (missing_letters s found)
 slots-end : (name names : List ℕ) → Ends (slots_line name names)
 slots-end name names = (name ++ shown_names names, refl)
 
-unphased-if : (b : Bool) (x y : List ℕ) → Ends y → IsEnded (if b then x ++ y else [])
-unphased-if true x y h = inr (ends-after x y h)
-unphased-if false x y h = inl refl
+unphased-if : (b : Bool) (p q : ℕ → Bool) → IsEnded (if b then channels_text p q else [])
+unphased-if true p q = inr (ends-after (slots_line (codes "other-channel") (slot_names p 27)) (slots_line (codes "no-channel") (slot_names q 27)) (slots-end (codes "no-channel") (slot_names q 27)))
+unphased-if false p q = inl refl
 
 unphased-ended : (s : SetupView) (found : List Found) → IsEnded (unphased_lines s found)
 unphased-ended s found =
-    unphased-if (lists_system s.head.listed Glonass) (slots_line (codes "other-channel") (slot_names (λ slot. any_tells is_of_other_channel s slot found) 27))
-    (slots_line (codes "no-channel") (slot_names (λ slot. any_tells is_without_channel s slot found) 27))
-    (slots-end (codes "no-channel") (slot_names (λ slot. any_tells is_without_channel s slot found) 27))
+    unphased-if (lists_system s.head.listed Glonass) (λ slot. any_tells is_of_other_channel s slot found) (λ slot. any_tells is_without_channel s slot found)
 
 joined-ended : (x y : List ℕ) → IsEnded x → IsEnded y → IsEnded (x ++ y)
 joined-ended x y (inl e) q = subst (λ (t : List ℕ). IsEnded (t ++ y)) (sym e) q

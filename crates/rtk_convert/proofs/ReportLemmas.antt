@@ -23,7 +23,7 @@ use Rattle.rtk_convert.specs.Finish.{all_counts, missing_letter, missing_letters
 use Rattle.rtk_convert.specs.FrameClass.{Found, arrivals}
 use Rattle.rtk_convert.specs.NumberLaws.{CountLinesTellCounts, ReportTellsCounts, record_texts, has_bytes, EpochsAreRecords, EpochsAreOfTable}
 use Rattle.rtk_convert.specs.Report.{lines, has_taken}
-use Rattle.rtk_convert.specs.ReportText.{count_line, count_lines, missing_line, shown_names, slot_name, slot_names, slots_line}
+use Rattle.rtk_convert.specs.ReportText.{channels_text, count_line, count_lines, missing_line, shown_names, slot_name, slot_names, slots_line}
 use Rattle.rtk_convert.proofs.KeptTableLemmas.{kept-file-has_records}
 use Rattle.rtk_message.proofs.PublicLaws.{number-then}
 
@@ -123,9 +123,7 @@ after-slots name x y s t named h k same =
     (sym (append_assoc (name ++ shown_names x) (10 ∷ []) s) ∙ same ∙ append_assoc (name ++ shown_names y) (10 ∷ []) t)
 
 after-unphased : (b : Bool) (p q u v : ℕ → Bool) (s t : List ℕ)
-    → (if b then slots_line (codes "other-channel") (slot_names p 27) ++ slots_line (codes "no-channel") (slot_names q 27) else []) ++ s
-    ≡ (if b then slots_line (codes "other-channel") (slot_names u 27) ++ slots_line (codes "no-channel") (slot_names v 27) else []) ++ t
-    → s ≡ t
+    → (if b then channels_text p q else []) ++ s ≡ (if b then channels_text u v else []) ++ t → s ≡ t
 after-unphased false p q u v s t same = same
 after-unphased true p q u v s t same =
     let other : List ℕ = codes "other-channel" in

@@ -1,7 +1,7 @@
 -- A conversion represents two lists of found frames: the next frame adds the same to the files and the reports of both, and so
 -- does the end.
 use Rattle.std.proofs.Common.{◌≡◌, ℕ, Bool, List, [], ◌∷◌, ◌++◌, take, Option, None, Some, Result, refl, ap, append_assoc, sym, subst, ◌∙◌, arith, inl, inr}
-use Rattle.std.specs.Prelude.{is_some, IsTrue, not, codes, ◌&&◌, ◌||◌, if◌then◌else◌}
+use Rattle.std.specs.Prelude.{is_some, IsTrue, not, ◌&&◌, ◌||◌, if◌then◌else◌}
 use Rattle.std.proofs.lemmas.Bool.{cases_Bool}
 use Rattle.std.proofs.lemmas.List.Elements.{All-cons}
 use Rattle.std.proofs.lemmas.List.{append-nil, append_cancel_left, take-append-drop}
@@ -45,14 +45,14 @@ use Rattle.rtk_convert.specs.Finish.{all_counts, missing_letter, missing_letters
 use Rattle.rtk_convert.specs.FrameClass.{IsDatedMessage, IsEpochOf, IsClassOfReading, IsClassOfPayload, Found, arrivals}
 use Rattle.rtk_convert.specs.History.{Finds, newest_on}
 use Rattle.rtk_convert.specs.Report.{brings, class_lines, frame_lines, has_taken, is_of, is_taken, lines, counted_as, one_frame_more, frame_counts}
-use Rattle.rtk_convert.specs.ReportText.{count_lines, missing_line, slot_names, slots_line}
+use Rattle.rtk_convert.specs.ReportText.{count_lines, missing_line}
 use Rattle.rtk_convert.specs.Rows.{band_of, cell_at, and_below, last_phase_of, observed_after, observed_at}
 use Rattle.rtk_convert.specs.Setup.{SetupView, cells_by, is_of_gps, lists_system, takes}
 use Rattle.rtk_convert.specs.Slots.{is_without_channel, is_of_other_channel, tells_slot, any_tells}
 use Rattle.rtk_convert.specs.Steps.ClosedText.{header_before, closed_text, closing_text, closing}
 use Rattle.rtk_convert.specs.Writing.{WritesRest}
 use Rattle.rtk_convert.proofs.ClassLemmas.{dated-reading, dated-taken}
-use Rattle.rtk_convert.proofs.EndLemmas.{names-same}
+use Rattle.rtk_convert.proofs.EndLemmas.{channels-same}
 use Rattle.rtk_convert.proofs.FileLemmas.{first_time-more, closed-more, file-closed}
 use Rattle.rtk_convert.proofs.RowsLemmas.{rows_to-same}
 use Rattle.rtk_convert.proofs.SameWindowLemmas.{SameWindow, HasStationNumber, AnsweredAlike, answered-alike, class-late}
@@ -378,10 +378,8 @@ missing-same s first second same = ap (λ (t : List ℕ). if is_of_gps s then []
 
 unphased-same : (s : SetupView) (first second : List Found) → SameFound s first second → unphased_lines s first ≡ unphased_lines s second
 unphased-same s first second same =
-    let other = names-same (λ slot. any_tells is_of_other_channel s slot first) (λ slot. any_tells is_of_other_channel s slot second) same.remarks.1 27 (omega arith) in
-    let without = names-same (λ slot. any_tells is_without_channel s slot first) (λ slot. any_tells is_without_channel s slot second) same.remarks.2 27 (omega arith) in
-    ap (λ (t : List ℕ). if lists_system s.head.listed Glonass then slots_line (codes "other-channel") t ++ slots_line (codes "no-channel") (slot_names (λ slot. any_tells is_without_channel s slot first) 27) else []) other
-    ∙ ap (λ (t : List ℕ). if lists_system s.head.listed Glonass then slots_line (codes "other-channel") (slot_names (λ slot. any_tells is_of_other_channel s slot second) 27) ++ slots_line (codes "no-channel") t else []) without
+    channels-same (lists_system s.head.listed Glonass) (λ slot. any_tells is_of_other_channel s slot first) (λ slot. any_tells is_without_channel s slot first)
+    (λ slot. any_tells is_of_other_channel s slot second) (λ slot. any_tells is_without_channel s slot second) same.remarks.1 same.remarks.2
 
 remarks-same : (s : SetupView) (first second : List Found) → SameFound s first second → remark_lines s first ≡ remark_lines s second
 remarks-same s first second same =

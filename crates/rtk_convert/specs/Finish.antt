@@ -1,5 +1,5 @@
 -- The end of a conversion.
-use Rattle.std.specs.Prelude.{ℕ, ◌&&◌, not, List, [], ◌∷◌, ◌++◌, codes, if◌then◌else◌}
+use Rattle.std.specs.Prelude.{ℕ, ◌&&◌, not, List, [], ◌∷◌, ◌++◌, if◌then◌else◌}
 use Rattle.rtk_message.specs.declared.system.System.{System}
 use Rattle.rtk_message.specs.declared.system.System.TheVariants.{Gps, Glonass, Galileo, Beidou, Qzss, Sbas, Navic}
 use Rattle.rtk_obs.specs.SatelliteIndex.{letter_of}
@@ -9,7 +9,7 @@ use Rattle.rtk_convert.specs.declared.counts.Counts.{Counts}
 use Rattle.rtk_convert.specs.File.{record_count}
 use Rattle.rtk_convert.specs.FrameClass.{Found, arrivals}
 use Rattle.rtk_convert.specs.Report.{lines, frame_counts, has_taken}
-use Rattle.rtk_convert.specs.ReportText.{missing_line, slot_names, slots_line, count_lines}
+use Rattle.rtk_convert.specs.ReportText.{missing_line, channels_text, count_lines}
 use Rattle.rtk_convert.specs.Setup.{SetupView, is_of_gps, lists_system, cells_by}
 use Rattle.rtk_convert.specs.Slots.{is_without_channel, is_of_other_channel, any_tells}
 
@@ -38,8 +38,7 @@ missing_lines s found = if is_of_gps s then [] else missing_line (missing_letter
 -- tells another channel, then those that have satellites and no channel
 abbrev pub unphased_lines : SetupView → List Found → List ℕ
 unphased_lines s found =
-    if lists_system s.head.listed Glonass then slots_line (codes "other-channel") (slot_names (λ slot. any_tells is_of_other_channel s slot found) 27)
-        ++ slots_line (codes "no-channel") (slot_names (λ slot. any_tells is_without_channel s slot found) 27)
+    if lists_system s.head.listed Glonass then channels_text (λ slot. any_tells is_of_other_channel s slot found) (λ slot. any_tells is_without_channel s slot found)
     else []
 
 -- the lines between those of the found frames and the counts: those of slots, and that of the systems without a message

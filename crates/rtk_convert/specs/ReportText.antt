@@ -68,6 +68,12 @@ abbrev pub slots_line : List ℕ → List ℕ → List ℕ
 slots_line name names = name ++ shown_names names ++ 10 ∷ []
 
 -- formula
+-- the two lines of slots whose satellites have no phases: those that the first test holds of have another channel by a message,
+-- those of the second have none
+abbrev pub channels_text : (ℕ → Bool) → (ℕ → Bool) → List ℕ
+channels_text is_other is_without = slots_line (codes "other-channel") (slot_names is_other 27) ++ slots_line (codes "no-channel") (slot_names is_without 27)
+
+-- formula
 -- the systems of which no message was taken, if there are any, as in: no-message C J
 abbrev pub missing_line : List ℕ → List ℕ
 missing_line [] = []

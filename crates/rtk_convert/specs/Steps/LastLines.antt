@@ -1,12 +1,12 @@
 -- The last lines of a report, by what the messages tell for them.
-use Rattle.std.specs.Prelude.{ℕ, ◌&&◌, not, List, [], ◌∷◌, ◌++◌, codes, if◌then◌else◌}
+use Rattle.std.specs.Prelude.{ℕ, ◌&&◌, not, List, [], ◌∷◌, ◌++◌, if◌then◌else◌}
 use Rattle.rtk_message.specs.declared.system.System.{System}
 use Rattle.rtk_message.specs.declared.system.System.TheVariants.{Gps, Glonass, Galileo, Beidou, Qzss, Sbas, Navic}
 use Rattle.rtk_obs.specs.SatelliteIndex.{letter_of}
 use Rattle.rtk_convert.specs.declared.counts.Counts.{Counts}
 use Rattle.rtk_convert.specs.declared.remarks.Remarks.{Remarks}
 use Rattle.rtk_convert.specs.declared.systems.Systems.{Systems}
-use Rattle.rtk_convert.specs.ReportText.{missing_line, slot_names, slots_line, count_lines}
+use Rattle.rtk_convert.specs.ReportText.{missing_line, channels_text, count_lines}
 use Rattle.rtk_convert.specs.Setup.{SetupView, is_of_gps, lists_system}
 use Rattle.rtk_convert.specs.Slots.{has_slot}
 use Rattle.rtk_convert.specs.Systems.{has_system}
@@ -29,10 +29,7 @@ missing_lines_by s systems = if is_of_gps s then [] else missing_line (missing_l
 
 -- the lines of the slots of these sets, if a code of GLONASS is listed
 abbrev pub unphased_lines_by : SetupView → Remarks → List ℕ
-unphased_lines_by s r =
-    if lists_system s.head.listed Glonass then slots_line (codes "other-channel") (slot_names (has_slot r.other_channels) 27)
-        ++ slots_line (codes "no-channel") (slot_names (has_slot r.no_channels) 27)
-    else []
+unphased_lines_by s r = if lists_system s.head.listed Glonass then channels_text (has_slot r.other_channels) (has_slot r.no_channels) else []
 
 -- the lines of slots, and that of the systems without a message
 abbrev pub remark_lines_by : SetupView → Remarks → List ℕ
