@@ -1,6 +1,6 @@
 -- The leap seconds of a file, and the head that tells them.
 use Rattle.std.proofs.Common.{◌≡◌, ◌∙◌, ◌<◌, ◌≤◌, ℕ, zero, suc, Bool, true, false, List, Option, None, Some, Decides, refl, sym, ap, inl, inr, arith}
-use Rattle.std.specs.Prelude.{All, IfSome, nat_le, option_map, unwrap_or}
+use Rattle.std.specs.Prelude.{All, IfSome, nat_le, option_map, unwrap_or, if◌then◌else◌}
 use Rattle.std.specs.Option.{SomeIff}
 use Rattle.std.proofs.lemmas.Bool.{cases_Bool, cases_order, both_ways}
 use Rattle.std.proofs.lemmas.Bool.Decides.{nat_tests}
@@ -29,13 +29,13 @@ module _ (Begun : ℕ → Type 0) (has_begun : ℕ → Bool) (tells : (n : ℕ) 
   unfolding begun_row
   row-is n zero few begun last = omega arith
   row-is n (suc m) few begun last = elim (cases_Bool (has_begun (suc m))) [
-    | inl yes ↦ rw yes (elim (cases_order n (suc m)) [
+    | inl set ↦ rw set (elim (cases_order n (suc m)) [
       | inl e ↦ sym e
-      | inr (inl lt) ↦ absurd (last (suc m) lt (omega arith) ((tells (suc m)).0 yes))
+      | inr (inl lt) ↦ absurd (last (suc m) lt (omega arith) ((tells (suc m)).0 set))
       | inr (inr gt) ↦ absurd (omega arith)
     ])
-    | inr no ↦ rw no (elim (cases_order n (suc m)) [
-      | inl e ↦ absurd (both_ways (has_begun (suc m)) no ((tells (suc m)).1 (rw (← e) (begun (omega arith)))))
+    | inr unset ↦ rw unset (elim (cases_order n (suc m)) [
+      | inl e ↦ absurd (both_ways (has_begun (suc m)) unset ((tells (suc m)).1 (rw (← e) (begun (omega arith)))))
       | inr (inl lt) ↦ row-is n m (omega arith) begun (λ k above within. last k above (omega arith))
       | inr (inr gt) ↦ absurd (omega arith)
     ])

@@ -137,7 +137,7 @@ so-far-none test channels m old = λ slot is. refl
 module _ (test : SatelliteTest) (channels : List (Option ℤ)) (m : Msm) (old now : List Bool) (before row rest : ℕ) where
   -- one more satellite
   pub so-far-set : (new : List Bool) → before < 27 → 2 ^ (63 - before) ≤ rest
-      → ((slot : ℕ) → IsSlot slot → has_slot new slot ≡ (((before + 1 == slot) && test channels slot (field_of_row m row)) || has_slot now slot))
+      → ((slot : ℕ) → IsSlot slot → has_slot new slot ≡ ((((before + 1) == slot) && test channels slot (field_of_row m row)) || has_slot now slot))
       → HasSoFar test channels m old now before row rest → HasSoFar test channels m old new (before + 1) (row + 1) (rest - 2 ^ (63 - before))
   so-far-set new lt some puts h = λ slot is.
       let wide : 64 - before ≡ suc (63 - before) = omega arith in
@@ -151,6 +151,18 @@ module _ (test : SatelliteTest) (channels : List (Option ℤ)) (m : Msm) (old no
       ∙ ap (λ (w : ℕ). has_slot now slot || any_satellite (test channels slot) m slot row (set_bits_from (before + 1) w rest)) (sym wide)
       ∙ h slot is
 
+  -- the same, by what the code has
+  pub so-far-next : (new : List Bool) (field bit more left : ℕ) → field ≡ field_of_row m row → bit ≡ 2 ^ (63 - before) → more ≡ row + 1 → left ≡ rest - bit → before < 27 → bit ≤ rest
+      → ((slot : ℕ) → IsSlot slot → has_slot new slot ≡ ((((before + 1) == slot) && test channels slot field) || has_slot now slot))
+      → HasSoFar test channels m old now before row rest → HasSoFar test channels m old new (before + 1) more left
+  so-far-next new field bit more left told is one less lt some puts h =
+      let least : 2 ^ (63 - before) ≤ rest = subst (λ (n : ℕ). n ≤ rest) is some in
+      let fields = λ (slot : ℕ) (slot_is : IsSlot slot).
+      puts slot slot_is ∙ ap (λ (f : ℕ). (((before + 1) == slot) && test channels slot f) || has_slot now slot) told in
+      let rest_is : rest - 2 ^ (63 - before) ≡ left = ap (λ (n : ℕ). rest - n) (sym is) ∙ sym less in
+      subst (λ (r : ℕ). HasSoFar test channels m old new (before + 1) r left) (sym one)
+      (subst (λ (n : ℕ). HasSoFar test channels m old new (before + 1) (row + 1) n) rest_is (so-far-set new lt least fields h))
+
   -- a slot without a satellite
   pub so-far-clear : before < 27 → rest < 2 ^ (63 - before) → HasSoFar test channels m old now before row rest → HasSoFar test channels m old now (before + 1) row rest
   so-far-clear lt none h = λ slot is.
@@ -162,6 +174,13 @@ module _ (test : SatelliteTest) (channels : List (Option ℤ)) (m : Msm) (old no
       ∙ step-clear (test channels slot) m slot (has_slot now slot) row (before + 1) (63 - before) rest none
       ∙ ap (λ (w : ℕ). has_slot now slot || any_satellite (test channels slot) m slot row (set_bits_from (before + 1) w rest)) (sym wide)
       ∙ h slot is
+
+  pub so-far-stays : (bit more left : ℕ) → bit ≡ 2 ^ (63 - before) → more ≡ row → left ≡ rest → before < 27 → rest < bit
+      → HasSoFar test channels m old now before row rest → HasSoFar test channels m old now (before + 1) more left
+  so-far-stays bit more left is one less lt none h =
+      let least : rest < 2 ^ (63 - before) = subst (λ (n : ℕ). rest < n) is none in
+      subst (λ (r : ℕ). HasSoFar test channels m old now (before + 1) r left) (sym one)
+      (subst (λ (n : ℕ). HasSoFar test channels m old now (before + 1) row n) (sym less) (so-far-clear lt least h))
 
   -- all slots
   pub so-far-all : 27 ≤ before → HasSoFar test channels m old now before row rest

@@ -1,6 +1,7 @@
 //! What the messages of a conversion tell for the last lines of its report.
 
 ghost use Rattle.std.specs.Prelude.{◌≡◌, ℕ, IfOk};
+ghost use Rattle.rtk_message.specs.declared.any_message.AnyMessage.TheVariants as AnyMessage;
 ghost use Rattle.rtk_obs.specs.Carriers.{IsSlot};
 ghost use Rattle.rtk_obs.specs.SignalCells.{agrees_with, field_of_row};
 ghost use Rattle.rtk_convert.specs.Slots.{is_without_channel, is_of_other_channel};
@@ -94,6 +95,16 @@ fn put_satellites(remarks: &mut Remarks, channels: &Channels, message: &Msm)
     }
 }
 
+// Puts the satellites of an MSM into the sets that they belong to, if it is of GLONASS.
+fn put_msm(remarks: &mut Remarks, channels: &Channels, message: &Msm)
+    ensures { PutsSlots channels.now (AnyMessage.Msm message.now) remarks.old remarks.new }
+{
+    match message.system {
+        System::Glonass => put_satellites(remarks, channels, message),
+        _ => {}
+    }
+}
+
 impl Remarks {
     /// Nothing was told yet.
     pub(crate) fn new() -> Remarks
@@ -114,11 +125,7 @@ impl Remarks {
     {
         match message {
             AnyMessage::Message(_) => {}
-            AnyMessage::Msm(message) => {
-                if message.system == System::Glonass {
-                    put_satellites(self, channels, message);
-                }
-            }
+            AnyMessage::Msm(message) => put_msm(self, channels, message),
         }
     }
 
