@@ -5,7 +5,7 @@ use Rattle.rtk_convert.specs.declared.fault.ConvertFault.TheVariants.{OutOfMemor
 use Rattle.rtk_convert.specs.declared.frame_class.FrameClass.{FrameClass}
 use Rattle.rtk_convert.specs.declared.frame_class.FrameClass.TheVariants.{OtherMessage, Refused, Foreign, Dated}
 use Rattle.rtk_convert.specs.Conversion.{ConversionView}
-use Rattle.rtk_convert.specs.FrameClass.{IsClassOfPayload}
+use Rattle.rtk_convert.specs.FrameClass.{IsClassOfPayload, IsClassOfReading}
 use Rattle.rtk_convert.specs.Report.{refused_line, one_frame_more}
 use Rattle.rtk_convert.proofs.ArriveLemmas.{arrives-arrived, breaks-arrived, arrives-other, arrives-foreign, arrives-refused, breaks-refused}
 use Rattle.rtk_convert.proofs.ClassLemmas.{dated-taken}
@@ -67,9 +67,10 @@ returns-in_err-write_lines-in-Refused-clause-handles g c =
 pub returns-in_ok-handle_message-in-Dated-clause-handles : goal.returns-in_ok-handle_message-in-Dated-clause-handles
 returns-in_ok-handle_message-in-Dated-clause-handles g c =
     let comes = subst (λ (f : FrameClass). IsClassOfPayload c.self.inside.setup c.args.payload.now f) c.in-Dated.is (c.read_message-reading.result.now, c.read_message-reading.ensures, c.classify.ensures) in
+    let read = subst (λ (f : FrameClass). IsClassOfReading c.self.inside.setup c.read_message-reading.result.now f) c.in-Dated.is c.classify.ensures in
     payload-ok (Dated c.in-Dated.dated) c.self.view_is comes c.epoch-epoch.ensures.value
     (arrives-arrived c.args.payload.now comes (ap (λ (n : ℕ). record c.self.inside.counts { frames = n }) c.saturating_add-self-inside.ensures)
-    (slots-put c.self.inside.setup c.read_message-reading.result.now c.in-Dated.dated c.channels.result.now comes.2 c.channels.ensures.slots c.put_slots.ensures)
+    (slots-put c.self.inside.setup c.read_message-reading.result.now c.in-Dated.dated c.channels.result.now read c.channels.ensures.slots c.put_slots.ensures)
     c.handle_message.ensures.stays.keeps.same_setup c.in_ok-handle_message-in-Dated.ensures.handles.ok)
 
 pub returns-in_err-handle_message-in-Dated-clause-handles : goal.returns-in_err-handle_message-in-Dated-clause-handles
