@@ -146,13 +146,18 @@ letter-if : (b : Bool) (system : System) → no_end (if b then 32 ∷ letter_of 
 letter-if true system = letter-no_end system
 letter-if false system = refl
 
+seven-no_end : (a b c d e f g : List ℕ) → no_end a ≡ true → no_end b ≡ true → no_end c ≡ true → no_end d ≡ true → no_end e ≡ true → no_end f ≡ true → no_end g ≡ true
+    → no_end (a ++ b ++ c ++ d ++ e ++ f ++ g) ≡ true
+seven-no_end a b c d e f g h1 h2 h3 h4 h5 h6 h7 =
+    joined-no_end (a ++ b ++ c ++ d ++ e ++ f) g
+    (joined-no_end (a ++ b ++ c ++ d ++ e) f (joined-no_end (a ++ b ++ c ++ d) e (joined-no_end (a ++ b ++ c) d (joined-no_end (a ++ b) c (joined-no_end a b h1 h2) h3) h4) h5) h6) h7
+
 letters-no_end : (s : SetupView) (found : List Found) → no_end (missing_letters s found) ≡ true
 letters-no_end s found =
     let letter = λ (system : System). letter-if (lists_system s.head.listed system && not (has_taken s system found)) system in
-    joined-no_end _ (missing_letter s found Navic) (joined-no_end _ (missing_letter s found Sbas) (joined-no_end _ (missing_letter s found Qzss)
-    (joined-no_end _ (missing_letter s found Beidou) (joined-no_end _ (missing_letter s found Galileo)
-    (joined-no_end (missing_letter s found Gps) (missing_letter s found Glonass) (letter Gps) (letter Glonass))
-    (letter Galileo)) (letter Beidou)) (letter Qzss)) (letter Sbas)) (letter Navic)
+    seven-no_end (missing_letter s found Gps) (missing_letter s found Glonass) (missing_letter s found Galileo) (missing_letter s found Beidou)
+    (missing_letter s found Qzss) (missing_letter s found Sbas) (missing_letter s found Navic)
+    (letter Gps) (letter Glonass) (letter Galileo) (letter Beidou) (letter Qzss) (letter Sbas) (letter Navic)
 
 -- the first byte of a text
 abbrev first_byte : List ℕ → ℕ
