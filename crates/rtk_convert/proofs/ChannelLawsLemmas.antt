@@ -1,9 +1,7 @@
 -- A slot stands in a line of the report exactly if a satellite of it lacks a channel.
 use Rattle.std.proofs.Common.{◌≡◌, ◌∙◌, ◌+◌, ◌<◌, ◌≤◌, ◌==◌, ◌⊎◌, ℕ, zero, suc, ℤ, Bool, true, false, List, [], ◌∷◌, length, Option, None, Some, refl, sym, ap, subst, inl, inr, arith}
-use Rattle.std.specs.Prelude.{◌&&◌, ◌||◌, not, is_some, nat_le, slice_index, slice_index_or, Contains}
-use Rattle.std.proofs.lemmas.Bool.{cases_Bool, eqb-true, eq-eqb, and_parts, and_from, or_cases, or_left, or_right, both_ways, true_from_ne_false}
-use Rattle.std.proofs.lemmas.Bool.Decides.{nat_tests}
-use Rattle.rtk_message.specs.declared.any_message.AnyMessage.{AnyMessage as Message}
+use Rattle.std.specs.Prelude.{◌&&◌, not, is_some, slice_index, slice_index_or, Contains}
+use Rattle.std.proofs.lemmas.Bool.{cases_Bool, eqb-true, eq-eqb, and_parts, and_from, or_cases, or_left, or_right, both_ways}
 use Rattle.rtk_message.specs.declared.any_message.AnyMessage.TheVariants as any
 use Rattle.rtk_message.specs.declared.msm.Msm.{Msm}
 use Rattle.rtk_message.specs.declared.system.System.{System}
@@ -12,7 +10,7 @@ use Rattle.rtk_obs.specs.Carriers.{IsSlot, channel_at}
 use Rattle.rtk_obs.specs.MsmCells.{satellites_of}
 use Rattle.rtk_obs.specs.SatelliteIndex.{letter_of}
 use Rattle.rtk_obs.specs.SignalCells.{bit_of_row, channel_in, field_of_row}
-use Rattle.rtk_collect.specs.Arrival.{Arrival, At}
+use Rattle.rtk_collect.specs.Arrival.{At}
 use Rattle.rtk_convert.specs.declared.frame_class.FrameClass.{FrameClass}
 use Rattle.rtk_convert.specs.declared.frame_class.FrameClass.TheVariants.{OtherMessage, Refused, Foreign, Dated}
 use Rattle.rtk_convert.specs.ChannelLaws.{IsFoundMessage, LacksChannel, IsListed, ReportTellsChannels}

@@ -1,6 +1,6 @@
 -- The leap seconds of a file, and the head that tells them.
 use Rattle.std.proofs.Common.{◌≡◌, ◌∙◌, ◌<◌, ◌≤◌, ℕ, zero, suc, Bool, true, false, List, Option, None, Some, Decides, refl, sym, ap, inl, inr, arith}
-use Rattle.std.specs.Prelude.{All, IfSome, nat_le, option_map, unwrap_or, if◌then◌else◌}
+use Rattle.std.specs.Prelude.{IfSome, nat_le, option_map, unwrap_or, if◌then◌else◌}
 use Rattle.std.specs.Option.{SomeIff}
 use Rattle.std.proofs.lemmas.Bool.{cases_Bool, cases_order, both_ways}
 use Rattle.std.proofs.lemmas.Bool.Decides.{nat_tests}

@@ -6,7 +6,6 @@ use Rattle.rtk_frame.proofs.PublicLaws.{pending_cut}
 use Rattle.rtk_obs.specs.declared.any_code.AnyCode.{AnyCode}
 use Rattle.rtk_collect.specs.Signals.{signals}
 use Rattle.rtk_message.specs.declared.any_message.AnyMessage.{AnyMessage as Message}
-use Rattle.rtk_message.specs.declared.system.System.{System}
 use Rattle.rtk_obs.specs.declared.signal_cells.SignalEntry.{SignalEntry}
 use Rattle.rtk_collect.specs.Accepted.{station, kept, closed}
 use Rattle.rtk_collect.specs.Arrival.{Arrival, message_of_1005, message_of_1006}
@@ -24,9 +23,8 @@ use Rattle.rtk_convert.specs.FileOfArrivals.{kept_file, file_so_far}
 use Rattle.rtk_convert.specs.Finish.{report_of}
 use Rattle.rtk_convert.specs.FrameClass.{Found, arrivals}
 use Rattle.rtk_convert.specs.History.{LinkPast, History, Finds, fed_on, with_piece, with_closed, IsOpen, IsAfterFeed, IsAfterClose, found_by_piece, found_by_close, newest_on}
-use Rattle.rtk_convert.specs.Report.{lines, frame_counts, has_taken}
+use Rattle.rtk_convert.specs.Report.{lines, frame_counts}
 use Rattle.rtk_convert.specs.Setup.{SetupView, cells_by}
-use Rattle.rtk_convert.specs.Systems.{has_system}
 use Rattle.rtk_convert.proofs.ConverterLemmas.{link-at, found-pending, found-left}
 use Rattle.rtk_convert.proofs.RunLemmas.{length-with_piece, length-with_closed}
 use Rattle.rtk_convert.proofs.SameFoundLemmas.{rest-alike, alike-on, SameClosed, SameFound, AddsAlike, adds-none, finds-alike, counts-same, file-ends-alike, report-ends-alike}

@@ -1,4 +1,4 @@
-use Rattle.std.proofs.Common.{ap, refl, ◌∙◌, ◌==◌, ℕ, Bool}
+use Rattle.std.proofs.Common.{ap, refl, ◌∙◌, ◌==◌, Bool}
 use Rattle.std.specs.Prelude.{◌&&◌, ◌||◌}
 use Rattle.rtk_convert.specs.Slots.{has_slot, is_without_channel, is_of_other_channel}
 use Rattle.rtk_convert.proofs.SlotsLemmas.{same-slot}
