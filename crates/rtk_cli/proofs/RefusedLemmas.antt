@@ -14,7 +14,7 @@ use Rattle.rtk_cli.specs.Steps.ConvertWords.{HasTimes, IsFirstCause, RefusesConv
 -- a fault with the line of a cause
 pub refused-by : (IsCause : BadWords → Type 0) (cause : BadWords) (fault : WordsFault) → TellsCause cause fault → IsCause cause → IsRefusal IsCause fault
 refused-by IsCause cause (Clap text status) tells is = absurd tells
-refused-by IsCause cause (Bad line) tells is = (cause, is, tells)
+refused-by IsCause cause (Bad line more) tells is = (cause, is, tells)
 refused-by IsCause cause OutOfMemory tells is = tt
 
 -- the exit of a `?` by a cause
@@ -26,7 +26,7 @@ exit-by IsCause cause told r same exits is =
 -- a cause that is another one too
 refused-also : (IsCause IsOther : BadWords → Type 0) (fault : WordsFault) → ((cause : BadWords) → IsCause cause → IsOther cause) → IsRefusal IsCause fault → IsRefusal IsOther fault
 refused-also IsCause IsOther (Clap text status) also (cause, is, tells) = absurd tells
-refused-also IsCause IsOther (Bad line) also (cause, is, tells) = (cause, also cause is, tells)
+refused-also IsCause IsOther (Bad line more) also (cause, is, tells) = (cause, also cause is, tells)
 refused-also IsCause IsOther OutOfMemory also refused = tt
 
 -- the exit of a `?` after the text of the codes, which is no list

@@ -12,9 +12,11 @@ ghost use Rattle.rtk_convert.specs.Setup.{IsStation, IsWindow};
 ghost use Rattle.rtk_cut.specs.Cut.{IsStepOrNone};
 ghost use Rattle.rtk_commands.specs.ChartInput.{IsWidth};
 
+use crate::kind_list::kinds_of;
+use crate::leap_seconds::LeapSeconds;
 use crate::limits::{LEAST_WIDTH, MOST_STEP, MOST_WIDTH};
 use clap::ArgMatches;
-use rtk_convert::{Station, Window};
+use rtk_convert::{Station, SystemKinds, Window};
 use rtk_label::LabelParts;
 use rtk_message::MsmKind;
 use rtk_plan::Ways;
@@ -57,8 +59,12 @@ pub(crate) struct ConvertOptions<'a> {
     pub(crate) codes: &'a str,
     /// How many epochs are kept open.
     pub(crate) window: Window,
-    /// Which MSM is converted beside 1004.
-    pub(crate) msm: MsmKind,
+    /// The kind of MSM that is converted of each system.
+    pub(crate) kinds: SystemKinds,
+    /// The text of the channels of GLONASS.
+    pub(crate) channels: Option<&'a str>,
+    /// The leap seconds by which clocks of GLONASS are dated, in place of the table's.
+    pub(crate) leap_seconds: Option<LeapSeconds>,
 }
 
 /// The options of `chart`.
@@ -146,6 +152,14 @@ pub(crate) fn auto_options<'a>(words: &ArgMatches<'a>) -> Option<AutoOptions<'a>
     })
 }
 
+// The kinds that `--msm` of `convert` writes: a number is the kind of all systems.
+fn kinds_said(words: &ArgMatches<'_>) -> Option<SystemKinds> {
+    match words.get_one::<u32>("msm") {
+        Some(digit) => Some(SystemKinds::all(msm_of(digit)?)),
+        None => kinds_of(words.get_str("msm")?.as_bytes()),
+    }
+}
+
 /// The options of `convert`.
 pub(crate) fn convert_options<'a>(words: &ArgMatches<'a>) -> Option<ConvertOptions<'a>> {
     Some(ConvertOptions {
@@ -155,7 +169,9 @@ pub(crate) fn convert_options<'a>(words: &ArgMatches<'a>) -> Option<ConvertOptio
         marker: words.get_str("marker")?,
         codes: words.get_str("codes")?,
         window: window_of(words.get_one::<u32>("window")?)?,
-        msm: msm_of(words.get_one::<u32>("msm")?)?,
+        kinds: kinds_said(words)?,
+        channels: words.get_str("channels"),
+        leap_seconds: value_if_any(words.get_one::<u32>("leap-seconds").map(LeapSeconds::new))?,
     })
 }
 
