@@ -1,9 +1,13 @@
+mod ChannelLemmas
 mod ChoiceLemmas
 mod CodeListLemmas
+mod CodeWordLemmas
 mod FaultLineLemmas
+mod KindLemmas
 mod LinkLemmas
 mod MomentTextLemmas
 mod NameListLemmas
+mod PartLemmas
 mod RefusedLemmas
 mod SaidLemmas
 mod SatelliteListLemmas

@@ -55,9 +55,9 @@ fn slot_of_two(tens: u8, ones: u8) -> Option<u8>
 fn slot_of(text: &[u8]) -> Option<u8>
     ensures { MatchOption result ((s : ℕ) → IsSlot s → text.now ≢ slot_word s) (λ s. IsSlot s × (text.now ≡ slot_word s)) }
 {
-    match text.len() {
-        1 => slot_of_one(text[0]),
-        2 => slot_of_two(text[0], text[1]),
+    match text {
+        &[ones] => slot_of_one(ones),
+        &[tens, ones] => slot_of_two(tens, ones),
         _ => None,
     }
 }
@@ -85,13 +85,11 @@ fn signed_channel(is_negative: bool, digit: u8) -> Option<Channel>
 fn channel_of(text: &[u8]) -> Option<Channel>
     ensures { MatchOption result ((k : ℤ) → IsChannel k → text.now ≢ channel_word k) (λ k. IsChannel k × (text.now ≡ channel_word k)) }
 {
-    if text.len() == 1 {
-        return signed_channel(false, text[0]);
+    match text {
+        &[digit] => signed_channel(false, digit),
+        &[b'-', digit] => signed_channel(true, digit),
+        _ => None,
     }
-    if text.len() != 2 || text[0] != b'-' {
-        return None;
-    }
-    signed_channel(true, text[1])
 }
 
 // The slot and the channel of the two parts of a word.

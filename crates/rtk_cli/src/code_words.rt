@@ -16,10 +16,11 @@ use rtk_message::System;
 use rtk_obs::{AnyCode, Code};
 use std::alloc::{AllocError, Global};
 
-// The code of a band and an attribute, which are the word of a code of GPS.
-fn short_code(name: &[u8], band: u8, attribute: u8) -> Option<AnyCode>
-    requires { name.now ≡ band ∷ attribute ∷ [] }
-    ensures { MatchOption result ((c : AnyCode) → name.now ≢ code_word c) (λ c. name.now ≡ code_word c) }
+// The code whose word is a band and an attribute.
+fn short_code(band: u8, attribute: u8) -> Option<AnyCode>
+    ensures { MatchOption result
+        ((c : AnyCode) → band ∷ attribute ∷ [] ≢ code_word c)
+        (λ c. band ∷ attribute ∷ [] ≡ code_word c) }
 {
     AnyCode::from_text(&[b'G', band, attribute])
 }
@@ -40,10 +41,10 @@ fn long_code(name: &[u8]) -> Option<AnyCode>
 fn code_of_word(name: &[u8]) -> Option<AnyCode>
     ensures { MatchOption result ((c : AnyCode) → name.now ≢ code_word c) (λ c. name.now ≡ code_word c) }
 {
-    if name.len() != 2 {
+    let &[band, attribute] = name else {
         return long_code(name);
-    }
-    short_code(name, name[0], name[1])
+    };
+    short_code(band, attribute)
 }
 
 /// The system whose names of codes begin with this letter.
@@ -91,10 +92,10 @@ fn cause_of_three(letter: u8, band: u8, attribute: u8) -> BadWords
 fn cause_of_name(name: &[u8]) -> BadWords
     ensures { IsCauseOfName name.now result }
 {
-    if name.len() != 3 {
+    let &[letter, band, attribute] = name else {
         return BadWords::Codes;
-    }
-    cause_of_three(name[0], name[1], name[2])
+    };
+    cause_of_three(letter, band, attribute)
 }
 
 /// The codes that a text lists; a code may stand twice.

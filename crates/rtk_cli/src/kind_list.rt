@@ -42,10 +42,10 @@ fn exception_of(letter: u8, digit: u8) -> Option<MsmType>
 fn exception_of_word(word: &[u8]) -> Option<MsmType>
     ensures { MatchOption result ((t : MsmType) → word.now ≢ exception_word t) (λ t. word.now ≡ exception_word t) }
 {
-    if word.len() != 2 {
+    let &[letter, digit] = word else {
         return None;
-    }
-    exception_of(word[0], word[1])
+    };
+    exception_of(letter, digit)
 }
 
 // The kinds with the exceptions that a text lists.
@@ -89,10 +89,10 @@ fn general_kind(word: &[u8]) -> Option<MsmKind>
         ((k : MsmKind) → word.now ≢ (48 + digit_of k) ∷ [])
         (λ k. word.now ≡ (48 + digit_of k) ∷ []) }
 {
-    if word.len() != 1 {
+    let &[digit] = word else {
         return None;
-    }
-    kind_of_digit(word[0])
+    };
+    kind_of_digit(digit)
 }
 
 /// The kinds that a text writes; `None` exactly if it writes none.

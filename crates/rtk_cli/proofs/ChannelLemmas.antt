@@ -1,0 +1,100 @@
+-- The channels that a text writes.
+use Rattle.std.proofs.Common.{◌≡◌, ◌≢◌, ◌⊎◌, ℕ, zero, suc, ◌+◌, ◌-◌, ◌/◌, ◌%◌, ◌<◌, ◌≤◌, ℤ, pos, negsuc, ◌≤ℤ◌, Bool, true, false, List, [], ◌∷◌, ◌++◌, length, map, get_or, slice_index_or, unsigned_abs, Option, None, Some, inl, inr, arith, refl, sym, ap, ◌∙◌, subst, nat_lt, if◌then◌else◌}
+use Rattle.std.specs.Prelude.{All, AllPairs, MatchOption}
+use Rattle.std.specs.Option.{SomeIff}
+use Rattle.std.proofs.lemmas.Bool.{cases_lt, lt-ltb, le-ltb, cases_eq}
+use Rattle.rtk_obs.specs.Carriers.{IsChannel, IsSlot, channel_at}
+use Rattle.rtk_rinex.specs.Columns.{is_negative}
+use Rattle.rtk_cli.specs.declared.channel_list.SlotChannel.{SlotChannel}
+use Rattle.rtk_cli.specs.Steps.ChannelList.{slot_word, channel_word, IsSlotChannel, AreSlotsUnlike, AreChannelsOf}
+
+-- ---- the words of slots
+
+slot-of-one-digit : (s : ℕ) → s < 10 → slot_word s ≡ (48 + s) ∷ []
+slot-of-one-digit s lt = ap (λ (b : Bool). if b then (48 + s) ∷ [] else (48 + s / 10) ∷ (48 + s % 10) ∷ []) (lt-ltb s 10 lt)
+
+slot-of-two-digits : (s : ℕ) → 10 ≤ s → slot_word s ≡ (48 + s / 10) ∷ (48 + s % 10) ∷ []
+slot-of-two-digits s ge = ap (λ (b : Bool). if b then (48 + s) ∷ [] else (48 + s / 10) ∷ (48 + s % 10) ∷ []) (le-ltb s 10 ge)
+
+-- a word of one character
+pub one-digit : (r : Option ℕ) (text : List ℕ) (ones : ℕ) → text ≡ ones ∷ []
+    → MatchOption r ((s : ℕ) → IsSlot s → s < 10 → ones ≢ 48 + s) (λ s. IsSlot s × (s < 10) × (ones ≡ 48 + s))
+    → MatchOption r ((s : ℕ) → IsSlot s → text ≢ slot_word s) (λ s. IsSlot s × (text ≡ slot_word s))
+one-digit None text ones one none = λ s slot is. elim (cases_lt s 10) [
+  | inl lt ↦ none s slot lt (ap (λ (t : List ℕ). get_or t 0 0) (sym one ∙ is ∙ slot-of-one-digit s lt))
+  | inr ge ↦ absurd (let bad : 1 ≡ 2 = ap length (sym one ∙ is ∙ slot-of-two-digits s ge) in omega (arith, bad))
+]
+one-digit (Some s) text ones one (slot, lt, is) = (slot, one ∙ ap (λ (x : ℕ). x ∷ []) is ∙ sym (slot-of-one-digit s lt))
+
+-- a word of two characters
+pub two-digits : (r : Option ℕ) (text : List ℕ) (tens ones : ℕ) → text ≡ tens ∷ ones ∷ []
+    → MatchOption r ((s : ℕ) → IsSlot s → 10 ≤ s → tens ≡ 48 + s / 10 → ones ≢ 48 + s % 10) (λ s. IsSlot s × (10 ≤ s) × (tens ≡ 48 + s / 10) × (ones ≡ 48 + s % 10))
+    → MatchOption r ((s : ℕ) → IsSlot s → text ≢ slot_word s) (λ s. IsSlot s × (text ≡ slot_word s))
+two-digits None text tens ones two none = λ s slot is. elim (cases_lt s 10) [
+  | inl lt ↦ absurd (let bad : 2 ≡ 1 = ap length (sym two ∙ is ∙ slot-of-one-digit s lt) in omega (arith, bad))
+  | inr ge ↦
+      let same : tens ∷ ones ∷ [] ≡ (48 + s / 10) ∷ (48 + s % 10) ∷ [] = sym two ∙ is ∙ slot-of-two-digits s ge in
+      none s slot ge (ap (λ (t : List ℕ). get_or t 0 0) same) (ap (λ (t : List ℕ). get_or t 1 0) same)
+]
+two-digits (Some s) text tens ones two (slot, ge, first, second) =
+    (slot, two ∙ ap (λ (x : ℕ). x ∷ ones ∷ []) first ∙ ap (λ (y : ℕ). (48 + s / 10) ∷ y ∷ []) second ∙ sym (slot-of-two-digits s ge))
+
+-- a word of no other length
+pub other-length : (text : List ℕ) → length text ≢ 1 → length text ≢ 2 → (s : ℕ) → text ≢ slot_word s
+other-length text one two s is = elim (cases_lt s 10) [
+  | inl lt ↦ one (ap length (is ∙ slot-of-one-digit s lt))
+  | inr ge ↦ two (ap length (is ∙ slot-of-two-digits s ge))
+]
+
+-- ---- the words of channels
+
+word-from-0 : (k : ℤ) → is_negative k ≡ false → channel_word k ≡ (48 + unsigned_abs k) ∷ []
+word-from-0 k sign = ap (λ (b : Bool). if b then 45 ∷ (48 + unsigned_abs k) ∷ [] else (48 + unsigned_abs k) ∷ []) sign
+
+word-below-0 : (k : ℤ) → is_negative k ≡ true → channel_word k ≡ 45 ∷ (48 + unsigned_abs k) ∷ []
+word-below-0 k sign = ap (λ (b : Bool). if b then 45 ∷ (48 + unsigned_abs k) ∷ [] else (48 + unsigned_abs k) ∷ []) sign
+
+sign-of : (k : ℤ) → (is_negative k ≡ false) ⊎ (is_negative k ≡ true)
+sign-of (pos n) = inl refl
+sign-of (negsuc n) = inr refl
+
+pub channel-from-0 : (r : Option ℤ) (text : List ℕ) (digit : ℕ) → text ≡ digit ∷ []
+    → MatchOption r ((k : ℤ) → IsChannel k → false ≡ is_negative k → digit ≢ 48 + unsigned_abs k) (λ k. IsChannel k × (false ≡ is_negative k) × (digit ≡ 48 + unsigned_abs k))
+    → MatchOption r ((k : ℤ) → IsChannel k → text ≢ channel_word k) (λ k. IsChannel k × (text ≡ channel_word k))
+channel-from-0 None text digit one none = λ k good is. elim (sign-of k) [
+  | inl sign ↦ none k good (sym sign) (ap (λ (t : List ℕ). get_or t 0 0) (sym one ∙ is ∙ word-from-0 k sign))
+  | inr sign ↦ absurd (let bad : 1 ≡ 2 = ap length (sym one ∙ is ∙ word-below-0 k sign) in omega (arith, bad))
+]
+channel-from-0 (Some k) text digit one (good, sign, is) = (good, one ∙ ap (λ (x : ℕ). x ∷ []) is ∙ sym (word-from-0 k (sym sign)))
+
+pub channel-below-0 : (r : Option ℤ) (text : List ℕ) (digit : ℕ) → text ≡ 45 ∷ digit ∷ []
+    → MatchOption r ((k : ℤ) → IsChannel k → true ≡ is_negative k → digit ≢ 48 + unsigned_abs k) (λ k. IsChannel k × (true ≡ is_negative k) × (digit ≡ 48 + unsigned_abs k))
+    → MatchOption r ((k : ℤ) → IsChannel k → text ≢ channel_word k) (λ k. IsChannel k × (text ≡ channel_word k))
+channel-below-0 None text digit two none = λ k good is. elim (sign-of k) [
+  | inl sign ↦ absurd (let bad : 2 ≡ 1 = ap length (sym two ∙ is ∙ word-from-0 k sign) in omega (arith, bad))
+  | inr sign ↦ none k good (sym sign) (ap (λ (t : List ℕ). get_or t 1 0) (sym two ∙ is ∙ word-below-0 k sign))
+]
+channel-below-0 (Some k) text digit two (good, sign, is) = (good, two ∙ ap (λ (x : ℕ). 45 ∷ x ∷ []) is ∙ sym (word-below-0 k (sym sign)))
+
+-- a text that is neither one character nor two of which the first is a hyphen
+pub no-channel-word : (text : List ℕ) → length text ≢ 1 → (length text ≢ 2) ⊎ (get_or text 0 0 ≢ 45) → (k : ℤ) → text ≢ channel_word k
+no-channel-word text one other k is = elim (sign-of k) [
+  | inl sign ↦ one (ap length (is ∙ word-from-0 k sign))
+  | inr sign ↦ elim other [
+      | inl long ↦ long (ap length (is ∙ word-below-0 k sign))
+      | inr first ↦ first (ap (λ (t : List ℕ). get_or t 0 0) (is ∙ word-below-0 k sign))
+    ]
+]
+
+-- the digit of a channel
+pub channel-bound : (k : ℤ) → IsChannel k → unsigned_abs k ≤ 7
+channel-bound (pos n) (low, high) = omega (arith, high)
+channel-bound (negsuc n) (low, high) = omega (arith, low)
+
+-- ---- the channels of slots
+
+-- the channels of the first slots, of which none stands twice
+pub record SetsSlots (slots : List SlotChannel) (i : ℕ) (channels : List (Option ℤ)) : Type 0 where
+  pub unlike : (j k : ℕ) (d : SlotChannel) → j < k → k < i → (slice_index_or slots j d).slot ≢ (slice_index_or slots k d).slot
+  pub own : (k : ℕ) (d : SlotChannel) → k < i → channel_at channels (slice_index_or slots k d).slot ≡ Some (slice_index_or slots k d).channel
+  pub others : (s : ℕ) → IsSlot s → ((k : ℕ) (d : SlotChannel) → k < i → (slice_index_or slots k d).slot ≢ s) → channel_at channels s ≡ None
