@@ -98,3 +98,53 @@ pub record SetsSlots (slots : List SlotChannel) (i : ℕ) (channels : List (Opti
   pub unlike : (j k : ℕ) (d : SlotChannel) → j < k → k < i → (slice_index_or slots j d).slot ≢ (slice_index_or slots k d).slot
   pub own : (k : ℕ) (d : SlotChannel) → k < i → channel_at channels (slice_index_or slots k d).slot ≡ Some (slice_index_or slots k d).channel
   pub others : (s : ℕ) → IsSlot s → ((k : ℕ) (d : SlotChannel) → k < i → (slice_index_or slots k d).slot ≢ s) → channel_at channels s ≡ None
+
+sets-none : (slots : List SlotChannel) (channels : List (Option ℤ)) → ((s : ℕ) → channel_at channels s ≡ None) → SetsSlots slots 0 channels
+sets-none slots channels none = record {
+  unlike = λ j k d jk lt. absurd (omega (arith, lt));
+  own = λ k d lt. absurd (omega (arith, lt));
+  others = λ s slot unlike. none s;
+}
+
+-- one slot more is set, which had no channel
+pub sets-more : (slots : List SlotChannel) (i : ℕ) (p : SlotChannel) (old new : List (Option ℤ)) → SetsSlots slots i old → ((d : SlotChannel) → slice_index_or slots i d ≡ p)
+    → channel_at old p.slot ≡ None → channel_at new p.slot ≡ Some p.channel → ((s : ℕ) → IsSlot s → s ≢ p.slot → channel_at new s ≡ channel_at old s)
+    → ((k : ℕ) (d : SlotChannel) → k < i → IsSlot (slice_index_or slots k d).slot) → SetsSlots slots (i + 1) new
+sets-more slots i p old new sets at free set kept good =
+    -- an earlier slot is another one
+    let other : (k : ℕ) (d : SlotChannel) → k < i → (slice_index_or slots k d).slot ≢ p.slot = λ k d lt e.
+    let some : channel_at old p.slot ≡ Some (slice_index_or slots k d).channel = ap (λ (s : ℕ). channel_at old s) (sym e) ∙ sets.own k d lt in
+    let bad : ◌≡◌ {A = Option ℤ} None (Some (slice_index_or slots k d).channel) = sym free ∙ some in cc in
+    record {
+      unlike = λ j k d jk lt. elim (cases_eq k i) [
+        | inl here ↦ λ e. other j d (omega (arith, jk, here)) (e ∙ ap (λ (n : ℕ). (slice_index_or slots n d).slot) here ∙ ap (λ (q : SlotChannel). q.slot) (at d))
+        | inr before ↦ sets.unlike j k d jk (omega (arith, lt, before))
+      ];
+      own = λ k d lt. elim (cases_eq k i) [
+        | inl here ↦
+            let is : slice_index_or slots k d ≡ p = ap (λ (n : ℕ). slice_index_or slots n d) here ∙ at d in
+            subst (λ (q : SlotChannel). channel_at new q.slot ≡ Some q.channel) (sym is) set
+        | inr before ↦
+            let lt' : k < i = omega (arith, lt, before) in
+            kept (slice_index_or slots k d).slot (good k d lt') (other k d lt') ∙ sets.own k d lt'
+      ];
+      others = λ s slot none.
+          kept s slot (λ e. none i p (omega arith) (ap (λ (q : SlotChannel). q.slot) (at p) ∙ sym e)) ∙ sets.others s slot (λ k d lt. none k d (omega (arith, lt)));
+    }
+
+-- all slots are set
+pub sets-all : (slots : List SlotChannel) (i : ℕ) (channels : List (Option ℤ)) → SetsSlots slots i channels → i ≡ length slots → AreSlotsUnlike slots × AreChannelsOf slots channels
+sets-all slots i channels sets end = (
+  λ j k d jk lt. sets.unlike j k d jk (omega (arith, lt, end)),
+  record {
+    own = λ k d lt. sets.own k d (omega (arith, lt, end));
+    others = λ s slot none. sets.others s slot (λ k d lt. none k d (omega (arith, lt, end)));
+  },
+)
+
+-- a slot that has a channel stands before
+pub set-twice : (slots : List SlotChannel) (i : ℕ) (p : SlotChannel) (channels : List (Option ℤ)) (k : ℤ) → SetsSlots slots i channels → ((d : SlotChannel) → slice_index_or slots i d ≡ p) → i < length slots
+    → IsSlot p.slot → channel_at channels p.slot ≡ Some k → ¬ (AreSlotsUnlike slots)
+set-twice slots i p channels k sets at within slot some unlike =
+    let none : channel_at channels p.slot ≡ None = sets.others p.slot slot (λ j d lt e. unlike j i d lt within (e ∙ ap (λ (q : SlotChannel). q.slot) (sym (at d)))) in
+    let bad : ◌≡◌ {A = Option ℤ} None (Some k) = sym none ∙ some in cc
