@@ -42,7 +42,7 @@ for code in ${codes_of_G#*: }; do
     refuses "code_G$code" 'bad --codes' "GPS codes have two characters: $code"
 done
 # Other names have no second line.
-for name in e1X X1C E1 E1XX 1CC ' E1X' 'E1X ' 'E1X,' ',E1X' E1X,,E1B E1X;E1B E 9Z,E1A 1C,1,G1C E1C,r1C; do
+for name in e1X X1C E1 E1XX 1CC ' E1X' 'E1X ' 'E1X,' ',E1X' E1X,,E1B 'E1X;E1B' E 9Z,E1A 1C,1,G1C E1C,r1C; do
     convert "$name" a
     refuses "codes_$name" 'bad --codes'
 done
