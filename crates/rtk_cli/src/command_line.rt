@@ -9,8 +9,7 @@ use crate::arguments::{
 use crate::auto_command::auto_command;
 use crate::help_texts;
 use crate::label_command::label_command;
-use crate::leap_seconds::MOST_LEAP_SECONDS;
-use crate::limits::{LEAST_WIDTH, MOST_STEP, MOST_WIDTH};
+use crate::limits::{LEAST_WIDTH, MOST_LEAP_SECONDS, MOST_STEP, MOST_WIDTH};
 use clap::{Arg, ArgAction, ArgGroup, Command};
 use std::alloc::{AllocError, Global};
 

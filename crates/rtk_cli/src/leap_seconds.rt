@@ -1,13 +1,14 @@
-//! Leap seconds as the words of a command line give them.
+//! A number of leap seconds.
 
-ghost use Rattle.std.specs.Prelude.{◌≡◌, ◌≤◌, MatchOption};
+ghost use Rattle.std.specs.Prelude.{◌≡◌, ◌≤◌};
+ghost use Rattle.std.specs.Option.{SomeIff};
 
 use std::marker::Model;
 
-/// The most leap seconds that a command line gives.
-pub(crate) const MOST_LEAP_SECONDS: u32 = 99;
+/// The greatest number of leap seconds, since it has two digits.
+const GREATEST_LEAP_SECONDS: u8 = 99;
 
-/// A number of leap seconds, 0 to 99, which a header has room for.
+/// A number of leap seconds, by which GPS time is ahead of UTC, from 0 to 99. Clauses see the number.
 #[derive(Clone, Copy)]
 pub(crate) struct LeapSeconds {
     number: u8,
@@ -18,30 +19,28 @@ impl Model for LeapSeconds {
 
     ghost Value = { ℕ };
 
-    ghost view = { λ n. n.number };
+    ghost view = { λ l. l.number };
 
-    ghost invariant = { λ n. n.number ≤ 99 };
+    ghost invariant = { λ l. l.number ≤ 99 };
 
     ghost inverse = { λ n. record { number = n } };
 }
 
 impl LeapSeconds {
-    /// Makes the leap seconds of this number; `None` exactly if there are too many.
-    pub(crate) fn new(number: u32) -> Option<LeapSeconds>
-        ensures { MatchOption result (¬ (number ≤ 99)) (λ n. (n ≡ number) × (n ≤ 99)) }
+    /// Makes this number of leap seconds, or answers `None` if it is greater than 99.
+    pub(crate) fn new(number: u8) -> Option<LeapSeconds>
+        ensures { SomeIff result (number ≤ 99) number }
     {
-        if number > MOST_LEAP_SECONDS {
+        if number > GREATEST_LEAP_SECONDS {
             return None;
         }
-        Some(LeapSeconds {
-            number: number as u8,
-        })
+        Some(LeapSeconds { number })
     }
 
     /// Returns the number.
     pub(crate) fn number(self) -> u8
         ensures value { result ≡ self }
-        ensures bound { result ≤ 99 }
+        ensures good { result ≤ 99 }
     {
         self.number
     }

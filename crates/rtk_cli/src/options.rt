@@ -4,7 +4,7 @@
 //! clap refuses a number that is out of range, and words that lack what a command needs. Its contracts do
 //! not say this of a value, so all of it is looked at again: `None` is what clap should have refused.
 
-ghost use Rattle.std.specs.Prelude.{◌≡◌, ◌+◌, IfSome, MatchOption};
+ghost use Rattle.std.specs.Prelude.{◌≡◌, ◌≤◌, ◌+◌, IfSome, MatchOption};
 ghost use Rattle.std.specs.Int.{IsInRange};
 ghost use Rattle.std.specs.Option.{ForSome};
 ghost use Rattle.rtk_message.specs.Systems.{number_of_kind};
@@ -106,6 +106,16 @@ fn window_of(epochs: u32) -> Option<Window>
     Window::new(epochs as usize).ok()
 }
 
+// So many leap seconds; `None` exactly if they are too many.
+fn leap_seconds_of(number: u32) -> Option<LeapSeconds>
+    ensures { MatchOption result (¬ (number ≤ 99)) (λ given. given ≡ number) }
+{
+    let Ok(number) = u8::try_from(number) else {
+        return None;
+    };
+    LeapSeconds::new(number)
+}
+
 // The MSM whose message numbers end with this digit; `None` exactly if there is none.
 fn msm_of(digit: u32) -> Option<MsmKind>
     ensures { MatchOption result (¬ (IsInRange 4 7 digit)) (λ msm. number_of_kind msm ≡ 1070 + digit) }
@@ -171,7 +181,7 @@ pub(crate) fn convert_options<'a>(words: &ArgMatches<'a>) -> Option<ConvertOptio
         window: window_of(words.get_one::<u32>("window")?)?,
         kinds: kinds_said(words)?,
         channels: words.get_str("channels"),
-        leap_seconds: value_if_any(words.get_one::<u32>("leap-seconds").map(LeapSeconds::new))?,
+        leap_seconds: value_if_any(words.get_one::<u32>("leap-seconds").map(leap_seconds_of))?,
     })
 }
 
