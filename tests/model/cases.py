@@ -457,7 +457,7 @@ def proposals(empty):
     # pins: proposed, msm_option
     yield "msm_that_needs_no_option", four + of(1074, 2, 4), (told("1C", "1075 1", "1076 1", "1077 2"),)
     # an epoch in several messages is one, and one that comes again is another
-    # pins: begins_epoch, epochs_in
+    # pins: begins_epoch, Proposal.epochs_in
     yield "msm_whose_epochs_are_split", of(1074, 2, 0, 1, 0) + of(1077, 2, 0, 0, 1, 1), (
         " message 1077 4\n", told("1C", "1077 2"))
     # pins: gives_value

@@ -123,7 +123,7 @@ two="$noon until 2024-05-17T12:00:01 by"
 one_command="$(command $noon)"
 says "$two 1013" "$one_command one" '3 1 0 0 2 0 0 0 2'
 auto one
-# pins: span_line, time_text, value_words, convert_words, command_text, no_position_line
+# pins: span_line, time_text, code_names, value_words, convert_words, command_text, no_position_line
 leaves one 0 one.rnx want_err; as_said one one.rnx
 cp want_err one.err
 # written NAME: standard error of `auto -o NAME one`

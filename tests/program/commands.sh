@@ -32,6 +32,7 @@ helps() {
     mkdir bin named && ln -s "$program" bin/rtcm2rinex
     case $name in
     none | auto) cp "$examples/dated.rtcm" named/capture.rtcm && cp "$examples/dated.rtcm" named/hour1.rtcm ;;
+    compare) cp "$examples/slip.rnx" named/old.rnx && cp "$examples/slip.rnx" named/new.rnx ;;
     *) cp "$base" named/capture.rtcm && cp "$examples/base.rnx" named && cp "$examples/slip.rnx" named/day.rnx &&
         cp "$first" named/link1.rtcm && cp "$second" named/link2.rtcm ;;
     esac
@@ -237,7 +238,7 @@ bytes_beside_frames() {
     well "bytes_beside_frames_on_standard_input_$command" stdin
 }
 
-for name in none auto; do mkdir "$work/$name" && cd "$work/$name" && helps $name ${name#none}; done
+for name in none auto compare; do mkdir "$work/$name" && cd "$work/$name" && helps $name ${name#none}; done
 for command in show summary check chart quality cut label convert; do
     mkdir "$work/$command" && cd "$work/$command" || exit 1
     helps $command $command

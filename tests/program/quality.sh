@@ -251,7 +251,7 @@ missing-codes 2
 missing-code G01 5Q from 2024-05-17 12:30:00.000 until 2024-05-17 13:09:30.000 epochs 80
 missing-code G02 5Q from 2024-05-17 12:50:00.000 until 2024-05-17 12:52:00.000 epochs 5
 END
-# pins: lacks, open_where, ended_where, Missing.is_listed, missing_of, all_missing, missing_codes_in, longest_missing, missing_line
+# pins: lacks, open_where, ended_where, Missing.is_listed, missing_of, all_missing, missing_codes_in, longest_missing, StationText.missing_line
 same quality_of_missing_codes got want
 quality holes; grep -A 2 '^missing from' out >got
 cat >want <<'END'

@@ -67,6 +67,10 @@ chart marks.rnx
 chart wrong.rnx
 cut --every 30 slip.rnx
 cut slip.rnx
+compare slip.rnx slip_30s.rnx
+compare --json slip.rnx slip_30s.rnx
+compare slip.rnx wrong.rnx
+compare slip.rnx
 convert $options --codes 1C,2W late.rtcm
 convert $options --codes 1C,2W --window 2 late.rtcm
 convert $options late.rtcm
@@ -77,6 +81,7 @@ check stdin
 summary stdin
 chart stdin
 cut --every 30 stdin
+compare base.rnx stdin
 convert $options --codes 1C,2W stdin
 WORDS
 

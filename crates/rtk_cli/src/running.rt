@@ -83,8 +83,9 @@ fn run_words<R: Env + Clock + Files + Input + Print + Eprint + AllocGlobal, W: W
 
 /// Runs the program, and answers its exit status: 0 if the work is done, 1 if an input or an output
 /// failed or memory was refused, 2 if the words are refused, and 3 if `check` says no, also of a file
-/// that is to be drawn, cut or labelled, or if captures don't tell enough for `auto`. The report
-/// of a conversion goes to `report`, which is standard error.
+/// that is to be drawn, cut, labelled or compared, if a new file lacks something of the old one or has it
+/// otherwise, or if captures don't tell enough for `auto`. The report of a conversion goes to `report`,
+/// which is standard error.
 pub fn run_program<R: Env + Clock + Files + Input + Print + Eprint + AllocGlobal, W: Write + Drop>(
     rt: &R,
     report: W,

@@ -87,8 +87,8 @@ pub enum Job<'a> {
     },
 }
 
-/// Why words that clap takes give no conversion, no picture, no part or no label: the first cause that holds, in this
-/// order; but that no time is dated near the reference is found last.
+/// Why words that clap takes give no conversion, no picture, no part, no label or no comparison: the first cause that
+/// holds, in this order; but that no time is dated near the reference is found last.
 #[derive(Clone, Copy)]
 pub(crate) enum BadWords {
     /// The reference is written in another form, or there is no such moment, or times can't be
@@ -188,7 +188,7 @@ pub enum WordsFault {
         /// The exit status of the program.
         status: u8,
     },
-    /// Words that clap takes give no conversion, no picture, no part or no label (status 2).
+    /// Words that clap takes give no conversion, no picture, no part, no label or no comparison (status 2).
     Bad {
         /// The fault line, as `bad --near`.
         line: &'static str,

@@ -129,18 +129,21 @@ pub fn compare_named<R: Files + Input + Print + Eprint + AllocGlobal>(
     let Some(new_file) = open_input(rt, new) else {
         return fail_to_open(rt, new);
     };
-    let mut old_text = match read_through(rt.alloc(), old_file, CHECK_LIMIT) {
+    let alloc = rt.alloc();
+    let mut old_text = match read_through(alloc, old_file, CHECK_LIMIT) {
         Ok(text) => text,
         Err(fault) => return fail(rt, fault),
     };
-    let mut new_text = match read_through(rt.alloc(), new_file, CHECK_LIMIT) {
+    let mut new_text = match read_through(alloc, new_file, CHECK_LIMIT) {
         Ok(text) => text,
         Err(fault) => return fail(rt, fault),
     };
-    match command.texts(rt.alloc(), old_text.as_mut_slice(), new_text.as_mut_slice()) {
-        Ok(Compared::Told { worse, text }) => tell(rt, worse, text.as_slice()),
-        Ok(Compared::OldRefused(fault)) => refuse(rt, old, fault),
-        Ok(Compared::NewRefused(fault)) => refuse(rt, new, fault),
-        Err(_) => fail(rt, ToolFault::OutOfMemory),
+    let Ok(found) = command.texts(alloc, old_text.as_mut_slice(), new_text.as_mut_slice()) else {
+        return fail(rt, ToolFault::OutOfMemory);
+    };
+    match found {
+        Compared::Told { worse, text } => tell(rt, worse, text.as_slice()),
+        Compared::OldRefused(fault) => refuse(rt, old, fault),
+        Compared::NewRefused(fault) => refuse(rt, new, fault),
     }
 }

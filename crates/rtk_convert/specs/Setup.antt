@@ -149,7 +149,6 @@ cells_by s = entries_of (channels_of s.head.glonass)
 abbrev pub last_or : SetupView → System → ℕ → ℕ
 last_or s system lesser = if lists_system s.head.listed system then satellites_before system + satellites_of_system system else lesser
 
--- formula
 -- the greatest satellite of the listed systems, in the order G R E C J S I
 abbrev pub greatest_satellite : SetupView → ℕ
 greatest_satellite s =

@@ -51,6 +51,9 @@ QUALITY = 96 * (16 - 8) + 96 * (9 - 5)
 # What the text of `quality` may hold beside: a vector that doubles has room for at most 4,096 bytes, because no text here is longer.
 TEXT_OF_QUALITY = 4096
 
+# What `compare` holds for the satellites and codes: the manual says some 120 kB; beside it the text, and what any command holds.
+MOST_OF_COMPARISON = 130_000
+
 # The bytes that a picture has at most.
 MOST_OF_PICTURE = 75_000_000
 
@@ -406,6 +409,9 @@ def inputs_held_once(runs: Runs, tests: Tests) -> None:
         held = [runs.of_command([*words.split(), f"{kind}_{size}"]) for size in INPUTS]
         room = TEXT_OF_QUALITY if words.startswith("quality") else 0
         tests.within(f"{words} of 2 MiB over 1 MiB", held[1] - held[0], more, more + room)
+    held = [runs.of_command(["compare", f"file_{size}", f"file_{size}"], "lost 0 changed 0 explained 0\n") for size in INPUTS]
+    tests.within("compare of 2 MiB over 1 MiB", held[1] - held[0], 2 * MIB, 2 * MIB)
+    tests.within("compare of 1 MiB beside both inputs", held[0] - 2 * MIB, 0, MOST_OF_COMPARISON)
 
 
 # refuses: a `chart_text` or a `chart_svg` that gives up at a large picture

@@ -292,6 +292,8 @@ def scenes() -> Iterator[Scene]:
         yield Scene(["cut", *words.split()])
     for words in ("--observer me examples/slip.rnx", "--blank slips"):
         yield Scene(["label", *words.split()])
+    for words in ("--labels examples/slip.rnx examples/slip.rnx", "examples/slip_30s.rnx examples/slip.rnx"):
+        yield Scene(["compare", *words.split()])
     yield of_file(base)
     yield of_file(late, window="2")
     yield Scene(convert("stdin", second, window="4"), given=first)
@@ -318,6 +320,8 @@ def scenes() -> Iterator[Scene]:
     yield Scene(convert(base, "nowhere"), status=1)
     for words in (f"check {base}", "check wrong", "chart wrong", f"cut --every 30 {base}", "quality wrong", f"label --blank {base}"):
         yield Scene(words.split(), status=3)
+    for words in ("examples/slip.rnx wrong", "--json examples/slip.rnx examples/slip_30s.rnx"):
+        yield Scene(["compare", *words.split()], status=3)
 
     # Words that are refused: by clap, and by us.
     for words in ("--hax a", "", "--near noon a", "--codes 9Z a", "--made noon a", "a stdin", "half half", "half examples"):
@@ -327,7 +331,7 @@ def scenes() -> Iterator[Scene]:
     yield Scene(convert("a", windo="2"), status=2, looks=True)
     for words in ("", "show", "show a b", "show --hex --hex a", f"cut {base}", f"cut --until noon {base}"):
         yield Scene(words.split(), status=2)
-    for words in (f"label {base}", f"label --delta-east 1 {base}"):
+    for words in (f"label {base}", f"label --delta-east 1 {base}", "compare stdin stdin", f"compare {base}"):
         yield Scene(words.split(), status=2)
     for near in ("noon", "1980-01-06T00:00:00"):
         yield Scene(convert("a", near=near), status=2)
@@ -342,6 +346,7 @@ def scenes_of_space() -> Iterator[Scene]:
     """What holds a whole file."""
     for words in ("check", "chart", "chart --text", "cut --every 30", "quality", "label --blank"):
         yield Scene([*words.split(), "long"])
+    yield Scene(["compare", "long", "long"])
 
 
 def main() -> None:

@@ -40,7 +40,7 @@ SECONDS = 60  # of processor time: a run that takes more does not end
 ASLEEP = 3600  # by the clock: a run that takes longer sleeps for ever, however busy the machine is
 GATHERED = 65_536  # so many bytes of a file are gathered before a write
 READ_AT_ONCE = 32_768  # so many bytes of a link, or of an input of `summary`, are read at once
-READ_IN_PIECES = 4096  # so many bytes of an input of `show` or of a command that takes a file are read at once
+READ_IN_PIECES = 4096  # so many bytes of an input of `show` or of a command that takes a file or two are read at once
 FRAME = 46  # the bytes of a frame of late.rtcm, and of each one that is made of it
 COUNTS = 9  # the lines at the end of a report
 FEW = 200  # so many runs of a scene at least are left by --few, if it has as many
@@ -243,6 +243,8 @@ def cases():
         Case("label", ("label", "--observer", "me", example("slip.rnx"))),
         Case("label of standard input", ("label", "--blank", "stdin"), example("session.rnx")),
         Case("label of a long file", ("label", "--blank", records(1500))),
+        Case("compare", ("compare", example("slip_30s.rnx"), example("slip.rnx"))),
+        Case("compare with standard input", ("compare", "--json", "stdin", example("session.rnx")), example("session.rnx")),
         convert(TWO_LINKS, *session),
         convert(BESIDE_A_FILE, "stdin", session[1], given=session[0]),
     ]
@@ -555,9 +557,10 @@ def _refusal_is_cut():
     for status, words in [(1, ("show", "nowhere")), (1, ("show", "--hex", example("base.rtcm"))),
                           (2, ("shew", "a")), (2, ("show", example("base.rtcm"), "--hax")),
                           (2, ("convert", *OPTIONS[:-1], "9Z", "a")),
-                          (2, ("label", example("base.rnx"))),
+                          (2, ("label", example("base.rnx"))), (2, ("compare", "stdin", "stdin")),
                           (3, ("chart", wrong)), (3, ("cut", "--every", "1", wrong)),
-                          (3, ("quality", wrong)), (3, ("label", "--blank", wrong))]:
+                          (3, ("quality", wrong)), (3, ("label", "--blank", wrong)),
+                          (3, ("compare", wrong, example("base.rnx"))), (3, ("compare", example("base.rnx"), wrong))]:
         case = Case(" ".join(words), words)
         good = run(case)
         for k in range(len(good.err) + 1):
@@ -751,7 +754,7 @@ def size_of_inputs(case):
 
 def asked_for(words):
     """How many bytes a read of an input asks for."""
-    return READ_IN_PIECES if words[0] in ("show", *OF_FILES) else READ_AT_ONCE
+    return READ_IN_PIECES if words[0] in ("show", "compare", *OF_FILES) else READ_AT_ONCE
 
 
 def short_piece(case):
