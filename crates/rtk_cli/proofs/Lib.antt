@@ -3,6 +3,7 @@ mod ChoiceLemmas
 mod CodeListLemmas
 mod CodeWordLemmas
 mod FaultLineLemmas
+mod HeadLemmas
 mod KindLemmas
 mod LinkLemmas
 mod MomentTextLemmas

@@ -61,11 +61,14 @@ fn glonass_said(
     // `OutOfMemory` comes only if memory is refused: tests/system/calls, rows `job of convert ..`.
     ensures refused { IfErr result (IsRefusal (IsGlonassCause options.now listed.now)) }
 {
-    let Some(text) = options.channels else {
-        if has_glonass(listed) {
-            return Err(BadWords::NoChannels.into());
+    let text = match options.channels {
+        Some(text) => text,
+        None => {
+            if has_glonass(listed) {
+                return Err(BadWords::NoChannels.into());
+            }
+            return Ok(None);
         }
-        return Ok(None);
     };
     let channels = channels_said(alloc, text)?;
     if !has_glonass(listed) {
