@@ -3,10 +3,11 @@ use Rattle.std.proofs.Common.{◌≡◌, ◌≢◌, ◌⊎◌, ℕ, zero, suc, �
 use Rattle.std.specs.Prelude.{All, AllPairs, MatchOption}
 use Rattle.std.specs.Option.{SomeIff}
 use Rattle.std.proofs.lemmas.Bool.{cases_lt, lt-ltb, le-ltb, cases_eq}
+use Rattle.std.proofs.lemmas.List.Elements.{All-nil}
 use Rattle.rtk_obs.specs.Carriers.{IsChannel, IsSlot, channel_at}
 use Rattle.rtk_rinex.specs.Columns.{is_negative}
 use Rattle.rtk_cli.specs.declared.channel_list.SlotChannel.{SlotChannel}
-use Rattle.rtk_cli.specs.Steps.ChannelList.{slot_word, channel_word, IsSlotChannel, AreSlotsUnlike, AreChannelsOf}
+use Rattle.rtk_cli.specs.Steps.ChannelList.{slot_word, channel_word, IsSlotChannel, ListsSlots, is_none_word, WritesIf, WritesSlots, AreSlotsUnlike, AreChannelsOf}
 
 -- ---- the words of slots
 
@@ -148,3 +149,17 @@ pub set-twice : (slots : List SlotChannel) (i : ℕ) (p : SlotChannel) (channels
 set-twice slots i p channels k sets at within slot some unlike =
     let none : channel_at channels p.slot ≡ None = sets.others p.slot slot (λ j d lt e. unlike j i d lt within (e ∙ ap (λ (q : SlotChannel). q.slot) (sym (at d)))) in
     let bad : ◌≡◌ {A = Option ℤ} None (Some k) = sym none ∙ some in cc
+
+-- ---- the text of slots
+
+-- a text that is not the word lists slots, or nothing
+pub lists-only : (text : List ℕ) (r : Option (List SlotChannel)) → is_none_word text ≡ false
+    → MatchOption r ((listed : List SlotChannel) → ¬ (ListsSlots text listed)) (λ listed. ListsSlots text listed)
+    → MatchOption r ((listed : List SlotChannel) → ¬ (WritesSlots text listed)) (λ listed. WritesSlots text listed)
+lists-only text None no none = λ listed says. none listed (subst (λ (b : Bool). WritesIf b text listed) no says)
+lists-only text (Some listed) no lists = subst (λ (b : Bool). WritesIf b text listed) (sym no) lists
+
+-- what a text writes are slots and channels that there are
+pub all-good : (b : Bool) (text : List ℕ) (listed : List SlotChannel) → WritesIf b text listed → All IsSlotChannel listed
+all-good true text listed none = subst (λ (l : List SlotChannel). All IsSlotChannel l) (sym none) (All-nil IsSlotChannel)
+all-good false text listed lists = lists.0

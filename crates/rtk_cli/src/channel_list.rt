@@ -13,9 +13,6 @@ use crate::words::{BadWords, WordsFault};
 use rtk_obs::{Channel, Channels};
 use std::alloc::{AllocError, Global};
 
-/// The word that no slot has a channel.
-const NONE: &[u8] = b"none";
-
 /// A slot of GLONASS, and its frequency channel.
 #[derive(Clone, Copy)]
 pub(crate) struct SlotChannel {
@@ -145,7 +142,7 @@ fn slots_of(alloc: Global, text: &[u8]) -> Result<Option<Vec<SlotChannel>>, Allo
     // An error comes only if memory is refused: tests/system/calls, rows `job of convert`.
     ensures { IfOk result (λ listed. MatchOption listed ((slots : List SlotChannel) → ¬ (WritesSlots text.now slots)) (λ slots. WritesSlots text.now slots.items)) }
 {
-    if text == NONE {
+    if text == b"none".as_slice() {
         return Ok(Some(Vec::new(alloc)));
     }
     slots_listed(alloc, text)

@@ -121,7 +121,7 @@ fn is_kind_list(word: &str) -> bool {
 /// Some word writes kinds with exceptions.
 pub(crate) fn has_kind_list(words: &[&str]) -> bool {
     for word in words {
-        if is_kind_list(word) {
+        if is_kind_list(*word) {
             return true;
         }
     }

@@ -39,10 +39,15 @@ ListsSlots text listed = All IsSlotChannel listed × (map (marked_parts 58) (mar
 abbrev pub is_none_word : List ℕ → Bool
 is_none_word text = pointwise nat_eq text (codes "none")
 
+-- a text that is the word, or else lists these slots
+abbrev pub WritesIf : Bool → List ℕ → List SlotChannel → Type 0
+WritesIf true text listed = listed ≡ []
+WritesIf false text listed = ListsSlots text listed
+
 -- formula
 -- the text says that no slot has a channel, or else it lists these slots (this project's rule)
 abbrev pub WritesSlots : List ℕ → List SlotChannel → Type 0
-WritesSlots text listed = if is_none_word text then listed ≡ [] else ListsSlots text listed
+WritesSlots text listed = WritesIf (is_none_word text) text listed
 
 -- no slot is listed twice
 abbrev pub AreSlotsUnlike : List SlotChannel → Type 0
