@@ -1,13 +1,15 @@
 -- The channels that a text writes.
-use Rattle.std.proofs.Common.{◌≡◌, ◌≢◌, ◌⊎◌, ℕ, zero, suc, ◌+◌, ◌-◌, ◌/◌, ◌%◌, ◌<◌, ◌≤◌, ℤ, pos, negsuc, ◌≤ℤ◌, Bool, true, false, List, [], ◌∷◌, ◌++◌, length, map, get_or, slice_index_or, unsigned_abs, Option, None, Some, inl, inr, arith, refl, sym, ap, ◌∙◌, subst, nat_lt, if◌then◌else◌}
+use Rattle.std.proofs.Common.{◌≡◌, ◌≢◌, ◌⊎◌, ℕ, zero, suc, ◌+◌, ◌-◌, ◌/◌, ◌%◌, ◌<◌, ◌≤◌, ◌==◌, ℤ, pos, negsuc, ◌≤ℤ◌, Bool, true, false, List, [], ◌∷◌, ◌++◌, length, map, get_or, slice_index_or, unsigned_abs, Option, None, Some, inl, inr, arith, refl, sym, ap, ◌∙◌, subst, nat_lt, if◌then◌else◌}
 use Rattle.std.specs.Prelude.{All, AllPairs, MatchOption}
 use Rattle.std.specs.Option.{SomeIff}
 use Rattle.std.proofs.lemmas.Bool.{cases_lt, lt-ltb, le-ltb, cases_eq}
 use Rattle.std.proofs.lemmas.List.Elements.{All-nil}
+use Rattle.std.proofs.lemmas.List.Splits.{length-slice_split}
 use Rattle.rtk_obs.specs.Carriers.{IsChannel, IsSlot, channel_at}
 use Rattle.rtk_rinex.specs.Columns.{is_negative}
 use Rattle.rtk_cli.specs.declared.channel_list.SlotChannel.{SlotChannel}
-use Rattle.rtk_cli.specs.Steps.ChannelList.{slot_word, channel_word, IsSlotChannel, ListsSlots, is_none_word, WritesIf, WritesSlots, AreSlotsUnlike, AreChannelsOf}
+use Rattle.rtk_cli.specs.Steps.Parts.{marked_parts}
+use Rattle.rtk_cli.specs.Steps.ChannelList.{slot_word, channel_word, IsSlotChannel, slot_parts, ListsSlots, is_none_word, WritesIf, WritesSlots, AreSlotsUnlike, AreChannelsOf}
 
 -- ---- the words of slots
 
@@ -153,13 +155,35 @@ set-twice slots i p channels k sets at within slot some unlike =
 -- ---- the text of slots
 
 -- a text that is not the word lists slots, or nothing
-pub lists-only : (text : List ℕ) (r : Option (List SlotChannel)) → is_none_word text ≡ false
-    → MatchOption r ((listed : List SlotChannel) → ¬ (ListsSlots text listed)) (λ listed. ListsSlots text listed)
-    → MatchOption r ((listed : List SlotChannel) → ¬ (WritesSlots text listed)) (λ listed. WritesSlots text listed)
-lists-only text None no none = λ listed says. none listed (subst (λ (b : Bool). WritesIf b text listed) no says)
-lists-only text (Some listed) no lists = subst (λ (b : Bool). WritesIf b text listed) (sym no) lists
+pub lists-only : {V : Type 0} (items : V → List SlotChannel) (text : List ℕ) (r : Option V) → is_none_word text ≡ false
+    → MatchOption r ((listed : List SlotChannel) → ¬ (ListsSlots text listed)) (λ v. ListsSlots text (items v))
+    → MatchOption r ((listed : List SlotChannel) → ¬ (WritesSlots text listed)) (λ v. WritesSlots text (items v))
+lists-only items text None no none = λ listed says. none listed (subst (λ (b : Bool). WritesIf b text listed) no says)
+lists-only items text (Some v) no lists = subst (λ (b : Bool). WritesIf b text (items v)) (sym no) lists
 
 -- what a text writes are slots and channels that there are
 pub all-good : (b : Bool) (text : List ℕ) (listed : List SlotChannel) → WritesIf b text listed → All IsSlotChannel listed
 all-good true text listed none = subst (λ (l : List SlotChannel). All IsSlotChannel l) (sym none) (All-nil IsSlotChannel)
 all-good false text listed lists = lists.0
+
+-- ---- the parts of a word
+
+some-parts : (mark : ℕ) (text : List ℕ) → 1 ≤ length (marked_parts mark text)
+some-parts mark text = omega (arith, length-slice_split (λ (x : ℕ). x == mark) text)
+
+pub one-part : (word slot : List ℕ) → marked_parts 58 word ≡ slot ∷ [] → (p : SlotChannel) → marked_parts 58 word ≢ slot_parts p
+one-part word slot one p same = absurd (let bad : 1 ≡ 2 = ap length (sym one ∙ same) in omega (arith, bad))
+
+pub more-parts : (word slot channel rest : List ℕ) → marked_parts 58 word ≡ slot ∷ channel ∷ marked_parts 58 rest → (p : SlotChannel) → marked_parts 58 word ≢ slot_parts p
+more-parts word slot channel rest more p same =
+    let bad : suc (suc (length (marked_parts 58 rest))) ≡ 2 = ap length (sym more ∙ same) in
+    absurd (omega (arith, bad, some-parts 58 rest))
+
+pub two-parts : (r : Option SlotChannel) (word slot channel : List ℕ) → marked_parts 58 word ≡ slot ∷ channel ∷ []
+    → MatchOption r ((p : SlotChannel) → IsSlotChannel p → slot ≡ slot_word p.slot → channel ≢ channel_word p.channel) (λ p. IsSlotChannel p × (slot ≡ slot_word p.slot) × (channel ≡ channel_word p.channel))
+    → MatchOption r ((p : SlotChannel) → IsSlotChannel p → marked_parts 58 word ≢ slot_parts p) (λ p. IsSlotChannel p × (marked_parts 58 word ≡ slot_parts p))
+two-parts None word slot channel two none = λ p good same.
+    let both : slot ∷ channel ∷ [] ≡ slot_parts p = sym two ∙ same in
+    none p good (ap (λ (t : List (List ℕ)). get_or t 0 []) both) (ap (λ (t : List (List ℕ)). get_or t 1 []) both)
+two-parts (Some p) word slot channel two (good, first, second) =
+    (good, two ∙ ap (λ (t : List ℕ). t ∷ channel ∷ []) first ∙ ap (λ (t : List ℕ). slot_word p.slot ∷ t ∷ []) second)

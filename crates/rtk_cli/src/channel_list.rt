@@ -95,8 +95,12 @@ fn slot_and_channel(slot: &[u8], channel: &[u8]) -> Option<SlotChannel>
         ((p : SlotChannel) → IsSlotChannel p → slot.now ≡ slot_word p.slot → channel.now ≢ channel_word p.channel)
         (λ p. IsSlotChannel p × (slot.now ≡ slot_word p.slot) × (channel.now ≡ channel_word p.channel)) }
 {
-    let slot = slot_of(slot)?;
-    let channel = channel_of(channel)?;
+    let Some(slot) = slot_of(slot) else {
+        return None;
+    };
+    let Some(channel) = channel_of(channel) else {
+        return None;
+    };
     Some(SlotChannel { slot, channel })
 }
 

@@ -30,7 +30,9 @@ fn long_code(name: &[u8]) -> Option<AnyCode>
     requires { length name.now ≢ 2 }
     ensures { MatchOption result ((c : AnyCode) → name.now ≢ code_word c) (λ c. name.now ≡ code_word c) }
 {
-    let code = AnyCode::from_text(name)?;
+    let Some(code) = AnyCode::from_text(name) else {
+        return None;
+    };
     if code.text()[0] == b'G' {
         return None;
     }

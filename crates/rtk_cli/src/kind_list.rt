@@ -33,8 +33,12 @@ fn exception_of(letter: u8, digit: u8) -> Option<MsmType>
         ((t : MsmType) → letter ∷ digit ∷ [] ≢ exception_word t)
         (λ t. letter ∷ digit ∷ [] ≡ exception_word t) }
 {
-    let system = system_of_letter(letter)?;
-    let kind = kind_of_digit(digit)?;
+    let Some(system) = system_of_letter(letter) else {
+        return None;
+    };
+    let Some(kind) = kind_of_digit(digit) else {
+        return None;
+    };
     Some(MsmType { system, kind })
 }
 
