@@ -100,6 +100,13 @@ fn cause_of_name(name: &[u8]) -> BadWords
     cause_of_three(letter, band, attribute)
 }
 
+fn put_code(codes: &mut Vec<AnyCode>, code: AnyCode) -> Result<(), AllocError>
+    ensures { OnOk result (codes.new.items ≡ codes.old.items ++ code ∷ []) }
+{
+    codes.push(code)?;
+    Ok(())
+}
+
 /// The codes that a text lists; a code may stand twice.
 pub(crate) fn any_codes_said(alloc: Global, text: &str) -> Result<Vec<AnyCode>, WordsFault>
     ensures listed { IfOk result (λ codes. ListsCodes text.now codes.items) }
@@ -113,7 +120,7 @@ pub(crate) fn any_codes_said(alloc: Global, text: &str) -> Result<Vec<AnyCode>, 
         let Some(code) = code_of_word(name) else {
             return Err(cause_of_name(name).into());
         };
-        codes.push(code)?;
+        put_code(&mut codes, code)?;
         let Some(next) = behind else {
             return Ok(codes);
         };
