@@ -1,13 +1,7 @@
-"""Mixed files with the fields of a label, some of them changed behind the lines of the fields.
-
-    mixed_labels.py FOLDER COUNT    writes FOLDER/stdin with so many texts as hex text, a line each, and FOLDER/stdout with what
-                                    tests/values/labels.rt.in is due to print of them
-"""
+"""Mixed files with the fields of a label, some of them changed behind the lines of the fields."""
 
 from __future__ import annotations
 
-import sys
-from pathlib import Path
 from random import Random
 from typing import NamedTuple
 
@@ -68,8 +62,8 @@ def labelled(front: list[str], fields: Fields) -> list[str]:
     ]
 
 
-def some_text(rng: Random) -> tuple[bytes, str]:
-    """A text, and what is due to be printed of it."""
+def some_text(rng: Random) -> tuple[bytes, bytes, tuple[int, str] | None]:
+    """A text, the same without the fields, and the first wrong line of the text and its cause, if one is wrong."""
     lines = some_file(rng)[0].splitlines()
     front, rest = lines[:9], "".join(f"{line}\n" for line in lines[9:]).encode()
     fields = some_fields(rng, float(front[8][:14]) != 0)
@@ -77,18 +71,5 @@ def some_text(rng: Random) -> tuple[bytes, str]:
     plain, text = ("".join(f"{line}\n" for line in its).encode() + rest for its in (front, labelled(front, fields)))
     fault = mixed_fault(plain)
     if fault is None:
-        return text, f"again\n{plain.decode()}"
-    line = fault[0] + (fault[0] > 3 and bool(fields.number.strip()))
-    return text, f"line {line}: {fault[1]}\n"
-
-
-def main() -> None:
-    folder, count = Path(sys.argv[1]), int(sys.argv[2])
-    rng = Random(SEED)
-    texts = [some_text(rng) for _ in range(count)]
-    (folder / "stdin").write_text("".join(f"{text.hex()}\n" for text, _ in texts))
-    (folder / "stdout").write_text("".join(due for _, due in texts))
-
-
-if __name__ == "__main__":
-    main()
+        return text, plain, None
+    return text, plain, (fault[0] + (fault[0] > 3 and bool(fields.number.strip())), fault[1])

@@ -1,27 +1,20 @@
-"""Mixed files that chance makes, two large ones, and parts of them.
-
-    mixed_parts.py FOLDER COUNT    writes FOLDER/stdin with so many files and the large ones as hex text, a line each, with a span
-                                   and a step, and FOLDER/stdout with what tests/values/parts.rt.in is due to print of them
-"""
+"""Mixed files that chance makes, two large ones, and parts of them."""
 
 from __future__ import annotations
 
-import sys
 from datetime import datetime
-from pathlib import Path
 from random import Random
 
 from mixed_files import MixedSetup, Shown, record
 from mixed_tables import MixedTable, some_header, some_setup, some_shown
-from model import civil, moment
-from parts import END, MS, START, Part, part_of
+from model import moment
+from parts import MS, START, Part
 from systems import GLONASS, LETTERS, SATELLITES, SYSTEMS
 
 SEED = 5252
 NOON = moment("2024-05-17T12:00:00")
 DAY = 86_400  # in s
 STEPS = (1, 1, 5, 10, 15)  # in s
-MOST = 1_048_576  # how many bytes `rt try` lets a program print
 
 
 def some_part(rng: Random, step: int, times: list[int]) -> Part:
@@ -90,28 +83,3 @@ def a_day(rng: Random) -> tuple[str, Part]:
         epoch = {"E36": {"1X": shown}, **({"I14": {"5A": shown}} if at in (0, 30, DAY) else {})}
         lines += record(setup, midnight + 1000 * at, epoch)
     return MixedTable(some_header(rng, setup, midnight), lines).text.decode(), Part(None, None, DAY)
-
-
-def word(time: datetime | None) -> str:
-    return "-" if time is None else str((time - START) // MS)
-
-
-def counts(text: str) -> int:
-    return sum(line.startswith(">") for line in text.partition(END)[2].splitlines())
-
-
-def main() -> None:
-    folder, count = Path(sys.argv[1]), int(sys.argv[2])
-    rng = Random(SEED)
-    files = [*(some_file(rng) for _ in range(count)), a_day(rng), all_satellites(rng)]
-    assert civil(NOON)
-    asked = [f"{text.encode().hex()} {word(part.since)} {word(part.until)} {part.every or '-'}\n" for text, part in files]
-    parts = [part_of(text, part) for text, part in files]
-    due = "".join(f"{counts(text)} {counts(part)}\n{part}" for (text, _), part in zip(files, parts))
-    assert len(due) <= MOST
-    (folder / "stdin").write_text("".join(asked))
-    (folder / "stdout").write_text(due)
-
-
-if __name__ == "__main__":
-    main()

@@ -8,7 +8,6 @@ ghost use Rattle.rtk_cli.specs.Words.{IsWithinLimits, IsWordsFault};
 use crate::auto_words::auto_words;
 use crate::chart_words::choice_of;
 use crate::clap_words::{matches_of, missing_word};
-use crate::command_line::program_command;
 use crate::compare_words::{compared_files, comparison};
 use crate::convert_words::convert_job;
 use crate::cut_words::part_of;
@@ -21,6 +20,7 @@ use crate::options::{
 use crate::words::{Job, WordsFault};
 use clap::{ArgMatches, Command};
 use rtk_commands::Chart;
+use rtk_usage::program_command;
 use std::alloc::{AllocError, Global};
 
 // The names that stand for one argument.

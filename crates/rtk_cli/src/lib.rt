@@ -16,8 +16,6 @@
 //! Its tests: tests/values/src/cli.rt.in and cli/, and tests/program
 #![tactic(auto)]
 
-mod arguments;
-mod auto_command;
 mod auto_converting;
 mod auto_labelling;
 mod auto_looking;
@@ -32,18 +30,14 @@ mod clap_words;
 mod code_lines;
 mod code_list;
 mod code_words;
-mod command_line;
 mod compare_words;
 mod convert_words;
 mod converting;
 mod cut_words;
-mod help_texts;
 mod jobs;
 mod kind_list;
-mod label_command;
 mod label_words;
 mod leap_seconds;
-mod limits;
 mod moment_text;
 mod option_texts;
 mod options;

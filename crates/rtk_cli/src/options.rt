@@ -14,13 +14,13 @@ ghost use Rattle.rtk_commands.specs.ChartInput.{IsWidth};
 
 use crate::kind_list::kinds_of;
 use crate::leap_seconds::LeapSeconds;
-use crate::limits::{LEAST_WIDTH, MOST_STEP, MOST_WIDTH};
 use clap::ArgMatches;
 use rtk_convert::{Station, SystemKinds, Window};
 use rtk_label::LabelParts;
 use rtk_message::MsmKind;
 use rtk_plan::Ways;
 use rtk_quality::Form;
+use rtk_usage::{LEAST_WIDTH, MOST_STEP, MOST_WIDTH};
 
 /// How many characters wide a picture is if no number is given. It is not clap's default value,
 /// unlike `WINDOW` of command_line.rt: without `--text` a picture has no such width.

@@ -198,7 +198,7 @@ fn with_command<'a>(
 }
 
 /// The whole command line. If `takes_lists`, `--msm` of `convert` takes texts.
-pub(crate) fn program_command<'a>(
+pub fn program_command<'a>(
     alloc: Global,
     takes_lists: bool,
 ) -> Result<Command<'a>, AllocError> {

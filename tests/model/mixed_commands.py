@@ -1,0 +1,107 @@
+"""`check`, `label --blank` and `cut` on mixed files that chance makes, beside the model.
+
+    mixed_commands.py PROGRAM COUNT    so many changed files, a third as many labelled ones, and a tenth as many parts
+
+The last line is 'N passed, M failed'.
+"""
+
+from __future__ import annotations
+
+import sys
+import tempfile
+from os import chdir
+from pathlib import Path
+from random import Random
+from typing import Iterator, NamedTuple
+
+import mixed_cases
+import mixed_damages
+import mixed_labels
+import mixed_parts
+from mixed_checker import mixed_fault
+from mixed_tables import some_table
+from parts import part_of
+from program import Program
+from properties import ends_with
+from systems import LETTERS
+
+END = b"END OF HEADER       \n"
+
+
+class Due(NamedTuple):
+    """A command on a text, and what is due of it."""
+
+    words: list[str]
+    text: bytes
+    status: int
+    out: bytes
+    err: bytes
+
+
+def fault_line(fault: tuple[int, str]) -> bytes:
+    return b"line %d: %s\n" % (fault[0], fault[1].encode())
+
+
+def counts(text: bytes) -> tuple[int, int]:
+    """The records and the rows of a file."""
+    lines = text.partition(END)[2].splitlines()
+    records = sum(line.startswith(b">") for line in lines)
+    return records, len(lines) - records
+
+
+def checked(text: bytes) -> Due:
+    fault = mixed_fault(text)
+    if fault is not None:
+        return Due(["check"], text, 3, fault_line(fault), b"")
+    return Due(["check"], text, 0, b"valid: %d epochs, %d satellite lines\n" % counts(text), b"")
+
+
+def checks(count: int) -> Iterator[Due]:
+    """Of changed files, of those that were worked by hand, and of a file of each system alone."""
+    rng = Random(mixed_damages.SEED)
+    for _ in range(count):
+        yield checked(mixed_damages.damaged_mixed(rng, some_table(rng).text))
+    for case, _ in mixed_cases.HEADER_CASES + mixed_cases.RECORD_CASES:
+        yield checked(mixed_cases.changed(case))
+    for letter in LETTERS:
+        yield checked(mixed_cases.file_of_one(letter))
+
+
+def labels(count: int) -> Iterator[Due]:
+    """The label is taken away, or the first wrong line is named."""
+    rng = Random(mixed_labels.SEED)
+    for _ in range(count):
+        text, plain, fault = mixed_labels.some_text(rng)
+        if fault is None:
+            yield Due(["label", "--blank"], text, 0, plain, b"")
+        else:
+            yield Due(["label", "--blank"], text, 3, b"", fault_line(fault))
+
+
+def cuts(count: int) -> Iterator[Due]:
+    rng = Random(mixed_parts.SEED)
+    for text, part in [*(mixed_parts.some_file(rng) for _ in range(count)), mixed_parts.a_day(rng), mixed_parts.all_satellites(rng)]:
+        due = part_of(text, part).encode()
+        told = b"records %d written %d\n" % (counts(text.encode())[0], counts(due)[0])
+        is_refused = part.since is not None and part.until is not None and part.since > part.until
+        if part.words() and not is_refused:
+            yield Due(["cut", *part.words()], text.encode(), 0, due, told)
+
+
+def main() -> None:
+    path, count = str(Path(sys.argv[1]).resolve()), int(sys.argv[2])
+    passed, failed = 0, 0
+    with tempfile.TemporaryDirectory() as folder:
+        chdir(folder)
+        program = Program(path)
+        for number, due in enumerate((*checks(count), *labels(count // 3), *cuts(count // 10))):
+            differs = ends_with(program.on(due.text, *due.words), due.status, due.out, due.err)
+            passed, failed = passed + (not differs), failed + bool(differs)
+            if differs and failed <= 5:
+                print(f"FAILED: {due.words} of mixed file {number}: {differs}")
+        chdir("/")
+    print(f"{passed} passed, {failed} failed")
+
+
+if __name__ == "__main__":
+    main()
