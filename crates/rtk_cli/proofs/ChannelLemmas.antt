@@ -3,6 +3,7 @@ use Rattle.std.proofs.Common.{◌≡◌, ◌≢◌, ◌⊎◌, ℕ, zero, suc, �
 use Rattle.std.specs.Prelude.{All, AllPairs, MatchOption}
 use Rattle.std.specs.Option.{SomeIff}
 use Rattle.std.proofs.lemmas.Bool.{cases_lt, lt-ltb, le-ltb, cases_eq}
+use Rattle.std.proofs.lemmas.Int.{ints}
 use Rattle.std.proofs.lemmas.List.Elements.{All-nil}
 use Rattle.std.proofs.lemmas.List.Splits.{length-slice_split}
 use Rattle.rtk_obs.specs.Carriers.{IsChannel, IsSlot, channel_at}
@@ -91,8 +92,8 @@ no-channel-word text one other k is = elim (sign-of k) [
 
 -- the digit of a channel
 pub channel-bound : (k : ℤ) → IsChannel k → unsigned_abs k ≤ 7
-channel-bound (pos n) (low, high) = omega (arith, high)
-channel-bound (negsuc n) (low, high) = omega (arith, low)
+channel-bound (pos n) (low, high) = omega (arith, ints, high)
+channel-bound (negsuc n) (low, high) = omega (arith, ints, low)
 
 -- ---- the channels of slots
 

@@ -64,7 +64,7 @@ pub reads-no-more : (first : SystemKinds) (text : List ℕ) (changed : SystemKin
     → ReadsExceptions first text changed rest → marked_parts 44 rest ≡ word ∷ more → ((t : MsmType) → word ≢ exception_word t)
     → (exceptions : List MsmType) → marked_parts 44 text ≢ map exception_word exceptions
 reads-no-more first text changed rest word more reads split none exceptions =
-    no-word (λ _. Unit {0}) exception_word (marked_parts 44 text) reads.done exceptions word (marked_parts 44 rest) more reads.so_far split (λ t _. none t) (λ k d lt. tt)
+    no-word (λ (t : MsmType). Unit {0}) exception_word (marked_parts 44 text) reads.done exceptions word (marked_parts 44 rest) more reads.so_far split (λ t _. none t) (λ k d lt. tt)
 
 -- ---- the whole text
 
