@@ -11,9 +11,9 @@ returns-in_default-clause-refused c =
     refused-by (IsNameCause c.args.text.now) c.cause_of_name.result c.into.result c.into.ensures (
       c.first_part.result.0.now,
       (
-        c.loop-name.codes.items,
+        c.loop-code.codes.items,
         marked_parts_after 44 c.first_part.result.1,
-        c.loop-name.invariant ∙ ap (λ (t : List (List ℕ)). map code_word c.loop-name.codes.items ++ t) c.first_part.ensures.parts,
+        c.loop-code.invariant ∙ ap (λ (t : List (List ℕ)). map code_word c.loop-code.codes.items ++ t) c.first_part.ensures.parts,
         c.in_default.ensures,
       ),
       c.cause_of_name.ensures,
