@@ -38,6 +38,10 @@ one-digit (Some s) text ones one (slot, lt, is) = (slot, one ∙ ap (λ (x : ℕ
 
 -- ---- the channels of slots
 
+pub not-some : (o : Option ℤ) → is_some o ≡ false → o ≡ None
+not-some None none = refl
+not-some (Some k) none = absurd (cc)
+
 -- the channels of the first slots, of which none stands twice
 pub record SetsSlots (slots : List SlotChannel) (i : ℕ) (channels : List (Option ℤ)) : Type 0 where
   pub unlike : (j k : ℕ) (d : SlotChannel) → j < k → k < i → (slice_index_or slots j d).slot ≢ (slice_index_or slots k d).slot

@@ -61,17 +61,18 @@ fn glonass_said(
     // `OutOfMemory` comes only if memory is refused: tests/system/calls, rows `job of convert ..`.
     ensures refused { IfErr result (IsRefusal (IsGlonassCause options.now listed.now)) }
 {
+    let is_due = has_glonass(listed);
     let text = match options.channels {
         Some(text) => text,
         None => {
-            if has_glonass(listed) {
+            if is_due {
                 return Err(BadWords::NoChannels.into());
             }
             return Ok(None);
         }
     };
     let channels = channels_said(alloc, text)?;
-    if !has_glonass(listed) {
+    if !is_due {
         return Err(BadWords::Channels.into());
     }
     Ok(Some(glonass_of(channels, options.leap_seconds, near)))

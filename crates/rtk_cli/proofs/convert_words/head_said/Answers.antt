@@ -21,3 +21,10 @@ returns-in_err-glonass-clause-refused c =
     c.from_residual-in_err-glonass.ensures.1
     (glonass-cause c.args.options.now c.args.codes.now c.as_slice-2.result.now same (subst IsMixedList (c.as_slice.ensures.value ∙ sym c.as_slice-2.ensures.value) good))
     c.in_err-glonass.ensures.refused
+
+-- parts that are good make a head
+pub unreachable-requires-in_default-new : goal.unreachable-requires-in_default-new
+unreachable-requires-in_default-new c = ?
+
+pub returns-clause-said : goal.returns-clause-said
+returns-clause-said c = ?
