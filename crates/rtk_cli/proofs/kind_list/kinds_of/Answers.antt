@@ -15,6 +15,6 @@ returns-in_default-behind c =
 
 pub returns : goal.returns
 returns c =
-    general-first c.args.text.now c.first_part.result.0.now c.in-Some-behind.exceptions.now c.in-Some.general c.all.result c.with_exceptions.result
+    general-first c.args.text.now c.first_part.result.0.now c.in-Some-behind.exceptions.now c.in-Some.general c.all-2.result c.with_exceptions.result
     (c.first_part.ensures.parts ∙ ap (λ (o : Option (Bor (List ℕ))). c.first_part.result.0.now ∷ marked_parts_after 44 o) c.in-Some-behind.is)
-    c.in-Some.ensures (sym c.has_letters_once.ensures ∙ c.if-not-has_letters_once.false) c.all.ensures c.with_exceptions.ensures
+    c.in-Some.ensures (sym c.has_letters_once.ensures ∙ c.if-not-has_letters_once.false) c.all-2.ensures c.with_exceptions.ensures

@@ -9,17 +9,17 @@ loop-exception-init c = reads-none c.args.kinds c.args.text.now
 
 pub loop-exception-preserved : goal.loop-exception-preserved
 loop-exception-preserved c =
-    reads-more c.args.kinds c.args.text.now c.loop-exception.changed c.loop-exception.rest.now c.first_part.result.0.now c.in-Some-behind.next.now c.in-Some.exception c.with.result
+    reads-more c.args.kinds c.args.text.now c.loop-exception.changed c.loop-exception.rest.now c.first_part.result.0.now c.in-Some-behind.next.now c.in-Some.exception c.with-changed.result
     c.loop-exception.invariant
     (c.first_part.ensures.parts ∙ ap (λ (o : Option (Bor (List ℕ))). c.first_part.result.0.now ∷ marked_parts_after 44 o) c.in-Some-behind.is)
-    c.in-Some.ensures c.with.ensures
+    c.in-Some.ensures c.with-changed.ensures
 
 pub returns-in_default-behind : goal.returns-in_default-behind
 returns-in_default-behind c =
-    reads-all c.args.kinds c.args.text.now c.loop-exception.changed c.loop-exception.rest.now c.first_part.result.0.now c.in-Some.exception c.with.result
+    reads-all c.args.kinds c.args.text.now c.loop-exception.changed c.loop-exception.rest.now c.first_part.result.0.now c.in-Some.exception c.with-changed.result
     c.loop-exception.invariant
     (c.first_part.ensures.parts ∙ ap (λ (o : Option (Bor (List ℕ))). c.first_part.result.0.now ∷ marked_parts_after 44 o) c.in_default-behind.is)
-    c.in-Some.ensures c.with.ensures
+    c.in-Some.ensures c.with-changed.ensures
 
 pub returns-in_default : goal.returns-in_default
 returns-in_default c =
