@@ -60,12 +60,12 @@ IsGlonassCause o listed _ = ⊥
 -- ---- the head
 
 -- the head of these parts: the codes in the order of a file, and what the options tell of GLONASS
-pub record IsHeadOf (o : ConvertOptions) (marker : List ℕ) (own : List AnyCode) (made near : ℕ) (h : MixedHeadView) : Type 0 where
-  pub marker : h.marker ≡ marker
+pub record IsHeadOf (o : ConvertOptions) (name : List ℕ) (own : List AnyCode) (moment near : ℕ) (h : MixedHeadView) : Type 0 where
+  pub marker : h.marker ≡ name
   pub listed : h.listed ≡ in_file_order own
   pub good : IsMixedList h.listed
   pub glonass : SaysGlonass o h.listed near h.glonass
-  pub made : h.made ≡ made
+  pub made : h.made ≡ moment
 
 -- formula
 -- why there is no head with these codes: they are not good together; or what is due of GLONASS is not told
