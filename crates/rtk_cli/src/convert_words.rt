@@ -1,6 +1,6 @@
 //! The words of `convert`: what its options and links say.
 
-ghost use Rattle.std.specs.Prelude.{map, ◌≡◌, IfOk, IfErr, Decides};
+ghost use Rattle.std.specs.Prelude.{map, ◌≡◌, ◌≤◌, IfOk, IfErr, Decides};
 ghost use Rattle.rtk_rinex.specs.MixedHead.{has_glonass, IsGlonassView, TellsGlonass};
 ghost use Rattle.rtk_cli.specs.FaultLines.{IsRefusal};
 ghost use Rattle.rtk_cli.specs.Steps.ConvertWords.{SaysConversion, RefusesConversion, IsLeapSecondsOf, SaysGlonass, IsHeadOf, IsGlonassCause, IsHeadCause, with_given};
@@ -31,18 +31,24 @@ fn has_glonass(listed: &[AnyCode]) -> bool
     false
 }
 
-// What a header tells of GLONASS: these channels, and the leap seconds that are given, or those of the table at the
-// reference.
+// The leap seconds that are given, or those of the table at the reference.
+fn seconds_of(leap_seconds: Option<LeapSeconds>, near: GpsMs) -> u8
+    ensures said { IsLeapSecondsOf leap_seconds near result }
+    ensures bound { result ≤ 99 }
+{
+    match leap_seconds {
+        Some(given) => given.number(),
+        None => leap_seconds_at(near),
+    }
+}
+
+// What a header tells of GLONASS: these channels, and the leap seconds.
 fn glonass_of(channels: Channels, leap_seconds: Option<LeapSeconds>, near: GpsMs) -> Glonass
     ensures channels { result.channels ≡ channels }
     ensures leap_seconds { IsLeapSecondsOf leap_seconds near result.leap_seconds }
     ensures good { IsGlonassView result }
 {
-    let seconds = match leap_seconds {
-        Some(given) => given.number(),
-        None => leap_seconds_at(near),
-    };
-    let Some(glonass) = Glonass::new(channels, seconds) else {
+    let Some(glonass) = Glonass::new(channels, seconds_of(leap_seconds, near)) else {
         unreachable!();
     };
     glonass
@@ -118,7 +124,9 @@ fn with_kinds(setup: Setup, kinds: SystemKinds) -> Setup
 
 // The setup with these leap seconds, if any are given.
 fn with_leap_seconds(setup: Setup, leap_seconds: Option<LeapSeconds>) -> Setup
-    ensures { result ≡ with_given setup leap_seconds }
+    ensures given { result ≡ with_given setup leap_seconds }
+    ensures station { result.station ≡ setup.station }
+    ensures window { result.window ≡ setup.window }
 {
     match leap_seconds {
         Some(given) => setup.with_leap_seconds(given.number()),

@@ -1,7 +1,6 @@
-use Rattle.std.proofs.Common.{inr, refl, sym, ap, ◌∙◌, subst}
+use Rattle.std.proofs.Common.{ℕ, List, inl, inr, refl, sym, ap, ◌∙◌, subst}
 use Rattle.rtk_rinex.specs.Header.{IsMarker}
-use Rattle.rtk_rinex.specs.MixedHead.{MixedHeadView}
-use Rattle.rtk_convert.specs.Setup.{SetupView}
+use Rattle.rtk_convert.specs.Setup.{SetupView, IsStation, IsWindow}
 use Rattle.rtk_cli.specs.declared.words.BadWords.TheVariants.{Near, Made, Marker, Links}
 use Rattle.rtk_cli.specs.Steps.AnyCodeList.{ListsCodes, IsNameCause}
 use Rattle.rtk_cli.specs.Steps.ConvertWords.{HasTimes, HasNames, HasMarker, HasHead, IsHeadOf, IsHeadCause, IsFirstCause, with_given}
@@ -9,6 +8,12 @@ use Rattle.rtk_cli.specs.Steps.MomentText.{WritesMoment}
 use Rattle.rtk_cli.proofs.RefusedLemmas.{refused-by, exit-by, exit-also, name-cause, head-cause}
 use Rattle.rtk_cli.proofs.SaidLemmas.{says-setup}
 use Rattle.rtk_cli.proofs.convert_words.convert_job.Goals as goal
+
+-- the reference has another form
+pub returns-in_err-moment-clause-refused : goal.returns-in_err-moment-clause-refused
+returns-in_err-moment-clause-refused c =
+    exit-by (IsFirstCause c.args.options.now _) Near c.in_err-moment.field-0.0 c.from_residual-in_err-moment.result
+    c.in_err-moment.ensures.cause.0 c.from_residual-in_err-moment.ensures.1 (inl c.in_err-moment.ensures.cause.1)
 
 -- the time of making has another form
 pub returns-in_err-made-clause-refused : goal.returns-in_err-made-clause-refused
@@ -72,7 +77,7 @@ returns-then-not-are_links-clause-refused c =
       (
         c.as_slice.result.now, c.in_ok-made.made, c.in_ok-moment.moment, c.in_ok-head.head,
         subst (ListsCodes c.args.options.now.codes.now) (sym c.as_slice.ensures.value) c.in_ok-codes.ensures.listed,
-        subst (λ t. IsHeadOf c.args.options.now t c.as_slice.result.now c.in_ok-made.made c.in_ok-moment.moment c.in_ok-head.head) c.in_ok-marker.ensures.marker c.in_ok-head.ensures.said,
+        subst (λ (t : List ℕ). IsHeadOf c.args.options.now t c.as_slice.result.now c.in_ok-made.made c.in_ok-moment.moment c.in_ok-head.head) c.in_ok-marker.ensures.marker c.in_ok-head.ensures.said,
       ),
     ) in
     refused-by (IsFirstCause c.args.options.now _) Links c.into.result c.into.ensures
@@ -94,7 +99,7 @@ returns-in_err-near-clause-refused c =
       (
         c.as_slice.result.now, c.in_ok-made.made, c.in_ok-moment.moment, c.in_ok-head.head,
         subst (ListsCodes c.args.options.now.codes.now) (sym c.as_slice.ensures.value) c.in_ok-codes.ensures.listed,
-        subst (λ t. IsHeadOf c.args.options.now t c.as_slice.result.now c.in_ok-made.made c.in_ok-moment.moment c.in_ok-head.head) c.in_ok-marker.ensures.marker c.in_ok-head.ensures.said,
+        subst (λ (t : List ℕ). IsHeadOf c.args.options.now t c.as_slice.result.now c.in_ok-made.made c.in_ok-moment.moment c.in_ok-head.head) c.in_ok-marker.ensures.marker c.in_ok-head.ensures.said,
       ),
     ) in
     exit-by (IsFirstCause c.args.options.now _) Near c.in_err-near.field-0.0 c.from_residual-in_err-near.result
@@ -110,12 +115,21 @@ pub returns-clause-said : goal.returns-clause-said
 returns-clause-said c =
     let o = c.args.options.now in
     let kinds = c.with_kinds.ensures ∙ ap (λ (s : SetupView). record s { kinds = o.kinds }) c.mixed-setup.ensures.setup in
-    let setup = c.with_leap_seconds-setup.ensures ∙ ap (λ (s : SetupView). with_given s o.leap_seconds) kinds in
+    let setup = c.with_leap_seconds-setup.ensures.given ∙ ap (λ (s : SetupView). with_given s o.leap_seconds) kinds in
     let near = c.in_ok-near.ensures.near in (
       says-setup o c.with_leap_seconds-setup.result c.in_ok-near.near c.in_ok-made.made c.in_ok-marker.marker c.as_slice.result.now c.in_ok-head.head setup
-          (subst (WritesMoment o.near.now) (sym near) c.in_ok-moment.ensures.moment)
+          (subst (λ (n : ℕ). WritesMoment o.near.now n) (sym near) c.in_ok-moment.ensures.moment)
           c.in_ok-made.ensures.moment c.in_ok-marker.ensures.marker
           (subst (ListsCodes o.codes.now) (sym c.as_slice.ensures.value) c.in_ok-codes.ensures.listed)
-          (subst (λ n. IsHeadOf o c.in_ok-marker.marker c.as_slice.result.now c.in_ok-made.made n c.in_ok-head.head) (sym near) c.in_ok-head.ensures.said),
+          (subst (λ (n : ℕ). IsHeadOf o c.in_ok-marker.marker c.as_slice.result.now c.in_ok-made.made n c.in_ok-head.head) (sym near) c.in_ok-head.ensures.said),
       refl,
+    )
+
+-- and its parts are within their limits
+pub returns-clause-limits : goal.returns-clause-limits
+returns-clause-limits c =
+    let kinds = c.with_kinds.ensures in (
+      subst IsStation (sym (c.with_leap_seconds-setup.ensures.station ∙ ap (λ (s : SetupView). s.station) kinds)) c.mixed-setup.ensures.good.0,
+      subst IsWindow (sym (c.with_leap_seconds-setup.ensures.window ∙ ap (λ (s : SetupView). s.window) kinds)) c.mixed-setup.ensures.good.3,
+      (let are = rw c.as_slice-2.ensures.value at c.if-not-are_links.ensures in are.0 refl),
     )
