@@ -51,8 +51,8 @@ QUALITY = 96 * (16 - 8) + 96 * (9 - 5)
 # What the text of `quality` may hold beside: a vector that doubles has room for at most 4,096 bytes, because no text here is longer.
 TEXT_OF_QUALITY = 4096
 
-# What `compare` holds for the satellites and codes: the manual says some 120 kB; beside it the text, and what any command holds.
-MOST_OF_COMPARISON = 130_000
+# What `compare` holds for the satellites and codes: the manual says some 60 kB; beside it the text, and what any command holds.
+MOST_OF_COMPARISON = 70_000
 
 # The bytes that a picture has at most.
 MOST_OF_PICTURE = 75_000_000

@@ -346,7 +346,7 @@ def scenes_of_space() -> Iterator[Scene]:
     """What holds a whole file."""
     for words in ("check", "chart", "chart --text", "cut --every 30", "quality", "label --blank"):
         yield Scene([*words.split(), "long"])
-    yield Scene(["compare", "long", "long"])
+    yield Scene(["compare", "long", "examples/slip.rnx"])
 
 
 def main() -> None:
