@@ -4,6 +4,7 @@ mod FaultLineLemmas
 mod LinkLemmas
 mod MomentTextLemmas
 mod NameListLemmas
+mod OrderLemmas
 mod RefusedLemmas
 mod SaidLemmas
 mod SatelliteListLemmas

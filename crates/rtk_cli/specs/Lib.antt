@@ -1,7 +1,9 @@
+pub mod CaptureOrder
 pub mod Converting
 pub mod ConvertsBytes
 pub mod FaultLines
 pub mod JoinedLinks
+pub mod Said
 pub mod SurveysText
 pub mod Watched
 pub mod Words

@@ -6,15 +6,17 @@ use Rattle.rtk_obs.specs.declared.code.Code.{Code}
 use Rattle.rtk_obs.specs.CivilText.{last_digits}
 use Rattle.rtk_convert.specs.Setup.{SetupView}
 use Rattle.rtk_survey.specs.Proposal.{proposed}
-use Rattle.rtk_survey.specs.Placing.{second_of}
 use Rattle.rtk_survey.specs.declared.placing.Placed.{Placed}
 use Rattle.rtk_survey.specs.declared.survey.CaptureSurvey.{CaptureSurvey}
 use Rattle.rtk_plan.specs.ChosenStation.{IsObservedStation, IsOnlyObserved}
-use Rattle.rtk_plan.specs.Reach.{least_of_captures, placed_if_any, reach_after, is_out_of_reach}
+use Rattle.rtk_plan.specs.Reach.{least_told, placed_if_any, reach_after, is_out_of_reach, second_of}
+use Rattle.rtk_plan.specs.declared.span_line.DatedSpan.{DatedSpan}
 use Rattle.rtk_plan.specs.declared.station_capture.StationCapture.{StationCapture}
 use Rattle.rtk_plan.specs.declared.reach.Base.{Base}
 use Rattle.rtk_plan.specs.declared.reach.Base.TheVariants.{Given, Told}
 use Rattle.rtk_plan.specs.StationCaptures.{capture_of}
+use Rattle.rtk_plan.specs.Sources.{span_of}
+use Rattle.rtk_plan.specs.Stray.{strays}
 use Rattle.rtk_plan.specs.Values.{most_epochs, codes_in_captures}
 use Rattle.rtk_plan.specs.declared.wanted.Wanted.{Wanted}
 
@@ -41,7 +43,7 @@ marker_chosen (Some named) station = named
 
 -- the moment near which captures are dated: the one that is given; else the least first epoch that they tell
 abbrev pub IsBaseOf : Option ℕ → List StationCapture → Base → Type 0
-IsBaseOf None cs base = (least : ℕ) × (least_of_captures None cs ≡ Some least) × (base ≡ Told least)
+IsBaseOf None cs base = (least : ℕ) × (least_told cs ≡ Some least) × (base ≡ Told least)
 IsBaseOf (Some near) cs base = base ≡ Given near
 
 -- the epochs of captures that are dated near a base have this reach
@@ -67,6 +69,16 @@ IsInReach given cs near = (placed : List (Option Placed)) × ArePlaced given cs 
 abbrev pub IsNearOf : Option ℕ → List StationCapture → ℕ → Type 0
 IsNearOf given cs near =
     (base : Base) × IsBaseOf given cs base × ((reach : Placed) × IsReachOf base cs reach × (near ≡ second_of reach.first))
+
+-- the captures that have the greatest epoch, if it is more than a day after all others
+abbrev pub AreStrays : Option ℕ → List StationCapture → List ℕ → Type 0
+AreStrays given cs places =
+    (base : Base) × IsBaseOf given cs base × ((reach : Placed) × IsReachOf base cs reach × (places ≡ strays cs (map (placed_if_any base) cs) reach.until))
+
+-- the first and the last epoch of the station, and by what the captures are dated
+abbrev pub IsSpanOf : Option ℕ → List StationCapture → ℕ → DatedSpan → Type 0
+IsSpanOf given cs station span =
+    (base : Base) × IsBaseOf given cs base × ((reach : Placed) × IsReachOf base cs reach × (span ≡ span_of cs base station reach))
 
 -- what captures tell of a station, one after another
 abbrev pub captures_of : List CaptureSurvey → ℕ → List StationCapture
