@@ -1,3 +1,4 @@
+pub mod BesideGps
 pub mod CaptureDates
 pub mod Contents
 pub mod Counting
