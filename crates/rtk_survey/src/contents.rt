@@ -3,26 +3,30 @@
 ghost use Rattle.std.specs.Prelude.{◌≡◌, ◌+◌, ◌∷◌, [], List, ℕ, Option, Ok, Err, OnOk};
 ghost use Rattle.std.specs.List.{cons_option};
 ghost use Rattle.rtk_bits.specs.Bits.{bits};
+ghost use Rattle.rtk_message.specs.declared.any_fault.AnyFault.{AnyFault};
 ghost use Rattle.rtk_message.specs.declared.any_message.AnyMessage.{AnyMessage};
-ghost use Rattle.rtk_survey.specs.Contents.{AreStations, CountsWeeks, HoldsFrames};
+ghost use Rattle.rtk_survey.specs.BesideGps.{cells_beside_gps};
+ghost use Rattle.rtk_survey.specs.Contents.{AreStations, CountsFaults, CountsWeeks, HoldsFrames};
 ghost use Rattle.rtk_survey.specs.Counting.{shown_count};
 ghost use Rattle.rtk_survey.specs.DateMessages.{date_in};
 ghost use Rattle.rtk_survey.specs.EquipmentMessages.{equipment_in};
-ghost use Rattle.rtk_survey.specs.ReadFrames.{ReadFrame, read_frame};
+ghost use Rattle.rtk_survey.specs.ReadFrames.{ReadFrame, read_frame, fault_beside};
 ghost use Rattle.rtk_survey.specs.Tracing.{entries_of_message};
 ghost use Rattle.rtk_survey.specs.declared.date_message.DateMessage.{DateMessage};
 ghost use Rattle.rtk_survey.specs.declared.equipment_message.EquipmentMessage.{EquipmentMessage};
 ghost use Rattle.rtk_survey.specs.declared.target.Target.{Target};
 
+use crate::beside_gps::is_beside_gps;
 use crate::date_message::{DateMessage, date_in};
 use crate::equipment_message::equipment_in;
 use crate::signals::Codes;
 use crate::station::StationSurvey;
 use crate::stations::{take_date, take_equipment, take_message};
+use crate::system_signals::SystemSignals;
 use crate::target::{Target, TargetSurvey, answer_to, take_target_fault, take_target_message};
 use crate::unread::{Unread, count_number};
 use rtk_message::{AnyFault, AnyMessage};
-use rtk_obs::CellEntry;
+use rtk_obs::{CellEntry, SignalEntry};
 use std::alloc::{AllocError, Global};
 use std::collections::BTreeMap;
 
@@ -34,10 +38,13 @@ pub struct Contents {
     pub framed: u64,
     /// The stations that were heard, by number (DF003).
     pub stations: BTreeMap<u16, StationSurvey>,
-    /// The codes of all stations.
+    /// The codes of GPS of all stations.
     pub codes: Codes,
+    /// The satellites and codes of other systems of all stations.
+    pub system_signals: SystemSignals,
     /// How many 1019 name each week modulo 1,024 (DF076).
     pub weeks: BTreeMap<u16, u64>,
+    /// What a conversion of GPS does not read. Messages of other systems are among its others.
     pub unread: Unread,
     /// What they tell of the station of a conversion, if it is asked for.
     pub target: Option<TargetSurvey>,
@@ -93,6 +100,19 @@ fn take_equipment_in(
     }
 }
 
+// Counts a message of another system than GPS among the others.
+fn count_beside(unread: &mut Unread, message: &AnyMessage) -> Result<(), AllocError>
+    ensures { OnOk result ((fs : List AnyFault) → CountsFaults unread.old fs
+        → CountsFaults unread.new (cons_option (fault_beside message.now) fs)) }
+{
+    if is_beside_gps(message) {
+        let number = message.number();
+        unread.count_fault(AnyFault::Other { number })
+    } else {
+        Ok(())
+    }
+}
+
 impl Contents {
     /// No frame came.
     pub(crate) fn new(alloc: Global, target: Option<Target>) -> Contents
@@ -103,21 +123,25 @@ impl Contents {
             framed: 0,
             stations: BTreeMap::new(alloc),
             codes: Codes::new(),
+            system_signals: SystemSignals::new(),
             weeks: BTreeMap::new(alloc),
             unread: Unread::new(alloc),
             target: answer_to(alloc, target),
         }
     }
 
-    /// A frame more, whose payload is this message with these cells.
+    /// A frame more, whose payload is this message with these cells: those of GPS, and those of other
+    /// systems.
     pub(crate) fn take_message(
         &mut self,
         alloc: Global,
         payload: &[u8],
         message: &AnyMessage,
         entries: &[CellEntry],
+        signals: &[SignalEntry],
     ) -> Result<(), AllocError>
-        requires { entries.now ≡ entries_of_message message.now }
+        requires entries { entries.now ≡ entries_of_message message.now }
+        requires signals { signals.now ≡ cells_beside_gps message.now }
         ensures { OnOk result ((q : Option Target) (before : List ReadFrame) → HoldsFrames q before self.old
             → HoldsFrames q (read_frame payload.now (Ok message.now) ∷ before) self.new) }
     {
@@ -126,7 +150,16 @@ impl Contents {
         self.framed = self.framed.saturating_add(payload.len() as u64 + 6);
         let codes = Codes::of(entries);
         self.codes.join(&codes);
-        take_message(alloc, &mut self.stations, message, entries, &codes)?;
+        self.system_signals.mark_entries(signals);
+        count_beside(&mut self.unread, message)?;
+        take_message(
+            alloc,
+            &mut self.stations,
+            message,
+            entries,
+            &codes,
+            signals,
+        )?;
         take_target_message(alloc, &mut self.target, message, entries, frame)
     }
 

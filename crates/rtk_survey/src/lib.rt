@@ -33,6 +33,7 @@
 
 #![tactic(auto)]
 
+mod beside_gps;
 mod capture_dates;
 mod contents;
 mod counting;
@@ -48,6 +49,7 @@ mod laws;
 mod line;
 mod lines;
 mod look;
+mod message_lines;
 mod msm_parts;
 mod parting;
 mod phases;
@@ -66,12 +68,15 @@ mod stations;
 mod summary;
 mod survey;
 mod survey_fault;
+mod system_msm;
+mod system_signals;
 mod target;
 mod telling;
 mod tellings;
 mod times_of_week;
 mod unread;
 
+pub use beside_gps::{is_beside_gps, told_time};
 pub use capture_dates::CaptureDates;
 pub use contents::Contents;
 pub use date_laws::{dates_are_nearest, told_moments_are_nearest};
@@ -100,6 +105,8 @@ pub use station_dates::{DateCount, StationDates};
 pub use summary::summarize;
 pub use survey::CaptureSurvey;
 pub use survey_fault::SurveyFault;
+pub use system_msm::{SystemMsm, epochs_numbered, messages_numbered};
+pub use system_signals::SystemSignals;
 pub use target::{EquipmentTimes, Target, TargetDates, TargetSurvey};
 pub use telling::{dated, is_date, moment_of, told};
 pub use tellings::{Tellings, Told};
