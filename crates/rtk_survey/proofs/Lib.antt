@@ -23,5 +23,6 @@ pub mod ResultLemmas
 pub mod SignalLemmas
 pub mod StationLemmas
 pub mod SummaryTellingLemmas
+pub mod SystemLemmas
 pub mod TallyLemmas
 pub mod TargetLemmas

@@ -1,0 +1,18 @@
+use Rattle.std.proofs.Common.{◌≡◌, ◌++◌, List, take, subst, arith}
+use Rattle.std.proofs.lemmas.Grind.{common_steps}
+use Rattle.rtk_obs.specs.declared.signal_cells.SignalEntry.{SignalEntry}
+use Rattle.rtk_survey.specs.Contents.{HasSystemSignals}
+use Rattle.rtk_survey.proofs.SystemLemmas.{signals-more}
+use Rattle.rtk_survey.proofs.system_signals.SystemSignals.mark_entries.Goals as goal
+
+pub loop-entry-preserved : goal.loop-entry-preserved
+loop-entry-preserved c = λ es stands.
+    let xs = c.args.entries.now in
+    signals-more c.mark_entry.new.self xs es c.loop-entry.entry-index _ c.loop-entry-test.true
+    (c.mark_entry.ensures (take c.loop-entry.entry-index xs ++ es) (c.loop-entry.invariant es stands))
+
+pub returns : goal.returns
+returns c = λ es stands.
+    let xs : List SignalEntry = c.args.entries.now in
+    let all : take c.loop-entry.entry-index xs ≡ xs = grind (arith, common_steps) in
+    subst (λ (ys : List SignalEntry). HasSystemSignals c.loop-entry.self (ys ++ es)) all (c.loop-entry.invariant es stands)
