@@ -1,5 +1,6 @@
 pub mod BesideGps
 pub mod CaptureDates
+pub mod Chains
 pub mod Contents
 pub mod Counting
 pub mod CountingLaws

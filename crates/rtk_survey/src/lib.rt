@@ -35,6 +35,7 @@
 
 mod beside_gps;
 mod capture_dates;
+mod clock_chains;
 mod contents;
 mod counting;
 mod date_laws;
@@ -78,6 +79,7 @@ mod unread;
 
 pub use beside_gps::{is_beside_gps, told_time};
 pub use capture_dates::CaptureDates;
+pub use clock_chains::{ChainClock, ClockOffset, ClockOffsets, ClockSurvey, ClockTold};
 pub use contents::Contents;
 pub use date_laws::{dates_are_nearest, told_moments_are_nearest};
 pub use date_message::{DateMessage, EphemerisDate, UtcDate, date_in};
