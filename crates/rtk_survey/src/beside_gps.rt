@@ -55,7 +55,7 @@ pub fn told_time(system: System, clock: u32) -> u32
     match system {
         System::Glonass => glonass_time(clock),
         System::Beidou => beidou_time(clock),
-        _ => clock,
+        System::Gps | System::Galileo | System::Qzss | System::Sbas | System::Navic => clock,
     }
 }
 
@@ -81,7 +81,15 @@ fn no_channels() -> Channels
 fn is_other_system(system: System) -> bool
     ensures { result ≡ spec.is_other_system system }
 {
-    !matches!(system, System::Gps)
+    match system {
+        System::Gps => false,
+        System::Glonass
+        | System::Galileo
+        | System::Beidou
+        | System::Qzss
+        | System::Sbas
+        | System::Navic => true,
+    }
 }
 
 // Puts the cells of an MSM over a list, if it is of another system than GPS.

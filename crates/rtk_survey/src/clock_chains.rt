@@ -3,7 +3,7 @@
 //! A chain ends with an observation message whose multiple-message bit is 0. Its clock is that of its first
 //! message of GPS; if there is none, of Galileo, QZSS, SBAS or NavIC.
 
-ghost use Rattle.std.specs.Prelude.{◌≡◌, drop, OnOk};
+ghost use Rattle.std.specs.Prelude.{◌≡◌, ◌≤◌, length, drop, OnOk};
 ghost use Rattle.rtk_survey.specs.Chains as spec;
 
 use crate::beside_gps::told_time;
@@ -269,7 +269,8 @@ impl ClockOffsets {
 
     // The clocks before the first one with this rank. The result is how many these are, and that one.
     fn compare_before(&mut self, rank: u8, base: u32, clocks: &[ClockTold]) -> usize
-        ensures { spec.with_compared base (drop result clocks.now) self.new ≡ spec.with_others rank base clocks.now self.old }
+        ensures value { spec.with_compared base (drop result clocks.now) self.new ≡ spec.with_others rank base clocks.now self.old }
+        ensures within { result ≤ length clocks.now }
     {
         for (at, clock) in clocks.iter().enumerate() {
             if clock_rank(clock.system) == rank {
@@ -285,9 +286,7 @@ impl ClockOffsets {
         ensures { self.new ≡ spec.with_others chain.rank chain.time clocks.now self.old }
     {
         let count = self.compare_before(chain.rank, chain.time, clocks);
-        if let Some(rest) = clocks.get(count..) {
-            self.compare_all(chain.time, rest);
-        }
+        self.compare_all(chain.time, &clocks[count..]);
     }
 
     // A chain more.

@@ -4,8 +4,12 @@
 //! A [`CaptureSurvey`] is plain data. A station gets a [`StationSurvey`] with the first frame that
 //! names it, so memory grows with the stations that were heard; if it is refused, the survey is not
 //! made ([`SurveyFault::OutOfMemory`]). A frame costs a look-up among the stations and the work on its
-//! own cells, whatever other stations there are. Sizes that depend on the satellites and codes of a
-//! system stand in `signals.rt` alone.
+//! own cells, whatever other stations there are. Sizes that depend on the satellites and codes of systems
+//! stand in `signals.rt` and `system_signals.rt` alone.
+//!
+//! Of GPS a survey has what its command needs, and of the other systems their messages by number, with
+//! epochs, satellites and codes. Messages of these are among the others of `unread`, since a conversion of
+//! GPS does not read them.
 //!
 //! The definitions go from the frames of a capture (specs/ReadFrames.antt) to what is held of them
 //! (specs/Contents.antt, specs/Surveys.antt) and to the text of a summary (specs/Summary.antt).

@@ -91,15 +91,15 @@ fn separator_behind(text: &[u8]) -> u8
 }
 
 // Appends the codes of other systems than GPS that have a value, as an option lists them.
-fn put_any_codes(text: &mut Vec<u8>, marks: &[bool; ANY_CODES]) -> Result<(), AllocError>
-    ensures { OnOk result (text.new.items
-        ≡ text.old.items ++ spec.any_codes_text text.old.items (λ c. get_or marks.now (number_of c) false)) }
+fn put_any_codes(names: &mut Vec<u8>, marks: &[bool; ANY_CODES]) -> Result<(), AllocError>
+    ensures { OnOk result (names.new.items
+        ≡ names.old.items ++ spec.any_codes_text names.old.items (λ c. get_or marks.now (number_of c) false)) }
 {
-    let mut separator = separator_behind(text.as_slice());
+    let mut separator = separator_behind(names.as_slice());
     for code in &ALL_ANY_CODES {
         if marks[code.number()] {
-            text.push(separator)?;
-            text.extend_from_slice(&code.text())?;
+            names.push(separator)?;
+            names.extend_from_slice(&code.text())?;
             separator = b',';
         }
     }

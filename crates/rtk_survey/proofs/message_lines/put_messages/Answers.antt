@@ -1,4 +1,4 @@
-use Rattle.std.proofs.Common.{◌≡◌, ◌++◌, ℕ, List, take, ap, ◌∙◌, arith}
+use Rattle.std.proofs.Common.{◌≡◌, ◌++◌, ℕ, List, take, sym, ap, ◌∙◌, arith}
 use Rattle.std.specs.Prelude.{flat_map, codes}
 use Rattle.rtk_survey.specs.Contents.{messages_held}
 use Rattle.rtk_survey.specs.SummaryText.{numbered_line, message_numbers, message_lines}
@@ -13,8 +13,8 @@ loop-number-preserved c =
     put-taken (λ n. numbered_line (codes " message ") n (held n)) message_numbers c.loop-number.number-index 0
     c.args.lines.now.items lines c.put_numbered.new.lines.items c.loop-number-test.true c.loop-number.invariant
     (c.in_ok-put_numbered.ensures
-    ∙ ap (λ (count : ℕ). lines ++ numbered_line words c.from.result count) c.messages_held-count.ensures
-    ∙ ap (λ (n : ℕ). lines ++ numbered_line words n (held c.loop-number.number)) c.from.ensures)
+    ∙ ap (λ (count : ℕ). lines ++ numbered_line words c.from.result count) (c.messages_held-count.ensures ∙ ap held (sym c.from.ensures))
+    ∙ ap (λ (n : ℕ). lines ++ numbered_line words n (held n)) c.from.ensures)
 
 pub returns : goal.returns
 unfolding message_lines
