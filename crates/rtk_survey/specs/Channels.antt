@@ -1,0 +1,64 @@
+-- How often messages tell each frequency channel of each slot of GLONASS. Lists of messages are newest first.
+-- Source: RTCM 10403.3, DF394 and DF419
+use Rattle.std.specs.Prelude.{◌≡◌, ℕ, ◌+◌, ◌-◌, ◌*◌, ◌/◌, ◌%◌, ◌^◌, ◌==◌, ◌<◌, ◌≤◌, Bool, true, false, ◌&&◌, List, [], ◌∷◌, length, get_or, slice_get, count_ones, Option, None, Some, if◌then◌else◌}
+use Rattle.rtk_message.specs.declared.any_message.AnyMessage.{AnyMessage}
+use Rattle.rtk_message.specs.declared.any_message.AnyMessage.TheVariants as any
+use Rattle.rtk_message.specs.declared.msm.Msm.{Msm}
+use Rattle.rtk_message.specs.declared.system.System.{System}
+use Rattle.rtk_message.specs.declared.system.System.TheVariants.{Gps, Glonass, Galileo, Beidou, Qzss, Sbas, Navic}
+use Rattle.rtk_survey.specs.Counting.{count_of}
+
+-- formula
+-- the mask has the bit of this slot; the first bit is the most significant one
+abbrev pub has_slot : ℕ → ℕ → Bool
+has_slot mask slot = (mask / 2 ^ (64 - slot)) % 2 == 1
+
+-- formula
+-- how many bits of the mask stand before that of this slot
+abbrev pub slots_before : ℕ → ℕ → ℕ
+slots_before mask slot = count_ones (mask / 2 ^ (64 - slot) / 2)
+
+-- the field of a slot (DF419), if the message has its satellite and such fields
+abbrev pub slot_field : Msm → ℕ → Option ℕ
+slot_field m slot =
+    if has_slot m.header.satellite_mask slot then slice_get m.extended (slots_before m.header.satellite_mask slot) else None
+
+abbrev pub is_field : Option ℕ → ℕ → Bool
+is_field None field = false
+is_field (Some told) field = told == field
+
+-- table
+abbrev pub is_glonass : System → Bool
+is_glonass Gps = false
+is_glonass Glonass = true
+is_glonass Galileo = false
+is_glonass Beidou = false
+is_glonass Qzss = false
+is_glonass Sbas = false
+is_glonass Navic = false
+
+-- a message of GLONASS has this field for this slot
+abbrev pub tells_field : ℕ → ℕ → AnyMessage → Bool
+tells_field slot field (any.Message m) = false
+tells_field slot field (any.Msm m) = is_glonass m.system && is_field (slot_field m slot) field
+
+-- formula
+-- the place of a slot, 1 to 27, and of a field that tells a channel, 0 to 13: 7 more than the channel
+abbrev pub place_of_field : ℕ → ℕ → ℕ
+place_of_field slot field = 14 * slot + field
+
+-- the slots and the fields that tell a channel
+pub record IsChannelTold (slot field : ℕ) : Type 0 where
+  pub from : 1 ≤ slot
+  pub slot : slot < 28
+  pub field : field < 14
+
+-- a table has a place for each slot and field, with how many messages tell it
+pub record CountsFields (table : List ℕ) (ms : List AnyMessage) : Type 0 where
+  pub size : length table ≡ 392
+  pub counts : (slot field : ℕ) → IsChannelTold slot field → get_or table (place_of_field slot field) 0 ≡ count_of (tells_field slot field) ms
+
+-- as long as there is no table, no message tells a channel
+abbrev pub CountsChannels : List ℕ → List AnyMessage → Type 0
+CountsChannels [] ms = (slot field : ℕ) → IsChannelTold slot field → count_of (tells_field slot field) ms ≡ 0
+CountsChannels (x ∷ xs) ms = CountsFields (x ∷ xs) ms
