@@ -1,5 +1,6 @@
 pub mod AlikeLemmas
 pub mod BitLemmas
+pub mod ChannelLemmas
 pub mod CountingLemmas
 pub mod CutLemmas
 pub mod DateLemmas

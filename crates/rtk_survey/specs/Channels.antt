@@ -6,7 +6,7 @@ use Rattle.rtk_message.specs.declared.any_message.AnyMessage.TheVariants as any
 use Rattle.rtk_message.specs.declared.msm.Msm.{Msm}
 use Rattle.rtk_message.specs.declared.system.System.{System}
 use Rattle.rtk_message.specs.declared.system.System.TheVariants.{Gps, Glonass, Galileo, Beidou, Qzss, Sbas, Navic}
-use Rattle.rtk_survey.specs.Counting.{count_of}
+use Rattle.rtk_survey.specs.Counting.{shown_count, count_of}
 
 -- formula
 -- the mask has the bit of this slot; the first bit is the most significant one
@@ -37,10 +37,13 @@ is_glonass Qzss = false
 is_glonass Sbas = false
 is_glonass Navic = false
 
+abbrev pub tells_field_of : Msm → ℕ → ℕ → Bool
+tells_field_of m slot field = is_field (slot_field m slot) field
+
 -- a message of GLONASS has this field for this slot
 abbrev pub tells_field : ℕ → ℕ → AnyMessage → Bool
 tells_field slot field (any.Message m) = false
-tells_field slot field (any.Msm m) = is_glonass m.system && is_field (slot_field m slot) field
+tells_field slot field (any.Msm m) = is_glonass m.system && tells_field_of m slot field
 
 -- formula
 -- the place of a slot, 1 to 27, and of a field that tells a channel, 0 to 13: 7 more than the channel
@@ -57,6 +60,14 @@ pub record IsChannelTold (slot field : ℕ) : Type 0 where
 pub record CountsFields (table : List ℕ) (ms : List AnyMessage) : Type 0 where
   pub size : length table ≡ 392
   pub counts : (slot field : ℕ) → IsChannelTold slot field → get_or table (place_of_field slot field) 0 ≡ count_of (tells_field slot field) ms
+
+-- a message more, which tells these fields: before, after
+pub record TakesFields (tells : ℕ → ℕ → Bool) (old new : List ℕ) : Type 0 where
+  pub size : length new ≡ 392
+  pub told : (slot field : ℕ) → IsChannelTold slot field → tells slot field ≡ true
+      → get_or new (place_of_field slot field) 0 ≡ shown_count (get_or old (place_of_field slot field) 0 + 1)
+  pub others : (slot field : ℕ) → IsChannelTold slot field → tells slot field ≡ false
+      → get_or new (place_of_field slot field) 0 ≡ get_or old (place_of_field slot field) 0
 
 -- as long as there is no table, no message tells a channel
 abbrev pub CountsChannels : List ℕ → List AnyMessage → Type 0

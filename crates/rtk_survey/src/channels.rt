@@ -1,9 +1,9 @@
 //! How often messages tell each frequency channel of each slot of GLONASS.
 
-ghost use Rattle.std.specs.Prelude.{◌≡◌, ◌≢◌, ◌<◌, ◌≤◌, ◌+◌, ℕ, List, [], ◌∷◌, length, get_or, OnOk};
+ghost use Rattle.std.specs.Prelude.{◌≡◌, ◌≢◌, ◌<◌, ◌≤◌, ◌+◌, ℕ, true, false, List, [], ◌∷◌, length, get_or, OnOk};
 ghost use Rattle.rtk_message.specs.declared.any_message.AnyMessage.{AnyMessage};
+ghost use Rattle.rtk_message.specs.declared.any_message.AnyMessage.TheVariants.{Msm};
 ghost use Rattle.rtk_survey.specs.Channels as spec;
-ghost use Rattle.rtk_survey.specs.Contents.{one_if};
 ghost use Rattle.rtk_survey.specs.Counting.{shown_count};
 
 use rtk_message::{AnyMessage, Msm, System};
@@ -67,14 +67,92 @@ fn count_field(table: &mut Vec<u64>, slot: u8, field: u8)
     requires size { length table.old.items ≡ 392 }
     requires slot { slot < 28 }
     ensures size { length table.new.items ≡ 392 }
-    ensures own { (f : ℕ) → f < 14 → get_or table.new.items (spec.place_of_field slot f) 0
-        ≡ shown_count (get_or table.old.items (spec.place_of_field slot f) 0 + one_if (field == f)) }
-    ensures others { (s f : ℕ) → s ≢ slot → f < 14 → get_or table.new.items (spec.place_of_field s f) 0
-        ≡ get_or table.old.items (spec.place_of_field s f) 0 }
+    ensures own { field < 14 → get_or table.new.items (spec.place_of_field slot field) 0
+        ≡ shown_count (get_or table.old.items (spec.place_of_field slot field) 0 + 1) }
+    ensures others { (s f : ℕ) → f < 14 → (s ≡ slot → f ≢ field)
+        → get_or table.new.items (spec.place_of_field s f) 0 ≡ get_or table.old.items (spec.place_of_field s f) 0 }
 {
     let field = usize::from(field);
     if field < FIELDS {
         let place = FIELDS * usize::from(slot) + field;
         table[place] = table[place].saturating_add(1);
     }
+}
+
+// Counts the field of a slot, if the message has it.
+fn take_slot(table: &mut Vec<u64>, message: &Msm, slot: u8)
+    requires size { length table.old.items ≡ 392 }
+    requires slot { (1 ≤ slot) × (slot < 28) }
+    ensures size { length table.new.items ≡ 392 }
+    ensures own { (f : ℕ) → f < 14 → spec.tells_field_of message.now slot f ≡ true
+        → get_or table.new.items (spec.place_of_field slot f) 0 ≡ shown_count (get_or table.old.items (spec.place_of_field slot f) 0 + 1) }
+    ensures others { (s f : ℕ) → f < 14 → (s ≡ slot → spec.tells_field_of message.now s f ≡ false)
+        → get_or table.new.items (spec.place_of_field s f) 0 ≡ get_or table.old.items (spec.place_of_field s f) 0 }
+{
+    if let Some(field) = slot_field(message, slot) {
+        count_field(table, slot, field);
+    }
+}
+
+// Counts the fields of all slots.
+fn take_slots(table: &mut Vec<u64>, message: &Msm)
+    requires { length table.old.items ≡ 392 }
+    ensures { spec.TakesFields (spec.tells_field_of message.now) table.old.items table.new.items }
+{
+    for slot in 1u8..SLOTS {
+        take_slot(table, message, slot);
+    }
+}
+
+// Makes a table, unless it is there.
+fn make_table(alloc: Global, table: &mut Vec<u64>) -> Result<(), AllocError>
+    ensures counts { OnOk result ((ms : List AnyMessage) → spec.CountsChannels table.old.items ms → spec.CountsFields table.new.items ms) }
+    ensures size { OnOk result (length table.new.items ≡ 392) }
+{
+    if table.len() != PLACES {
+        *table = vec![in alloc; 0u64; PLACES]?;
+    }
+    Ok(())
+}
+
+// Counts the channels that an MSM tells.
+fn take_msm(alloc: Global, table: &mut Vec<u64>, message: &Msm) -> Result<(), AllocError>
+    ensures { OnOk result ((ms : List AnyMessage) → spec.CountsChannels table.old.items ms
+        → spec.CountsChannels table.new.items (Msm message.now ∷ ms)) }
+{
+    if is_glonass(message.system) {
+        make_table(alloc, table)?;
+        take_slots(table, message);
+    }
+    Ok(())
+}
+
+/// No message came.
+pub(crate) fn no_channels_told(alloc: Global) -> Vec<u64>
+    ensures { spec.CountsChannels result.items [] }
+{
+    Vec::new(alloc)
+}
+
+/// Counts the channels that a message tells. The table is made with the first message of GLONASS.
+pub(crate) fn take_channels(
+    alloc: Global,
+    table: &mut Vec<u64>,
+    message: &AnyMessage,
+) -> Result<(), AllocError>
+    ensures { OnOk result ((ms : List AnyMessage) → spec.CountsChannels table.old.items ms
+        → spec.CountsChannels table.new.items (message.now ∷ ms)) }
+{
+    match message {
+        AnyMessage::Message(_) => Ok(()),
+        AnyMessage::Msm(message) => take_msm(alloc, table, message),
+    }
+}
+
+/// How many messages tell a field (0 to 13, 7 more than the channel) of a slot (1 to 27), by a table.
+pub fn count_of_field(table: &[u64], slot: u8, field: u8) -> u64
+    ensures { result ≡ get_or table.now (spec.place_of_field slot field) 0 }
+{
+    let place = FIELDS * usize::from(slot) + usize::from(field);
+    table.get(place).copied().unwrap_or(0)
 }

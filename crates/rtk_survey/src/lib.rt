@@ -39,6 +39,7 @@
 
 mod beside_gps;
 mod capture_dates;
+mod channels;
 mod clock_chains;
 mod contents;
 mod counting;
@@ -83,6 +84,7 @@ mod unread;
 
 pub use beside_gps::{is_beside_gps, told_time};
 pub use capture_dates::CaptureDates;
+pub use channels::count_of_field;
 pub use clock_chains::{ChainClock, ClockOffset, ClockOffsets, ClockSurvey, ClockTold};
 pub use contents::Contents;
 pub use date_laws::{dates_are_nearest, told_moments_are_nearest};
