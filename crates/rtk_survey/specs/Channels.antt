@@ -10,8 +10,8 @@ use Rattle.rtk_survey.specs.Counting.{shown_count, count_of}
 
 -- formula
 -- the mask has the bit of this slot; the first bit is the most significant one
-abbrev pub has_slot : ℕ → ℕ → Bool
-has_slot mask slot = (mask / 2 ^ (64 - slot)) % 2 == 1
+abbrev pub has_slot_bit : ℕ → ℕ → Bool
+has_slot_bit mask slot = (mask / 2 ^ (64 - slot)) % 2 == 1
 
 -- formula
 -- how many bits of the mask stand before that of this slot
@@ -21,7 +21,7 @@ slots_before mask slot = count_ones (mask / 2 ^ (64 - slot) / 2)
 -- the field of a slot (DF419), if the message has its satellite and such fields
 abbrev pub slot_field : Msm → ℕ → Option ℕ
 slot_field m slot =
-    if has_slot m.header.satellite_mask slot then slice_get m.extended (slots_before m.header.satellite_mask slot) else None
+    if has_slot_bit m.header.satellite_mask slot then slice_get m.extended (slots_before m.header.satellite_mask slot) else None
 
 abbrev pub is_field : Option ℕ → ℕ → Bool
 is_field None field = false

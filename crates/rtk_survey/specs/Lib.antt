@@ -28,6 +28,7 @@ pub mod Steps
 pub mod Summary
 pub mod SummaryText
 pub mod Surveys
+pub mod SystemMessages
 pub mod Targets
 pub mod Telling
 pub mod Tracing

@@ -19,9 +19,9 @@ const FIELDS: usize = 14;
 const PLACES: usize = 392;
 
 // The mask has the bit of this slot.
-fn has_slot(mask: u64, slot: u8) -> bool
+fn has_slot_bit(mask: u64, slot: u8) -> bool
     requires { (1 ≤ slot) × (slot < 28) }
-    ensures { result ≡ spec.has_slot mask slot }
+    ensures { result ≡ spec.has_slot_bit mask slot }
 {
     (mask >> (64 - slot)) % 2 == 1
 }
@@ -40,7 +40,7 @@ fn slot_field(message: &Msm, slot: u8) -> Option<u8>
     ensures { result ≡ spec.slot_field message.now slot }
 {
     let mask = message.header.satellite_mask;
-    if has_slot(mask, slot) {
+    if has_slot_bit(mask, slot) {
         let row = slots_before(mask, slot);
         message.extended.as_slice().get(row).copied()
     } else {
