@@ -17,6 +17,8 @@ use Rattle.rtk_obs.specs.declared.signal_cells.SignalEntry.{SignalEntry}
 use Rattle.rtk_obs.specs.AnyCode as any_code
 use Rattle.rtk_obs.specs.Code.{place_of}
 use Rattle.rtk_survey.specs.BesideGps.{messages_beside, cells_beside, gives_index, gives_number, times_beside}
+use Rattle.rtk_survey.specs.Chains.{clocks_of, clocks_at}
+use Rattle.rtk_survey.specs.Channels.{CountsChannels}
 use Rattle.rtk_survey.specs.Counting.{shown_count, count_of}
 use Rattle.rtk_survey.specs.EquipmentHistory.{no_equipment, equipment_of}
 use Rattle.rtk_survey.specs.FrameDates.{dates_in, no_station_dates, station_dates, is_of_week}
@@ -184,6 +186,8 @@ pub record IsStationOf (ms : List AnyMessage) (d : StationDates) (e : Equipment)
   pub msm : HasMsms s.msm ms
   pub system_signals : HasSystemSignals s.system_signals (cells_beside ms)
   pub system_msm : HasSystems s.system_msm ms
+  pub channels : CountsChannels s.channels.items ms
+  pub clocks : clocks_at s.clocks ≡ clocks_of ms
   pub point : s.reference_point ≡ first_point ms
   pub far : s.far_point ≡ far_point ms
   pub dates : s.dates ≡ d

@@ -12,6 +12,8 @@ ghost use Rattle.rtk_survey.specs.declared.date_message.DateMessage.TheVariants.
 ghost use Rattle.rtk_survey.specs.declared.equipment.Equipment.{Equipment};
 ghost use Rattle.rtk_survey.specs.declared.station_dates.StationDates.{StationDates};
 
+use crate::channels::{no_channels_told, take_channels};
+use crate::clock_chains::{ClockSurvey, take_clock};
 use crate::counting::count_if;
 use crate::date_message::UtcDate;
 use crate::equipment::Equipment;
@@ -54,6 +56,10 @@ pub struct StationSurvey {
     pub system_signals: SystemSignals,
     /// Its MSM of other systems, by number (DF002).
     pub system_msm: BTreeMap<u16, SystemMsm>,
+    /// How many messages tell each channel of each slot of GLONASS (`count_of_field`).
+    pub channels: Vec<u64>,
+    /// How far the clocks of its systems are apart: an entry, or none if no message came.
+    pub clocks: Vec<ClockSurvey>,
     /// That of its first 1005 or 1006 that has one.
     pub reference_point: Option<ReferencePoint>,
     /// The first one that is more than 100 m from it.
@@ -114,6 +120,8 @@ impl StationSurvey {
             msm: MsmParts::new(),
             system_signals: SystemSignals::new(),
             system_msm: no_systems(alloc),
+            channels: no_channels_told(alloc),
+            clocks: Vec::new(alloc),
             reference_point: None,
             far_point: None,
             dates: StationDates::new(),
@@ -124,6 +132,7 @@ impl StationSurvey {
     /// A message more of the station, with its cells and their codes: those of GPS, and those of other systems.
     pub(crate) fn take_message(
         &mut self,
+        alloc: Global,
         message: &AnyMessage,
         entries: &[CellEntry],
         codes: &Codes,
@@ -143,6 +152,8 @@ impl StationSurvey {
         let first = self.reference_point;
         self.far_point = far_point_with(first, self.far_point, message);
         self.reference_point = first_point_with(first, message);
+        take_channels(alloc, &mut self.channels, message)?;
+        take_clock(&mut self.clocks, message)?;
         take_system_message(&mut self.system_msm, message, signals)
     }
 
