@@ -18,6 +18,7 @@ use Rattle.rtk_bits.specs.Bits.{bits}
 use Rattle.rtk_message.specs.AnyDecoded.{DecodesBy, number_of}
 use Rattle.rtk_message.specs.Systems.{number_of_type}
 use Rattle.rtk_survey.specs.BesideGps.{cells_beside, has_index, has_any_code}
+use Rattle.rtk_survey.specs.Channels.{place_is_told}
 use Rattle.rtk_survey.specs.Counting.{count_of}
 use Rattle.rtk_survey.specs.CountingLaws.{IsReadMessage, EachFrameIsCounted, EachMessageIsCounted, StandsIn, PartsStand, StationsStand, ProposalsStand, UntakenStand}
 use Rattle.rtk_survey.specs.EquipmentHistory.{equipment_of}
@@ -28,7 +29,7 @@ use Rattle.rtk_survey.specs.NumberLaws.{IsHeld}
 use Rattle.rtk_survey.specs.Proposal.{epochs_in, times_with_value, epochs_with_value, entries_with}
 use Rattle.rtk_survey.specs.ReadFrames.{messages_read, ReadFrame, ReadsFrames, read_frame, with_message, with_fault, bytes_in, messages_in, faults_in, unread_in, messages_from}
 use Rattle.rtk_survey.specs.Summary.{all_numbers, size_lines, epochs_beside, station_lines, lines_if_any, stations_text, weeks_text, unread_lines, summary_text}
-use Rattle.rtk_survey.specs.SummaryText.{number_line, counted_line, numbered_line, message_numbers, message_lines, epoch_lines, time_lines, look_line, near_text, signal_lines, proposal_lines, all_codes_text, nothing_line, untaken_numbers}
+use Rattle.rtk_survey.specs.SummaryText.{number_line, counted_line, numbered_line, message_numbers, message_lines, epoch_lines, channel_line, time_lines, look_line, near_text, signal_lines, proposal_lines, all_codes_text, nothing_line, untaken_numbers}
 use Rattle.rtk_survey.specs.declared.station_dates.StationDates.{StationDates}
 use Rattle.rtk_survey.specs.Tracing.{is_numbered, is_other, is_short, is_outside_week, is_no_number, is_too_many_cells, times_of_week, entries_in, has_satellite, has_code}
 use Rattle.rtk_survey.proofs.SummaryTellingLemmas.{each-weaker, of-all}
@@ -201,7 +202,8 @@ proposals-stand name station ms d e held =
     ++ time_lines (times_of_week ms)
     ++ told_lines d e
     ++ signal_lines (has_satellite (entries_in ms)) (has_code (entries_in ms)) (has_index (cells_beside ms)) (has_any_code (cells_beside ms))
-    ++ epoch_lines (epochs_beside ms) in
+    ++ epoch_lines (epochs_beside ms)
+    ++ channel_line (place_is_told ms) in
     let whole = append-nil (station_lines name station ms d e) in
     subst (λ (epochs : MsmKind → ℕ). StandsIn (proposal epochs) (station_lines name station ms d e)) (epochs-are ms held) (lines, [], sym whole)
 

@@ -1,6 +1,7 @@
 pub mod AlikeLemmas
 pub mod BitLemmas
 pub mod ChannelLemmas
+pub mod ChannelLineLemmas
 pub mod CountingLemmas
 pub mod CutLemmas
 pub mod DateLemmas

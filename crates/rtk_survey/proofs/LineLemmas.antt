@@ -11,6 +11,7 @@ use Rattle.rtk_obs.specs.SatelliteIndex.{index_name}
 use Rattle.rtk_message.specs.declared.msm_kind.MsmKind.{MsmKind}
 use Rattle.rtk_message.specs.declared.any_message.AnyMessage.{AnyMessage}
 use Rattle.rtk_survey.specs.BesideGps.{cells_beside, has_index, has_any_code}
+use Rattle.rtk_survey.specs.Channels.{place_is_told, place_is_counted}
 use Rattle.rtk_survey.specs.Counting.{count_of}
 use Rattle.rtk_survey.specs.Look.{look_of, look_name}
 use Rattle.rtk_survey.specs.Surveys.{look_if_empty}
@@ -20,7 +21,7 @@ use Rattle.rtk_survey.specs.FrameDates.{proposed_date}
 use Rattle.rtk_survey.specs.FrameEquipment.{told_lines}
 use Rattle.rtk_survey.specs.Proposal.{epochs_with_value, entries_with}
 use Rattle.rtk_survey.specs.Summary.{all_numbers, epochs_beside, station_lines}
-use Rattle.rtk_survey.specs.SummaryText.{look_line, number_line, numbered_line, message_numbers, message_lines, epoch_lines, list_line, time_lines, near_text, untaken_numbers, listed_satellite, satellites_text, listed_index, indices_text, joined_names, joined_texts, codes_text, all_codes_text, words_text, auto_line, next_lines, signal_lines, proposal_lines}
+use Rattle.rtk_survey.specs.SummaryText.{look_line, number_line, numbered_line, message_numbers, message_lines, epoch_lines, channel_line, list_line, time_lines, near_text, untaken_numbers, listed_satellite, satellites_text, listed_index, indices_text, joined_names, joined_texts, codes_text, all_codes_text, words_text, auto_line, next_lines, signal_lines, proposal_lines}
 use Rattle.std.specs.BTreeMap.{BTreeMap}
 use Rattle.rtk_survey.specs.Contents.{count_at, HasCodes, HasSignals, HasSystemSignals, IsStationOf, HasMsms, equipment_at, epochs_held, codes_held, any_codes_held, messages_held, system_epochs_held}
 use Rattle.rtk_survey.specs.Steps.Tables.{counts_text, untaken_text, look_lines}
@@ -31,6 +32,7 @@ use Rattle.rtk_survey.specs.declared.signals.Codes.{Codes}
 use Rattle.rtk_survey.specs.declared.signals.Signals.{Signals}
 use Rattle.rtk_survey.specs.declared.station.StationSurvey.{StationSurvey}
 use Rattle.rtk_survey.specs.declared.system_signals.SystemSignals.{SystemSignals}
+use Rattle.rtk_survey.proofs.ChannelLineLemmas.{channel-line-is}
 use Rattle.rtk_survey.proofs.ListLemmas.{lines-agree}
 use Rattle.rtk_survey.proofs.MsmLemmas.{codes-marked, epochs-are, codes-held-are}
 use Rattle.rtk_survey.proofs.SystemLemmas.{any-codes-marked, epochs-beside-are, counts-held}
@@ -209,6 +211,7 @@ lines_held name number s d e times =
     ++ told_lines d e
     ++ signal_lines (λ n. get_or s.signals.satellites n false) (λ c. get_or s.signals.codes.marks (place_of c) false) (λ n. get_or s.system_signals.satellites n false) (λ c. get_or s.system_signals.codes (number_of c) false)
     ++ epoch_lines (system_epochs_held s)
+    ++ channel_line (place_is_counted s.channels.items)
     ++ proposal_lines name (near_text (proposed_date d)) number (epochs_held s.msm) (codes_held s.msm)
 
 -- the lines of the counts of messages
@@ -232,10 +235,13 @@ station-lines-are name number s d e ms stands =
     let proposal : List ℕ = proposal_lines name near number (λ kind. epochs_with_value kind ms) (λ kind. has_code (entries_with kind ms)) in
     let messages' : List ℕ = message_lines (messages_held s) in
     let signals' : List ℕ = signal_lines (λ n. get_or s.signals.satellites n false) (λ c. get_or s.signals.codes.marks (place_of c) false) (λ n. get_or s.system_signals.satellites n false) (λ c. get_or s.system_signals.codes (number_of c) false) in
-    ap (λ (t : List ℕ). head ++ t ++ times ++ dates ++ signals ++ epoch_lines (epochs_beside ms) ++ proposal) (sym (messages-agree s ms d e stands))
-    ∙ ap (λ (t : List ℕ). head ++ messages' ++ times ++ dates ++ t ++ epoch_lines (epochs_beside ms) ++ proposal) (sym (signals-are s.signals s.system_signals ms stands.signals stands.system_signals))
-    ∙ ap (λ (t : ℕ → ℕ). head ++ messages' ++ times ++ dates ++ signals' ++ epoch_lines t ++ proposal) (sym (epochs-beside-are s ms stands.system_msm))
-    ∙ ap (λ (t : List ℕ). head ++ messages' ++ times ++ dates ++ signals' ++ epoch_lines (system_epochs_held s) ++ t) (sym (proposal-is name near number s.msm ms stands.msm))
+    let channels : List ℕ = channel_line (place_is_told ms) in
+    let channels' : List ℕ = channel_line (place_is_counted s.channels.items) in
+    ap (λ (t : List ℕ). head ++ t ++ times ++ dates ++ signals ++ epoch_lines (epochs_beside ms) ++ channels ++ proposal) (sym (messages-agree s ms d e stands))
+    ∙ ap (λ (t : List ℕ). head ++ messages' ++ times ++ dates ++ t ++ epoch_lines (epochs_beside ms) ++ channels ++ proposal) (sym (signals-are s.signals s.system_signals ms stands.signals stands.system_signals))
+    ∙ ap (λ (t : ℕ → ℕ). head ++ messages' ++ times ++ dates ++ signals' ++ epoch_lines t ++ channels ++ proposal) (sym (epochs-beside-are s ms stands.system_msm))
+    ∙ ap (λ (t : List ℕ). head ++ messages' ++ times ++ dates ++ signals' ++ epoch_lines (system_epochs_held s) ++ t ++ proposal) (sym (channel-line-is s.channels.items ms stands.channels))
+    ∙ ap (λ (t : List ℕ). head ++ messages' ++ times ++ dates ++ signals' ++ epoch_lines (system_epochs_held s) ++ channels' ++ t) (sym (proposal-is name near number s.msm ms stands.msm))
 
 -- ---- a file without a frame
 

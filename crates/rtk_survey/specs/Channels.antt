@@ -1,6 +1,6 @@
 -- How often messages tell each frequency channel of each slot of GLONASS. Lists of messages are newest first.
 -- Source: RTCM 10403.3, DF394 and DF419
-use Rattle.std.specs.Prelude.{◌≡◌, ℕ, ◌+◌, ◌-◌, ◌*◌, ◌/◌, ◌%◌, ◌^◌, ◌==◌, ◌<◌, ◌≤◌, Bool, true, false, ◌&&◌, List, [], ◌∷◌, length, get_or, slice_get, count_ones, Option, None, Some, if◌then◌else◌}
+use Rattle.std.specs.Prelude.{◌≡◌, ℕ, ◌+◌, ◌-◌, ◌*◌, ◌/◌, ◌%◌, ◌^◌, ◌==◌, ◌<◌, ◌≤◌, Bool, true, false, ◌&&◌, List, [], ◌∷◌, length, get_or, slice_get, count_ones, nat_lt, Option, None, Some, if◌then◌else◌}
 use Rattle.rtk_message.specs.declared.any_message.AnyMessage.{AnyMessage}
 use Rattle.rtk_message.specs.declared.any_message.AnyMessage.TheVariants as any
 use Rattle.rtk_message.specs.declared.msm.Msm.{Msm}
@@ -68,6 +68,14 @@ pub record TakesFields (tells : ℕ → ℕ → Bool) (old new : List ℕ) : Typ
       → get_or new (place_of_field slot field) 0 ≡ shown_count (get_or old (place_of_field slot field) 0 + 1)
   pub others : (slot field : ℕ) → IsChannelTold slot field → tells slot field ≡ false
       → get_or new (place_of_field slot field) 0 ≡ get_or old (place_of_field slot field) 0
+
+-- formula
+-- some message tells the slot and the field of a place
+abbrev pub place_is_told : List AnyMessage → ℕ → Bool
+place_is_told ms place = nat_lt 0 (count_of (tells_field (place / 14) (place % 14)) ms)
+
+abbrev pub place_is_counted : List ℕ → ℕ → Bool
+place_is_counted table place = nat_lt 0 (get_or table place 0)
 
 -- as long as there is no table, no message tells a channel
 abbrev pub CountsChannels : List ℕ → List AnyMessage → Type 0

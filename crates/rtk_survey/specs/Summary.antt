@@ -10,13 +10,14 @@ use Rattle.rtk_survey.specs.declared.equipment_message.EquipmentMessage.{Equipme
 use Rattle.rtk_message.specs.declared.any_message.AnyMessage.{AnyMessage}
 use Rattle.rtk_message.specs.declared.any_fault.AnyFault.{AnyFault}
 use Rattle.rtk_survey.specs.BesideGps.{messages_beside, cells_beside, has_index, has_any_code, times_beside}
+use Rattle.rtk_survey.specs.Channels.{place_is_told}
 use Rattle.rtk_survey.specs.Counting.{shown_count, count_of}
 use Rattle.rtk_survey.specs.FrameDates.{dates_in, station_dates, proposed_date, is_of_week}
 use Rattle.rtk_survey.specs.FrameEquipment.{equipment_among, is_mentioned, told_lines}
 use Rattle.rtk_survey.specs.Proposal.{epochs_in, epochs_with_value, entries_with}
 use Rattle.rtk_survey.specs.ReadFrames.{ReadFrame, ReadsFrames, bytes_in, messages_in, unread_in, messages_from}
 use Rattle.rtk_survey.specs.Tracing.{is_numbered, is_other, is_short, is_outside_week, is_no_number, is_too_many_cells, times_of_week, entries_in, has_satellite, has_code}
-use Rattle.rtk_survey.specs.SummaryText.{number_line, counted_line, numbered_line, message_lines, epoch_lines, time_lines, week_line, look_line, signal_lines, near_text, proposal_lines, all_codes_text, nothing_line, untaken_numbers}
+use Rattle.rtk_survey.specs.SummaryText.{number_line, counted_line, numbered_line, message_lines, epoch_lines, channel_line, time_lines, week_line, look_line, signal_lines, near_text, proposal_lines, all_codes_text, nothing_line, untaken_numbers}
 use Rattle.rtk_survey.specs.declared.station_dates.StationDates.{StationDates}
 
 -- table
@@ -39,6 +40,7 @@ station_lines name station ms d e =
     ++ told_lines d e
     ++ signal_lines (has_satellite (entries_in ms)) (has_code (entries_in ms)) (has_index (cells_beside ms)) (has_any_code (cells_beside ms))
     ++ epoch_lines (epochs_beside ms)
+    ++ channel_line (place_is_told ms)
     ++ proposal_lines name (near_text (proposed_date d)) station (λ kind. epochs_with_value kind ms) (λ kind. has_code (entries_with kind ms))
 
 -- a station of which no message came, and which no other one mentions, has no lines

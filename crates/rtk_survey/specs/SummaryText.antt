@@ -1,6 +1,6 @@
 -- The lines of a summary (this project's rule): a keyword at the head of each, those of a station
 -- after a blank.
-use Rattle.std.specs.Prelude.{ℕ, ◌+◌, ◌/◌, ◌%◌, ◌==◌, nat_eq, Bool, not, ◌&&◌, List, [], ◌∷◌, ◌++◌, filter, flat_map, codes, decimal, Option, None, Some, if◌then◌else◌}
+use Rattle.std.specs.Prelude.{ℕ, ◌+◌, ◌-◌, ◌/◌, ◌%◌, ◌==◌, nat_eq, nat_lt, Bool, not, ◌&&◌, List, [], ◌∷◌, ◌++◌, filter, flat_map, codes, decimal, Option, None, Some, if◌then◌else◌}
 use Rattle.std.specs.Cmp.Lexicographic.{pointwise}
 use Rattle.std.specs.List.{range_with_len}
 use Rattle.rtk_survey.specs.Telling.{moment_of}
@@ -192,6 +192,37 @@ all_codes_text code other = codes_text code ++ any_codes_text (codes_text code) 
 unfoldable pub signal_lines : (ℕ → Bool) → (Code → Bool) → (ℕ → Bool) → (AnyCode → Bool) → List ℕ
 signal_lines satellite code index other =
     list_line (codes " satellites") (satellites_text satellite ++ indices_text index) ++ list_line (codes " codes") (all_codes_text code other)
+
+-- ---- channels of GLONASS, by the test which messages tell
+
+-- formula
+-- the channel that a field tells (DF419): 7 less
+abbrev pub channel_text : ℕ → List ℕ
+channel_text field = if nat_lt field 7 then 45 ∷ (48 + (7 - field)) ∷ [] else (48 + (field - 7)) ∷ []
+
+-- formula
+-- a slot and a channel, as in 10:-5, by the place of the slot and the field
+abbrev pub told_channel_text : ℕ → List ℕ
+told_channel_text place = decimal (place / 14) ++ 58 ∷ channel_text (place % 14)
+
+-- formula
+abbrev pub joined_channels : ℕ → List ℕ → List ℕ
+joined_channels separator [] = []
+joined_channels separator (p ∷ ps) = separator ∷ told_channel_text p ++ joined_channels 44 ps
+
+-- formula
+-- the channels of slots 1 to 27 that messages tell, as an option lists them; a slot with several is named with each
+unfoldable pub channels_text : (ℕ → Bool) → List ℕ
+channels_text told = joined_channels 32 (filter told (range_with_len 14 378))
+
+-- formula
+-- without a channel there is no line
+abbrev pub line_if_some : List ℕ → List ℕ → List ℕ
+line_if_some words [] = []
+line_if_some words (x ∷ xs) = words ++ (x ∷ xs) ++ 10 ∷ []
+
+unfoldable pub channel_line : (ℕ → Bool) → List ℕ
+channel_line told = line_if_some (codes " channels") (channels_text told)
 
 -- ---- the commands that convert a station, by how many epochs of each MSM have a value, and by the
 -- codes that `convert` takes with each

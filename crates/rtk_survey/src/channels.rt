@@ -13,10 +13,10 @@ use std::alloc::{AllocError, Global};
 const SLOTS: u8 = 28;
 
 /// The fields that tell a channel (DF419): 0 to 13, 7 more than the channel.
-const FIELDS: usize = 14;
+pub(crate) const FIELDS: usize = 14;
 
 /// The places of a table.
-const PLACES: usize = 392;
+pub(crate) const PLACES: usize = 392;
 
 // The mask has the bit of this slot.
 fn has_slot_bit(mask: u64, slot: u8) -> bool

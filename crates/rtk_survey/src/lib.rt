@@ -39,6 +39,7 @@
 
 mod beside_gps;
 mod capture_dates;
+mod channel_lines;
 mod channels;
 mod clock_chains;
 mod contents;

@@ -19,6 +19,7 @@ ghost use Rattle.rtk_survey.specs.declared.equipment_message.EquipmentMessage.{E
 ghost use Rattle.rtk_survey.specs.declared.station_dates.StationDates.{StationDates};
 ghost use Rattle.rtk_survey.specs.declared.target.Target.{Target};
 
+use crate::channel_lines::put_channels;
 use crate::contents::Contents;
 use crate::date_lines::{put_dates, put_weeks};
 use crate::equipment_lines::{is_told, put_equipment};
@@ -152,6 +153,7 @@ fn put_station(
     put_told(lines, station)?;
     put_signals(alloc, lines, &station.signals, &station.system_signals)?;
     put_epochs(lines, station)?;
+    put_channels(alloc, lines, station.channels.as_slice())?;
     put_proposal(
         alloc,
         lines,
