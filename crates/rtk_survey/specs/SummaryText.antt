@@ -197,13 +197,13 @@ signal_lines satellite code index other =
 
 -- formula
 -- the channel that a field tells (DF419): 7 less
-abbrev pub channel_text : ℕ → List ℕ
-channel_text field = if nat_lt field 7 then 45 ∷ (48 + (7 - field)) ∷ [] else (48 + (field - 7)) ∷ []
+abbrev pub field_channel_text : ℕ → List ℕ
+field_channel_text field = if nat_lt field 7 then 45 ∷ (48 + (7 - field)) ∷ [] else (48 + (field - 7)) ∷ []
 
 -- formula
 -- a slot and a channel, as in 10:-5, by the place of the slot and the field
 abbrev pub told_channel_text : ℕ → List ℕ
-told_channel_text place = decimal (place / 14) ++ 58 ∷ channel_text (place % 14)
+told_channel_text place = decimal (place / 14) ++ 58 ∷ field_channel_text (place % 14)
 
 -- formula
 abbrev pub joined_channels : ℕ → List ℕ → List ℕ

@@ -13,7 +13,7 @@ use std::alloc::{AllocError, Global};
 // The channel that a field tells.
 fn put_channel(text: &mut Vec<u8>, field: u8) -> Result<(), AllocError>
     requires { field < 14 }
-    ensures { OnOk result (text.new.items ≡ text.old.items ++ spec.channel_text field) }
+    ensures { OnOk result (text.new.items ≡ text.old.items ++ spec.field_channel_text field) }
 {
     if field < 7 {
         text.extend_from_slice(&[b'-', b'0' + (7 - field)])
