@@ -1,12 +1,15 @@
 -- How often messages tell each frequency channel of each slot of GLONASS. Lists of messages are newest first.
--- Source: RTCM 10403.3, DF394 and DF419
-use Rattle.std.specs.Prelude.{◌≡◌, ℕ, ◌+◌, ◌-◌, ◌*◌, ◌/◌, ◌%◌, ◌^◌, ◌==◌, ◌<◌, ◌≤◌, Bool, true, false, ◌&&◌, List, [], ◌∷◌, length, get_or, slice_get, count_ones, nat_lt, Option, None, Some, if◌then◌else◌}
+-- Source: RTCM 10403.3, DF038, DF040, DF394 and DF419
+use Rattle.std.specs.Prelude.{◌≡◌, ◌≢◌, ℕ, ◌+◌, ◌-◌, ◌*◌, ◌/◌, ◌%◌, ◌^◌, ◌==◌, ◌<◌, ◌≤◌, Bool, true, false, ◌&&◌, List, [], ◌∷◌, length, get_or, slice_get, replicate, count_ones, nat_lt, Option, None, Some, if◌then◌else◌}
 use Rattle.rtk_message.specs.declared.any_message.AnyMessage.{AnyMessage}
 use Rattle.rtk_message.specs.declared.any_message.AnyMessage.TheVariants as any
 use Rattle.rtk_message.specs.declared.msm.Msm.{Msm}
 use Rattle.rtk_message.specs.declared.system.System.{System}
 use Rattle.rtk_message.specs.declared.system.System.TheVariants.{Gps, Glonass, Galileo, Beidou, Qzss, Sbas, Navic}
 use Rattle.rtk_survey.specs.Counting.{shown_count, count_of}
+use Rattle.rtk_survey.specs.declared.system_message.SlotChannel.{SlotChannel}
+use Rattle.rtk_survey.specs.declared.system_message.SystemMessage.{SystemMessage}
+use Rattle.rtk_survey.specs.declared.system_message.SystemMessage.TheVariants.{Week, Slot, Leap}
 
 -- formula
 -- the mask has the bit of this slot; the first bit is the most significant one
@@ -56,10 +59,10 @@ pub record IsChannelTold (slot field : ℕ) : Type 0 where
   pub slot : slot < 28
   pub field : field < 14
 
--- a table has a place for each slot and field, with how many messages tell it
-pub record CountsFields (table : List ℕ) (ms : List AnyMessage) : Type 0 where
+-- a table has a place for each slot and field, with how many of these tell it
+pub record CountsFields {X : Type 0} (tells : ℕ → ℕ → X → Bool) (table : List ℕ) (xs : List X) : Type 0 where
   pub size : length table ≡ 392
-  pub counts : (slot field : ℕ) → IsChannelTold slot field → get_or table (place_of_field slot field) 0 ≡ count_of (tells_field slot field) ms
+  pub counts : (slot field : ℕ) → IsChannelTold slot field → get_or table (place_of_field slot field) 0 ≡ count_of (tells slot field) xs
 
 -- a message more, which tells these fields: before, after
 pub record TakesFields (tells : ℕ → ℕ → Bool) (old new : List ℕ) : Type 0 where
@@ -77,7 +80,37 @@ place_is_told ms place = nat_lt 0 (count_of (tells_field (place / 14) (place % 1
 abbrev pub place_is_counted : List ℕ → ℕ → Bool
 place_is_counted table place = nat_lt 0 (get_or table place 0)
 
--- as long as there is no table, no message tells a channel
+-- as long as there is no table, none of these tells a channel
+abbrev pub CountsTold : {X : Type 0} → (ℕ → ℕ → X → Bool) → List ℕ → List X → Type 0
+CountsTold tells [] xs = (slot field : ℕ) → IsChannelTold slot field → count_of (tells slot field) xs ≡ 0
+CountsTold tells (y ∷ ys) xs = CountsFields tells (y ∷ ys) xs
+
+-- a table is there, or one was made: before, after
+abbrev pub IsMade : List ℕ → List ℕ → Type 0
+IsMade old new = ((length old ≡ 392) × (new ≡ old)) ⊎ ((length old ≢ 392) × (new ≡ replicate 392 0))
+
+-- how many messages tell each field of each slot
 abbrev pub CountsChannels : List ℕ → List AnyMessage → Type 0
-CountsChannels [] ms = (slot field : ℕ) → IsChannelTold slot field → count_of (tells_field slot field) ms ≡ 0
-CountsChannels (x ∷ xs) ms = CountsFields (x ∷ xs) ms
+CountsChannels table ms = CountsTold tells_field table ms
+
+-- ---- 1020
+
+-- what a 1020 tells of a slot and a field
+abbrev pub tells_slot_channel : SlotChannel → ℕ → ℕ → Bool
+tells_slot_channel s slot field = (s.slot == slot) && (s.field == field)
+
+abbrev pub slot_channel_in : SystemMessage → Option SlotChannel
+slot_channel_in (Week w) = None
+slot_channel_in (Slot s) = Some s
+slot_channel_in (Leap l) = None
+
+abbrev pub tells_slot_if : Option SlotChannel → ℕ → ℕ → Bool
+tells_slot_if None slot field = false
+tells_slot_if (Some s) slot field = tells_slot_channel s slot field
+
+abbrev pub tells_slot : ℕ → ℕ → SystemMessage → Bool
+tells_slot slot field m = tells_slot_if (slot_channel_in m) slot field
+
+-- how many 1020 tell each field of each slot
+abbrev pub CountsSlots : List ℕ → List SystemMessage → Type 0
+CountsSlots table ts = CountsTold tells_slot table ts

@@ -5,7 +5,9 @@ ghost use Rattle.rtk_message.specs.declared.any_message.AnyMessage.{AnyMessage};
 ghost use Rattle.rtk_message.specs.declared.any_message.AnyMessage.TheVariants.{Msm};
 ghost use Rattle.rtk_survey.specs.Channels as spec;
 ghost use Rattle.rtk_survey.specs.Counting.{shown_count};
+ghost use Rattle.rtk_survey.specs.declared.system_message.SystemMessage.{SystemMessage};
 
+use crate::system_message::{SlotChannel, SystemMessage};
 use rtk_message::{AnyMessage, Msm, System};
 use std::alloc::{AllocError, Global};
 
@@ -106,7 +108,7 @@ fn take_slots(table: &mut Vec<u64>, message: &Msm)
 
 // Makes a table, unless it is there.
 fn make_table(alloc: Global, table: &mut Vec<u64>) -> Result<(), AllocError>
-    ensures counts { OnOk result ((ms : List AnyMessage) → spec.CountsChannels table.old.items ms → spec.CountsFields table.new.items ms) }
+    ensures made { OnOk result (spec.IsMade table.old.items table.new.items) }
     ensures size { OnOk result (length table.new.items ≡ 392) }
 {
     if table.len() != PLACES {
@@ -147,6 +149,49 @@ pub(crate) fn take_channels(
         AnyMessage::Message(_) => Ok(()),
         AnyMessage::Msm(message) => take_msm(alloc, table, message),
     }
+}
+
+// Counts the channel that a 1020 tells.
+fn take_told(table: &mut Vec<u64>, told: SlotChannel)
+    requires { length table.old.items ≡ 392 }
+    ensures { spec.TakesFields (spec.tells_slot_channel told) table.old.items table.new.items }
+{
+    if told.slot < SLOTS {
+        count_field(table, told.slot, told.field);
+    }
+}
+
+// The channel that a message tells, if it is a 1020.
+fn slot_channel_in(message: &SystemMessage) -> Option<SlotChannel>
+    ensures { result ≡ spec.slot_channel_in message.now }
+{
+    match message {
+        SystemMessage::Slot(told) => Some(*told),
+        SystemMessage::Week(_) | SystemMessage::Leap(_) => None,
+    }
+}
+
+/// No 1020 came.
+pub(crate) fn no_slots_told(alloc: Global) -> Vec<u64>
+    ensures { spec.CountsSlots result.items [] }
+{
+    Vec::new(alloc)
+}
+
+/// Counts the channel that a message tells, if it is a 1020. The table is made with the first one.
+pub(crate) fn take_slot_channel(
+    alloc: Global,
+    table: &mut Vec<u64>,
+    message: &SystemMessage,
+) -> Result<(), AllocError>
+    ensures { OnOk result ((ts : List SystemMessage) → spec.CountsSlots table.old.items ts
+        → spec.CountsSlots table.new.items (message.now ∷ ts)) }
+{
+    if let Some(told) = slot_channel_in(message) {
+        make_table(alloc, table)?;
+        take_told(table, told);
+    }
+    Ok(())
 }
 
 /// How many messages tell a field (0 to 13, 7 more than the channel) of a slot (1 to 27), by a table.
