@@ -26,5 +26,6 @@ pub mod SignalLemmas
 pub mod StationLemmas
 pub mod SummaryTellingLemmas
 pub mod SystemLemmas
+pub mod SystemTellingLemmas
 pub mod TallyLemmas
 pub mod TargetLemmas

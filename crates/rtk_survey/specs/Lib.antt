@@ -29,6 +29,7 @@ pub mod Summary
 pub mod SummaryText
 pub mod Surveys
 pub mod SystemMessages
+pub mod SystemTellings
 pub mod Targets
 pub mod Telling
 pub mod Tracing
