@@ -6,7 +6,7 @@ use Rattle.rtk_message.specs.declared.any_message.AnyMessage.{AnyMessage}
 use Rattle.rtk_message.specs.declared.any_message.AnyMessage.TheVariants.{Message, Msm}
 use Rattle.rtk_message.specs.declared.message.Message as four
 use Rattle.rtk_message.specs.declared.msm.Msm as msm
-use Rattle.rtk_survey.specs.Channels.{tells_field_of, is_glonass, tells_field, place_of_field, IsChannelTold, CountsFields, TakesFields, CountsTold, IsMade, CountsChannels, tells_slot_channel, slot_channel_in, tells_slot_if, tells_slot, CountsSlots}
+use Rattle.rtk_survey.specs.Channels.{tells_field_of, is_glonass, tells_field, place_of_field, IsChannelTold, CountsFields, TakesFields, CountsTold, IsTableMade, CountsChannels, tells_slot_channel, slot_channel_in, tells_slot_if, tells_slot_of_1020, CountsSlots}
 use Rattle.rtk_survey.specs.Counting.{shown_count, count_of}
 use Rattle.rtk_survey.specs.declared.system_message.SlotChannel.{SlotChannel}
 use Rattle.rtk_survey.specs.declared.system_message.SystemMessage.{SystemMessage}
@@ -40,7 +40,7 @@ is-table : {X : Type 0} (tells : ℕ → ℕ → X → Bool) (table : List ℕ) 
 is-table {X} tells [] xs counts = absurd (omega (arith, counts.size))
 is-table {X} tells (y ∷ ys) xs counts = counts
 
-pub fields-made : {X : Type 0} (tells : ℕ → ℕ → X → Bool) (old new : List ℕ) (xs : List X) → IsMade old new → CountsTold tells old xs → CountsFields tells new xs
+pub fields-made : {X : Type 0} (tells : ℕ → ℕ → X → Bool) (old new : List ℕ) (xs : List X) → IsTableMade old new → CountsTold tells old xs → CountsFields tells new xs
 fields-made {X} tells old new xs made counts = elim made [
   | inl there ↦ subst (λ (t : List ℕ). CountsFields tells t xs) (sym there.1) (sized tells old xs there.0 counts)
   | inr fresh ↦ record {
@@ -100,10 +100,10 @@ no-msm table m ms counts = none-told tells_field table (Message m) ms (λ slot f
 
 -- ---- a 1020 more
 
-pub slot-told : (old new : List ℕ) (m : SystemMessage) (s : SlotChannel) (ts : List SystemMessage) → Some s ≡ slot_channel_in m → TakesFields (tells_slot_channel s) old new → CountsFields tells_slot old ts → CountsSlots new (m ∷ ts)
+pub slot-told : (old new : List ℕ) (m : SystemMessage) (s : SlotChannel) (ts : List SystemMessage) → Some s ≡ slot_channel_in m → TakesFields (tells_slot_channel s) old new → CountsFields tells_slot_of_1020 old ts → CountsSlots new (m ∷ ts)
 slot-told old new m s ts is takes had =
-    let same : (slot field : ℕ) → tells_slot slot field m ≡ tells_slot_channel s slot field = λ slot field. ap (λ (o : Option SlotChannel). tells_slot_if o slot field) (sym is) in
-    fields-more tells_slot old new m ts
+    let same : (slot field : ℕ) → tells_slot_of_1020 slot field m ≡ tells_slot_channel s slot field = λ slot field. ap (λ (o : Option SlotChannel). tells_slot_if o slot field) (sym is) in
+    fields-more tells_slot_of_1020 old new m ts
     (record {
       size = takes.size;
       told = λ slot field told holds. takes.told slot field told (sym (same slot field) ∙ holds);
@@ -112,4 +112,4 @@ slot-told old new m s ts is takes had =
     had
 
 pub no-slot : (table : List ℕ) (m : SystemMessage) (ts : List SystemMessage) → None ≡ slot_channel_in m → CountsSlots table ts → CountsSlots table (m ∷ ts)
-no-slot table m ts is counts = none-told tells_slot table m ts (λ slot field told. ap (λ (o : Option SlotChannel). tells_slot_if o slot field) (sym is)) counts
+no-slot table m ts is counts = none-told tells_slot_of_1020 table m ts (λ slot field told. ap (λ (o : Option SlotChannel). tells_slot_if o slot field) (sym is)) counts

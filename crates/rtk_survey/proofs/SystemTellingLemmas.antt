@@ -6,9 +6,9 @@ use Rattle.std.specs.Map.{lookup}
 use Rattle.std.specs.Option.{unwrap_or}
 use Rattle.std.specs.Ordering.{nat_cmp}
 use Rattle.rtk_survey.specs.Channels.{is_field}
-use Rattle.rtk_survey.specs.Contents.{count_at}
+use Rattle.rtk_survey.specs.Contents.{count_at, CountsSystemWeeks}
 use Rattle.rtk_survey.specs.Counting.{shown_count, count_of}
-use Rattle.rtk_survey.specs.SystemTellings.{system_week_of, names_week, CountsSystemWeeks, leap_in, widened, leap_with, leap_with_if, leap_range, HasLeapRanges}
+use Rattle.rtk_survey.specs.SystemTellings.{system_week_of, names_week, leap_in, widened, leap_with, leap_with_if, leap_range, HasLeapRanges}
 use Rattle.rtk_survey.specs.declared.system_message.LeapSeconds.{LeapSeconds}
 use Rattle.rtk_survey.specs.declared.system_message.SystemMessage.{SystemMessage}
 use Rattle.rtk_survey.specs.declared.system_tellings.LeapRange.{LeapRange}

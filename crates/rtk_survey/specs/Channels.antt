@@ -86,8 +86,8 @@ CountsTold tells [] xs = (slot field : ℕ) → IsChannelTold slot field → cou
 CountsTold tells (y ∷ ys) xs = CountsFields tells (y ∷ ys) xs
 
 -- a table is there, or one was made: before, after
-abbrev pub IsMade : List ℕ → List ℕ → Type 0
-IsMade old new = ((length old ≡ 392) × (new ≡ old)) ⊎ ((length old ≢ 392) × (new ≡ replicate 392 0))
+abbrev pub IsTableMade : List ℕ → List ℕ → Type 0
+IsTableMade old new = ((length old ≡ 392) × (new ≡ old)) ⊎ ((length old ≢ 392) × (new ≡ replicate 392 0))
 
 -- how many messages tell each field of each slot
 abbrev pub CountsChannels : List ℕ → List AnyMessage → Type 0
@@ -108,9 +108,9 @@ abbrev pub tells_slot_if : Option SlotChannel → ℕ → ℕ → Bool
 tells_slot_if None slot field = false
 tells_slot_if (Some s) slot field = tells_slot_channel s slot field
 
-abbrev pub tells_slot : ℕ → ℕ → SystemMessage → Bool
-tells_slot slot field m = tells_slot_if (slot_channel_in m) slot field
+abbrev pub tells_slot_of_1020 : ℕ → ℕ → SystemMessage → Bool
+tells_slot_of_1020 slot field m = tells_slot_if (slot_channel_in m) slot field
 
 -- how many 1020 tell each field of each slot
 abbrev pub CountsSlots : List ℕ → List SystemMessage → Type 0
-CountsSlots table ts = CountsTold tells_slot table ts
+CountsSlots table ts = CountsTold tells_slot_of_1020 table ts

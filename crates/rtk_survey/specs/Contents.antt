@@ -18,7 +18,7 @@ use Rattle.rtk_obs.specs.AnyCode as any_code
 use Rattle.rtk_obs.specs.Code.{place_of}
 use Rattle.rtk_survey.specs.BesideGps.{messages_beside, cells_beside, gives_index, gives_number, times_beside}
 use Rattle.rtk_survey.specs.Chains.{clocks_of, clocks_at}
-use Rattle.rtk_survey.specs.Channels.{CountsChannels}
+use Rattle.rtk_survey.specs.Channels.{CountsChannels, CountsSlots}
 use Rattle.rtk_survey.specs.Counting.{shown_count, count_of}
 use Rattle.rtk_survey.specs.EquipmentHistory.{no_equipment, equipment_of}
 use Rattle.rtk_survey.specs.FrameDates.{dates_in, no_station_dates, station_dates, is_of_week}
@@ -27,6 +27,7 @@ use Rattle.rtk_survey.specs.Proposal.{epochs_in, times_with_value, entries_with}
 use Rattle.rtk_survey.specs.ReadFrames.{ReadFrame, bytes_in, messages_in, unread_in, messages_from}
 use Rattle.rtk_survey.specs.ReferencePoints.{first_point, far_point}
 use Rattle.rtk_survey.specs.Sbas.{has_sbas}
+use Rattle.rtk_survey.specs.SystemTellings.{system_messages_in, names_week, HasLeapRanges}
 use Rattle.rtk_survey.specs.Targets.{IsAnswer}
 use Rattle.rtk_survey.specs.Tracing.{is_numbered, is_other, is_short, is_outside_week, is_no_number, is_too_many_cells, times_of_week, newest_time, oldest_time, changes_in, entries_in, gives_satellite, gives_place}
 use Rattle.rtk_survey.specs.declared.contents.Contents.{Contents}
@@ -41,8 +42,10 @@ use Rattle.rtk_survey.specs.declared.signals.Signals.{Signals}
 use Rattle.rtk_survey.specs.declared.station.MessageCounts.{MessageCounts}
 use Rattle.rtk_survey.specs.declared.station.StationSurvey.{StationSurvey}
 use Rattle.rtk_survey.specs.declared.station_dates.StationDates.{StationDates}
+use Rattle.rtk_survey.specs.declared.system_message.SystemMessage.{SystemMessage}
 use Rattle.rtk_survey.specs.declared.system_msm.SystemMsm.{SystemMsm}
 use Rattle.rtk_survey.specs.declared.system_signals.SystemSignals.{SystemSignals}
+use Rattle.rtk_survey.specs.declared.system_tellings.SystemTellings.{SystemTellings}
 use Rattle.rtk_survey.specs.declared.target.Target.{Target}
 use Rattle.rtk_survey.specs.declared.times_of_week.Times.{Times}
 use Rattle.rtk_survey.specs.declared.unread.Unread.{Unread}
@@ -220,6 +223,18 @@ AreStations ms ds es stations =
 abbrev pub CountsWeeks : BTreeMap ℕ ℕ → List DateMessage → Type 0
 CountsWeeks weeks ds = (n : ℕ) → count_at weeks n ≡ count_of (is_of_week n) ds
 
+-- how many messages of a number name each week of a system
+abbrev pub CountsSystemWeeks : ℕ → BTreeMap ℕ ℕ → List SystemMessage → Type 0
+CountsSystemWeeks number weeks ts = (n : ℕ) → count_at weeks n ≡ count_of (names_week number n) ts
+
+-- what 1042, 1045, 1046, 1020 and 1013 tell
+pub record HasSystemTellings (t : SystemTellings) (ts : List SystemMessage) : Type 0 where
+  pub of_1042 : CountsSystemWeeks 1042 t.weeks_1042 ts
+  pub of_1045 : CountsSystemWeeks 1045 t.weeks_1045 ts
+  pub of_1046 : CountsSystemWeeks 1046 t.weeks_1046 ts
+  pub channels : CountsSlots t.channels.items ts
+  pub leap : HasLeapRanges t.leap_seconds ts
+
 -- what is held of these frames, and of a station if it is asked for
 pub record HoldsFrames (q : Option Target) (fs : List ReadFrame) (c : Contents) : Type 0 where
   pub frames : c.frames ≡ shown_count (length fs)
@@ -228,5 +243,6 @@ pub record HoldsFrames (q : Option Target) (fs : List ReadFrame) (c : Contents) 
   pub codes : HasCodes c.codes (entries_in (messages_in fs))
   pub system_signals : HasSystemSignals c.system_signals (cells_beside (messages_in fs))
   pub weeks : CountsWeeks c.weeks (dates_in fs)
+  pub system_tellings : HasSystemTellings c.system_tellings (system_messages_in fs)
   pub unread : CountsFaults c.unread (unread_in fs)
   pub target : IsAnswer q fs c.target

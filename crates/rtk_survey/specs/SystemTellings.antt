@@ -6,16 +6,13 @@ use Rattle.std.specs.Ordering.{nat_cmp}
 use Rattle.rtk_bits.specs.Bits.{bits}
 use Rattle.rtk_message.specs.declared.any_message.AnyMessage.{AnyMessage}
 use Rattle.rtk_message.specs.declared.any_fault.AnyFault.{AnyFault}
-use Rattle.rtk_survey.specs.Channels.{CountsSlots, is_field}
-use Rattle.rtk_survey.specs.Contents.{count_at}
-use Rattle.rtk_survey.specs.Counting.{count_of}
+use Rattle.rtk_survey.specs.Channels.{is_field}
 use Rattle.rtk_survey.specs.ReadFrames.{ReadFrame}
 use Rattle.rtk_survey.specs.SystemMessages.{system_message_in}
 use Rattle.rtk_survey.specs.declared.system_message.LeapSeconds.{LeapSeconds}
 use Rattle.rtk_survey.specs.declared.system_message.SystemMessage.{SystemMessage}
 use Rattle.rtk_survey.specs.declared.system_message.SystemMessage.TheVariants.{Week, Slot, Leap}
 use Rattle.rtk_survey.specs.declared.system_tellings.LeapRange.{LeapRange}
-use Rattle.rtk_survey.specs.declared.system_tellings.SystemTellings.{SystemTellings}
 
 -- a frame tells such things if it is no message that is read
 abbrev pub system_message_of_reading : List ℕ → Result AnyMessage AnyFault → Option SystemMessage
@@ -40,9 +37,6 @@ system_week_of number (Leap l) = None
 -- a message of this number names this week
 abbrev pub names_week : ℕ → ℕ → SystemMessage → Bool
 names_week number week m = is_field (system_week_of number m) week
-
-abbrev pub CountsSystemWeeks : ℕ → BTreeMap ℕ ℕ → List SystemMessage → Type 0
-CountsSystemWeeks number weeks ts = (n : ℕ) → count_at weeks n ≡ count_of (names_week number n) ts
 
 -- ---- leap seconds
 
@@ -69,12 +63,3 @@ leap_range station (m ∷ before) = leap_with_if station (leap_range station bef
 
 abbrev pub HasLeapRanges : BTreeMap ℕ LeapRange → List SystemMessage → Type 0
 HasLeapRanges ranges ts = (station : ℕ) → get nat_cmp ranges station ≡ leap_range station ts
-
--- ---- all of it
-
-pub record HasSystemTellings (t : SystemTellings) (ts : List SystemMessage) : Type 0 where
-  pub of_1042 : CountsSystemWeeks 1042 t.weeks_1042 ts
-  pub of_1045 : CountsSystemWeeks 1045 t.weeks_1045 ts
-  pub of_1046 : CountsSystemWeeks 1046 t.weeks_1046 ts
-  pub channels : CountsSlots t.channels.items ts
-  pub leap : HasLeapRanges t.leap_seconds ts

@@ -108,7 +108,7 @@ fn take_slots(table: &mut Vec<u64>, message: &Msm)
 
 // Makes a table, unless it is there.
 fn make_table(alloc: Global, table: &mut Vec<u64>) -> Result<(), AllocError>
-    ensures made { OnOk result (spec.IsMade table.old.items table.new.items) }
+    ensures made { OnOk result (spec.IsTableMade table.old.items table.new.items) }
     ensures size { OnOk result (length table.new.items ≡ 392) }
 {
     if table.len() != PLACES {

@@ -6,14 +6,16 @@ ghost use Rattle.rtk_bits.specs.Bits.{bits};
 ghost use Rattle.rtk_message.specs.declared.any_fault.AnyFault.{AnyFault};
 ghost use Rattle.rtk_message.specs.declared.any_message.AnyMessage.{AnyMessage};
 ghost use Rattle.rtk_survey.specs.BesideGps.{cells_beside_gps};
-ghost use Rattle.rtk_survey.specs.Contents.{AreStations, CountsFaults, CountsWeeks, HoldsFrames};
+ghost use Rattle.rtk_survey.specs.Contents.{AreStations, CountsFaults, CountsWeeks, HasSystemTellings, HoldsFrames};
 ghost use Rattle.rtk_survey.specs.Counting.{shown_count};
 ghost use Rattle.rtk_survey.specs.DateMessages.{date_in};
 ghost use Rattle.rtk_survey.specs.EquipmentMessages.{equipment_in};
 ghost use Rattle.rtk_survey.specs.ReadFrames.{ReadFrame, read_frame, fault_beside};
+ghost use Rattle.rtk_survey.specs.SystemMessages.{system_message_in};
 ghost use Rattle.rtk_survey.specs.Tracing.{entries_of_message};
 ghost use Rattle.rtk_survey.specs.declared.date_message.DateMessage.{DateMessage};
 ghost use Rattle.rtk_survey.specs.declared.equipment_message.EquipmentMessage.{EquipmentMessage};
+ghost use Rattle.rtk_survey.specs.declared.system_message.SystemMessage.{SystemMessage};
 ghost use Rattle.rtk_survey.specs.declared.target.Target.{Target};
 
 use crate::beside_gps::is_beside_gps;
@@ -22,7 +24,9 @@ use crate::equipment_message::equipment_in;
 use crate::signals::Codes;
 use crate::station::StationSurvey;
 use crate::stations::{take_date, take_equipment, take_message};
+use crate::system_message::system_message_in;
 use crate::system_signals::SystemSignals;
+use crate::system_tellings::SystemTellings;
 use crate::target::{Target, TargetSurvey, answer_to, take_target_fault, take_target_message};
 use crate::unread::{Unread, count_number};
 use rtk_message::{AnyFault, AnyMessage};
@@ -44,6 +48,8 @@ pub struct Contents {
     pub system_signals: SystemSignals,
     /// How many 1019 name each week modulo 1,024 (DF076).
     pub weeks: BTreeMap<u16, u64>,
+    /// What 1042, 1045, 1046, 1020 and 1013 tell.
+    pub system_tellings: SystemTellings,
     /// What a conversion of GPS does not read. Messages of other systems are among its others.
     pub unread: Unread,
     /// What they tell of the station of a conversion, if it is asked for.
@@ -100,6 +106,21 @@ fn take_equipment_in(
     }
 }
 
+// Takes what a payload tells of weeks, channels or leap seconds, if it is such a message.
+fn take_tellings_in(
+    alloc: Global,
+    tellings: &mut SystemTellings,
+    payload: &[u8],
+) -> Result<(), AllocError>
+    ensures { OnOk result ((ts : List SystemMessage) → HasSystemTellings tellings.old ts
+        → HasSystemTellings tellings.new (cons_option (system_message_in (bits payload.now)) ts)) }
+{
+    match system_message_in(payload) {
+        Some(message) => tellings.take(alloc, &message),
+        None => Ok(()),
+    }
+}
+
 // Counts a message of another system than GPS among the others.
 fn count_beside(unread: &mut Unread, message: &AnyMessage) -> Result<(), AllocError>
     ensures { OnOk result ((fs : List AnyFault) → CountsFaults unread.old fs
@@ -125,6 +146,7 @@ impl Contents {
             codes: Codes::new(),
             system_signals: SystemSignals::new(),
             weeks: BTreeMap::new(alloc),
+            system_tellings: SystemTellings::new(alloc),
             unread: Unread::new(alloc),
             target: answer_to(alloc, target),
         }
@@ -180,6 +202,7 @@ impl Contents {
         self.unread.count_fault(fault)?;
         take_target_fault(&mut self.target, payload, frame);
         take_dates_in(alloc, &mut self.stations, &mut self.weeks, payload)?;
+        take_tellings_in(alloc, &mut self.system_tellings, payload)?;
         take_equipment_in(alloc, &mut self.stations, payload)
     }
 }

@@ -4,8 +4,9 @@
 ghost use Rattle.std.specs.Prelude.{◌≡◌, ◌≢◌, ℕ, List, [], ◌∷◌, Some, OnOk};
 ghost use Rattle.std.specs.BTreeMap.{get};
 ghost use Rattle.std.specs.Ordering.{nat_cmp};
+ghost use Rattle.rtk_survey.specs.Contents.{CountsSystemWeeks, HasSystemTellings};
 ghost use Rattle.rtk_survey.specs.SystemTellings as spec;
-ghost use Rattle.rtk_survey.specs.SystemTellings.{CountsSystemWeeks, HasLeapRanges, HasSystemTellings};
+ghost use Rattle.rtk_survey.specs.SystemTellings.{HasLeapRanges};
 ghost use Rattle.rtk_survey.specs.declared.system_message.SystemMessage.{SystemMessage};
 
 use crate::channels::{no_slots_told, take_slot_channel};

@@ -11,6 +11,7 @@ returns c = record {
   codes = c.new-2.ensures;
   system_signals = c.new-3.ensures;
   weeks = nothing-counted c.new-4.result c.new-4.ensures.empty;
-  unread = c.new-5.ensures;
+  system_tellings = c.new-5.ensures;
+  unread = c.new-6.ensures;
   target = c.answer_to.ensures;
 }

@@ -27,6 +27,7 @@ returns c = on-ok c.take_target_message.result (λ answered q before stands.
       codes = c.join.ensures (entries_of_message c.args.message.now) (entries_in ms) (subst (λ (es : List CellEntry). HasCodes c.of-codes.result es) c.requires.entries c.of-codes.ensures) stands.codes;
       system_signals = subst (λ (es : List SignalEntry). HasSystemSignals c.mark_entries.new.self (es ++ cells_beside ms)) c.requires.signals (c.mark_entries.ensures (cells_beside ms) stands.system_signals);
       weeks = stands.weeks;
+      system_tellings = stands.system_tellings;
       unread = c.in_ok-count_beside.ensures (unread_in before) stands.unread;
       target = answered q before c.args.payload.now stands.frames stands.target;
     }) c.take_target_message.ensures
