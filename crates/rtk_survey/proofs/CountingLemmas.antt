@@ -28,8 +28,9 @@ use Rattle.rtk_survey.specs.FrameEquipment.{equipment_among, is_mentioned, told_
 use Rattle.rtk_survey.specs.NumberLaws.{IsHeld}
 use Rattle.rtk_survey.specs.Proposal.{epochs_in, times_with_value, epochs_with_value, entries_with}
 use Rattle.rtk_survey.specs.ReadFrames.{messages_read, ReadFrame, ReadsFrames, read_frame, with_message, with_fault, bytes_in, messages_in, faults_in, unread_in, messages_from}
-use Rattle.rtk_survey.specs.Summary.{all_numbers, size_lines, epochs_beside, station_lines, lines_if_any, stations_text, weeks_text, unread_lines, summary_text}
+use Rattle.rtk_survey.specs.Summary.{all_numbers, size_lines, epochs_beside, station_lines, lines_if_any, stations_text, weeks_text, system_weeks_text, unread_lines, summary_text}
 use Rattle.rtk_survey.specs.SummaryText.{number_line, counted_line, numbered_line, message_numbers, message_lines, epoch_lines, channel_line, time_lines, look_line, near_text, signal_lines, proposal_lines, all_codes_text, nothing_line, untaken_numbers}
+use Rattle.rtk_survey.specs.SystemTellings.{system_messages_in}
 use Rattle.rtk_survey.specs.declared.station_dates.StationDates.{StationDates}
 use Rattle.rtk_survey.specs.Tracing.{is_numbered, is_other, is_short, is_outside_week, is_no_number, is_too_many_cells, times_of_week, entries_in, has_satellite, has_code}
 use Rattle.rtk_survey.proofs.SummaryTellingLemmas.{each-weaker, of-all}
@@ -170,11 +171,12 @@ parts-stand name bytes fs =
     let head : List ℕ = size_lines (length bytes) fs ++ look_line (length fs) (take 512 bytes) in
     let stations : List ℕ = stations_text name (messages_in fs) (dates_in fs) (equipment_among fs) in
     let weeks : List ℕ = weeks_text (dates_in fs) in
+    let systems : List ℕ = system_weeks_text (system_messages_in fs) in
     let unread : List ℕ = unread_lines (unread_in fs) in
     let last : List ℕ = nothing_line (all_codes_text (has_code (entries_in (messages_in fs))) (has_any_code (cells_beside (messages_in fs)))) in (
-      (head, weeks ++ unread ++ last, append_assoc (head ++ stations ++ weeks) unread last ∙ append_assoc (head ++ stations) weeks (unread ++ last) ∙ ap (λ (t : List ℕ). (head ++ stations) ++ t) (sym (append_assoc weeks unread last))),
-      (head ++ stations, unread ++ last, append_assoc (head ++ stations ++ weeks) unread last),
-      (head ++ stations ++ weeks, last, refl),
+      (head, weeks ++ systems ++ unread ++ last, simp append_assoc),
+      (head ++ stations, systems ++ unread ++ last, simp append_assoc),
+      (head ++ stations ++ weeks ++ systems, last, refl),
     )
 
 lines-if-some : (name : List ℕ) (n : ℕ) (ms : List AnyMessage) (d : StationDates) (e : Equipment) → 0 < length ms → lines_if_any name n ms d e ≡ station_lines name n ms d e

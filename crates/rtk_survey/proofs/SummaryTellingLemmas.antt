@@ -16,7 +16,8 @@ use Rattle.rtk_survey.specs.ReadFrames.{ReadFrame, bytes_in, messages_in, unread
 use Rattle.rtk_survey.specs.declared.equipment.Equipment.{Equipment}
 use Rattle.rtk_survey.specs.FrameDates.{dates_in, proposed_date}
 use Rattle.rtk_survey.specs.FrameEquipment.{equipment_among, told_lines}
-use Rattle.rtk_survey.specs.Summary.{all_numbers, epochs_beside, station_lines, stations_text, weeks_text, unread_lines, summary_text}
+use Rattle.rtk_survey.specs.Summary.{all_numbers, epochs_beside, station_lines, stations_text, weeks_text, system_weeks_text, unread_lines, summary_text}
+use Rattle.rtk_survey.specs.SystemTellings.{system_messages_in}
 use Rattle.rtk_survey.specs.declared.station_dates.StationDates.{StationDates}
 use Rattle.rtk_survey.specs.SummaryText.{number_line, counted_line, numbered_line, message_numbers, message_lines, epoch_lines, channel_line, time_lines, look_line, near_text, signal_lines, proposal_lines, all_codes_text, nothing_line, untaken_numbers}
 use Rattle.rtk_survey.specs.Tracing.{is_numbered, is_other, is_short, is_outside_week, is_no_number, is_too_many_cells, gps_time_of, times_of_week, entries_in, has_satellite, has_code}
@@ -224,14 +225,14 @@ unread-tells fs gs few less same =
 behind_frames : List ℕ → List ℕ → List ReadFrame → List ℕ
 behind_frames name bytes fs =
     look_line (length fs) (take 512 bytes)
-    ++ stations_text name (messages_in fs) (dates_in fs) (equipment_among fs) ++ weeks_text (dates_in fs) ++ unread_lines (unread_in fs) ++ nothing_line (all_codes_text (has_code (entries_in (messages_in fs))) (has_any_code (cells_beside (messages_in fs))))
+    ++ stations_text name (messages_in fs) (dates_in fs) (equipment_among fs) ++ weeks_text (dates_in fs) ++ system_weeks_text (system_messages_in fs) ++ unread_lines (unread_in fs) ++ nothing_line (all_codes_text (has_code (entries_in (messages_in fs))) (has_any_code (cells_beside (messages_in fs))))
 
 frames-few : (fs : List ReadFrame) → length fs ≤ bytes_in fs
 frames-few [] = omega arith
 frames-few (f ∷ before) = let few = frames-few before in omega (arith, few)
 
-whole-grouped : (a b c l s w u n : List ℕ) → (a ++ b ++ c) ++ l ++ s ++ w ++ u ++ n ≡ a ++ (b ++ (c ++ (l ++ s ++ w ++ u ++ n)))
-whole-grouped a b c l s w u n = simp append_assoc
+whole-grouped : (a b c l s w v u n : List ℕ) → (a ++ b ++ c) ++ l ++ s ++ w ++ v ++ u ++ n ≡ a ++ (b ++ (c ++ (l ++ s ++ w ++ v ++ u ++ n)))
+whole-grouped a b c l s w v u n = simp append_assoc
 
 outside : ℕ → List ReadFrame → ℕ
 outside size fs = shown_count size - shown_count (bytes_in fs)
@@ -242,7 +243,7 @@ whole-is : (name bytes : List ℕ) (fs : List ReadFrame) → summary_text name b
 unfolding summary_text behind_frames outside
 whole-is name bytes fs =
     whole-grouped (number_line (codes "bytes ") (shown_count (length bytes))) (number_line (codes "outside-frames ") (outside (length bytes) fs)) (number_line (codes "frames ") (shown_count (length fs)))
-    (look_line (length fs) (take 512 bytes)) (stations_text name (messages_in fs) (dates_in fs) (equipment_among fs)) (weeks_text (dates_in fs)) (unread_lines (unread_in fs)) (nothing_line (all_codes_text (has_code (entries_in (messages_in fs))) (has_any_code (cells_beside (messages_in fs)))))
+    (look_line (length fs) (take 512 bytes)) (stations_text name (messages_in fs) (dates_in fs) (equipment_among fs)) (weeks_text (dates_in fs)) (system_weeks_text (system_messages_in fs)) (unread_lines (unread_in fs)) (nothing_line (all_codes_text (has_code (entries_in (messages_in fs))) (has_any_code (cells_beside (messages_in fs)))))
 
 pub summary-tells : SummaryTellsFrames
 unfolding outside

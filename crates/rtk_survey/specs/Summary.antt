@@ -17,8 +17,10 @@ use Rattle.rtk_survey.specs.FrameEquipment.{equipment_among, is_mentioned, told_
 use Rattle.rtk_survey.specs.Proposal.{epochs_in, epochs_with_value, entries_with}
 use Rattle.rtk_survey.specs.ReadFrames.{ReadFrame, ReadsFrames, bytes_in, messages_in, unread_in, messages_from}
 use Rattle.rtk_survey.specs.Tracing.{is_numbered, is_other, is_short, is_outside_week, is_no_number, is_too_many_cells, times_of_week, entries_in, has_satellite, has_code}
-use Rattle.rtk_survey.specs.SummaryText.{number_line, counted_line, numbered_line, message_lines, epoch_lines, channel_line, time_lines, week_line, look_line, signal_lines, near_text, proposal_lines, all_codes_text, nothing_line, untaken_numbers}
+use Rattle.rtk_survey.specs.SummaryText.{number_line, counted_line, numbered_line, message_lines, epoch_lines, channel_line, time_lines, week_line, system_week_line, look_line, signal_lines, near_text, proposal_lines, all_codes_text, nothing_line, untaken_numbers}
+use Rattle.rtk_survey.specs.SystemTellings.{system_messages_in, names_week}
 use Rattle.rtk_survey.specs.declared.station_dates.StationDates.{StationDates}
+use Rattle.rtk_survey.specs.declared.system_message.SystemMessage.{SystemMessage}
 
 -- table
 -- the numbers of stations and of messages, of 12 bits
@@ -57,6 +59,16 @@ unfoldable pub weeks_text : List DateMessage → List ℕ
 weeks_text ds = flat_map (λ w. week_line w (count_of (is_of_week w) ds)) (range_with_len 0 1024)
 
 -- formula
+-- the weeks below this one that messages of this number name, rising
+unfoldable pub weeks_text_of : ℕ → ℕ → List SystemMessage → List ℕ
+weeks_text_of number below ts = flat_map (λ w. system_week_line number w (count_of (names_week number w) ts)) (range_with_len 0 below)
+
+-- formula
+-- the weeks of BeiDou that 1042 name, modulo 8,192, and those of Galileo that 1045 and 1046 name, modulo 4,096
+abbrev pub system_weeks_text : List SystemMessage → List ℕ
+system_weeks_text ts = weeks_text_of 1042 8192 ts ++ weeks_text_of 1045 4096 ts ++ weeks_text_of 1046 4096 ts
+
+-- formula
 -- the payloads that a conversion of GPS does not read: other messages, those with GPS observations named once more, and
 -- for each fault the numbers of the messages that are refused
 unfoldable pub unread_lines : List AnyFault → List ℕ
@@ -81,7 +93,8 @@ size_lines size fs =
 unfoldable pub summary_text : List ℕ → List ℕ → List ReadFrame → List ℕ
 summary_text name bytes fs =
     size_lines (length bytes) fs ++ look_line (length fs) (take 512 bytes)
-    ++ stations_text name (messages_in fs) (dates_in fs) (equipment_among fs) ++ weeks_text (dates_in fs) ++ unread_lines (unread_in fs)
+    ++ stations_text name (messages_in fs) (dates_in fs) (equipment_among fs) ++ weeks_text (dates_in fs)
+    ++ system_weeks_text (system_messages_in fs) ++ unread_lines (unread_in fs)
     ++ nothing_line (all_codes_text (has_code (entries_in (messages_in fs))) (has_any_code (cells_beside (messages_in fs))))
 
 -- these are all the frames of a capture, newest first

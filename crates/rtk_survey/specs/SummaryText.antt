@@ -119,6 +119,11 @@ abbrev pub week_line : ℕ → ℕ → List ℕ
 week_line week n = counted_line (codes "week " ++ decimal week ++ codes " 1019 ") n
 
 -- formula
+-- a week of a system, and how many messages of this number name it
+abbrev pub system_week_line : ℕ → ℕ → ℕ → List ℕ
+system_week_line number week n = counted_line (codes "week " ++ decimal week ++ codes " " ++ decimal number ++ codes " ") n
+
+-- formula
 -- what a file without a frame looks like, by its first bytes
 abbrev pub look_line : ℕ → List ℕ → List ℕ
 look_line frames head = if frames == 0 then codes "looks-like " ++ look_name (look_of head) ++ 10 ∷ [] else []

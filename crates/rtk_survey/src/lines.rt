@@ -21,7 +21,7 @@ ghost use Rattle.rtk_survey.specs.declared.target.Target.{Target};
 
 use crate::channel_lines::put_channels;
 use crate::contents::Contents;
-use crate::date_lines::{put_dates, put_weeks};
+use crate::date_lines::{put_dates, put_system_weeks, put_weeks};
 use crate::equipment_lines::{is_told, put_equipment};
 use crate::line::{put_counted, put_line, put_numbered};
 use crate::look::Look;
@@ -250,6 +250,7 @@ pub(crate) fn summary_lines(
     put_look(&mut lines, survey.look)?;
     put_stations(alloc, &mut lines, name, &contents.stations)?;
     put_weeks(&mut lines, &contents.weeks)?;
+    put_system_weeks(&mut lines, &contents.system_tellings)?;
     put_unread(&mut lines, &contents.unread)?;
     let others = &contents.system_signals.codes;
     let codes = all_codes_text(alloc, &contents.codes.marks, others)?;
