@@ -18,5 +18,5 @@ loop-index-preserved c =
 pub returns : goal.returns
 unfolding indices_text
 returns c =
-    let end : c.loop-index.index - 33 ≡ 189 = omega (arith, c.loop-index.auto.index-end, c.loop-index-test.false) in
+    let end : c.loop-index.index - 33 ≡ 189 = omega (arith, c.loop-index-test.false) in
     c.loop-index.invariant ∙ ap (λ (k : ℕ). c.args.text.now.items ++ flat_map (listed_index (λ n. get_or c.args.marks.now n false)) (range_with_len 33 k)) end
