@@ -3,7 +3,7 @@
 //! A chain ends with an observation message whose multiple-message bit is 0. Its clock is that of its first
 //! message of GPS; if there is none, of Galileo, QZSS, SBAS or NavIC.
 
-ghost use Rattle.std.specs.Prelude.{◌≡◌, ◌≤◌, length, drop, OnOk};
+ghost use Rattle.std.specs.Prelude.{◌≡◌, ◌<◌, ◌≤◌, length, drop, IfSome, OnOk};
 ghost use Rattle.rtk_survey.specs.Chains as spec;
 
 use crate::beside_gps::told_time;
@@ -179,7 +179,8 @@ fn ahead_of(base: u32, time: u32) -> u32
 }
 
 fn place_of(ahead: u32, list: &[ClockOffset]) -> Option<usize>
-    ensures { result ≡ spec.place_from 0 ahead list.now }
+    ensures value { result ≡ spec.place_from 0 ahead list.now }
+    ensures bound { IfSome result (λ at. at < length list.now) }
 {
     for (at, offset) in list.iter().enumerate() {
         if offset.ahead_ms == ahead {
