@@ -47,7 +47,7 @@ fields-made {X} tells old new xs made counts = elim made [
       size = as-many new 392 0 fresh.1;
       counts = λ slot field is.
           ap (λ (t : List ℕ). get_or t (place_of_field slot field) 0) fresh.1
-          ∙ get_or-replicate 392 (place_of_field slot field) 0 0 (field-within slot field is.slot is.field)
+          ∙ get_or-replicate 392 (place_of_field slot field) 0 0 (field-within slot field is.last is.few)
           ∙ sym (unsized tells old xs fresh.0 counts slot field is);
     }
 ]

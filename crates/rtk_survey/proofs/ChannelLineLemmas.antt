@@ -56,7 +56,7 @@ same-place place = omega arith
 
 told-as : (table : List ℕ) (ms : List AnyMessage) (place : ℕ) → 14 ≤ place → place < 392 → CountsChannels table ms → place_is_counted table place ≡ place_is_told ms place
 told-as table ms place from within counts =
-    let is : IsChannelTold (place / 14) (place % 14) = record { from = omega (arith, from); slot = omega (arith, within); field = omega arith } in
+    let is : IsChannelTold (place / 14) (place % 14) = record { first = omega (arith, from); last = omega (arith, within); few = omega arith } in
     ap (λ (k : ℕ). nat_lt 0 (get_or table k 0)) (sym (same-place place)) ∙ ap (λ (n : ℕ). nat_lt 0 n) (counted-as table ms (place / 14) (place % 14) is counts)
 
 pub channel-line-is : (table : List ℕ) (ms : List AnyMessage) → CountsChannels table ms → channel_line (place_is_counted table) ≡ channel_line (place_is_told ms)

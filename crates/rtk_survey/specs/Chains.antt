@@ -157,16 +157,16 @@ no_offsets =
     }
 
 abbrev pub no_clocks : ClockSurvey
-no_clocks = record { open = record { items = [] }; offsets = no_offsets }
+no_clocks = record { waiting = record { items = [] }; offsets = no_offsets }
 
 -- constant
 -- a clock more of the chain that has not ended; 64 are kept, and others are passed over
 abbrev pub with_open : ClockTold → ClockSurvey → ClockSurvey
-with_open c s = if nat_lt (length s.open.items) 64 then record s { open = record { items = s.open.items ++ c ∷ [] } } else s
+with_open c s = if nat_lt (length s.waiting.items) 64 then record s { waiting = record { items = s.waiting.items ++ c ∷ [] } } else s
 
 -- the chain ends
 abbrev pub chain_ended : ClockSurvey → ClockSurvey
-chain_ended s = record { open = record { items = [] }; offsets = with_chain s.open.items s.offsets }
+chain_ended s = record { waiting = record { items = [] }; offsets = with_chain s.waiting.items s.offsets }
 
 abbrev pub with_clock_if : Option ClockTold → Bool → ClockSurvey → ClockSurvey
 with_clock_if None more s = s

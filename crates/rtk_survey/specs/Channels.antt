@@ -55,9 +55,9 @@ place_of_field slot field = 14 * slot + field
 
 -- the slots and the fields that tell a channel
 pub record IsChannelTold (slot field : ℕ) : Type 0 where
-  pub from : 1 ≤ slot
-  pub slot : slot < 28
-  pub field : field < 14
+  pub first : 1 ≤ slot
+  pub last : slot < 28
+  pub few : field < 14
 
 -- a table has a place for each slot and field, with how many of these tell it
 pub record CountsFields {X : Type 0} (tells : ℕ → ℕ → X → Bool) (table : List ℕ) (xs : List X) : Type 0 where

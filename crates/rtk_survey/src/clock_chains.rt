@@ -13,7 +13,7 @@ use rtk_obs::WEEK_MS;
 use std::alloc::AllocError;
 
 /// How many clocks of a chain are kept. Others are passed over.
-const MOST_OPEN: usize = 64;
+const MOST_WAITING: usize = 64;
 
 /// How many offsets of a system that differ are kept.
 const MOST_OFFSETS: usize = 16;
@@ -69,7 +69,7 @@ pub struct ClockOffsets {
 #[derive(Clone, Drop)]
 pub struct ClockSurvey {
     /// The clocks of the chain that has not ended.
-    pub open: ArrayVec<ClockTold, MOST_OPEN>,
+    pub waiting: ArrayVec<ClockTold, MOST_WAITING>,
     /// The offsets in the chains that have ended.
     pub offsets: ClockOffsets,
 }
@@ -306,7 +306,7 @@ impl ClockSurvey {
         ensures { result ≡ spec.no_clocks }
     {
         ClockSurvey {
-            open: ArrayVec::new(),
+            waiting: ArrayVec::new(),
             offsets: ClockOffsets::new(),
         }
     }
@@ -314,16 +314,16 @@ impl ClockSurvey {
     fn open_with(&mut self, clock: ClockTold)
         ensures { self.new ≡ spec.with_open clock self.old }
     {
-        if self.open.len() < MOST_OPEN {
-            self.open.push(clock);
+        if self.waiting.len() < MOST_WAITING {
+            self.waiting.push(clock);
         }
     }
 
     fn end_chain(&mut self)
         ensures { self.new ≡ spec.chain_ended self.old }
     {
-        self.offsets.take_chain(self.open.as_slice());
-        self.open.clear();
+        self.offsets.take_chain(self.waiting.as_slice());
+        self.waiting.clear();
     }
 
     /// A message more.

@@ -31,6 +31,6 @@ returns c =
     let i = c.loop-slot.invariant in
     record {
       size = i.size;
-      told = λ s f is tells. i.told s f (let past = is.slot in omega (arith, past, c.loop-slot-test.false)) is.from is.field tells;
-      others = λ s f is none. i.others s f is.field (λ lt. none);
+      told = λ s f is tells. i.told s f (let past = is.last in omega (arith, past, c.loop-slot-test.false)) is.first is.few tells;
+      others = λ s f is none. i.others s f is.few (λ lt. none);
     }
