@@ -45,7 +45,7 @@ def summary_of(text: bytes, name: str = "file") -> str:
         lines += station_lines(name, station, of_station, dates_of_station, [it for of, it in told if of == station])
     weeks = Counter(it["week"] for it in dates if "week" in it)
     lines += [f"week {week} 1019 {weeks[week]}" for week in sorted(weeks)]
-    lines += unread_lines(Counter(refusal_of(it) for it in read if not is_of_gps(it)))
+    lines += unread_lines(Counter(it for it in read if isinstance(it, Refusal)))
     if not any(line.startswith(" codes ") and line != " codes -" for line in lines):
         lines.append("nothing taken")
     return "".join(f"{line}\n" for line in lines)
@@ -60,11 +60,6 @@ def read_frame(payload: bytes) -> Message | Refusal:
 def is_of_gps(read: Message | Refusal) -> bool:
     """A message that is no MSM of another system."""
     return not isinstance(read, Refusal) and read.header["number"] not in BESIDE_GPS
-
-
-def refusal_of(read: Message | Refusal) -> Refusal:
-    """What a conversion of GPS does not read: an MSM of another system is another message."""
-    return read if isinstance(read, Refusal) else Refusal("M2", read.header["number"])
 
 
 def look_of(text: bytes) -> str:

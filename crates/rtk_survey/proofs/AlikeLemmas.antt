@@ -9,7 +9,7 @@ use Rattle.rtk_message.specs.declared.any_fault.AnyFault.{AnyFault}
 use Rattle.rtk_survey.specs.BesideGps.{messages_beside, cells_beside_gps, told_time_of, gives_value_beside}
 use Rattle.rtk_survey.specs.CountingLaws.{FramesAreTakenAlike, MessagesAreTakenAlike, ChangesAddUp, OtherTimeIsChange, EpochsAreChanges}
 use Rattle.rtk_survey.specs.Proposal.{gives_value, is_taken_with}
-use Rattle.rtk_survey.specs.ReadFrames.{ReadFrame, with_message, with_fault, messages_in, faults_in, unread_of_frame, is_of_station}
+use Rattle.rtk_survey.specs.ReadFrames.{ReadFrame, with_message, with_fault, messages_in, faults_in, is_of_station}
 use Rattle.rtk_survey.specs.Tracing.{is_numbered, is_gps_number, gps_time_of, times_of_week, newest_time, change_from, entries_of_message, entries_in}
 
 -- ---- frames and messages
@@ -31,7 +31,7 @@ faults-joined [] before = refl
 faults-joined (f ∷ later) before = ap (λ (fs : List AnyFault). with_fault f.reading fs) (faults-joined later before) ∙ one-fault f.reading (faults_in later) (faults_in before)
 
 pub frames-alike : FramesAreTakenAlike
-frames-alike later before = (messages-joined later before, faults-joined later before, filter_map-append unread_of_frame later before)
+frames-alike later before = (messages-joined later before, faults-joined later before)
 
 beside-if : (b : Bool) (xs ys zs : List AnyMessage) → zs ≡ xs ++ ys → cond b [] zs ≡ cond b [] xs ++ cond b [] ys
 beside-if true xs ys zs joined = refl

@@ -27,7 +27,7 @@ use Rattle.rtk_survey.specs.FrameDates.{dates_in, station_dates, proposed_date}
 use Rattle.rtk_survey.specs.FrameEquipment.{equipment_among, is_mentioned, told_lines}
 use Rattle.rtk_survey.specs.NumberLaws.{IsHeld}
 use Rattle.rtk_survey.specs.Proposal.{epochs_in, times_with_value, epochs_with_value, entries_with}
-use Rattle.rtk_survey.specs.ReadFrames.{messages_read, ReadFrame, ReadsFrames, read_frame, with_message, with_fault, bytes_in, messages_in, faults_in, unread_in, messages_from}
+use Rattle.rtk_survey.specs.ReadFrames.{messages_read, ReadFrame, ReadsFrames, read_frame, with_message, with_fault, bytes_in, messages_in, faults_in, messages_from}
 use Rattle.rtk_survey.specs.Summary.{all_numbers, size_lines, epochs_beside, station_lines, lines_if_any, stations_text, weeks_text, system_weeks_text, unread_lines, summary_text}
 use Rattle.rtk_survey.specs.SummaryText.{number_line, counted_line, numbered_line, message_numbers, message_lines, epoch_lines, channel_line, time_lines, look_line, near_text, signal_lines, proposal_lines, all_codes_text, nothing_line, untaken_numbers}
 use Rattle.rtk_survey.specs.SystemTellings.{system_messages_in}
@@ -172,7 +172,7 @@ parts-stand name bytes fs =
     let stations : List ℕ = stations_text name (messages_in fs) (dates_in fs) (equipment_among fs) in
     let weeks : List ℕ = weeks_text (dates_in fs) in
     let systems : List ℕ = system_weeks_text (system_messages_in fs) in
-    let unread : List ℕ = unread_lines (unread_in fs) in
+    let unread : List ℕ = unread_lines (faults_in fs) in
     let last : List ℕ = nothing_line (all_codes_text (has_code (entries_in (messages_in fs))) (has_any_code (cells_beside (messages_in fs)))) in (
       (head, weeks ++ systems ++ unread ++ last, simp append_assoc),
       (head ++ stations, systems ++ unread ++ last, simp append_assoc),

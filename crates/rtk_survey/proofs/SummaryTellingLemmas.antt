@@ -12,7 +12,7 @@ use Rattle.rtk_survey.specs.Channels.{place_is_told}
 use Rattle.rtk_survey.specs.Counting.{shown_count, count_of}
 use Rattle.rtk_survey.specs.NumberLaws.{SummaryTellsFrames, StationLinesTell, UnreadLinesTell}
 use Rattle.rtk_survey.specs.Proposal.{epochs_with_value, entries_with}
-use Rattle.rtk_survey.specs.ReadFrames.{ReadFrame, bytes_in, messages_in, unread_in}
+use Rattle.rtk_survey.specs.ReadFrames.{ReadFrame, bytes_in, messages_in, faults_in}
 use Rattle.rtk_survey.specs.declared.equipment.Equipment.{Equipment}
 use Rattle.rtk_survey.specs.FrameDates.{dates_in, proposed_date}
 use Rattle.rtk_survey.specs.FrameEquipment.{equipment_among, told_lines}
@@ -225,7 +225,7 @@ unread-tells fs gs few less same =
 behind_frames : List ℕ → List ℕ → List ReadFrame → List ℕ
 behind_frames name bytes fs =
     look_line (length fs) (take 512 bytes)
-    ++ stations_text name (messages_in fs) (dates_in fs) (equipment_among fs) ++ weeks_text (dates_in fs) ++ system_weeks_text (system_messages_in fs) ++ unread_lines (unread_in fs) ++ nothing_line (all_codes_text (has_code (entries_in (messages_in fs))) (has_any_code (cells_beside (messages_in fs))))
+    ++ stations_text name (messages_in fs) (dates_in fs) (equipment_among fs) ++ weeks_text (dates_in fs) ++ system_weeks_text (system_messages_in fs) ++ unread_lines (faults_in fs) ++ nothing_line (all_codes_text (has_code (entries_in (messages_in fs))) (has_any_code (cells_beside (messages_in fs))))
 
 frames-few : (fs : List ReadFrame) → length fs ≤ bytes_in fs
 frames-few [] = omega arith
@@ -243,7 +243,7 @@ whole-is : (name bytes : List ℕ) (fs : List ReadFrame) → summary_text name b
 unfolding summary_text behind_frames outside
 whole-is name bytes fs =
     whole-grouped (number_line (codes "bytes ") (shown_count (length bytes))) (number_line (codes "outside-frames ") (outside (length bytes) fs)) (number_line (codes "frames ") (shown_count (length fs)))
-    (look_line (length fs) (take 512 bytes)) (stations_text name (messages_in fs) (dates_in fs) (equipment_among fs)) (weeks_text (dates_in fs)) (system_weeks_text (system_messages_in fs)) (unread_lines (unread_in fs)) (nothing_line (all_codes_text (has_code (entries_in (messages_in fs))) (has_any_code (cells_beside (messages_in fs)))))
+    (look_line (length fs) (take 512 bytes)) (stations_text name (messages_in fs) (dates_in fs) (equipment_among fs)) (weeks_text (dates_in fs)) (system_weeks_text (system_messages_in fs)) (unread_lines (faults_in fs)) (nothing_line (all_codes_text (has_code (entries_in (messages_in fs))) (has_any_code (cells_beside (messages_in fs)))))
 
 pub summary-tells : SummaryTellsFrames
 unfolding outside

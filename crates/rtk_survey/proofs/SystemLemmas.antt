@@ -1,5 +1,5 @@
 -- What a station has of other systems than GPS, one message after another.
-use Rattle.std.proofs.Common.{◌≡◌, ◌≢◌, ◌<◌, ◌+◌, ◌∙◌, ◌++◌, ℕ, ℤ, zero, suc, Bool, true, false, not, cond, List, [], ◌∷◌, Option, None, Some, length, take, get_or, replicate, refl, sym, ap, subst, inl, inr, ne_eqb, arith}
+use Rattle.std.proofs.Common.{◌≡◌, ◌≢◌, ◌<◌, ◌+◌, ◌==◌, ◌&&◌, ◌∙◌, ◌++◌, ℕ, ℤ, zero, suc, Bool, true, false, not, cond, List, [], ◌∷◌, Option, None, Some, length, take, get_or, replicate, refl, sym, ap, subst, inl, inr, ne_eqb, arith}
 use Rattle.std.specs.Prelude.{filter}
 use Rattle.std.specs.BTreeMap.{BTreeMap, get, is_at, Updates}
 use Rattle.std.specs.List.{AllByRecursion, filter_map}
@@ -15,8 +15,8 @@ use Rattle.rtk_obs.specs.declared.any_code.AnyCode.{AnyCode}
 use Rattle.rtk_obs.specs.declared.signal_cells.SignalEntry.{SignalEntry}
 use Rattle.rtk_obs.specs.AnyCode as any_code
 use Rattle.rtk_obs.proofs.PublicLaws.{number_below}
-use Rattle.rtk_survey.specs.BesideGps.{messages_beside, gives_index, gives_number, has_any_code, told_time_of, gives_value_beside, times_beside}
-use Rattle.rtk_survey.specs.Contents.{CountsMessages, HasMsms, HasSystemSignals, any_codes_held, HasSystemMsm, IsMsmKept, HasSystems, messages_of_msm, epochs_of_msm, messages_held, system_epochs_held}
+use Rattle.rtk_survey.specs.BesideGps.{is_beside_numbered, messages_beside, gives_index, gives_number, has_any_code, told_time_of, gives_value_beside, times_beside}
+use Rattle.rtk_survey.specs.Contents.{count_at, CountsBeside, CountsMessages, HasMsms, HasSystemSignals, any_codes_held, HasSystemMsm, IsMsmKept, HasSystems, messages_of_msm, epochs_of_msm, messages_held, system_epochs_held}
 use Rattle.rtk_survey.specs.Counting.{shown_count, count_of}
 use Rattle.rtk_survey.specs.Proposal.{epochs_in}
 use Rattle.rtk_survey.specs.Summary.{epochs_beside}
@@ -28,6 +28,7 @@ use Rattle.rtk_survey.specs.declared.system_msm.SystemMsm.{SystemMsm}
 use Rattle.rtk_survey.specs.declared.system_signals.SystemSignals.{SystemSignals}
 use Rattle.rtk_survey.proofs.MapLemmas.{put-one}
 use Rattle.rtk_survey.proofs.SignalLemmas.{any-more}
+use Rattle.rtk_survey.proofs.TallyLemmas.{tally-more, tally-same}
 
 -- ---- channels
 
@@ -166,3 +167,14 @@ counts-held s ms k m has =
       beside 1134 refl, beside 1135 refl, beside 1136 refl, beside 1137 refl,
       tt,
     )
+
+-- a message of another system more, by its number
+pub beside-counted : (old new : BTreeMap ℕ ℕ) (k : ℕ) (m : AnyMessage) (ms : List AnyMessage) → k ≡ number_of m → is_beside_gps m ≡ true
+    → count_at new k ≡ shown_count (count_at old k + 1) → ((n : ℕ) → n ≢ k → count_at new n ≡ count_at old n) → CountsBeside old ms → CountsBeside new (m ∷ ms)
+beside-counted old new k m ms is beside own others counts =
+    tally-more (λ n x. is_beside_numbered n x) m ms old new k
+    (λ n. ap (λ (b : Bool). b && is_numbered n m) beside ∙ ap (λ (j : ℕ). j == n) (sym is)) own others counts
+
+-- and one of GPS
+pub beside-passed : (counts : BTreeMap ℕ ℕ) (m : AnyMessage) (ms : List AnyMessage) → is_beside_gps m ≡ false → CountsBeside counts ms → CountsBeside counts (m ∷ ms)
+beside-passed counts m ms inside stand = tally-same (λ n x. is_beside_numbered n x) m ms counts (λ n. ap (λ (b : Bool). b && is_numbered n m) inside) stand

@@ -13,7 +13,11 @@ use Rattle.rtk_obs.specs.AnyCode as any_code
 use Rattle.rtk_obs.specs.Clocks.{beidou_tow}
 use Rattle.rtk_obs.specs.GlonassTime.{glonass_tow}
 use Rattle.rtk_obs.specs.SignalCells.{signal_entries}
-use Rattle.rtk_survey.specs.Tracing.{is_numbered, is_gps_number, has_value}
+use Rattle.rtk_survey.specs.Tracing.{is_numbered, is_gps_number, is_beside_gps, has_value}
+
+-- an MSM of another system than GPS, of this number
+abbrev pub is_beside_numbered : ℕ → AnyMessage → Bool
+is_beside_numbered n m = is_beside_gps m && is_numbered n m
 
 -- the messages of this number, if it is none of GPS
 abbrev pub messages_beside : ℕ → List AnyMessage → List AnyMessage

@@ -1,6 +1,6 @@
 -- What is held of a capture and of each station that was heard in it, tied to the frames that came so
 -- far. Lists of frames, messages, dates and entries are newest first.
-use Rattle.std.specs.Prelude.{◌≡◌, ℕ, ◌<◌, ◌==◌, Bool, false, cond, List, [], length, get_or, Option, None, Some, unwrap_or, if◌then◌else◌}
+use Rattle.std.specs.Prelude.{◌≡◌, ℕ, ◌<◌, ◌+◌, ◌==◌, Bool, false, cond, List, [], length, get_or, Option, None, Some, unwrap_or, if◌then◌else◌}
 use Rattle.std.specs.BTreeMap.{BTreeMap, get}
 use Rattle.std.specs.List.{list_any}
 use Rattle.std.specs.Ordering.{nat_cmp}
@@ -16,7 +16,7 @@ use Rattle.rtk_obs.specs.declared.code.Code.{Code}
 use Rattle.rtk_obs.specs.declared.signal_cells.SignalEntry.{SignalEntry}
 use Rattle.rtk_obs.specs.AnyCode as any_code
 use Rattle.rtk_obs.specs.Code.{place_of}
-use Rattle.rtk_survey.specs.BesideGps.{messages_beside, cells_beside, gives_index, gives_number, times_beside}
+use Rattle.rtk_survey.specs.BesideGps.{is_beside_numbered, messages_beside, cells_beside, gives_index, gives_number, times_beside}
 use Rattle.rtk_survey.specs.Chains.{clocks_of, clocks_at}
 use Rattle.rtk_survey.specs.Channels.{CountsChannels, CountsSlots}
 use Rattle.rtk_survey.specs.Counting.{shown_count, count_of}
@@ -24,7 +24,7 @@ use Rattle.rtk_survey.specs.EquipmentHistory.{no_equipment, equipment_of}
 use Rattle.rtk_survey.specs.FrameDates.{dates_in, no_station_dates, station_dates, is_of_week}
 use Rattle.rtk_survey.specs.FrameEquipment.{equipment_among}
 use Rattle.rtk_survey.specs.Proposal.{epochs_in, times_with_value, entries_with}
-use Rattle.rtk_survey.specs.ReadFrames.{ReadFrame, bytes_in, messages_in, unread_in, messages_from}
+use Rattle.rtk_survey.specs.ReadFrames.{ReadFrame, bytes_in, messages_in, faults_in, messages_from}
 use Rattle.rtk_survey.specs.ReferencePoints.{first_point, far_point}
 use Rattle.rtk_survey.specs.Sbas.{has_sbas}
 use Rattle.rtk_survey.specs.SystemTellings.{system_messages_in, names_week, HasLeapRanges}
@@ -227,6 +227,15 @@ CountsWeeks weeks ds = (n : ℕ) → count_at weeks n ≡ count_of (is_of_week n
 abbrev pub CountsSystemWeeks : ℕ → BTreeMap ℕ ℕ → List SystemMessage → Type 0
 CountsSystemWeeks number weeks ts = (n : ℕ) → count_at weeks n ≡ count_of (names_week number n) ts
 
+-- how many messages of each number came that are of another system than GPS
+abbrev pub CountsBeside : BTreeMap ℕ ℕ → List AnyMessage → Type 0
+CountsBeside counts ms = (n : ℕ) → count_at counts n ≡ count_of (is_beside_numbered n) ms
+
+-- formula
+-- how many messages of a number came that a conversion of GPS does not read
+abbrev pub others_held : Contents → ℕ → ℕ
+others_held c n = shown_count (count_at c.unread.others n + count_at c.beside n)
+
 -- what 1042, 1045, 1046, 1020 and 1013 tell
 pub record HasSystemTellings (t : SystemTellings) (ts : List SystemMessage) : Type 0 where
   pub of_1042 : CountsSystemWeeks 1042 t.weeks_1042 ts
@@ -244,5 +253,6 @@ pub record HoldsFrames (q : Option Target) (fs : List ReadFrame) (c : Contents) 
   pub system_signals : HasSystemSignals c.system_signals (cells_beside (messages_in fs))
   pub weeks : CountsWeeks c.weeks (dates_in fs)
   pub system_tellings : HasSystemTellings c.system_tellings (system_messages_in fs)
-  pub unread : CountsFaults c.unread (unread_in fs)
+  pub unread : CountsFaults c.unread (faults_in fs)
+  pub beside : CountsBeside c.beside (messages_in fs)
   pub target : IsAnswer q fs c.target

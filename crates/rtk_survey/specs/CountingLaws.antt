@@ -17,7 +17,7 @@ use Rattle.rtk_survey.specs.FrameDates.{dates_in, station_dates, proposed_date}
 use Rattle.rtk_survey.specs.FrameEquipment.{equipment_among}
 use Rattle.rtk_survey.specs.NumberLaws.{IsHeld}
 use Rattle.rtk_survey.specs.Proposal.{epochs_in, times_with_value, entries_with}
-use Rattle.rtk_survey.specs.ReadFrames.{messages_read, ReadFrame, bytes_in, messages_in, faults_in, unread_in, messages_from}
+use Rattle.rtk_survey.specs.ReadFrames.{messages_read, ReadFrame, bytes_in, messages_in, faults_in, messages_from}
 use Rattle.rtk_survey.specs.Summary.{station_lines, stations_text, weeks_text, unread_lines, summary_text, AreFramesOf}
 use Rattle.rtk_survey.specs.SummaryText.{numbered_line, message_numbers, near_text, proposal_lines, untaken_numbers}
 use Rattle.rtk_survey.specs.Tracing.{is_numbered, is_other, times_of_week, changes_in, entries_in, has_code}
@@ -48,7 +48,7 @@ EachMessageIsCounted = (ms : List AnyMessage) → sum_by (λ n. count_by (is_num
 abbrev pub FramesAreTakenAlike : Type 0
 FramesAreTakenAlike =
     (later before : List ReadFrame) → (messages_in (later ++ before) ≡ messages_in later ++ messages_in before)
-    × (faults_in (later ++ before) ≡ faults_in later ++ faults_in before) × (unread_in (later ++ before) ≡ unread_in later ++ unread_in before)
+    × (faults_in (later ++ before) ≡ faults_in later ++ faults_in before)
 
 -- what comes of later messages stands before what comes of the messages before them
 pub record AreTakenAlike (later before : List AnyMessage) : Type 0 where
@@ -85,7 +85,7 @@ StandsIn part text = (before : List ℕ) × (after : List ℕ) × (text ≡ befo
 abbrev pub PartsStand : Type 0
 PartsStand =
     (name text : List ℕ) (fs : List ReadFrame) → StandsIn (stations_text name (messages_in fs) (dates_in fs) (equipment_among fs)) (summary_text name text fs)
-    × StandsIn (weeks_text (dates_in fs)) (summary_text name text fs) × StandsIn (unread_lines (unread_in fs)) (summary_text name text fs)
+    × StandsIn (weeks_text (dates_in fs)) (summary_text name text fs) × StandsIn (unread_lines (faults_in fs)) (summary_text name text fs)
 
 -- in the lines of all stations those of each station of which a message came
 abbrev pub StationsStand : Type 0

@@ -1,15 +1,12 @@
 -- The frames of a capture, each with what its payload is read as. Lists of frames, messages, faults
 -- and times are newest first.
-use Rattle.std.specs.Prelude.{◌≡◌, ℕ, ◌+◌, ◌==◌, Bool, List, [], ◌∷◌, length, filter, Option, None, Some, Result, Ok, Err, if◌then◌else◌}
-use Rattle.std.specs.List.{filter_map}
+use Rattle.std.specs.Prelude.{◌≡◌, ℕ, ◌+◌, ◌==◌, Bool, List, [], ◌∷◌, length, filter, Result, Ok, Err}
 use Rattle.rtk_bits.specs.Bits.{bits}
 use Rattle.rtk_message.specs.declared.any_message.AnyMessage.{AnyMessage}
 use Rattle.rtk_message.specs.declared.any_fault.AnyFault.{AnyFault}
-use Rattle.rtk_message.specs.declared.any_fault.AnyFault.TheVariants.{Other}
 use Rattle.rtk_message.specs.declared.accepted.Accepted.{Accepted}
 use Rattle.rtk_message.specs.Accepted.{all}
-use Rattle.rtk_message.specs.AnyDecoded.{DecodesBy, number_of, station_of}
-use Rattle.rtk_survey.specs.Tracing.{is_beside_gps}
+use Rattle.rtk_message.specs.AnyDecoded.{DecodesBy, station_of}
 
 -- constant
 -- the messages that a summary reads: 1004 to 1006, and MSM4 to MSM7 of all systems (DF002)
@@ -53,25 +50,6 @@ with_fault (Err fault) before = fault ∷ before
 abbrev pub faults_in : List ReadFrame → List AnyFault
 faults_in [] = []
 faults_in (f ∷ before) = with_fault f.reading (faults_in before)
-
--- ---- what a conversion of GPS does not read
-
--- a message of another system counts as one of another number
-abbrev pub fault_beside : AnyMessage → Option AnyFault
-fault_beside m = if is_beside_gps m then Some (Other (number_of m)) else None
-
-abbrev pub unread_of_reading : Result AnyMessage AnyFault → Option AnyFault
-unread_of_reading (Ok m) = fault_beside m
-unread_of_reading (Err fault) = Some fault
-
-abbrev pub unread_of_frame : ReadFrame → Option AnyFault
-unread_of_frame f = unread_of_reading f.reading
-
--- the faults of the frames, and the messages of other systems than GPS
-abbrev pub unread_in : List ReadFrame → List AnyFault
-unread_in fs = filter_map unread_of_frame fs
-
--- ---- by station
 
 abbrev pub is_of_station : ℕ → AnyMessage → Bool
 is_of_station station m = station_of m == station

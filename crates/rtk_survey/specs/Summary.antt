@@ -15,7 +15,7 @@ use Rattle.rtk_survey.specs.Counting.{shown_count, count_of}
 use Rattle.rtk_survey.specs.FrameDates.{dates_in, station_dates, proposed_date, is_of_week}
 use Rattle.rtk_survey.specs.FrameEquipment.{equipment_among, is_mentioned, told_lines}
 use Rattle.rtk_survey.specs.Proposal.{epochs_in, epochs_with_value, entries_with}
-use Rattle.rtk_survey.specs.ReadFrames.{ReadFrame, ReadsFrames, bytes_in, messages_in, unread_in, messages_from}
+use Rattle.rtk_survey.specs.ReadFrames.{ReadFrame, ReadsFrames, bytes_in, messages_in, faults_in, messages_from}
 use Rattle.rtk_survey.specs.Tracing.{is_numbered, is_other, is_short, is_outside_week, is_no_number, is_too_many_cells, times_of_week, entries_in, has_satellite, has_code}
 use Rattle.rtk_survey.specs.SummaryText.{number_line, counted_line, numbered_line, message_lines, epoch_lines, channel_line, time_lines, week_line, system_week_line, look_line, signal_lines, near_text, proposal_lines, all_codes_text, nothing_line, untaken_numbers}
 use Rattle.rtk_survey.specs.SystemTellings.{system_messages_in, names_week}
@@ -69,7 +69,7 @@ abbrev pub system_weeks_text : List SystemMessage → List ℕ
 system_weeks_text ts = weeks_text_of 1042 8192 ts ++ weeks_text_of 1045 4096 ts ++ weeks_text_of 1046 4096 ts
 
 -- formula
--- the payloads that a conversion of GPS does not read: other messages, those with GPS observations named once more, and
+-- the payloads that are not read: other messages, those with GPS observations named once more, and
 -- for each fault the numbers of the messages that are refused
 unfoldable pub unread_lines : List AnyFault → List ℕ
 unread_lines fs =
@@ -94,7 +94,7 @@ unfoldable pub summary_text : List ℕ → List ℕ → List ReadFrame → List 
 summary_text name bytes fs =
     size_lines (length bytes) fs ++ look_line (length fs) (take 512 bytes)
     ++ stations_text name (messages_in fs) (dates_in fs) (equipment_among fs) ++ weeks_text (dates_in fs)
-    ++ system_weeks_text (system_messages_in fs) ++ unread_lines (unread_in fs)
+    ++ system_weeks_text (system_messages_in fs) ++ unread_lines (faults_in fs)
     ++ nothing_line (all_codes_text (has_code (entries_in (messages_in fs))) (has_any_code (cells_beside (messages_in fs))))
 
 -- these are all the frames of a capture, newest first

@@ -3,14 +3,13 @@
 ghost use Rattle.std.specs.Prelude.{◌≡◌, ◌+◌, ◌∷◌, [], List, ℕ, Option, Ok, Err, OnOk};
 ghost use Rattle.std.specs.List.{cons_option};
 ghost use Rattle.rtk_bits.specs.Bits.{bits};
-ghost use Rattle.rtk_message.specs.declared.any_fault.AnyFault.{AnyFault};
 ghost use Rattle.rtk_message.specs.declared.any_message.AnyMessage.{AnyMessage};
 ghost use Rattle.rtk_survey.specs.BesideGps.{cells_beside_gps};
-ghost use Rattle.rtk_survey.specs.Contents.{AreStations, CountsFaults, CountsWeeks, HasSystemTellings, HoldsFrames};
+ghost use Rattle.rtk_survey.specs.Contents.{AreStations, CountsBeside, CountsWeeks, HasSystemTellings, HoldsFrames, others_held};
 ghost use Rattle.rtk_survey.specs.Counting.{shown_count};
 ghost use Rattle.rtk_survey.specs.DateMessages.{date_in};
 ghost use Rattle.rtk_survey.specs.EquipmentMessages.{equipment_in};
-ghost use Rattle.rtk_survey.specs.ReadFrames.{ReadFrame, read_frame, fault_beside};
+ghost use Rattle.rtk_survey.specs.ReadFrames.{ReadFrame, read_frame};
 ghost use Rattle.rtk_survey.specs.SystemMessages.{system_message_in};
 ghost use Rattle.rtk_survey.specs.Tracing.{entries_of_message};
 ghost use Rattle.rtk_survey.specs.declared.date_message.DateMessage.{DateMessage};
@@ -28,7 +27,7 @@ use crate::system_message::system_message_in;
 use crate::system_signals::SystemSignals;
 use crate::system_tellings::SystemTellings;
 use crate::target::{Target, TargetSurvey, answer_to, take_target_fault, take_target_message};
-use crate::unread::{Unread, count_number};
+use crate::unread::{Unread, count_number, count_of_number};
 use rtk_message::{AnyFault, AnyMessage};
 use rtk_obs::{CellEntry, SignalEntry};
 use std::alloc::{AllocError, Global};
@@ -50,8 +49,9 @@ pub struct Contents {
     pub weeks: BTreeMap<u16, u64>,
     /// What 1042, 1045, 1046, 1020 and 1013 tell.
     pub system_tellings: SystemTellings,
-    /// What a conversion of GPS does not read. Messages of other systems are among its others.
     pub unread: Unread,
+    /// How many MSM of other systems than GPS came, by number (DF002).
+    pub beside: BTreeMap<u16, u64>,
     /// What they tell of the station of a conversion, if it is asked for.
     pub target: Option<TargetSurvey>,
 }
@@ -121,17 +121,26 @@ fn take_tellings_in(
     }
 }
 
-// Counts a message of another system than GPS among the others.
-fn count_beside(unread: &mut Unread, message: &AnyMessage) -> Result<(), AllocError>
-    ensures { OnOk result ((fs : List AnyFault) → CountsFaults unread.old fs
-        → CountsFaults unread.new (cons_option (fault_beside message.now) fs)) }
+// Counts a message of another system than GPS.
+fn count_beside(
+    counts: &mut BTreeMap<u16, u64>,
+    message: &AnyMessage,
+) -> Result<(), AllocError>
+    ensures { OnOk result ((ms : List AnyMessage) → CountsBeside counts.old ms → CountsBeside counts.new (message.now ∷ ms)) }
 {
     if is_beside_gps(message) {
-        let number = message.number();
-        unread.count_fault(AnyFault::Other { number })
+        count_number(counts, message.number())
     } else {
         Ok(())
     }
+}
+
+/// How many messages of a number came that a conversion of GPS does not read.
+pub fn others_numbered(contents: &Contents, number: u16) -> u64
+    ensures { result ≡ others_held contents.now number }
+{
+    let others = count_of_number(&contents.unread.others, number);
+    others.saturating_add(count_of_number(&contents.beside, number))
 }
 
 impl Contents {
@@ -148,6 +157,7 @@ impl Contents {
             weeks: BTreeMap::new(alloc),
             system_tellings: SystemTellings::new(alloc),
             unread: Unread::new(alloc),
+            beside: BTreeMap::new(alloc),
             target: answer_to(alloc, target),
         }
     }
@@ -173,7 +183,7 @@ impl Contents {
         let codes = Codes::of(entries);
         self.codes.join(&codes);
         self.system_signals.mark_entries(signals);
-        count_beside(&mut self.unread, message)?;
+        count_beside(&mut self.beside, message)?;
         take_message(
             alloc,
             &mut self.stations,

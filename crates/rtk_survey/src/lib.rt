@@ -8,8 +8,7 @@
 //! stand in `signals.rt` and `system_signals.rt` alone.
 //!
 //! Of GPS a survey has what its command needs, and of the other systems their messages by number, with
-//! epochs, satellites and codes. Messages of these are among the others of `unread`, since a conversion of
-//! GPS does not read them.
+//! epochs, satellites and codes, the channels of GLONASS, and how far the clocks of systems are apart.
 //!
 //! The definitions go from the frames of a capture (specs/ReadFrames.antt) to what is held of them
 //! (specs/Contents.antt, specs/Surveys.antt) and to the text of a summary (specs/Summary.antt).
@@ -89,7 +88,7 @@ pub use beside_gps::{is_beside_gps, told_time};
 pub use capture_dates::CaptureDates;
 pub use channels::count_of_field;
 pub use clock_chains::{ChainClock, ClockOffset, ClockOffsets, ClockSurvey, ClockTold};
-pub use contents::Contents;
+pub use contents::{Contents, others_numbered};
 pub use date_laws::{dates_are_nearest, told_moments_are_nearest};
 pub use date_message::{DateMessage, EphemerisDate, UtcDate, date_in};
 pub use epochs::Epochs;

@@ -13,5 +13,6 @@ returns c = record {
   weeks = nothing-counted c.new-4.result c.new-4.ensures.empty;
   system_tellings = c.new-5.ensures;
   unread = c.new-6.ensures;
+  beside = nothing-counted c.new-7.result c.new-7.ensures.empty;
   target = c.answer_to.ensures;
 }

@@ -5,7 +5,7 @@ use Rattle.rtk_survey.specs.BesideGps.{cells_beside}
 use Rattle.rtk_survey.specs.Contents.{HasCodes, HasSystemSignals}
 use Rattle.rtk_survey.specs.FrameDates.{dates_in}
 use Rattle.rtk_survey.specs.FrameEquipment.{equipment_among}
-use Rattle.rtk_survey.specs.ReadFrames.{messages_in, unread_in}
+use Rattle.rtk_survey.specs.ReadFrames.{messages_in}
 use Rattle.rtk_survey.specs.Tracing.{entries_in, entries_of_message}
 use Rattle.rtk_survey.proofs.ResultLemmas.{on-ok}
 use Rattle.rtk_survey.proofs.contents.Contents.take_message.Goals as goal
@@ -28,6 +28,7 @@ returns c = on-ok c.take_target_message.result (λ answered q before stands.
       system_signals = subst (λ (es : List SignalEntry). HasSystemSignals c.mark_entries.new.self (es ++ cells_beside ms)) c.requires.signals (c.mark_entries.ensures (cells_beside ms) stands.system_signals);
       weeks = stands.weeks;
       system_tellings = stands.system_tellings;
-      unread = c.in_ok-count_beside.ensures (unread_in before) stands.unread;
+      unread = stands.unread;
+      beside = c.in_ok-count_beside.ensures ms stands.beside;
       target = answered q before c.args.payload.now stands.frames stands.target;
     }) c.take_target_message.ensures
