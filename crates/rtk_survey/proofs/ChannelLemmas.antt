@@ -1,6 +1,6 @@
 -- The channels that messages tell, one message after another.
-use Rattle.std.proofs.Common.{◌≡◌, ◌≢◌, ◌<◌, ◌≤◌, ◌+◌, ◌∙◌, ◌&&◌, ◌==◌, ℕ, Bool, true, false, List, [], ◌∷◌, Option, None, Some, length, set, get_or, replicate, refl, sym, ap, subst, inl, inr, get_or-set_same, get_or-set_other, arith}
-use Rattle.std.proofs.lemmas.Bool.{cases_Bool, cases_eq, eq-eqb, eqb-true}
+use Rattle.std.proofs.Common.{◌≡◌, ◌≢◌, ◌<◌, ◌≤◌, ◌+◌, ◌∙◌, ◌&&◌, ℕ, Bool, true, false, List, [], ◌∷◌, Option, None, Some, length, set, get_or, replicate, refl, sym, ap, subst, inl, inr, get_or-set_same, get_or-set_other, arith}
+use Rattle.std.proofs.lemmas.Bool.{cases_Bool}
 use Rattle.std.proofs.lemmas.List.{get_or-replicate}
 use Rattle.rtk_message.specs.declared.any_message.AnyMessage.{AnyMessage}
 use Rattle.rtk_message.specs.declared.any_message.AnyMessage.TheVariants.{Message, Msm}
@@ -99,23 +99,6 @@ pub no-msm : (table : List ℕ) (m : four.Message) (ms : List AnyMessage) → Co
 no-msm table m ms counts = none-told tells_field table (Message m) ms (λ slot field is. refl) counts
 
 -- ---- a 1020 more
-
-both-true : (a b : Bool) → (a && b) ≡ true → (a ≡ true) × (b ≡ true)
-both-true true b is = (refl, is)
-both-true false b is = cc
-
--- what a 1020 tells is its own slot and field
-pub told-own : (s : SlotChannel) (slot field : ℕ) → tells_slot_channel s slot field ≡ true → (slot ≡ s.slot) × (field ≡ s.field)
-told-own s slot field tells =
-    let both = both-true (s.slot == slot) (s.field == field) tells in
-    (sym (eqb-true s.slot slot both.0), sym (eqb-true s.field field both.1))
-
-pub told-other : (s : SlotChannel) (slot field : ℕ) → tells_slot_channel s slot field ≡ false → slot ≡ s.slot → field ≢ s.field
-told-other s slot field tells same = λ one.
-    let a : (s.slot == slot) ≡ true = eq-eqb s.slot slot (sym same) in
-    let b : (s.field == field) ≡ true = eq-eqb s.field field (sym one) in
-    let is : tells_slot_channel s slot field ≡ true = ap (λ (x : Bool). x && (s.field == field)) a ∙ b in
-    absurd (cc (is, tells))
 
 pub slot-told : (old new : List ℕ) (m : SystemMessage) (s : SlotChannel) (ts : List SystemMessage) → Some s ≡ slot_channel_in m → TakesFields (tells_slot_channel s) old new → CountsFields tells_slot_of_1020 old ts → CountsSlots new (m ∷ ts)
 slot-told old new m s ts is takes had =

@@ -165,6 +165,12 @@ each-stands f [] = tt
 each-stands f (n ∷ ns) =
     (stands-first (f n) (flat_map f ns), each-weaker (λ k. StandsIn (f k) (flat_map f ns)) (λ k. StandsIn (f k) (f n ++ flat_map f ns)) ns (λ k stands. stands-behind (f n) (f k) (flat_map f ns) stands) (each-stands f ns))
 
+three-behind : (a v u n : List ℕ) → a ++ v ++ u ++ n ≡ a ++ (v ++ u ++ n)
+three-behind a v u n = simp append_assoc
+
+four-behind : (a w v u n : List ℕ) → a ++ w ++ v ++ u ++ n ≡ a ++ (w ++ v ++ u ++ n)
+four-behind a w v u n = simp append_assoc
+
 pub parts-stand : PartsStand
 unfolding summary_text
 parts-stand name bytes fs =
@@ -174,8 +180,8 @@ parts-stand name bytes fs =
     let systems : List ℕ = system_weeks_text (system_messages_in fs) in
     let unread : List ℕ = unread_lines (faults_in fs) in
     let last : List ℕ = nothing_line (all_codes_text (has_code (entries_in (messages_in fs))) (has_any_code (cells_beside (messages_in fs)))) in (
-      (head, weeks ++ systems ++ unread ++ last, simp append_assoc),
-      (head ++ stations, systems ++ unread ++ last, simp append_assoc),
+      (head, weeks ++ systems ++ unread ++ last, four-behind (head ++ stations) weeks systems unread last),
+      (head ++ stations, systems ++ unread ++ last, three-behind (head ++ stations ++ weeks) systems unread last),
       (head ++ stations ++ weeks ++ systems, last, refl),
     )
 

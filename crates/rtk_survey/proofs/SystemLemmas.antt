@@ -1,6 +1,6 @@
 -- What a station has of other systems than GPS, one message after another.
-use Rattle.std.proofs.Common.{◌≡◌, ◌≢◌, ◌<◌, ◌+◌, ◌==◌, ◌&&◌, ◌∙◌, ◌++◌, ℕ, ℤ, zero, suc, Bool, true, false, not, cond, List, [], ◌∷◌, Option, None, Some, length, take, get_or, replicate, refl, sym, ap, subst, inl, inr, ne_eqb, arith}
-use Rattle.std.specs.Prelude.{filter}
+use Rattle.std.proofs.Common.{◌≡◌, ◌≢◌, ◌<◌, ◌+◌, ◌-◌, ◌==◌, ◌&&◌, ◌∙◌, ◌++◌, ℕ, ℤ, zero, suc, Bool, true, false, not, cond, List, [], ◌∷◌, Option, None, Some, length, take, get_or, replicate, refl, sym, ap, subst, inl, inr, ne_eqb, arith}
+use Rattle.std.specs.Prelude.{filter, nat_le}
 use Rattle.std.specs.BTreeMap.{BTreeMap, get, is_at, Updates}
 use Rattle.std.specs.List.{AllByRecursion, filter_map}
 use Rattle.std.specs.Map.{lookup}
@@ -11,11 +11,20 @@ use Rattle.std.proofs.lemmas.Bool.{cases_eq, eq-eqb}
 use Rattle.std.proofs.lemmas.List.Sums.{length-filter}
 use Rattle.rtk_message.specs.declared.any_message.AnyMessage.{AnyMessage}
 use Rattle.rtk_message.specs.AnyDecoded.{number_of}
+use Rattle.rtk_message.specs.declared.msm.Msm.{Msm}
+use Rattle.rtk_message.specs.declared.system.System.{System}
+use Rattle.rtk_message.specs.declared.system.System.TheVariants.{Gps, Glonass, Galileo, Beidou, Qzss, Sbas, Navic}
 use Rattle.rtk_obs.specs.declared.any_code.AnyCode.{AnyCode}
 use Rattle.rtk_obs.specs.declared.signal_cells.SignalEntry.{SignalEntry}
 use Rattle.rtk_obs.specs.AnyCode as any_code
+use Rattle.rtk_obs.specs.Carriers.{channel_at}
+use Rattle.rtk_obs.specs.Mask.{join_from}
+use Rattle.rtk_obs.specs.MsmCells.{Slot, slots_of}
+use Rattle.rtk_obs.specs.SatelliteIndex.{index_in}
+use Rattle.rtk_obs.specs.SignalCells.{unless_other, channel_in, bit_of_row, field_of_row, entry_if, signal_entry, signal_entries}
+use Rattle.rtk_obs.specs.Signals.{code_in}
 use Rattle.rtk_obs.proofs.PublicLaws.{number_below}
-use Rattle.rtk_survey.specs.BesideGps.{is_beside_numbered, messages_beside, gives_index, gives_number, has_any_code, told_time_of, gives_value_beside, times_beside}
+use Rattle.rtk_survey.specs.BesideGps.{no_channels, is_beside_numbered, messages_beside, gives_index, gives_number, has_any_code, told_time_of, gives_value_beside, times_beside}
 use Rattle.rtk_survey.specs.Contents.{count_at, CountsBeside, CountsMessages, HasMsms, HasSystemSignals, any_codes_held, HasSystemMsm, IsMsmKept, HasSystems, messages_of_msm, epochs_of_msm, messages_held, system_epochs_held}
 use Rattle.rtk_survey.specs.Counting.{shown_count, count_of}
 use Rattle.rtk_survey.specs.Proposal.{epochs_in}
@@ -32,13 +41,31 @@ use Rattle.rtk_survey.proofs.TallyLemmas.{tally-more, tally-same}
 
 -- ---- channels
 
--- a list of this length in which no place has a number
-pub none-everywhere : (xs : List (Option ℤ)) (n : ℕ) → length xs ≡ n → ((k : ℕ) → get_or xs k None ≡ None) → xs ≡ replicate n None
-none-everywhere [] zero size none = refl
-none-everywhere [] (suc n) size none = absurd (omega (arith, size))
-none-everywhere (x ∷ xs) zero size none = absurd (omega (arith, size))
-none-everywhere (x ∷ xs) (suc n) size none =
-    ap (λ (o : Option ℤ). o ∷ xs) (none 0) ∙ ap (λ (ys : List (Option ℤ)). None ∷ ys) (none-everywhere xs n (omega (arith, size)) (λ k. none (suc k)))
+none-of-none : (n k : ℕ) → ◌≡◌ {A = Option ℤ} (get_or (replicate n None) k None) None
+none-of-none zero k = refl
+none-of-none (suc n) zero = refl
+none-of-none (suc n) (suc k) = none-of-none n k
+
+-- cells depend on the channels of slots alone
+channel-same : (s : System) (a b : List (Option ℤ)) (bit field : ℕ) → channel_at a bit ≡ channel_at b bit → channel_in s a bit field ≡ channel_in s b bit field
+channel-same Gps a b bit field same = refl
+channel-same Glonass a b bit field same = ap (λ (o : Option ℤ). cond (nat_le bit 27) (unless_other field o) None) same
+channel-same Galileo a b bit field same = refl
+channel-same Beidou a b bit field same = refl
+channel-same Qzss a b bit field same = refl
+channel-same Sbas a b bit field same = refl
+channel-same Navic a b bit field same = refl
+
+entry-same : (a b : List (Option ℤ)) (m : Msm) → ((slot : ℕ) → channel_at a slot ≡ channel_at b slot) → (k : ℕ) (s : Slot) → signal_entry a m k s ≡ signal_entry b m k s
+entry-same a b m same k s =
+    let bit : ℕ = bit_of_row m s.row in
+    ap (λ (o : Option ℤ). entry_if m k s.row o (index_in m.system bit) (code_in m.system s.signal)) (channel-same m.system a b bit (field_of_row m s.row) (same bit))
+
+-- the cells of a message if no slot has a channel
+pub cells-without : (channels : List (Option ℤ)) (m : Msm) → ((slot : ℕ) → channel_at channels slot ≡ None) → signal_entries channels m ≡ signal_entries no_channels m
+cells-without channels m none =
+    ap (λ (f : ℕ → Slot → List SignalEntry). join_from f 0 (slots_of m.header m.cell_mask))
+    (fun_ext (λ k. fun_ext (λ s. entry-same channels no_channels m (λ slot. none slot ∙ sym (none-of-none 27 (slot - 1))) k s)))
 
 -- ---- satellites and codes
 
@@ -157,16 +184,8 @@ epochs-beside-are s ms has = fun_ext (λ n. epochs-of (messages_beside n ms) (ge
 pub counts-held : (s : StationSurvey) (ms : List AnyMessage) → CountsMessages s.counts ms → HasMsms s.msm ms → HasSystems s.system_msm ms
     → AllByRecursion (λ n. messages_held s n ≡ count_of (is_numbered n) ms) message_numbers
 counts-held s ms k m has =
-    let beside : (n : ℕ) → is_gps_number n ≡ false → messages_of_msm (get nat_cmp s.system_msm n) ≡ count_of (is_numbered n) ms = λ n out. counted-beside n s.system_msm ms out has in (
-      k.obs_1004, k.arp_1005, k.arp_1006, m.msm4.messages, m.msm5.messages, m.msm6.messages, m.msm7.messages,
-      beside 1084 refl, beside 1085 refl, beside 1086 refl, beside 1087 refl,
-      beside 1094 refl, beside 1095 refl, beside 1096 refl, beside 1097 refl,
-      beside 1104 refl, beside 1105 refl, beside 1106 refl, beside 1107 refl,
-      beside 1114 refl, beside 1115 refl, beside 1116 refl, beside 1117 refl,
-      beside 1124 refl, beside 1125 refl, beside 1126 refl, beside 1127 refl,
-      beside 1134 refl, beside 1135 refl, beside 1136 refl, beside 1137 refl,
-      tt,
-    )
+    let beside : (n : ℕ) → is_gps_number n ≡ false → messages_of_msm (get nat_cmp s.system_msm n) ≡ count_of (is_numbered n) ms = λ n out. counted-beside n s.system_msm ms out has in
+    (k.obs_1004, (k.arp_1005, (k.arp_1006, (m.msm4.messages, (m.msm5.messages, (m.msm6.messages, (m.msm7.messages, (beside 1084 refl, (beside 1085 refl, (beside 1086 refl, (beside 1087 refl, (beside 1094 refl, (beside 1095 refl, (beside 1096 refl, (beside 1097 refl, (beside 1104 refl, (beside 1105 refl, (beside 1106 refl, (beside 1107 refl, (beside 1114 refl, (beside 1115 refl, (beside 1116 refl, (beside 1117 refl, (beside 1124 refl, (beside 1125 refl, (beside 1126 refl, (beside 1127 refl, (beside 1134 refl, (beside 1135 refl, (beside 1136 refl, (beside 1137 refl, tt)))))))))))))))))))))))))))))))
 
 -- a message of another system more, by its number
 pub beside-counted : (old new : BTreeMap ℕ ℕ) (k : ℕ) (m : AnyMessage) (ms : List AnyMessage) → k ≡ number_of m → is_beside_gps m ≡ true

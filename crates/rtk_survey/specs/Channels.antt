@@ -1,6 +1,6 @@
 -- How often messages tell each frequency channel of each slot of GLONASS. Lists of messages are newest first.
 -- Source: RTCM 10403.3, DF038, DF040, DF394 and DF419
-use Rattle.std.specs.Prelude.{◌≡◌, ◌≢◌, ℕ, ◌+◌, ◌-◌, ◌*◌, ◌/◌, ◌%◌, ◌^◌, ◌==◌, ◌<◌, ◌≤◌, Bool, true, false, ◌&&◌, List, [], ◌∷◌, length, get_or, slice_get, replicate, count_ones, nat_lt, Option, None, Some, if◌then◌else◌}
+use Rattle.std.specs.Prelude.{◌≡◌, ◌≢◌, ℕ, ◌+◌, ◌-◌, ◌*◌, ◌/◌, ◌%◌, ◌^◌, ◌==◌, ◌<◌, ◌≤◌, Bool, true, false, ◌&&◌, ◌⊎◌, List, [], ◌∷◌, length, get_or, slice_get, replicate, count_ones, nat_lt, Option, None, Some, if◌then◌else◌}
 use Rattle.rtk_message.specs.declared.any_message.AnyMessage.{AnyMessage}
 use Rattle.rtk_message.specs.declared.any_message.AnyMessage.TheVariants as any
 use Rattle.rtk_message.specs.declared.msm.Msm.{Msm}

@@ -71,13 +71,6 @@ pub(crate) fn told_time_of(message: &AnyMessage) -> Option<u32>
 
 // ---- cells
 
-// No slot of GLONASS has a channel.
-fn no_channels() -> Channels
-    ensures { result ≡ spec.no_channels }
-{
-    Channels::new()
-}
-
 fn is_other_system(system: System) -> bool
     ensures { result ≡ spec.is_other_system system }
 {
@@ -98,7 +91,8 @@ fn put_cells_of_other(message: &Msm, found: &mut ArrayVec<SignalEntry, 64>)
     ensures { found.new.items ≡ (if spec.is_other_system message.now.system then signal_entries spec.no_channels message.now else []) }
 {
     if is_other_system(message.system) {
-        put_signal_entries(message, &no_channels(), found);
+        let channels = Channels::new();
+        put_signal_entries(message, &channels, found);
     } else {
         found.clear();
     }

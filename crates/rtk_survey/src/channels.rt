@@ -2,7 +2,7 @@
 
 ghost use Rattle.std.specs.Prelude.{◌≡◌, ◌≢◌, ◌<◌, ◌≤◌, ◌+◌, ℕ, true, false, List, [], ◌∷◌, length, get_or, OnOk};
 ghost use Rattle.rtk_message.specs.declared.any_message.AnyMessage.{AnyMessage};
-ghost use Rattle.rtk_message.specs.declared.any_message.AnyMessage.TheVariants.{Msm};
+ghost use Rattle.rtk_message.specs.declared.any_message.AnyMessage.TheVariants as any;
 ghost use Rattle.rtk_survey.specs.Channels as spec;
 ghost use Rattle.rtk_survey.specs.Counting.{shown_count};
 ghost use Rattle.rtk_survey.specs.declared.system_message.SystemMessage.{SystemMessage};
@@ -120,7 +120,7 @@ fn make_table(alloc: Global, table: &mut Vec<u64>) -> Result<(), AllocError>
 // Counts the channels that an MSM tells.
 fn take_msm(alloc: Global, table: &mut Vec<u64>, message: &Msm) -> Result<(), AllocError>
     ensures { OnOk result ((ms : List AnyMessage) → spec.CountsChannels table.old.items ms
-        → spec.CountsChannels table.new.items (Msm message.now ∷ ms)) }
+        → spec.CountsChannels table.new.items (any.Msm message.now ∷ ms)) }
 {
     if is_glonass(message.system) {
         make_table(alloc, table)?;
