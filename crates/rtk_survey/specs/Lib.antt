@@ -2,6 +2,7 @@ pub mod BesideGps
 pub mod CaptureDates
 pub mod Chains
 pub mod Channels
+pub mod ClockLines
 pub mod Contents
 pub mod Counting
 pub mod CountingLaws
