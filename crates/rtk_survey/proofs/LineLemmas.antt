@@ -11,7 +11,9 @@ use Rattle.rtk_obs.specs.SatelliteIndex.{index_name}
 use Rattle.rtk_message.specs.declared.msm_kind.MsmKind.{MsmKind}
 use Rattle.rtk_message.specs.declared.any_message.AnyMessage.{AnyMessage}
 use Rattle.rtk_survey.specs.BesideGps.{cells_beside, has_index, has_any_code}
+use Rattle.rtk_survey.specs.Chains.{clocks_of, clocks_at}
 use Rattle.rtk_survey.specs.Channels.{place_is_told, place_is_counted}
+use Rattle.rtk_survey.specs.ClockLines.{clock_lines}
 use Rattle.rtk_survey.specs.Counting.{count_of}
 use Rattle.rtk_survey.specs.Look.{look_of, look_name}
 use Rattle.rtk_survey.specs.Surveys.{look_if_empty}
@@ -30,6 +32,7 @@ use Rattle.rtk_survey.specs.declared.station_dates.StationDates.{StationDates}
 use Rattle.rtk_survey.specs.declared.msm_parts.MsmParts.{MsmParts}
 use Rattle.rtk_survey.specs.declared.signals.Codes.{Codes}
 use Rattle.rtk_survey.specs.declared.signals.Signals.{Signals}
+use Rattle.rtk_survey.specs.declared.clock_chains.ClockSurvey.{ClockSurvey}
 use Rattle.rtk_survey.specs.declared.station.StationSurvey.{StationSurvey}
 use Rattle.rtk_survey.specs.declared.system_signals.SystemSignals.{SystemSignals}
 use Rattle.rtk_survey.proofs.ChannelLineLemmas.{channel-line-is}
@@ -212,6 +215,7 @@ lines_held name number s d e times =
     ++ signal_lines (λ n. get_or s.signals.satellites n false) (λ c. get_or s.signals.codes.marks (place_of c) false) (λ n. get_or s.system_signals.satellites n false) (λ c. get_or s.system_signals.codes (number_of c) false)
     ++ epoch_lines (system_epochs_held s)
     ++ channel_line (place_is_counted s.channels.items)
+    ++ clock_lines (clocks_at s.clocks).offsets
     ++ proposal_lines name (near_text (proposed_date d)) number (epochs_held s.msm) (codes_held s.msm)
 
 -- the lines of the counts of messages
@@ -236,12 +240,15 @@ station-lines-are name number s d e ms stands =
     let messages' : List ℕ = message_lines (messages_held s) in
     let signals' : List ℕ = signal_lines (λ n. get_or s.signals.satellites n false) (λ c. get_or s.signals.codes.marks (place_of c) false) (λ n. get_or s.system_signals.satellites n false) (λ c. get_or s.system_signals.codes (number_of c) false) in
     let channels : List ℕ = channel_line (place_is_told ms) in
+    let clocks : List ℕ = clock_lines (clocks_of ms).offsets in
     let channels' : List ℕ = channel_line (place_is_counted s.channels.items) in
-    ap (λ (t : List ℕ). head ++ t ++ times ++ dates ++ signals ++ epoch_lines (epochs_beside ms) ++ channels ++ proposal) (sym (messages-agree s ms d e stands))
-    ∙ ap (λ (t : List ℕ). head ++ messages' ++ times ++ dates ++ t ++ epoch_lines (epochs_beside ms) ++ channels ++ proposal) (sym (signals-are s.signals s.system_signals ms stands.signals stands.system_signals))
-    ∙ ap (λ (t : ℕ → ℕ). head ++ messages' ++ times ++ dates ++ signals' ++ epoch_lines t ++ channels ++ proposal) (sym (epochs-beside-are s ms stands.system_msm))
-    ∙ ap (λ (t : List ℕ). head ++ messages' ++ times ++ dates ++ signals' ++ epoch_lines (system_epochs_held s) ++ t ++ proposal) (sym (channel-line-is s.channels.items ms stands.channels))
-    ∙ ap (λ (t : List ℕ). head ++ messages' ++ times ++ dates ++ signals' ++ epoch_lines (system_epochs_held s) ++ channels' ++ t) (sym (proposal-is name near number s.msm ms stands.msm))
+    let epochs' : List ℕ = epoch_lines (system_epochs_held s) in
+    ap (λ (t : List ℕ). head ++ t ++ times ++ dates ++ signals ++ epoch_lines (epochs_beside ms) ++ channels ++ clocks ++ proposal) (sym (messages-agree s ms d e stands))
+    ∙ ap (λ (t : List ℕ). head ++ messages' ++ times ++ dates ++ t ++ epoch_lines (epochs_beside ms) ++ channels ++ clocks ++ proposal) (sym (signals-are s.signals s.system_signals ms stands.signals stands.system_signals))
+    ∙ ap (λ (t : ℕ → ℕ). head ++ messages' ++ times ++ dates ++ signals' ++ epoch_lines t ++ channels ++ clocks ++ proposal) (sym (epochs-beside-are s ms stands.system_msm))
+    ∙ ap (λ (t : List ℕ). head ++ messages' ++ times ++ dates ++ signals' ++ epochs' ++ t ++ clocks ++ proposal) (sym (channel-line-is s.channels.items ms stands.channels))
+    ∙ ap (λ (x : ClockSurvey). head ++ messages' ++ times ++ dates ++ signals' ++ epochs' ++ channels' ++ clock_lines x.offsets ++ proposal) (sym stands.clocks)
+    ∙ ap (λ (t : List ℕ). head ++ messages' ++ times ++ dates ++ signals' ++ epochs' ++ channels' ++ clock_lines (clocks_at s.clocks).offsets ++ t) (sym (proposal-is name near number s.msm ms stands.msm))
 
 -- ---- a file without a frame
 

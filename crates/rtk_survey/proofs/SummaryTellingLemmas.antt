@@ -8,7 +8,9 @@ use Rattle.std.proofs.lemmas.List.Sums.{count_by-le-length}
 use Rattle.rtk_message.specs.declared.any_message.AnyMessage.{AnyMessage}
 use Rattle.rtk_message.specs.declared.any_fault.AnyFault.{AnyFault}
 use Rattle.rtk_survey.specs.BesideGps.{cells_beside, has_index, has_any_code}
+use Rattle.rtk_survey.specs.Chains.{clocks_of}
 use Rattle.rtk_survey.specs.Channels.{place_is_told}
+use Rattle.rtk_survey.specs.ClockLines.{clock_lines}
 use Rattle.rtk_survey.specs.Counting.{shown_count, count_of}
 use Rattle.rtk_survey.specs.NumberLaws.{SummaryTellsFrames, StationLinesTell, UnreadLinesTell}
 use Rattle.rtk_survey.specs.Proposal.{epochs_with_value, entries_with}
@@ -50,8 +52,8 @@ times-few (m ∷ ms) =
     omega (arith, few, one)
 
 -- the lines of a station in their groups
-grouped : (n m t w s e c p : List ℕ) → n ++ m ++ t ++ w ++ s ++ e ++ c ++ p ≡ n ++ (m ++ (t ++ (w ++ s ++ e ++ c ++ p)))
-grouped n m t w s e c p = simp append_assoc
+grouped : (n m t w s e c k p : List ℕ) → n ++ m ++ t ++ w ++ s ++ e ++ c ++ k ++ p ≡ n ++ (m ++ (t ++ (w ++ s ++ e ++ c ++ k ++ p)))
+grouped n m t w s e c k p = simp append_assoc
 
 messages-rise : NumbersRise message_numbers
 messages-rise =
@@ -63,6 +65,7 @@ behind_times name station ms d e =
     told_lines d e ++ signal_lines (has_satellite (entries_in ms)) (has_code (entries_in ms)) (has_index (cells_beside ms)) (has_any_code (cells_beside ms))
     ++ epoch_lines (epochs_beside ms)
     ++ channel_line (place_is_told ms)
+    ++ clock_lines (clocks_of ms).offsets
     ++ proposal_lines name (near_text (proposed_date d)) station (λ kind. epochs_with_value kind ms) (λ kind. has_code (entries_with kind ms))
 
 station-is : (name : List ℕ) (station : ℕ) (ms : List AnyMessage) (d : StationDates) (e : Equipment) → station_lines name station ms d e
@@ -73,7 +76,7 @@ unfolding station_lines message_lines behind_times
 station-is name station ms d e =
     grouped (number_line (codes "station ") station) (lines_by_number (codes " message ") (λ n. count_of (is_numbered n) ms) message_numbers)
     (time_lines (times_of_week ms)) (told_lines d e) (signal_lines (has_satellite (entries_in ms)) (has_code (entries_in ms)) (has_index (cells_beside ms)) (has_any_code (cells_beside ms)))
-    (epoch_lines (epochs_beside ms)) (channel_line (place_is_told ms))
+    (epoch_lines (epochs_beside ms)) (channel_line (place_is_told ms)) (clock_lines (clocks_of ms).offsets)
     (proposal_lines name (near_text (proposed_date d)) station (λ kind. epochs_with_value kind ms) (λ kind. has_code (entries_with kind ms)))
 
 pub station-tells : StationLinesTell

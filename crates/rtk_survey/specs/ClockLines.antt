@@ -25,13 +25,13 @@ is_told_before a b =
     if nat_lt (from_zero a.ahead_ms) (from_zero b.ahead_ms) then true else
     if nat_lt (from_zero b.ahead_ms) (from_zero a.ahead_ms) then false else nat_lt b.ahead_ms a.ahead_ms
 
-abbrev pub first_told : Option ClockOffset → ClockOffset → Option ClockOffset
-first_told None o = Some o
-first_told (Some known) o = if is_told_before o known then Some o else Some known
+abbrev pub told_of_two : Option ClockOffset → ClockOffset → Option ClockOffset
+told_of_two None o = Some o
+told_of_two (Some known) o = if is_told_before o known then Some o else Some known
 
 -- one offset more; 0 is none that is told
 abbrev pub told_with_offset : Option ClockOffset → ClockOffset → Option ClockOffset
-told_with_offset known o = if o.ahead_ms == 0 then known else first_told known o
+told_with_offset known o = if o.ahead_ms == 0 then known else told_of_two known o
 
 abbrev pub told_offset_after : Option ClockOffset → List ClockOffset → Option ClockOffset
 told_offset_after known [] = known
@@ -49,13 +49,13 @@ compared_clocks os = shown_count (sum_by (λ o. o.count) os)
 
 -- formula
 -- seconds with three decimals, as in 14.000
-abbrev pub seconds_text : ℕ → List ℕ
-seconds_text ms = decimal (ms / 1000) ++ 46 ∷ last_digits 3 (ms % 1000)
+abbrev pub offset_seconds_text : ℕ → List ℕ
+offset_seconds_text ms = decimal (ms / 1000) ++ 46 ∷ last_digits 3 (ms % 1000)
 
 -- formula
 -- an offset within half a week, as in +14.000 or -0.001
 abbrev pub offset_text : ℕ → List ℕ
-offset_text ahead = if nat_le ahead half_week_ms then 43 ∷ seconds_text ahead else 45 ∷ seconds_text (week_ms - ahead)
+offset_text ahead = if nat_le ahead half_week_ms then 43 ∷ offset_seconds_text ahead else 45 ∷ offset_seconds_text (week_ms - ahead)
 
 -- formula
 -- the letter of the system, the offset, and how many clocks have it of how many

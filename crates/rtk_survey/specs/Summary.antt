@@ -10,7 +10,9 @@ use Rattle.rtk_survey.specs.declared.equipment_message.EquipmentMessage.{Equipme
 use Rattle.rtk_message.specs.declared.any_message.AnyMessage.{AnyMessage}
 use Rattle.rtk_message.specs.declared.any_fault.AnyFault.{AnyFault}
 use Rattle.rtk_survey.specs.BesideGps.{messages_beside, cells_beside, has_index, has_any_code, times_beside}
+use Rattle.rtk_survey.specs.Chains.{clocks_of}
 use Rattle.rtk_survey.specs.Channels.{place_is_told}
+use Rattle.rtk_survey.specs.ClockLines.{clock_lines}
 use Rattle.rtk_survey.specs.Counting.{shown_count, count_of}
 use Rattle.rtk_survey.specs.FrameDates.{dates_in, station_dates, proposed_date, is_of_week}
 use Rattle.rtk_survey.specs.FrameEquipment.{equipment_among, is_mentioned, told_lines}
@@ -43,6 +45,7 @@ station_lines name station ms d e =
     ++ signal_lines (has_satellite (entries_in ms)) (has_code (entries_in ms)) (has_index (cells_beside ms)) (has_any_code (cells_beside ms))
     ++ epoch_lines (epochs_beside ms)
     ++ channel_line (place_is_told ms)
+    ++ clock_lines (clocks_of ms).offsets
     ++ proposal_lines name (near_text (proposed_date d)) station (λ kind. epochs_with_value kind ms) (λ kind. has_code (entries_with kind ms))
 
 -- a station of which no message came, and which no other one mentions, has no lines

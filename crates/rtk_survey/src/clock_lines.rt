@@ -2,10 +2,11 @@
 //!
 //! If memory is refused, a first part of what is put may stand there.
 
-ghost use Rattle.std.specs.Prelude.{◌≡◌, ◌≤◌, ◌<◌, ◌++◌, OnOk};
+ghost use Rattle.std.specs.Prelude.{◌≡◌, ◌≤◌, ◌<◌, ◌++◌, get_or, OnOk};
+ghost use Rattle.rtk_survey.specs.Chains.{no_clocks};
 ghost use Rattle.rtk_survey.specs.ClockLines as spec;
 
-use crate::clock_chains::{ClockOffset, ClockOffsets};
+use crate::clock_chains::{ClockOffset, ClockOffsets, ClockSurvey};
 use crate::line::put_line;
 use rtk_message::{put_named, put_number};
 use rtk_obs::{HALF_WEEK_MS, WEEK_MS, three_digits};
@@ -38,8 +39,8 @@ fn is_told_before(a: ClockOffset, b: ClockOffset) -> bool
     b.ahead_ms < a.ahead_ms
 }
 
-fn first_told(known: Option<ClockOffset>, offset: ClockOffset) -> Option<ClockOffset>
-    ensures { result ≡ spec.first_told known offset }
+fn told_of_two(known: Option<ClockOffset>, offset: ClockOffset) -> Option<ClockOffset>
+    ensures { result ≡ spec.told_of_two known offset }
 {
     match known {
         None => Some(offset),
@@ -59,7 +60,7 @@ fn told_with_offset(known: Option<ClockOffset>, offset: ClockOffset) -> Option<C
     if offset.ahead_ms == 0 {
         known
     } else {
-        first_told(known, offset)
+        told_of_two(known, offset)
     }
 }
 
@@ -89,7 +90,7 @@ pub fn compared_clocks(offsets: &[ClockOffset]) -> u64
 // ---- the lines
 
 fn put_seconds(lines: &mut Vec<u8>, ms: u64) -> Result<(), AllocError>
-    ensures { OnOk result (lines.new.items ≡ lines.old.items ++ spec.seconds_text ms) }
+    ensures { OnOk result (lines.new.items ≡ lines.old.items ++ spec.offset_seconds_text ms) }
 {
     put_number(lines, ms / 1000)?;
     lines.push(b'.')?;
@@ -133,8 +134,8 @@ fn put_clock(lines: &mut Vec<u8>, letter: u8, offsets: &[ClockOffset]) -> Result
     put_told(lines, letter, compared_clocks(offsets), told_offset(offsets))
 }
 
-/// Appends a line for each system whose clocks differ from those of their chains.
-pub(crate) fn put_clocks(lines: &mut Vec<u8>, offsets: &ClockOffsets) -> Result<(), AllocError>
+// Appends a line for each system whose clocks differ from those of their chains.
+fn put_offsets(lines: &mut Vec<u8>, offsets: &ClockOffsets) -> Result<(), AllocError>
     ensures { OnOk result (lines.new.items ≡ lines.old.items ++ spec.clock_lines offsets.now) }
 {
     put_clock(lines, b'E', offsets.galileo.as_slice())?;
@@ -143,4 +144,14 @@ pub(crate) fn put_clocks(lines: &mut Vec<u8>, offsets: &ClockOffsets) -> Result<
     put_clock(lines, b'S', offsets.sbas.as_slice())?;
     put_clock(lines, b'I', offsets.navic.as_slice())?;
     Ok(())
+}
+
+/// Appends the lines of clocks of a station, of which there is an entry or none.
+pub(crate) fn put_clocks(lines: &mut Vec<u8>, station: &[ClockSurvey]) -> Result<(), AllocError>
+    ensures { OnOk result (lines.new.items ≡ lines.old.items ++ spec.clock_lines (get_or station.now 0 no_clocks).offsets) }
+{
+    if station.len() == 0 {
+        return Ok(());
+    }
+    put_offsets(lines, &station[0].offsets)
 }

@@ -20,6 +20,7 @@ ghost use Rattle.rtk_survey.specs.declared.station_dates.StationDates.{StationDa
 ghost use Rattle.rtk_survey.specs.declared.target.Target.{Target};
 
 use crate::channel_lines::put_channels;
+use crate::clock_lines::put_clocks;
 use crate::contents::Contents;
 use crate::date_lines::{put_dates, put_system_weeks, put_weeks};
 use crate::equipment_lines::{is_told, put_equipment};
@@ -154,6 +155,7 @@ fn put_station(
     put_signals(alloc, lines, &station.signals, &station.system_signals)?;
     put_epochs(lines, station)?;
     put_channels(alloc, lines, station.channels.as_slice())?;
+    put_clocks(lines, station.clocks.as_slice())?;
     put_proposal(
         alloc,
         lines,

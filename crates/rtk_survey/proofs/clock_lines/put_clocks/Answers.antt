@@ -1,29 +1,16 @@
-use Rattle.std.proofs.Common.{◌++◌, ◌∙◌, append_assoc, List, ℕ, ap}
-use Rattle.rtk_survey.specs.ClockLines.{clock_line, clock_lines}
-use Rattle.rtk_survey.proofs.ListLemmas.{and-then}
+use Rattle.std.proofs.Common.{◌≡◌, ◌++◌, List, [], ◌∷◌, length, get_or, refl, sym, ap, ◌∙◌, ℕ, arith}
+use Rattle.std.proofs.lemmas.List.{append-nil}
+use Rattle.rtk_survey.specs.Chains.{no_clocks}
+use Rattle.rtk_survey.specs.ClockLines.{clock_lines}
+use Rattle.rtk_survey.specs.declared.clock_chains.ClockSurvey.{ClockSurvey}
 use Rattle.rtk_survey.proofs.clock_lines.put_clocks.Goals as goal
 
-pub returns : goal.returns
+-- no chain ended
+no-lines : (station : List ClockSurvey) → length station ≡ 0 → clock_lines (get_or station 0 no_clocks).offsets ≡ []
 unfolding clock_lines
-returns c =
-    let s = c.args.offsets.now in
-    let l0 : List ℕ = c.args.lines.now.items in
-    let l1 : List ℕ = c.put_clock.new.lines.items in
-    let l2 : List ℕ = c.put_clock-2.new.lines.items in
-    let l3 : List ℕ = c.put_clock-3.new.lines.items in
-    let l4 : List ℕ = c.put_clock-4.new.lines.items in
-    let l5 : List ℕ = c.put_clock-5.new.lines.items in
-    let e : List ℕ = clock_line 69 s.galileo.items in
-    let b : List ℕ = clock_line 67 s.beidou.items in
-    let j : List ℕ = clock_line 74 s.qzss.items in
-    let a : List ℕ = clock_line 83 s.sbas.items in
-    let n : List ℕ = clock_line 73 s.navic.items in
-    and-then l0 l4 l5 (e ++ b ++ j ++ a) n
-    (and-then l0 l3 l4 (e ++ b ++ j) a
-    (and-then l0 l2 l3 (e ++ b) j
-    (and-then l0 l1 l2 e b
-    (c.in_ok-put_clock.ensures ∙ ap (λ os. l0 ++ clock_line 69 os) c.as_slice.ensures.value)
-    (c.in_ok-put_clock-2.ensures ∙ ap (λ os. l1 ++ clock_line 67 os) c.as_slice-2.ensures.value))
-    (c.in_ok-put_clock-3.ensures ∙ ap (λ os. l2 ++ clock_line 74 os) c.as_slice-3.ensures.value))
-    (c.in_ok-put_clock-4.ensures ∙ ap (λ os. l3 ++ clock_line 83 os) c.as_slice-4.ensures.value))
-    (c.in_ok-put_clock-5.ensures ∙ ap (λ os. l4 ++ clock_line 73 os) c.as_slice-5.ensures.value)
+no-lines [] none = refl
+no-lines (s ∷ ss) none = absurd (omega (arith, none))
+
+pub returns-then-station-eq0 : goal.returns-then-station-eq0
+returns-then-station-eq0 c =
+    sym (append-nil c.args.lines.now.items) ∙ ap (λ (t : List ℕ). c.args.lines.now.items ++ t) (sym (no-lines c.args.station.now (omega (arith, c.if-station-eq0.true))))
