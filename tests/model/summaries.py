@@ -8,6 +8,7 @@ from collections import Counter
 from datetime import datetime, timedelta
 from itertools import groupby
 
+from chains import clock_lines, week_lines
 from equipment import Told, equipment_lines, equipment_of
 from finding import date_of
 from messages import CODES, Refusal, cells_of, frames_of, read_message, set_bits
@@ -45,6 +46,7 @@ def summary_of(text: bytes, name: str = "file") -> str:
         lines += station_lines(name, station, of_station, dates_of_station, [it for of, it in told if of == station])
     weeks = Counter(it["week"] for it in dates if "week" in it)
     lines += [f"week {week} 1019 {weeks[week]}" for week in sorted(weeks)]
+    lines += week_lines([frame.payload for frame in frames])
     lines += unread_lines(Counter(it for it in read if isinstance(it, Refusal)))
     if not any(line.startswith(" codes ") and line != " codes -" for line in lines):
         lines.append("nothing taken")
@@ -124,6 +126,7 @@ def station_lines(name: str, station: int, messages: list[Message], dated: list[
         f" codes {','.join(all_codes) or '-'}",
         *epoch_lines(others),
         *channel_lines(others),
+        *clock_lines(messages),
     ]
     near = civil_of(first[0]) if first else NO_DATE
     return lines + next_lines(name, near, station, shown) if codes else lines
