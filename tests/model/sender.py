@@ -175,19 +175,22 @@ class Sender:
         return self.told(told, satellite, MSM_SATELLITE[MSMS[number % 10 - 4]])
 
     def observation(self, tow: int) -> bytes:
-        """A 1004 or an MSM, or one of this time again, with a bit changed if it isn't calm."""
+        """A 1004 or an MSM, or one of this time again."""
         sent = self.sent.setdefault(tow, [])
         if sent and self.rng.random() < 0.4:
-            payload = self.rng.choice(sent)
-            if not self.is_calm:
-                width = 8 * len(payload) - 24
-                bit = self.rng.randrange(self.rng.choice((16, 32, width)))
-                changed = int.from_bytes(payload, "big") ^ 1 << bit
-                payload = changed.to_bytes(len(payload), "big")
+            payload = self.again(self.rng.choice(sent))
         else:
             payload = self.any_observation(tow)
         sent.append(payload)
         return payload
+
+    def again(self, payload: bytes) -> bytes:
+        """A payload, with a bit changed if the sender isn't calm."""
+        if self.is_calm:
+            return payload
+        width = 8 * len(payload) - 24
+        bit = self.rng.randrange(self.rng.choice((16, 32, width)))
+        return (int.from_bytes(payload, "big") ^ 1 << bit).to_bytes(len(payload), "big")
 
     def any_observation(self, tow: int, **values: int) -> bytes:
         return self.rng.choice((self.legacy, self.msm))(tow, **values)
