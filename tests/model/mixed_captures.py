@@ -61,7 +61,9 @@ class Making:
     """What a scene makes a capture of: the options, the true channels, and the station, which most often sends the systems that
     are listed, and also others."""
 
-    def __init__(self, rng: Random, letters: Sequence[str], near: int, window: int, is_calm: bool, pick: Pick = pick_any) -> None:
+    def __init__(
+        self, rng: Random, letters: Sequence[str], near: int, window: int, is_calm: bool, pick: Pick = pick_any, msm: str | None = None
+    ) -> None:
         self.rng = rng
         true = {slot: rng.randint(-7, 6) for slot in SLOTS}
         self.options = Options(
@@ -71,7 +73,7 @@ class Making:
             marker=any_marker(rng),
             names=names_of(rng, letters),
             window=window,
-            msm=some_kinds(rng),
+            msm=msm or some_kinds(rng),
             channels=some_channels(rng, true) if "R" in letters else None,
             leap=rng.choice((None, None, None, *some_leaps(rng, near))) if "R" in letters else None,
         )
@@ -136,7 +138,7 @@ def systems(rng: Random, turn: int, letters: str) -> Capture:
     making = Making(rng, some_letters(rng, letters), some_near(rng), any_window(rng, is_calm), is_calm, rng.choice((pick_any, pick_end, pick_zero)))
     making.change(rng.choice(letters), parts=2)
     frames = making.frames(making.disordered(6))
-    return making.capture(dealt(rng, frames, 1 + turn % 16))
+    return making.capture(dealt(rng, frames, rng.choice((1 + turn % 16, 1 + turn % 16, 16))))
 
 
 def noisy(rng: Random, turn: int, letters: str) -> Capture:
@@ -149,7 +151,9 @@ def noisy(rng: Random, turn: int, letters: str) -> Capture:
 
 def channels(rng: Random, turn: int, letters: str) -> Capture:
     """Channels that are missing, wrong, contradicted and told by nothing, also of spare satellites."""
-    making = Making(rng, some_letters(rng, letters, "R")[: rng.choice((1, 2))], some_near(rng), CALM_WINDOW, rng.random() < 0.5)
+    chosen = some_letters(rng, letters, "R")[: rng.choice((1, 2))]
+    of_all = rng.choice(("7", "5", "4,R7", "7,R5", "7,R6", "4"))
+    making = Making(rng, chosen, some_near(rng), CALM_WINDOW, rng.random() < 0.5, msm=of_all)
     making.sender.faith = rng.choice((SELDOM_TRUE, SELDOM_TRUE, ALL_TRUE))
     slots = rng.sample(SLOTS, rng.randint(1, 6)) + rng.sample((25, 26, 27, 28), 2)
     making.change("R", bits=tuple(sorted(set(slots))), parts=rng.choice((1, 2)))
@@ -188,7 +192,8 @@ def turns(rng: Random, turn: int, letters: str) -> Capture:
     middle = rng.choice((rng.choice(TURNS), first, first - 1000 * leap))
     off = rng.choice((0, 0, 1000, -1000, DAY_MS // 2, -DAY_MS, 200_000_000, -200_000_000, WEEK_MS // 2, WEEK_MS // 2 + 1000, -WEEK_MS // 2))
     near = max(NEARS[0], (middle + off) // 1000 * 1000)
-    making = Making(rng, some_letters(rng, letters, "R"), near, CALM_WINDOW, True, rng.choice((pick_any, pick_near_lock(1000))))
+    is_calm = rng.random() < 0.6
+    making = Making(rng, some_letters(rng, letters, "R"), near, CALM_WINDOW, is_calm, rng.choice((pick_any, pick_near_lock(1000))))
     step = rng.choice((1000, 1000, 500, 250, 30_000))
     count = rng.randint(3, 8)
     times = in_order(rng, middle - step * rng.randint(1, count) + rng.choice((0, 0, 1, -1)), step, count)
@@ -233,7 +238,8 @@ def parts(rng: Random, turn: int, letters: str) -> Capture:
 
 def odd(rng: Random, turn: int, letters: str) -> Capture:
     """Satellites that name none, masks of any width, messages without cells, and clocks without a day."""
-    making = Making(rng, some_letters(rng, letters), some_near(rng), rng.choice((2, CALM_WINDOW)), rng.random() < 0.7, rng.choice((pick_any, pick_end)))
+    chosen = some_letters(rng, letters, rng.choice((*letters, "R", "R", "R")))
+    making = Making(rng, chosen, some_near(rng), rng.choice((2, CALM_WINDOW)), rng.random() < 0.7, rng.choice((pick_any, pick_end)))
     for voice in making.sender.voices:
         last = voice.system.satellites
         chosen = {*voice.bits, last, min(last + 1, 64), rng.randint(1, 64)}
@@ -241,7 +247,7 @@ def odd(rng: Random, turn: int, letters: str) -> Capture:
         bits = rng.choice((chosen, chosen, others, range(1, 65)))
         signals = rng.choice((voice.signals, voice.signals, range(1, 33)))
         making.change(voice.system.letter, bits=tuple(sorted(bits)), signals=tuple(signals))
-    making.sender.without_day = rng.choice((0, 0.3))
+    making.sender.without_day = rng.choice((0, 0.3, 0.7))
     making.sender.empty = 0.5
     frames = making.frames(in_order(rng, making.options.near, 1000, rng.randint(1, 5)), 0.3)
     return making.capture(dealt(rng, frames, rng.choice((1, 1, 2))))
