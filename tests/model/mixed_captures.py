@@ -154,7 +154,7 @@ def channels(rng: Random, turn: int, letters: str) -> Capture:
     chosen = some_letters(rng, letters, "R")[: rng.choice((1, 2))]
     of_all = rng.choice(("7", "5", "4,R7", "7,R5", "7,R6", "4"))
     making = Making(rng, chosen, some_near(rng), CALM_WINDOW, rng.random() < 0.5, msm=of_all)
-    making.sender.faith = rng.choice((SELDOM_TRUE, SELDOM_TRUE, ALL_TRUE))
+    making.sender.faith = rng.choice((*[SELDOM_TRUE] * 4, ALL_TRUE))
     slots = rng.sample(SLOTS, rng.randint(1, 6)) + rng.sample((25, 26, 27, 28), 2)
     making.change("R", bits=tuple(sorted(set(slots))), parts=rng.choice((1, 2)))
     times = in_order(rng, making.options.near, rng.choice(STEPS), rng.randint(1, 6))
