@@ -277,6 +277,7 @@ def streams(rng: Random, turn: int, letters: str) -> Capture:
     """A stream of four systems, or of as many as there are, that fits its window."""
     chosen = ["G", "R", "E", "C"] if set("GREC") <= set(letters) else some_letters(rng, letters)
     making = Making(rng, chosen, some_near(rng), CALM_WINDOW, True, pick_near_lock(1000))
+    making.sender.voices = [making.voice(BY_LETTER[it]) for it in chosen]
     making.sender.faith = ALL_TRUE
     times = in_order(rng, making.options.near, 1000, rng.randint(8, 20))
     return making.capture([b"".join(making.frames(times, 0.05))])

@@ -15,12 +15,12 @@ import sys
 from random import Random
 
 import mixed_marks
+from messages import frames_of
 from mixed_captures import mixed_capture
 from mixed_model import convert_mixed
 from program import Program
 from properties import HOLDS, MOST_LINKS, NOT_MET, Answer, Case, Property, as_modelled, difference, file_is_valid, is_clean
 from properties import same_dealt_to_two, same_in_any_order, same_on_standard_input, same_with_link_again, same_with_link_before
-from messages import frames_of
 from systems import LETTERS
 from workers import Looked, Task, counts_of_all, keep, parser_of, tally_of, tasks_of
 
@@ -60,14 +60,9 @@ def same_however_dealt(case: Case) -> Answer:
 
 
 FREE = (Property(as_modelled, 100), Property(file_is_valid, 100), Property(same_however_dealt, 8))
-# Each capture has one of these, if their premises hold there.
-MORE = (
-    Property(same_in_any_order, 5),
-    Property(same_dealt_to_two, 5),
-    Property(same_with_link_again, 5),
-    Property(same_with_link_before, 5),
-    Property(same_on_standard_input, 5),
-)
+# Each capture has one more: of those whose premises it seldom meets, and else of the others.
+SELDOM = (Property(same_in_any_order, 10), Property(same_dealt_to_two, 5), Property(same_with_link_before, 2))
+OFTEN = (Property(same_with_link_again, 10), Property(same_on_standard_input, 10))
 MARKS = mixed_marks.properties()
 
 
@@ -78,7 +73,8 @@ def inspect(task: Task, program: Program) -> Looked:
     case = Case(capture, due, program, program.convert(capture.setup, capture.links), rng)
     looked = Looked(task.number, capture.scene, [], {})
     looked.checks(case, [*FREE, *MARKS], len(FREE) + len(MARKS))
-    looked.checks(case, rng.sample(MORE, len(MORE)), len(looked.checked) + DRAWN)
+    turns = rng.sample(SELDOM, len(SELDOM)) + rng.sample(OFTEN, len(OFTEN))
+    looked.checks(case, turns, len(looked.checked) + DRAWN)
     keep(task, capture)
     return looked
 
@@ -91,7 +87,7 @@ def main() -> int:
     if tally is None:
         return 1
     is_whole = words.systems == LETTERS and words.captures >= CAPTURES
-    return counts_of_all(tally, {it: it.floor if is_whole or it in FREE[:2] else 0 for it in [*FREE, *MORE, *MARKS]})
+    return counts_of_all(tally, {it: it.floor if is_whole or it in FREE[:2] else 0 for it in [*FREE, *SELDOM, *OFTEN, *MARKS]})
 
 
 if __name__ == "__main__":
