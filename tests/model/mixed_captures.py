@@ -5,16 +5,18 @@ A capture is made from a seed and its number alone, and the letters of the syste
 
 from __future__ import annotations
 
+from dataclasses import replace
 from random import Random
 from typing import Callable, Iterable, Mapping, Sequence
 
 from captures import CALM_WINDOW, LAST_MADE, LAST_NEAR, NEARS, STEPS, Capture, any_marker, any_times, any_window, dealt, with_noise
-from clocks import DAY_MS, LEAP_ROWS, leap_seconds_at
+from clocks import DAY_MS, LEAP_ROWS, clock_of, leap_seconds_at
 from mixed_model import Options
 from mixed_sender import ALL_TRUE, SELDOM_TRUE, MixedSender, Voice
 from model import dated, moment
+from msm import payload_of_msm
 from sender import Pick, pick_any, pick_end, pick_near_lock, pick_zero
-from systems import BY_LETTER, KINDS, LETTERS, SYSTEMS, System
+from systems import BY_LETTER, KINDS, LETTERS, SYSTEMS, System, number_of
 from wire import WEEK_MS
 
 SLOTS = range(1, 28)
@@ -283,14 +285,39 @@ def streams(rng: Random, turn: int, letters: str) -> Capture:
     return making.capture([b"".join(making.frames(times, 0.05))])
 
 
+def cut_to(those: Sequence[int], size: int) -> list[Sequence[int]]:
+    return [those[at : at + size] for at in range(0, len(those), size)]
+
+
+def whole(rng: Random, turn: int, letters: str) -> Capture:
+    """Two epochs of all satellites, with most of their signals, of which all codes are listed."""
+    making = Making(rng, letters, some_near(rng), CALM_WINDOW, rng.random() < 0.5)
+    codes = [code if it == "G" else it + code for it in letters for code in BY_LETTER[it].codes]
+    making.options = replace(making.options, names=tuple(rng.sample(codes, len(codes))))
+    frames = []
+    for time in in_order(rng, making.options.near, 1000, 2):
+        for letter in rng.sample(letters, len(letters)):
+            system = BY_LETTER[letter]
+            number, clock = number_of(system, making.options.kinds[letter]), clock_of(system, time)
+            signals = sorted(it for it in system.signals.values() if it is not None)
+            blocks = [(bits, some) for bits in cut_to(range(1, system.satellites + 1), 16) for some in cut_to(signals, 4)]
+            for bits, some in blocks:
+                payload = payload_of_msm(making.sender.message_of(number, clock, list(bits), list(some)))
+                frames.append(making.sender.frame(payload))
+    return making.capture(dealt(rng, frames, rng.choice((1, 3))))
+
+
 SCENES: tuple[Callable[[Random, int, str], Capture], ...] = (
     systems, channels, clocks, turns, spans, kinds, parts, odd, late, silent, noisy, streams
 )  # fmt: skip
 
 
+EACH_WHOLE = 250
+
+
 def mixed_capture(seed: int, number: int, letters: str) -> Capture:
     """The capture of this number."""
     turn, at = divmod(number, len(SCENES))
-    scene = SCENES[at]
+    scene = whole if number % EACH_WHOLE == 0 else SCENES[at]
     rng = Random(f"mixed {seed} {number} {letters}")
     return scene(rng, turn, letters)._replace(scene=scene.__name__)
