@@ -164,14 +164,14 @@ def channels(rng: Random, turn: int, letters: str) -> Capture:
 
 
 # How far a clock is ahead: GPS time in place of BeiDou's, leap seconds, a day, parts of a second.
-AHEAD = (14_000, 14_000, -14_000, 1000, -1000, 18_000, DAY_MS, -DAY_MS, 1, -1, 499, 500, 3 * DAY_MS)
+AHEAD = (*[14_000] * 3, -14_000, 1000, 1000, -1000, 18_000, DAY_MS, DAY_MS, -DAY_MS, 3 * DAY_MS, 1, 1, -1, 499, 500)
 
 
 def clocks(rng: Random, turn: int, letters: str) -> Capture:
     """A clock of a system is off, at 1 and 5 Hz; then another system may be late."""
-    window = rng.choice((4, 13, 14, 64))
-    making = Making(rng, some_letters(rng, letters, rng.choice(letters), rng.choice("CR"))[:4], some_near(rng), window, True)
-    making.change(rng.choice("CR"), ahead=rng.choice(AHEAD))
+    off, window = rng.choice(("C", "R", "C", "R", rng.choice(letters))), rng.choice((4, 13, 14, 64))
+    making = Making(rng, some_letters(rng, letters, off, rng.choice(letters))[:4], some_near(rng), window, True)
+    making.change(off, ahead=rng.choice(AHEAD))
     step = rng.choice((1000, 200))
     is_long = turn % 8 == 0
     for voice in making.sender.voices:
