@@ -169,11 +169,10 @@ AHEAD = (*[14_000] * 3, -14_000, 1000, 1000, -1000, 18_000, DAY_MS, DAY_MS, -DAY
 
 def clocks(rng: Random, turn: int, letters: str) -> Capture:
     """A clock of a system is off, at 1 and 5 Hz; then another system may be late."""
-    off, window = rng.choice(("C", "R", "C", "R", rng.choice(letters))), rng.choice((4, 13, 14, 64))
+    off, is_long = rng.choice(("C", "R", "C", "R", rng.choice(letters))), turn % 8 == 0
+    window, step = (64, 200) if is_long else (rng.choice((4, 13, 14, 64)), rng.choice((1000, 200)))
     making = Making(rng, some_letters(rng, letters, off, rng.choice(letters))[:4], some_near(rng), window, True)
-    making.change(off, ahead=rng.choice(AHEAD))
-    step = rng.choice((1000, 200))
-    is_long = turn % 8 == 0
+    making.change(off, ahead=14_000 if is_long else rng.choice(AHEAD))
     for voice in making.sender.voices:
         making.change(voice.system.letter, bits=voice.bits[: 1 if is_long else 2], signals=voice.signals[:1])
     times = in_order(rng, making.options.near + rng.randrange(1000), step, 80 if is_long else rng.randint(5, 24))
@@ -258,6 +257,7 @@ def odd(rng: Random, turn: int, letters: str) -> Capture:
 def late(rng: Random, turn: int, letters: str) -> Capture:
     """Many epochs in disorder and a short window; the station's position comes at any time."""
     making = Making(rng, some_letters(rng, letters), some_near(rng), rng.choice((2, 2, 3, 4, rng.randint(2, 12))), rng.random() < 0.5)
+    making.change("R", bits=tuple(sorted(rng.sample(range(1, 30), 20))), most=2)
     times = making.disordered(10)
     times += [rng.choice(times) for _ in range(rng.randrange(4))]
     return making.capture(dealt(rng, making.frames(times, 0.3), rng.choice((1, 1, 1, 2, 4))))

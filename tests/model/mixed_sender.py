@@ -18,7 +18,8 @@ ALWAYS = 1 << 30
 
 class Voice(NamedTuple):
     """What a station sends of a system: kinds of MSM, satellites by the bits of their mask, signals, how many ms its clock is ahead,
-    from which epoch on and before which one it sends, and in how many messages an epoch stands at most."""
+    from which epoch on and before which one it sends, in how many messages an epoch stands at most, and how many satellites a
+    message has at most."""
 
     system: System
     kinds: tuple[int, ...]
@@ -28,6 +29,7 @@ class Voice(NamedTuple):
     begin: int = 0
     end: int = ALWAYS
     parts: int = 1
+    most: int = 64
 
 
 # What a message says of a channel, by the four bits that it would say if it were of another system: mostly what is true.
@@ -57,7 +59,7 @@ class MixedSender(Sender):
     def of_voice(self, voice: Voice, time: int, **values: int) -> bytes:
         """An MSM of some of the satellites and signals, with at most 64 bits of its cell mask."""
         least = int(self.rng.random() >= self.empty)
-        bits = self.some(voice.bits, least, 64)
+        bits = self.some(voice.bits, least, voice.most)
         signals = self.some(voice.signals, least, 64 // max(1, len(bits)))
         number = number_of(voice.system, self.rng.choice(voice.kinds))
         return payload_of_msm(self.message_of(number, self.clock(voice.system, time + voice.ahead), bits, signals, **values))
