@@ -100,10 +100,9 @@ class Making:
         return Voice(system, kinds, tuple(sorted(bits)), tuple(sorted(signals)))
 
     def change(self, letter: str, **values: object) -> None:
-        """The voice of this system, or of the first if it has none, with other values."""
+        """The voice of this system with other values, if it has one."""
         voices = self.sender.voices
-        at = next((at for at, it in enumerate(voices) if it.system.letter == letter), 0)
-        voices[at : at + 1] = [it._replace(**values) for it in voices[at : at + 1]]
+        self.sender.voices = [it._replace(**values) if it.system.letter == letter else it for it in voices]
 
     def frames(self, times: Iterable[int], others: float = 0.15) -> list[bytes]:
         """The frames of these epochs, with others among them, of the station and not."""
