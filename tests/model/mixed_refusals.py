@@ -47,8 +47,9 @@ def fault(lines: Optional[str], **words: Value) -> Fault:
 CODES, CHANNELS, NEED = "bad --codes\n", "bad --channels\n", "R codes need --channels\n"
 OF_GPS = "GPS codes have two characters: 1C\n"
 
-# The codes of each system but GPS, in the order of the tables.
+# The codes of each system, in the order of the tables.
 LISTS = {
+    "G": "1C 1P 1W 1S 1L 1X 2C 2D 2P 2W 2S 2L 2X 5I 5Q 5X",
     "R": "1C 1P 2C 2P",
     "E": "1C 1B 1X 6C 6B 6X 7I 7Q 7X 8I 8Q 8X 5I 5Q 5X",
     "C": "2I 2Q 2X 6I 6Q 6X 7I 7Q 7X 5D 5P 5X 7D 1D 1P 1X",
@@ -99,16 +100,18 @@ def repeated_codes() -> list[Fault]:
 
 
 def channels_refused() -> list[Fault]:
-    """The form, a number out of its range, and a slot twice."""
+    """The form, a number out of its range, a slot twice, and any channels without a code of GLONASS."""
     texts = (
         "", "1", "1:", ":1", "1:1,", ",1:1", "1:1,,2:2", "1:1 2:2", "1;1", "1:1:1", "0:1", "28:1", "1:7", "1:-8", "-1:1", "1:x", "x:1",
+        "01:1", "1:01", "1:+1", "1:-0", "R01:1",
         "1:1,1:1", "1:1,9:-6,1:2", "none,1:1", "1:1,none", "None", "1:1.0", "1: 1", " 1:1", "256:1", "1:256", "257:1", "1:-99999999999999999999",
     )  # fmt: skip
-    return [fault(CHANNELS, channels=it) for it in texts] + [fault(CHANNELS, channels="1:7", codes="1C,E1X")]
+    without = [fault(CHANNELS, channels=it, codes="1C,E1X") for it in ("1:7", "1:1", "none")]
+    return [*(fault(CHANNELS, channels=it) for it in texts), *without, fault(CHANNELS, channels="none", codes="1C")]
 
 
 def refused_by_clap() -> list[Fault]:
-    kinds = ("", "3", "8", "7,", ",7", "7,4", "7,E3", "7,E8", "7,X4", "7,e4", "7,E", "7,4E", "7,E4,E5", "7,E4,E4", "7 E4", "7;E4", "7,E4,", "77")
+    kinds = ("", "E4", "3", "8", "7,", ",7", "7,4", "7,E3", "7,E8", "7,X4", "7,e4", "7,E", "7,4E", "7,E4,E5", "7,E4,E4", "7 E4", "7;E4", "7,E4,", "77")
     leaps = ("", "-1", "100", "x", "1.5", "256")
     return [fault(None, msm=it) for it in kinds] + [fault(None, leap_seconds=it) for it in leaps]
 
