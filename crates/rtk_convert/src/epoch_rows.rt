@@ -64,6 +64,7 @@ const CODES: usize = 16;
 
 // Returns where each code stands among the codes of a row, by its place among those of its system, or 16.
 // A row has at most 16 codes, whose places are 0 to 15, so 16 is where none stands.
+#[inline(always)]
 fn columns_of(codes: &[AnyCode]) -> [u8; CODES]
     requires few { length codes.now ≤ 16 }
     requires distinct { AllPairs (λ a b. place_of a ≢ place_of b) codes.now }
@@ -130,11 +131,18 @@ fn codes_end(listed: &[AnyCode], system: System, begin: usize) -> usize
     listed.len()
 }
 
-// Returns the codes of a system, which stand one after another.
+// Returns the codes of a system, which stand one after another. All codes are of the system if the first and the
+// last one are, as in each file of one system.
+#[inline(always)]
 fn codes_of(listed: &[AnyCode], system: System) -> &[AnyCode]
     requires { IsMixedList listed.now }
     ensures { result.now ≡ codes_of (letter_of system) listed.now }
 {
+    let first = listed[0].system();
+    let last = listed[listed.len() - 1].system();
+    if first == system && last == system {
+        return listed;
+    }
     let begin = codes_before(listed, system);
     let end = codes_end(listed, system, begin);
     &listed[begin..end]
