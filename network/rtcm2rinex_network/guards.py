@@ -1,5 +1,5 @@
 """The guards: why a new file would be worse than the one that is there. Each is a function that tells a fault or none, and its comment
-gives the reason for it."""
+gives the reason for it. The first line of a fault is the cause, and further lines stand in the note of the run alone."""
 
 from __future__ import annotations
 
@@ -7,18 +7,20 @@ import math
 import re
 from dataclasses import dataclass
 from pathlib import Path
-from typing import Dict, Iterator, List, Optional, Sequence, Set, Tuple
+from typing import Dict, FrozenSet, Iterator, List, Optional, Set, Tuple
 
 from .captures import Sum
-from .comparison import Losses, Place, losses
+from .comparison import Unlike, differences, lost_first_slips
 from .lists import Made, Record
 from .labels import fields_of_options, options_of
 from .places import form_of, is_compact
+from .program import Program
 from .rinex import Header, codes_with_values, count_epochs, count_values, read_header
 
 MOST_METRES = 1.0  # of a position that comes from the same antenna
 MOST_CONFLICTS = 0.01  # of the messages that were taken
 CONFLICT = re.compile(r"(?m)^link \d+ conflict \d+ (?:-|\S+ \S+)", re.ASCII)
+OF_OTHER_GUARDS = re.compile(r"lost code \S+|(lost|changed) position", re.ASCII)  # lines of `compare`
 
 
 @dataclass(frozen=True)
@@ -34,27 +36,34 @@ class MadeBy:
 
 @dataclass(frozen=True)
 class Old:
-    """The file of before: where it lies, if it is there, and whether it is as it was made; what it was made by; its header and the text
-    of its report."""
+    """The files of before: what the list says that was made, and which of these are there with the bytes with which they were made;
+    where the file of the span lies, if it is there and can be read; what it was made by, its header, and the text of its report."""
 
+    made: Dict[str, Made]
+    intact: FrozenSet[str]
     path: Optional[Path]
-    is_intact: bool
     by: MadeBy
     header: Header
     report: str
 
+    def file(self, name: str) -> Optional[Path]:
+        """Where a file lies, if it and that of the span are there and can be read."""
+        form = form_of(self.path.with_name(name)) if self.path else None
+        return form if form and form.is_file() and not is_compact(form) else None
+
 
 @dataclass(frozen=True)
 class New:
-    """The new file: where it lies now, what it was made by, and the text of its report."""
+    """The new files: what was made, where that of the span lies now, what they were made by, and the text of the report."""
 
+    made: Dict[str, Made]
     path: Path
     by: MadeBy
     report: str
 
 
-def old_file(path: Path, record: Record, is_intact: bool) -> Old:
-    """What is known of the file of before: what its list says, and the fields of its header. If the file was changed since, the list
+def old_files(path: Path, record: Record, intact: FrozenSet[str]) -> Old:
+    """What is known of the files of before: what their list says, and the fields of the header. If the file was changed since, the list
     decides of the fields that it has, and the others were filled by hand."""
     form, used = form_of(path), record.row()
     is_there = form.is_file() and not is_compact(form)
@@ -62,10 +71,10 @@ def old_file(path: Path, record: Record, is_intact: bool) -> Old:
     report = path.with_name(path.name + ".report")
     text = report.read_text(errors="replace") if report.is_file() else ""
     fields = {**header.fields, "marker": header.marker} if header.marker else {}
-    if used and not (is_there and is_intact):
+    if used and not (is_there and path.name in intact):
         fields.update({**fields_of_options(options_of(used.label) or []), "marker": used.marker})
     by = MadeBy(used.station if used else None, used.msm if used else None, used.codes if used else header.codes, fields)
-    return Old(path if is_there else None, is_there and is_intact, by, header, text)
+    return Old(record.made, intact, path if is_there else None, by, header, text)
 
 
 def guard_captures(before: Dict[str, Sum], found: Dict[str, Sum], unread: Set[str]) -> Iterator[str]:
@@ -82,14 +91,14 @@ def guard_words(name: str, old: Old, new: MadeBy) -> Iterator[str]:
     """A table that was edited says how the station is now, and the file may be of the time before. Another number is another station,
     and another MSM has other values of the same codes. A code that the row names no more, and a field of the label that is another one
     now, belong to another receiver or antenna. A field that was blank may be filled, and a code without a value may go."""
-    by = old.by
+    by, path = old.by, old.file(name)
     if by.station not in (None, new.station):
         yield f"{name} is of station {by.station}, and the table has {new.station}"
     if by.msm not in (None, new.msm):
         yield f"{name} is of MSM{by.msm}, and would be of MSM{new.msm}"
     dropped = [code for code in by.codes if code not in new.codes]
-    if dropped and old.path and old.is_intact:
-        there = codes_with_values(old.path)
+    if dropped and path and name in old.intact:
+        there = codes_with_values(path)
         dropped = [code for code in dropped if code in there]
     if dropped:
         yield f"{name} has the codes {','.join(dropped)}, and the row has them no more"
@@ -104,34 +113,35 @@ def is_same_field(old: str, new: str) -> bool:
     return old == new or bool(re.fullmatch(r"[+-]0\.0000", old))
 
 
-def guard_counts(name: str, old: Optional[Path], listed: Optional[Made], new: Made, is_alike: bool) -> Iterator[str]:
+def guard_counts(name: str, listed: Made, new: Made) -> Iterator[str]:
     """A file that was moved away is compared by what its list counts."""
-    epochs = max(listed.epochs if listed else 0, count_epochs(old) if old else 0)
-    if new.epochs < epochs:
-        yield f"{name} had {epochs} epochs, and would have {new.epochs}"
-    values = max(listed.values if listed else 0, count_values(old) if old else 0)
-    if new.values < values and is_alike:
-        yield f"{name} had {values} values, and would have {new.values}"
+    if new.epochs < listed.epochs:
+        yield f"{name} had {listed.epochs} epochs, and would have {new.epochs}"
+    if new.values < listed.values:
+        yield f"{name} had {listed.values} values, and would have {new.values}"
 
 
-def guard_records(name: str, found: Losses, has_lost_bytes: bool) -> Iterator[str]:
-    """A loss in one hour of a day may hide behind a gain in another, so each epoch and value counts, and each mark of a slip or half
-    cycle. A slip at the first phase of a satellite rests on the captures before the span, so it may go if these only grew."""
-    if found.epochs:
-        yield f"{name} has epochs that the new one would lack: {len(found.epochs)}, the first is {found.epochs[0][2:]}"
-    kinds = [("values", found.values), ("marks of half cycles", found.halves)]
-    for what, places in kinds:
-        if places:
-            yield f"{name} has {what} that the new one would lack: {told(places)}"
-    slips = found.slips + (found.first_slips if has_lost_bytes else [])
+def guard_records(program: Program, name: str, old: Path, new: Path, is_as_listed: bool) -> Iterator[str]:
+    """A loss in one hour of a day may hide behind a gain in another, so `compare` looks at each value and mark. Codes and position have
+    guards of their own. A new file that is as the list has it heals what a disk or a hand changed, so then only what is lost counts."""
+    try:
+        found = differences(program, old, new)
+    except Unlike as fault:
+        if not is_as_listed or count_epochs(old) > count_epochs(new) or count_values(old) > count_values(new):
+            yield f"{name} was changed, and can't be compared: {fault}"
+        return
+    lines = [it for it in found.lines if not OF_OTHER_GUARDS.fullmatch(it)]
+    others = [it for it in found.lines if OF_OTHER_GUARDS.fullmatch(it)]
+    lost, changed = found.lost - sum(it.startswith("lost") for it in others), found.changed - sum(it.startswith("changed") for it in others)
+    if lost or (changed and not is_as_listed):
+        yield "\n".join([f"{name} would be worse: lost {lost} changed {changed}, the first is {lines[0]}", *lines])
+
+
+def guard_first_slips(name: str, old: Path, new: Path) -> Iterator[str]:
+    """A slip at the first phase of a satellite rests on the captures before the span, so it is lost if these lost bytes."""
+    slips = lost_first_slips(old, new)
     if slips:
-        yield f"{name} had slips, and would have some of them no more: {told(slips)}"
-
-
-def told(places: Sequence[Place]) -> str:
-    """How many places, and which is the first."""
-    key, satellite, code = places[0]
-    return f"{len(places)}, the first is {key[2:]} {satellite} {code}"
+        yield f"{name} had slips at first phases, and would have some of them no more: {len(slips)}, the first is {slips[0]}"
 
 
 def guard_position(name: str, old: Header, new: Header) -> Iterator[str]:
@@ -162,22 +172,26 @@ def has_lost_bytes(before: Dict[str, Sum], found: Dict[str, Sum]) -> bool:
     return any(name in before and before[name] != it and it.size <= before[name].size for name, it in found.items())
 
 
-def faults_of(old: Old, new: New, listed: Dict[str, Made], made: Dict[str, Made], lost_bytes: bool) -> Iterator[str]:
-    """Why the records of the new files would be worse than those of before. The first name in `made` is that of the file, and thinned ones follow."""
-    name = next(iter(made))
+def faults_of(program: Program, old: Old, new: New, lost_bytes: bool) -> Iterator[str]:
+    """Why the records of the new files would be worse than those of before. The first name in `made` is that of the file of the span, and
+    thinned ones follow. A thinned file is cut out of the file of the span, and so are its slips, so while both are there as they were
+    made that file alone is compared."""
+    name = next(iter(new.made))
     if old.path:
         yield from guard_position(name, old.header, read_header(new.path))
         yield from guard_conflicts(name, old.report, new.report)
-    is_alike = set(old.by.codes) <= set(new.by.codes)
-    for file, it in made.items():
-        form = form_of(old.path.with_name(file)) if old.path else None
-        path = form if form and form.is_file() and not is_compact(form) else None
-        yield from guard_counts(file, path, listed.get(file), it, is_alike)
-        if path:
-            yield from guard_records(file, losses(path, new.path.with_name(file)), lost_bytes)
+    for file, it in new.made.items():
+        listed, path = old.made.get(file), old.file(file)
+        if listed:
+            yield from guard_counts(file, listed, it)
+        is_there = it == listed and file in old.intact
+        if path and not is_there and (file == name or not {name, file} <= old.intact):
+            yield from guard_records(program, file, path, new.path.with_name(file), it == listed)
+            if lost_bytes:
+                yield from guard_first_slips(file, path, new.path.with_name(file))
 
 
-def differences(before: Record, now: Record) -> List[str]:
+def captures_that_differ(before: Record, now: Record) -> List[str]:
     """The lines of captures in which the lists of before and of now differ."""
     gone = [f"before {name} {it}" for name, it in sorted(before.captures.items()) if now.captures.get(name) != it]
     come = [f"now {name} {it}" for name, it in sorted(now.captures.items()) if before.captures.get(name) != it]

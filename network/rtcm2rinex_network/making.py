@@ -174,7 +174,7 @@ def cut_out(job: Job, work: Path, name: str, words: Sequence[str]) -> Made:
 
 
 def label_files(job: Job, work: Path, done: Conversion) -> None:
-    """Gives each new file the fields of the label, now that it is checked and no worse."""
+    """Gives each new file the fields of the label, now that it is checked."""
     for name, made in done.made.items() if job.options else []:
         if made.is_none:
             continue

@@ -150,19 +150,10 @@ class Cell:
         """Whether there is a phase."""
         return bool(self.values[1])
 
-    def is_of_same_message(self, other: Cell) -> bool:
-        """Whether range and strength are the same and both have a phase. A phase may differ by the rolls of a 1004."""
-        return self.has_phase and other.has_phase and self.values[::2] == other.values[::2]
-
     @property
     def is_slip(self) -> bool:
         """Whether the receiver lost the phase before it."""
         return self.lli in ("1", "3")
-
-    @property
-    def is_half(self) -> bool:
-        """Whether half a cycle is open."""
-        return self.lli in ("2", "3")
 
 
 def cell_of(line: str, rank: int) -> Cell:

@@ -13,7 +13,7 @@ from typing import BinaryIO, Dict, Iterator, List, Optional, Sequence
 from .after import call_after, note_after
 from .captures import Capture, Sum, Unread, find_captures, is_old, look_at, sum_of
 from .ends import Again, Ended, NoCaptures, Refused, Usage, say
-from .guards import MadeBy, New, differences, faults_of, guard_captures, guard_words, has_lost_bytes, old_file
+from .guards import MadeBy, New, captures_that_differ, faults_of, guard_captures, guard_words, has_lost_bytes, old_files
 from .labels import checked_options, find_label, labels_beside
 from .lists import Record, read_list
 from .making import Conversion, Job, convert, label_files, seconds_of_thin
@@ -229,13 +229,13 @@ class Run:
         if not has_own(job, self.found.captures):
             raise Again("; ".join(self.faults))
         name = str(job.name)
-        old = old_file(job.path, self.before, self.is_intact(name))
+        old = old_files(job.path, self.before, frozenset(filter(self.is_intact, self.before.made)))
         by = MadeBy(job.row.station, job.msm, tuple(job.row.codes.split(",")), job.fields())
         self.judge(guard_words(name, old, by), done, False)
         convert(job, self.found.captures, self.before, work, is_made, done)
-        lost_bytes = bool(self.now.unread) or has_lost_bytes(self.before.captures, self.now.captures)
-        self.judge(faults_of(old, New(work / name, by, done.report), self.before.made, done.made, lost_bytes), done)
         label_files(job, work, done)
+        lost_bytes = bool(self.now.unread) or has_lost_bytes(self.before.captures, self.now.captures)
+        self.judge(faults_of(job.program, old, New(done.made, work / name, by, done.report), lost_bytes), done)
         self.now.made = done.made
         self.now.report = sum_of(work / f"{name}.report")
         every = [file.split("_")[4] for file in list(done.made)[1:]]
@@ -250,13 +250,13 @@ class Run:
     def judge(self, faults: Iterator[str], done: Conversion, may_be_excused: bool = True) -> None:
         """Refuses a worse file, or with FORCE says why it is worse. The lists of both are shown where they differ, and noted whole. A
         cause that the captures can't mend is not excused by one that can't be read."""
-        for why in faults:
+        for why, *more in (it.split("\n") for it in faults):
             if self.job.settings.is_forced:
                 say(SCRIPT, f"{what_of(self.job)}: FORCE: {why}")
                 continue
             now = [*self.now.source(), *(it.line(name) for name, it in done.made.items())]
-            kept = ["before:", *self.before.source(), *self.before.result(), "now:", *now]
-            shown = "\n".join(differences(self.before, self.now))
+            kept = [*more, "before:", *self.before.source(), *self.before.result(), "now:", *now]
+            shown = "\n".join(captures_that_differ(self.before, self.now))
             end = Refused(f"{why}; to replace it nevertheless, {self.job.settings.force_hint}", shown, "\n".join(kept))
             end.may_be_excused = may_be_excused
             raise end

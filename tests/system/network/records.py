@@ -1,0 +1,75 @@
+"""What the scripts read in the records of files themselves: which slips at first phases a new file lacks, and the step from epoch to epoch.
+
+A file is written as cells: a time in seconds, a satellite, and for each of its codes 1C and 2W the phase with its loss-of-lock digit, or a
+- for a code without a phase. What is due was worked out by hand. The last line is 'N passed, M failed'.
+"""
+
+from __future__ import annotations
+
+import sys
+import tempfile
+from pathlib import Path
+
+sys.path.insert(0, str(Path(__file__).resolve().parents[3] / "network"))
+
+from rtcm2rinex_network.comparison import lost_first_slips  # noqa: E402
+from rtcm2rinex_network.rinex import most_frequent_step  # noqa: E402
+
+HEADER = "G    6 C1C L1C S1C C2W L2W S2W ".ljust(60) + "SYS / # / OBS TYPES\n" + " " * 60 + "END OF HEADER\n"
+
+
+def line_of(cell: str) -> str:
+    """A line of a satellite: `G05 20_ -` has for 1C a range and a phase of 20 without a digit, and for 2W a range alone."""
+    satellite, *codes = cell.split()
+    text = satellite
+    for code in codes:
+        phase, digit = ("", " ") if code == "-" else (code[:-1], code[-1].replace("_", " "))
+        text += f"{20_000_000:14.3f}  " + (f"{float(phase):14.3f}{digit} " if phase else " " * 16) + " " * 16
+    return text.rstrip() + "\n"
+
+
+def file_of(folder: Path, name: str, epochs: dict[int, list[str]]) -> Path:
+    text = HEADER
+    for second, cells in sorted(epochs.items()):
+        text += f"> 2024 05 17 12 00 {second:2}.0000000  0 {len(cells):2}\n" + "".join(map(line_of, cells))
+    path = folder / name
+    path.write_text(text)
+    return path
+
+
+NONE, FIRST, SECOND, BOTH = "G05 20_ 30_", "G05 201 30_", "G05 20_ 303", "G05 201 301"
+
+# Of each row: what it is, the old and the new file, and the places of the slips that are lost.
+ROWS = [
+    ("the same", {0: [BOTH]}, {0: [BOTH]}, []),
+    ("a slip of the first code", {0: [BOTH]}, {0: [SECOND]}, ["0 G05 1C"]),
+    ("a slip with a half cycle", {0: [SECOND]}, {0: [NONE]}, ["0 G05 2W"]),
+    ("a half cycle alone is no slip", {0: ["G05 202 30_"]}, {0: [NONE]}, []),
+    ("slips of two satellites", {0: [FIRST, "G07 201 30_"]}, {0: [NONE, "G07 20_ 30_"]}, ["0 G05 1C", "0 G07 1C"]),
+    ("a later slip is of no concern", {0: [NONE], 1: [BOTH]}, {0: [NONE], 1: [NONE]}, []),
+    ("a first phase in a later epoch", {0: ["G05 - 30_"], 7: [FIRST]}, {0: ["G05 - 30_"], 7: [NONE]}, ["7 G05 1C"]),
+    ("a first phase with a phase before it now", {7: [FIRST]}, {0: [NONE], 7: [NONE]}, []),
+    ("a phase that is gone is told elsewhere", {0: [FIRST], 1: [NONE]}, {1: [NONE]}, []),
+]
+
+# Of each row: the seconds of a file's epochs, and its step in ms.
+STEPS = [([0], None), ([0, 30], 30_000), ([0, 1, 21, 41], 20_000), ([0, 30, 31, 32], 1_000), ([0, 30, 31], 1_000), ([0, 1, 31], 1_000)]
+
+
+def main() -> int:
+    failed = 0
+    with tempfile.TemporaryDirectory() as folder:
+        for name, old, new, places in ROWS:
+            due = [f"2024 05 17 12 00 {int(it.split()[0]):2}.0000000 {it.partition(' ')[2]}" for it in places]
+            got = lost_first_slips(file_of(Path(folder), "old", old), file_of(Path(folder), "new", new))
+            failed += got != due
+            print(f"{'ok' if got == due else 'FAILED'} {name}" + ("" if got == due else f": {got}, and not {due}"))
+        for seconds, step in STEPS:
+            found = most_frequent_step(file_of(Path(folder), "steps", {it: [NONE] for it in seconds}))
+            failed += found != step
+            print(f"{'ok' if found == step else 'FAILED'} the step of {seconds}" + ("" if found == step else f": {found}, and not {step}"))
+    print(f"{len(ROWS) + len(STEPS) - failed} passed, {failed} failed")
+    return failed
+
+
+sys.exit(main())
