@@ -4,10 +4,14 @@ from __future__ import annotations
 
 import sys
 import time
-from typing import Dict, Iterator, List, Optional, Sequence, Tuple
+from pathlib import Path
+from typing import Callable, Dict, Iterator, List, Optional, Sequence, Tuple
 
+from .after import check_after
 from .ends import DONE, REFUSED, Ended, Refused, Usage
 from .labels import Label, checked_options, labels_beside, read_labels, strays
+from .making import check_every
+from .places import folder_of
 from .program import Program, find_program
 from .settings import Settings, read_settings
 from .sources import faults_of_sources
@@ -50,7 +54,7 @@ def print_rows(settings: Settings) -> int:
 
 
 def check(settings: Settings) -> int:
-    """Says of each bad row, label and source why, and counts the rows."""
+    """Says of each bad row, label, source and setting why, and counts the rows."""
     rows, lines, bad = read_table(settings.stations), [], 0
     for row, fault in faults_of_rows(settings):
         bad += bool(fault)
@@ -115,16 +119,29 @@ def notes_of(row: Row, rows: List[Row]) -> Iterator[str]:
     """What may be as it should, but is rare."""
     if not row.directory.is_dir():
         yield f"there is no folder {row.directory}"
-    others = {it.name9 for it in rows if it.directory == row.directory and it.name9 != row.name9 and it.number < row.number}
+    others = {it.name9 for it in rows if it.place == row.place and it.name9 != row.name9 and it.number < row.number}
     if others:
         yield f"{' '.join(sorted(others))} has the folder {row.directory} too"
 
 
 def faults_of_others(settings: Settings, rows: List[Row]) -> Iterator[Tuple[str, bool]]:
-    """What is wrong with lines of labels and sources, and whether it is a note alone."""
+    """What is wrong with settings and with lines of labels and sources, and whether it is a note alone."""
+    for setting in faults_of_settings(settings, rows):
+        yield f"setting: {setting}", False
     path = labels_beside(settings.stations)
     for number, fault in strays(path, rows):
         yield f"{path}:{number}: {fault}", False
     if settings.sources.exists():
         for number, fault, is_note in faults_of_sources(settings.sources, rows):
             yield f"{settings.sources}:{number}: {fault}", is_note
+
+
+def faults_of_settings(settings: Settings, rows: List[Row]) -> Iterator[str]:
+    """What is wrong with settings, so that each run would be refused."""
+    looks: List[Callable[[], object]] = [lambda: [row.msm(settings) for row in rows if not row.fault], lambda: check_every(settings),
+        lambda: folder_of(settings, Path(), 0), lambda: settings.leap_seconds, lambda: check_after(settings)]
+    for look in looks:
+        try:
+            look()
+        except Refused as fault:
+            yield str(fault)

@@ -219,7 +219,7 @@ def has_deleted(row: Row, rows: Sequence[Row], options: Options) -> bool:
     """Deletes the captures of a station that no file needs, or says why it can't; then the others are gone on with."""
     try:
         folder = read_folder(row)
-        paths = unneeded(folder, [it for it in rows if it.directory == row.directory] or [row], options)
+        paths = unneeded(folder, [it for it in rows if it.place == row.place], options)
         size = sum(path.stat().st_size for path in paths)
         if options.deletes:
             delete(folder, paths)

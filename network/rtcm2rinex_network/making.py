@@ -18,7 +18,7 @@ from .program import Program
 from .rinex import count_values, most_frequent_step, read_header
 from .settings import DAY, Settings
 from .table import Row
-from .times import Span, ms_of, text_of
+from .times import Span, interval_of, ms_of, text_of
 
 CHECKED = "valid: "
 
@@ -53,8 +53,9 @@ class Job:
 
     @property
     def every(self) -> str:
-        """The interval of the thinned file that is asked for; nothing if none is."""
-        return self.settings.get("EVERY")
+        """The interval of the thinned file that is asked for; nothing if none is, or if that of the file is no shorter."""
+        every = self.settings.get("EVERY")
+        return every if (ms_of(every) or 0) > self.row.interval_ms else ""
 
     def head(self) -> List[str]:
         """The lines of the list before the captures. If the row, the MSM or the label changes, the file is made anew."""
@@ -74,10 +75,17 @@ class Conversion:
     report: str = ""
 
 
-def seconds_of_thin(interval: str, own: str) -> int:
-    """The seconds of another interval than the station's own; 0 if it is the same or not in whole seconds."""
+def seconds_of_thin(interval: str) -> int:
+    """The seconds of an interval of a thinned file; 0 if they are not whole, or more than those of a day."""
     ms = ms_of(interval)
-    return ms // 1000 if ms and ms % 1000 == 0 and ms <= DAY * 1000 and interval != own else 0
+    return ms // 1000 if ms and ms % 1000 == 0 and ms <= DAY * 1000 else 0
+
+
+def check_every(settings: Settings) -> None:
+    """Refuses an interval that thinned files can't have."""
+    every = settings.get("EVERY")
+    if every and not seconds_of_thin(every):
+        raise Refused(f"EVERY={every} is no interval in whole seconds")
 
 
 def thins_of(job: Job, before: Record) -> List[Name]:
@@ -87,7 +95,7 @@ def thins_of(job: Job, before: Record) -> List[Name]:
         name = read_name(text)
         if not name or name.interval in wanted or not form_of(job.folder / text).exists():
             continue
-        if seconds_of_thin(name.interval, job.row.interval):
+        if seconds_of_thin(name.interval) and name.interval != job.row.interval:
             wanted.append(name.interval)
     return [job.name.with_interval(it) for it in wanted]
 
@@ -139,23 +147,24 @@ def convert(job: Job, captures: Sequence[Capture], before: Record, work: Path, i
     if not done.made[name].epochs:
         raise Refused(f"the captures have no epoch of this span{hint_of(done.report)}")
     step = most_frequent_step(work / name)
-    if step not in (None, row.interval_ms):
-        raise Refused(f"the interval is {step} ms, and not {row.interval}")
+    if step is not None and step != row.interval_ms:
+        raise Refused(f"the interval is {interval_of(step) or f'{step} ms'}, and the row has {row.interval}")
     if read_header(work / name).position is None:
         done.report += "position none\n"
     (work / f"{name}.report").write_text(done.report)
     for thin in thins_of(job, before):
-        seconds = seconds_of_thin(thin.interval, row.interval)
+        seconds = seconds_of_thin(thin.interval)
         done.made[str(thin)] = cut_out(job, work, str(thin), ["--every", str(seconds)])
     (work / "whole").unlink()
 
 
 def hint_of(report: str) -> str:
-    """What would help, if messages of another station came alone."""
-    foreign = count_of(report, "foreign")
-    if not foreign or count_of(report, "taken"):
+    """What would help, if nothing of the station was taken."""
+    if count_of(report, "taken") or not count_of(report, "frames"):
         return ""
-    return f": foreign {foreign}, so the row may have another number than the station"
+    if foreign := count_of(report, "foreign"):
+        return f": foreign {foreign}, so the row may have another number than the station"
+    return ": `rtcm2rinex summary` of a capture says which messages came"
 
 
 def cut_out(job: Job, work: Path, name: str, words: Sequence[str]) -> Made:

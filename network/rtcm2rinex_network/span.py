@@ -16,7 +16,7 @@ from .ends import Again, Ended, NoCaptures, Refused, Usage, say
 from .guards import MadeBy, New, captures_that_differ, faults_of, guard_captures, guard_words, has_lost_bytes, old_files
 from .labels import checked_options, find_label, labels_beside
 from .lists import Record, read_list
-from .making import Conversion, Job, convert, label_files, seconds_of_thin
+from .making import Conversion, Job, check_every, convert, label_files
 from .places import adopt, dated, form_of, is_compact
 from .placing import NOTES, UNREAD, give_to_owner, locked, make_folder, note_end, put, sync, work_folder, write_whole
 from .program import Program, find_program
@@ -35,9 +35,7 @@ def job_of(settings: Settings, word: str, start: str, length: str) -> Job:
     row = find_row(settings.stations, word, span.begin if span else time.time())
     if span is None:
         raise Refused(f"START is no begin of a span of {length}")
-    every = settings.get("EVERY")
-    if every and not seconds_of_thin(every, row.interval):
-        raise Refused("EVERY is no other interval in whole seconds")
+    check_every(settings)
     msm = row.msm(settings)
     program = Program(find_program(settings))
     version = program.version()

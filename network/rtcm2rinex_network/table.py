@@ -2,6 +2,7 @@
 
 from __future__ import annotations
 
+import os
 import re
 from dataclasses import dataclass
 from pathlib import Path
@@ -56,6 +57,11 @@ class Row:
     def interval_ms(self) -> int:
         """The interval in ms."""
         return ms_of(self.interval) or 0
+
+    @property
+    def place(self) -> str:
+        """Its directory without links, by which rows have the same one."""
+        return os.path.realpath(self.directory)
 
     def is_of(self, word: str) -> bool:
         """Whether this is its number or its name."""
