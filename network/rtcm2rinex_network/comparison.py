@@ -17,7 +17,7 @@ from .program import Program, fault_of, of_program
 from .rinex import cell_of, epochs_of, read_header
 
 COUNTS = re.compile(r"lost (\d+) changed (\d+) explained \d+", re.ASCII)
-EXPLAINED = re.compile(r"(more-)?explained ", re.ASCII)
+EXPLAINED, FINER = "explained ", "explained finer "
 
 
 class Unlike(Exception):
@@ -26,11 +26,12 @@ class Unlike(Exception):
 
 @dataclass(frozen=True)
 class Differences:
-    """What is lost and what has changed: how many there are of each, and the lines of those that `compare` lists."""
+    """What is lost and what has changed: how many there are of each, and the lines of those that `compare` lists; and whether values are in
+    other steps."""
 
-    lost: int
-    changed: int
+    counts: Dict[str, int]
     lines: Tuple[str, ...]
+    is_finer: bool
 
 
 def differences(program: Program, old: Path, new: Path) -> Differences:
@@ -40,7 +41,8 @@ def differences(program: Program, old: Path, new: Path) -> Differences:
     lines = ran.out.splitlines()
     counts = COUNTS.fullmatch(lines[0]) if lines and ran.status in (0, 3) else None
     if counts:
-        return Differences(int(counts[1]), int(counts[2]), tuple(it for it in lines[1:] if not EXPLAINED.match(it)))
+        worse = tuple(it for it in lines[1:] if not it.removeprefix("more-").startswith(EXPLAINED))
+        return Differences({"lost": int(counts[1]), "changed": int(counts[2])}, worse, any(it.startswith(FINER) for it in lines))
     if ran.status == 3 and not lines:
         raise Unlike(of_program(ran).partition(f"{plain}: ")[2] or of_program(ran))
     raise fault_of("compare", ran)

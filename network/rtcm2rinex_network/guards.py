@@ -54,12 +54,12 @@ class Old:
 
 @dataclass(frozen=True)
 class New:
-    """The new files: what was made, where that of the span lies now, what they were made by, and the text of the report."""
+    """The new files: what was made, where that of the span lies now, the text of the report, and whether captures lost bytes."""
 
     made: Dict[str, Made]
     path: Path
-    by: MadeBy
     report: str
+    lost_bytes: bool
 
 
 def old_files(path: Path, record: Record, intact: FrozenSet[str]) -> Old:
@@ -121,20 +121,28 @@ def guard_counts(name: str, listed: Made, new: Made) -> Iterator[str]:
         yield f"{name} had {listed.values} values, and would have {new.values}"
 
 
-def guard_records(program: Program, name: str, old: Path, new: Path, is_as_listed: bool) -> Iterator[str]:
+def guard_records(program: Program, name: str, old: Old, new: New) -> Iterator[str]:
     """A loss in one hour of a day may hide behind a gain in another, so `compare` looks at each value and mark. Codes and position have
     guards of their own. A new file that is as the list has it heals what a disk or a hand changed, so then only what is lost counts."""
+    path, is_as_listed = old.file(name), new.made[name] == old.made.get(name)
+    if path is None or (is_as_listed and name in old.intact):
+        return
+    now = new.path.with_name(name)
     try:
-        found = differences(program, old, new)
+        found = differences(program, path, now)
     except Unlike as fault:
-        if not is_as_listed or count_epochs(old) > count_epochs(new) or count_values(old) > count_values(new):
+        if not is_as_listed or count_epochs(path) > count_epochs(now) or count_values(path) > count_values(now):
             yield f"{name} was changed, and can't be compared: {fault}"
         return
-    lines = [it for it in found.lines if not OF_OTHER_GUARDS.fullmatch(it)]
     others = [it for it in found.lines if OF_OTHER_GUARDS.fullmatch(it)]
-    lost, changed = found.lost - sum(it.startswith("lost") for it in others), found.changed - sum(it.startswith("changed") for it in others)
+    lines = [it for it in found.lines if it not in others]
+    lost, changed = (count - sum(it.startswith(kind) for it in others) for kind, count in found.counts.items())
     if lost or (changed and not is_as_listed):
         yield "\n".join([f"{name} would be worse: lost {lost} changed {changed}, the first is {lines[0]}", *lines])
+    if found.is_finer and old.by.msm is None:
+        yield f"{name} has no list, and the new one has values in other steps: nobody knows whether they are coarser"
+    if new.lost_bytes:
+        yield from guard_first_slips(name, path, now)
 
 
 def guard_first_slips(name: str, old: Path, new: Path) -> Iterator[str]:
@@ -172,7 +180,7 @@ def has_lost_bytes(before: Dict[str, Sum], found: Dict[str, Sum]) -> bool:
     return any(name in before and before[name] != it and it.size <= before[name].size for name, it in found.items())
 
 
-def faults_of(program: Program, old: Old, new: New, lost_bytes: bool) -> Iterator[str]:
+def faults_of(program: Program, old: Old, new: New) -> Iterator[str]:
     """Why the records of the new files would be worse than those of before. The first name in `made` is that of the file of the span, and
     thinned ones follow. A thinned file is cut out of the file of the span, and so are its slips, so while both are there as they were
     made that file alone is compared."""
@@ -181,14 +189,10 @@ def faults_of(program: Program, old: Old, new: New, lost_bytes: bool) -> Iterato
         yield from guard_position(name, old.header, read_header(new.path))
         yield from guard_conflicts(name, old.report, new.report)
     for file, it in new.made.items():
-        listed, path = old.made.get(file), old.file(file)
-        if listed:
+        if listed := old.made.get(file):
             yield from guard_counts(file, listed, it)
-        is_there = it == listed and file in old.intact
-        if path and not is_there and (file == name or not {name, file} <= old.intact):
-            yield from guard_records(program, file, path, new.path.with_name(file), it == listed)
-            if lost_bytes:
-                yield from guard_first_slips(file, path, new.path.with_name(file))
+        if file == name or not {name, file} <= old.intact:
+            yield from guard_records(program, file, old, new)
 
 
 def captures_that_differ(before: Record, now: Record) -> List[str]:

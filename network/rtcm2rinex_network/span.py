@@ -233,7 +233,7 @@ class Run:
         convert(job, self.found.captures, self.before, work, is_made, done)
         label_files(job, work, done)
         lost_bytes = bool(self.now.unread) or has_lost_bytes(self.before.captures, self.now.captures)
-        self.judge(faults_of(job.program, old, New(done.made, work / name, by, done.report), lost_bytes), done)
+        self.judge(faults_of(job.program, old, New(done.made, work / name, done.report, lost_bytes)), done)
         self.now.made = done.made
         self.now.report = sum_of(work / f"{name}.report")
         every = [file.split("_")[4] for file in list(done.made)[1:]]

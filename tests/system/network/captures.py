@@ -17,7 +17,7 @@ that of its end. Kinds:
     jump      ranges of the 1074 of 12:05:00 that are 35 m longer
     steady    no slip at 12:03:30, at which G08 has one
     gap       no epoch from 12:16:30 to 12:29:00, longer than a 1074 tells of lock
-    1077      a 1077 after each 1074, of the same satellites and codes, whose values are others
+    1077      a 1077 after each 1074, of the same cells, whose phases are greater by a quarter of a step of the 1074
 
 The epochs of jump, steady and gap are those of captures from 11:00 on, every 30 s. A 1004 and a 1074 of an epoch have the same ranges,
 phases and slips of the code 1C, in their own units.
@@ -35,7 +35,7 @@ from pathlib import Path
 sys.path.insert(0, str(Path(__file__).resolve().parents[2] / "model"))
 
 from streams import SATELLITES, STATION, legacy, msm, point  # noqa: E402
-from wire import WEEK_MS, frame_of, payload_of  # noqa: E402
+from wire import WEEK_MS, Message, frame_of, payload_of  # noqa: E402
 
 GPS_BEGIN = calendar.timegm((1980, 1, 6, 0, 0, 0))
 LEAP_SECONDS = 18
@@ -45,6 +45,7 @@ FRACTIONS, FINE = 1 << 10, 1 << 29  # steps of a millisecond, of the rough range
 RANGE, PHASE = 0.02, 0.0005  # m, of the units of DF011 and DF012
 ROLL = 732_631  # 1,500 cycles of L2 in units of DF018
 DRIFT = 31_000  # of a phase from epoch to epoch, in the same units
+LONGEST_LOCK = 704  # DF407
 STEADY, JUMP, GAP = 127, 130, range(153, 179)  # numbers of epochs
 
 
@@ -58,6 +59,14 @@ def same_place(satellite: int, fine: int) -> tuple[int, int]:
     rough = 12 * satellite * LIGHT_MS / FRACTIONS  # as `msm` has it
     code = round(rough / RANGE)
     return code, round((rough + fine * LIGHT_MS / FINE - code * RANGE) / PHASE)
+
+
+def finer(newer: Message, finest: Message) -> Message:
+    """A 1077 with nearly the values of a 1074, in its own units."""
+    for old, new in zip(newer.cells, finest.cells):
+        new.update(fine_range=32 * old["fine_range"], fine_phase=4 * old["fine_phase"] + 1, cnr=16 * old["cnr"])
+        new["lock"] = LONGEST_LOCK if old["lock"] else 0
+    return finest
 
 
 def frames(begin: int, count: int, interval: int, kinds: set[str]) -> Iterator[tuple[float, bytes]]:
@@ -94,7 +103,7 @@ def frames(begin: int, count: int, interval: int, kinds: set[str]) -> Iterator[t
             if (is_first or at % 37 == rank) if is_5x else older.satellites[rank // 2]["l1_lock"] == 0:
                 cell["lock"] = 0
         messages = ([reference] if at % 20 == 0 else []) + [older, newer]
-        messages += [msm(tow, seen, number=1077)] if "1077" in kinds else []
+        messages += [finer(newer, msm(tow, seen, number=1077))] if "1077" in kinds else []
         for message in messages:
             yield seconds + DELAY, frame_of(payload_of(message))
 
