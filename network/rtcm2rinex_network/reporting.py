@@ -69,7 +69,8 @@ def for_programs(stations: Sequence[Station], faults: Sequence[str], clock: Cloc
             "expected": file.expected, "position": file.has_position, "counts": file.counts, "links": file.links,
             "unread": list(file.unread)} for file in it.files]
         windows = [{"window": window.window, "span": window.length, "due": window.due, "made": window.made, "epochs": window.epochs,
-            "expected": window.expected, "missing": [span.start for span in window.missing]} for window in it.windows]
+            "expected": window.expected, "missing": [span.start for span in window.missing],
+            "old": [span.start for span in window.old]} for window in it.windows]
         alarms = [{"alarm": alarm.kind, "text": alarm.text} for alarm in it.alarms]
         told.append({"station": it.row.name9, "number": int(it.row.station), "links": links, "files": files, "windows": windows,
             "not_made": it.not_made, "alarms": alarms})
