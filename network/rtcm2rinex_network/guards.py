@@ -37,19 +37,29 @@ class MadeBy:
 @dataclass(frozen=True)
 class Old:
     """The files of before: what the list says that was made, and which of these are there with the bytes with which they were made;
-    where the file of the span lies, if it is there and can be read; what it was made by, its header, and the text of its report."""
+    where the file of the span gets to, and whether it is there and can be read; what it was made by, its header, and the text of its
+    report."""
 
     made: Dict[str, Made]
     intact: FrozenSet[str]
-    path: Optional[Path]
+    path: Path
+    is_there: bool
     by: MadeBy
     header: Header
     report: str
 
     def file(self, name: str) -> Optional[Path]:
         """Where a file lies, if it and that of the span are there and can be read."""
-        form = form_of(self.path.with_name(name)) if self.path else None
-        return form if form and form.is_file() and not is_compact(form) else None
+        form = form_of(self.path.with_name(name))
+        return form if self.is_there and form.is_file() and not is_compact(form) else None
+
+    def is_same(self, name: str, made: Made) -> bool:
+        """Whether a file is there as it is made now."""
+        return name in self.intact and made == self.made[name]
+
+    def is_cut(self, name: str) -> bool:
+        """Whether a thinned file was cut out of the file of the span that is there. So are its slips, and the other file is compared."""
+        return self.is_there and name != self.path.name and {name, self.path.name} <= self.intact
 
 
 @dataclass(frozen=True)
@@ -74,7 +84,7 @@ def old_files(path: Path, record: Record, intact: FrozenSet[str]) -> Old:
     if used and not (is_there and path.name in intact):
         fields.update({**fields_of_options(options_of(used.label) or []), "marker": used.marker})
     by = MadeBy(used.station if used else None, used.msm if used else None, used.codes if used else header.codes, fields)
-    return Old(record.made, intact, path if is_there else None, by, header, text)
+    return Old(record.made, intact, path, is_there, by, header, text)
 
 
 def guard_captures(before: Dict[str, Sum], found: Dict[str, Sum], unread: Set[str]) -> Iterator[str]:
@@ -113,6 +123,14 @@ def is_same_field(old: str, new: str) -> bool:
     return old == new or bool(re.fullmatch(r"[+-]0\.0000", old))
 
 
+def guard_compact(old: Old, made: Dict[str, Made]) -> Iterator[str]:
+    """A file that can't be read here can't be compared with a new one."""
+    for name, it in made.items():
+        form = form_of(old.path.with_name(name))
+        if is_compact(form) and not old.is_same(name, it) and not old.is_cut(name):
+            yield f"{form.name} can't be read here, so nobody knows whether the new file is worse"
+
+
 def guard_counts(name: str, listed: Made, new: Made) -> Iterator[str]:
     """A file that was moved away is compared by what its list counts."""
     if new.epochs < listed.epochs:
@@ -124,10 +142,10 @@ def guard_counts(name: str, listed: Made, new: Made) -> Iterator[str]:
 def guard_records(program: Program, name: str, old: Old, new: New) -> Iterator[str]:
     """A loss in one hour of a day may hide behind a gain in another, so `compare` looks at each value and mark. Codes and position have
     guards of their own. A new file that is as the list has it heals what a disk or a hand changed, so then only what is lost counts."""
-    path, is_as_listed = old.file(name), new.made[name] == old.made.get(name)
-    if path is None or (is_as_listed and name in old.intact):
+    path, now = old.file(name), new.path.with_name(name)
+    if path is None:
         return
-    now = new.path.with_name(name)
+    is_as_listed = new.made[name] == old.made.get(name)
     try:
         found = differences(program, path, now)
     except Unlike as fault:
@@ -181,18 +199,15 @@ def has_lost_bytes(before: Dict[str, Sum], found: Dict[str, Sum]) -> bool:
 
 
 def faults_of(program: Program, old: Old, new: New) -> Iterator[str]:
-    """Why the records of the new files would be worse than those of before. The first name in `made` is that of the file of the span, and
-    thinned ones follow. A thinned file is cut out of the file of the span, and so are its slips, so while both are there as they were
-    made that file alone is compared."""
-    name = next(iter(new.made))
-    if old.path:
-        yield from guard_position(name, old.header, read_header(new.path))
-        yield from guard_conflicts(name, old.report, new.report)
-    for file, it in new.made.items():
-        if listed := old.made.get(file):
-            yield from guard_counts(file, listed, it)
-        if file == name or not {name, file} <= old.intact:
-            yield from guard_records(program, file, old, new)
+    """Why the records of the new files would be worse than those of before."""
+    if old.is_there:
+        yield from guard_position(old.path.name, old.header, read_header(new.path))
+        yield from guard_conflicts(old.path.name, old.report, new.report)
+    for name, it in new.made.items():
+        if listed := old.made.get(name):
+            yield from guard_counts(name, listed, it)
+        if not old.is_same(name, it) and not old.is_cut(name):
+            yield from guard_records(program, name, old, new)
 
 
 def captures_that_differ(before: Record, now: Record) -> List[str]:

@@ -50,10 +50,14 @@ def names_below(rinex: Path) -> List[str]:
     return sorted(name for folder in folders_below(rinex) for name in os.listdir(folder))
 
 
+def compact_forms(path: Path) -> List[Path]:
+    """The names that a file has if it is compact."""
+    return [*(path.with_name(path.name[:-len(".rnx")] + end) for end in COMPACT), path.with_name(f"{path.name}.crx.gz")]
+
+
 def form_of(path: Path) -> Path:
     """A file as it is there: plain, as NAME.gz, or compact; else its plain name."""
-    forms = [path, path.with_name(f"{path.name}.gz"), *(path.with_name(path.name[:-len(".rnx")] + end) for end in COMPACT),
-        path.with_name(f"{path.name}.crx.gz")]
+    forms = [path, path.with_name(f"{path.name}.gz"), *compact_forms(path)]
     return next((it for it in forms if it.is_file()), path)
 
 

@@ -13,11 +13,11 @@ from typing import BinaryIO, Dict, Iterator, List, Optional, Sequence
 from .after import call_after, note_after
 from .captures import Capture, Sum, Unread, find_captures, is_old, look_at, sum_of
 from .ends import Again, Ended, NoCaptures, Refused, Usage, say
-from .guards import MadeBy, New, captures_that_differ, faults_of, guard_captures, guard_words, has_lost_bytes, old_files
+from .guards import MadeBy, New, captures_that_differ, faults_of, guard_captures, guard_compact, guard_words, has_lost_bytes, old_files
 from .labels import checked_options, find_label, labels_beside
 from .lists import Record, read_list
 from .making import Conversion, Job, check_every, convert, label_files
-from .places import adopt, dated, form_of, is_compact
+from .places import adopt, compact_forms, dated, form_of, is_compact
 from .placing import NOTES, UNREAD, give_to_owner, locked, make_folder, note_end, put, sync, work_folder, write_whole
 from .program import Program, find_program
 from .settings import Settings
@@ -211,7 +211,6 @@ class Run:
                 self.judge(guard_captures(self.before.captures, self.now.captures, self.now.unread), done)
                 if not has_own(job, self.captures):
                     raise NoCaptures(f"no captures for {job.name}")
-                self.judge(self.guard_compact(), done, False)
                 self.make(work, is_made, done)
         except Refused as end:
             end.report = done.report
@@ -233,17 +232,13 @@ class Run:
         convert(job, self.found.captures, self.before, work, is_made, done)
         label_files(job, work, done)
         lost_bytes = bool(self.now.unread) or has_lost_bytes(self.before.captures, self.now.captures)
+        self.judge(guard_compact(old, done.made), done, False)
         self.judge(faults_of(job.program, old, New(done.made, work / name, done.report, lost_bytes)), done)
         self.now.made = done.made
         self.now.report = sum_of(work / f"{name}.report")
         every = [file.split("_")[4] for file in list(done.made)[1:]]
         self.now.used = f"msm {job.msm} window {job.row.window} codes {job.row.codes} every {','.join(every) or '-'}"
         self.put_in_place(work)
-
-    def guard_compact(self) -> Iterator[str]:
-        """A file that can't be read here can't be compared with a new one."""
-        if is_compact(it := self.form(str(self.job.name))):
-            yield f"{it.name} can't be read here, so nobody knows whether the new file is worse"
 
     def judge(self, faults: Iterator[str], done: Conversion, may_be_excused: bool = True) -> None:
         """Refuses a worse file, or with FORCE says why it is worse. The lists of both are shown where they differ, and noted whole. A
@@ -304,27 +299,33 @@ class Run:
     def put_in_place(self, work: Path) -> None:
         """Gives the files their names, the list first. So whatever ends this run, the list has at least the captures of the file that is
         there, and the next run finds that the sum of the file is another one, and makes it. The list is the lock too, so the new one is
-        locked before it gets its name, and held until this run ends."""
-        folder, name = self.job.folder, str(self.job.name)
+        locked before it gets its name, and held until this run ends. A compact file stays where nothing changed."""
+        folder, name, made = self.job.folder, str(self.job.name), self.now.made
         self.now.seen = self.seen_now([capture.seen_name for capture in self.captures])
         self.write_list(work / "captures")
-        made = self.now.made
-        forms = {file: folder / file if is_compact(self.form(file)) else self.form(file) for file in made}
-        new = [folder / file for file, it in made.items()
-            if not it.is_none and not (self.before.made.get(file) == it and self.is_intact(file))]
+        new = [file for file, it in made.items() if not (self.before.made.get(file) == it and self.is_intact(file))]
+        stay = [file for file in made if file not in new and is_compact(self.form(file))]
         self.held = open(work / "captures", "ab")
         fcntl.flock(self.held, fcntl.LOCK_EX | fcntl.LOCK_NB)
         os.replace(work / "captures", self.record)
         sync(folder)
-        note_after(self.job.settings, new)
-        for file, it in list(made.items())[1:]:
-            if it.is_none:
-                forms[file].unlink(missing_ok=True)
-            else:
-                put(work / file, forms[file])
+        note_after(self.job.settings, [folder / file for file in new if not made[file].is_none])
         put(work / f"{name}.report", folder / f"{name}.report")
-        put(work / name, forms[name])
+        for file in [*list(made)[1:], name]:
+            if file not in stay:
+                self.put_file(work, file)
         sync(folder)
+
+    def put_file(self, work: Path, file: str) -> None:
+        """Gives a file its name in the form in which it is there, but plain in the place of a compact one. One without epochs goes."""
+        form, plain = self.form(file), self.job.folder / file
+        place = plain if is_compact(form) else form
+        if self.now.made[file].is_none:
+            place.unlink(missing_ok=True)
+        else:
+            put(work / file, place)
+        for compact in compact_forms(plain):
+            compact.unlink(missing_ok=True)
 
 
 def what_of(job: Job) -> str:
