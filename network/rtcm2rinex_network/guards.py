@@ -64,11 +64,13 @@ class Old:
 
 @dataclass(frozen=True)
 class New:
-    """The new files: what was made, where that of the span lies now, the text of the report, and whether captures lost bytes."""
+    """The new files: what was made, where that of the span lies now, the text of the report, whether all is as in the list of before from
+    which they were made, and whether captures lost bytes."""
 
     made: Dict[str, Made]
     path: Path
     report: str
+    is_of_list: bool
     lost_bytes: bool
 
 
@@ -141,21 +143,20 @@ def guard_counts(name: str, listed: Made, new: Made) -> Iterator[str]:
 
 def guard_records(program: Program, name: str, old: Old, new: New) -> Iterator[str]:
     """A loss in one hour of a day may hide behind a gain in another, so `compare` looks at each value and mark. Codes and position have
-    guards of their own. A new file that is as the list has it heals what a disk or a hand changed, so then only what is lost counts."""
+    guards of their own. A file that is made once more from the same heals what a disk or a hand changed, so only what is lost counts."""
     path, now = old.file(name), new.path.with_name(name)
     if path is None:
         return
-    is_as_listed = new.made[name] == old.made.get(name)
     try:
         found = differences(program, path, now)
     except Unlike as fault:
-        if not is_as_listed or count_epochs(path) > count_epochs(now) or count_values(path) > count_values(now):
+        if not new.is_of_list or count_epochs(path) > count_epochs(now) or count_values(path) > count_values(now):
             yield f"{name} was changed, and can't be compared: {fault}"
         return
     others = [it for it in found.lines if OF_OTHER_GUARDS.fullmatch(it)]
     lines = [it for it in found.lines if it not in others]
     lost, changed = (count - sum(it.startswith(kind) for it in others) for kind, count in found.counts.items())
-    if lost or (changed and not is_as_listed):
+    if lost or (changed and not new.is_of_list):
         yield "\n".join([f"{name} would be worse: lost {lost} changed {changed}, the first is {lines[0]}", *lines])
     if found.is_finer and old.by.msm is None:
         yield f"{name} has no list, and the new one has values in other steps: nobody knows whether they are coarser"

@@ -231,9 +231,10 @@ class Run:
         self.judge(guard_words(name, old, by), done, False)
         convert(job, self.found.captures, self.before, work, is_made, done)
         label_files(job, work, done)
-        lost_bytes = bool(self.now.unread) or has_lost_bytes(self.before.captures, self.now.captures)
         self.judge(guard_compact(old, done.made), done, False)
-        self.judge(faults_of(job.program, old, New(done.made, work / name, done.report, lost_bytes)), done)
+        lost_bytes = bool(self.now.unread) or has_lost_bytes(self.before.captures, self.now.captures)
+        new = New(done.made, work / name, done.report, self.now.source() == self.before.source(), lost_bytes)
+        self.judge(faults_of(job.program, old, new), done)
         self.now.made = done.made
         self.now.report = sum_of(work / f"{name}.report")
         every = [file.split("_")[4] for file in list(done.made)[1:]]
