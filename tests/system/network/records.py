@@ -1,4 +1,5 @@
-"""What the scripts read in the records of files themselves: which slips at first phases a new file lacks, and the step from epoch to epoch.
+"""What the scripts read in the records of files themselves: which slips at first phases a new file lacks, and the step from epoch to epoch;
+and what they take from an answer of `compare`.
 
 A file is written as cells: a time in seconds, a satellite, and for each of its codes 1C and 2W the phase with its loss-of-lock digit, or a
 - for a code without a phase. What is due was worked out by hand. The last line is 'N passed, M failed'.
@@ -12,7 +13,9 @@ from pathlib import Path
 
 sys.path.insert(0, str(Path(__file__).resolve().parents[3] / "network"))
 
-from rtcm2rinex_network.comparison import lost_first_slips  # noqa: E402
+from rtcm2rinex_network.comparison import Unlike, differences, lost_first_slips  # noqa: E402
+from rtcm2rinex_network.ends import Again, Refused  # noqa: E402
+from rtcm2rinex_network.program import Program, Ran  # noqa: E402
 from rtcm2rinex_network.rinex import most_frequent_step  # noqa: E402
 
 HEADER = "G    6 C1C L1C S1C C2W L2W S2W ".ljust(60) + "SYS / # / OBS TYPES\n" + " " * 60 + "END OF HEADER\n"
@@ -56,8 +59,51 @@ ROWS = [
 STEPS = [([0], None), ([0, 30], 30_000), ([0, 1, 21, 41], 20_000), ([0, 30, 31, 32], 1_000), ([0, 30, 31], 1_000), ([0, 1, 31], 1_000)]
 
 
+# Of each row: the status of `compare`, its two texts, and what the scripts take from it: counts, lines, and whether values are in other
+# steps; or how the run ends.
+ANSWERS = [
+    (0, "lost 0 changed 0 explained 0\n", "", "0 0 () False"),
+    (0, "lost 0 changed 0 explained 1\nexplained finer 12:00\n", "", "0 0 () True"),
+    (0, "lost 0 changed 0 explained 101\nexplained roll 12:00\nmore-explained 100\n", "", "0 0 () False"),
+    (3, "lost 2 changed 0 explained 1\nlost epoch 12:00\nlost epoch 12:01\nexplained roll 12:02\n", "",
+        "2 0 ('lost epoch 12:00', 'lost epoch 12:01') False"),
+    (3, "lost 101 changed 1 explained 0\nlost slip 12:00\nmore-lost 100\nchanged marker\n", "",
+        "101 1 ('lost slip 12:00', 'more-lost 100', 'changed marker') False"),
+    (3, "", "rtcm2rinex: old: line 12: C1 HeaderLine\n", "Unlike line 12: C1 HeaderLine"),
+    (1, "", "rtcm2rinex: out of memory\n", "Again compare: out of memory"),
+    (1, "lost 0 changed 0 explained 0\n", "rtcm2rinex: write failed\n", "Again compare: write failed"),
+    (2, "", "error: unrecognized subcommand 'compare'\n", "Refused compare: error: unrecognized subcommand 'compare'"),
+    (0, "", "", "Again compare: ended with status 0"),
+    (137, "lost 0", "", "Again compare: ended with status 137"),
+]
+
+
+class Answering(Program):
+    """A program that gives one answer."""
+
+    def __init__(self, answer: Ran) -> None:
+        super().__init__("")
+        self.answer = answer
+
+    def ran(self, *_: object) -> Ran:
+        return self.answer
+
+
+def taken(answer: Ran) -> str:
+    """What the scripts take from an answer."""
+    try:
+        it = differences(Answering(answer), Path("old"), Path("new"))
+    except (Unlike, Again, Refused) as end:
+        return f"{type(end).__name__} {end}"
+    return f"{it.counts['lost']} {it.counts['changed']} {it.lines} {it.is_finer}"
+
+
 def main() -> int:
     failed = 0
+    for status, out, told, due in ANSWERS:
+        got, name = taken(Ran(status, out, told)), f"status {status} with {out + told!r}"
+        failed += got != due
+        print(f"{'ok' if got == due else 'FAILED'} {name}" + ("" if got == due else f": {got}, and not {due}"))
     with tempfile.TemporaryDirectory() as folder:
         for name, old, new, places in ROWS:
             due = [f"2024 05 17 12 00 {int(it.split()[0]):2}.0000000 {it.partition(' ')[2]}" for it in places]
@@ -68,7 +114,7 @@ def main() -> int:
             found = most_frequent_step(file_of(Path(folder), "steps", {it: [NONE] for it in seconds}))
             failed += found != step
             print(f"{'ok' if found == step else 'FAILED'} the step of {seconds}" + ("" if found == step else f": {found}, and not {step}"))
-    print(f"{len(ROWS) + len(STEPS) - failed} passed, {failed} failed")
+    print(f"{len(ANSWERS) + len(ROWS) + len(STEPS) - failed} passed, {failed} failed")
     return failed
 
 
