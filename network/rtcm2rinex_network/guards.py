@@ -21,6 +21,7 @@ MOST_METRES = 1.0  # of a position that comes from the same antenna
 MOST_CONFLICTS = 0.01  # of the messages that were taken
 CONFLICT = re.compile(r"(?m)^link \d+ conflict \d+ (?:-|\S+ \S+)", re.ASCII)
 OF_OTHER_GUARDS = re.compile(r"lost code \S+|(lost|changed) position", re.ASCII)  # lines of `compare`
+OF_WHOLE_FILE = re.compile(r"lost slip .*", re.ASCII)  # also a line of `compare`
 
 
 @dataclass(frozen=True)
@@ -143,7 +144,8 @@ def guard_counts(name: str, listed: Made, new: Made) -> Iterator[str]:
 
 def guard_records(program: Program, name: str, old: Old, new: New) -> Iterator[str]:
     """A loss in one hour of a day may hide behind a gain in another, so `compare` looks at each value and mark. Codes and position have
-    guards of their own. A file that is made once more from the same heals what a disk or a hand changed, so only what is lost counts."""
+    guards of their own. A file that is made once more from the same heals what a disk or a hand changed, so only what is lost counts.
+    A slip of a thinned file is one of the file of the span, which has the phases that explain it."""
     path, now = old.file(name), new.path.with_name(name)
     if path is None:
         return
@@ -153,14 +155,15 @@ def guard_records(program: Program, name: str, old: Old, new: New) -> Iterator[s
         if not new.is_of_list or count_epochs(path) > count_epochs(now) or count_values(path) > count_values(now):
             yield f"{name} was changed, and can't be compared: {fault}"
         return
-    others = [it for it in found.lines if OF_OTHER_GUARDS.fullmatch(it)]
+    is_thin = name != old.path.name
+    others = [it for it in found.lines if OF_OTHER_GUARDS.fullmatch(it) or (is_thin and OF_WHOLE_FILE.fullmatch(it))]
     lines = [it for it in found.lines if it not in others]
     lost, changed = (count - sum(it.startswith(kind) for it in others) for kind, count in found.counts.items())
     if lost or (changed and not new.is_of_list):
         yield "\n".join([f"{name} would be worse: lost {lost} changed {changed}, the first is {lines[0]}", *lines])
     if found.is_finer and old.by.msm is None:
         yield f"{name} has no list, and the new one has values in other steps: nobody knows whether they are coarser"
-    if new.lost_bytes:
+    if new.lost_bytes and not is_thin:
         yield from guard_first_slips(name, path, now)
 
 
