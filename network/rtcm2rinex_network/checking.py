@@ -4,14 +4,12 @@ from __future__ import annotations
 
 import sys
 import time
-from pathlib import Path
-from typing import Callable, Dict, Iterator, List, Optional, Sequence, Tuple
+from typing import Dict, Iterator, List, Optional, Sequence, Tuple
 
 from .after import check_after
 from .ends import DONE, REFUSED, Ended, Refused, Usage
 from .labels import Label, checked_options, labels_beside, read_labels, strays
 from .making import check_every
-from .places import folder_of
 from .program import Program, find_program
 from .settings import Settings, read_settings
 from .sources import faults_of_sources
@@ -126,7 +124,7 @@ def notes_of(row: Row, rows: List[Row]) -> Iterator[str]:
 
 def faults_of_others(settings: Settings, rows: List[Row]) -> Iterator[Tuple[str, bool]]:
     """What is wrong with settings and with lines of labels and sources, and whether it is a note alone."""
-    for setting in faults_of_settings(settings, rows):
+    for setting in faults_of_settings(settings):
         yield f"setting: {setting}", False
     path = labels_beside(settings.stations)
     for number, fault in strays(path, rows):
@@ -136,12 +134,11 @@ def faults_of_others(settings: Settings, rows: List[Row]) -> Iterator[Tuple[str,
             yield f"{settings.sources}:{number}: {fault}", is_note
 
 
-def faults_of_settings(settings: Settings, rows: List[Row]) -> Iterator[str]:
-    """What is wrong with settings, so that each run would be refused."""
-    looks: List[Callable[[], object]] = [lambda: [row.msm(settings) for row in rows if not row.fault], lambda: check_every(settings),
-        lambda: folder_of(settings, Path(), 0), lambda: settings.leap_seconds, lambda: check_after(settings)]
-    for look in looks:
+def faults_of_settings(settings: Settings) -> Iterator[str]:
+    """What is wrong with settings, so that runs would be refused."""
+    yield from settings.faults()
+    for look in (check_every, check_after):
         try:
-            look()
+            look(settings)
         except Refused as fault:
             yield str(fault)

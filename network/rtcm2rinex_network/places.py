@@ -10,21 +10,16 @@ import time
 from pathlib import Path
 from typing import BinaryIO, Iterator, List, Optional
 
-from .ends import Refused
 from .names import Name, read_name
 from .placing import make_folder
 from .settings import Settings
 
-FLAT, DATED = "flat", "year/day"
 COMPACT = (".crx.gz", ".crx")  # in place of .rnx: the form of Hatanaka, which can't be read here
 
 
 def folder_of(settings: Settings, rinex: Path, begin: int) -> Path:
     """The folder of the files of a span that begins then."""
-    layout = settings.get("LAYOUT", FLAT)
-    if layout not in (FLAT, DATED):
-        raise Refused(f"LAYOUT is not {FLAT} or {DATED}")
-    return dated(rinex, begin) if layout == DATED else rinex
+    return dated(rinex, begin) if settings.word("LAYOUT", "flat") == "year/day" else rinex
 
 
 def dated(rinex: Path, begin: int) -> Path:

@@ -51,7 +51,7 @@ def write_whole(path: Path, text: str) -> None:
         raise Refused(f"{path} is no regular file, and is not replaced")
     new = path.with_name(f".{path.name}.{os.getpid()}")
     try:
-        new.write_text(text, errors="surrogateescape")
+        new.write_text(text, encoding="utf-8", errors="surrogateescape")
         os.replace(new, path)
     except OSError:
         new.unlink(missing_ok=True)

@@ -265,11 +265,17 @@ class Run:
 
     # ------------------------------------------------------------ what is written
 
-    def write_list(self, path: Path) -> None:
-        """Writes the list of now, with what `stat` said of files whose times are old enough."""
-        path.write_text(self.now.text(), errors="surrogateescape")
+    def put_list(self, work: Path) -> None:
+        """Puts the list of now in the place of that of before. The list is the lock too, so the new one is locked before it gets its name,
+        and held until this run ends."""
+        path = work / "captures"
+        path.write_text(self.now.text(), encoding="utf-8", errors="surrogateescape")
         sync(path)
         give_to_owner(path, self.job.folder)
+        held = open(path, "ab")
+        fcntl.flock(held, fcntl.LOCK_EX | fcntl.LOCK_NB)
+        os.replace(path, self.record)
+        self.held = held
 
     def seen_now(self, names: Sequence[str]) -> Dict[str, str]:
         """What the list notes of these files."""
@@ -284,8 +290,7 @@ class Run:
             return
         try:
             with work_folder(self.job.folder, str(self.job.name)) as work:
-                self.write_list(work / "captures")
-                os.replace(work / "captures", self.record)
+                self.put_list(work)
         except (OSError, Ended):
             pass
 
@@ -299,16 +304,12 @@ class Run:
 
     def put_in_place(self, work: Path) -> None:
         """Gives the files their names, the list first. So whatever ends this run, the list has at least the captures of the file that is
-        there, and the next run finds that the sum of the file is another one, and makes it. The list is the lock too, so the new one is
-        locked before it gets its name, and held until this run ends. A compact file stays where nothing changed."""
+        there, and the next run finds that the sum of the file is another one, and makes it. A compact file stays where nothing changed."""
         folder, name, made = self.job.folder, str(self.job.name), self.now.made
         self.now.seen = self.seen_now([capture.seen_name for capture in self.captures])
-        self.write_list(work / "captures")
         new = [file for file, it in made.items() if not (self.before.made.get(file) == it and self.is_intact(file))]
         stay = [file for file in made if file not in new and is_compact(self.form(file))]
-        self.held = open(work / "captures", "ab")
-        fcntl.flock(self.held, fcntl.LOCK_EX | fcntl.LOCK_NB)
-        os.replace(work / "captures", self.record)
+        self.put_list(work)
         sync(folder)
         note_after(self.job.settings, [folder / file for file in new if not made[file].is_none])
         put(work / f"{name}.report", folder / f"{name}.report")

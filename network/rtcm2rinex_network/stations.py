@@ -9,7 +9,7 @@ from pathlib import Path
 from typing import Dict, FrozenSet, Iterator, List, Optional, Set, Tuple
 
 from .ends import Ended
-from .lists import Record, list_of
+from .lists import MADE, Record, list_of
 from .names import LINKS, Name, capture_name, hour_of_capture, read_name
 from .places import folder_with, names_below
 from .placing import NOTES, UNREAD, failures
@@ -288,8 +288,10 @@ class Station:
 def list_if_made(folder: Path, name: Name) -> Optional[Listed]:
     """What the list of a file says; None if the file is not made. Many lists are looked at, and this alone is read of them."""
     text = text_if_there(folder_with(folder, name) / f"{name}.captures")
-    at = text.find(f"\nmade {name} ")
-    return Listed(int(text[at:].split(maxsplit=4)[3]), frozenset(CAPTURE.findall(text, 0, at))) if at >= 0 else None
+    at = text.find(f"\nmade {name} ") + 1
+    line, is_whole, _ = text[at:].partition("\n")
+    made = MADE.fullmatch(line) if is_whole else None
+    return Listed(int(made[3]), frozenset(CAPTURE.findall(text, 0, at))) if made else None
 
 
 def captures_in(folder: Path) -> List[str]:

@@ -69,10 +69,7 @@ class Row:
 
     def msm(self, settings: Settings) -> str:
         """Which MSM is converted beside 1004: the number in the row, else that of the settings."""
-        msm = self.own_msm if self.own_msm is not None else settings.get("MSM", "4")
-        if not re.fullmatch("[4-7]", msm):
-            raise Refused("MSM is not 4, 5, 6 or 7")
-        return msm
+        return self.own_msm if self.own_msm is not None else settings.word("MSM", "4")
 
 
 def lines_of_table(path: Path) -> Iterator[Tuple[int, str]]:
