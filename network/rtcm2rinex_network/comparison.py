@@ -43,8 +43,9 @@ def differences(program: Program, old: Path, new: Path) -> Differences:
     if counts:
         worse = tuple(it for it in lines[1:] if not it.removeprefix("more-").startswith(EXPLAINED))
         return Differences({"lost": int(counts[1]), "changed": int(counts[2])}, worse, any(it.startswith(FINER) for it in lines))
-    if ran.status == 3 and not lines:
-        raise Unlike(of_program(ran).partition(f"{plain}: ")[2] or of_program(ran))
+    told = of_program(ran)
+    if ran.status == 3 and told.startswith(f"{plain}: "):
+        raise Unlike(told[len(f"{plain}: "):])
     raise fault_of("compare", ran)
 
 

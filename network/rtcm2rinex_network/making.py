@@ -13,7 +13,7 @@ from .guards import count_of
 from .labels import fields_of_options
 from .lists import Made, Record
 from .names import Name, read_name
-from .places import folder_of, form_of
+from .places import folder_of, form_of, has_list, plain_name
 from .program import Program
 from .rinex import count_values, most_frequent_step, read_header
 from .settings import DAY, Settings
@@ -89,13 +89,12 @@ def check_every(settings: Settings) -> None:
 
 
 def thins_of(job: Job, before: Record) -> List[Name]:
-    """The thinned files: the one that is asked for, and those that are there from before."""
+    """The thinned files: the one that is asked for, and those that are there. A list that was lost or cut off does not name them."""
+    texts = [*before.made, *(it for it in os.listdir(job.folder) if it.startswith(job.name.begin))]
     wanted = [job.every] if job.every else []
-    for text in before.made:
-        name = read_name(text)
-        if not name or name.interval in wanted or not form_of(job.folder / text).exists():
-            continue
-        if seconds_of_thin(name.interval) and name.interval != job.row.interval:
+    for name in sorted(filter(None, map(read_name, map(plain_name, texts))), key=str):
+        is_thin = name == job.name.with_interval(name.interval) and seconds_of_thin(name.interval) * 1000 > job.row.interval_ms
+        if is_thin and name.interval not in wanted and form_of(job.folder / str(name)).exists() and not has_list(job.folder, name):
             wanted.append(name.interval)
     return [job.name.with_interval(it) for it in wanted]
 

@@ -27,6 +27,12 @@ def dated(rinex: Path, begin: int) -> Path:
     return rinex / time.strftime("%Y/%j", time.gmtime(begin))
 
 
+def has_list(folder: Path, name: Name) -> bool:
+    """Whether a file has a list, as a thinned one never has. An empty one is a lock alone."""
+    path = folder / f"{name}.captures"
+    return path.is_file() and path.stat().st_size > 0
+
+
 def folder_with(rinex: Path, name: Name) -> Path:
     """The folder in which the list of a file lies."""
     folder = dated(rinex, name.span.begin)
@@ -43,6 +49,11 @@ def folders_below(rinex: Path) -> Iterator[Path]:
 def names_below(rinex: Path) -> List[str]:
     """The names of all files that are there, sorted."""
     return sorted(name for folder in folders_below(rinex) for name in os.listdir(folder))
+
+
+def plain_name(text: str) -> str:
+    """The name of a RINEX file, by that of another form of it or of a file beside it, as NAME.report."""
+    return re.sub(r"\.(rnx|crx)\b.*", ".rnx", text)
 
 
 def compact_forms(path: Path) -> List[Path]:
@@ -66,12 +77,10 @@ def adopt(rinex: Path, folder: Path, name: Name) -> Optional[BinaryIO]:
     locked. If the list comes from the other folder, it is locked before it gets its name, and answered open."""
     other = dated(rinex, name.span.begin) if folder == rinex else rinex
     lock: Optional[BinaryIO] = None
-    for path in sorted(other.glob(f"{name.name9}_S_*")) if other.is_dir() else []:
-        text = re.sub(r"\.(rnx|crx)\b.*", ".rnx", path.name)
-        found = read_name(text)
+    for path in sorted(other.glob(f"{name.begin}*")):
         target = folder / path.name
         is_empty = target.name.endswith(".captures") and target.is_file() and target.stat().st_size == 0
-        if found is None or found.span != name.span or path.name.endswith((".live", ".live.report")) or not path.is_file():
+        if not read_name(plain_name(path.name)) or path.name.endswith((".live", ".live.report")) or not path.is_file():
             continue
         if target.exists() and not is_empty:
             continue

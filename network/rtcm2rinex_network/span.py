@@ -12,12 +12,12 @@ from typing import BinaryIO, Dict, Iterator, List, Optional, Sequence
 
 from .after import call_after, note_after
 from .captures import Capture, Sum, Unread, find_captures, is_old, look_at, sum_of
-from .ends import Again, Ended, NoCaptures, Refused, Usage, say
+from .ends import Again, Ended, NoCaptures, Refused, Stopped, Usage, say
 from .guards import MadeBy, New, captures_that_differ, faults_of, guard_captures, guard_compact, guard_words, has_lost_bytes, old_files
 from .labels import checked_options, find_label, labels_beside
 from .lists import Record, read_list
 from .making import Conversion, Job, check_every, convert, label_files
-from .places import adopt, compact_forms, dated, form_of, is_compact
+from .places import adopt, compact_forms, dated, form_of, has_list, is_compact
 from .placing import NOTES, UNREAD, give_to_owner, locked, make_folder, note_end, put, sync, work_folder, write_whole
 from .program import Program, find_program
 from .settings import Settings
@@ -87,17 +87,15 @@ def noted(job: Job) -> Iterator[None]:
 
 def drop_notes_of_span(job: Job) -> None:
     """Removes the notes of the span, also those under another interval, which stood in the row when the runs failed."""
-    begin = str(job.name.with_interval("\0")).partition("\0")[0]
     for name in os.listdir(job.folder):
-        if name.startswith(begin) and name.endswith(NOTES):
+        if name.startswith(job.name.begin) and name.endswith(NOTES):
             (job.folder / name).unlink(missing_ok=True)
 
 
 def is_listed(job: Job) -> bool:
     """Whether there is a list of the file, in the folder of either layout."""
     rinex = job.row.directory / "rinex"
-    lists = [folder / f"{job.name}.captures" for folder in (rinex, dated(rinex, job.span.begin))]
-    return any(it.is_file() and it.stat().st_size > 0 for it in lists)
+    return any(has_list(folder, job.name) for folder in (rinex, dated(rinex, job.span.begin)))
 
 
 def has_own(job: Job, captures: Sequence[Capture]) -> bool:
@@ -291,6 +289,8 @@ class Run:
         try:
             with work_folder(self.job.folder, str(self.job.name)) as work:
                 self.put_list(work)
+        except Stopped:
+            raise
         except (OSError, Ended):
             pass
 

@@ -46,12 +46,11 @@ class Link:
 
 @dataclass(frozen=True)
 class File:
-    """A file that was made: its name, its epochs and those of its span, whether it has a position, how many links it is of, the counts
-    of its report, and the captures that could not be read."""
+    """A file that was made: its name, its epochs, whether it has a position, how many links it is of, the counts of its report, and the
+    captures that could not be read."""
 
     name: Name
     epochs: int
-    expected: int
     has_position: bool
     links: int
     counts: Dict[str, int]
@@ -173,20 +172,19 @@ class Station:
         lines = text_if_there(folder / f"{name}.report").split("\n")
         counts = {words[0]: int(words[1]) for words in map(str.split, lines) if len(words) == 2 and words[1].isdecimal()}
         counts.pop("epochs", None)
-        return File(name, made.epochs, self.expected(name.span), "position none" not in lines, links_of(record), counts,
-            tuple(sorted(record.unread)))
+        return File(name, made.epochs, "position none" not in lines, links_of(record), counts, tuple(sorted(record.unread)))
 
-    def expected(self, span: Span) -> int:
-        """How many epochs a span has."""
-        return LENGTHS[span.length] * 1000 // self.row.interval_ms
+    def name(self, span: Span) -> Name:
+        """The name of the file of a span."""
+        return Name(self.row.name9, span, self.row.interval)
 
     def faults(self, it: File) -> Iterator[Tuple[str, str]]:
         """What is to look at in a file: the kind of the alarm, and the text."""
         since = self.clock.gps - it.name.span.end
         if since > FILE_AGES[it.name.span.length]:
             yield "file", f"the newest file of {it.name.span.length} is {it.name}, which ended {age_of(since)} ago"
-        if it.epochs < it.expected:
-            yield "epochs", f"{it.name}: {it.epochs} epochs of {it.expected}"
+        if it.epochs < it.name.epochs:
+            yield "epochs", f"{it.name}: {it.epochs} epochs of {it.name.epochs}"
         yield from self.faults_of_report(it)
 
     def faults_of_report(self, it: File) -> Iterator[Tuple[str, str]]:
@@ -225,12 +223,12 @@ class Station:
         for begin in range(max(first, end - WINDOWS[window]), end, size):
             span = Span(begin, length)
             if span not in lists:
-                lists[span] = list_if_made(folder, Name(self.row.name9, span, self.row.interval))
+                lists[span] = list_if_made(folder, self.name(span))
             it = lists[span]
             found.due += 1
             found.made += it is not None
             found.epochs += it.epochs if it else 0
-            found.expected += self.expected(span)
+            found.expected += self.name(span).epochs
             if it is None and self.has_captures(span):
                 found.missing.append(span)
             if it and size >= HOUR and self.has_captures(span, it.captures):
@@ -248,11 +246,11 @@ class Station:
         found: Dict[str, List[str]] = {}
         begin = int(self.clock.gps) - GRACES[length] - DAY
         for span in sorted(it for it in lists if it.begin >= begin and it != newest.name.span):
-            it = self.file(folder, Name(self.row.name9, span, self.row.interval))
+            it = self.file(folder, self.name(span))
             for kind, text in self.faults_of_report(it) if it else []:
                 found.setdefault(kind, []).append(text)
         lacking = day.expected - day.epochs
-        if lacking and not (lacking == newest.expected - newest.epochs and newest.name.span in lists):
+        if lacking and not (lacking == newest.name.epochs - newest.epochs and newest.name.span in lists):
             self.alarm("epochs", f"the last 24 h of {length} lack {lacking} epochs of {day.expected}: {day.made} of {day.due} files are made")
         for kind, texts in found.items():
             self.alarm(kind, f"{len(texts)} earlier files of the last 24 h, as {texts[0]}")
