@@ -21,6 +21,7 @@ from .table import Row
 from .times import Span, interval_of, ms_of, text_of
 
 CHECKED = "valid: "
+FIRST_DATE = "1980-01-06"  # that a file can have; a clock that was never set is before it
 
 
 @dataclass(frozen=True)
@@ -125,10 +126,15 @@ def time_of_making(job: Job, captures: Sequence[Capture], is_made: bool) -> str:
     """The time that the file shows. If the file is there and a thinned one alone is made, it is that of the file."""
     if is_made:
         return read_header(form_of(job.path)).made
+    if made := job.settings.get("MADE"):
+        return made
     try:
-        return job.settings.get("MADE") or text_of(max(os.stat(it.path).st_mtime for it in captures))
+        made = text_of(max(os.stat(it.path).st_mtime for it in captures))
     except FileNotFoundError:
         raise Again("captures go while they are read") from None
+    if made < FIRST_DATE:
+        raise Refused(f"the newest capture was written at {made}: set MADE to a later time")
+    return made
 
 
 def convert(job: Job, captures: Sequence[Capture], before: Record, work: Path, is_made: bool, done: Conversion) -> None:

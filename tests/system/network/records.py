@@ -7,8 +7,10 @@ A file is written as cells: a time in seconds, a satellite, and for each of its 
 
 from __future__ import annotations
 
+import gzip
 import sys
 import tempfile
+from collections.abc import Iterator
 from pathlib import Path
 
 sys.path.insert(0, str(Path(__file__).resolve().parents[3] / "network"))
@@ -70,6 +72,7 @@ ANSWERS = [
     (3, "lost 101 changed 1 explained 0\nlost slip 12:00\nmore-lost 100\nchanged marker\n", "",
         "101 1 ('lost slip 12:00', 'more-lost 100', 'changed marker') False"),
     (3, "", "rtcm2rinex: old: line 12: C1 HeaderLine\n", "Unlike line 12: C1 HeaderLine"),
+    (3, "", "rtcm2rinex: new: line 12: C1 HeaderLine\n", "Again compare: ended with status 3"),
     (1, "", "rtcm2rinex: out of memory\n", "Again compare: out of memory"),
     (1, "lost 0 changed 0 explained 0\n", "rtcm2rinex: write failed\n", "Again compare: write failed"),
     (2, "", "error: unrecognized subcommand 'compare'\n", "Refused compare: error: unrecognized subcommand 'compare'"),
@@ -89,6 +92,13 @@ class Answering(Program):
         return self.answer
 
 
+def broken(folder: Path) -> Path:
+    """A file that was gzipped and cut off behind its header."""
+    path = folder / "broken.gz"
+    path.write_bytes(gzip.compress(file_of(folder, "plain", {it: [BOTH] for it in range(50)}).read_bytes())[:-20])
+    return path
+
+
 def taken(answer: Ran) -> str:
     """What the scripts take from an answer."""
     try:
@@ -98,23 +108,34 @@ def taken(answer: Ran) -> str:
     return f"{it.counts['lost']} {it.counts['changed']} {it.lines} {it.is_finer}"
 
 
-def main() -> int:
-    failed = 0
+def slips(old: Path, new: Path) -> str:
+    """The places of the slips that are lost, or how the look at them ends."""
+    try:
+        return ", ".join(lost_first_slips(old, new))
+    except Again as end:
+        return str(end)
+
+
+def rows(folder: Path) -> Iterator[tuple[str, object, object]]:
+    """Of each row: what it is, what is found, and what is due."""
     for status, out, told, due in ANSWERS:
-        got, name = taken(Ran(status, out, told)), f"status {status} with {out + told!r}"
-        failed += got != due
-        print(f"{'ok' if got == due else 'FAILED'} {name}" + ("" if got == due else f": {got}, and not {due}"))
+        yield f"status {status} with {out + told!r}", taken(Ran(status, out, told)), due
+    for name, old, new, places in ROWS:
+        due = ", ".join(f"2024 05 17 12 00 {int(it.split()[0]):2}.0000000 {it.partition(' ')[2]}" for it in places)
+        yield name, slips(file_of(folder, "old", old), file_of(folder, "new", new)), due
+    path = broken(folder)
+    yield "a broken file", slips(path, file_of(folder, "new", {0: [NONE]}))[:len(f"can't read {path}")], f"can't read {path}"
+    for seconds, step in STEPS:
+        yield f"the step of {seconds}", most_frequent_step(file_of(folder, "steps", {it: [NONE] for it in seconds})), step
+
+
+def main() -> int:
     with tempfile.TemporaryDirectory() as folder:
-        for name, old, new, places in ROWS:
-            due = [f"2024 05 17 12 00 {int(it.split()[0]):2}.0000000 {it.partition(' ')[2]}" for it in places]
-            got = lost_first_slips(file_of(Path(folder), "old", old), file_of(Path(folder), "new", new))
-            failed += got != due
-            print(f"{'ok' if got == due else 'FAILED'} {name}" + ("" if got == due else f": {got}, and not {due}"))
-        for seconds, step in STEPS:
-            found = most_frequent_step(file_of(Path(folder), "steps", {it: [NONE] for it in seconds}))
-            failed += found != step
-            print(f"{'ok' if found == step else 'FAILED'} the step of {seconds}" + ("" if found == step else f": {found}, and not {step}"))
-    print(f"{len(ANSWERS) + len(ROWS) + len(STEPS) - failed} passed, {failed} failed")
+        found = list(rows(Path(folder)))
+    for name, got, due in found:
+        print(f"ok {name}" if got == due else f"FAILED {name}: {got}, and not {due}")
+    failed = sum(got != due for _, got, due in found)
+    print(f"{len(found) - failed} passed, {failed} failed")
     return failed
 
 
