@@ -3,7 +3,6 @@ keeps them."""
 
 from __future__ import annotations
 
-import fcntl
 import os
 import re
 import time
@@ -11,7 +10,7 @@ from pathlib import Path
 from typing import BinaryIO, Iterator, List, Optional
 
 from .names import Name, read_name
-from .placing import make_folder
+from .placing import lock, make_folder
 from .settings import Settings
 
 COMPACT = (".crx.gz", ".crx")  # in place of .rnx: the form of Hatanaka, which can't be read here
@@ -76,7 +75,7 @@ def adopt(rinex: Path, folder: Path, name: Name) -> Optional[BinaryIO]:
     """Moves what lies of a span in the folder of the other layout to its place, so that it is never made twice. The list of `folder` is
     locked. If the list comes from the other folder, it is locked before it gets its name, and answered open."""
     other = dated(rinex, name.span.begin) if folder == rinex else rinex
-    lock: Optional[BinaryIO] = None
+    held: Optional[BinaryIO] = None
     for path in sorted(other.glob(f"{name.begin}*")):
         target = folder / path.name
         is_empty = target.name.endswith(".captures") and target.is_file() and target.stat().st_size == 0
@@ -86,7 +85,6 @@ def adopt(rinex: Path, folder: Path, name: Name) -> Optional[BinaryIO]:
             continue
         make_folder(folder)
         if path.name == f"{name}.captures":
-            lock = open(path, "ab")
-            fcntl.flock(lock, fcntl.LOCK_EX)
+            held = lock(path)
         os.replace(path, target)
-    return lock
+    return held

@@ -59,11 +59,12 @@ class File:
 
 @dataclass
 class Window:
-    """The spans of a length of the last day or week: how many files are due and made, their epochs, and those that are expected.
-    `missing` has captures and no file, and the files of `old` lack captures that are there."""
+    """The spans of a length of the last day or week, by their begins: how many files are due and made, their epochs, and those that are
+    expected. `missing` has captures and no file, and the files of `old` lack captures that are there."""
 
     window: str
     length: str
+    begins: range
     due: int = 0
     made: int = 0
     epochs: int = 0
@@ -218,9 +219,10 @@ class Station:
     def count(self, folder: Path, window: str, length: str, first: int, lists: Dict[Span, Optional[Listed]]) -> Window:
         """The counts of a window. It begins with the first file of the station. `lists` keeps each list that was read. A link may begin
         in the last quarters of an hour, so a capture of the hour need not have the first ones."""
-        size, found = LENGTHS[length], Window(window, length)
+        size = LENGTHS[length]
         end = int(self.clock.gps - GRACES[length]) // size * size
-        for begin in range(max(first, end - WINDOWS[window]), end, size):
+        found = Window(window, length, range(max(first, end - WINDOWS[window]), end, size))
+        for begin in found.begins:
             span = Span(begin, length)
             if span not in lists:
                 lists[span] = list_if_made(folder, self.name(span))
@@ -244,8 +246,7 @@ class Station:
         """Tells of the files of the last day but for the newest one, which is told of already."""
         day = next(it for it in self.windows if it.length == length)
         found: Dict[str, List[str]] = {}
-        begin = int(self.clock.gps) - GRACES[length] - DAY
-        for span in sorted(it for it in lists if it.begin >= begin and it != newest.name.span):
+        for span in sorted(it for it in lists if it.begin in day.begins and it != newest.name.span):
             it = self.file(folder, self.name(span))
             for kind, text in self.faults_of_report(it) if it else []:
                 found.setdefault(kind, []).append(text)
