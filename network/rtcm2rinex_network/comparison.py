@@ -17,7 +17,7 @@ from .program import Program, fault_of, of_program
 from .rinex import cell_of, epochs_of, read_header
 
 COUNTS = re.compile(r"lost (\d+) changed (\d+) explained \d+", re.ASCII)
-EXPLAINED, FINER = "explained ", "explained finer "
+EXPLAINED, FINER, MORE = "explained ", "explained finer ", "more-explained "
 
 
 class Unlike(Exception):
@@ -26,12 +26,12 @@ class Unlike(Exception):
 
 @dataclass(frozen=True)
 class Differences:
-    """What is lost and what has changed: how many there are of each, and the lines of those that `compare` lists; and whether values are in
-    other steps."""
+    """What is lost and what has changed: how many there are of each, and the lines of those that `compare` lists. `may_be_finer` says
+    whether values are in other steps, as a line tells, or one of those that it leaves out may."""
 
     counts: Dict[str, int]
     lines: Tuple[str, ...]
-    is_finer: bool
+    may_be_finer: bool
 
 
 def differences(program: Program, old: Path, new: Path) -> Differences:
@@ -41,8 +41,8 @@ def differences(program: Program, old: Path, new: Path) -> Differences:
     lines = ran.out.splitlines()
     counts = COUNTS.fullmatch(lines[0]) if lines and ran.status in (0, 3) else None
     if counts:
-        worse = tuple(it for it in lines[1:] if not it.removeprefix("more-").startswith(EXPLAINED))
-        return Differences({"lost": int(counts[1]), "changed": int(counts[2])}, worse, any(it.startswith(FINER) for it in lines))
+        worse = tuple(it for it in lines[1:] if not it.startswith((EXPLAINED, MORE)))
+        return Differences({"lost": int(counts[1]), "changed": int(counts[2])}, worse, any(it.startswith((FINER, MORE)) for it in lines))
     told = of_program(ran)
     if ran.status == 3 and told.startswith(f"{plain}: "):
         raise Unlike(told[len(f"{plain}: "):])

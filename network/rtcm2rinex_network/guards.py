@@ -161,8 +161,8 @@ def guard_records(program: Program, name: str, old: Old, new: New) -> Iterator[s
     lost, changed = (count - sum(it.startswith(kind) for it in others) for kind, count in found.counts.items())
     if lost or (changed and not new.is_of_list):
         yield "\n".join([f"{name} would be worse: lost {lost} changed {changed}, the first is {lines[0]}", *lines])
-    if found.is_finer and old.by.msm is None:
-        yield f"{name} has no list, and the new one has values in other steps: nobody knows whether they are coarser"
+    if found.may_be_finer and old.by.msm is None:
+        yield f"{name} has no list, and the new one may have values in other steps: nobody knows whether they are coarser"
     if new.lost_bytes and not is_thin:
         yield from guard_first_slips(name, path, now)
 

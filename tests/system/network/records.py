@@ -61,12 +61,12 @@ ROWS = [
 STEPS = [([0], None), ([0, 30], 30_000), ([0, 1, 21, 41], 20_000), ([0, 30, 31, 32], 1_000), ([0, 30, 31], 1_000), ([0, 1, 31], 1_000)]
 
 
-# Of each row: the status of `compare`, its two texts, and what the scripts take from it: counts, lines, and whether values are in other
-# steps; or how the run ends.
+# Of each row: the status of `compare`, its two texts, and what the scripts take from it: counts, lines, and whether values may be in
+# other steps; or how the run ends.
 ANSWERS = [
     (0, "lost 0 changed 0 explained 0\n", "", "0 0 () False"),
     (0, "lost 0 changed 0 explained 1\nexplained finer 12:00\n", "", "0 0 () True"),
-    (0, "lost 0 changed 0 explained 101\nexplained roll 12:00\nmore-explained 100\n", "", "0 0 () False"),
+    (0, "lost 0 changed 0 explained 101\nexplained roll 12:00\nmore-explained 100\n", "", "0 0 () True"),
     (3, "lost 2 changed 0 explained 1\nlost epoch 12:00\nlost epoch 12:01\nexplained roll 12:02\n", "",
         "2 0 ('lost epoch 12:00', 'lost epoch 12:01') False"),
     (3, "lost 101 changed 1 explained 0\nlost slip 12:00\nmore-lost 100\nchanged marker\n", "",
@@ -105,7 +105,7 @@ def taken(answer: Ran) -> str:
         it = differences(Answering(answer), Path("old"), Path("new"))
     except (Unlike, Again, Refused) as end:
         return f"{type(end).__name__} {end}"
-    return f"{it.counts['lost']} {it.counts['changed']} {it.lines} {it.is_finer}"
+    return f"{it.counts['lost']} {it.counts['changed']} {it.lines} {it.may_be_finer}"
 
 
 def slips(old: Path, new: Path) -> str:
