@@ -145,7 +145,8 @@ def guard_counts(name: str, listed: Made, new: Made) -> Iterator[str]:
 def guard_records(program: Program, name: str, old: Old, new: New) -> Iterator[str]:
     """A loss in one hour of a day may hide behind a gain in another, so `compare` looks at each value and mark. Codes and position have
     guards of their own. A file that is made once more from the same heals what a disk or a hand changed, so only what is lost counts.
-    A slip of a thinned file is one of the file of the span, which has the phases that explain it."""
+    A slip of a thinned file is one of the file of the span, which has the phases that explain it. `compare` explains values in other steps
+    by messages that came, which have finer ones; but those that went may have had them."""
     path, now = old.file(name), new.path.with_name(name)
     if path is None:
         return
@@ -161,8 +162,9 @@ def guard_records(program: Program, name: str, old: Old, new: New) -> Iterator[s
     lost, changed = (count - sum(it.startswith(kind) for it in others) for kind, count in found.counts.items())
     if lost or (changed and not new.is_of_list):
         yield "\n".join([f"{name} would be worse: lost {lost} changed {changed}, the first is {lines[0]}", *lines])
-    if found.may_be_finer and old.by.msm is None:
-        yield f"{name} has no list, and the new one may have values in other steps: nobody knows whether they are coarser"
+    if found.may_be_finer and (old.by.msm is None or new.lost_bytes):
+        why = "has no list" if old.by.msm is None else "was made of captures that lost bytes"
+        yield f"{name} {why}, and the new one may have values in other steps: nobody knows whether they are coarser"
     if new.lost_bytes and not is_thin:
         yield from guard_first_slips(name, path, now)
 
@@ -195,11 +197,6 @@ def count_of(report: str, word: str) -> int:
     """A count of a report; 0 if it has none."""
     match = re.search(rf"(?m)^{word} (\d+)$", report, re.ASCII)
     return int(match[1]) if match else 0
-
-
-def has_lost_bytes(before: Dict[str, Sum], found: Dict[str, Sum]) -> bool:
-    """Whether a capture has other bytes than it had, and no more of them."""
-    return any(name in before and before[name] != it and it.size <= before[name].size for name, it in found.items())
 
 
 def faults_of(program: Program, old: Old, new: New) -> Iterator[str]:
