@@ -13,7 +13,7 @@ from typing import BinaryIO, Dict, Iterator, List, Optional, Sequence
 from .after import call_after, note_after
 from .captures import Capture, Sum, Unread, find_captures, has_grown, is_old, look_at, sum_of
 from .ends import Again, Ended, NoCaptures, Refused, Stopped, Usage, say
-from .guards import MadeBy, New, captures_that_differ, faults_of, guard_captures, guard_compact, guard_words, old_files
+from .guards import MadeBy, New, captures_that_differ, count_of, faults_of, guard_captures, guard_compact, guard_words, old_files
 from .labels import checked_options, find_label, labels_beside
 from .lists import Record, read_list
 from .making import Conversion, Job, check_every, convert, label_files
@@ -191,11 +191,13 @@ class Run:
         is_kept = not self.form(str(self.job.name)).exists() or self.is_intact(str(self.job.name))
         return bool(gone) and is_known and not self.now.unread and set(gone) <= self.before.deleted and is_kept
 
-    def lost_bytes(self) -> bool:
-        """Whether a capture of the list can't be read any more, or does not begin with the bytes that it had."""
+    def has_lost_bytes(self, has_fewer: bool) -> bool:
+        """Whether a capture of the list can't be read any more, or has other bytes and no more of them. If there are fewer messages than
+        before, more bytes count only behind those that it had."""
         known, now = self.before.captures, self.now.captures
         changed = [it for it in self.found.captures if it.name in known and now[it.name] != known[it.name]]
-        return not self.now.unread.isdisjoint(known) or not all(has_grown(it.path, known[it.name]) for it in changed)
+        return not self.now.unread.isdisjoint(known) or any(now[it.name].size <= known[it.name].size or
+            (has_fewer and not has_grown(it.path, known[it.name])) for it in changed)
 
     # ------------------------------------------------------------ what is made
 
@@ -236,7 +238,8 @@ class Run:
         convert(job, self.found.captures, self.before, work, is_made, done)
         label_files(job, work, done)
         self.judge(guard_compact(old, done.made), done, False)
-        new = New(done.made, work / name, done.report, self.now.source() == self.before.source(), self.lost_bytes())
+        lost_bytes = self.has_lost_bytes(count_of(done.report, "taken") < count_of(old.report, "taken"))
+        new = New(done.made, work / name, done.report, self.now.source() == self.before.source(), lost_bytes)
         self.judge(faults_of(job.program, old, new), done)
         self.now.made = done.made
         self.now.report = sum_of(work / f"{name}.report")
