@@ -90,12 +90,16 @@ def old_files(path: Path, record: Record, intact: FrozenSet[str]) -> Old:
     return Old(record.made, intact, path, is_there, by, header, text)
 
 
+def without_bytes(before: Dict[str, Sum], found: Dict[str, Sum]) -> List[str]:
+    """The captures of before whose bytes no capture of the same hour has now, whichever link it is of."""
+    there = {(name.partition("/")[2], it) for name, it in found.items()}
+    return [name for name, it in before.items() if (name.partition("/")[2], it) not in there]
+
+
 def guard_captures(before: Dict[str, Sum], found: Dict[str, Sum], unread: Set[str]) -> Iterator[str]:
     """The captures that a file was made of may have what no other capture has. The bytes of a capture of the same hour of another
     link do as well, and a capture that can't be read now is not gone."""
-    bytes_of = {(name.partition("/")[2], it) for name, it in found.items()}
-    gone = [name for name, it in before.items()
-        if name not in found and name not in unread and (name.partition("/")[2], it) not in bytes_of]
+    gone = [name for name in without_bytes(before, found) if name not in found and name not in unread]
     if gone:
         yield f"captures that the file was made from are gone: {' '.join(sorted(gone))}"
 

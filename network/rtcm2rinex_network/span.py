@@ -13,7 +13,8 @@ from typing import BinaryIO, Dict, Iterator, List, Optional, Sequence
 from .after import call_after, note_after
 from .captures import Capture, Sum, Unread, find_captures, has_grown, is_old, look_at, sum_of
 from .ends import Again, Ended, NoCaptures, Refused, Stopped, Usage, say
-from .guards import MadeBy, New, captures_that_differ, count_of, faults_of, guard_captures, guard_compact, guard_words, old_files
+from .guards import (MadeBy, New, captures_that_differ, count_of, faults_of, guard_captures, guard_compact, guard_words, old_files,
+    without_bytes)
 from .labels import checked_options, find_label, labels_beside
 from .lists import Record, read_list
 from .making import Conversion, Job, check_every, convert, label_files
@@ -192,12 +193,12 @@ class Run:
         return bool(gone) and is_known and not self.now.unread and set(gone) <= self.before.deleted and is_kept
 
     def has_lost_bytes(self, has_fewer: bool) -> bool:
-        """Whether a capture of the list can't be read any more, or has other bytes and no more of them. If there are fewer messages than
+        """Whether the bytes of a capture of the list are there no more, and it has no more of them now. If there are fewer messages than
         before, more bytes count only behind those that it had."""
         known, now = self.before.captures, self.now.captures
-        changed = [it for it in self.found.captures if it.name in known and now[it.name] != known[it.name]]
-        return not self.now.unread.isdisjoint(known) or any(now[it.name].size <= known[it.name].size or
-            (has_fewer and not has_grown(it.path, known[it.name])) for it in changed)
+        paths = {it.name: it.path for it in self.found.captures}
+        return any(name not in paths or now[name].size <= known[name].size or (has_fewer and not has_grown(paths[name], known[name]))
+            for name in without_bytes(known, now))
 
     # ------------------------------------------------------------ what is made
 
