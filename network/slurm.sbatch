@@ -3,7 +3,7 @@
 #SBATCH --array=0-99
 #SBATCH --ntasks=1
 #SBATCH --cpus-per-task=1
-#SBATCH --mem=300M
+#SBATCH --mem=600M
 #SBATCH --requeue
 """Converts the captures of the stations and spans of a list by a job array of Slurm. In the folder of the checkout:
 

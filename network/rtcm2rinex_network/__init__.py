@@ -3,11 +3,11 @@
 A script has the words of its command and one call. Each module has one subject, and imports only those that stand above it here:
 
 - `ends`, `settings`, `times`, `names`, `program`: statuses, settings, times, the names of files, and the program
-- `table`, `labels`, `sources`, `checking`: the tables
+- `table`, `labels`, `sources`: the tables
 - `captures`, `lists`, `rinex`, `placing`, `places`: what a run reads and writes
 - `comparison`, `guards`: whether a new file is worse than the old one
 - `making`, `after`, `span`, `spans`, `parallel`: the file of a span, and the files of many
-- `stations`, `reporting`, `deleting`: what is there, how it is told, and what may go
+- `checking`, `stations`, `reporting`, `deleting`: what is wrong with tables and settings, what is there, how it is told, and what may go
 - `keeping`, `streams`, `position`, `live`: a stream that is kept and converted while it comes
 
 All times are GPS times in whole seconds since 1970, if nothing else is said.

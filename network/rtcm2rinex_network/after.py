@@ -7,15 +7,23 @@ because the run was killed, is made by the next run.
 from __future__ import annotations
 
 import re
+import shutil
 import subprocess
 from pathlib import Path
 from typing import Iterable
 
-from .ends import Again
+from .ends import Again, Refused
 from .places import form_of
 from .settings import Settings
 
 TOLD = 200  # characters of what the program told
+
+
+def check_after(settings: Settings) -> None:
+    """Refuses a program that is not there."""
+    program = settings.get("AFTER")
+    if program and not shutil.which(program):
+        raise Refused(f"AFTER={program} is no program")
 
 
 def note_of(path: Path) -> Path:

@@ -95,6 +95,20 @@ def sum_of(path: Path) -> Sum:
     return Sum(size, digest.hexdigest())
 
 
+def has_grown(path: Path, before: Sum) -> bool:
+    """Whether a capture begins with all the bytes that it had before."""
+    left, digest = before.size, hashlib.sha256()
+    try:
+        for piece in pieces_of(path):
+            digest.update(piece[:left])
+            left -= min(left, len(piece))
+            if not left:
+                break
+    except Unread:
+        return False
+    return not left and digest.hexdigest() == before.digest
+
+
 def look_at(path: Path) -> Optional[str]:
     """What `stat` says of a file, as lists have it: size, inode, and the times of its last write and change. None if it is gone."""
     try:

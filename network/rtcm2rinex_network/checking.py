@@ -6,8 +6,10 @@ import sys
 import time
 from typing import Dict, Iterator, List, Optional, Sequence, Tuple
 
+from .after import check_after
 from .ends import DONE, REFUSED, Ended, Refused, Usage
 from .labels import Label, checked_options, labels_beside, read_labels, strays
+from .making import check_every
 from .program import Program, find_program
 from .settings import Settings, read_settings
 from .sources import faults_of_sources
@@ -50,7 +52,7 @@ def print_rows(settings: Settings) -> int:
 
 
 def check(settings: Settings) -> int:
-    """Says of each bad row, label and source why, and counts the rows."""
+    """Says of each bad row, label, source and setting why, and counts the rows."""
     rows, lines, bad = read_table(settings.stations), [], 0
     for row, fault in faults_of_rows(settings):
         bad += bool(fault)
@@ -115,16 +117,28 @@ def notes_of(row: Row, rows: List[Row]) -> Iterator[str]:
     """What may be as it should, but is rare."""
     if not row.directory.is_dir():
         yield f"there is no folder {row.directory}"
-    others = {it.name9 for it in rows if it.directory == row.directory and it.name9 != row.name9 and it.number < row.number}
+    others = {it.name9 for it in rows if it.place == row.place and it.name9 != row.name9 and it.number < row.number}
     if others:
         yield f"{' '.join(sorted(others))} has the folder {row.directory} too"
 
 
 def faults_of_others(settings: Settings, rows: List[Row]) -> Iterator[Tuple[str, bool]]:
-    """What is wrong with lines of labels and sources, and whether it is a note alone."""
+    """What is wrong with settings and with lines of labels and sources, and whether it is a note alone."""
+    for setting in faults_of_settings(settings):
+        yield f"setting: {setting}", False
     path = labels_beside(settings.stations)
     for number, fault in strays(path, rows):
         yield f"{path}:{number}: {fault}", False
     if settings.sources.exists():
         for number, fault, is_note in faults_of_sources(settings.sources, rows):
             yield f"{settings.sources}:{number}: {fault}", is_note
+
+
+def faults_of_settings(settings: Settings) -> Iterator[str]:
+    """What is wrong with settings, so that runs would be refused."""
+    yield from settings.faults()
+    for look in (check_every, check_after):
+        try:
+            look(settings)
+        except Refused as fault:
+            yield str(fault)

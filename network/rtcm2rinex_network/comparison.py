@@ -1,105 +1,78 @@
-"""Whether a new file lacks something of the old one: epochs, values, slips and marks of half cycles.
+"""What a new file lacks of the old one or has otherwise, as `rtcm2rinex compare` says.
 
-`losses` is the one place that compares the records of two files, and can be replaced by a command of the program that does.
+`compare` explains a slip at the first phase of a satellite and code, because such a slip rests on what came before the file. Only the
+captures show whether that is lost, so these slips are looked at here.
 """
 
 from __future__ import annotations
 
-from dataclasses import dataclass, field
+import re
+from dataclasses import dataclass
 from pathlib import Path
-from typing import Dict, Iterator, List, Optional, Set, Tuple
+from typing import Dict, List, Tuple
 
-from .rinex import Cell, cell_of, epochs_of, read_header
+from .captures import Unread, pieces_of
+from .ends import Again
+from .program import Program, fault_of, of_program
+from .rinex import cell_of, epochs_of, read_header
 
-Place = Tuple[str, str, str]  # the time of an epoch, a satellite and a code
-
-
-@dataclass
-class Losses:
-    """What the old file has and the new one lacks, each with the places in the order of the old file.
-
-    `first_slips` stand at the first phase of their satellite and code in the old file, so they rest on what came before the file.
-    """
-
-    epochs: List[str] = field(default_factory=list)
-    values: List[Place] = field(default_factory=list)
-    slips: List[Place] = field(default_factory=list)
-    first_slips: List[Place] = field(default_factory=list)
-    halves: List[Place] = field(default_factory=list)
+COUNTS = re.compile(r"lost (\d+) changed (\d+) explained \d+", re.ASCII)
+EXPLAINED, FINER, MORE = "explained ", "explained finer ", "more-explained "
 
 
-def losses(old: Path, new: Path) -> Losses:
-    """Compares the records of two files, in the codes that both have.
-
-    A slip is not lost if the new file has a phase of this satellite and code between the old file's phase before it and the slip,
-    because more messages fill the gap across which the old file had to tell of a slip. A phase of another message counts as such.
-    """
-    comparison = Comparison(read_header(old).codes, read_header(new).codes)
-    others = epochs_of(new)
-    other: Optional[Tuple[str, Dict[str, str]]] = next(others, None)
-    for key, satellites in epochs_of(old):
-        while other and other[0] < key:
-            comparison.take(key, {}, other[1])
-            other = next(others, None)
-        if other and other[0] == key:
-            comparison.take(key, satellites, other[1])
-            other = next(others, None)
-        else:
-            comparison.found.epochs.append(key)
-            comparison.take(key, satellites, satellites)
-    found = comparison.found
-    if found.slips:
-        firsts = set(first_phases(old, comparison.ranks, {place[1:] for place in found.slips}))
-        found.first_slips = [it for it in found.slips if it in firsts]
-        found.slips = [it for it in found.slips if it not in firsts]
-    return found
+class Unlike(Exception):
+    """The old file is not as the program writes it, so it can't be compared."""
 
 
-class Comparison:
-    """A comparison of two files, epoch by epoch.
+@dataclass(frozen=True)
+class Differences:
+    """What is lost and what has changed: how many there are of each, and the lines of those that `compare` lists. `may_be_finer` says
+    whether values are in other steps, as a line tells, or one of those that it leaves out may."""
 
-    `gained` has the codes of each satellite of which the new file has a phase of its own since the last phase that both have.
-    """
-
-    def __init__(self, old: Tuple[str, ...], new: Tuple[str, ...]) -> None:
-        self.are_alike = old == new
-        self.ranks = [(code, old.index(code), new.index(code)) for code in old if code in new]
-        self.found = Losses()
-        self.gained: Dict[str, Set[str]] = {}
-
-    def take(self, key: str, old: Dict[str, str], new: Dict[str, str]) -> None:
-        """Compares an epoch. Lines that are alike lose nothing, and are passed over where nothing was gained before."""
-        for satellite in sorted({*old, *new}) if old.keys() != new.keys() else old:
-            before, now = old.get(satellite, ""), new.get(satellite, "")
-            if self.are_alike and before == now and not self.gained.get(satellite):
-                continue
-            for code, of_old, of_new in self.ranks:
-                self.compare((key, satellite, code), cell_of(before, of_old), cell_of(now, of_new))
-
-    def compare(self, place: Place, old: Cell, new: Cell) -> None:
-        """Compares a cell. Its marks count if both come from the same message, as range and strength show: an MSM that came late replaces
-        a cell of a 1004 with its own marks."""
-        gained = self.gained.setdefault(place[1], set())
-        lost = sum(bool(before) and not now for before, now in zip(old.values, new.values))
-        self.found.values += [place] * lost
-        if new.has_phase and not old.is_of_same_message(new):
-            gained.add(place[2])
-            return
-        if new.has_phase and old.is_slip and not new.is_slip and place[2] not in gained:
-            self.found.slips.append(place)
-        if new.has_phase and old.is_half and not new.is_half:
-            self.found.halves.append(place)
-        if old.has_phase:
-            gained.discard(place[2])
+    counts: Dict[str, int]
+    lines: Tuple[str, ...]
+    may_be_finer: bool
 
 
-def first_phases(path: Path, ranks: List[Tuple[str, int, int]], wanted: Set[Tuple[str, str]]) -> Iterator[Place]:
-    """Where the first phase of each of these satellites and codes stands."""
+def differences(program: Program, old: Path, new: Path) -> Differences:
+    """What is lost and what has changed in a new file. The old one may be gzipped, and is unpacked beside the new one. Raises `Unlike`."""
+    plain = unpacked(old, new.with_name(f"{new.name}.old")) if old.suffix == ".gz" else old
+    ran = program.ran(["compare", str(plain), str(new)])
+    lines = ran.out.splitlines()
+    counts = COUNTS.fullmatch(lines[0]) if lines and ran.status in (0, 3) else None
+    if counts:
+        worse = tuple(it for it in lines[1:] if not it.startswith((EXPLAINED, MORE)))
+        return Differences({"lost": int(counts[1]), "changed": int(counts[2])}, worse, any(it.startswith((FINER, MORE)) for it in lines))
+    told = of_program(ran)
+    if ran.status == 3 and told.startswith(f"{plain}: "):
+        raise Unlike(told[len(f"{plain}: "):])
+    raise fault_of("compare", ran)
+
+
+def unpacked(path: Path, plain: Path) -> Path:
+    """A gzipped file as it was before."""
+    try:
+        with open(plain, "wb") as file:
+            file.writelines(pieces_of(path))
+    except Unread as fault:
+        raise Again(str(fault)) from None
+    return plain
+
+
+def lost_first_slips(old: Path, new: Path) -> List[str]:
+    """Where slips of the old file stand that the new one has no more, at the first phase of their satellite and code in both files."""
+    now = first_phases(new)
+    return [f"{key[2:]} {satellite} {code}" for (satellite, code), (key, is_slip) in first_phases(old).items()
+        if is_slip and now.get((satellite, code)) == (key, False)]
+
+
+def first_phases(path: Path) -> Dict[Tuple[str, str], Tuple[str, bool]]:
+    """The first phase of each satellite and code: the epoch, and whether it has a slip."""
+    codes = read_header(path).codes
+    found: Dict[Tuple[str, str], Tuple[str, bool]] = {}
     for key, satellites in epochs_of(path):
-        for code, rank, _ in ranks:
-            for satellite in [it for it in satellites if (it, code) in wanted]:
-                if cell_of(satellites[satellite], rank).has_phase:
-                    wanted.discard((satellite, code))
-                    yield key, satellite, code
-        if not wanted:
-            return
+        for satellite, line in satellites.items():
+            for rank, code in enumerate(codes):
+                if (satellite, code) not in found and (cell := cell_of(line, rank)).has_phase:
+                    found[satellite, code] = (key, cell.is_slip)
+    return found

@@ -3,6 +3,7 @@
 from __future__ import annotations
 
 import fcntl
+import os
 import re
 import sys
 import time
@@ -14,7 +15,7 @@ from .captures import Sum, Unread, sum_of
 from .ends import DONE, REFUSED, Refused, Usage, say
 from .guards import count_of
 from .lists import Record, read_list
-from .names import hour_of_capture, read_name
+from .names import Name, hour_of_capture, read_name
 from .places import folder_with, form_of, is_compact, names_below
 from .placing import is_at
 from .settings import DAY, HOUR, Settings, read_settings
@@ -43,7 +44,6 @@ class Folder:
     `captures` has the files of each hour, and `lists` those of each span. `sums` keeps each sum that was taken.
     """
 
-    row: Row
     rinex: Path
     captures: Dict[int, List[Path]] = field(default_factory=dict)
     names: Set[str] = field(default_factory=set)
@@ -77,7 +77,7 @@ def name_of(path: Path) -> str:
 
 def read_folder(row: Row) -> Folder:
     """What lies in the folder of a row."""
-    found = Folder(row, row.directory / "rinex")
+    found = Folder(row.directory / "rinex")
     for path in row.directory.glob("link*/*.rtcm*"):
         hour = hour_of_capture(f"{path.parent.name}/{path.name}")
         if hour is not None and path.is_file():
@@ -117,10 +117,10 @@ def fault_of_span(folder: Folder, row: Row, span: Span, options: Options) -> str
 def fault_of_file(folder: Folder, span: Span, list_name: str, options: Options) -> str:
     """Why the file of this list does not make the span final."""
     file = list_name[:-len(".captures")]
-    place = folder.place_of(file)
+    name, place = read_name(file), folder.place_of(file)
     record = read_list(place / list_name)
     made = record.made.get(file)
-    if not made or not made.sum:
+    if not name or not made or not made.sum:
         return "there is no file"
     for end, what in ((".refused", "refused"), (".again", "broken off")):
         if file + end in folder.names:
@@ -130,7 +130,7 @@ def fault_of_file(folder: Folder, span: Span, list_name: str, options: Options) 
         return f"{file} is gone"
     if form.is_file() and not is_compact(form) and folder.sum(form) != made.sum:
         return f"{file} was changed"
-    return fault_of_captures(folder, span, file, record) or ("" if options.takes_faulty else fault_of_content(folder, span, file, record))
+    return fault_of_captures(folder, span, file, record) or ("" if options.takes_faulty else fault_of_content(place, name, made.epochs))
 
 
 def fault_of_captures(folder: Folder, span: Span, file: str, record: Record) -> str:
@@ -146,16 +146,14 @@ def fault_of_captures(folder: Folder, span: Span, file: str, record: Record) -> 
     return ""
 
 
-def fault_of_content(folder: Folder, span: Span, file: str, record: Record) -> str:
+def fault_of_content(place: Path, name: Name, epochs: int) -> str:
     """Whether somebody may want the captures, because the file lacks something that they may have."""
-    report = folder.place_of(file) / f"{file}.report"
+    report = place / f"{name}.report"
     text = report.read_text(errors="replace") if report.is_file() else ""
     for word in LOOKED_AT:
         if count := count_of(text, word):
-            return f"{file} has {word} {count}"
-    name, made = read_name(file), record.made[file]
-    expected = LENGTHS[span.length] * 1000 // folder.row.interval_ms if name and name.interval == folder.row.interval else 0
-    return f"{file} has {made.epochs} epochs of {expected}" if made.epochs < expected else ""
+            return f"{name} has {word} {count}"
+    return f"{name} has {epochs} epochs of {name.epochs}" if epochs < name.epochs else ""
 
 
 def lengths_of(folder: Folder, row: Row, options: Options) -> List[str]:
@@ -186,40 +184,48 @@ def unneeded(folder: Folder, rows: Sequence[Row], options: Options) -> List[Path
 # ---------------------------------------------------------------- the deletion
 
 
-def append(text: str, path: Path) -> None:
-    """Adds lines to a list. It is a lock too, and a run may have put another one in its place meanwhile."""
+def append(text: str, path: Path) -> bool:
+    """Adds lines to a list if there is room for all of them. It is a lock too, and a run may have put another one in its place meanwhile."""
+    lines = text.encode()
     while True:
-        with open(path, "a", encoding="utf-8") as file:
+        with open(path, "r+b", buffering=0) as file:
             fcntl.flock(file, fcntl.LOCK_EX)
             if is_at(file, path):
-                file.write(text)
-                return
+                end = file.seek(0, os.SEEK_END)
+                if file.write(lines) == len(lines):
+                    return True
+                file.truncate(end)
+                return False
+
+
+def has_noted(path: Path, captures: Set[str]) -> bool:
+    """Whether a list could be told that captures were deleted."""
+    try:
+        return append("".join(f"deleted {it}\n" for it in sorted(captures & set(read_list(path).captures))), path)
+    except OSError:
+        return False
 
 
 def delete(folder: Folder, paths: Sequence[Path]) -> None:
-    """Deletes captures, and says so in each list that has them. A list that can't be written, as on a full disk, which needs the room,
-    is left; then a later run is refused."""
-    deleted: Dict[str, Set[str]] = {}
+    """Deletes captures, and says so before in each list that has them. On a full disk a list may have room for it only then. A run is
+    refused if its list lacks the line."""
+    deleted: Dict[Path, Set[str]] = {}
     for path in paths:
         for span in spans_of(hour_of_capture(f"{path.parent.name}/{path.name}") or 0, list(LENGTHS)):
             for name in folder.lists.get(span, []):
-                deleted.setdefault(name, set()).add(name_of(path))
-    for name, captures in deleted.items():
-        path = folder.place_of(name[:-len(".captures")]) / name
-        listed = set(read_list(path).captures)
-        try:
-            append("".join(f"deleted {it}\n" for it in sorted(captures & listed)), path)
-        except OSError:
-            pass
+                deleted.setdefault(folder.place_of(name[:-len(".captures")]) / name, set()).add(name_of(path))
+    left = [path for path, captures in deleted.items() if not has_noted(path, captures)]
     for path in paths:
         path.unlink(missing_ok=True)
+    for path in left:
+        has_noted(path, deleted[path])
 
 
 def has_deleted(row: Row, rows: Sequence[Row], options: Options) -> bool:
     """Deletes the captures of a station that no file needs, or says why it can't; then the others are gone on with."""
     try:
         folder = read_folder(row)
-        paths = unneeded(folder, [it for it in rows if it.directory == row.directory] or [row], options)
+        paths = unneeded(folder, [it for it in rows if it.place == row.place], options)
         size = sum(path.stat().st_size for path in paths)
         if options.deletes:
             delete(folder, paths)

@@ -2,6 +2,7 @@
 
 from __future__ import annotations
 
+import io
 import os
 import signal
 import sys
@@ -75,6 +76,8 @@ def run_script(name: str, main: Callable[[Sequence[str]], int], doc: str, usage:
     """
     for it in (signal.SIGHUP, signal.SIGINT, signal.SIGTERM):
         signal.signal(it, end_by_signal)
+    if isinstance(sys.stdout, io.TextIOWrapper):
+        sys.stdout.reconfigure(errors="backslashreplace")  # of a name that is no UTF-8
     sys.exit(status_of(name, main, doc, usage))
 
 

@@ -1,5 +1,5 @@
 """The guards: why a new file would be worse than the one that is there. Each is a function that tells a fault or none, and its comment
-gives the reason for it."""
+gives the reason for it. The first line of a fault is the cause, and further lines stand in the note of the run alone."""
 
 from __future__ import annotations
 
@@ -7,18 +7,21 @@ import math
 import re
 from dataclasses import dataclass
 from pathlib import Path
-from typing import Dict, Iterator, List, Optional, Sequence, Set, Tuple
+from typing import Dict, FrozenSet, Iterator, List, Optional, Set, Tuple
 
 from .captures import Sum
-from .comparison import Losses, Place, losses
+from .comparison import Unlike, differences, lost_first_slips
 from .lists import Made, Record
 from .labels import fields_of_options, options_of
 from .places import form_of, is_compact
+from .program import Program
 from .rinex import Header, codes_with_values, count_epochs, count_values, read_header
 
 MOST_METRES = 1.0  # of a position that comes from the same antenna
 MOST_CONFLICTS = 0.01  # of the messages that were taken
 CONFLICT = re.compile(r"(?m)^link \d+ conflict \d+ (?:-|\S+ \S+)", re.ASCII)
+OF_OTHER_GUARDS = re.compile(r"lost code \S+|(lost|changed) position", re.ASCII)  # lines of `compare`
+OF_WHOLE_FILE = re.compile(r"lost slip .*", re.ASCII)  # also a line of `compare`
 
 
 @dataclass(frozen=True)
@@ -34,27 +37,46 @@ class MadeBy:
 
 @dataclass(frozen=True)
 class Old:
-    """The file of before: where it lies, if it is there, and whether it is as it was made; what it was made by; its header and the text
-    of its report."""
+    """The files of before: what the list says that was made, and which of these are there with the bytes with which they were made;
+    where the file of the span gets to, and whether it is there and can be read; what it was made by, its header, and the text of its
+    report."""
 
-    path: Optional[Path]
-    is_intact: bool
+    made: Dict[str, Made]
+    intact: FrozenSet[str]
+    path: Path
+    is_there: bool
     by: MadeBy
     header: Header
     report: str
 
+    def file(self, name: str) -> Optional[Path]:
+        """Where a file lies, if it and that of the span are there and can be read."""
+        form = form_of(self.path.with_name(name))
+        return form if self.is_there and form.is_file() and not is_compact(form) else None
+
+    def is_same(self, name: str, made: Made) -> bool:
+        """Whether a file is there as it is made now."""
+        return name in self.intact and made == self.made[name]
+
+    def is_cut(self, name: str) -> bool:
+        """Whether a thinned file was cut out of the file of the span that is there. So are its slips, and the other file is compared."""
+        return self.is_there and name != self.path.name and {name, self.path.name} <= self.intact
+
 
 @dataclass(frozen=True)
 class New:
-    """The new file: where it lies now, what it was made by, and the text of its report."""
+    """The new files: what was made, where that of the span lies now, the text of the report, whether all is as in the list of before from
+    which they were made, and whether captures lost bytes."""
 
+    made: Dict[str, Made]
     path: Path
-    by: MadeBy
     report: str
+    is_of_list: bool
+    lost_bytes: bool
 
 
-def old_file(path: Path, record: Record, is_intact: bool) -> Old:
-    """What is known of the file of before: what its list says, and the fields of its header. If the file was changed since, the list
+def old_files(path: Path, record: Record, intact: FrozenSet[str]) -> Old:
+    """What is known of the files of before: what their list says, and the fields of the header. If the file was changed since, the list
     decides of the fields that it has, and the others were filled by hand."""
     form, used = form_of(path), record.row()
     is_there = form.is_file() and not is_compact(form)
@@ -62,18 +84,22 @@ def old_file(path: Path, record: Record, is_intact: bool) -> Old:
     report = path.with_name(path.name + ".report")
     text = report.read_text(errors="replace") if report.is_file() else ""
     fields = {**header.fields, "marker": header.marker} if header.marker else {}
-    if used and not (is_there and is_intact):
+    if used and not (is_there and path.name in intact):
         fields.update({**fields_of_options(options_of(used.label) or []), "marker": used.marker})
     by = MadeBy(used.station if used else None, used.msm if used else None, used.codes if used else header.codes, fields)
-    return Old(path if is_there else None, is_there and is_intact, by, header, text)
+    return Old(record.made, intact, path, is_there, by, header, text)
+
+
+def without_bytes(before: Dict[str, Sum], found: Dict[str, Sum]) -> List[str]:
+    """The captures of before whose bytes no capture of the same hour has now, whichever link it is of."""
+    there = {(name.partition("/")[2], it) for name, it in found.items()}
+    return [name for name, it in before.items() if (name.partition("/")[2], it) not in there]
 
 
 def guard_captures(before: Dict[str, Sum], found: Dict[str, Sum], unread: Set[str]) -> Iterator[str]:
     """The captures that a file was made of may have what no other capture has. The bytes of a capture of the same hour of another
     link do as well, and a capture that can't be read now is not gone."""
-    bytes_of = {(name.partition("/")[2], it) for name, it in found.items()}
-    gone = [name for name, it in before.items()
-        if name not in found and name not in unread and (name.partition("/")[2], it) not in bytes_of]
+    gone = [name for name in without_bytes(before, found) if name not in found and name not in unread]
     if gone:
         yield f"captures that the file was made from are gone: {' '.join(sorted(gone))}"
 
@@ -82,14 +108,14 @@ def guard_words(name: str, old: Old, new: MadeBy) -> Iterator[str]:
     """A table that was edited says how the station is now, and the file may be of the time before. Another number is another station,
     and another MSM has other values of the same codes. A code that the row names no more, and a field of the label that is another one
     now, belong to another receiver or antenna. A field that was blank may be filled, and a code without a value may go."""
-    by = old.by
+    by, path = old.by, old.file(name)
     if by.station not in (None, new.station):
         yield f"{name} is of station {by.station}, and the table has {new.station}"
     if by.msm not in (None, new.msm):
         yield f"{name} is of MSM{by.msm}, and would be of MSM{new.msm}"
     dropped = [code for code in by.codes if code not in new.codes]
-    if dropped and old.path and old.is_intact:
-        there = codes_with_values(old.path)
+    if dropped and path and name in old.intact:
+        there = codes_with_values(path)
         dropped = [code for code in dropped if code in there]
     if dropped:
         yield f"{name} has the codes {','.join(dropped)}, and the row has them no more"
@@ -104,34 +130,54 @@ def is_same_field(old: str, new: str) -> bool:
     return old == new or bool(re.fullmatch(r"[+-]0\.0000", old))
 
 
-def guard_counts(name: str, old: Optional[Path], listed: Optional[Made], new: Made, is_alike: bool) -> Iterator[str]:
+def guard_compact(old: Old, made: Dict[str, Made]) -> Iterator[str]:
+    """A file that can't be read here can't be compared with a new one."""
+    for name, it in made.items():
+        form = form_of(old.path.with_name(name))
+        if is_compact(form) and not old.is_same(name, it) and not old.is_cut(name):
+            yield f"{form.name} can't be read here, so nobody knows whether the new file is worse"
+
+
+def guard_counts(name: str, listed: Made, new: Made) -> Iterator[str]:
     """A file that was moved away is compared by what its list counts."""
-    epochs = max(listed.epochs if listed else 0, count_epochs(old) if old else 0)
-    if new.epochs < epochs:
-        yield f"{name} had {epochs} epochs, and would have {new.epochs}"
-    values = max(listed.values if listed else 0, count_values(old) if old else 0)
-    if new.values < values and is_alike:
-        yield f"{name} had {values} values, and would have {new.values}"
+    if new.epochs < listed.epochs:
+        yield f"{name} had {listed.epochs} epochs, and would have {new.epochs}"
+    if new.values < listed.values:
+        yield f"{name} had {listed.values} values, and would have {new.values}"
 
 
-def guard_records(name: str, found: Losses, has_lost_bytes: bool) -> Iterator[str]:
-    """A loss in one hour of a day may hide behind a gain in another, so each epoch and value counts, and each mark of a slip or half
-    cycle. A slip at the first phase of a satellite rests on the captures before the span, so it may go if these only grew."""
-    if found.epochs:
-        yield f"{name} has epochs that the new one would lack: {len(found.epochs)}, the first is {found.epochs[0][2:]}"
-    kinds = [("values", found.values), ("marks of half cycles", found.halves)]
-    for what, places in kinds:
-        if places:
-            yield f"{name} has {what} that the new one would lack: {told(places)}"
-    slips = found.slips + (found.first_slips if has_lost_bytes else [])
+def guard_records(program: Program, name: str, old: Old, new: New) -> Iterator[str]:
+    """A loss in one hour of a day may hide behind a gain in another, so `compare` looks at each value and mark. Codes and position have
+    guards of their own. A file that is made once more from the same heals what a disk or a hand changed, so only what is lost counts.
+    A slip of a thinned file is one of the file of the span, which has the phases that explain it. `compare` explains values in other steps
+    by messages that came, which have finer ones; but those that went may have had them."""
+    path, now = old.file(name), new.path.with_name(name)
+    if path is None:
+        return
+    try:
+        found = differences(program, path, now)
+    except Unlike as fault:
+        if not new.is_of_list or count_epochs(path) > count_epochs(now) or count_values(path) > count_values(now):
+            yield f"{name} was changed, and can't be compared: {fault}"
+        return
+    is_thin = name != old.path.name
+    others = [it for it in found.lines if OF_OTHER_GUARDS.fullmatch(it) or (is_thin and OF_WHOLE_FILE.fullmatch(it))]
+    lines = [it for it in found.lines if it not in others]
+    lost, changed = (count - sum(it.startswith(kind) for it in others) for kind, count in found.counts.items())
+    if lost or (changed and not new.is_of_list):
+        yield "\n".join([f"{name} would be worse: lost {lost} changed {changed}, the first is {lines[0]}", *lines])
+    if found.may_be_finer and (old.by.msm is None or new.lost_bytes):
+        why = "has no list" if old.by.msm is None else "was made of captures that lost bytes"
+        yield f"{name} {why}, and the new one may have values in other steps: nobody knows whether they are coarser"
+    if new.lost_bytes and not is_thin:
+        yield from guard_first_slips(name, path, now)
+
+
+def guard_first_slips(name: str, old: Path, new: Path) -> Iterator[str]:
+    """A slip at the first phase of a satellite rests on the captures before the span, so it is lost if these lost bytes."""
+    slips = lost_first_slips(old, new)
     if slips:
-        yield f"{name} had slips, and would have some of them no more: {told(slips)}"
-
-
-def told(places: Sequence[Place]) -> str:
-    """How many places, and which is the first."""
-    key, satellite, code = places[0]
-    return f"{len(places)}, the first is {key[2:]} {satellite} {code}"
+        yield f"{name} had slips at first phases, and would have some of them no more: {len(slips)}, the first is {slips[0]}"
 
 
 def guard_position(name: str, old: Header, new: Header) -> Iterator[str]:
@@ -157,27 +203,19 @@ def count_of(report: str, word: str) -> int:
     return int(match[1]) if match else 0
 
 
-def has_lost_bytes(before: Dict[str, Sum], found: Dict[str, Sum]) -> bool:
-    """Whether a capture has other bytes than it had, and no more of them."""
-    return any(name in before and before[name] != it and it.size <= before[name].size for name, it in found.items())
+def faults_of(program: Program, old: Old, new: New) -> Iterator[str]:
+    """Why the records of the new files would be worse than those of before."""
+    if old.is_there:
+        yield from guard_position(old.path.name, old.header, read_header(new.path))
+        yield from guard_conflicts(old.path.name, old.report, new.report)
+    for name, it in new.made.items():
+        if listed := old.made.get(name):
+            yield from guard_counts(name, listed, it)
+        if not old.is_same(name, it) and not old.is_cut(name):
+            yield from guard_records(program, name, old, new)
 
 
-def faults_of(old: Old, new: New, listed: Dict[str, Made], made: Dict[str, Made], lost_bytes: bool) -> Iterator[str]:
-    """Why the records of the new files would be worse than those of before. The first name in `made` is that of the file, and thinned ones follow."""
-    name = next(iter(made))
-    if old.path:
-        yield from guard_position(name, old.header, read_header(new.path))
-        yield from guard_conflicts(name, old.report, new.report)
-    is_alike = set(old.by.codes) <= set(new.by.codes)
-    for file, it in made.items():
-        form = form_of(old.path.with_name(file)) if old.path else None
-        path = form if form and form.is_file() and not is_compact(form) else None
-        yield from guard_counts(file, path, listed.get(file), it, is_alike)
-        if path:
-            yield from guard_records(file, losses(path, new.path.with_name(file)), lost_bytes)
-
-
-def differences(before: Record, now: Record) -> List[str]:
+def captures_that_differ(before: Record, now: Record) -> List[str]:
     """The lines of captures in which the lists of before and of now differ."""
     gone = [f"before {name} {it}" for name, it in sorted(before.captures.items()) if now.captures.get(name) != it]
     come = [f"now {name} {it}" for name, it in sorted(now.captures.items()) if before.captures.get(name) != it]

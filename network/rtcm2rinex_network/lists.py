@@ -101,16 +101,16 @@ class Record:
 def read_list(path: Path) -> Record:
     """Reads a list; one that is not there or empty has nothing."""
     try:
-        text = path.read_text(errors="surrogateescape")
+        text = path.read_text(encoding="utf-8", errors="surrogateescape")
     except FileNotFoundError:
         return Record()
     return list_of(text)
 
 
 def list_of(text: str) -> Record:
-    """The list with this text."""
+    """The list with this text. A last line that does not end was cut off, so it says nothing."""
     found = Record()
-    for line in text.splitlines():
+    for line in text.split("\n")[:-1]:
         if match := re.fullmatch(rf"({CAPTURE}) {SUM}", line, re.ASCII):
             found.captures[match[1]] = Sum(int(match[2]), match[3])
         elif match := MADE.fullmatch(line):

@@ -27,7 +27,6 @@ from .table import Row, find_row, read_table
 from .times import LENGTHS, Span, text_of
 
 SCRIPT = "live-station"
-SPANS = ("01H", "01D")
 AFTER_HOUR = 2  # seconds in which what came before the end of an hour is written
 LONGEST_HEADER = 8_192  # bytes
 
@@ -61,7 +60,7 @@ class LiveJob:
         """The words of `convert`. A number of epochs by which it is behind the stream stands for the window of the row."""
         msm = self.row.msm(self.settings)
         return ["convert", "--station", self.row.station, "--near", span.start, "--made", text_of(time.time()), "--marker",
-            self.row.marker, "--codes", self.row.codes, "--window", self.settings.get("WINDOW", "4"),
+            self.row.marker, "--codes", self.row.codes, "--window", self.settings.word("WINDOW", "4"),
             *([] if msm == "4" else ["--msm", msm]), "stdin"]
 
 
@@ -190,12 +189,11 @@ def job_of(settings: Settings, word: str) -> LiveJob:
     match = re.fullmatch(rf"([A-Z0-9]+)(?::({LINK}))?", word)
     if not match:
         raise Usage
-    length = settings.get("SPAN", "01H")
-    if length not in SPANS:
-        raise Refused("SPAN is not 01H or 01D")
+    length = settings.word("SPAN", "01H")
     row = find_row(settings.stations, match[1], time.time() + settings.leap_seconds)
     row.msm(settings)
     settings.number("WAIT", 60)
+    settings.word("WINDOW", "4")
     return LiveJob(settings, row, int(match[2] or 1), length, find_program(settings))
 
 

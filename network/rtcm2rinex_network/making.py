@@ -13,14 +13,15 @@ from .guards import count_of
 from .labels import fields_of_options
 from .lists import Made, Record
 from .names import Name, read_name
-from .places import folder_of, form_of
+from .places import folder_of, form_of, has_list, plain_name
 from .program import Program
 from .rinex import count_values, most_frequent_step, read_header
 from .settings import DAY, Settings
 from .table import Row
-from .times import Span, ms_of, text_of
+from .times import Span, interval_of, ms_of, text_of
 
 CHECKED = "valid: "
+FIRST_DATE = "1980-01-06"  # that a file can have; a clock that was never set is before it
 
 
 @dataclass(frozen=True)
@@ -53,8 +54,9 @@ class Job:
 
     @property
     def every(self) -> str:
-        """The interval of the thinned file that is asked for; nothing if none is."""
-        return self.settings.get("EVERY")
+        """The interval of the thinned file that is asked for; nothing if none is, or if that of the file is no shorter."""
+        every = self.settings.get("EVERY")
+        return every if (ms_of(every) or 0) > self.row.interval_ms else ""
 
     def head(self) -> List[str]:
         """The lines of the list before the captures. If the row, the MSM or the label changes, the file is made anew."""
@@ -74,20 +76,26 @@ class Conversion:
     report: str = ""
 
 
-def seconds_of_thin(interval: str, own: str) -> int:
-    """The seconds of another interval than the station's own; 0 if it is the same or not in whole seconds."""
+def seconds_of_thin(interval: str) -> int:
+    """The seconds of an interval of a thinned file; 0 if they are not whole, or more than those of a day."""
     ms = ms_of(interval)
-    return ms // 1000 if ms and ms % 1000 == 0 and ms <= DAY * 1000 and interval != own else 0
+    return ms // 1000 if ms and ms % 1000 == 0 and ms <= DAY * 1000 else 0
+
+
+def check_every(settings: Settings) -> None:
+    """Refuses an interval that thinned files can't have."""
+    every = settings.get("EVERY")
+    if every and not seconds_of_thin(every):
+        raise Refused(f"EVERY={every} is no interval in whole seconds")
 
 
 def thins_of(job: Job, before: Record) -> List[Name]:
-    """The thinned files: the one that is asked for, and those that are there from before."""
+    """The thinned files: the one that is asked for, and those that are there. A list that was lost or cut off does not name them."""
+    texts = [*before.made, *(it for it in os.listdir(job.folder) if it.startswith(job.name.begin))]
     wanted = [job.every] if job.every else []
-    for text in before.made:
-        name = read_name(text)
-        if not name or name.interval in wanted or not form_of(job.folder / text).exists():
-            continue
-        if seconds_of_thin(name.interval, job.row.interval):
+    for name in sorted(filter(None, map(read_name, map(plain_name, texts))), key=str):
+        is_thin = name == job.name.with_interval(name.interval) and seconds_of_thin(name.interval) * 1000 > job.row.interval_ms
+        if is_thin and name.interval not in wanted and form_of(job.folder / str(name)).exists() and not has_list(job.folder, name):
             wanted.append(name.interval)
     return [job.name.with_interval(it) for it in wanted]
 
@@ -118,10 +126,15 @@ def time_of_making(job: Job, captures: Sequence[Capture], is_made: bool) -> str:
     """The time that the file shows. If the file is there and a thinned one alone is made, it is that of the file."""
     if is_made:
         return read_header(form_of(job.path)).made
+    if made := job.settings.get("MADE"):
+        return made
     try:
-        return job.settings.get("MADE") or text_of(max(os.stat(it.path).st_mtime for it in captures))
+        made = text_of(max(os.stat(it.path).st_mtime for it in captures))
     except FileNotFoundError:
         raise Again("captures go while they are read") from None
+    if made < FIRST_DATE:
+        raise Refused(f"the newest capture was written at {made}: set MADE to a later time")
+    return made
 
 
 def convert(job: Job, captures: Sequence[Capture], before: Record, work: Path, is_made: bool, done: Conversion) -> None:
@@ -139,23 +152,24 @@ def convert(job: Job, captures: Sequence[Capture], before: Record, work: Path, i
     if not done.made[name].epochs:
         raise Refused(f"the captures have no epoch of this span{hint_of(done.report)}")
     step = most_frequent_step(work / name)
-    if step not in (None, row.interval_ms):
-        raise Refused(f"the interval is {step} ms, and not {row.interval}")
+    if step is not None and step != row.interval_ms:
+        raise Refused(f"the interval is {interval_of(step) or f'{step} ms'}, and the row has {row.interval}")
     if read_header(work / name).position is None:
         done.report += "position none\n"
     (work / f"{name}.report").write_text(done.report)
     for thin in thins_of(job, before):
-        seconds = seconds_of_thin(thin.interval, row.interval)
+        seconds = seconds_of_thin(thin.interval)
         done.made[str(thin)] = cut_out(job, work, str(thin), ["--every", str(seconds)])
     (work / "whole").unlink()
 
 
 def hint_of(report: str) -> str:
-    """What would help, if messages of another station came alone."""
-    foreign = count_of(report, "foreign")
-    if not foreign or count_of(report, "taken"):
+    """What would help, if nothing of the station was taken."""
+    if count_of(report, "taken") or not count_of(report, "frames"):
         return ""
-    return f": foreign {foreign}, so the row may have another number than the station"
+    if foreign := count_of(report, "foreign"):
+        return f": foreign {foreign}, so the row may have another number than the station"
+    return ": `rtcm2rinex summary` of a capture says which messages came"
 
 
 def cut_out(job: Job, work: Path, name: str, words: Sequence[str]) -> Made:
@@ -174,7 +188,7 @@ def cut_out(job: Job, work: Path, name: str, words: Sequence[str]) -> Made:
 
 
 def label_files(job: Job, work: Path, done: Conversion) -> None:
-    """Gives each new file the fields of the label, now that it is checked and no worse."""
+    """Gives each new file the fields of the label, now that it is checked."""
     for name, made in done.made.items() if job.options else []:
         if made.is_none:
             continue

@@ -6,7 +6,8 @@ import re
 from dataclasses import dataclass, replace
 from typing import Optional
 
-from .times import LENGTHS, Span, stamp_of, time_of_stamp
+from .settings import DAY
+from .times import LENGTHS, Span, ms_of, stamp_of, time_of_stamp
 
 LINKS = range(1, 17)
 LINK = r"[1-9]|1[0-6]"
@@ -26,6 +27,16 @@ class Name:
 
     def __str__(self) -> str:
         return f"{self.name9}_S_{stamp_of(self.span.begin)}_{self.span.length}_{self.interval}_{self.kind}.rnx"
+
+    @property
+    def begin(self) -> str:
+        """How the names of all files of its span begin."""
+        return str(self).removesuffix(f"{self.interval}_{self.kind}.rnx")
+
+    @property
+    def epochs(self) -> int:
+        """How many epochs a file with this name has if none is missing; at least one."""
+        return max(1, LENGTHS[self.span.length] * 1000 // (ms_of(self.interval) or DAY * 1000))
 
     def with_interval(self, interval: str) -> Name:
         """The name of the same data in other steps."""

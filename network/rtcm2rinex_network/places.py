@@ -3,33 +3,33 @@ keeps them."""
 
 from __future__ import annotations
 
-import fcntl
 import os
 import re
 import time
 from pathlib import Path
 from typing import BinaryIO, Iterator, List, Optional
 
-from .ends import Refused
 from .names import Name, read_name
-from .placing import make_folder
+from .placing import lock, make_folder
 from .settings import Settings
 
-FLAT, DATED = "flat", "year/day"
 COMPACT = (".crx.gz", ".crx")  # in place of .rnx: the form of Hatanaka, which can't be read here
 
 
 def folder_of(settings: Settings, rinex: Path, begin: int) -> Path:
     """The folder of the files of a span that begins then."""
-    layout = settings.get("LAYOUT", FLAT)
-    if layout not in (FLAT, DATED):
-        raise Refused(f"LAYOUT is not {FLAT} or {DATED}")
-    return dated(rinex, begin) if layout == DATED else rinex
+    return dated(rinex, begin) if settings.word("LAYOUT", "flat") == "year/day" else rinex
 
 
 def dated(rinex: Path, begin: int) -> Path:
     """The folder of the day of a span."""
     return rinex / time.strftime("%Y/%j", time.gmtime(begin))
+
+
+def has_list(folder: Path, name: Name) -> bool:
+    """Whether a file has a list, as a thinned one never has. An empty one is a lock alone."""
+    path = folder / f"{name}.captures"
+    return path.is_file() and path.stat().st_size > 0
 
 
 def folder_with(rinex: Path, name: Name) -> Path:
@@ -50,10 +50,19 @@ def names_below(rinex: Path) -> List[str]:
     return sorted(name for folder in folders_below(rinex) for name in os.listdir(folder))
 
 
+def plain_name(text: str) -> str:
+    """The name of a RINEX file, by that of another form of it or of a file beside it, as NAME.report."""
+    return re.sub(r"\.(rnx|crx)\b.*", ".rnx", text)
+
+
+def compact_forms(path: Path) -> List[Path]:
+    """The names that a file has if it is compact."""
+    return [*(path.with_name(path.name[:-len(".rnx")] + end) for end in COMPACT), path.with_name(f"{path.name}.crx.gz")]
+
+
 def form_of(path: Path) -> Path:
     """A file as it is there: plain, as NAME.gz, or compact; else its plain name."""
-    forms = [path, path.with_name(f"{path.name}.gz"), *(path.with_name(path.name[:-len(".rnx")] + end) for end in COMPACT),
-        path.with_name(f"{path.name}.crx.gz")]
+    forms = [path, path.with_name(f"{path.name}.gz"), *compact_forms(path)]
     return next((it for it in forms if it.is_file()), path)
 
 
@@ -66,19 +75,16 @@ def adopt(rinex: Path, folder: Path, name: Name) -> Optional[BinaryIO]:
     """Moves what lies of a span in the folder of the other layout to its place, so that it is never made twice. The list of `folder` is
     locked. If the list comes from the other folder, it is locked before it gets its name, and answered open."""
     other = dated(rinex, name.span.begin) if folder == rinex else rinex
-    lock: Optional[BinaryIO] = None
-    for path in sorted(other.glob(f"{name.name9}_S_*")) if other.is_dir() else []:
-        text = re.sub(r"\.(rnx|crx)\b.*", ".rnx", path.name)
-        found = read_name(text)
+    held: Optional[BinaryIO] = None
+    for path in sorted(other.glob(f"{name.begin}*")):
         target = folder / path.name
         is_empty = target.name.endswith(".captures") and target.is_file() and target.stat().st_size == 0
-        if found is None or found.span != name.span or path.name.endswith((".live", ".live.report")) or not path.is_file():
+        if not read_name(plain_name(path.name)) or path.name.endswith((".live", ".live.report")) or not path.is_file():
             continue
         if target.exists() and not is_empty:
             continue
         make_folder(folder)
         if path.name == f"{name}.captures":
-            lock = open(path, "ab")
-            fcntl.flock(lock, fcntl.LOCK_EX)
+            held = lock(path)
         os.replace(path, target)
-    return lock
+    return held

@@ -51,7 +51,7 @@ def write_whole(path: Path, text: str) -> None:
         raise Refused(f"{path} is no regular file, and is not replaced")
     new = path.with_name(f".{path.name}.{os.getpid()}")
     try:
-        new.write_text(text, errors="surrogateescape")
+        new.write_text(text, encoding="utf-8", errors="surrogateescape")
         os.replace(new, path)
     except OSError:
         new.unlink(missing_ok=True)
@@ -98,8 +98,7 @@ def make_folder(folder: Path) -> None:
     give_to_owner(folder, folder.parent)
 
 
-@contextmanager
-def locked(path: Path) -> Iterator[BinaryIO]:
+def lock(path: Path) -> BinaryIO:
     """Opens and locks a list, which is there after it. Another run may put a new list in its place meanwhile, and then that one is
     locked."""
     while True:
@@ -108,11 +107,17 @@ def locked(path: Path) -> Iterator[BinaryIO]:
         except OSError as fault:
             place = path if path.exists() else path.parent
             raise blamed(str(place), f"can't write {path}: {fault.strerror}") from None
-        with file:
-            wait_for(file, path)
-            if is_at(file, path):
-                yield file
-                return
+        wait_for(file, path)
+        if is_at(file, path):
+            return file
+        file.close()
+
+
+@contextmanager
+def locked(path: Path) -> Iterator[BinaryIO]:
+    """Holds the lock of a list."""
+    with lock(path) as file:
+        yield file
 
 
 def wait_for(file: BinaryIO, path: Path) -> None:

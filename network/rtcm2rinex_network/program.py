@@ -10,12 +10,13 @@ from dataclasses import dataclass
 from pathlib import Path
 from typing import Optional, Sequence
 
-from .ends import Again, Refused
+from .ends import Again, Ended, Refused
 from .settings import HERE, Settings
 
 PASSING = r"busy|memory|temporarily"  # in what the system says of a program that another run may start
 ENDED_BY_SIGNAL = (129, 130, 137, 143)  # as a shell tells SIGHUP, SIGINT, SIGKILL and SIGTERM
 STARTS_NOT = 126  # as a shell tells a file that can't be run
+LEAST_ROOM = 1 << 16  # bytes: so many the program writes at once
 
 
 def find_program(settings: Settings) -> str:
@@ -84,28 +85,42 @@ class Program:
         raise Refused(f"the program {self.path} does not run: status {ran.status} {ran.first[:200]}")
 
     def write(self, output: Path, words: Sequence[str]) -> str:
-        """Runs a command that writes a file. Answers what it tells, which may be a report: a line of it is data, and the last one is
-        told only where it is a line of the program about a fault."""
+        """Runs a command that writes a file. Answers what it tells, which may be a report."""
         ran = self.ran(words, output)
-        last = ran.told.rstrip("\n").split("\n")[-1][:200]
         if ran.status == 0:
             return ran.told
-        if ran.status == 1 and last == "rtcm2rinex: input does not end":
-            raise Refused(f"{words[0]}: input does not end")
-        if ran.status == 1 and last.startswith("rtcm2rinex: "):
-            raise Again(f"{words[0]}: {last[len('rtcm2rinex: '):]}")
-        if ran.status == 2:
-            raise Refused(f"{words[0]}: {ran.first}")
         if ran.status == 3:
             with open(output, errors="replace") as file:
                 raise Refused(f"{words[0]}: {file.read(1000)}{ran.told[:1000]}".rstrip())
-        raise Again(f"{words[0]}: ended with status {ran.status}")
+        end = fault_of(words[0], ran)
+        if ran.status == 1 and isinstance(end, Again) and is_full(output.parent):
+            raise Again(f"{end}: no space left in {output.parent.parent}")
+        raise end
 
     def fault_of_codes(self, codes: str) -> str:
         """Why the program does not take these codes; nothing if it does."""
         ran = self.ran(["convert", "--station", "0", "--near", "2024-05-17T00:00:00", "--made", "2024-05-17T00:00:00", "--marker", "M",
             "--codes", codes, "--window", "2", os.devnull])
         return f"codes {codes!r} are not those of `convert`: {of_program(ran)}" if ran.status == 2 else ""
+
+
+def fault_of(command: str, ran: Ran) -> Ended:
+    """How a command ends the run if it did not do its work. Lines of a report are data, so of a report only the last line is told, and
+    only if it is a fault line of the program."""
+    last = ran.told.rstrip("\n").split("\n")[-1][:200]
+    if ran.status == 1 and last == "rtcm2rinex: input does not end":
+        return Refused(f"{command}: input does not end")
+    if ran.status == 1 and last.startswith("rtcm2rinex: "):
+        return Again(f"{command}: {last[len('rtcm2rinex: '):]}")
+    if ran.status == 2:
+        return Refused(f"{command}: {ran.first}")
+    return Again(f"{command}: ended with status {ran.status}")
+
+
+def is_full(folder: Path) -> bool:
+    """Whether the disk of a folder has no room for another block."""
+    room = os.statvfs(folder)
+    return room.f_bavail * room.f_frsize < LEAST_ROOM
 
 
 def of_program(ran: Ran) -> str:

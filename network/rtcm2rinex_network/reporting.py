@@ -48,7 +48,7 @@ def for_a_person(stations: Sequence[Station], faults: Sequence[str], clock: Cloc
             cells = ["-"] * (2 + len(COUNTED))
             if file:
                 counts = [str(file.counts.get(word, "-")) for word in COUNTED]
-                cells = ["_".join(str(file.name).split("_")[2:4]), f"{file.epochs} of {file.expected}", *counts]
+                cells = ["_".join(str(file.name).split("_")[2:4]), f"{file.epochs} of {file.name.epochs}", *counts]
             rows.append([it.row.name9, links, *cells])
     widths = [max(len(row[at]) for row in rows) for at in range(len(rows[0]))]
     lines = ["  ".join(cell.ljust(width) for cell, width in zip(row, widths)).rstrip() for row in rows]
@@ -66,10 +66,11 @@ def for_programs(stations: Sequence[Station], faults: Sequence[str], clock: Cloc
     for it in stations:
         links = [{"link": link.number, "capture": link.capture, "age": None if link.age is None else round(link.age)} for link in it.links]
         files = [{"name": str(file.name), "span": file.name.span.length, "end": file.name.span.end, "epochs": file.epochs,
-            "expected": file.expected, "position": file.has_position, "counts": file.counts, "links": file.links,
+            "expected": file.name.epochs, "position": file.has_position, "counts": file.counts, "links": file.links,
             "unread": list(file.unread)} for file in it.files]
         windows = [{"window": window.window, "span": window.length, "due": window.due, "made": window.made, "epochs": window.epochs,
-            "expected": window.expected, "missing": [span.start for span in window.missing]} for window in it.windows]
+            "expected": window.expected, "missing": [span.start for span in window.missing],
+            "old": [span.start for span in window.old]} for window in it.windows]
         alarms = [{"alarm": alarm.kind, "text": alarm.text} for alarm in it.alarms]
         told.append({"station": it.row.name9, "number": int(it.row.station), "links": links, "files": files, "windows": windows,
             "not_made": it.not_made, "alarms": alarms})
@@ -113,7 +114,7 @@ def add_files(metrics: Metrics, it: Station, clock: Clock) -> None:
         metrics.add("file_age_seconds", "Seconds since the end of the span of the newest file.", int(clock.gps - end), **labels)
         metrics.add("file_end_timestamp_seconds", "The end of the span of the newest file.", round(end - shift), **labels)
         metrics.add("file_epochs", "Epochs of the newest file.", file.epochs, **labels)
-        metrics.add("file_epochs_expected", "Epochs of the span of the newest file.", file.expected, **labels)
+        metrics.add("file_epochs_expected", "Epochs of the span of the newest file.", file.name.epochs, **labels)
         metrics.add("file_has_position", "1 if the newest file has a position, else 0.", int(file.has_position), **labels)
         for word, count in file.counts.items():
             metrics.add("file_messages", "Messages that the report of the newest file counts.", count, **labels, kind=word)
@@ -178,5 +179,5 @@ def write(text: str, path: Optional[str]) -> None:
         return
     try:
         write_whole(Path(path), text)
-    except OSError as fault:
+    except (FileNotFoundError, NotADirectoryError, PermissionError) as fault:
         raise Refused(f"can't write {path}: {fault.strerror}") from None

@@ -4,10 +4,14 @@ from __future__ import annotations
 
 import gzip
 import re
+import zlib
+from contextlib import contextmanager
 from dataclasses import dataclass, field
 from itertools import islice
 from pathlib import Path
 from typing import Dict, Iterator, Optional, Set, TextIO, Tuple
+
+from .ends import Again
 
 MOST_HEADER_LINES = 60
 KEY = 29  # columns of an epoch's line up to the end of its seconds
@@ -44,11 +48,14 @@ class Header:
     fields: Dict[str, str] = field(default_factory=dict)
 
 
-def open_text(path: Path) -> TextIO:
-    """Opens a file, which may be gzipped."""
-    if path.suffix == ".gz":
-        return gzip.open(path, "rt", encoding="latin-1")
-    return open(path, encoding="latin-1")
+@contextmanager
+def open_text(path: Path) -> Iterator[TextIO]:
+    """Opens a file, which may be gzipped, and may be whole again at another try."""
+    try:
+        with gzip.open(path, "rt", encoding="latin-1") if path.suffix == ".gz" else open(path, encoding="latin-1") as file:
+            yield file
+    except (EOFError, zlib.error) as fault:
+        raise Again(f"can't read {path}: {fault}") from None
 
 
 def read_header(path: Path) -> Header:
@@ -150,19 +157,10 @@ class Cell:
         """Whether there is a phase."""
         return bool(self.values[1])
 
-    def is_of_same_message(self, other: Cell) -> bool:
-        """Whether range and strength are the same and both have a phase. A phase may differ by the rolls of a 1004."""
-        return self.has_phase and other.has_phase and self.values[::2] == other.values[::2]
-
     @property
     def is_slip(self) -> bool:
         """Whether the receiver lost the phase before it."""
         return self.lli in ("1", "3")
-
-    @property
-    def is_half(self) -> bool:
-        """Whether half a cycle is open."""
-        return self.lli in ("2", "3")
 
 
 def cell_of(line: str, rank: int) -> Cell:

@@ -9,18 +9,33 @@ import os
 import re
 from dataclasses import dataclass, replace
 from pathlib import Path
-from typing import Dict, Mapping
+from typing import Dict, Iterator, Mapping
 
 from .ends import Refused
 
 HERE = Path(__file__).resolve().parent.parent  # the folder of the scripts
 SYSTEM = Path("/etc/rtcm2rinex")
 DAY, HOUR = 86_400, 3_600  # seconds
+NUMBER = (r"-?[0-9]{1,10}", "no number of seconds")
+FORMS = {  # of a setting: how it is written, and what it is else
+    "MSM": ("[4-7]", "not 4, 5, 6 or 7"),
+    "LAYOUT": ("flat|year/day", "not flat or year/day"),
+    "SPAN": ("01H|01D", "not 01H or 01D"),
+    "WINDOW": ("[2-9]|[1-9][0-9]{1,2}|[1-3][0-9]{3}|40[0-8][0-9]|409[0-6]", "no number from 2 to 4096"),
+    "HOURS": ("[1-9][0-9]?", "no number from 1 to 99"),
+    "DAYS": ("[1-9][0-9]?", "no number from 1 to 99"),
+    "KEEP_DAYS": ("[1-9][0-9]{0,3}", "no number from 1 to 9999"),
+    "WAIT": NUMBER,
+    "LIVE_AGE": NUMBER,
+    "CAPTURE_AGE": NUMBER,
+    "GPS_MINUS_UTC": NUMBER,
+}
 
 
 @dataclass(frozen=True)
 class Settings:
-    """What the settings say, by their names. FORCE is for one run, so a file of settings that has it forces nothing."""
+    """What the settings say, by their names. FORCE is for one run, so a file of settings that has it forces nothing, here and on other
+    machines."""
 
     words: Mapping[str, str]
     has_lasting_force: bool = False
@@ -29,12 +44,25 @@ class Settings:
         """A setting; the default also if it is set to nothing."""
         return self.words.get(name) or default
 
+    def word(self, name: str, default: str) -> str:
+        """A setting that has a form."""
+        text = self.get(name, default)
+        form, else_it_is = FORMS.get(name, NUMBER)
+        if not re.fullmatch(form, text):
+            raise Refused(f"{name} is {else_it_is}")
+        return text
+
     def number(self, name: str, default: int) -> int:
-        """A setting in whole seconds or epochs."""
-        text = self.get(name, str(default))
-        if not re.fullmatch(r"-?[0-9]{1,10}", text):
-            raise Refused(f"{name} is no number of seconds")
-        return int(text)
+        """A setting that is a number, as of seconds."""
+        return int(self.word(name, str(default)))
+
+    def faults(self) -> Iterator[str]:
+        """What is wrong with the settings that have a form."""
+        for name in filter(self.get, FORMS):
+            try:
+                self.word(name, "")
+            except Refused as fault:
+                yield str(fault)
 
     def with_word(self, name: str, value: str) -> Settings:
         """The same settings but for one."""
@@ -53,7 +81,7 @@ class Settings:
     @property
     def is_forced(self) -> bool:
         """Whether a worse file may replace a better one."""
-        return self.get("FORCE") == "1" and not self.has_lasting_force
+        return self.get("FORCE") == "1"
 
     @property
     def force_hint(self) -> str:
@@ -75,7 +103,10 @@ def default_table(name: str) -> Path:
 def read_settings() -> Settings:
     """The settings of now. SETTINGS names another file than that of the package."""
     lines = lines_of(Path(os.environ.get("SETTINGS") or SYSTEM / "environment"))
-    return Settings({**lines, **os.environ}, "FORCE" in lines)
+    words = {**lines, **os.environ}
+    if "FORCE" in lines:
+        del words["FORCE"]
+    return Settings(words, "FORCE" in lines)
 
 
 def lines_of(path: Path) -> Dict[str, str]:

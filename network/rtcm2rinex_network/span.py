@@ -11,13 +11,14 @@ from pathlib import Path
 from typing import BinaryIO, Dict, Iterator, List, Optional, Sequence
 
 from .after import call_after, note_after
-from .captures import Capture, Sum, Unread, find_captures, is_old, look_at, sum_of
-from .ends import Again, Ended, NoCaptures, Refused, Usage, say
-from .guards import MadeBy, New, differences, faults_of, guard_captures, guard_words, has_lost_bytes, old_file
+from .captures import Capture, Sum, Unread, find_captures, has_grown, is_old, look_at, sum_of
+from .ends import Again, Ended, NoCaptures, Refused, Stopped, Usage, say
+from .guards import (MadeBy, New, captures_that_differ, count_of, faults_of, guard_captures, guard_compact, guard_words, old_files,
+    without_bytes)
 from .labels import checked_options, find_label, labels_beside
 from .lists import Record, read_list
-from .making import Conversion, Job, convert, label_files, seconds_of_thin
-from .places import adopt, dated, form_of, is_compact
+from .making import Conversion, Job, check_every, convert, label_files
+from .places import adopt, compact_forms, dated, form_of, has_list, is_compact
 from .placing import NOTES, UNREAD, give_to_owner, locked, make_folder, note_end, put, sync, work_folder, write_whole
 from .program import Program, find_program
 from .settings import Settings
@@ -35,9 +36,7 @@ def job_of(settings: Settings, word: str, start: str, length: str) -> Job:
     row = find_row(settings.stations, word, span.begin if span else time.time())
     if span is None:
         raise Refused(f"START is no begin of a span of {length}")
-    every = settings.get("EVERY")
-    if every and not seconds_of_thin(every, row.interval):
-        raise Refused("EVERY is no other interval in whole seconds")
+    check_every(settings)
     msm = row.msm(settings)
     program = Program(find_program(settings))
     version = program.version()
@@ -89,17 +88,15 @@ def noted(job: Job) -> Iterator[None]:
 
 def drop_notes_of_span(job: Job) -> None:
     """Removes the notes of the span, also those under another interval, which stood in the row when the runs failed."""
-    begin = str(job.name.with_interval("\0")).partition("\0")[0]
     for name in os.listdir(job.folder):
-        if name.startswith(begin) and name.endswith(NOTES):
+        if name.startswith(job.name.begin) and name.endswith(NOTES):
             (job.folder / name).unlink(missing_ok=True)
 
 
 def is_listed(job: Job) -> bool:
     """Whether there is a list of the file, in the folder of either layout."""
     rinex = job.row.directory / "rinex"
-    lists = [folder / f"{job.name}.captures" for folder in (rinex, dated(rinex, job.span.begin))]
-    return any(it.is_file() and it.stat().st_size > 0 for it in lists)
+    return any(has_list(folder, job.name) for folder in (rinex, dated(rinex, job.span.begin)))
 
 
 def has_own(job: Job, captures: Sequence[Capture]) -> bool:
@@ -195,6 +192,14 @@ class Run:
         is_kept = not self.form(str(self.job.name)).exists() or self.is_intact(str(self.job.name))
         return bool(gone) and is_known and not self.now.unread and set(gone) <= self.before.deleted and is_kept
 
+    def has_lost_bytes(self, has_fewer: bool) -> bool:
+        """Whether the bytes of a capture of the list are there no more, and it has no more of them now. If there are fewer messages than
+        before, more bytes count only behind those that it had."""
+        known, now = self.before.captures, self.now.captures
+        paths = {it.name: it.path for it in self.found.captures}
+        return any(name not in paths or now[name].size <= known[name].size or (has_fewer and not has_grown(paths[name], known[name]))
+            for name in without_bytes(known, now))
+
     # ------------------------------------------------------------ what is made
 
     def made(self) -> str:
@@ -213,7 +218,6 @@ class Run:
                 self.judge(guard_captures(self.before.captures, self.now.captures, self.now.unread), done)
                 if not has_own(job, self.captures):
                     raise NoCaptures(f"no captures for {job.name}")
-                self.judge(self.guard_compact(), done, False)
                 self.make(work, is_made, done)
         except Refused as end:
             end.report = done.report
@@ -229,34 +233,31 @@ class Run:
         if not has_own(job, self.found.captures):
             raise Again("; ".join(self.faults))
         name = str(job.name)
-        old = old_file(job.path, self.before, self.is_intact(name))
+        old = old_files(job.path, self.before, frozenset(filter(self.is_intact, self.before.made)))
         by = MadeBy(job.row.station, job.msm, tuple(job.row.codes.split(",")), job.fields())
         self.judge(guard_words(name, old, by), done, False)
         convert(job, self.found.captures, self.before, work, is_made, done)
-        lost_bytes = bool(self.now.unread) or has_lost_bytes(self.before.captures, self.now.captures)
-        self.judge(faults_of(old, New(work / name, by, done.report), self.before.made, done.made, lost_bytes), done)
         label_files(job, work, done)
+        self.judge(guard_compact(old, done.made), done, False)
+        lost_bytes = self.has_lost_bytes(count_of(done.report, "taken") < count_of(old.report, "taken"))
+        new = New(done.made, work / name, done.report, self.now.source() == self.before.source(), lost_bytes)
+        self.judge(faults_of(job.program, old, new), done)
         self.now.made = done.made
         self.now.report = sum_of(work / f"{name}.report")
         every = [file.split("_")[4] for file in list(done.made)[1:]]
         self.now.used = f"msm {job.msm} window {job.row.window} codes {job.row.codes} every {','.join(every) or '-'}"
         self.put_in_place(work)
 
-    def guard_compact(self) -> Iterator[str]:
-        """A file that can't be read here can't be compared with a new one."""
-        if is_compact(it := self.form(str(self.job.name))):
-            yield f"{it.name} can't be read here, so nobody knows whether the new file is worse"
-
     def judge(self, faults: Iterator[str], done: Conversion, may_be_excused: bool = True) -> None:
         """Refuses a worse file, or with FORCE says why it is worse. The lists of both are shown where they differ, and noted whole. A
         cause that the captures can't mend is not excused by one that can't be read."""
-        for why in faults:
+        for why, *more in (it.split("\n") for it in faults):
             if self.job.settings.is_forced:
                 say(SCRIPT, f"{what_of(self.job)}: FORCE: {why}")
                 continue
             now = [*self.now.source(), *(it.line(name) for name, it in done.made.items())]
-            kept = ["before:", *self.before.source(), *self.before.result(), "now:", *now]
-            shown = "\n".join(differences(self.before, self.now))
+            kept = [*more, "before:", *self.before.source(), *self.before.result(), "now:", *now]
+            shown = "\n".join(captures_that_differ(self.before, self.now))
             end = Refused(f"{why}; to replace it nevertheless, {self.job.settings.force_hint}", shown, "\n".join(kept))
             end.may_be_excused = may_be_excused
             raise end
@@ -271,11 +272,17 @@ class Run:
 
     # ------------------------------------------------------------ what is written
 
-    def write_list(self, path: Path) -> None:
-        """Writes the list of now, with what `stat` said of files whose times are old enough."""
-        path.write_text(self.now.text(), errors="surrogateescape")
+    def put_list(self, work: Path) -> None:
+        """Puts the list of now in the place of that of before. The list is the lock too, so the new one is locked before it gets its name,
+        and held until this run ends."""
+        path = work / "captures"
+        path.write_text(self.now.text(), encoding="utf-8", errors="surrogateescape")
         sync(path)
         give_to_owner(path, self.job.folder)
+        held = open(path, "ab")
+        fcntl.flock(held, fcntl.LOCK_EX | fcntl.LOCK_NB)
+        os.replace(path, self.record)
+        self.held = held
 
     def seen_now(self, names: Sequence[str]) -> Dict[str, str]:
         """What the list notes of these files."""
@@ -290,8 +297,9 @@ class Run:
             return
         try:
             with work_folder(self.job.folder, str(self.job.name)) as work:
-                self.write_list(work / "captures")
-                os.replace(work / "captures", self.record)
+                self.put_list(work)
+        except Stopped:
+            raise
         except (OSError, Ended):
             pass
 
@@ -305,28 +313,30 @@ class Run:
 
     def put_in_place(self, work: Path) -> None:
         """Gives the files their names, the list first. So whatever ends this run, the list has at least the captures of the file that is
-        there, and the next run finds that the sum of the file is another one, and makes it. The list is the lock too, so the new one is
-        locked before it gets its name, and held until this run ends."""
-        folder, name = self.job.folder, str(self.job.name)
+        there, and the next run finds that the sum of the file is another one, and makes it. A compact file stays where nothing changed."""
+        folder, name, made = self.job.folder, str(self.job.name), self.now.made
         self.now.seen = self.seen_now([capture.seen_name for capture in self.captures])
-        self.write_list(work / "captures")
-        made = self.now.made
-        forms = {file: folder / file if is_compact(self.form(file)) else self.form(file) for file in made}
-        new = [folder / file for file, it in made.items()
-            if not it.is_none and not (self.before.made.get(file) == it and self.is_intact(file))]
-        self.held = open(work / "captures", "ab")
-        fcntl.flock(self.held, fcntl.LOCK_EX | fcntl.LOCK_NB)
-        os.replace(work / "captures", self.record)
+        new = [file for file, it in made.items() if not (self.before.made.get(file) == it and self.is_intact(file))]
+        stay = [file for file in made if file not in new and is_compact(self.form(file))]
+        self.put_list(work)
         sync(folder)
-        note_after(self.job.settings, new)
-        for file, it in list(made.items())[1:]:
-            if it.is_none:
-                forms[file].unlink(missing_ok=True)
-            else:
-                put(work / file, forms[file])
+        note_after(self.job.settings, [folder / file for file in new if not made[file].is_none])
         put(work / f"{name}.report", folder / f"{name}.report")
-        put(work / name, forms[name])
+        for file in [*list(made)[1:], name]:
+            if file not in stay:
+                self.put_file(work, file)
         sync(folder)
+
+    def put_file(self, work: Path, file: str) -> None:
+        """Gives a file its name in the form in which it is there, but plain in the place of a compact one. One without epochs goes."""
+        form, plain = self.form(file), self.job.folder / file
+        place = plain if is_compact(form) else form
+        if self.now.made[file].is_none:
+            place.unlink(missing_ok=True)
+        else:
+            put(work / file, place)
+        for compact in compact_forms(plain):
+            compact.unlink(missing_ok=True)
 
 
 def what_of(job: Job) -> str:

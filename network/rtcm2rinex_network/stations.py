@@ -6,10 +6,10 @@ import os
 import re
 from dataclasses import dataclass, field
 from pathlib import Path
-from typing import Dict, Iterator, List, Optional, Set, Tuple
+from typing import Dict, FrozenSet, Iterator, List, Optional, Set, Tuple
 
 from .ends import Ended
-from .lists import Record, list_of
+from .lists import MADE, Record, list_of
 from .names import LINKS, Name, capture_name, hour_of_capture, read_name
 from .places import folder_with, names_below
 from .placing import NOTES, UNREAD, failures
@@ -22,6 +22,7 @@ GRACES = {"15M": 2 * HOUR, "01H": 2 * HOUR, "01D": 26 * HOUR}  # after which a f
 WINDOWS = {"24 h": DAY, "7 d": 7 * DAY}
 UNUSED = 10 * DAY  # a length whose newest file is so much older than that of another one is left out
 OFTEN = 2  # runs of a file that failed, after which it is an alarm
+CAPTURE = re.compile(r"(?m)^(?:unread )?(link\d+/\d{11}\.rtcm)\b", re.ASCII)
 COUNTED = ("late", "conflict", "refused", "foreign")
 KINDS = ("capture", "file", "missing", "epochs", "unread", *COUNTED, "repeat", "position", "not-made", "table")
 
@@ -45,12 +46,11 @@ class Link:
 
 @dataclass(frozen=True)
 class File:
-    """A file that was made: its name, its epochs and those of its span, whether it has a position, how many links it is of, the counts
-    of its report, and the captures that could not be read."""
+    """A file that was made: its name, its epochs, whether it has a position, how many links it is of, the counts of its report, and the
+    captures that could not be read."""
 
     name: Name
     epochs: int
-    expected: int
     has_position: bool
     links: int
     counts: Dict[str, int]
@@ -59,16 +59,26 @@ class File:
 
 @dataclass
 class Window:
-    """The spans of a length of the last day or week: how many files are due and made, their epochs, and those that are expected.
-    `missing` has captures and no file."""
+    """The spans of a length of the last day or week, by their begins: how many files are due and made, their epochs, and those that are
+    expected. `missing` has captures and no file, and the files of `old` lack captures that are there."""
 
     window: str
     length: str
+    begins: range
     due: int = 0
     made: int = 0
     epochs: int = 0
     expected: int = 0
     missing: List[Span] = field(default_factory=list)
+    old: List[Span] = field(default_factory=list)
+
+
+@dataclass(frozen=True)
+class Listed:
+    """What the list of a file says: how many epochs it has, and of which captures it was made, or was to be made."""
+
+    epochs: int
+    captures: FrozenSet[str]
 
 
 @dataclass(frozen=True)
@@ -85,6 +95,7 @@ class Station:
     def __init__(self, settings: Settings, row: Row, live: Set[int], clock: Clock) -> None:
         self.settings, self.row, self.clock = settings, row, clock
         self.links: List[Link] = []
+        self.captures: Set[str] = set()
         self.files: List[File] = []
         self.windows: List[Window] = []
         self.not_made: List[str] = []
@@ -111,6 +122,7 @@ class Station:
         """A link, by its newest capture. A capture that is copied late has no bytes from after its hour."""
         folder = self.row.directory / f"link{number}"
         names = captures_in(folder)
+        self.captures.update(f"{folder.name}/{it[:11]}.rtcm" for it in names)
         if not names:
             self.alarm("capture", f"link{number}: no capture")
             return Link(number, None, None)
@@ -161,20 +173,19 @@ class Station:
         lines = text_if_there(folder / f"{name}.report").split("\n")
         counts = {words[0]: int(words[1]) for words in map(str.split, lines) if len(words) == 2 and words[1].isdecimal()}
         counts.pop("epochs", None)
-        return File(name, made.epochs, self.expected(name.span), "position none" not in lines, links_of(record), counts,
-            tuple(sorted(record.unread)))
+        return File(name, made.epochs, "position none" not in lines, links_of(record), counts, tuple(sorted(record.unread)))
 
-    def expected(self, span: Span) -> int:
-        """How many epochs a span has."""
-        return LENGTHS[span.length] * 1000 // self.row.interval_ms
+    def name(self, span: Span) -> Name:
+        """The name of the file of a span."""
+        return Name(self.row.name9, span, self.row.interval)
 
     def faults(self, it: File) -> Iterator[Tuple[str, str]]:
         """What is to look at in a file: the kind of the alarm, and the text."""
         since = self.clock.gps - it.name.span.end
         if since > FILE_AGES[it.name.span.length]:
             yield "file", f"the newest file of {it.name.span.length} is {it.name}, which ended {age_of(since)} ago"
-        if it.epochs < it.expected:
-            yield "epochs", f"{it.name}: {it.epochs} epochs of {it.expected}"
+        if it.epochs < it.name.epochs:
+            yield "epochs", f"{it.name}: {it.epochs} epochs of {it.name.epochs}"
         yield from self.faults_of_report(it)
 
     def faults_of_report(self, it: File) -> Iterator[Tuple[str, str]]:
@@ -193,46 +204,54 @@ class Station:
     def look_back(self, folder: Path, length: str, names: List[Name], newest: File) -> None:
         """Counts the files of the last day and week, and tells once of each kind what is to look at in those of the last day."""
         first = min(it.span.begin for it in names)
-        epochs: Dict[Span, Optional[int]] = {}
+        lists: Dict[Span, Optional[Listed]] = {}
         for window in WINDOWS:
-            self.windows.append(self.count(folder, window, length, first, epochs))
-        missing = self.windows[-1].missing
-        if missing:
-            self.alarm("missing", f"{len(missing)} spans of {length} of the last 7 d have captures and no file, the first is {missing[0].start}")
-        self.look_at_day(folder, length, newest, epochs)
+            self.windows.append(self.count(folder, window, length, first, lists))
+        week = self.windows[-1]
+        if week.missing:
+            self.alarm("missing",
+                f"{len(week.missing)} spans of {length} of the last 7 d have captures and no file, the first is {week.missing[0].start}")
+        if week.old:
+            self.alarm("missing",
+                f"{len(week.old)} files of {length} of the last 7 d lack captures that came later, the first is {week.old[0].start}")
+        self.look_at_day(folder, length, newest, lists)
 
-    def count(self, folder: Path, window: str, length: str, first: int, epochs: Dict[Span, Optional[int]]) -> Window:
-        """The counts of a window. It begins with the first file of the station. `epochs` keeps those of each file that was read."""
-        size, found = LENGTHS[length], Window(window, length)
+    def count(self, folder: Path, window: str, length: str, first: int, lists: Dict[Span, Optional[Listed]]) -> Window:
+        """The counts of a window. It begins with the first file of the station. `lists` keeps each list that was read. A link may begin
+        in the last quarters of an hour, so a capture of the hour need not have the first ones."""
+        size = LENGTHS[length]
         end = int(self.clock.gps - GRACES[length]) // size * size
-        for begin in range(max(first, end - WINDOWS[window]), end, size):
+        found = Window(window, length, range(max(first, end - WINDOWS[window]), end, size))
+        for begin in found.begins:
             span = Span(begin, length)
-            if span not in epochs:
-                epochs[span] = epochs_made(folder, Name(self.row.name9, span, self.row.interval))
-            it = epochs[span]
+            if span not in lists:
+                lists[span] = list_if_made(folder, self.name(span))
+            it = lists[span]
             found.due += 1
             found.made += it is not None
-            found.epochs += it or 0
-            found.expected += self.expected(span)
+            found.epochs += it.epochs if it else 0
+            found.expected += self.name(span).epochs
             if it is None and self.has_captures(span):
                 found.missing.append(span)
+            if it and size >= HOUR and self.has_captures(span, it.captures):
+                found.old.append(span)
         return found
 
-    def has_captures(self, span: Span) -> bool:
-        """Whether a link has a capture of the span itself."""
-        return any(is_capture(self.row.directory / capture_name(link.number, hour)) for link in self.links for hour in span.own_hours)
+    def has_captures(self, span: Span, but: FrozenSet[str] = frozenset()) -> bool:
+        """Whether a link has a capture of the span itself, beside these."""
+        names = {capture_name(link.number, hour) for link in self.links for hour in span.own_hours}
+        return any(is_capture(self.row.directory / name) for name in (names & self.captures) - but)
 
-    def look_at_day(self, folder: Path, length: str, newest: File, epochs: Dict[Span, Optional[int]]) -> None:
+    def look_at_day(self, folder: Path, length: str, newest: File, lists: Dict[Span, Optional[Listed]]) -> None:
         """Tells of the files of the last day but for the newest one, which is told of already."""
         day = next(it for it in self.windows if it.length == length)
         found: Dict[str, List[str]] = {}
-        begin = int(self.clock.gps) - GRACES[length] - DAY
-        for span in sorted(it for it in epochs if it.begin >= begin and it != newest.name.span):
-            it = self.file(folder, Name(self.row.name9, span, self.row.interval))
+        for span in sorted(it for it in lists if it.begin in day.begins and it != newest.name.span):
+            it = self.file(folder, self.name(span))
             for kind, text in self.faults_of_report(it) if it else []:
                 found.setdefault(kind, []).append(text)
         lacking = day.expected - day.epochs
-        if lacking and not (lacking == newest.expected - newest.epochs and newest.name.span in epochs):
+        if lacking and not (lacking == newest.name.epochs - newest.epochs and newest.name.span in lists):
             self.alarm("epochs", f"the last 24 h of {length} lack {lacking} epochs of {day.expected}: {day.made} of {day.due} files are made")
         for kind, texts in found.items():
             self.alarm(kind, f"{len(texts)} earlier files of the last 24 h, as {texts[0]}")
@@ -265,11 +284,13 @@ class Station:
             self.alarm("not-made", f"{name}: {text_if_there(place / text).split(chr(10))[0]}{often}")
 
 
-def epochs_made(folder: Path, name: Name) -> Optional[int]:
-    """How many epochs a file has by its list; None if it is not made. Many lists are looked at, and this alone is read of them."""
+def list_if_made(folder: Path, name: Name) -> Optional[Listed]:
+    """What the list of a file says; None if the file is not made. Many lists are looked at, and this alone is read of them."""
     text = text_if_there(folder_with(folder, name) / f"{name}.captures")
-    at = text.find(f"\nmade {name} ")
-    return int(text[at:].split(maxsplit=4)[3]) if at >= 0 else None
+    at = text.find(f"\nmade {name} ") + 1
+    line, is_whole, _ = text[at:].partition("\n")
+    made = MADE.fullmatch(line) if is_whole else None
+    return Listed(int(made[3]), frozenset(CAPTURE.findall(text, 0, at))) if made else None
 
 
 def captures_in(folder: Path) -> List[str]:

@@ -2,6 +2,7 @@
 
 from __future__ import annotations
 
+import os
 import re
 from dataclasses import dataclass
 from pathlib import Path
@@ -57,16 +58,18 @@ class Row:
         """The interval in ms."""
         return ms_of(self.interval) or 0
 
+    @property
+    def place(self) -> str:
+        """Its directory without links, by which rows have the same one."""
+        return os.path.realpath(self.directory)
+
     def is_of(self, word: str) -> bool:
         """Whether this is its number or its name."""
         return word in (self.station, self.name9)
 
     def msm(self, settings: Settings) -> str:
         """Which MSM is converted beside 1004: the number in the row, else that of the settings."""
-        msm = self.own_msm if self.own_msm is not None else settings.get("MSM", "4")
-        if not re.fullmatch("[4-7]", msm):
-            raise Refused("MSM is not 4, 5, 6 or 7")
-        return msm
+        return self.own_msm if self.own_msm is not None else settings.word("MSM", "4")
 
 
 def lines_of_table(path: Path) -> Iterator[Tuple[int, str]]:

@@ -54,6 +54,14 @@ def ms_of(interval: str) -> Optional[int]:
     return None if RATES[unit] % count else RATES[unit] // count
 
 
+def interval_of(ms: int) -> str:
+    """The interval of so many ms as the names of files have it; nothing if they can't have it."""
+    for unit, size in reversed(UNITS.items()):
+        if ms % size == 0 and 0 < ms // size < 100:
+            return f"{ms // size:02}{unit}"
+    return f"{1000 // ms:02}Z" if 0 < ms < 1000 and 1000 % ms == 0 and 1000 // ms < 100 else ""
+
+
 def age_of(seconds: float) -> str:
     """A time that went by, for a person."""
     for unit, size in (("d", DAY), ("h", HOUR), ("min", 60)):

@@ -13,7 +13,14 @@ that of its end. Kinds:
     returns   a satellite that is away for three hours and comes back with a slip
     foreign   messages of the station 2004; else they are of 2003
     elsewhere another site with the same station number: a position 10 km away, and other strengths
-    1077      a 1077 after each 1074, of the same satellites and codes, whose values are others
+    nearby    a position 0.5 m away
+    jump      ranges of the 1074 of 12:05:00 that are 35 m longer
+    steady    no slip at 12:03:30, at which G08 has one
+    gap       no epoch from 12:16:30 to 12:29:00, longer than a 1074 tells of lock
+    1077      a 1077 after each 1074, of the same cells, whose phases are greater by a quarter of a step of the 1074
+
+The epochs of jump, steady and gap are those of captures from 11:00 on, every 30 s. A 1004 and a 1074 of an epoch have the same ranges,
+phases and slips of the code 1C, in their own units.
 """
 
 from __future__ import annotations
@@ -28,13 +35,38 @@ from pathlib import Path
 sys.path.insert(0, str(Path(__file__).resolve().parents[2] / "model"))
 
 from streams import SATELLITES, STATION, legacy, msm, point  # noqa: E402
-from wire import WEEK_MS, frame_of, payload_of  # noqa: E402
+from wire import WEEK_MS, Message, frame_of, payload_of  # noqa: E402
 
 GPS_BEGIN = calendar.timegm((1980, 1, 6, 0, 0, 0))
 LEAP_SECONDS = 18
 DELAY = 0.4  # seconds from an epoch to its arrival
+LIGHT_MS = 299_792.458  # m that light goes in a millisecond
+FRACTIONS, FINE = 1 << 10, 1 << 29  # steps of a millisecond, of the rough range of an MSM and of the fine phase of a 1074
+RANGE, PHASE = 0.02, 0.0005  # m, of the units of DF011 and DF012
 ROLL = 732_631  # 1,500 cycles of L2 in units of DF018
 DRIFT = 31_000  # of a phase from epoch to epoch, in the same units
+LONGEST_LOCK = 704  # DF407
+STEADY, JUMP, GAP = 127, 130, range(153, 179)  # numbers of epochs
+
+
+def fine_phase(at: int, rank: int) -> int:
+    """The fine phase of a cell."""
+    return 17 * at % 4001 + rank
+
+
+def same_place(satellite: int, fine: int) -> tuple[int, int]:
+    """The range and the offset of the phase of a 1004 that say what the rough range and the fine phase of a 1074 say."""
+    rough = 12 * satellite * LIGHT_MS / FRACTIONS  # as `msm` has it
+    code = round(rough / RANGE)
+    return code, round((rough + fine * LIGHT_MS / FINE - code * RANGE) / PHASE)
+
+
+def finer(newer: Message, finest: Message) -> Message:
+    """A 1077 with nearly the values of a 1074, in its own units."""
+    for old, new in zip(newer.cells, finest.cells):
+        new.update(fine_range=32 * old["fine_range"], fine_phase=4 * old["fine_phase"] + 1, cnr=16 * old["cnr"])
+        new["lock"] = LONGEST_LOCK if old["lock"] else 0
+    return finest
 
 
 def frames(begin: int, count: int, interval: int, kinds: set[str]) -> Iterator[tuple[float, bytes]]:
@@ -42,9 +74,10 @@ def frames(begin: int, count: int, interval: int, kinds: set[str]) -> Iterator[t
     station = STATION + ("foreign" in kinds)
     reference = point()
     reference.header["station"] = station
-    if "elsewhere" in kinds:
-        reference.header["x"] += 100_000_000  # in units of 0.0001 m
+    reference.header["x"] += 100_000_000 * ("elsewhere" in kinds) + 5_000 * ("nearby" in kinds)  # in units of 0.0001 m
     for at in range(count):
+        if "gap" in kinds and at in GAP:
+            continue
         seconds = begin + at * interval
         tow = (seconds - GPS_BEGIN) * 1000 % WEEK_MS
         hour = seconds // 3600
@@ -54,20 +87,23 @@ def frames(begin: int, count: int, interval: int, kinds: set[str]) -> Iterator[t
         if "elsewhere" in kinds:
             older, newer = legacy(tow, seen, station), msm(tow, seen, cnr=20)
         for rank, row in enumerate(older.satellites):
-            row["l1_offset"] = 11 * at % 1000
+            row["l1_range"], row["l1_offset"] = same_place(row["satellite"], fine_phase(at, 2 * rank))
             drift = DRIFT * at if "rolls" in kinds else 13 * at % 1000
             row["l2_offset"] = (drift + 7_000 * rank) % ROLL - ROLL // 2
             # Slips on the first epoch of an hour, within an hour, and on the first epoch of a satellite that comes back.
             is_first = seconds % 3600 == 0 and hour % len(seen) == rank
             returns = seen == SATELLITES and rank == 0 and seconds % 3600 == 0 and hour % 6 == 5 and "returns" in kinds
-            if is_first or returns or at % 41 == 3 + rank:
+            if (is_first or returns or at % 41 == 3 + rank) and not ("steady" in kinds and at == STEADY):
                 row["l1_lock"] = 0
         for rank, cell in enumerate(newer.cells):
-            cell["fine_phase"] = 17 * at % 4001 + rank
-            if seconds % 3600 == 0 and hour % len(newer.cells) == rank or at % 37 == rank:
+            cell["fine_phase"] = fine_phase(at, rank)
+            cell["fine_range"] = 2_000 * ("jump" in kinds and at == JUMP)
+            is_5x = rank % 2
+            is_first = seconds % 3600 == 0 and hour % len(newer.cells) == rank
+            if (is_first or at % 37 == rank) if is_5x else older.satellites[rank // 2]["l1_lock"] == 0:
                 cell["lock"] = 0
         messages = ([reference] if at % 20 == 0 else []) + [older, newer]
-        messages += [msm(tow, seen, number=1077)] if "1077" in kinds else []
+        messages += [finer(newer, msm(tow, seen, number=1077))] if "1077" in kinds else []
         for message in messages:
             yield seconds + DELAY, frame_of(payload_of(message))
 

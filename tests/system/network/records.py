@@ -1,0 +1,142 @@
+"""What the scripts read in the records of files themselves: which slips at first phases a new file lacks, and the step from epoch to epoch;
+and what they take from an answer of `compare`.
+
+A file is written as cells: a time in seconds, a satellite, and for each of its codes 1C and 2W the phase with its loss-of-lock digit, or a
+- for a code without a phase. What is due was worked out by hand. The last line is 'N passed, M failed'.
+"""
+
+from __future__ import annotations
+
+import gzip
+import sys
+import tempfile
+from collections.abc import Iterator
+from pathlib import Path
+
+sys.path.insert(0, str(Path(__file__).resolve().parents[3] / "network"))
+
+from rtcm2rinex_network.comparison import Unlike, differences, lost_first_slips  # noqa: E402
+from rtcm2rinex_network.ends import Again, Refused  # noqa: E402
+from rtcm2rinex_network.program import Program, Ran  # noqa: E402
+from rtcm2rinex_network.rinex import most_frequent_step  # noqa: E402
+
+HEADER = "G    6 C1C L1C S1C C2W L2W S2W ".ljust(60) + "SYS / # / OBS TYPES\n" + " " * 60 + "END OF HEADER\n"
+
+
+def line_of(cell: str) -> str:
+    """A line of a satellite: `G05 20_ -` has for 1C a range and a phase of 20 without a digit, and for 2W a range alone."""
+    satellite, *codes = cell.split()
+    text = satellite
+    for code in codes:
+        phase, digit = ("", " ") if code == "-" else (code[:-1], code[-1].replace("_", " "))
+        text += f"{20_000_000:14.3f}  " + (f"{float(phase):14.3f}{digit} " if phase else " " * 16) + " " * 16
+    return text.rstrip() + "\n"
+
+
+def file_of(folder: Path, name: str, epochs: dict[int, list[str]]) -> Path:
+    text = HEADER
+    for second, cells in sorted(epochs.items()):
+        text += f"> 2024 05 17 12 00 {second:2}.0000000  0 {len(cells):2}\n" + "".join(map(line_of, cells))
+    path = folder / name
+    path.write_text(text)
+    return path
+
+
+NONE, FIRST, SECOND, BOTH = "G05 20_ 30_", "G05 201 30_", "G05 20_ 303", "G05 201 301"
+
+# Of each row: what it is, the old and the new file, and the places of the slips that are lost.
+ROWS = [
+    ("the same", {0: [BOTH]}, {0: [BOTH]}, []),
+    ("a slip of the first code", {0: [BOTH]}, {0: [SECOND]}, ["0 G05 1C"]),
+    ("a slip with a half cycle", {0: [SECOND]}, {0: [NONE]}, ["0 G05 2W"]),
+    ("a half cycle alone is no slip", {0: ["G05 202 30_"]}, {0: [NONE]}, []),
+    ("slips of two satellites", {0: [FIRST, "G07 201 30_"]}, {0: [NONE, "G07 20_ 30_"]}, ["0 G05 1C", "0 G07 1C"]),
+    ("a later slip is of no concern", {0: [NONE], 1: [BOTH]}, {0: [NONE], 1: [NONE]}, []),
+    ("a first phase in a later epoch", {0: ["G05 - 30_"], 7: [FIRST]}, {0: ["G05 - 30_"], 7: [NONE]}, ["7 G05 1C"]),
+    ("a first phase with a phase before it now", {7: [FIRST]}, {0: [NONE], 7: [NONE]}, []),
+    ("a phase that is gone is told elsewhere", {0: [FIRST], 1: [NONE]}, {1: [NONE]}, []),
+]
+
+# Of each row: the seconds of a file's epochs, and its step in ms.
+STEPS = [([0], None), ([0, 30], 30_000), ([0, 1, 21, 41], 20_000), ([0, 30, 31, 32], 1_000), ([0, 30, 31], 1_000), ([0, 1, 31], 1_000)]
+
+
+# Of each row: the status of `compare`, its two texts, and what the scripts take from it: counts, lines, and whether values may be in
+# other steps; or how the run ends.
+ANSWERS = [
+    (0, "lost 0 changed 0 explained 0\n", "", "0 0 () False"),
+    (0, "lost 0 changed 0 explained 1\nexplained finer 12:00\n", "", "0 0 () True"),
+    (0, "lost 0 changed 0 explained 101\nexplained roll 12:00\nmore-explained 100\n", "", "0 0 () True"),
+    (3, "lost 2 changed 0 explained 1\nlost epoch 12:00\nlost epoch 12:01\nexplained roll 12:02\n", "",
+        "2 0 ('lost epoch 12:00', 'lost epoch 12:01') False"),
+    (3, "lost 101 changed 1 explained 0\nlost slip 12:00\nmore-lost 100\nchanged marker\n", "",
+        "101 1 ('lost slip 12:00', 'more-lost 100', 'changed marker') False"),
+    (3, "", "rtcm2rinex: old: line 12: C1 HeaderLine\n", "Unlike line 12: C1 HeaderLine"),
+    (3, "", "rtcm2rinex: new: line 12: C1 HeaderLine\n", "Again compare: ended with status 3"),
+    (1, "", "rtcm2rinex: out of memory\n", "Again compare: out of memory"),
+    (1, "lost 0 changed 0 explained 0\n", "rtcm2rinex: write failed\n", "Again compare: write failed"),
+    (2, "", "error: unrecognized subcommand 'compare'\n", "Refused compare: error: unrecognized subcommand 'compare'"),
+    (0, "", "", "Again compare: ended with status 0"),
+    (137, "lost 0", "", "Again compare: ended with status 137"),
+]
+
+
+class Answering(Program):
+    """A program that gives one answer."""
+
+    def __init__(self, answer: Ran) -> None:
+        super().__init__("")
+        self.answer = answer
+
+    def ran(self, *_: object) -> Ran:
+        return self.answer
+
+
+def broken(folder: Path) -> Path:
+    """A file that was gzipped and cut off behind its header."""
+    path = folder / "broken.gz"
+    path.write_bytes(gzip.compress(file_of(folder, "plain", {it: [BOTH] for it in range(50)}).read_bytes())[:-20])
+    return path
+
+
+def taken(answer: Ran) -> str:
+    """What the scripts take from an answer."""
+    try:
+        it = differences(Answering(answer), Path("old"), Path("new"))
+    except (Unlike, Again, Refused) as end:
+        return f"{type(end).__name__} {end}"
+    return f"{it.counts['lost']} {it.counts['changed']} {it.lines} {it.may_be_finer}"
+
+
+def slips(old: Path, new: Path) -> str:
+    """The places of the slips that are lost, or how the look at them ends."""
+    try:
+        return ", ".join(lost_first_slips(old, new))
+    except Again as end:
+        return str(end)
+
+
+def rows(folder: Path) -> Iterator[tuple[str, object, object]]:
+    """Of each row: what it is, what is found, and what is due."""
+    for status, out, told, due in ANSWERS:
+        yield f"status {status} with {out + told!r}", taken(Ran(status, out, told)), due
+    for name, old, new, places in ROWS:
+        due = ", ".join(f"2024 05 17 12 00 {int(it.split()[0]):2}.0000000 {it.partition(' ')[2]}" for it in places)
+        yield name, slips(file_of(folder, "old", old), file_of(folder, "new", new)), due
+    path = broken(folder)
+    yield "a broken file", slips(path, file_of(folder, "new", {0: [NONE]}))[:len(f"can't read {path}")], f"can't read {path}"
+    for seconds, step in STEPS:
+        yield f"the step of {seconds}", most_frequent_step(file_of(folder, "steps", {it: [NONE] for it in seconds})), step
+
+
+def main() -> int:
+    with tempfile.TemporaryDirectory() as folder:
+        found = list(rows(Path(folder)))
+    for name, got, due in found:
+        print(f"ok {name}" if got == due else f"FAILED {name}: {got}, and not {due}")
+    failed = sum(got != due for _, got, due in found)
+    print(f"{len(found) - failed} passed, {failed} failed")
+    return failed
+
+
+sys.exit(main())
