@@ -8,14 +8,14 @@ ghost use Rattle.rtk_cli.specs.Words.{AreLinkNames, IsWithinLimits};
 
 use crate::channel_list::channels_said;
 use crate::code_words::{any_codes_said, in_file_order};
-use crate::leap_seconds::LeapSeconds;
 use crate::option_texts::{made_said, marker_said, moment_said, reference_said};
 use crate::options::ConvertOptions;
 use crate::words::{BadWords, Job, WordsFault};
-use rtk_convert::{LinkCount, Setup, SystemKinds};
+use rtk_convert::LinkCount;
 use rtk_message::System;
 use rtk_obs::{AnyCode, Channels, GpsMs, leap_seconds_at};
 use rtk_rinex::{CreationTime, Glonass, Marker, MixedHead, is_mixed_list};
+use rtk_setup::{LeapSeconds, Setup, SystemKinds};
 use rtk_streams::STDIN;
 use std::alloc::Global;
 
@@ -129,7 +129,7 @@ fn with_leap_seconds(setup: Setup, leap_seconds: Option<LeapSeconds>) -> Setup
     ensures window { result.window ≡ setup.window }
 {
     match leap_seconds {
-        Some(given) => setup.with_leap_seconds(given.number()),
+        Some(given) => setup.with_leap_seconds(given),
         None => setup,
     }
 }

@@ -11,8 +11,8 @@ ghost use Rattle.rtk_cli.specs.Steps.KindList.{exception_word, with_exceptions, 
 
 use crate::code_words::system_of_letter;
 use crate::parts::first_part;
-use rtk_convert::SystemKinds;
 use rtk_message::{MsmKind, MsmType};
+use rtk_setup::SystemKinds;
 
 // The kind whose message numbers end with this digit.
 fn kind_of_digit(digit: u8) -> Option<MsmKind>

@@ -37,7 +37,6 @@ mod cut_words;
 mod jobs;
 mod kind_list;
 mod label_words;
-mod leap_seconds;
 mod moment_text;
 mod option_texts;
 mod options;

@@ -4,26 +4,25 @@
 //! clap refuses a number that is out of range, and words that lack what a command needs. Its contracts do
 //! not say this of a value, so all of it is looked at again: `None` is what clap should have refused.
 
-ghost use Rattle.std.specs.Prelude.{◌≡◌, ◌≤◌, ◌+◌, IfSome, MatchOption};
+ghost use Rattle.std.specs.Prelude.{◌≡◌, ◌+◌, IfSome, MatchOption};
 ghost use Rattle.std.specs.Int.{IsInRange};
 ghost use Rattle.std.specs.Option.{ForSome};
 ghost use Rattle.rtk_message.specs.Systems.{number_of_kind};
-ghost use Rattle.rtk_setup.specs.Setup.{IsStation, IsWindow};
+ghost use Rattle.rtk_setup.specs.Setup.{IsStation, IsWindow, IsLeapSeconds};
 ghost use Rattle.rtk_cut.specs.Cut.{IsStepOrNone};
 ghost use Rattle.rtk_commands.specs.ChartInput.{IsWidth};
 
 use crate::kind_list::kinds_of;
-use crate::leap_seconds::LeapSeconds;
 use clap::ArgMatches;
-use rtk_convert::{Station, SystemKinds, Window};
 use rtk_label::LabelParts;
 use rtk_message::MsmKind;
 use rtk_plan::Ways;
 use rtk_quality::Form;
+use rtk_setup::{LeapSeconds, Station, SystemKinds, Window};
 use rtk_usage::{LEAST_WIDTH, MOST_STEP, MOST_WIDTH};
 
-/// How many characters wide a picture is if no number is given. It is not clap's default value,
-/// unlike `WINDOW` of command_line.rt: without `--text` a picture has no such width.
+/// How many characters wide a picture is if no number is given. It is not a default value of clap's,
+/// as rtk_usage has one for the window: without `--text` a picture has no such width.
 const COLUMNS: u32 = 80;
 
 /// The options of `auto`. `None` is to be found in the captures, or chosen.
@@ -108,7 +107,7 @@ fn window_of(epochs: u32) -> Option<Window>
 
 // So many leap seconds; `None` exactly if they are too many.
 fn leap_seconds_of(number: u32) -> Option<LeapSeconds>
-    ensures { MatchOption result (¬ (number ≤ 99)) (λ given. given ≡ number) }
+    ensures { MatchOption result (¬ (IsLeapSeconds number)) (λ given. given ≡ number) }
 {
     let Ok(number) = u8::try_from(number) else {
         return None;

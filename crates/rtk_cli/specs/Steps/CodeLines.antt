@@ -9,7 +9,7 @@ use Rattle.rtk_rinex.specs.MixedHeader.{codes_of}
 
 -- formula
 -- the codes of a system, in the order of their places, as `codes of R: 1C 1P 2C 2P` (this project's rule)
-abbrev pub codes_line : System → List ℕ
+unfoldable pub codes_line : System → List ℕ
 codes_line s = codes "codes of " ++ letter_of s ∷ codes ":" ++ flat_map (λ c. 32 ∷ name_of c) (codes_of (letter_of s) all_any_codes)
 
 -- formula

@@ -1,8 +1,8 @@
-use Rattle.std.proofs.Common.{◌≡◌, inr, sym, ◌∙◌}
+use Rattle.std.proofs.Common.{◌≡◌, ℤ, List, Option, inr, sym, ◌∙◌, subst}
 use Rattle.rtk_cli.specs.declared.words.BadWords.{BadWords}
 use Rattle.rtk_cli.specs.declared.words.BadWords.TheVariants.{Channels, NoChannels}
 use Rattle.rtk_cli.specs.Steps.ChannelList.{HasNoChannels}
-use Rattle.rtk_cli.specs.Steps.ConvertWords.{IsGlonassCause}
+use Rattle.rtk_cli.specs.Steps.ConvertWords.{SaysChannels, IsGlonassCause}
 use Rattle.rtk_cli.proofs.RefusedLemmas.{refused-by, exit-also}
 use Rattle.rtk_cli.proofs.HeadLemmas.{bad-channels, says-channels}
 use Rattle.rtk_cli.proofs.convert_words.glonass_said.Goals as goal
@@ -23,3 +23,12 @@ pub returns-then-not-is_due-clause-refused : goal.returns-then-not-is_due-clause
 returns-then-not-is_due-clause-refused c =
     refused-by (IsGlonassCause c.args.options.now c.args.listed.now) Channels c.into-then-not-is_due.result c.into-then-not-is_due.ensures
     (inr ((c.in_ok-channels.channels, says-channels c.args.options.now c.in-Some.text c.in_ok-channels.channels c.in-Some.is c.in_ok-channels.ensures.said), sym c.has_glonass-is_due.ensures ∙ c.if-not-is_due.true))
+
+-- the channels are those of the text
+pub returns-clause-said : goal.returns-clause-said
+returns-clause-said c =
+    let o = c.args.options.now in (
+      sym c.has_glonass-is_due.ensures ∙ c.if-not-is_due.false,
+      subst (λ (channels : List (Option ℤ)). SaysChannels o.channels channels) (sym c.glonass_of.ensures.channels) (says-channels o c.in-Some.text c.in_ok-channels.channels c.in-Some.is c.in_ok-channels.ensures.said),
+      c.glonass_of.ensures.leap_seconds,
+    )
