@@ -13,11 +13,10 @@ use Rattle.rtk_collect.specs.Accepted.{station, kept, closed}
 use Rattle.rtk_collect.specs.Laws.{without_late, SetDecides, LateArrivalsChangeNothing}
 use Rattle.rtk_collect.proofs.PublicLaws.{closed-drop, closed-only-grow, closed-after}
 use Rattle.rtk_rinex.specs.Header.{PositionView}
-use Rattle.rtk_rinex.specs.MixedHeader.{mixed_header_text}
 use Rattle.rtk_convert.specs.declared.frame_class.FrameClass.{FrameClass}
 use Rattle.rtk_convert.specs.declared.frame_class.FrameClass.TheVariants.{OtherMessage, Refused, Foreign, Dated}
 use Rattle.rtk_convert.specs.ArrivalLaws.{OneSetHasOneFile, LateLeaveFile, Begins, SoFarBegins, HeaderIsFinal, and_if_arrived, only_arrived, OthersLeaveFile}
-use Rattle.rtk_convert.specs.File.{record_of, first_time, file_of}
+use Rattle.rtk_convert.specs.File.{record_of, first_time, header_at, file_of}
 use Rattle.rtk_convert.specs.Steps.ClosedText.{closed_text, header_before}
 use Rattle.rtk_convert.specs.FileOfArrivals.{site_of_stations, site_of_kept, kept_file, file_so_far}
 use Rattle.rtk_convert.specs.FrameClass.{Found, and_arrived, arrivals}
@@ -98,9 +97,9 @@ header-final s a before t h =
       | inl none ↦ absurd (none-closed s.head.listed (closed signals (cells_by s) s.window before) t h none)
       | inr full ↦ site-final s.window a before full
     ] in
-    ap (λ (o : Option ℕ). mixed_header_text s.head (site_of_kept s.window (a ∷ before)) (unwrap_or o s.near)) (first_time-kept s (a ∷ before) t after)
-    ∙ ap (λ (x : PositionView). mixed_header_text s.head x t) site
-    ∙ ap (λ (o : Option ℕ). mixed_header_text s.head (site_of_kept s.window before) (unwrap_or o s.near)) (sym (first_time-kept s before t h))
+    ap (λ (o : Option ℕ). header_at s (site_of_kept s.window (a ∷ before)) (unwrap_or o s.near)) (first_time-kept s (a ∷ before) t after)
+    ∙ ap (λ (x : PositionView). header_at s x t) site
+    ∙ ap (λ (o : Option ℕ). header_at s (site_of_kept s.window before) (unwrap_or o s.near)) (sym (first_time-kept s before t h))
 
 -- ---- frames that are no arrivals
 

@@ -19,6 +19,7 @@ use Rattle.rtk_collect.specs.Collector.{CollectorView}
 use Rattle.rtk_setup.specs.declared.counts.Counts.{Counts}
 use Rattle.rtk_convert.specs.declared.frame_class.FrameClass.TheVariants.{Dated}
 use Rattle.rtk_convert.specs.declared.message_class.MessageClass.{MessageClass}
+use Rattle.rtk_convert.specs.declared.remarks.Remarks.{Remarks}
 use Rattle.rtk_convert.specs.declared.systems.Systems.{Systems}
 use Rattle.rtk_convert.specs.ClosedEpochs.{ClosedEpochsView}
 use Rattle.rtk_convert.specs.Report.{arrival_class, brings, counted_as, is_of, is_taken}
@@ -177,19 +178,22 @@ systems-stay y number epoch class system left =
     ap (λ (b : Bool). b || has_system y system) (sym (and-false (is_some epoch && (letter_of (system_of_number number) == letter_of system))))
     ∙ ap (λ (b : Bool). ((is_some epoch && (letter_of (system_of_number number) == letter_of system)) && b) || has_system y system) (sym left)
 
--- what an arrival changes in the epochs of a conversion, its counts and its systems it changes in the conversion
-pub message-adds : {s : SetupView} {w w' : CollectorView SignalEntry} {c c' : ClosedEpochsView} {k k' : Counts} {y y' : Systems} {b : Bool} {link : ℕ} {a : Arrival} (class : MessageClass) {o o' : Written}
+-- what an arrival changes in the epochs of a conversion, its counts and its systems it changes in the conversion; the sets of slots stay
+pub message-adds : {s : SetupView} {w w' : CollectorView SignalEntry} {c c' : ClosedEpochsView} {k k' : Counts} {y y' : Remarks} {b : Bool} {link : ℕ} {a : Arrival} (class : MessageClass) {o o' : Written}
     → is_some (epoch_of a) ≡ is_some (tow_of (message_of a))
     → ((before : List Arrival) → RepresentsEpochs s (epochs w c) before → AddsArrivalAs s (epochs w c) link a class before (epochs w' c') o o')
     → k' ≡ counted_as (class_named class) k
-    → ((system : System) → has_system y' system ≡ (brings_by (number_of (message_of a)) (epoch_of a) (class_named class) system || has_system y system))
+    → ((system : System) → has_system y'.systems system ≡ (brings_by (number_of (message_of a)) (epoch_of a) (class_named class) system || has_system y.systems system))
+    → y'.other_channels ≡ y.other_channels → y'.no_channels ≡ y.no_channels
     → AddsMessage (state s w c k y b) link a (state s w' c' k' y' b) o o'
-message-adds {s} {w} {w'} {c} {c'} {k} {k'} {y} {y'} {b} {link} {a} class {o} {o'} timed adds counts systems = λ before rep.
+message-adds {s} {w} {w'} {c} {c'} {k} {k'} {y} {y'} {b} {link} {a} class {o} {o'} timed adds counts systems others none = λ before rep.
     let t = adds before (record { kept = rep.kept; closed = rep.closed }) in
     record {
       after = record { kept = t.after.kept; closed = t.after.closed };
       counts = counts ∙ ap (λ (x : Class). counted_as x k) t.is_class;
-      systems = λ system. systems system ∙ ap (λ (x : Bool). x || has_system y system) (brings-by s a before (class_named class) system timed t.is_class);
+      systems = λ system. systems system ∙ ap (λ (x : Bool). x || has_system y.systems system) (brings-by s a before (class_named class) system timed t.is_class);
+      other_channels = others;
+      no_channels = none;
       out = t.out;
       log = t.log;
     }

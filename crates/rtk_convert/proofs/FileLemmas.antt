@@ -6,9 +6,8 @@ use Rattle.rtk_obs.specs.declared.any_code.AnyCode.{AnyCode}
 use Rattle.rtk_obs.specs.declared.signal_cells.SignalEntry.{SignalEntry}
 use Rattle.rtk_collect.specs.EpochSet.{EpochSetView}
 use Rattle.rtk_rinex.specs.Header.{PositionView}
-use Rattle.rtk_rinex.specs.MixedHeader.{mixed_header_text}
 use Rattle.rtk_setup.specs.Setup.{SetupView}
-use Rattle.rtk_convert.specs.File.{record_of, records, first_or, first_time, header_of, file_of}
+use Rattle.rtk_convert.specs.File.{record_of, records, first_or, first_time, header_at, header_of, file_of}
 use Rattle.rtk_convert.specs.FilePrefix.{unless_empty, so_far}
 use Rattle.rtk_convert.specs.Steps.ClosedText.{with_header, closed_text, header_before, closing_text, closing}
 
@@ -68,7 +67,7 @@ so_far-step : (s : SetupView) (p : PositionView) (all_epochs closed : List (Epoc
 so_far-step s p all_epochs closed None q up = rw (no-records s.head.listed closed q) refl
 so_far-step s p all_epochs closed (Some t) q up =
     not-empty (records s.head.listed closed) (header_of s p all_epochs ++ records s.head.listed closed) (some-records s.head.listed closed t q)
-    ∙ ap (λ (o : Option ℕ). mixed_header_text s.head p (unwrap_or o s.near) ++ records s.head.listed closed) (up t q)
+    ∙ ap (λ (o : Option ℕ). header_at s p (unwrap_or o s.near) ++ records s.head.listed closed) (up t q)
 
 -- the file so far is the file of the closed epochs alone
 pub so_far-closed : (n : ℕ) (s : SetupView) (p : PositionView) (epochs : List (EpochSetView SignalEntry)) → so_far s p epochs (drop n epochs) ≡ closed_text s p (drop n epochs)
@@ -79,8 +78,8 @@ closed-step : (s : SetupView) (p : PositionView) (e : ℕ) (before text : List �
     → with_header s p (first_or o e text) (before ++ text) ≡ with_header s p o before ++ closing_text s p e (is_some o) text
 closed-step s p e before [] None h = refl
 closed-step s p e before (x ∷ text) None h = rw (h refl) refl
-closed-step s p e before [] (Some t) h = rw append-nil (sym (append-nil (mixed_header_text s.head p t ++ before)))
-closed-step s p e before (x ∷ text) (Some t) h = sym (append_assoc (mixed_header_text s.head p t) before (x ∷ text))
+closed-step s p e before [] (Some t) h = rw append-nil (sym (append-nil (header_at s p t ++ before)))
+closed-step s p e before (x ∷ text) (Some t) h = sym (append_assoc (header_at s p t) before (x ∷ text))
 
 -- what one more closed epoch adds
 pub closed-more : (s : SetupView) (p : PositionView) (e : EpochSetView SignalEntry) (below : List (EpochSetView SignalEntry))
@@ -97,9 +96,9 @@ closed-grows s p (e ∷ more) closed =
     (before.0 ++ t, closed-more s p e (more ++ closed) ∙ ap (λ (x : List ℕ). x ++ t) before.1 ∙ append_assoc (closed_text s p closed) before.0 t)
 
 file-step : (s : SetupView) (p : PositionView) (text : List ℕ) (o : Option ℕ) → (o ≡ None → text ≡ [])
-    → mixed_header_text s.head p (unwrap_or o s.near) ++ text ≡ with_header s p o text ++ header_before s p s.near (is_some o)
+    → header_at s p (unwrap_or o s.near) ++ text ≡ with_header s p o text ++ header_before s p s.near (is_some o)
 file-step s p text None h = rw (h refl, append-nil) refl
-file-step s p text (Some t) h = sym (append-nil (mixed_header_text s.head p t ++ text))
+file-step s p text (Some t) h = sym (append-nil (header_at s p t ++ text))
 
 -- the whole file: what is out once all its epochs are closed, and the header if there was no record
 pub file-closed : (s : SetupView) (p : PositionView) (epochs : List (EpochSetView SignalEntry))

@@ -11,6 +11,7 @@ mod RowsLemmas
 mod SatelliteLemmas
 mod ListedLemmas
 mod FileLemmas
+mod FileHeaderLemmas
 mod TableLemmas
 mod KeptTableLemmas
 mod RecordsLemmas
@@ -28,6 +29,7 @@ mod ClassLemmas
 mod MomentLemmas
 mod ClockLemmas
 mod OneTextLemmas
+mod SlotsLemmas
 mod ArriveLemmas
 mod BringsLemmas
 mod OutcomeLemmas
@@ -53,6 +55,7 @@ mod HistoryLemmas
 mod CountLemmas
 mod JoinLemmas
 mod ReportLemmas
+mod ChannelLawsLemmas
 mod SameWindowLemmas
 mod SameFoundLemmas
 mod SameHistoryLemmas

@@ -8,6 +8,7 @@ use Rattle.std.proofs.lemmas.List.Elements.{filter-append}
 use Rattle.rtk_frame.specs.Stream.{with_more}
 use Rattle.rtk_message.specs.AnyDecoded.{number_of}
 use Rattle.rtk_message.specs.AnyFaultCode.{any_fault_text}
+use Rattle.rtk_message.specs.declared.system.System.TheVariants.{Glonass}
 use Rattle.rtk_obs.specs.declared.any_code.AnyCode.{AnyCode}
 use Rattle.rtk_collect.specs.Signals.{signals}
 use Rattle.rtk_setup.specs.Setup.{cells_by}
@@ -19,13 +20,14 @@ use Rattle.rtk_setup.specs.declared.counts.Counts.{Counts}
 use Rattle.rtk_convert.specs.declared.frame_class.FrameClass.{FrameClass}
 use Rattle.rtk_convert.specs.declared.frame_class.FrameClass.TheVariants.{OtherMessage, Refused, Foreign, Dated}
 use Rattle.rtk_convert.specs.FrameClass.{Found, arrivals}
-use Rattle.rtk_convert.specs.Finish.{all_counts, missing_letters, missing_lines, report_of}
+use Rattle.rtk_convert.specs.Finish.{all_counts, missing_letters, missing_lines, unphased_lines, remark_lines, report_of}
 use Rattle.rtk_convert.specs.Headline.{messages_of, late_lines, LateAreListed}
 use Rattle.rtk_convert.specs.Kept.{came_of}
 use Rattle.rtk_convert.specs.Report.{arrival_class, refused_line, cell_lines, class_lines, frame_lines, lines}
-use Rattle.rtk_convert.specs.ReportText.{link_text, arrival_text, late_line, cell_conflict_line, signal_text, missing_line}
+use Rattle.rtk_convert.specs.ReportText.{link_text, arrival_text, late_line, cell_conflict_line, signal_text, missing_line, shown_names, slot_names, slots_line, channels_text}
 use Rattle.rtk_setup.specs.Counts.{count_line, count_lines}
-use Rattle.rtk_setup.specs.Setup.{SetupView, is_of_gps}
+use Rattle.rtk_setup.specs.Setup.{SetupView, is_of_gps, lists_system}
+use Rattle.rtk_convert.specs.Slots.{is_without_channel, is_of_other_channel, any_tells}
 use Rattle.rtk_convert.proofs.CameLemmas.{messages-came}
 
 -- ---- texts that are empty or end in LF
@@ -168,9 +170,27 @@ missing-if false letters = line-ended letters
 missing-ended : (s : SetupView) (found : List Found) → IsEnded (missing_lines s found)
 missing-ended s found = missing-if (is_of_gps s) (missing_letters s found)
 
+slots-end : (name names : List ℕ) → Ends (slots_line name names)
+slots-end name names = (name ++ shown_names names, refl)
+
+unphased-if : (b : Bool) (p q : ℕ → Bool) → IsEnded (if b then channels_text p q else [])
+unphased-if true p q = inr (ends-after (slots_line (codes "other-channel") (slot_names p 27)) (slots_line (codes "no-channel") (slot_names q 27)) (slots-end (codes "no-channel") (slot_names q 27)))
+unphased-if false p q = inl refl
+
+unphased-ended : (s : SetupView) (found : List Found) → IsEnded (unphased_lines s found)
+unphased-ended s found =
+    unphased-if (lists_system s.head.listed Glonass) (λ slot. any_tells is_of_other_channel s slot found) (λ slot. any_tells is_without_channel s slot found)
+
+joined-ended : (x y : List ℕ) → IsEnded x → IsEnded y → IsEnded (x ++ y)
+joined-ended x y (inl e) q = subst (λ (t : List ℕ). IsEnded (t ++ y)) (sym e) q
+joined-ended x y (inr p) q = inr (ended-after x y p q)
+
+remarks-ended : (s : SetupView) (found : List Found) → IsEnded (remark_lines s found)
+remarks-ended s found = joined-ended (unphased_lines s found) (missing_lines s found) (unphased-ended s found) (missing-ended s found)
+
 pub late-listed : (s : SetupView) (found : List Found) (report_old report_new : Option (List ℕ)) → report_new ≡ with_more report_old (report_of s found) → LateAreListed s (came_of found) report_old report_new
 late-listed s found report_old report_new w =
-    let missing = has-more (late_lines s (came_of found)) (lines s found) (missing_lines s found) (lines-listed s found) (missing-ended s found) in
-    let last = has-more (late_lines s (came_of found)) (lines s found ++ missing_lines s found) (count_lines (all_counts s found)) missing (inr (counts-end (all_counts s found))) in
-    let p = subst (λ (t : List ℕ). HasLines (late_lines s (came_of found)) t) (append_assoc (lines s found) (missing_lines s found) (count_lines (all_counts s found))) last in
+    let remarks = has-more (late_lines s (came_of found)) (lines s found) (remark_lines s found) (lines-listed s found) (remarks-ended s found) in
+    let last = has-more (late_lines s (came_of found)) (lines s found ++ remark_lines s found) (count_lines (all_counts s found)) remarks (inr (counts-end (all_counts s found))) in
+    let p = subst (λ (t : List ℕ). HasLines (late_lines s (came_of found)) t) (append_assoc (lines s found) (remark_lines s found) (count_lines (all_counts s found))) last in
     (report_of s found, w, (p.all, p.is_text, p.are_marked))

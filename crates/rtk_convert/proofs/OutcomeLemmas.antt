@@ -6,7 +6,7 @@ use Rattle.rtk_collect.specs.Arrival.{Arrival}
 use Rattle.rtk_collect.specs.Collector.{CollectorView}
 use Rattle.rtk_convert.specs.ClosedEpochs.{ClosedEpochsView}
 use Rattle.rtk_setup.specs.declared.counts.Counts.{Counts}
-use Rattle.rtk_convert.specs.declared.systems.Systems.{Systems}
+use Rattle.rtk_convert.specs.declared.remarks.Remarks.{Remarks}
 use Rattle.rtk_convert.specs.declared.fault.ConvertFault.{ConvertFault}
 use Rattle.rtk_convert.specs.declared.frame_class.FrameClass.{FrameClass}
 use Rattle.rtk_convert.specs.Conversion.{ConversionView, IsAhead}
@@ -59,7 +59,7 @@ payload-err {opened} {old} {new} {link} {payload} {o} {o'} fault f seen comes ma
     (record { epoch = tt; ok = tt; err = breaks; fault = is; cause = (f, comes, may) })
 
 -- whether the conversion has stopped changes nothing of this
-pub payload-still : {s s' : SetupView} {w w' : CollectorView SignalEntry} {c c' : ClosedEpochsView} {k k' : Counts} {y y' : Systems} {b b' d d' : Bool} {old mid : ConversionView} {link : ℕ} {payload : List ℕ} {epoch : Option ℕ} {o o' : Written}
+pub payload-still : {s s' : SetupView} {w w' : CollectorView SignalEntry} {c c' : ClosedEpochsView} {k k' : Counts} {y y' : Remarks} {b b' d d' : Bool} {old mid : ConversionView} {link : ℕ} {payload : List ℕ} {epoch : Option ℕ} {o o' : Written}
     → state s w c k y d ≡ old → state s' w' c' k' y' b' ≡ mid → HandlesPayload (state s w c k y b) link payload (Ok epoch) mid o o'
     → HandlesPayload old link payload (Ok epoch) (state s' w' c' k' y' d') o o'
 payload-still {s} {s'} {w} {w'} {c} {c'} {k} {k'} {y} {y'} {b} {b'} {d} {d'} {old} {mid} {link} {payload} {epoch} {o} {o'} seen after h =
@@ -67,7 +67,7 @@ payload-still {s} {s'} {w} {w'} {c} {c'} {k} {k'} {y} {y'} {b} {b'} {d} {d'} {ol
     subst (λ (x : ConversionView). HandlesPayload x link payload (Ok epoch) (state s' w' c' k' y' d') o o') seen
     (record { epoch = h.epoch; ok = arrives-still payload accepts; err = tt; fault = tt; cause = tt })
 
-pub payload-off : {s : SetupView} {w : CollectorView SignalEntry} {c : ClosedEpochsView} {k : Counts} {y : Systems} {b d : Bool} {old mid new : ConversionView} {link : ℕ} {payload : List ℕ} {fault : ConvertFault} {o o' : Written}
+pub payload-off : {s : SetupView} {w : CollectorView SignalEntry} {c : ClosedEpochsView} {k : Counts} {y : Remarks} {b d : Bool} {old mid new : ConversionView} {link : ℕ} {payload : List ℕ} {fault : ConvertFault} {o o' : Written}
     → state s w c k y d ≡ old → HandlesPayload (state s w c k y b) link payload (Err fault) mid o o' → HandlesPayload old link payload (Err fault) new o o'
 payload-off {s} {w} {c} {k} {y} {b} {d} {old} {mid} {new} {link} {payload} {fault} {o} {o'} seen h =
     subst (λ (x : ConversionView). HandlesPayload x link payload (Err fault) new o o') seen

@@ -60,7 +60,7 @@ none-told : (g : Option GlonassView) (slot : ℕ) → has_channel g slot ≡ fal
 none-told None slot h = refl
 none-told (Some g) slot h = none-if (channel_at g.channels slot) h
 
-channel-none : (channels : List (Option ℤ)) (bit field : ℕ) → channel_at channels bit ≡ None → channel_in Glonass channels bit field ≡ None
+pub channel-none : (channels : List (Option ℤ)) (bit field : ℕ) → channel_at channels bit ≡ None → channel_in Glonass channels bit field ≡ None
 channel-none channels bit field h = elim (cases_Bool (nat_le bit 27)) [
   | inl a ↦ rw (a, h) refl
   | inr b ↦ rw b refl

@@ -18,6 +18,7 @@ use Rattle.rtk_obs.specs.declared.code.Band.{Band}
 use Rattle.rtk_obs.specs.declared.any_code.AnyCode.{AnyCode}
 use Rattle.rtk_obs.specs.declared.track.Track.{Track}
 use Rattle.rtk_obs.specs.AnyCode.{IsSignal}
+use Rattle.rtk_obs.specs.Carriers.{IsSlot}
 use Rattle.rtk_obs.specs.SatelliteIndex.{letter_of}
 use Rattle.rtk_obs.specs.Rollover.{last_after, last_phase}
 use Rattle.rtk_obs.specs.Slip.{EpochCell, epoch_cell}
@@ -40,7 +41,7 @@ use Rattle.rtk_convert.specs.declared.frame_class.FrameClass.TheVariants.{OtherM
 use Rattle.rtk_convert.specs.Conversion.{AllTaken, found_on}
 use Rattle.rtk_convert.specs.File.{record_of, first_or, first_time, one_more_if_any, record_count}
 use Rattle.rtk_convert.specs.FileOfArrivals.{site_of_stations, site_of_kept, kept_file, file_so_far}
-use Rattle.rtk_convert.specs.Finish.{all_counts, missing_letter, missing_letters, missing_lines, report_of}
+use Rattle.rtk_convert.specs.Finish.{all_counts, missing_letter, missing_letters, missing_lines, unphased_lines, remark_lines, report_of}
 use Rattle.rtk_convert.specs.FrameClass.{IsDatedMessage, IsEpochOf, IsClassOfReading, IsClassOfPayload, Found, arrivals}
 use Rattle.rtk_convert.specs.History.{Finds, newest_on}
 use Rattle.rtk_convert.specs.Report.{brings, class_lines, frame_lines, has_taken, is_of, is_taken, lines, counted_as, one_frame_more, frame_counts}
@@ -48,9 +49,11 @@ use Rattle.rtk_convert.specs.ReportText.{missing_line}
 use Rattle.rtk_setup.specs.Counts.{count_lines}
 use Rattle.rtk_convert.specs.Rows.{band_of, cell_at, and_below, last_phase_of, observed_after, observed_at}
 use Rattle.rtk_setup.specs.Setup.{SetupView, cells_by, is_of_gps, lists_system, takes}
+use Rattle.rtk_convert.specs.Slots.{is_without_channel, is_of_other_channel, tells_slot, any_tells}
 use Rattle.rtk_convert.specs.Steps.ClosedText.{header_before, closed_text, closing_text, closing}
 use Rattle.rtk_convert.specs.Writing.{WritesRest}
 use Rattle.rtk_convert.proofs.ClassLemmas.{dated-reading, dated-taken}
+use Rattle.rtk_convert.proofs.EndLemmas.{channels-same}
 use Rattle.rtk_convert.proofs.FileLemmas.{first_time-more, closed-more, file-closed}
 use Rattle.rtk_convert.proofs.RowsLemmas.{rows_to-same}
 use Rattle.rtk_convert.proofs.SameWindowLemmas.{SameWindow, HasStationNumber, AnsweredAlike, answered-alike, class-late}
@@ -183,13 +186,20 @@ brings-same s system a first second alike = ap (λ (c : Class). is_of system (me
 
 -- ---- a frame
 
+-- both tell the same for the last lines of a report
+abbrev pub RemarksAlike : SetupView → List Found → List Found → Type 0
+RemarksAlike s first second =
+    ((system : System) → has_taken s system first ≡ has_taken s system second)
+    × ((slot : ℕ) → IsSlot slot → any_tells is_of_other_channel s slot first ≡ any_tells is_of_other_channel s slot second)
+    × ((slot : ℕ) → IsSlot slot → any_tells is_without_channel s slot first ≡ any_tells is_without_channel s slot second)
+
 -- a conversion with this setup represents both, and takes the messages of the second
 pub record SameFound (s : SetupView) (first second : List Found) : Type 0 where
   pub taken : AllTaken s (arrivals second)
   pub window : SameWindow (cells_by s) s.window (arrivals first) (arrivals second)
   pub closed : SameClosed s.head.listed (closed signals (cells_by s) s.window (arrivals first)) (closed signals (cells_by s) s.window (arrivals second))
   pub counts : frame_counts s first ≡ frame_counts s second
-  pub systems : (system : System) → has_taken s system first ≡ has_taken s system second
+  pub remarks : RemarksAlike s first second
 
 -- a frame adds the same to the files and the reports of both, and then they are the same for a conversion again
 pub record AddsAlike (s : SetupView) (first first_after second second_after : List Found) : Type 0 where
@@ -217,17 +227,17 @@ frame-alike : ((s : SetupView) → KeptAreGreatest signals (cells_by s)) → Exc
 frame-alike greatest excused s link payload OtherMessage first second comes same = record {
   file = alike-none (file_so_far s (arrivals first)) (file_so_far s (arrivals second));
   report = record { more = []; first_is = refl; second_is = refl };
-  same = record { taken = same.taken; window = same.window; closed = same.closed; counts = ap (λ (c : Counts). record (one_frame_more c) { other = count_after c.other }) same.counts; systems = same.systems };
+  same = record { taken = same.taken; window = same.window; closed = same.closed; counts = ap (λ (c : Counts). record (one_frame_more c) { other = count_after c.other }) same.counts; remarks = same.remarks };
 }
 frame-alike greatest excused s link payload (Refused fault) first second comes same = record {
   file = alike-none (file_so_far s (arrivals first)) (file_so_far s (arrivals second));
   report = record { more = frame_lines s link (Refused fault) []; first_is = refl; second_is = refl };
-  same = record { taken = same.taken; window = same.window; closed = same.closed; counts = ap (λ (c : Counts). record (one_frame_more c) { refused = count_after c.refused }) same.counts; systems = same.systems };
+  same = record { taken = same.taken; window = same.window; closed = same.closed; counts = ap (λ (c : Counts). record (one_frame_more c) { refused = count_after c.refused }) same.counts; remarks = same.remarks };
 }
 frame-alike greatest excused s link payload Foreign first second comes same = record {
   file = alike-none (file_so_far s (arrivals first)) (file_so_far s (arrivals second));
   report = record { more = []; first_is = refl; second_is = refl };
-  same = record { taken = same.taken; window = same.window; closed = same.closed; counts = ap (λ (c : Counts). record (one_frame_more c) { foreign = count_after c.foreign }) same.counts; systems = same.systems };
+  same = record { taken = same.taken; window = same.window; closed = same.closed; counts = ap (λ (c : Counts). record (one_frame_more c) { foreign = count_after c.foreign }) same.counts; remarks = same.remarks };
 }
 frame-alike greatest excused s link payload (Dated a) first second comes same =
     let alike = answered-alike (cells_by s) (greatest s) excused s.window a (arrivals first) (arrivals second) (numbered s comes.0 a comes.2) same.window in
@@ -244,8 +254,12 @@ frame-alike greatest excused s link payload (Dated a) first second comes same =
         closed = closed-after-same s a (arrivals first) (arrivals second) alike same.closed;
         counts = ap (λ (c : Counts). counted_as (class_of signals (cells_by s) s.window a (arrivals first)) (one_frame_more c)) same.counts
             ∙ ap (λ (c : Class). counted_as c (one_frame_more (frame_counts s second))) alike.same_class;
-        systems = λ system. ap (λ (b : Bool). b || has_taken s system first) (brings-same s system a (arrivals first) (arrivals second) alike)
-            ∙ ap (λ (b : Bool). brings s system (Dated a) (arrivals second) || b) (same.systems system);
+        remarks = (
+          λ system. ap (λ (b : Bool). b || has_taken s system first) (brings-same s system a (arrivals first) (arrivals second) alike)
+              ∙ ap (λ (b : Bool). brings s system (Dated a) (arrivals second) || b) (same.remarks.0 system),
+          λ slot is. ap (λ (b : Bool). tells_slot is_of_other_channel s slot (Dated a) || b) (same.remarks.1 slot is),
+          λ slot is. ap (λ (b : Bool). tells_slot is_without_channel s slot (Dated a) || b) (same.remarks.2 slot is),
+        );
       };
     }
 
@@ -347,7 +361,7 @@ file-ends-alike s first second same =
 
 letter-same : (s : SetupView) (first second : List Found) (system : System) → SameFound s first second → missing_letter s first system ≡ missing_letter s second system
 letter-same s first second system same =
-    ap (λ (b : Bool). if lists_system s.head.listed system && not b then 32 ∷ letter_of system ∷ [] else []) (same.systems system)
+    ap (λ (b : Bool). if lists_system s.head.listed system && not b then 32 ∷ letter_of system ∷ [] else []) (same.remarks.0 system)
 
 letters-same : (s : SetupView) (first second : List Found) → SameFound s first second → missing_letters s first ≡ missing_letters s second
 letters-same s first second same = rw (
@@ -363,11 +377,20 @@ letters-same s first second same = rw (
 missing-same : (s : SetupView) (first second : List Found) → SameFound s first second → missing_lines s first ≡ missing_lines s second
 missing-same s first second same = ap (λ (t : List ℕ). if is_of_gps s then [] else missing_line t) (letters-same s first second same)
 
+unphased-same : (s : SetupView) (first second : List Found) → SameFound s first second → unphased_lines s first ≡ unphased_lines s second
+unphased-same s first second same =
+    channels-same (lists_system s.head.listed Glonass) (λ slot. any_tells is_of_other_channel s slot first) (λ slot. any_tells is_without_channel s slot first)
+    (λ slot. any_tells is_of_other_channel s slot second) (λ slot. any_tells is_without_channel s slot second) same.remarks.1 same.remarks.2
+
+remarks-same : (s : SetupView) (first second : List Found) → SameFound s first second → remark_lines s first ≡ remark_lines s second
+remarks-same s first second same =
+    ap (λ (t : List ℕ). t ++ missing_lines s first) (unphased-same s first second same) ∙ ap (λ (t : List ℕ). unphased_lines s second ++ t) (missing-same s first second same)
+
 pub report-ends-alike : (s : SetupView) (first second : List Found) → SameFound s first second
     → GoOnAlike (lines s first) (report_of s first) (lines s second) (report_of s second)
 report-ends-alike s first second same = record {
-  more = missing_lines s first ++ count_lines (all_counts s first);
+  more = remark_lines s first ++ count_lines (all_counts s first);
   first_is = refl;
-  second_is = ap (λ (c : Counts). lines s second ++ (missing_lines s second ++ count_lines c)) (sym (counts-same s first second same))
-      ∙ ap (λ (t : List ℕ). lines s second ++ (t ++ count_lines (all_counts s first))) (sym (missing-same s first second same));
+  second_is = ap (λ (c : Counts). lines s second ++ (remark_lines s second ++ count_lines c)) (sym (counts-same s first second same))
+      ∙ ap (λ (t : List ℕ). lines s second ++ (t ++ count_lines (all_counts s first))) (sym (remarks-same s first second same));
 }

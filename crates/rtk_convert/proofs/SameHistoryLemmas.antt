@@ -6,7 +6,6 @@ use Rattle.rtk_frame.proofs.PublicLaws.{pending_cut}
 use Rattle.rtk_obs.specs.declared.any_code.AnyCode.{AnyCode}
 use Rattle.rtk_collect.specs.Signals.{signals}
 use Rattle.rtk_message.specs.declared.any_message.AnyMessage.{AnyMessage as Message}
-use Rattle.rtk_message.specs.declared.system.System.{System}
 use Rattle.rtk_obs.specs.declared.signal_cells.SignalEntry.{SignalEntry}
 use Rattle.rtk_collect.specs.Accepted.{station, kept, closed}
 use Rattle.rtk_collect.specs.Arrival.{Arrival, message_of_1005, message_of_1006}
@@ -17,16 +16,15 @@ use Rattle.rtk_convert.specs.declared.fault.ConvertFault.TheVariants.{LinkClosed
 use Rattle.rtk_convert.specs.declared.link_state.LinkState.{LinkState}
 use Rattle.rtk_convert.specs.CallLaws.{Call, Feed, Close, IsAfterCall}
 use Rattle.rtk_convert.specs.ClosedEpochs.{ClosedEpochsView, HasClosed}
-use Rattle.rtk_convert.specs.Conversion.{ConversionView, HoldsKept, RepresentsFound}
+use Rattle.rtk_convert.specs.Conversion.{ConversionView, HoldsKept, HasRemarks, RepresentsFound}
 use Rattle.rtk_convert.specs.Converter.{ConverterView, RepresentLinks, link_refusal, IsAfterClosing, IsAfterClosingAll}
 use Rattle.rtk_convert.specs.ConverterLaws.{refusal_by, LinkDecidesRefusal, LinkHoldsNewest, WaitingDecidesFrames, HasHistory, HeldDecidesCall, HeldDecidesEnd}
 use Rattle.rtk_convert.specs.FileOfArrivals.{kept_file, file_so_far}
 use Rattle.rtk_convert.specs.Finish.{report_of}
 use Rattle.rtk_convert.specs.FrameClass.{Found, arrivals}
 use Rattle.rtk_convert.specs.History.{LinkPast, History, Finds, fed_on, with_piece, with_closed, IsOpen, IsAfterFeed, IsAfterClose, found_by_piece, found_by_close, newest_on}
-use Rattle.rtk_convert.specs.Report.{lines, frame_counts, has_taken}
+use Rattle.rtk_convert.specs.Report.{lines, frame_counts}
 use Rattle.rtk_setup.specs.Setup.{SetupView, cells_by}
-use Rattle.rtk_convert.specs.Systems.{has_system}
 use Rattle.rtk_convert.proofs.ConverterLemmas.{link-at, found-pending, found-left}
 use Rattle.rtk_convert.proofs.RunLemmas.{length-with_piece, length-with_closed}
 use Rattle.rtk_convert.proofs.SameFoundLemmas.{rest-alike, alike-on, SameClosed, SameFound, AddsAlike, adds-none, finds-alike, counts-same, file-ends-alike, report-ends-alike}
@@ -201,7 +199,7 @@ found-same : (s : SetupView) (c : ConversionView) (first second : List Found) �
 found-same s c first second setup places a b =
     let of_setup = λ (found : List Found) (r : RepresentsFound c found).
     subst (λ (t : SetupView). HoldsKept t c.collector (arrivals found) × HasClosed c.closed_epochs t.head.listed (closed signals (cells_by t) t.window (arrivals found)) × (c.counts ≡ frame_counts t found)
-    × ((system : System) → has_system c.systems system ≡ has_taken t system found)) setup (r.kept, r.closed, r.counts, r.systems) in
+    × HasRemarks t c.remarks found) setup (r.kept, r.closed, r.counts, r.remarks) in
     let A = of_setup first a in
     let B = of_setup second b in
     record {
@@ -209,7 +207,11 @@ found-same s c first second setup places a b =
       window = window-same (cells_by s) s.window c.collector (arrivals first) (arrivals second) places A.0.window B.0.window;
       closed = closed-same s.head.listed c.closed_epochs _ _ A.1 B.1;
       counts = sym A.2 ∙ B.2;
-      systems = λ system. sym (A.3 system) ∙ B.3 system;
+      remarks = (
+        λ system. sym (A.3.0 system) ∙ B.3.0 system,
+        λ slot is. sym (A.3.1 slot is) ∙ B.3.1 slot is,
+        λ slot is. sym (A.3.2 slot is) ∙ B.3.2 slot is,
+      );
     }
 
 found-too : (s : SetupView) (c : ConversionView) (first second : List Found) → c.setup ≡ s → c.collector.places ≡ s.window → SameFound s first second → RepresentsFound c first → RepresentsFound c second
@@ -219,7 +221,11 @@ found-too s c first second setup places same a =
       kept = record { taken = here.taken; window = window-too (cells_by c.setup) c.setup.window c.collector (arrivals first) (arrivals second) (places ∙ ap (λ (t : SetupView). t.window) (sym setup)) here.window a.kept.window };
       closed = closed-too c.setup.head.listed c.closed_epochs _ _ here.closed a.closed;
       counts = a.counts ∙ here.counts;
-      systems = λ system. a.systems system ∙ here.systems system;
+      remarks = (
+        λ system. a.remarks.0 system ∙ here.remarks.0 system,
+        λ slot is. a.remarks.1 slot is ∙ here.remarks.1 slot is,
+        λ slot is. a.remarks.2 slot is ∙ here.remarks.2 slot is,
+      );
     }
 
 history-same : (s : SetupView) (c : ConverterView) (h other : History) → HasHistory s c h → HasHistory s c other → SameHistory s h other

@@ -26,16 +26,16 @@ use Rattle.rtk_rinex.specs.Reading.{IsMoment}
 use Rattle.rtk_rinex.specs.Header.{PositionView, IsPositionView}
 use Rattle.rtk_rinex.specs.MixedForm.{form_of_head, has_phases, phases_in}
 use Rattle.rtk_rinex.specs.MixedHead.{MixedHeadView}
-use Rattle.rtk_rinex.specs.MixedHeader.{mixed_header_text}
 use Rattle.rtk_rinex.specs.MixedRecord.{mixed_record_text}
 use Rattle.rtk_rinex.specs.MixedTable.{HasNoPhase, IsEpochOfHead, IsMixedTable, IsRowOfHead, MixedTable, WritesNoPhase, mixed_table_text, shown_mixed_table, with_mixed_record}
 use Rattle.rtk_rinex.specs.Record.{EpochTableView, IsStrengthOrNone, is_present}
 use Rattle.rtk_rinex.specs.Table.{StartsAt, shown_epoch}
 use Rattle.rtk_rinex.proofs.PublicLaws.{mixed_file-is_shown}
 use Rattle.rtk_convert.specs.Rows.{band_of, codes_for, first_cell, is_signal, last_phase_of, cell_at, in_turn, observed_after, observed_at, or_nothing, rolled_or_none, table_of}
-use Rattle.rtk_convert.specs.File.{record_of, records, first_or, first_time, file_of, one_more_if_any, record_count}
+use Rattle.rtk_convert.specs.File.{record_of, records, first_or, first_time, head_at, header_at, file_of, one_more_if_any, record_count}
 use Rattle.rtk_setup.specs.Setup.{SetupView, IsSetupView}
 use Rattle.rtk_convert.specs.FileLaws.{HasPhaseBy, IsGoodEpoch, FileIsTable}
+use Rattle.rtk_convert.proofs.FileHeaderLemmas.{head-good, epoch-of-head}
 use Rattle.rtk_convert.proofs.RowsLemmas.{all-rows, rows_to-rise, HasStrength, first-strength, observed-strength}
 
 -- the tables of the epochs, rising
@@ -220,11 +220,13 @@ file-has_records s site epochs good_setup good_site fall good =
     let first : ℕ = unwrap_or (first_of some) s.near in
     let near : IsMoment s.near = let to = good_setup.1.to in omega arith in
     let all : All (IsEpochOfHead s.head) xs = all-tables (IsEpochOfHead s.head) s (table-good s) epochs good in
-    let shown = mixed_file-is_shown s.head site first xs good_setup.2 good_site (first-moment s.head s.near some near (all-kept (IsEpochOfHead s.head) has_record xs all)) all (tables-rise s.head.listed epochs fall) (starts s.near some) in (
-      shown_mixed_table s.head site first xs,
+    let told : All (IsEpochOfHead (head_at s first)) xs = All-weaker (IsEpochOfHead s.head) (IsEpochOfHead (head_at s first)) (epoch-of-head s first) xs all in
+    let moment = first-moment s.head s.near some near (all-kept (IsEpochOfHead s.head) has_record xs all) in
+    let shown = mixed_file-is_shown (head_at s first) site first xs (head-good s first good_setup) good_site moment told (tables-rise s.head.listed epochs fall) (starts s.near some) in (
+      shown_mixed_table (head_at s first) site first xs,
       shown.table,
-      ap (λ (o : Option ℕ). mixed_header_text s.head site (unwrap_or o s.near) ++ records s.head.listed epochs) (first-same s.head.listed epochs)
-          ∙ ap (λ (text : List ℕ). mixed_header_text s.head site first ++ text) (sym (tables-text s.head.listed epochs))
+      ap (λ (o : Option ℕ). header_at s site (unwrap_or o s.near) ++ records s.head.listed epochs) (first-same s.head.listed epochs)
+          ∙ ap (λ (text : List ℕ). header_at s site first ++ text) (sym (tables-text s.head.listed epochs))
           ∙ shown.text,
       λ few. length-map some shown_epoch ∙ sym (records-are s.head.listed epochs few),
     )

@@ -6,19 +6,21 @@ use Rattle.rtk_obs.specs.declared.any_code.AnyCode.{AnyCode}
 use Rattle.rtk_obs.specs.declared.signal_cells.SignalEntry.{SignalEntry}
 use Rattle.rtk_obs.specs.declared.track.Track.{Track}
 use Rattle.rtk_obs.specs.AnyCode.{IsSignal}
+use Rattle.rtk_obs.specs.Carriers.{IsSlot}
 use Rattle.rtk_collect.specs.Arrival.{Arrival, message_of}
 use Rattle.rtk_collect.specs.Accepted.{closed}
 use Rattle.rtk_collect.specs.Collector.{CollectorView, RepresentsArrivals}
 use Rattle.rtk_collect.specs.Signals.{signals}
 use Rattle.rtk_convert.specs.declared.frame_class.FrameClass.{FrameClass}
 use Rattle.rtk_setup.specs.declared.counts.Counts.{Counts}
-use Rattle.rtk_convert.specs.declared.systems.Systems.{Systems}
+use Rattle.rtk_convert.specs.declared.remarks.Remarks.{Remarks}
 use Rattle.rtk_convert.specs.FileOfArrivals.{file_so_far}
 use Rattle.rtk_convert.specs.FrameClass.{Found, arrivals}
 use Rattle.rtk_convert.specs.ClosedEpochs.{ClosedEpochsView, HasClosed}
 use Rattle.rtk_convert.specs.LastPhases.{track_at}
 use Rattle.rtk_convert.specs.Report.{lines, frame_counts, has_taken}
 use Rattle.rtk_setup.specs.Setup.{SetupView, takes, cells_by}
+use Rattle.rtk_convert.specs.Slots.{has_slot, is_without_channel, is_of_other_channel, any_tells}
 use Rattle.rtk_convert.specs.Systems.{has_system}
 
 pub record ConversionView : Type 0 where
@@ -29,8 +31,8 @@ pub record ConversionView : Type 0 where
   pub closed_epochs : ClosedEpochsView
   -- the counts of frames
   pub counts : Counts
-  -- the systems of which a message was taken
-  pub systems : Systems
+  -- what the messages tell for the last lines of the report
+  pub remarks : Remarks
   -- a call broke off
   pub stopped : Bool
 
@@ -43,14 +45,21 @@ pub record HoldsKept (s : SetupView) (w : CollectorView SignalEntry) (arrivals :
   pub taken : AllTaken s arrivals
   pub window : RepresentsArrivals signals (cells_by s) w arrivals
 
+-- found frames tell this: of which systems a message was taken, and the slots of satellites of GLONASS without phases
+abbrev pub HasRemarks : SetupView → Remarks → List Found → Type 0
+HasRemarks s r found =
+    ((system : System) → has_system r.systems system ≡ has_taken s system found)
+    × ((slot : ℕ) → IsSlot slot → has_slot r.other_channels slot ≡ any_tells is_of_other_channel s slot found)
+    × ((slot : ℕ) → IsSlot slot → has_slot r.no_channels slot ≡ any_tells is_without_channel s slot found)
+
 -- a conversion represents these found frames: its window holds what is kept of their arrivals; it
 -- knows the last phases of the closed epochs, whether the header is written, and how many records
--- are; it has the counts of the frames; and it knows of which systems a message was taken
+-- are; it has the counts of the frames; and it knows what the frames tell for the last lines
 pub record RepresentsFound (s : ConversionView) (found : List Found) : Type 0 where
   pub kept : HoldsKept s.setup s.collector (arrivals found)
   pub closed : HasClosed s.closed_epochs s.setup.head.listed (closed signals (cells_by s.setup) s.setup.window (arrivals found))
   pub counts : s.counts ≡ frame_counts s.setup found
-  pub systems : (system : System) → has_system s.systems system ≡ has_taken s.setup system found
+  pub remarks : HasRemarks s.setup s.remarks found
 
 -- a new conversion with this setup: it has found no frame
 pub record IsNewConversion (s : SetupView) (c : ConversionView) : Type 0 where

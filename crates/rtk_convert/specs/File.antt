@@ -1,11 +1,13 @@
 -- The file of a set of messages, defined from the whole set. A set is seen as the position of its
 -- station and its epochs with their cells. The epochs fall: the greatest stands first.
-use Rattle.std.specs.Prelude.{ℕ, List, [], ◌∷◌, ◌++◌, Option, None, Some, unwrap_or}
+use Rattle.std.specs.Prelude.{ℕ, zero, suc, Bool, nat_le, List, [], ◌∷◌, ◌++◌, Option, None, Some, option_map, unwrap_or, if◌then◌else◌}
 use Rattle.rtk_obs.specs.declared.any_code.AnyCode.{AnyCode}
 use Rattle.rtk_frame.specs.Stream.{count_after}
 use Rattle.rtk_obs.specs.declared.signal_cells.SignalEntry.{SignalEntry}
+use Rattle.rtk_obs.specs.LeapSeconds.{leap_start}
 use Rattle.rtk_collect.specs.EpochSet.{EpochSetView}
 use Rattle.rtk_rinex.specs.Header.{PositionView}
+use Rattle.rtk_rinex.specs.MixedHead.{GlonassView, MixedHeadView}
 use Rattle.rtk_rinex.specs.MixedHeader.{mixed_header_text}
 use Rattle.rtk_rinex.specs.MixedRecord.{mixed_record_text}
 use Rattle.rtk_convert.specs.Rows.{table_of}
@@ -34,10 +36,34 @@ unfoldable pub first_time : List AnyCode → List (EpochSetView SignalEntry) →
 first_time listed [] = None
 first_time listed (e ∷ below) = first_or (first_time listed below) e.epoch (record_of listed e below)
 
+-- the last of the rows from 1 to n that has begun, or 0 if none has
+unfoldable pub begun_row : (ℕ → Bool) → ℕ → ℕ
+begun_row has_begun zero = 0
+begun_row has_begun (suc n) = if has_begun (suc n) then suc n else begun_row has_begun n
+
+-- formula
+-- the leap seconds of a file by its first time: those of the setup, or else those of the table, of 18 rows, at this moment
+-- Source: RINEX 3.05, Table A2
+abbrev pub file_leap_seconds : SetupView → ℕ → ℕ
+file_leap_seconds s first = unwrap_or s.leap_seconds (begun_row (λ n. nat_le (leap_start n) first) 18)
+
+-- what a file tells of GLONASS, with this number of leap seconds
+abbrev pub told_with : ℕ → GlonassView → GlonassView
+told_with leap_seconds g = record { channels = g.channels; leap_seconds = leap_seconds }
+
+-- formula
+-- the head of a file with this first time: what it tells of GLONASS has the leap seconds of the file
+abbrev pub head_at : SetupView → ℕ → MixedHeadView
+head_at s first = record s.head { glonass = option_map (told_with (file_leap_seconds s first)) s.head.glonass }
+
+-- the header of a file with this first time
+abbrev pub header_at : SetupView → PositionView → ℕ → List ℕ
+header_at s site first = mixed_header_text (head_at s first) site first
+
 -- formula
 -- the header: its first time is the time of the first record; without a record it is the reference
 abbrev pub header_of : SetupView → PositionView → List (EpochSetView SignalEntry) → List ℕ
-header_of s site epochs = mixed_header_text s.head site (unwrap_or (first_time s.head.listed epochs) s.near)
+header_of s site epochs = header_at s site (unwrap_or (first_time s.head.listed epochs) s.near)
 
 -- formula
 -- the file: the header, then the records of all epochs, rising

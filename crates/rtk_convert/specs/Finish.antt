@@ -9,9 +9,10 @@ use Rattle.rtk_setup.specs.declared.counts.Counts.{Counts}
 use Rattle.rtk_convert.specs.File.{record_count}
 use Rattle.rtk_convert.specs.FrameClass.{Found, arrivals}
 use Rattle.rtk_convert.specs.Report.{lines, frame_counts, has_taken}
-use Rattle.rtk_convert.specs.ReportText.{missing_line}
+use Rattle.rtk_convert.specs.ReportText.{missing_line, channels_text}
 use Rattle.rtk_setup.specs.Counts.{count_lines}
 use Rattle.rtk_setup.specs.Setup.{SetupView, is_of_gps, lists_system, cells_by}
+use Rattle.rtk_convert.specs.Slots.{is_without_channel, is_of_other_channel, any_tells}
 
 -- the counts of all found frames, and the count of the records of the file
 abbrev pub all_counts : SetupView → List Found → Counts
@@ -33,10 +34,18 @@ missing_letters s found =
 abbrev pub missing_lines : SetupView → List Found → List ℕ
 missing_lines s found = if is_of_gps s then [] else missing_line (missing_letters s found)
 
--- the lines before the counts: those of the found frames, and that of the systems without a message
-abbrev pub lines_before_counts : SetupView → List Found → List ℕ
-lines_before_counts s found = lines s found ++ missing_lines s found
+-- formula
+-- the lines of the slots whose satellites have no phases, if a code of GLONASS is listed: first those of which some dated message
+-- tells another channel, then those that have satellites and no channel
+abbrev pub unphased_lines : SetupView → List Found → List ℕ
+unphased_lines s found =
+    if lists_system s.head.listed Glonass then channels_text (λ slot. any_tells is_of_other_channel s slot found) (λ slot. any_tells is_without_channel s slot found)
+    else []
 
--- the report of all found frames: their lines, that of the systems without a message, then the counts
+-- the lines between those of the found frames and the counts: those of slots, and that of the systems without a message
+abbrev pub remark_lines : SetupView → List Found → List ℕ
+remark_lines s found = unphased_lines s found ++ missing_lines s found
+
+-- the report of all found frames: their lines, those of slots and systems, then the counts
 abbrev pub report_of : SetupView → List Found → List ℕ
-report_of s found = lines s found ++ (missing_lines s found ++ count_lines (all_counts s found))
+report_of s found = lines s found ++ (remark_lines s found ++ count_lines (all_counts s found))

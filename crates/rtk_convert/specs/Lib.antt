@@ -9,6 +9,7 @@ pub mod Epochs
 pub mod Systems
 pub mod Writing
 pub mod FrameClass
+pub mod Slots
 pub mod SetupLaws
 pub mod FileOfArrivals
 pub mod ReportText
@@ -18,6 +19,7 @@ pub mod Finish
 pub mod CountLaws
 pub mod NumberLaws
 pub mod ArrivalLaws
+pub mod ChannelLaws
 pub mod History
 pub mod Outcome
 pub mod Converter

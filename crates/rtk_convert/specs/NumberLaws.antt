@@ -12,8 +12,9 @@ use Rattle.rtk_setup.specs.declared.counts.Counts.{Counts}
 use Rattle.rtk_convert.specs.File.{record_of, records}
 use Rattle.rtk_convert.specs.ArrivalLaws.{HasPayload}
 use Rattle.rtk_convert.specs.FileOfArrivals.{kept_file}
-use Rattle.rtk_convert.specs.Finish.{all_counts, lines_before_counts, report_of}
+use Rattle.rtk_convert.specs.Finish.{all_counts, report_of}
 use Rattle.rtk_convert.specs.FrameClass.{Found, arrivals}
+use Rattle.rtk_convert.specs.Report.{lines}
 use Rattle.rtk_setup.specs.Counts.{count_lines}
 use Rattle.rtk_setup.specs.Setup.{SetupView, IsSetupView, cells_by}
 
@@ -35,11 +36,11 @@ pub record AreHeld (c : Counts) : Type 0 where
 abbrev pub CountLinesTellCounts : Type 0
 CountLinesTellCounts = (c d : Counts) → AreHeld c → AreHeld d → count_lines c ≡ count_lines d → c ≡ d
 
--- so do equal reports of found frames with the same lines before the counts
+-- so do equal reports of found frames with the same lines, whatever stands between these lines and the counts
 abbrev pub ReportTellsCounts : Type 0
 ReportTellsCounts =
     (s : SetupView) (found other : List Found) → AreHeld (all_counts s found) → AreHeld (all_counts s other)
-    → lines_before_counts s found ≡ lines_before_counts s other → report_of s found ≡ report_of s other → all_counts s found ≡ all_counts s other
+    → lines s found ≡ lines s other → report_of s found ≡ report_of s other → all_counts s found ≡ all_counts s other
 
 -- ---- the count of records
 

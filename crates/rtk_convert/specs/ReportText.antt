@@ -1,9 +1,9 @@
 -- The lines of a report (this project's rule). Links are counted from 1; moments are read as GPS
 -- time.
-use Rattle.std.specs.Prelude.{ℕ, ◌+◌, List, [], ◌∷◌, ◌++◌, codes, decimal, Option, None, Some}
+use Rattle.std.specs.Prelude.{ℕ, zero, suc, ◌+◌, Bool, List, [], ◌∷◌, ◌++◌, codes, decimal, Option, None, Some, if◌then◌else◌}
 use Rattle.rtk_obs.specs.declared.any_code.AnyCode.{AnyCode}
 use Rattle.rtk_obs.specs.AnyCode.{name_of}
-use Rattle.rtk_obs.specs.CivilText.{civil_text}
+use Rattle.rtk_obs.specs.CivilText.{civil_text, last_digits}
 use Rattle.rtk_obs.specs.SatelliteIndex.{index_name}
 use Rattle.rtk_rinex.specs.Reading.{reading_of}
 
@@ -43,6 +43,34 @@ signal_text satellite code = 32 ∷ index_name satellite ++ 32 ∷ name_of code
 abbrev pub cell_conflict_line : ℕ → ℕ → ℕ → ℕ → AnyCode → List ℕ
 cell_conflict_line link number epoch satellite code =
     arrival_text link (codes " conflict ") number (Some epoch) ++ signal_text satellite code ++ 10 ∷ []
+
+-- formula
+-- the name of a satellite of GLONASS after a blank: R and the two digits of its slot
+abbrev pub slot_name : ℕ → List ℕ
+slot_name slot = 32 ∷ 82 ∷ last_digits 2 slot
+
+-- formula
+-- the names of the slots from 1 to n that a test holds of, rising
+abbrev pub slot_names : (ℕ → Bool) → ℕ → List ℕ
+slot_names test zero = []
+slot_names test (suc n) = slot_names test n ++ (if test (suc n) then slot_name (suc n) else [])
+
+-- formula
+-- some names; a hyphen for none
+abbrev pub shown_names : List ℕ → List ℕ
+shown_names [] = codes " -"
+shown_names (x ∷ names) = x ∷ names
+
+-- formula
+-- a line of slots, as in: other-channel R09 R10
+abbrev pub slots_line : List ℕ → List ℕ → List ℕ
+slots_line name names = name ++ shown_names names ++ 10 ∷ []
+
+-- formula
+-- the two lines of slots whose satellites have no phases: those that the first test holds of have another channel by a message,
+-- those of the second have none
+abbrev pub channels_text : (ℕ → Bool) → (ℕ → Bool) → List ℕ
+channels_text is_other is_without = slots_line (codes "other-channel") (slot_names is_other 27) ++ slots_line (codes "no-channel") (slot_names is_without 27)
 
 -- formula
 -- the systems of which no message was taken, if there are any, as in: no-message C J

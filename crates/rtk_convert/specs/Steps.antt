@@ -6,6 +6,7 @@ pub mod ShownCells
 pub mod ClosedText
 pub mod OfferLines
 pub mod OfferedMessage
+pub mod Remarks
 pub mod LastLines
 pub mod PhaseBlocks
 pub mod AddedMessage

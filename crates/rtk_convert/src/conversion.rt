@@ -24,6 +24,7 @@ use crate::fault::ConvertFault;
 use crate::frame_class::{FrameClass, classify, read_message};
 use crate::link_number::LinkNumber;
 use crate::message_class::MessageClass;
+use crate::remarks::Remarks;
 use crate::report;
 use crate::systems::Systems;
 use crate::writing::write_lines;
@@ -36,7 +37,8 @@ use std::alloc::{AllocError, Global};
 use std::marker::Model;
 
 /// The state of a conversion: the open epochs and the station messages, the last phases of the
-/// closed epochs, whether the header is written, the counts, and the systems of which a message was taken.
+/// closed epochs, whether the header is written, the counts, and what the last lines of the report tell beside
+/// these.
 ///
 /// A call that breaks off stops it: each later call answers V8.
 #[derive(Drop)]
@@ -45,7 +47,7 @@ pub(crate) struct Conversion {
     setup: Setup,
     epochs: AnyEpochs,
     counts: Counts,
-    systems: Systems,
+    remarks: Remarks,
     stopped: bool,
 }
 
@@ -63,7 +65,7 @@ impl Model for Conversion {
       collector = (epochs_in c.epochs).collector;
       closed_epochs = (epochs_in c.epochs).closed;
       counts = c.counts;
-      systems = c.systems;
+      remarks = c.remarks;
       stopped = c.stopped;
     } };
 
@@ -72,7 +74,7 @@ impl Model for Conversion {
       setup = c.setup;
       epochs = c.epochs;
       counts = c.counts;
-      systems = c.systems;
+      remarks = c.remarks;
       stopped = c.stopped;
     })
         × AreEpochsOf c.setup c.epochs
@@ -81,7 +83,7 @@ impl Model for Conversion {
           collector = (epochs_in c.epochs).collector;
           closed_epochs = (epochs_in c.epochs).closed;
           counts = c.counts;
-          systems = c.systems;
+          remarks = c.remarks;
           stopped = c.stopped;
         }) };
 }
@@ -92,6 +94,7 @@ impl Conversion {
         ensures { IfOk result (IsNewConversion setup) }
     {
         let epochs = AnyEpochs::new(alloc, &setup)?;
+        let remarks = Remarks::new();
         Ok(Conversion {
             alloc,
             setup,
@@ -107,7 +110,7 @@ impl Conversion {
                 late: 0,
                 epochs: 0,
             },
-            systems: Systems::NONE,
+            remarks,
             stopped: false,
         })
     }
@@ -165,7 +168,8 @@ impl Conversion {
         ensures failed { NamesFailedStreams result (O.failures out.old) (O.failures out.new) (L.failures log.old) (L.failures log.new) }
     {
         self.counts.frames = self.counts.frames.saturating_add(1);
-        match classify(&self.setup, read_message(&self.setup, decoder, payload)) {
+        let reading = read_message(&self.setup, decoder, payload);
+        match classify(&self.setup, reading) {
             FrameClass::OtherMessage => {
                 self.counts.other = self.counts.other.saturating_add(1);
                 Ok(None)
@@ -182,6 +186,7 @@ impl Conversion {
             }
             FrameClass::Dated(dated) => {
                 let epoch = dated.epoch();
+                self.remarks.put_slots(self.setup.channels(), reading);
                 self.handle_message(link, dated, out, log)?;
                 Ok(epoch)
             }
@@ -208,7 +213,7 @@ impl Conversion {
             .epochs
             .add(self.alloc, &self.setup, link, dated, out, log)?;
         count_message(&mut self.counts, class);
-        put_system(&mut self.systems, number, epoch, class);
+        put_system(&mut self.remarks.systems, number, epoch, class);
         Ok(())
     }
 }
@@ -232,7 +237,7 @@ impl Conversion {
         let (alloc, setup) = (self.alloc, self.setup);
         let mut counts = self.counts;
         counts.epochs = self.epochs.finish(alloc, &setup, out)?;
-        let lines = report::last_lines(alloc, &setup, self.systems, &counts)?;
+        let lines = report::last_lines(alloc, &setup, self.remarks, &counts)?;
         write_lines(log, &lines)?;
         Ok(counts)
     }

@@ -2,6 +2,7 @@
 
 ghost use Rattle.rtk_convert.specs.ArrivalLaws.{OneSetHasOneFile, LateLeaveFile, SoFarBegins, HeaderIsFinal, OthersLeaveFile, KeptFileIsTable, FrameAddsToOne};
 ghost use Rattle.rtk_convert.specs.CallLaws.{CallsKeepPromise, CallsWriteKept, CallsComeToTable};
+ghost use Rattle.rtk_convert.specs.ChannelLaws.{ReportTellsChannels};
 ghost use Rattle.rtk_convert.specs.ConverterLaws.{LinkDecidesRefusal, LinkHoldsNewest, WaitingDecidesFrames, HeldDecidesCall, HeldDecidesEnd};
 ghost use Rattle.rtk_convert.specs.CountLaws.{EachFrameInOneClass};
 ghost use Rattle.rtk_convert.specs.FileLaws.{FileIsTable};
@@ -93,8 +94,14 @@ pub fn each_frame_in_one_class()
     ensures { EachFrameInOneClass }
 {}
 
-/// Equal lines of counts tell equal counts, and so do equal reports with the same lines before them:
-/// no count stops short of what a u64 holds.
+/// A slot of GLONASS stands in a line of the report exactly if a satellite of it has no channel in some message
+/// that was dated, and so no phases there.
+pub fn report_tells_channels()
+    ensures { ReportTellsChannels }
+{}
+
+/// Equal lines of counts tell equal counts, and so do equal reports with the same lines of frames: no count
+/// stops short of what a u64 holds.
 pub fn report_tells_counts()
     ensures lines { CountLinesTellCounts }
     ensures report { ReportTellsCounts }

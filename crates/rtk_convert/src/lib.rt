@@ -57,16 +57,19 @@ mod epoch_rows;
 mod epochs;
 mod fault;
 mod file_entry;
+mod file_header;
 mod frame_class;
 mod laws;
 mod link_count;
 mod link_number;
 mod link_state;
 mod message_class;
+mod remarks;
 mod report;
 mod row_lines;
 mod runs;
 mod signal_phases;
+mod slots;
 mod systems;
 mod writing;
 
@@ -75,12 +78,12 @@ pub use fault::{ConvertFault, Stream};
 pub use laws::{
     calls_come_to_table, calls_keep_promise, converter_laws, default_takes_four,
     each_frame_in_one_class, epochs_are_records, file_laws, file_only_grows, frames_add_to_one,
-    gps_messages_stay, one_history_of_calls, report_tells_counts, set_decides_file,
-    set_has_one_file,
+    gps_messages_stay, one_history_of_calls, report_tells_channels, report_tells_counts,
+    set_decides_file, set_has_one_file,
 };
 pub use link_count::LinkCount;
 pub use rtk_setup::{
-    Counts, GREATEST_STATION, LEAST_WINDOW, MOST_LINKS, MOST_WINDOW, Reference, Setup, SetupFault,
-    Station, SystemKinds, Window,
+    Counts, GREATEST_STATION, LEAST_WINDOW, LeapSeconds, MOST_LINKS, MOST_WINDOW, Reference, Setup,
+    SetupFault, Station, SystemKinds, Window,
 };
 pub use runs::run;

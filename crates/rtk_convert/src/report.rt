@@ -1,23 +1,27 @@
 //! The lines of a report, as text.
 
-ghost use Rattle.std.specs.Prelude.{◌≡◌, ◌+◌, ◌<◌, ◌≤◌, ◌++◌, [], Some, None, Option, ℕ, map, flat_map, IfOk, OnOk};
+ghost use Rattle.std.specs.Prelude.{◌≡◌, ◌+◌, ◌<◌, ◌≤◌, ◌++◌, [], Some, None, Option, ℕ, map, flat_map, IfOk, OnOk, if◌then◌else◌};
 ghost use Rattle.arrayvec.specs.ArrayVec.{array_vec_len};
+ghost use Rattle.rtk_obs.specs.Carriers.{IsSlot};
 ghost use Rattle.rtk_obs.specs.SatelliteIndex.{letter_of};
 ghost use Rattle.rtk_collect.specs.declared.conflicts.AnySatelliteCode.{AnySatelliteCode};
 ghost use Rattle.rtk_convert.specs.Report.{refused_line, cell_lines, conflict_lines, class_lines};
-ghost use Rattle.rtk_convert.specs.Steps.LastLines.{last_lines, missing_letter_by, missing_letters_by};
+ghost use Rattle.rtk_convert.specs.Slots.{has_slot};
+ghost use Rattle.rtk_convert.specs.Steps.LastLines.{last_lines, missing_letter_by, missing_letters_by, unphased_lines_by};
 ghost use Rattle.rtk_convert.specs.Steps.OfferLines.{class_named};
-ghost use Rattle.rtk_convert.specs.ReportText.{epoch_text, link_text, arrival_text, signal_text, late_line, conflict_line, cell_conflict_line, missing_line};
+ghost use Rattle.rtk_convert.specs.ReportText.{epoch_text, link_text, arrival_text, signal_text, late_line, conflict_line, cell_conflict_line, slot_name, slot_names, shown_names, slots_line, missing_line};
 ghost use Rattle.rtk_setup.specs.Counts.{count_line, count_lines};
 
 use crate::file_entry::FileEntry;
 use crate::link_number::LinkNumber;
 use crate::message_class::MessageClass;
+use crate::remarks::Remarks;
+use crate::slots::{SLOTS, Slots};
 use crate::systems::Systems;
 use arrayvec::ArrayVec;
 use rtk_collect::AnySatelliteCode;
 use rtk_message::{AnyFault, System, put_any_fault, put_named};
-use rtk_obs::{GpsMs, civil, put_civil, satellite_name};
+use rtk_obs::{GpsMs, civil, put_civil, satellite_name, two_digits};
 use rtk_setup::{Counts, Setup};
 use std::alloc::{AllocError, Global};
 
@@ -230,18 +234,89 @@ fn put_missing(lines: &mut Vec<u8>, setup: &Setup, systems: Systems) -> Result<(
     Ok(())
 }
 
-/// Returns the last lines of the report: that of the systems without a message, and the counts.
+// Returns the name of a satellite of GLONASS after a blank.
+fn slot_name(slot: u8) -> [u8; 4]
+    ensures { result ≡ slot_name slot }
+{
+    let [tens, ones] = two_digits(slot);
+    [b' ', b'R', tens, ones]
+}
+
+// Appends the name of a slot, if the set has it.
+fn put_slot(names: &mut Vec<u8>, slots: &Slots, slot: u8) -> Result<(), AllocError>
+    requires { IsSlot slot }
+    ensures { OnOk result (names.new.items ≡ names.old.items ++ (if has_slot slots.now slot then slot_name slot else [])) }
+{
+    if !slots.has(slot) {
+        return Ok(());
+    }
+    names.extend_from_slice(&slot_name(slot))
+}
+
+// Returns the names of the slots of a set, rising.
+fn slot_names(alloc: Global, slots: &Slots) -> Result<Vec<u8>, AllocError>
+    ensures { IfOk result (λ names. names.items ≡ slot_names (has_slot slots.now) 27) }
+{
+    let mut names = Vec::new(alloc);
+    for before in 0..SLOTS {
+        put_slot(&mut names, slots, before as u8 + 1)?;
+    }
+    Ok(names)
+}
+
+// Returns some names, or a hyphen for none.
+fn shown_names(names: &[u8]) -> &[u8]
+    ensures { result.now ≡ shown_names names.now }
+{
+    if names.is_empty() { b" -" } else { names }
+}
+
+// Appends the line of the slots of a set.
+fn put_slots(
+    alloc: Global,
+    lines: &mut Vec<u8>,
+    name: &[u8],
+    slots: &Slots,
+) -> Result<(), AllocError>
+    ensures { OnOk result (lines.new.items ≡ lines.old.items ++ slots_line name.now (slot_names (has_slot slots.now) 27)) }
+{
+    let names = slot_names(alloc, slots)?;
+    lines.extend_from_slice(name)?;
+    lines.extend_from_slice(shown_names(&names))?;
+    lines.push(b'\n')?;
+    Ok(())
+}
+
+// Appends the lines of the slots whose satellites have no phases, if a code of GLONASS is listed.
+fn put_unphased(
+    alloc: Global,
+    lines: &mut Vec<u8>,
+    setup: &Setup,
+    remarks: &Remarks,
+) -> Result<(), AllocError>
+    ensures { OnOk result (lines.new.items ≡ lines.old.items ++ unphased_lines_by setup.now remarks.now) }
+{
+    if !setup.lists(System::Glonass) {
+        return Ok(());
+    }
+    put_slots(alloc, lines, b"other-channel", &remarks.other_channels)?;
+    put_slots(alloc, lines, b"no-channel", &remarks.no_channels)
+}
+
+/// Returns the last lines of the report: those of slots without phases, that of the systems without a message,
+/// and the counts.
 pub(crate) fn last_lines(
     alloc: Global,
     setup: &Setup,
-    systems: Systems,
+    remarks: Remarks,
     counts: &Counts,
 ) -> Result<Vec<u8>, AllocError>
-    ensures { IfOk result (λ lines. lines.items ≡ last_lines setup.now systems counts.now) }
+    ensures { IfOk result (λ lines. lines.items ≡ last_lines setup.now remarks counts.now) }
 {
     let mut lines = Vec::new(alloc);
+    put_unphased(alloc, &mut lines, setup, &remarks)?;
     if !setup.is_of_gps() {
-        put_missing(&mut lines, setup, systems)?;
+        put_missing(&mut lines, setup, remarks.systems)?;
     }
     put_counts(&mut lines, counts)?;
     Ok(lines)

@@ -8,9 +8,9 @@ ghost use Rattle.rtk_convert.specs.Steps.WritingInPart.{PutsText};
 ghost use Rattle.rtk_convert.specs.Steps.ClosedText.{closing_text, header_before, is_any};
 
 use crate::fault::{ConvertFault, Stream};
+use crate::file_header::file_header;
 use rtk_frame::{Sink, write_all};
 use rtk_obs::{GpsMs, Position};
-use rtk_rinex::mixed_header;
 use rtk_setup::Setup;
 use std::alloc::{AllocError, Global};
 
@@ -39,7 +39,7 @@ fn with_header(
 ) -> Result<Vec<u8>, AllocError>
     ensures { IfOk result (λ whole. whole.items ≡ header_before setup.now (position_view position.now) first false ++ text.now) }
 {
-    let mut whole = mixed_header(alloc, setup.head(), position, first)?;
+    let mut whole = file_header(alloc, setup, position, first)?;
     whole.extend_from_slice(text)?;
     Ok(whole)
 }
@@ -90,7 +90,7 @@ pub(crate) fn write_header_if_none<O: Sink>(
     if is_header_out {
         return Ok(());
     }
-    let text = mixed_header(alloc, setup.head(), position, setup.near())?;
+    let text = file_header(alloc, setup, position, setup.near())?;
     write_text(out, &text)
 }
 

@@ -1,5 +1,5 @@
 -- What a conversion is set up with, and which messages it takes.
-use Rattle.std.specs.Prelude.{◌≡◌, ℕ, ◌+◌, ◌≤◌, ◌==◌, ℤ, Bool, List, [], map, Option, None, Some, if◌then◌else◌}
+use Rattle.std.specs.Prelude.{◌≡◌, ℕ, ◌+◌, ◌≤◌, ◌==◌, ℤ, Bool, List, [], map, Option, None, Some, IfSome, if◌then◌else◌}
 use Rattle.std.specs.Int.{IsInRange}
 use Rattle.std.specs.List.{list_any, list_all}
 use Rattle.rtk_message.specs.declared.accepted.Accepted.{Accepted}
@@ -26,13 +26,13 @@ pub record SetupView : Type 0 where
   pub station : ℕ
   -- the moment near which clocks are dated
   pub near : ℕ
-  -- what is known of the file before its observations
+  -- what is known of the file before its observations; its leap seconds are not those of the file (`head_at`)
   pub head : MixedHeadView
   -- how many epochs are open at once
   pub window : ℕ
   -- the kind of MSM that is converted of each system
   pub kinds : SystemKinds
-  -- the leap seconds by which clocks of GLONASS are dated, if they are not those of the table
+  -- the leap seconds by which clocks of GLONASS are dated and which the file tells, if they are not those of the table
   pub leap_seconds : Option ℕ
 
 -- ---- the kinds
@@ -89,9 +89,14 @@ IsStation station = station ≤ 4095
 abbrev pub IsWindow : ℕ → Type 0
 IsWindow window = IsInRange 2 4096 window
 
+-- constant
+-- leap seconds of two digits (this project's rule)
+abbrev pub IsLeapSeconds : ℕ → Type 0
+IsLeapSeconds n = n ≤ 99
+
 -- formula
 abbrev pub IsSetupView : SetupView → Type 0
-IsSetupView s = IsStation s.station × IsReference s.near × IsMixedHead s.head × IsWindow s.window
+IsSetupView s = IsStation s.station × IsReference s.near × IsMixedHead s.head × IsWindow s.window × IfSome s.leap_seconds IsLeapSeconds
 
 -- ---- which messages are converted
 

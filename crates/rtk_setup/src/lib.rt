@@ -22,6 +22,7 @@
 #![tactic(auto)]
 
 mod counts;
+mod leap_seconds;
 mod links;
 mod reference;
 mod setup;
@@ -31,6 +32,7 @@ mod system_kinds;
 mod window;
 
 pub use counts::Counts;
+pub use leap_seconds::LeapSeconds;
 pub use links::MOST_LINKS;
 pub use reference::Reference;
 pub use setup::Setup;

@@ -1,14 +1,15 @@
 //! What a conversion is set up with.
 
-ghost use Rattle.std.specs.Prelude.{◌≡◌, ◌≤◌, Some, IfOk, IfErr, length, map, if◌then◌else◌};
+ghost use Rattle.std.specs.Prelude.{◌≡◌, ◌≤◌, Some, IfSome, IfOk, IfErr, length, map, if◌then◌else◌};
 ghost use Rattle.rtk_message.specs.declared.system.System.TheVariants.{Gps};
 ghost use Rattle.rtk_message.specs.Accepted.{only_kind, no_kind};
 ghost use Rattle.rtk_obs.specs.Dating.{IsReference};
 ghost use Rattle.rtk_obs.specs.AnyCode.{code_of_gps};
 ghost use Rattle.rtk_obs.specs.SignalCells.{entries_of};
 ghost use Rattle.rtk_rinex.specs.MixedHead.{IsMixedHead};
-ghost use Rattle.rtk_setup.specs.Setup.{SetupView, IsSetupView, AreSameChannels, cells_by, is_of_gps, IsStation, IsWindow, all_of, with_kind, taken_by, channels_of, lists_system, mixed_head_of, mixed_setup_of, setup_of};
+ghost use Rattle.rtk_setup.specs.Setup.{SetupView, IsSetupView, AreSameChannels, cells_by, is_of_gps, IsStation, IsWindow, IsLeapSeconds, all_of, with_kind, taken_by, channels_of, lists_system, mixed_head_of, mixed_setup_of, setup_of};
 
+use crate::leap_seconds::LeapSeconds;
 use crate::reference::Reference;
 use crate::setup_fault::SetupFault;
 use crate::station::Station;
@@ -153,6 +154,8 @@ impl Setup {
     }
 
     /// Returns the setup of these parts, for a file of any systems. Its MSM of each system is MSM4.
+    ///
+    /// The file does not tell the leap seconds of the head, but those at its first record.
     pub fn mixed(station: Station, near: Reference, head: MixedHead, window: Window) -> Setup
         ensures setup { result ≡ mixed_setup_of station near head window }
         ensures good { IsSetupView result }
@@ -200,12 +203,12 @@ impl Setup {
     }
 
     /// Returns this setup with a number of leap seconds, by which clocks of GLONASS are dated in place of the
-    /// table's.
-    pub fn with_leap_seconds(self, leap_seconds: u8) -> Setup
+    /// table's, and which the file tells.
+    pub fn with_leap_seconds(self, leap_seconds: LeapSeconds) -> Setup
         ensures { result ≡ record self { leap_seconds = Some leap_seconds } }
     {
         Setup {
-            leap_seconds: Some(leap_seconds),
+            leap_seconds: Some(leap_seconds.number()),
             ..self
         }
     }
@@ -251,7 +254,8 @@ impl Setup {
 
     /// Returns the leap seconds by which clocks of GLONASS are dated, if they are not those of the table.
     pub fn leap_seconds(&self) -> Option<u8>
-        ensures { result ≡ self.now.leap_seconds }
+        ensures value { result ≡ self.now.leap_seconds }
+        ensures good { IfSome result IsLeapSeconds }
     {
         self.leap_seconds
     }
@@ -292,7 +296,8 @@ impl Setup {
 
     /// Returns the channels by which phases of GLONASS are made.
     pub fn channels(&self) -> &Channels
-        ensures { entries_of result.now ≡ cells_by self.now }
+        ensures cells { entries_of result.now ≡ cells_by self.now }
+        ensures slots { AreSameChannels result.now (channels_of self.now.head.glonass) }
     {
         &self.channels
     }

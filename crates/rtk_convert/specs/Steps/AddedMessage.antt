@@ -76,7 +76,9 @@ epochs_of c = record { collector = c.collector; closed = c.closed_epochs }
 pub record AddsMessageAs (old : ConversionView) (link : ℕ) (a : Arrival) (before : List Arrival) (new : ConversionView) (written_old written_new : Written) : Type 0 where
   pub after : RepresentsEpochs new.setup (epochs_of new) (a ∷ before)
   pub counts : new.counts ≡ counted_as (arrival_class old.setup a before) old.counts
-  pub systems : (system : System) → has_system new.systems system ≡ (brings old.setup system (Dated a) before || has_system old.systems system)
+  pub systems : (system : System) → has_system new.remarks.systems system ≡ (brings old.setup system (Dated a) before || has_system old.remarks.systems system)
+  pub other_channels : new.remarks.other_channels ≡ old.remarks.other_channels
+  pub no_channels : new.remarks.no_channels ≡ old.remarks.no_channels
   pub out : WritesRest written_old.file written_new.file (file_so_far old.setup before) (file_so_far old.setup (a ∷ before))
   pub log : written_new.report ≡ with_more written_old.report (frame_lines old.setup link (Dated a) before)
 

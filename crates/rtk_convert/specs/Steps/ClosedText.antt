@@ -4,14 +4,13 @@ use Rattle.std.specs.Prelude.{ℕ, Bool, true, false, List, [], ◌∷◌, ◌++
 use Rattle.rtk_obs.specs.declared.signal_cells.SignalEntry.{SignalEntry}
 use Rattle.rtk_collect.specs.EpochSet.{EpochSetView}
 use Rattle.rtk_rinex.specs.Header.{PositionView}
-use Rattle.rtk_rinex.specs.MixedHeader.{mixed_header_text}
-use Rattle.rtk_convert.specs.File.{records, first_time, record_of}
+use Rattle.rtk_convert.specs.File.{records, first_time, record_of, header_at}
 use Rattle.rtk_setup.specs.Setup.{SetupView}
 
 -- a header with this first time, and then a text; nothing if there is no first time
 abbrev pub with_header : SetupView → PositionView → Option ℕ → List ℕ → List ℕ
 with_header s site None text = []
-with_header s site (Some first) text = mixed_header_text s.head site first ++ text
+with_header s site (Some first) text = header_at s site first ++ text
 
 -- the part of the file that is written once these epochs are closed
 abbrev pub closed_text : SetupView → PositionView → List (EpochSetView SignalEntry) → List ℕ
@@ -20,7 +19,7 @@ closed_text s site closed = with_header s site (first_time s.head.listed closed)
 -- the header before a first record, unless a header is written already
 abbrev pub header_before : SetupView → PositionView → ℕ → Bool → List ℕ
 header_before s site epoch true = []
-header_before s site epoch false = mixed_header_text s.head site epoch
+header_before s site epoch false = header_at s site epoch
 
 -- what an epoch adds when it closes: its record, and before it the header if that is not written
 -- yet; nothing if it has no record

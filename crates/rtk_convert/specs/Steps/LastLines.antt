@@ -1,13 +1,15 @@
--- The last lines of a report, by the systems of which a message was taken.
+-- The last lines of a report, by what the messages tell for them.
 use Rattle.std.specs.Prelude.{ℕ, ◌&&◌, not, List, [], ◌∷◌, ◌++◌, if◌then◌else◌}
 use Rattle.rtk_message.specs.declared.system.System.{System}
 use Rattle.rtk_message.specs.declared.system.System.TheVariants.{Gps, Glonass, Galileo, Beidou, Qzss, Sbas, Navic}
 use Rattle.rtk_obs.specs.SatelliteIndex.{letter_of}
 use Rattle.rtk_setup.specs.declared.counts.Counts.{Counts}
+use Rattle.rtk_convert.specs.declared.remarks.Remarks.{Remarks}
 use Rattle.rtk_convert.specs.declared.systems.Systems.{Systems}
-use Rattle.rtk_convert.specs.ReportText.{missing_line}
+use Rattle.rtk_convert.specs.ReportText.{missing_line, channels_text}
 use Rattle.rtk_setup.specs.Counts.{count_lines}
 use Rattle.rtk_setup.specs.Setup.{SetupView, is_of_gps, lists_system}
+use Rattle.rtk_convert.specs.Slots.{has_slot}
 use Rattle.rtk_convert.specs.Systems.{has_system}
 
 -- the letter of a listed system that the set does not have, after a blank
@@ -26,6 +28,14 @@ missing_letters_by s systems =
 abbrev pub missing_lines_by : SetupView → Systems → List ℕ
 missing_lines_by s systems = if is_of_gps s then [] else missing_line (missing_letters_by s systems)
 
--- the last lines: that of the systems without a message, and the counts
-abbrev pub last_lines : SetupView → Systems → Counts → List ℕ
-last_lines s systems counts = missing_lines_by s systems ++ count_lines counts
+-- the lines of the slots of these sets, if a code of GLONASS is listed
+abbrev pub unphased_lines_by : SetupView → Remarks → List ℕ
+unphased_lines_by s r = if lists_system s.head.listed Glonass then channels_text (has_slot r.other_channels) (has_slot r.no_channels) else []
+
+-- the lines of slots, and that of the systems without a message
+abbrev pub remark_lines_by : SetupView → Remarks → List ℕ
+remark_lines_by s r = unphased_lines_by s r ++ missing_lines_by s r.systems
+
+-- the last lines: those of slots and systems, and the counts
+abbrev pub last_lines : SetupView → Remarks → Counts → List ℕ
+last_lines s r counts = remark_lines_by s r ++ count_lines counts

@@ -14,4 +14,4 @@ returns-in_default c = dated-none c.args.setup.now c.args.message.now c.of_any.r
 pub returns : goal.returns
 returns c =
     dated-some c.args.setup.now c.args.message.now c.system_of.result c.near.result c.in-Some.clock c.date_clock-epoch.result c.leap_seconds.result c.of_any-2.result
-    c.system_of.ensures c.near.ensures.value c.leap_seconds.ensures (sym c.tow.ensures ∙ c.in-Some.is) c.date_clock-epoch.ensures c.of_any-2.ensures
+    c.system_of.ensures c.near.ensures.value c.leap_seconds.ensures.value (sym c.tow.ensures ∙ c.in-Some.is) c.date_clock-epoch.ensures c.of_any-2.ensures

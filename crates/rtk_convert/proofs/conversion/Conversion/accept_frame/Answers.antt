@@ -21,7 +21,7 @@ invariant_of-self-2 g c = (
 pub returns-clause-keeps : goal.returns-clause-keeps
 returns-clause-keeps g c =
     let k = c.handle_payload.ensures.stays.keeps in
-    let seen = subst (λ (x : ConversionView). KeepsWindow (state c.self.inside.setup (epochs_in c.self.inside.epochs).collector (epochs_in c.self.inside.epochs).closed c.self.inside.counts c.self.inside.systems true) x) (sym c.self-2.view_is) k in
+    let seen = subst (λ (x : ConversionView). KeepsWindow (state c.self.inside.setup (epochs_in c.self.inside.epochs).collector (epochs_in c.self.inside.epochs).closed c.self.inside.counts c.self.inside.remarks true) x) (sym c.self-2.view_is) k in
     keeps-seen c.self.view_is (record { same_setup = seen.same_setup; few = seen.few; held = seen.held })
 
 pub returns-in_err-epoch-clause-keeps : goal.returns-in_err-epoch-clause-keeps

@@ -26,9 +26,9 @@ returns-clause-handles g c =
     let a = c.args.dated in
     let class = class_named c.in_ok-class.class in
     let systems = λ (system : System). c.put_system.ensures system
-    ∙ ap (λ (n : ℕ). brings_by n c.epoch-epoch.result class system || has_system c.self.inside.systems system) c.number-number.ensures
-    ∙ ap (λ (e : Option ℕ). brings_by (number_of (message_of a)) e class system || has_system c.self.inside.systems system) c.epoch-epoch.ensures.value in
-    message-ok c.self.view_is (message-adds c.in_ok-class.class (sym (ap is_some c.epoch-epoch.ensures.value) ∙ c.epoch-epoch.ensures.has_epoch) c.in_ok-class.ensures.adds.ok c.count_message.ensures systems)
+    ∙ ap (λ (n : ℕ). brings_by n c.epoch-epoch.result class system || has_system c.self.inside.remarks.systems system) c.number-number.ensures
+    ∙ ap (λ (e : Option ℕ). brings_by (number_of (message_of a)) e class system || has_system c.self.inside.remarks.systems system) c.epoch-epoch.ensures.value in
+    message-ok c.self.view_is (message-adds c.in_ok-class.class (sym (ap is_some c.epoch-epoch.ensures.value) ∙ c.epoch-epoch.ensures.has_epoch) c.in_ok-class.ensures.adds.ok c.count_message.ensures systems refl refl)
 
 pub returns-in_err-class-clause-handles : goal.returns-in_err-class-clause-handles
 returns-in_err-class-clause-handles g c =

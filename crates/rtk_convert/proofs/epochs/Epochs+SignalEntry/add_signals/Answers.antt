@@ -35,7 +35,7 @@ write_answer-requires g c =
 pub returns-clause-adds : goal.returns-clause-adds
 returns-clause-adds g c =
     let meets : AnswersMessage c.args.setup.now (window_of same c.self.inside.collector) c.args.dated (outcome_of same c.in_ok-offer.offer) (map name_same c.offer_signals.new.conflicts) (window_of same c.offer_signals.new.self) =
-    signal-answers c.args.setup.now c.channels-channels.result.now (window_of same c.self.inside.collector) (window_of same c.offer_signals.new.self) c.args.dated (outcome_of same c.in_ok-offer.offer) (map name_same c.offer_signals.new.conflicts) c.channels-channels.ensures
+    signal-answers c.args.setup.now c.channels-channels.result.now (window_of same c.self.inside.collector) (window_of same c.offer_signals.new.self) c.args.dated (outcome_of same c.in_ok-offer.offer) (map name_same c.offer_signals.new.conflicts) c.channels-channels.ensures.cells
     (λ before rep.
     let m = c.in_ok-offer.ensures.answer before (subst (λ (w : CollectorView SignalEntry). RepresentsArrivals signals (entries_of c.channels-channels.result.now) w before) (window-id c.self.inside.collector) rep) in (
       subst (λ (o : Outcome SignalEntry AnySatelliteCode). IsRightAnswer signals (entries_of c.channels-channels.result.now) c.self.inside.collector.places c.args.dated before o (map name_same c.offer_signals.new.conflicts)) (sym (outcome-id c.in_ok-offer.offer))
@@ -53,7 +53,7 @@ returns-clause-adds g c =
 pub returns-clause-stays : goal.returns-clause-stays
 returns-clause-stays g c =
     let meets : AnswersMessage c.args.setup.now (window_of same c.self.inside.collector) c.args.dated (outcome_of same c.in_ok-offer.offer) (map name_same c.offer_signals.new.conflicts) (window_of same c.offer_signals.new.self) =
-    signal-answers c.args.setup.now c.channels-channels.result.now (window_of same c.self.inside.collector) (window_of same c.offer_signals.new.self) c.args.dated (outcome_of same c.in_ok-offer.offer) (map name_same c.offer_signals.new.conflicts) c.channels-channels.ensures
+    signal-answers c.args.setup.now c.channels-channels.result.now (window_of same c.self.inside.collector) (window_of same c.offer_signals.new.self) c.args.dated (outcome_of same c.in_ok-offer.offer) (map name_same c.offer_signals.new.conflicts) c.channels-channels.ensures.cells
     (λ before rep.
     let m = c.in_ok-offer.ensures.answer before (subst (λ (w : CollectorView SignalEntry). RepresentsArrivals signals (entries_of c.channels-channels.result.now) w before) (window-id c.self.inside.collector) rep) in (
       subst (λ (o : Outcome SignalEntry AnySatelliteCode). IsRightAnswer signals (entries_of c.channels-channels.result.now) c.self.inside.collector.places c.args.dated before o (map name_same c.offer_signals.new.conflicts)) (sym (outcome-id c.in_ok-offer.offer))
@@ -71,7 +71,7 @@ pub returns-in_err-write_answer-clause-adds : goal.returns-in_err-write_answer-c
 returns-in_err-write_answer-clause-adds g c =
     let p = err_from_is_err_and c.from_residual-in_err-write_answer.result c.from_residual-in_err-write_answer.ensures.1 in
     let meets : AnswersMessage c.args.setup.now (window_of same c.self.inside.collector) c.args.dated (outcome_of same c.in_ok-offer.offer) (map name_same c.offer_signals.new.conflicts) (window_of same c.offer_signals.new.self) =
-    signal-answers c.args.setup.now c.channels-channels.result.now (window_of same c.self.inside.collector) (window_of same c.offer_signals.new.self) c.args.dated (outcome_of same c.in_ok-offer.offer) (map name_same c.offer_signals.new.conflicts) c.channels-channels.ensures
+    signal-answers c.args.setup.now c.channels-channels.result.now (window_of same c.self.inside.collector) (window_of same c.offer_signals.new.self) c.args.dated (outcome_of same c.in_ok-offer.offer) (map name_same c.offer_signals.new.conflicts) c.channels-channels.ensures.cells
     (λ before rep.
     let m = c.in_ok-offer.ensures.answer before (subst (λ (w : CollectorView SignalEntry). RepresentsArrivals signals (entries_of c.channels-channels.result.now) w before) (window-id c.self.inside.collector) rep) in (
       subst (λ (o : Outcome SignalEntry AnySatelliteCode). IsRightAnswer signals (entries_of c.channels-channels.result.now) c.self.inside.collector.places c.args.dated before o (map name_same c.offer_signals.new.conflicts)) (sym (outcome-id c.in_ok-offer.offer))
@@ -90,7 +90,7 @@ pub returns-in_err-write_answer-clause-stays : goal.returns-in_err-write_answer-
 returns-in_err-write_answer-clause-stays g c =
     let p = err_from_is_err_and c.from_residual-in_err-write_answer.result c.from_residual-in_err-write_answer.ensures.1 in
     let meets : AnswersMessage c.args.setup.now (window_of same c.self.inside.collector) c.args.dated (outcome_of same c.in_ok-offer.offer) (map name_same c.offer_signals.new.conflicts) (window_of same c.offer_signals.new.self) =
-    signal-answers c.args.setup.now c.channels-channels.result.now (window_of same c.self.inside.collector) (window_of same c.offer_signals.new.self) c.args.dated (outcome_of same c.in_ok-offer.offer) (map name_same c.offer_signals.new.conflicts) c.channels-channels.ensures
+    signal-answers c.args.setup.now c.channels-channels.result.now (window_of same c.self.inside.collector) (window_of same c.offer_signals.new.self) c.args.dated (outcome_of same c.in_ok-offer.offer) (map name_same c.offer_signals.new.conflicts) c.channels-channels.ensures.cells
     (λ before rep.
     let m = c.in_ok-offer.ensures.answer before (subst (λ (w : CollectorView SignalEntry). RepresentsArrivals signals (entries_of c.channels-channels.result.now) w before) (window-id c.self.inside.collector) rep) in (
       subst (λ (o : Outcome SignalEntry AnySatelliteCode). IsRightAnswer signals (entries_of c.channels-channels.result.now) c.self.inside.collector.places c.args.dated before o (map name_same c.offer_signals.new.conflicts)) (sym (outcome-id c.in_ok-offer.offer))
@@ -113,7 +113,7 @@ pub returns-in_err-lines-clause-stays : goal.returns-in_err-lines-clause-stays
 returns-in_err-lines-clause-stays g c =
     let p = err_from_is_err_and c.from_residual-in_err-lines.result c.from_residual-in_err-lines.ensures.1 in
     let meets : AnswersMessage c.args.setup.now (window_of same c.self.inside.collector) c.args.dated (outcome_of same c.in_ok-offer.offer) (map name_same c.offer_signals.new.conflicts) (window_of same c.offer_signals.new.self) =
-    signal-answers c.args.setup.now c.channels-channels.result.now (window_of same c.self.inside.collector) (window_of same c.offer_signals.new.self) c.args.dated (outcome_of same c.in_ok-offer.offer) (map name_same c.offer_signals.new.conflicts) c.channels-channels.ensures
+    signal-answers c.args.setup.now c.channels-channels.result.now (window_of same c.self.inside.collector) (window_of same c.offer_signals.new.self) c.args.dated (outcome_of same c.in_ok-offer.offer) (map name_same c.offer_signals.new.conflicts) c.channels-channels.ensures.cells
     (λ before rep.
     let m = c.in_ok-offer.ensures.answer before (subst (λ (w : CollectorView SignalEntry). RepresentsArrivals signals (entries_of c.channels-channels.result.now) w before) (window-id c.self.inside.collector) rep) in (
       subst (λ (o : Outcome SignalEntry AnySatelliteCode). IsRightAnswer signals (entries_of c.channels-channels.result.now) c.self.inside.collector.places c.args.dated before o (map name_same c.offer_signals.new.conflicts)) (sym (outcome-id c.in_ok-offer.offer))

@@ -1,0 +1,140 @@
+//! What the messages of a conversion tell for the last lines of its report.
+
+ghost use Rattle.std.specs.Prelude.{◌≡◌, ℕ, IfOk};
+ghost use Rattle.rtk_message.specs.declared.any_message.AnyMessage.TheVariants as AnyMessage;
+ghost use Rattle.rtk_obs.specs.Carriers.{IsSlot};
+ghost use Rattle.rtk_obs.specs.SignalCells.{agrees_with, field_of_row};
+ghost use Rattle.rtk_convert.specs.Slots.{is_without_channel, is_of_other_channel};
+ghost use Rattle.rtk_convert.specs.Steps.Remarks.{HasNoRemarks, PutsSatellite, PutsSatellites, PutsSlots};
+
+use crate::slots::{SLOTS, Slots};
+use crate::systems::Systems;
+use rtk_message::{AnyFault, AnyMessage, Msm, System};
+use rtk_obs::{Channel, Channels};
+
+/// What the messages of a conversion tell for the last lines of its report.
+#[derive(Clone, Copy)]
+pub(crate) struct Remarks {
+    /// The systems of which a message was taken.
+    pub(crate) systems: Systems,
+    /// The slots of GLONASS of which a message tells another channel than the setup.
+    pub(crate) other_channels: Slots,
+    /// The slots of GLONASS that have satellites and no channel.
+    pub(crate) no_channels: Slots,
+}
+
+// The field of a satellite of GLONASS (DF419) that tells no channel.
+const NO_CHANNEL: u8 = 15;
+
+// Returns whether the field of a satellite tells this channel, or none. The field is 7 greater than the number
+// of its channel.
+fn agrees_with(channel: Channel, field: u8) -> bool
+    ensures { result ≡ agrees_with channel field }
+{
+    field == NO_CHANNEL || i16::from(field) == i16::from(channel.number()) + 7
+}
+
+// Returns whether a slot has a channel, and the field of its satellite tells another one.
+fn is_of_other_channel(channels: &Channels, slot: u8, field: u8) -> bool
+    requires { IsSlot slot }
+    ensures { result ≡ is_of_other_channel channels.now slot field }
+{
+    match channels.channel(slot) {
+        Some(channel) => !agrees_with(channel, field),
+        None => false,
+    }
+}
+
+// Returns whether a slot has no channel.
+fn is_without_channel(channels: &Channels, slot: u8) -> bool
+    requires { IsSlot slot }
+    ensures { (field : ℕ) → result ≡ is_without_channel channels.now slot field }
+{
+    match channels.channel(slot) {
+        Some(_) => false,
+        None => true,
+    }
+}
+
+// Returns the field of the satellite of a row (DF419), or `NO_CHANNEL` in a kind without it.
+fn field_of_row(message: &Msm, row: usize) -> u8
+    ensures { result ≡ field_of_row message.now row }
+{
+    match message.extended.as_slice().get(row) {
+        Some(field) => *field,
+        None => NO_CHANNEL,
+    }
+}
+
+// Puts the satellite of a slot, with its field, into the sets that it belongs to.
+fn put_satellite(remarks: &mut Remarks, channels: &Channels, slot: u8, field: u8)
+    requires { IsSlot slot }
+    ensures { PutsSatellite channels.now slot field remarks.old remarks.new }
+{
+    let is_other = is_of_other_channel(channels, slot, field);
+    remarks.other_channels.put_if(slot, is_other);
+    let is_without = is_without_channel(channels, slot);
+    remarks.no_channels.put_if(slot, is_without);
+}
+
+// Puts the satellites of an MSM into the sets that they belong to. The first satellite has the most
+// significant bit of the mask.
+fn put_satellites(remarks: &mut Remarks, channels: &Channels, message: &Msm)
+    ensures { PutsSatellites channels.now message.now remarks.old remarks.new }
+{
+    let mut rest = message.header.satellite_mask;
+    let mut row = 0;
+    for before in 0..SLOTS {
+        let bit = 1u64 << (63 - before);
+        if bit <= rest {
+            let field = field_of_row(message, row);
+            put_satellite(remarks, channels, before as u8 + 1, field);
+            rest -= bit;
+            row += 1;
+        }
+    }
+}
+
+// Puts the satellites of an MSM into the sets that they belong to, if it is of GLONASS.
+fn put_msm(remarks: &mut Remarks, channels: &Channels, message: &Msm)
+    ensures { PutsSlots channels.now (AnyMessage.Msm message.now) remarks.old remarks.new }
+{
+    match message.system {
+        System::Glonass => put_satellites(remarks, channels, message),
+        _ => {}
+    }
+}
+
+impl Remarks {
+    /// Nothing was told yet.
+    pub(crate) fn new() -> Remarks
+        ensures { HasNoRemarks result }
+    {
+        let other_channels = Slots::new();
+        let no_channels = Slots::new();
+        Remarks {
+            systems: Systems::NONE,
+            other_channels,
+            no_channels,
+        }
+    }
+
+    // Puts the satellites of a message of GLONASS into the sets that they belong to.
+    fn put_message(&mut self, channels: &Channels, message: &AnyMessage)
+        ensures { PutsSlots channels.now message.now self.old self.new }
+    {
+        match message {
+            AnyMessage::Message(_) => {}
+            AnyMessage::Msm(message) => put_msm(self, channels, message),
+        }
+    }
+
+    /// Puts the satellites of GLONASS of what was read into the sets that they belong to.
+    pub(crate) fn put_slots(&mut self, channels: &Channels, reading: &Result<AnyMessage, AnyFault>)
+        ensures { IfOk reading.now (λ m. PutsSlots channels.now m self.old self.new) }
+    {
+        if let Ok(message) = reading {
+            self.put_message(channels, message);
+        }
+    }
+}
