@@ -1,5 +1,5 @@
 -- The kinds that a text writes.
-use Rattle.std.proofs.Common.{◌≡◌, ◌≢◌, ℕ, ◌+◌, true, List, [], ◌∷◌, ◌++◌, map, drop, get_or, Option, None, Some, refl, sym, ap, ◌∙◌}
+use Rattle.std.proofs.Common.{◌≡◌, ◌≢◌, ℕ, ◌+◌, true, false, List, [], ◌∷◌, ◌++◌, map, drop, get_or, Option, None, Some, refl, sym, ap, ◌∙◌}
 use Rattle.std.specs.Prelude.{MatchOption}
 use Rattle.rtk_message.specs.declared.system.System.{System}
 use Rattle.rtk_message.specs.declared.msm_kind.MsmKind.{MsmKind}
@@ -67,6 +67,10 @@ reads-no-more first text changed rest word more reads split none exceptions =
     no-word (λ (t : MsmType). Unit {0}) exception_word (marked_parts 44 text) reads.done exceptions word (marked_parts 44 rest) more reads.so_far split (λ t _. none t) (λ k d lt. tt)
 
 -- ---- the whole text
+
+-- a letter stands twice
+pub letter-twice : (text : List ℕ) → has_letters_once text ≡ false → (kinds : SystemKinds) → ¬ (WritesKinds text kinds)
+letter-twice text twice kinds (k, exceptions, writes, once, are) = let bad : false ≡ true = sym twice ∙ once in cc
 
 -- the first part is no kind
 pub no-general : (text word : List ℕ) (more : List (List ℕ)) → marked_parts 44 text ≡ word ∷ more → ((k : MsmKind) → word ≢ (48 + digit_of k) ∷ []) → (kinds : SystemKinds) → ¬ (WritesKinds text kinds)
