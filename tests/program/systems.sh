@@ -13,8 +13,8 @@ convert() {
     run convert --station 1 --near $near --made $made --marker BASE --codes "$codes" "$@"
 }
 
-# refuses NAME LINE [MORE]: nothing is out, and standard error has this fault line, and one line more
-refuses() {
+# bad_words NAME LINE [MORE]: nothing is out, and standard error has this fault line, and one line more
+bad_words() {
     expect "$1" 2 '' "rtcm2rinex: $2${3:+
 $3}"
 }
@@ -33,50 +33,54 @@ for name in G9Z R5C E1A E1Z E6A E6Z C1C J1E S2C I1C G5A R2X; do
     convert $name a
     eval "more=\$codes_of_${name%??}"
     # pins: codes_line, IsCauseOfName, code_word
-    refuses "code_$name" 'bad --codes' "$more"
+    bad_words "code_$name" 'bad --codes' "$more"
 done
 # A code of GPS has no letter.
 for code in ${codes_of_G#*: }; do
     convert G$code a
     # pins: short_code_line, IsCauseOfName
-    refuses "code_G$code" 'bad --codes' "GPS codes have two characters: $code"
+    bad_words "code_G$code" 'bad --codes' "GPS codes have two characters: $code"
 done
 # Other names have no second line.
 for name in e1X X1C E1 E1XX 1CC ' E1X' 'E1X ' 'E1X,' ',E1X' E1X,,E1B 'E1X;E1B' E 9Z,E1A 1C,1,G1C E1C,r1C; do
     convert "$name" a
-    refuses "codes_$name" 'bad --codes'
+    # pins: ListsCodes
+    bad_words "codes_$name" 'bad --codes'
 done
 # The first bad name counts.
-convert 1C,E1A,R9Z a;   refuses first_of_two_names 'bad --codes' "$codes_of_E"
-convert E1C,G1C,9Z a;   refuses first_of_two_other_names 'bad --codes' 'GPS codes have two characters: 1C'
-convert 1C,E1C,1C a;    refuses code_of_gps_twice 'bad --codes'
-convert E1C,1C,E1C a;   refuses code_of_galileo_twice 'bad --codes'
-convert R1C,R1C a;      refuses code_of_glonass_twice 'bad --codes'
+# pins: IsNameCause
+convert 1C,E1A,R9Z a;   bad_words first_of_two_names 'bad --codes' "$codes_of_E"
+convert E1C,G1C,9Z a;   bad_words first_of_two_other_names 'bad --codes' 'GPS codes have two characters: 1C'
+# pins: IsHeadCause
+convert 1C,E1C,1C a;    bad_words code_of_gps_twice 'bad --codes'
+convert E1C,1C,E1C a;   bad_words code_of_galileo_twice 'bad --codes'
+convert R1C,R1C a;      bad_words code_of_glonass_twice 'bad --codes'
 # All codes of all systems are a good list, in any order.
 all=$(for letter in I S J C E R G; do
     eval "codes=\$codes_of_$letter"
     for code in ${codes#*: }; do echo "$letter$code"; done
 done | sed 's/^G//' | paste -sd,)
 convert "$all" --channels none nowhere; expect all_codes 1 '' 'rtcm2rinex: cannot open nowhere'
-convert "$all,1C" --channels none nowhere; refuses all_codes_and_one_twice 'bad --codes'
+convert "$all,1C" --channels none nowhere; bad_words all_codes_and_one_twice 'bad --codes'
 
 # ---- the channels
 
 for channels in '' NONE none, nones 1 1: :1 0:1 28:1 1:7 1:-8 1:-0 1:+1 01:1 1:01 1:1, ,1:1 1:1,,2:2 1:1,1:1 1:1,2:2,1:2 \
     '1:1;2:2' '1:1 ' ' 1:1' '1: 1' R01:1 1:1:1 1::1 1-1 -1:1 none,1:1 1:10 100:1 1:--1 1:-1- 1.5:1; do
     convert R1C "--channels=$channels" a
-    # pins: WritesChannels, slot_word, channel_word
-    refuses "channels_$channels" 'bad --channels'
+    # pins: WritesChannels, HasNoChannels, ListsSlots, slot_parts, slot_word, channel_word
+    bad_words "channels_$channels" 'bad --channels'
 done
 every=$(for slot in $(seq 27); do echo "$slot:$((slot % 14 - 7))"; done | paste -sd,)
 for channels in none 27:-7 1:6 9:0 10:-1,9:-1 "$every"; do
     convert R1C --channels $channels nowhere
+    # pins: WritesSlots, is_none_word
     expect "good_channels_$channels" 1 '' 'rtcm2rinex: cannot open nowhere'
 done
-convert R1C nowhere;                   refuses no_channels 'R codes need --channels'
-convert 1C,E1C,R2P nowhere;            refuses no_channels_among_other_codes 'R codes need --channels'
-convert 1C,E1C --channels 1:1 nowhere; refuses channels_without_codes 'bad --channels'
-convert 1C --channels none nowhere;    refuses no_channels_without_codes 'bad --channels'
+convert R1C nowhere;                   bad_words no_channels 'R codes need --channels'
+convert 1C,E1C,R2P nowhere;            bad_words no_channels_among_other_codes 'R codes need --channels'
+convert 1C,E1C --channels 1:1 nowhere; bad_words channels_without_codes 'bad --channels'
+convert 1C --channels none nowhere;    bad_words no_channels_without_codes 'bad --channels'
 
 # ---- which cause comes first
 
@@ -87,16 +91,16 @@ words() {
     run convert --station 1 --near "$near_" --made $made --marker "$marker_" --codes "$codes_" "$@"
 }
 early=1980-01-06T00:00:00
-words noon ' X' E1A --channels x stdin stdin;     refuses times_before_names 'bad --near'
-words $early ' X' E1A --channels x stdin stdin;   refuses names_before_the_marker 'bad --codes' "$codes_of_E"
-words $early ' X' R1C,R1C --channels x stdin stdin; refuses the_marker_before_the_list 'bad --marker'
-words $early X R1C,R1C --channels x stdin stdin;  refuses the_list_before_channels 'bad --codes'
-words $early X R1C,R1C stdin stdin;               refuses the_list_before_missing_channels 'bad --codes'
-words $early X R1C --channels x stdin stdin;      refuses channels_before_links 'bad --channels'
-words $early X R1C stdin stdin;                   refuses missing_channels_before_links 'R codes need --channels'
-words $early X R1C --channels none stdin stdin;   refuses links_before_the_reference 'bad links'
+words noon ' X' E1A --channels x stdin stdin;     bad_words times_before_names 'bad --near'
+words $early ' X' E1A --channels x stdin stdin;   bad_words names_before_the_marker 'bad --codes' "$codes_of_E"
+words $early ' X' R1C,R1C --channels x stdin stdin; bad_words the_marker_before_the_list 'bad --marker'
+words $early X R1C,R1C --channels x stdin stdin;  bad_words the_list_before_channels 'bad --codes'
+words $early X R1C,R1C stdin stdin;               bad_words the_list_before_missing_channels 'bad --codes'
+words $early X R1C --channels x stdin stdin;      bad_words channels_before_links 'bad --channels'
+words $early X R1C stdin stdin;                   bad_words missing_channels_before_links 'R codes need --channels'
+words $early X R1C --channels none stdin stdin;   bad_words links_before_the_reference 'bad links'
 # pins: IsFirstCause
-words $early X R1C --channels none nowhere;       refuses the_reference_last 'bad --near'
+words $early X R1C --channels none nowhere;       bad_words the_reference_last 'bad --near'
 
 # ---- the kinds, and the leap seconds
 
@@ -106,7 +110,7 @@ bad_value() {
     expect "$1" 2 '' "$(error "invalid value '$3' for '$2 <N>': $4")"
 }
 for kinds in 7,E8 7,E3 7,E4,E5 7,E4,C4,E4 E4 7, 7,,E4 7,X4 7,e4 7,E ,E4 7E4 7,E4, '7, E4' '7,E4 ' 7,E44 7,4E 7,E4,5; do
-    # pins: WritesKinds, has_letters_once
+    # pins: WritesKinds, exception_word, has_letters_once
     bad_value "kinds_$kinds" --msm "$kinds" 'invalid digit found in string'
 done
 bad_value kinds_of_two_digits --msm 74 '74 is not in 4..=7'

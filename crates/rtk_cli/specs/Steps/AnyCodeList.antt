@@ -54,6 +54,7 @@ IsCauseOfName name (CodeOfSystem s) = HasLetter s name × ((c : Code) → name �
 IsCauseOfName name Codes = (s : System) → ¬ (HasLetter s name)
 IsCauseOfName name _ = ⊥
 
--- the cause is that of the first name that is no code's word
+-- formula
+-- the cause is that of the first name that is no code's word (this project's rule)
 abbrev pub IsNameCause : List ℕ → BadWords → Type 0
 IsNameCause text cause = (name : List ℕ) × IsFirstBadName text name × IsCauseOfName name cause

@@ -53,7 +53,8 @@ WritesSlots text listed = WritesIf (is_none_word text) text listed
 abbrev pub AreSlotsUnlike : List SlotChannel → Type 0
 AreSlotsUnlike = AllPairs (λ p q. p.slot ≢ q.slot)
 
--- each listed slot has its channel, and no other slot has one
+-- formula
+-- each listed slot has its channel, and no other slot has one (this project's rule)
 pub record AreChannelsOf (listed : List SlotChannel) (channels : List (Option ℤ)) : Type 0 where
   pub own : (k : ℕ) (d : SlotChannel) → k < length listed → channel_at channels (slice_index_or listed k d).slot ≡ Some (slice_index_or listed k d).channel
   pub others : (s : ℕ) → IsSlot s → ((k : ℕ) (d : SlotChannel) → k < length listed → (slice_index_or listed k d).slot ≢ s) → channel_at channels s ≡ None

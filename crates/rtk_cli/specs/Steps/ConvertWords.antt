@@ -75,7 +75,8 @@ IsHeadCause o own cause = IsMixedList (in_file_order own) × IsGlonassCause o (i
 
 -- ---- the whole
 
--- the setup with the leap seconds that are given
+-- formula
+-- the setup with the leap seconds that are given, or else those of the table (this project's rule)
 abbrev pub with_given : SetupView → Option ℕ → SetupView
 with_given s None = s
 with_given s (Some n) = record s { leap_seconds = Some n }
