@@ -6,7 +6,7 @@ use Rattle.rtk_cli.specs.declared.words.BadWords.{BadWords}
 use Rattle.rtk_cli.specs.declared.words.BadWords.TheVariants.{Near, Made, Codes, CodeOfSystem, CodeOfGps, Marker, Channels, NoChannels, Links, Systems, Satellites, From, Until, Field, Files}
 use Rattle.rtk_cli.specs.declared.words.WordsFault.{WordsFault}
 use Rattle.rtk_cli.specs.declared.words.WordsFault.TheVariants.{Bad, OutOfMemory}
-use Rattle.rtk_cli.specs.Steps.CodeLines.{codes_line, short_code_line}
+use Rattle.rtk_cli.specs.CodeLines.{codes_line, short_code_line}
 
 -- table
 -- the fault line of a cause (this project's rule)

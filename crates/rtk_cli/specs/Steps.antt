@@ -3,7 +3,6 @@ pub mod ClapStatus
 pub mod NameList
 pub mod CodeList
 pub mod Parts
-pub mod CodeLines
 pub mod AnyCodeList
 pub mod KindList
 pub mod ChannelList

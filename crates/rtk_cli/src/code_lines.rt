@@ -1,7 +1,7 @@
 //! The lines that follow a fault line and say how codes are written.
 
 ghost use Rattle.std.specs.Prelude.{◌≡◌};
-ghost use Rattle.rtk_cli.specs.Steps.CodeLines.{codes_line, short_code_line};
+ghost use Rattle.rtk_cli.specs.CodeLines.{codes_line, short_code_line};
 
 use rtk_message::System;
 use rtk_obs::Code;

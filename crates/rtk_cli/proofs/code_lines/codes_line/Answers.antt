@@ -1,5 +1,5 @@
 use Rattle.std.proofs.Common.{sym, ap}
-use Rattle.rtk_cli.specs.Steps.CodeLines.{codes_line}
+use Rattle.rtk_cli.specs.CodeLines.{codes_line}
 use Rattle.rtk_cli.proofs.code_lines.codes_line.Goals as goal
 
 pub returns-in-Gps : goal.returns-in-Gps
